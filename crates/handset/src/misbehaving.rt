@@ -2,6 +2,8 @@
 //!
 //! The handset itself is the proved one. What stands here is between it and its socket: frames get lost, wait, or are
 //! refused before they reach it. So what the centre sees is a real handset behind a bad link, or one that answers RP-ERROR.
+ghost use Rattle.std.specs.Prelude.{◌≤◌, length};
+
 use crate::clock::SystemClock;
 use sms_base::{Holder, Kind, Octets};
 use sms_control::{Cp, Transaction};
@@ -277,7 +279,9 @@ impl<'a> Incoming<'a> {
     }
 
     // What is ready, as far as there is room; none is left where all was taken.
-    fn hand_over(&mut self, room: &mut [u8]) -> usize {
+    fn hand_over(&mut self, room: &mut [u8]) -> usize
+        ensures { result ≤ length room.new }
+    {
         let Some(left) = self.ready.as_slice().get(self.taken..) else {
             return 0;
         };

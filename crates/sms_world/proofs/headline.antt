@@ -58,3 +58,4 @@ pub mod AskedWords
 pub mod PlainEvents
 pub mod PlainDelivered
 pub mod PlainJoined
+pub mod PlainWhole

@@ -30,3 +30,4 @@ pub mod HalfAccepted
 pub mod JoinedTwice
 pub mod OwnersText
 pub mod LongDelivered
+pub mod BrokenPremises

@@ -2,18 +2,20 @@
 //!
 //! Each clause is about one small literal report of a small script (`specs/wrong_reports`). So each claim is seen to refuse
 //! a wrong report, and to admit a right one.
-ghost use Rattle.sms_world.specs.wrong_reports.Tried.{AcceptedLaw, AscendLaw, CancelLaw, CommonLaw, DeletedLaw, FinalLaw, GivenLaw, GoodLaw, JoinedLaw, JoinedTwiceLaw, LineLaw, NeverLaw, NumberLaw, OriginLaw, OtherEntryLaw, OtherTextLaw, OwnerLaw, QueryLaw, ReceiptLaw, ReceiptsLaw, SentLaw, SplitLaw, StatusLaw, StoppedLaw, SystemErrorLaw, TrueCancelLaw, TrueOwnerLaw, TrueQueryLaw, TrueSplitLaw, TrueStopLaw, TwiceLaw, UnansweredLaw};
+ghost use Rattle.sms_world.specs.wrong_reports.Tried.{AcceptedLaw, AscendLaw, CancelLaw, CommonLaw, DeletedLaw, FinalLaw, GivenLaw, GoodLaw, JoinedLaw, JoinedTwiceLaw, LineLaw, NeverLaw, NumberLaw, OriginLaw, OtherEntryLaw, OtherTextLaw, OwnerLaw, QueryLaw, ReceiptLaw, ReceiptsLaw, SentLaw, SplitLaw, StatusLaw, StoppedLaw, SystemErrorLaw, TrueCancelLaw, TrueOwnerLaw, TrueQueryLaw, TrueSentLaw, TrueSplitLaw, TrueStopLaw, TwiceLaw, UnansweredLaw};
+ghost use Rattle.sms_world.specs.wrong_reports.Worlds.{FreshLaw, InTimeLaw, LateLaw, ReusedLaw};
 
 /// The report of a text that was submitted, accepted and reported DELIVRD has the whole headline. A query that finds ENROUTE
 /// and a cancellation that deletes are true. A submission that was stopped behind its store call makes a message, and is not
-/// answered. A text that an owner wrote is a message from his handset, to the one that he wrote it to. A text of two parts
-/// was delivered where both parts were accepted.
+/// answered. A text that an owner wrote is a message from his handset, to the one that he wrote it to, and
+/// its entry counts as sent. A text of two parts was delivered where both parts were accepted.
 pub fn right_reports_are_admitted()
     ensures report { GoodLaw }
     ensures query { TrueQueryLaw }
     ensures cancel { TrueCancelLaw }
     ensures stopped { TrueStopLaw }
     ensures owner { TrueOwnerLaw }
+    ensures sent { TrueSentLaw }
     ensures split { TrueSplitLaw }
 {}
 
@@ -71,4 +73,13 @@ pub fn wrong_deliveries_are_refused()
 /// Two parts that one text was joined from, and joined once more.
 pub fn what_is_joined_twice_is_refused()
     ensures { JoinedTwiceLaw }
+{}
+
+/// A frame of a message whose reference the centre gave to another message since is not timely, and that of the other one is. A first part
+/// that comes again, before its handset has accepted any part of the text, does not begin it afresh. Where none came before, it may begin.
+pub fn broken_premises_are_seen()
+    ensures late { LateLaw }
+    ensures in_time { InTimeLaw }
+    ensures reused { ReusedLaw }
+    ensures fresh { FreshLaw }
 {}

@@ -5,7 +5,6 @@ use Rattle.sms_centre_spec.specs.declared.jobs.reply.Reply.{Reply}
 use Rattle.smsc_loop.specs.Calls.{Call, Timed, Told, Took, Heard, GaveUp, AskedLink, AskedToLeave, Noted, Sent, Put, PutBack, Left, PutLast, PutOwn, Dropped, octets_sent, octets_taken, replies_taken}
 use Rattle.smsc_loop.specs.Courses.{Did, LeadsTo, Runs, Standing}
 use Rattle.smsc_loop.specs.Phases.{Phase, Serves, Fails, Leaves, Ends, Asks, Moves}
-use Rattle.smsc_loop.proofs.Joins.{did_join}
 use Rattle.smsc_endpoint.specs.declared.link_access.LinkAccess.{LinkAccess}
 use Rattle.smsc_endpoint.specs.LinkCalls.{at_time, congestion, handed_back, handed_out, sending}
 use Rattle.smsc_endpoint.specs.LinkDoes.{LinkDoes}
@@ -224,6 +223,11 @@ was_served : (calls : List Call) (s : LinkSends) (w : LinkView) (q : Phase) → 
 was_served [] s w q r = record { one = []; other = []; parts = refl; last = s.progress.link; course = stays s; none = refl }
 was_served (call ∷ calls) s w q r = served_next call calls s w q r (λ t k. was_served calls t w q k) (is_serving r.1)
 
+runs_both : (u v w : LinkView) (n o p : Phase) (one other : List Call) → Runs LinkDoes u n one v o → Runs LinkDoes v o other w p → Runs LinkDoes u n (one ++ other) w p
+runs_both u v w n o p [] other r k =
+    subst (λ (x : LinkView). Runs LinkDoes x n other w p) r.0 (subst (λ (y : Phase). Runs LinkDoes v y other w p) r.1 k)
+runs_both u v w n o p (call ∷ one) other r k = (r.0, r.1, r.2, r.3, runs_both r.0 v w r.1 o p one other r.4 k)
+
 -- ---- what is read
 
 module _ (jobs : (access : LinkAccess) (calls : List LinkCall) (progress : LinkProgress) → LinkRun (started access) calls progress → IsLinkProgress access progress)
@@ -252,8 +256,8 @@ module _ (jobs : (access : LinkAccess) (calls : List LinkCall) (progress : LinkP
   pub is_link_read : (access : LinkAccess) (s t u : Standing LinkView) → s.view ≡ opened access → s.phase ≡ Serves → (served : Did LinkDoes s t) (left : Did LinkDoes t u)
       → IsLinkRead access (served.calls ++ left.calls)
   is_link_read access s t u v p served left =
-      let whole = did_join LinkDoes s t u served left in
+      let whole = runs_both s.view t.view u.view s.phase t.phase u.phase served.calls left.calls served.runs left.runs in
       read_of access (served.calls ++ left.calls)
       (was_served (served.calls ++ left.calls) (begun access) u.view u.phase
       (subst (λ (l : LinkView). Runs LinkDoes l Serves (served.calls ++ left.calls) u.view u.phase) v
-      (subst (λ (q : Phase). Runs LinkDoes s.view q (served.calls ++ left.calls) u.view u.phase) p whole.runs)))
+      (subst (λ (q : Phase). Runs LinkDoes s.view q (served.calls ++ left.calls) u.view u.phase) p whole)))

@@ -18,7 +18,6 @@ use Rattle.sms_receipt.specs.Receipts.{receipt_of}
 use Rattle.smsc_loop.specs.Calls.{Call, Timed, Told, Took, Heard, GaveUp, AskedLink, AskedToLeave, Noted, Sent, Put, PutBack, Left, PutLast, PutOwn, Dropped, octets_sent}
 use Rattle.smsc_loop.specs.Courses.{Did, Runs, Standing}
 use Rattle.smsc_loop.specs.Phases.{Phase, Serves, Moves}
-use Rattle.smsc_loop.proofs.Joins.{did_join}
 use Rattle.smsc_endpoint.specs.declared.pending.PendingRequest.{PendingRequest}
 use Rattle.smsc_endpoint.specs.EsmeCalls.{handed_back, handed_out, heard, is_sendable}
 use Rattle.smsc_endpoint.specs.EsmeDoes.{EsmeDoes}
@@ -229,12 +228,12 @@ same_quiet c d new e f g h = ap requests_from f ∙ (h ∙ (sym (from_quiet c.gi
 same_receipt : (b : Bool) (end : Final) (c : EsmeProgress) → Same c
     → Same (cond b (after_delivered end (called c.esme.session (Deliver (receipt_of end))) c) (with_esme (heard (Receipt end) c.esme) c))
 same_receipt true end c h =
-    same_quiet c _ (called c.esme.session (Deliver (receipt_of end))).1 (from_delivering (delivery_fault c.esme.session.conversation) c.esme.session (receipt_of end)) refl refl h
+    same_quiet c (after_delivered end (called c.esme.session (Deliver (receipt_of end))) c) (called c.esme.session (Deliver (receipt_of end))).1 (from_delivering (delivery_fault c.esme.session.conversation) c.esme.session (receipt_of end)) refl refl h
 same_receipt false end c h = h
 
 same_heard : (reply : Reply) (c : EsmeProgress) → Same c → Same (called_once c (Hear reply))
 same_heard (Answer answer) c h =
-    same_quiet c _ (answer_actions c.esme.session (answered_among c.esme.waiting answer)) (from_answers c.esme.session (answered_among c.esme.waiting answer)) refl refl h
+    same_quiet c (called_once c (Hear (Answer answer))) (answer_actions c.esme.session (answered_among c.esme.waiting answer)) (from_answers c.esme.session (answered_among c.esme.waiting answer)) refl refl h
 same_heard (Receipt end) c h = same_receipt (is_sendable end) end c h
 same_heard (Frame octets) c h = h
 same_heard Taken c h = h
@@ -247,7 +246,7 @@ same_taken_back : (r : Bool × EsmeView) (job : Job) (before : EsmeView) (c : Es
 same_taken_back (true, e) job before c h = h
 same_taken_back (false, e) job before c h =
     let answers = throttled_among (throttled_before (requests_among before.outbox.jobs) before.waiting) in
-    same_quiet c _ (answer_actions c.esme.session answers) (from_answers c.esme.session answers) refl refl h
+    same_quiet c (taken_back job before (false, e) c) (answer_actions c.esme.session answers) (from_answers c.esme.session answers) refl refl h
 
 same_put_back : (q : Option Job × EsmeView) (c : EsmeProgress) → Same c → Same (put_back_by q c)
 same_put_back (None, e) c h = h
@@ -265,7 +264,7 @@ same_once (Take octets) c h =
 same_once (Hear reply) c h = same_heard reply c h
 same_once (Say octets) c h = h
 same_once (WasSent count) c h = h
-same_once Leave c h = same_quiet c _ (sending (unbinding c.esme.session.conversation.state)) (from_sending (unbinding c.esme.session.conversation.state)) refl refl h
+same_once Leave c h = same_quiet c (called_once c Leave) (sending (unbinding c.esme.session.conversation.state)) (from_sending (unbinding c.esme.session.conversation.state)) refl refl h
 same_once HandOut c h = same_put (handed_out c.esme) c h
 same_once HandOutAndBack c h = same_put_back (handed_out c.esme) c h
 same_once Tell c h = h
@@ -320,6 +319,11 @@ was_served : (calls : List Call) (v w : EsmeView) (q : Phase) → Runs EsmeDoes 
 was_served [] v w q r = record { one = []; other = []; parts = refl; last = v; run = (refl, refl); none = refl }
 was_served (call ∷ calls) v w q r = served_next call calls v w q r (λ u s. was_served calls u w q s) (is_serving r.1)
 
+runs_both : (u v w : EsmeView) (n o p : Phase) (one other : List Call) → Runs EsmeDoes u n one v o → Runs EsmeDoes v o other w p → Runs EsmeDoes u n (one ++ other) w p
+runs_both u v w n o p [] other r k =
+    subst (λ (x : EsmeView). Runs EsmeDoes x n other w p) r.0 (subst (λ (y : Phase). Runs EsmeDoes v y other w p) r.1 k)
+runs_both u v w n o p (call ∷ one) other r k = (r.0, r.1, r.2, r.3, runs_both r.0 v w r.1 o p one other r.4 k)
+
 -- ---- what is read
 
 reads : (accounts : List Account) (one : List Call) (last : EsmeView) → IsCourseOf accounts one last → (course_of accounts one).esme.wrong_binds ≢ 0
@@ -344,8 +348,8 @@ read_of accounts calls h = (h.one, h.other, h.parts, h.none, λ some. reads acco
 pub is_read : (accounts : List Account) (s t u : Standing EsmeView) → s.view ≡ opened accounts → s.phase ≡ Serves → (served : Did EsmeDoes s t) (left : Did EsmeDoes t u)
     → IsRead accounts (served.calls ++ left.calls)
 is_read accounts s t u v p served left =
-    let whole = did_join EsmeDoes s t u served left in
+    let whole = runs_both s.view t.view u.view s.phase t.phase u.phase served.calls left.calls served.runs left.runs in
     read_of accounts (served.calls ++ left.calls)
     (was_served (served.calls ++ left.calls) (opened accounts) u.view u.phase
     (subst (λ (e : EsmeView). Runs EsmeDoes e Serves (served.calls ++ left.calls) u.view u.phase) v
-    (subst (λ (q : Phase). Runs EsmeDoes s.view q (served.calls ++ left.calls) u.view u.phase) p whole.runs)))
+    (subst (λ (q : Phase). Runs EsmeDoes s.view q (served.calls ++ left.calls) u.view u.phase) p whole)))

@@ -25,16 +25,15 @@ use Rattle.smpp_session.specs.declared.calling.Call.TheVariants.{Full as FullCal
 use Rattle.smpp_session.specs.declared.conversation.SessionState.{SessionState}
 use Rattle.smpp_session.specs.declared.conversation.SessionState.TheVariants.{Opened, BoundTx, BoundRx, BoundTrx, Unbinding, Finishing, Broken, Closed}
 use Rattle.smpp_session.specs.declared.fault.DeliverFault.{DeliverFault}
-use Rattle.smpp_session.specs.declared.turn.SessionStep.{SessionStep}
 use Rattle.smpp_session.specs.Answers.{is_last}
 use Rattle.smpp_session.specs.Calls.{called, delivering, sending, ran}
 use Rattle.smpp_session.specs.Logins.{admitted, is_full, login}
-use Rattle.smpp_session.specs.Sessions.{SessionView, opened, turn_of, fed, delivery_fault, unbinding}
+use Rattle.smpp_session.specs.Sessions.{SessionView, after_stream, opened, turn_of, fed, delivery_fault, unbinding}
 use Rattle.smpp_session.specs.SessionRun.{StreamProgress, fronted, one_more, stream}
 use Rattle.smpp_session.specs.SessionTable.{judged, judged_fault, status_of_fault, to_answer, to_bind, to_leave, to_submit, to_unbind, refusal, without_bind_resp, priority_of, given, sent, logged_in, bind_taken, delivered, taken, refused, read, judging, by_command, treated, bad_length}
 use Rattle.smpp_session.specs.SessionTable.{response, accepting_bind, bind_refused, broken_by, kind_of_command, left_by, name_of, refused_by, unbind_number, unbound_by}
 use Rattle.smpp_session.specs.Stream.{header_at, front_at, front_of, in_range, number_at}
-use Rattle.smpp_session.specs.Windows.{is_among, without}
+use Rattle.smpp_session.specs.Windows.{is_among}
 use Rattle.smsc_endpoint.specs.LoopCourses.{octets_fed}
 use Rattle.smsc_server.specs.WhatIsRead.{StandIn, requests_in}
 
@@ -71,170 +70,166 @@ requests_append (Unbound ∷ xs) ys = requests_append xs ys
 
 -- ---- one PDU: it is passed up whole, or no request is
 
-record Passes (octets : List ℕ) (a b : SessionStep) : Type 0 where
-  passed : (requests_in b.actions ≡ requests_in a.actions) ⊎ (requests_in b.actions ≡ requests_in a.actions ++ octets ∷ [])
+record Passes (octets : List ℕ) (a b : List Action) : Type 0 where
+  passed : (requests_in b ≡ requests_in a) ⊎ (requests_in b ≡ requests_in a ++ octets ∷ [])
 
-still : (octets : List ℕ) (a b : SessionStep) → requests_in b.actions ≡ requests_in a.actions → Passes octets a b
+still : (octets : List ℕ) (a b : List Action) → requests_in b ≡ requests_in a → Passes octets a b
 still octets a b e = record { passed = inl e }
 
 ends_quiet : (acts : List Action) (action : Action) → requests_in (action ∷ []) ≡ [] → requests_in (acts ++ action ∷ []) ≡ requests_in acts
 ends_quiet acts action e = requests_append acts (action ∷ []) ∙ (ap (λ (rs : List (List ℕ)). requests_in acts ++ rs) e ∙ append-nil (requests_in acts))
 
-sent_quiet : (body : Body) (status : CommandStatus) (n : ℕ) (turn : SessionStep) → requests_in (sent body status n turn).actions ≡ requests_in turn.actions
+sent_quiet : (body : Body) (status : CommandStatus) (n : ℕ) (at : StreamProgress) → requests_in (sent body status n at.0).actions ≡ requests_in at.0.actions
 unfolding sent
-sent_quiet body status n turn = ends_quiet turn.actions (Send (written (response body status n))) refl
+sent_quiet body status n at = ends_quiet at.0.actions (Send (written (response body status n))) refl
 
-refused_quiet : (body : Body) (status : CommandStatus) (n : ℕ) (name : List ℕ) (turn : SessionStep)
-    → requests_in (bind_refused body status n name turn).actions ≡ requests_in turn.actions
-refused_quiet body status n name turn = ends_quiet (sent body status n turn).actions (BindRefused status name) refl ∙ sent_quiet body status n turn
+refused_quiet : (body : Body) (status : CommandStatus) (n : ℕ) (name : List ℕ) (at : StreamProgress)
+    → requests_in (bind_refused body status n name at.0).actions ≡ requests_in at.0.actions
+refused_quiet body status n name at = ends_quiet (sent body status n at.0).actions (BindRefused status name) refl ∙ sent_quiet body status n at
 
 -- what holds of both choices
 pick : {F : Type 0} (P : F → Type 0) (b : Bool) (x y : F) → P x → P y → P (cond b x y)
 pick P true x y p q = p
 pick P false x y p q = q
 
-known_quiet : (kind : BindKind) (n : ℕ) (bind : Bind) (place : ℕ) (turn : SessionStep)
-    → requests_in ((turn.actions ++ Send (accepting_bind kind bind.interface_version n) ∷ []) ++ Bound place kind ∷ []) ≡ requests_in turn.actions
-known_quiet kind n bind place turn =
+known_quiet : (kind : BindKind) (n : ℕ) (bind : Bind) (place : ℕ) (at : StreamProgress)
+    → requests_in ((at.0.actions ++ Send (accepting_bind kind bind.interface_version n) ∷ []) ++ Bound place kind ∷ []) ≡ requests_in at.0.actions
+known_quiet kind n bind place at =
     let said = Send (accepting_bind kind bind.interface_version n) in
-    ends_quiet (turn.actions ++ said ∷ []) (Bound place kind) refl ∙ ends_quiet turn.actions said refl
+    ends_quiet (at.0.actions ++ said ∷ []) (Bound place kind) refl ∙ ends_quiet at.0.actions said refl
 
-login_quiet : (accounts : List Account) (kind : BindKind) (n : ℕ) (bind : Bind) (full : List Bool) (place : ℕ) (name password : List ℕ) (turn : SessionStep)
-    → requests_in (logged_in kind n bind (admitted full (login place name password accounts)) turn).actions ≡ requests_in turn.actions
-login_quiet [] kind n bind full place name password turn = refused_quiet (without_bind_resp kind) ESME_RINVSYSID n bind.system_id turn
-login_quiet (account ∷ accounts) kind n bind full place name password turn =
-    pick (λ l. requests_in (logged_in kind n bind (admitted full l) turn).actions ≡ requests_in turn.actions) (bytes_eq account.name name) _ _
-    (pick (λ l. requests_in (logged_in kind n bind (admitted full l) turn).actions ≡ requests_in turn.actions) (bytes_eq account.password password) _ _
-    (pick (λ l. requests_in (logged_in kind n bind l turn).actions ≡ requests_in turn.actions) (is_full place full) _ _
-    (refused_quiet (without_bind_resp kind) ESME_RBINDFAIL n bind.system_id turn) (known_quiet kind n bind place turn))
-    (refused_quiet (without_bind_resp kind) ESME_RINVPASWD n bind.system_id turn))
-    (login_quiet accounts kind n bind full (place + 1) name password turn)
+login_quiet : (accounts : List Account) (kind : BindKind) (n : ℕ) (bind : Bind) (full : List Bool) (place : ℕ) (name password : List ℕ) (at : StreamProgress)
+    → requests_in (logged_in kind n bind (admitted full (login place name password accounts)) at.0).actions ≡ requests_in at.0.actions
+login_quiet [] kind n bind full place name password at = refused_quiet (without_bind_resp kind) ESME_RINVSYSID n bind.system_id at
+login_quiet (account ∷ accounts) kind n bind full place name password at =
+    pick (λ l. requests_in (logged_in kind n bind (admitted full l) at.0).actions ≡ requests_in at.0.actions) (bytes_eq account.name name) _ _
+    (pick (λ l. requests_in (logged_in kind n bind (admitted full l) at.0).actions ≡ requests_in at.0.actions) (bytes_eq account.password password) _ _
+    (pick (λ l. requests_in (logged_in kind n bind l at.0).actions ≡ requests_in at.0.actions) (is_full place full) _ _
+    (refused_quiet (without_bind_resp kind) ESME_RBINDFAIL n bind.system_id at) (known_quiet kind n bind place at))
+    (refused_quiet (without_bind_resp kind) ESME_RINVPASWD n bind.system_id at))
+    (login_quiet accounts kind n bind full (place + 1) name password at)
 
-bind_quiet : (accounts : List Account) (kind : BindKind) (n : ℕ) (bind : Bind) (turn : SessionStep) → requests_in (bind_taken accounts kind n bind turn).actions ≡ requests_in turn.actions
-bind_quiet accounts kind n bind turn = login_quiet accounts kind n bind turn.conversation.full 0 bind.system_id bind.password turn
+bind_quiet : (accounts : List Account) (kind : BindKind) (n : ℕ) (bind : Bind) (at : StreamProgress) → requests_in (bind_taken accounts kind n bind at.0).actions ≡ requests_in at.0.actions
+bind_quiet accounts kind n bind at = login_quiet accounts kind n bind at.0.conversation.full 0 bind.system_id bind.password at
 
-unbound_quiet : (owed : List ℕ) (n : ℕ) (turn : SessionStep) → requests_in (unbound_by owed n turn).actions ≡ requests_in turn.actions
-unbound_quiet [] n turn = ends_quiet (sent UnbindResp ESME_ROK n turn).actions Unbound refl ∙ sent_quiet UnbindResp ESME_ROK n turn
-unbound_quiet (first ∷ owed) n turn = ends_quiet turn.actions Unbound refl
+unbound_quiet : (owed : List ℕ) (n : ℕ) (at : StreamProgress) → requests_in (unbound_by owed n at.0).actions ≡ requests_in at.0.actions
+unbound_quiet [] n at = ends_quiet (sent UnbindResp ESME_ROK n at.0).actions Unbound refl ∙ sent_quiet UnbindResp ESME_ROK n at
+unbound_quiet (first ∷ owed) n at = ends_quiet at.0.actions Unbound refl
 
-left_quiet : (owed : List ℕ) (turn : SessionStep) → requests_in (left_by owed turn).actions ≡ requests_in turn.actions
-left_quiet [] turn = ends_quiet turn.actions Unbound refl
-left_quiet (first ∷ owed) turn = ends_quiet turn.actions Unbound refl
+left_quiet : (owed : List ℕ) (at : StreamProgress) → requests_in (left_by owed at.0).actions ≡ requests_in at.0.actions
+left_quiet [] at = ends_quiet at.0.actions Unbound refl
+left_quiet (first ∷ owed) at = ends_quiet at.0.actions Unbound refl
 
-broken_quiet : (owed : List ℕ) (turn : SessionStep) → requests_in (broken_by owed turn).actions ≡ requests_in turn.actions
-broken_quiet [] turn = refl
-broken_quiet (first ∷ owed) turn = refl
+broken_quiet : (owed : List ℕ) (at : StreamProgress) → requests_in (broken_by owed at.0).actions ≡ requests_in at.0.actions
+broken_quiet [] at = refl
+broken_quiet (first ∷ owed) at = refl
 
-left_if : (b : Bool) (turn : SessionStep) → requests_in (cond b (left_by turn.conversation.owed turn) turn).actions ≡ requests_in turn.actions
-left_if true turn = left_quiet turn.conversation.owed turn
-left_if false turn = refl
+left_if : (b : Bool) (at : StreamProgress) → requests_in (cond b (left_by at.0.conversation.owed at.0) at.0).actions ≡ requests_in at.0.actions
+left_if true at = left_quiet at.0.conversation.owed at
+left_if false at = refl
 
-delivered_quiet : (n : ℕ) (accepted : Bool) (turn : SessionStep) → requests_in (delivered n accepted turn).actions ≡ requests_in turn.actions
-delivered_quiet n accepted turn = by_test (is_among n turn.conversation.unanswered) where
-  by_test : (b : Bool) → requests_in (cond b (record {
-    conversation = record turn.conversation { unanswered = without n turn.conversation.unanswered };
-    actions = turn.actions ++ DeliverAnswered n accepted ∷ [];
-  }) turn).actions ≡ requests_in turn.actions
-  by_test true = ends_quiet turn.actions (DeliverAnswered n accepted) refl
-  by_test false = refl
+delivered_quiet : (n : ℕ) (accepted : Bool) (at : StreamProgress) → requests_in (delivered n accepted at.0).actions ≡ requests_in at.0.actions
+delivered_quiet n accepted at =
+    pick (λ t. requests_in (after_stream (opened []) (t, [])).1 ≡ requests_in at.0.actions) (is_among n at.0.conversation.unanswered) _ _
+    (ends_quiet at.0.actions (DeliverAnswered n accepted) refl) refl
 
-taken_passes : (accounts : List Account) (octets : List ℕ) (n : ℕ) (pdu : Pdu) (body : Body) (turn : SessionStep) → Passes octets turn (taken accounts octets n pdu body turn)
-taken_passes accounts octets n pdu (BindTransmitter bind) turn = still octets turn _ (bind_quiet accounts Transmitter n bind turn)
-taken_passes accounts octets n pdu (BindReceiver bind) turn = still octets turn _ (bind_quiet accounts Receiver n bind turn)
-taken_passes accounts octets n pdu (BindTransceiver bind) turn = still octets turn _ (bind_quiet accounts Transceiver n bind turn)
-taken_passes accounts octets n pdu (SubmitSm message) turn = record { passed = inr (requests_append turn.actions (Submit octets (priority_of message.priority_flag) ∷ [])) }
-taken_passes accounts octets n pdu (QuerySm query) turn = record { passed = inr (requests_append turn.actions (Query octets ∷ [])) }
-taken_passes accounts octets n pdu (CancelSm cancel) turn = record { passed = inr (requests_append turn.actions (Cancel octets ∷ [])) }
-taken_passes accounts octets n pdu Unbind turn = still octets turn _ (unbound_quiet turn.conversation.owed n turn)
-taken_passes accounts octets n pdu UnbindResp turn = still octets turn _ (left_if (eqb n unbind_number) turn)
-taken_passes accounts octets n pdu EnquireLink turn = still octets turn _ (sent_quiet EnquireLinkResp ESME_ROK n turn)
-taken_passes accounts octets n pdu (DeliverSmResp body) turn = still octets turn _ (delivered_quiet n (eqb pdu.command_status 0) turn)
-taken_passes accounts octets n pdu GenericNack turn = still octets turn _ (delivered_quiet n false turn)
-taken_passes accounts octets n pdu body turn = still octets turn turn refl
+taken_passes : (accounts : List Account) (octets : List ℕ) (n : ℕ) (pdu : Pdu) (body : Body) (at : StreamProgress) → Passes octets at.0.actions (taken accounts octets n pdu body at.0).actions
+taken_passes accounts octets n pdu (BindTransmitter bind) at = still octets at.0.actions _ (bind_quiet accounts Transmitter n bind at)
+taken_passes accounts octets n pdu (BindReceiver bind) at = still octets at.0.actions _ (bind_quiet accounts Receiver n bind at)
+taken_passes accounts octets n pdu (BindTransceiver bind) at = still octets at.0.actions _ (bind_quiet accounts Transceiver n bind at)
+taken_passes accounts octets n pdu (SubmitSm message) at = record { passed = inr (requests_append at.0.actions (Submit octets (priority_of message.priority_flag) ∷ [])) }
+taken_passes accounts octets n pdu (QuerySm query) at = record { passed = inr (requests_append at.0.actions (Query octets ∷ [])) }
+taken_passes accounts octets n pdu (CancelSm cancel) at = record { passed = inr (requests_append at.0.actions (Cancel octets ∷ [])) }
+taken_passes accounts octets n pdu Unbind at = still octets at.0.actions _ (unbound_quiet at.0.conversation.owed n at)
+taken_passes accounts octets n pdu UnbindResp at = still octets at.0.actions _ (left_if (eqb n unbind_number) at)
+taken_passes accounts octets n pdu EnquireLink at = still octets at.0.actions _ (sent_quiet EnquireLinkResp ESME_ROK n at)
+taken_passes accounts octets n pdu (DeliverSmResp body) at = still octets at.0.actions _ (delivered_quiet n (eqb pdu.command_status 0) at)
+taken_passes accounts octets n pdu GenericNack at = still octets at.0.actions _ (delivered_quiet n false at)
+taken_passes accounts octets n pdu body at = still octets at.0.actions at.0.actions refl
 
-refused_by_quiet : (kind : Option BindKind) (c : CommandId) (status : CommandStatus) (n : ℕ) (name : List ℕ) (turn : SessionStep)
-    → requests_in (refused_by kind c status n name turn).actions ≡ requests_in turn.actions
-refused_by_quiet (Some kind) c status n name turn = refused_quiet (without_bind_resp kind) status n name turn
-refused_by_quiet None c status n name turn = sent_quiet (refusal c) status n turn
+refused_by_quiet : (kind : Option BindKind) (c : CommandId) (status : CommandStatus) (n : ℕ) (name : List ℕ) (at : StreamProgress)
+    → requests_in (refused_by kind c status n name at.0).actions ≡ requests_in at.0.actions
+refused_by_quiet (Some kind) c status n name at = refused_quiet (without_bind_resp kind) status n name at
+refused_by_quiet None c status n name at = sent_quiet (refusal c) status n at
 
 -- a body that can't be read
-fault_quiet : (octets : List ℕ) (c : CommandId) (n : ℕ) (fault : PduFault) (turn : SessionStep)
-    → requests_in (refused octets c n (judged_fault c fault) turn).actions ≡ requests_in turn.actions
-fault_quiet octets DeliverSmRespId n fault turn = refl
-fault_quiet octets GenericNackId n fault turn = refl
-fault_quiet octets UnbindRespId n fault turn = refl
-fault_quiet octets c n fault turn = refused_by_quiet (kind_of_command c) c (status_of_fault fault) n (name_of (pdu_at octets)) turn
+fault_quiet : (octets : List ℕ) (c : CommandId) (n : ℕ) (fault : PduFault) (at : StreamProgress)
+    → requests_in (refused octets c n (judged_fault c fault) at.0).actions ≡ requests_in at.0.actions
+fault_quiet octets DeliverSmRespId n fault at = refl
+fault_quiet octets GenericNackId n fault at = refl
+fault_quiet octets UnbindRespId n fault at = refl
+fault_quiet octets c n fault at = refused_by_quiet (kind_of_command c) c (status_of_fault fault) n (name_of (pdu_at octets)) at
 
-read_passes : (accounts : List Account) (octets : List ℕ) (c : CommandId) (n : ℕ) (r : Result Pdu PduFault) (turn : SessionStep) → Passes octets turn (read accounts octets c n r turn)
-read_passes accounts octets c n (Ok pdu) turn = taken_passes accounts octets n pdu pdu.body turn
-read_passes accounts octets c n (Err fault) turn = still octets turn _ (fault_quiet octets c n fault turn)
+read_passes : (accounts : List Account) (octets : List ℕ) (c : CommandId) (n : ℕ) (r : Result Pdu PduFault) (at : StreamProgress) → Passes octets at.0.actions (read accounts octets c n r at.0).actions
+read_passes accounts octets c n (Ok pdu) at = taken_passes accounts octets n pdu pdu.body at
+read_passes accounts octets c n (Err fault) at = still octets at.0.actions _ (fault_quiet octets c n fault at)
 
 -- ---- what becomes of a command by the state
 
-module _ (accounts : List Account) (octets : List ℕ) (c : CommandId) (n : ℕ) (turn : SessionStep) where
-  reads_it : Passes octets turn (read accounts octets c n (pdu_at octets) turn)
-  reads_it = read_passes accounts octets c n (pdu_at octets) turn
+module _ (accounts : List Account) (octets : List ℕ) (c : CommandId) (n : ℕ) (at : StreamProgress) where
+  reads_it : Passes octets at.0.actions (read accounts octets c n (pdu_at octets) at.0).actions
+  reads_it = read_passes accounts octets c n (pdu_at octets) at
 
-  refuses_it : (status : CommandStatus) → Passes octets turn (refused_by (kind_of_command c) c status n (name_of (pdu_at octets)) turn)
-  refuses_it status = still octets turn _ (refused_by_quiet (kind_of_command c) c status n (name_of (pdu_at octets)) turn)
+  refuses_it : (status : CommandStatus) → Passes octets at.0.actions (refused_by (kind_of_command c) c status n (name_of (pdu_at octets)) at.0).actions
+  refuses_it status = still octets at.0.actions _ (refused_by_quiet (kind_of_command c) c status n (name_of (pdu_at octets)) at)
 
-  binds : (state : SessionState) → Passes octets turn (judging accounts octets c n (to_bind state) turn)
+  binds : (state : SessionState) → Passes octets at.0.actions (judging accounts octets c n (to_bind state) at.0).actions
   binds Opened = reads_it
   binds Finishing = refuses_it ESME_RINVBNDSTS
   binds state = refuses_it ESME_RALYBND
 
-  submits : (state : SessionState) → Passes octets turn (judging accounts octets c n (to_submit state) turn)
+  submits : (state : SessionState) → Passes octets at.0.actions (judging accounts octets c n (to_submit state) at.0).actions
   submits BoundTx = reads_it
   submits BoundTrx = reads_it
   submits state = refuses_it ESME_RINVBNDSTS
 
-  unbinds : (state : SessionState) → Passes octets turn (judging accounts octets c n (to_unbind state) turn)
+  unbinds : (state : SessionState) → Passes octets at.0.actions (judging accounts octets c n (to_unbind state) at.0).actions
   unbinds Opened = refuses_it ESME_RINVBNDSTS
   unbinds Finishing = refuses_it ESME_RINVBNDSTS
   unbinds state = reads_it
 
-  answers : (state : SessionState) → Passes octets turn (judging accounts octets c n (to_answer state) turn)
+  answers : (state : SessionState) → Passes octets at.0.actions (judging accounts octets c n (to_answer state) at.0).actions
   answers BoundRx = reads_it
   answers BoundTrx = reads_it
   answers Unbinding = reads_it
-  answers state = still octets turn turn refl
+  answers state = still octets at.0.actions at.0.actions refl
 
-  leaves : (state : SessionState) → Passes octets turn (judging accounts octets c n (to_leave state) turn)
+  leaves : (state : SessionState) → Passes octets at.0.actions (judging accounts octets c n (to_leave state) at.0).actions
   leaves Unbinding = reads_it
-  leaves state = still octets turn turn refl
+  leaves state = still octets at.0.actions at.0.actions refl
 
-judged_passes : (accounts : List Account) (octets : List ℕ) (c : CommandId) (n : ℕ) (state : SessionState) (turn : SessionStep)
-    → Passes octets turn (judging accounts octets c n (judged c state) turn)
-judged_passes accounts octets BindReceiverId n state turn = binds accounts octets BindReceiverId n turn state
-judged_passes accounts octets BindTransmitterId n state turn = binds accounts octets BindTransmitterId n turn state
-judged_passes accounts octets BindTransceiverId n state turn = binds accounts octets BindTransceiverId n turn state
-judged_passes accounts octets SubmitSmId n state turn = submits accounts octets SubmitSmId n turn state
-judged_passes accounts octets QuerySmId n state turn = submits accounts octets QuerySmId n turn state
-judged_passes accounts octets CancelSmId n state turn = submits accounts octets CancelSmId n turn state
-judged_passes accounts octets UnbindId n state turn = unbinds accounts octets UnbindId n turn state
-judged_passes accounts octets EnquireLinkId n state turn = reads_it accounts octets EnquireLinkId n turn
-judged_passes accounts octets DeliverSmId n state turn = refuses_it accounts octets DeliverSmId n turn ESME_RINVCMDID
-judged_passes accounts octets DeliverSmRespId n state turn = answers accounts octets DeliverSmRespId n turn state
-judged_passes accounts octets GenericNackId n state turn = answers accounts octets GenericNackId n turn state
-judged_passes accounts octets UnbindRespId n state turn = leaves accounts octets UnbindRespId n turn state
-judged_passes accounts octets c n state turn = still octets turn turn refl
+judged_passes : (accounts : List Account) (octets : List ℕ) (c : CommandId) (n : ℕ) (state : SessionState) (at : StreamProgress)
+    → Passes octets at.0.actions (judging accounts octets c n (judged c state) at.0).actions
+judged_passes accounts octets BindReceiverId n state at = binds accounts octets BindReceiverId n at state
+judged_passes accounts octets BindTransmitterId n state at = binds accounts octets BindTransmitterId n at state
+judged_passes accounts octets BindTransceiverId n state at = binds accounts octets BindTransceiverId n at state
+judged_passes accounts octets SubmitSmId n state at = submits accounts octets SubmitSmId n at state
+judged_passes accounts octets QuerySmId n state at = submits accounts octets QuerySmId n at state
+judged_passes accounts octets CancelSmId n state at = submits accounts octets CancelSmId n at state
+judged_passes accounts octets UnbindId n state at = unbinds accounts octets UnbindId n at state
+judged_passes accounts octets EnquireLinkId n state at = reads_it accounts octets EnquireLinkId n at
+judged_passes accounts octets DeliverSmId n state at = refuses_it accounts octets DeliverSmId n at ESME_RINVCMDID
+judged_passes accounts octets DeliverSmRespId n state at = answers accounts octets DeliverSmRespId n at state
+judged_passes accounts octets GenericNackId n state at = answers accounts octets GenericNackId n at state
+judged_passes accounts octets UnbindRespId n state at = leaves accounts octets UnbindRespId n at state
+judged_passes accounts octets c n state at = still octets at.0.actions at.0.actions refl
 
-command_passes : (accounts : List Account) (octets : List ℕ) (header : Header) (c : Option CommandId) (turn : SessionStep) → Passes octets turn (by_command accounts octets header c turn)
-command_passes accounts octets header (Some c) turn = judged_passes accounts octets c header.sequence_number turn.conversation.state turn
-command_passes accounts octets header None turn = by_test (ltb header.command_id 0x80000000) where
-  by_test : (b : Bool) → Passes octets turn (cond b (sent GenericNack ESME_RINVCMDID header.sequence_number turn) turn)
-  by_test true = still octets turn _ (sent_quiet GenericNack ESME_RINVCMDID header.sequence_number turn)
-  by_test false = still octets turn turn refl
+command_passes : (accounts : List Account) (octets : List ℕ) (header : Header) (c : Option CommandId) (at : StreamProgress) → Passes octets at.0.actions (by_command accounts octets header c at.0).actions
+command_passes accounts octets header (Some c) at = judged_passes accounts octets c header.sequence_number at.0.conversation.state at
+command_passes accounts octets header None at = by_test (ltb header.command_id 0x80000000) where
+  by_test : (b : Bool) → Passes octets at.0.actions (cond b (sent GenericNack ESME_RINVCMDID header.sequence_number at.0) at.0).actions
+  by_test true = still octets at.0.actions _ (sent_quiet GenericNack ESME_RINVCMDID header.sequence_number at)
+  by_test false = still octets at.0.actions at.0.actions refl
 
-treated_passes : (accounts : List Account) (octets : List ℕ) (turn : SessionStep) → Passes octets turn (treated accounts octets turn)
+treated_passes : (accounts : List Account) (octets : List ℕ) (at : StreamProgress) → Passes octets at.0.actions (treated accounts octets at.0).actions
 unfolding treated
-treated_passes accounts octets turn = command_passes accounts octets (header_at octets) (command_of (header_at octets).command_id) turn
+treated_passes accounts octets at = command_passes accounts octets (header_at octets) (command_of (header_at octets).command_id) at
 
-bad_quiet : (octets : List ℕ) (turn : SessionStep) → requests_in (bad_length octets turn).actions ≡ requests_in turn.actions
+bad_quiet : (octets : List ℕ) (at : StreamProgress) → requests_in (bad_length octets at.0).actions ≡ requests_in at.0.actions
 unfolding bad_length
-bad_quiet octets turn =
-    let t = sent GenericNack ESME_RINVCMDLEN (header_at octets).sequence_number turn in
-    broken_quiet t.conversation.owed t ∙ sent_quiet GenericNack ESME_RINVCMDLEN (header_at octets).sequence_number turn
+bad_quiet octets at =
+    let t = sent GenericNack ESME_RINVCMDLEN (header_at octets).sequence_number at.0 in
+    broken_quiet t.conversation.owed (t, []) ∙ sent_quiet GenericNack ESME_RINVCMDLEN (header_at octets).sequence_number at
 
 -- ---- octets one after the other
 
@@ -269,47 +264,47 @@ arriving rs octets buffered more h = record {
 same_requests : (rs qs : List (List ℕ)) (octets buffered : List ℕ) → qs ≡ rs → Stands rs octets buffered → Stands qs octets buffered
 same_requests rs qs octets buffered e h = subst (λ (ps : List (List ℕ)). Stands ps octets buffered) (sym e) h
 
--- the requests that a turn has passed up, behind those of before
-abbrev passed_by : List (List ℕ) → SessionStep → List (List ℕ)
-passed_by before turn = before ++ requests_in turn.actions
+-- the requests that were passed up, behind those of before
+abbrev passed_by : List (List ℕ) → List Action → List (List ℕ)
+passed_by before actions = before ++ requests_in actions
 
-passes_stand : (before : List (List ℕ)) (a b : SessionStep) (octets buffered : List ℕ) → Passes buffered a b → Stands (passed_by before a) octets buffered
+passes_stand : (before : List (List ℕ)) (a b : List Action) (octets buffered : List ℕ) → Passes buffered a b → Stands (passed_by before a) octets buffered
     → Stands (passed_by before b) octets []
 passes_stand before a b octets buffered p h = by_case p.passed where
-  by_case : (requests_in b.actions ≡ requests_in a.actions) ⊎ (requests_in b.actions ≡ requests_in a.actions ++ buffered ∷ []) → Stands (passed_by before b) octets []
+  by_case : (requests_in b ≡ requests_in a) ⊎ (requests_in b ≡ requests_in a ++ buffered ∷ []) → Stands (passed_by before b) octets []
   by_case (inl e) = same_requests (passed_by before a) (passed_by before b) octets [] (ap (λ (rs : List (List ℕ)). before ++ rs) e) (eaten (passed_by before a) octets buffered h)
   by_case (inr e) =
       same_requests (passed_by before a ++ buffered ∷ []) (passed_by before b) octets []
-      (ap (λ (rs : List (List ℕ)). before ++ rs) e ∙ sym (append_assoc before (requests_in a.actions) (buffered ∷ [])))
+      (ap (λ (rs : List (List ℕ)). before ++ rs) e ∙ sym (append_assoc before (requests_in a) (buffered ∷ [])))
       (passed_up (passed_by before a) octets buffered h)
 
-front_stand : (before : List (List ℕ)) (accounts : List Account) (turn : SessionStep) (octets buffered : List ℕ) → Stands (passed_by before turn) octets buffered
-    → Stands (passed_by before (fronted accounts (front_at buffered) turn buffered).0) octets (fronted accounts (front_at buffered) turn buffered).1
-front_stand before accounts turn octets buffered h =
-    pick (λ f. Stands (passed_by before (fronted accounts f turn buffered).0) octets (fronted accounts f turn buffered).1) (ltb (length buffered) 16) _ _ h
-    (pick (λ f. Stands (passed_by before (fronted accounts f turn buffered).0) octets (fronted accounts f turn buffered).1) (in_range (number_at 0 buffered)) _ _
-    (pick (λ f. Stands (passed_by before (fronted accounts f turn buffered).0) octets (fronted accounts f turn buffered).1) (ltb (length buffered) (number_at 0 buffered)) _ _ h
-    (passes_stand before turn (treated accounts buffered turn) octets buffered (treated_passes accounts buffered turn) h))
-    (passes_stand before turn (bad_length buffered turn) octets buffered (still buffered turn (bad_length buffered turn) (bad_quiet buffered turn)) h))
+front_stand : (before : List (List ℕ)) (accounts : List Account) (at : StreamProgress) (octets buffered : List ℕ) → Stands (passed_by before at.0.actions) octets buffered
+    → Stands (passed_by before (fronted accounts (front_at buffered) at.0 buffered).0.actions) octets (fronted accounts (front_at buffered) at.0 buffered).1
+front_stand before accounts at octets buffered h =
+    pick (λ f. Stands (passed_by before (fronted accounts f at.0 buffered).0.actions) octets (fronted accounts f at.0 buffered).1) (ltb (length buffered) 16) _ _ h
+    (pick (λ f. Stands (passed_by before (fronted accounts f at.0 buffered).0.actions) octets (fronted accounts f at.0 buffered).1) (in_range (number_at 0 buffered)) _ _
+    (pick (λ f. Stands (passed_by before (fronted accounts f at.0 buffered).0.actions) octets (fronted accounts f at.0 buffered).1) (ltb (length buffered) (number_at 0 buffered)) _ _ h
+    (passes_stand before at.0.actions (treated accounts buffered at.0).actions octets buffered (treated_passes accounts buffered at) h))
+    (passes_stand before at.0.actions (bad_length buffered at.0).actions octets buffered (still buffered at.0.actions (bad_length buffered at.0).actions (bad_quiet buffered at)) h))
 
-fronted_stand : (before : List (List ℕ)) (accounts : List Account) (state : SessionState) (turn : SessionStep) (octets buffered : List ℕ) → Stands (passed_by before turn) octets buffered
-    → Stands (passed_by before (fronted accounts (front_of state buffered) turn buffered).0) octets (fronted accounts (front_of state buffered) turn buffered).1
-fronted_stand before accounts Closed turn octets buffered h = eaten (passed_by before turn) octets buffered h
-fronted_stand before accounts Broken turn octets buffered h = eaten (passed_by before turn) octets buffered h
-fronted_stand before accounts state turn octets buffered h = front_stand before accounts turn octets buffered h
+fronted_stand : (before : List (List ℕ)) (accounts : List Account) (state : SessionState) (at : StreamProgress) (octets buffered : List ℕ) → Stands (passed_by before at.0.actions) octets buffered
+    → Stands (passed_by before (fronted accounts (front_of state buffered) at.0 buffered).0.actions) octets (fronted accounts (front_of state buffered) at.0 buffered).1
+fronted_stand before accounts Closed at octets buffered h = eaten (passed_by before at.0.actions) octets buffered h
+fronted_stand before accounts Broken at octets buffered h = eaten (passed_by before at.0.actions) octets buffered h
+fronted_stand before accounts state at octets buffered h = front_stand before accounts at octets buffered h
 
-more_stand : (before : List (List ℕ)) (accounts : List Account) (c : StreamProgress) (octets : List ℕ) (x : ℕ) → Stands (passed_by before c.0) octets c.1
-    → Stands (passed_by before (one_more accounts c x).0) (octets ++ x ∷ []) (one_more accounts c x).1
+more_stand : (before : List (List ℕ)) (accounts : List Account) (c : StreamProgress) (octets : List ℕ) (x : ℕ) → Stands (passed_by before c.0.actions) octets c.1
+    → Stands (passed_by before (one_more accounts c x).0.actions) (octets ++ x ∷ []) (one_more accounts c x).1
 unfolding one_more
 more_stand before accounts c octets x h =
-    fronted_stand before accounts c.0.conversation.state c.0 (octets ++ x ∷ []) (c.1 ++ x ∷ []) (arriving (passed_by before c.0) octets c.1 (x ∷ []) h)
+    fronted_stand before accounts c.0.conversation.state c (octets ++ x ∷ []) (c.1 ++ x ∷ []) (arriving (passed_by before c.0.actions) octets c.1 (x ∷ []) h)
 
-stream_stand : (before : List (List ℕ)) (accounts : List Account) (c : StreamProgress) (octets xs : List ℕ) → Stands (passed_by before c.0) octets c.1
-    → Stands (passed_by before (stream accounts c xs).0) (octets ++ xs) (stream accounts c xs).1
+stream_stand : (before : List (List ℕ)) (accounts : List Account) (c : StreamProgress) (octets xs : List ℕ) → Stands (passed_by before c.0.actions) octets c.1
+    → Stands (passed_by before (stream accounts c xs).0.actions) (octets ++ xs) (stream accounts c xs).1
 unfolding stream
-stream_stand before accounts c octets [] h = subst (λ (os : List ℕ). Stands (passed_by before c.0) os c.1) (sym (append-nil octets)) h
+stream_stand before accounts c octets [] h = subst (λ (os : List ℕ). Stands (passed_by before c.0.actions) os c.1) (sym (append-nil octets)) h
 stream_stand before accounts c octets (x ∷ xs) h =
-    subst (λ (os : List ℕ). Stands (passed_by before (stream accounts (one_more accounts c x) xs).0) os (stream accounts (one_more accounts c x) xs).1) (append_assoc octets (x ∷ []) xs)
+    subst (λ (os : List ℕ). Stands (passed_by before (stream accounts (one_more accounts c x) xs).0.actions) os (stream accounts (one_more accounts c x) xs).1) (append_assoc octets (x ∷ []) xs)
     (stream_stand before accounts (one_more accounts c x) (octets ++ x ∷ []) xs (more_stand before accounts c octets x h))
 
 -- ---- calls

@@ -35,7 +35,7 @@ use Rattle.sms_tpdu.specs.MoreMessages.{compared}
 use Rattle.sms_world.specs.headline.Claims.{AllTimely, DeliveredOnce, IsGivenTo, IsStamped, pair_in_row}
 use Rattle.sms_world.specs.headline.Origins.{IsDeliverFor}
 use Rattle.sms_world.specs.headline.HeadlineLaws.{IsScript, LeadsOn}
-use Rattle.sms_world.specs.headline.PlainLaws.{AreReports, DeliveredLaw, OfEventsLaw, PartsLaw, ToldLaw}
+use Rattle.sms_world.specs.headline.PlainLaws.{AreReports, DeliveredLinesLaw, OfEventsLaw, AcceptedPartsLaw, ToldLaw}
 use Rattle.sms_world.specs.headline.PlainReport.{IsAcceptedOnce, IsOfEvent, IsPartOf, WasDelivered, compared_line, compared_lines, is_deliver}
 use Rattle.sms_world.specs.headline.PlainWords.{OccursOnce, numbered}
 use Rattle.sms_world.specs.headline.SeenWorld.{PartSeen, part_seen, parts_by}
@@ -362,7 +362,7 @@ of_events_is script after typed reports l i =
     let r = row_of_line l c.centre.rows.messages (subst (λ (x : Report). Among l x.table) (is_told script after typed reports) i) in
     subst (λ (z : ReportedMessage). IsOfEvent script.setup script.events after z) (sym r.1.1) (of_row script after typed reports r.0 r.1.0).event
 
-pub delivered_lines_are : DeliveredLaw
+pub delivered_lines_are : DeliveredLinesLaw
 delivered_lines_are script after typed reports timely l i ended =
     let c : PlayState = (last_of script after typed reports).0 in
     let r = row_of_line l c.centre.rows.messages (subst (λ (x : Report). Among l x.table) (is_told script after typed reports) i) in
@@ -383,7 +383,7 @@ told_lines_are script after typed reports timely x i is =
       ),
     )
 
-pub accepted_lines_are : PartsLaw
+pub accepted_lines_are : AcceptedPartsLaw
 accepted_lines_are script after typed reports timely a i is =
     let c : PlayState = (last_of script after typed reports).0 in
     accepted_one script after typed reports timely a (subst (λ (r : Report). Among a r.accepted) (is_told script after typed reports) i) is

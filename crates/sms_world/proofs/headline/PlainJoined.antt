@@ -229,8 +229,7 @@ module _ (script : Script) (after : ℕ → Report) (typed : AreTyped script.eve
             let same : qs ++ p ∷ [] ≡ ps = cc in
             let old = before qs a in
             let y = carried_from (suc n) round p b in
-            let new = make y.0 (parts y.0 y.1.0) p y.1.2 in
-            (
+            let new = make y.0 (parts y.0 y.1.0) p y.1.2 in (
               old.0 ++ new.0 ∷ [],
               (
                 contents_last old.0 new.0 ∙ (λ j. old.1.0 j ++ new.1.2 j ∷ []) ∙ same,
@@ -404,19 +403,18 @@ module _ (script : Script) (after : ℕ → Report) (typed : AreTyped script.eve
   all_rows whole (p ∷ ps) there apart =
       let more = all_rows whole ps (λ q i. there q (inr i)) apart.1 in
       let k = whole p (there p (inl refl)) in
-      let own = rows_of p (there p (inl refl)) p.joined k.0 k.1.0 in
-      (
+      let own = rows_of p (there p (inl refl)) p.joined k.0 k.1.0 in (
         own.0 ++ more.0,
         (
           joined_over p.joined (joined_lines ps) own.0 more.0 own.1.0 more.1.0,
           none_over own.0 more.0 (none_common p k.0 own.0 k.1.1 own.1.1) more.1.1
-          (λ g h x y i j l n id number.
-          let r = round_of p k.0 own.0 own.1.1 g i in
-          let a = r.1.1 x l in
-          let b = more.1.2 h y j n in
-          let same : a.0 ≡ b.1 = pair_is p b.0 a.0 b.1 x y a.1.1 b.2.1 id number in
-          let handset : p.number ≡ b.0.number = sym a.1.1.handset ∙ ap (λ (z : Accepted). z.handset) (sym a.1.1.pair ∙ same ∙ b.2.1.pair) ∙ b.2.1.handset in
-          apart.0 (subst (λ (n : List ℕ). Among n (numbers_of ps)) (sym handset) (number_among b.0 ps b.2.0))),
+              (λ g h x y i j l n id number.
+              let r = round_of p k.0 own.0 own.1.1 g i in
+              let a = r.1.1 x l in
+              let b = more.1.2 h y j n in
+              let same : a.0 ≡ b.1 = pair_is p b.0 a.0 b.1 x y a.1.1 b.2.1 id number in
+              let handset : p.number ≡ b.0.number = sym a.1.1.handset ∙ ap (λ (z : Accepted). z.handset) (sym a.1.1.pair ∙ same ∙ b.2.1.pair) ∙ b.2.1.handset in
+              apart.0 (subst (λ (n : List ℕ). Among n (numbers_of ps)) (sym handset) (number_among b.0 ps b.2.0))),
           λ h x i j. ⊎_elim
               (λ (l : Among h own.0). let r = round_of p k.0 own.0 own.1.1 h l in let a = r.1.1 x j in (p, a.0, (inl refl, a.1.1)))
               (λ (l : Among h more.0). let b = more.1.2 h x l j in (b.0, b.1, (inr b.2.0, b.2.1)))

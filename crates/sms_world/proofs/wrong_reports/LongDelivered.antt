@@ -97,7 +97,7 @@ one_of_one = omega arith
 appears : Appears both_parts 1 1
 appears = record { before = 0; next = refl; new = λ h. absurd h.1.0; there = (line (Final Delivered), (inl refl, refl)) }
 
-of_event : IsOfEvent setup long_events both_parts (line (Final Delivered))
+abbrev of_event : IsOfEvent setup long_events both_parts (line (Final Delivered))
 of_event = record { number = 1; within = one_of_one; appears = appears; origin = origin; makes = inl of_application; from = refl; to = refl }
 
 -- ---- their octets

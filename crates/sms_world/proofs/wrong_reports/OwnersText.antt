@@ -31,7 +31,7 @@ use Rattle.sms_world.specs.headline.PlainReport.{Appears, IsEntered, IsOfApplica
 use Rattle.sms_world.specs.headline.PlainScript.{Does, IsWrittenBy}
 use Rattle.sms_world.specs.headline.PlainWords.{numbered}
 use Rattle.sms_world.specs.wrong_reports.Literals.{handset, hello, hello_octets, nothing, of_writer, owner_carried, owner_events, owner_frame, owner_given, owner_line, owner_reports, owner_setup, writer}
-use Rattle.sms_world.specs.wrong_reports.Tried.{OtherEntryLaw, OwnerLaw, TrueOwnerLaw}
+use Rattle.sms_world.specs.wrong_reports.Tried.{OtherEntryLaw, OwnerLaw, TrueOwnerLaw, TrueSentLaw}
 use Rattle.sms_world.proofs.wrong_reports.Read.{content, part}
 
 abbrev u : Submission
@@ -156,6 +156,20 @@ has_it = record {
   ascending = (λ x i. absurd i, tt);
   of_events = λ m i. subst (λ (z : ReportedMessage). IsOfEvent owner_setup owner_events after z) (the_line m i) of_event;
   stay = stay;
+}
+
+-- its entry counts as sent, and is a message
+pub is_sent : TrueSentLaw
+unfolding of_owner
+is_sent = record {
+  line = owner_line handset;
+  among = inl refl;
+  number = 2;
+  origin = record { submission = u; parts = part ∷ []; given_at = 1 };
+  owner = of_owner;
+  appears = appears;
+  handset = refl;
+  entry = refl;
 }
 
 -- ---- wrong ones

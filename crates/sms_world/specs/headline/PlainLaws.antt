@@ -1,23 +1,26 @@
 -- Which claims of the plain headline every report has already, proved of the course that it is read off.
-use Rattle.std.specs.Prelude.{◌≡◌, ◌++◌, ◌<◌, ℕ, suc, List, length, Ok, true}
+use Rattle.std.specs.Prelude.{◌≡◌, ◌++◌, ◌<◌, ℕ, suc, List, length, Ok, Option, None, true}
 use Rattle.sms_base.specs.Among.{Among}
 use Rattle.sms_base.specs.declared.final_state.FinalState.TheVariants.{Delivered}
 use Rattle.sms_play.specs.PlayState.{PlayState}
-use Rattle.sms_play.specs.Playing.{play_of, report_of}
+use Rattle.sms_play.specs.Playing.{play_of, premises_of, report_of}
 use Rattle.sms_play.specs.Setups.{beginning}
 use Rattle.sms_script.specs.declared.event.WorldEvent.{WorldEvent}
+use Rattle.sms_script.specs.declared.report.Broken.{Broken}
 use Rattle.sms_script.specs.declared.report.Report.{Report}
 use Rattle.sms_script.specs.declared.report.answers.Answer.{Answer}
 use Rattle.sms_script.specs.declared.report.answers.Answered.TheVariants.{Accepted}
 use Rattle.sms_script.specs.declared.report.answers.MessageState.TheVariants.{Final}
 use Rattle.sms_script.specs.declared.report.rows.AcceptedRow.{AcceptedRow}
+use Rattle.sms_script.specs.declared.report.rows.EntryState.TheVariants.{Sent}
+use Rattle.sms_script.specs.declared.report.rows.OutboxRow.{OutboxRow}
 use Rattle.sms_script.specs.declared.report.rows.ReceiptRow.{ReceiptRow}
 use Rattle.sms_script.specs.declared.report.rows.ReportedMessage.{ReportedMessage}
 use Rattle.sms_script.specs.declared.script.Script.{Script}
 use Rattle.sms_world.specs.headline.Claims.{AllFresh, AllTimely}
 use Rattle.sms_world.specs.headline.HeadlineLaws.{IsScript, LeadsOn, Of}
-use Rattle.sms_world.specs.headline.PlainHeadline.{Receipts}
-use Rattle.sms_world.specs.headline.PlainReport.{AnswersAscend, AreAscending, CancelsAreTrue, EachJoined, GivenOnce, IsOfEvent, IsPartOf, NamesMessage, NoSystemError, NoneTwice, OnlyCancelsDelete, QueriesAreTrue, Stays, WasDelivered, compared_lines, is_deliver}
+use Rattle.sms_world.specs.headline.PlainHeadline.{PlainHeadline, Receipts}
+use Rattle.sms_world.specs.headline.PlainReport.{AnswersAscend, AreAscending, CancelsAreTrue, EachJoined, GivenOnce, IsOfEvent, IsPartOf, IsSent, NamesMessage, NoSystemError, NoneTwice, OnlyCancelsDelete, QueriesAreTrue, Stays, WasDelivered, compared_lines, is_deliver}
 use Rattle.sms_world.specs.headline.TypedEvents.{AreTyped}
 
 -- each message has one line, in the order of their numbers
@@ -94,8 +97,8 @@ InTime Claim =
     → Claim script after
 
 -- what the table calls delivered was accepted, each part exactly once
-abbrev pub DeliveredLaw : Type 0
-DeliveredLaw =
+abbrev pub DeliveredLinesLaw : Type 0
+DeliveredLinesLaw =
     InTime (λ script after.
     (m : ReportedMessage) → Among m (after (length script.events)).table → m.state ≡ Final Delivered
     → WasDelivered script.setup script.events after (after (length script.events)) m)
@@ -109,8 +112,8 @@ ToldLaw =
     × (Among m (after (length script.events)).table × (m.id ≡ x.id) × WasDelivered script.setup script.events after (after (length script.events)) m))
 
 -- what a handset accepted as a DELIVER is a part of a message to it
-abbrev pub PartsLaw : Type 0
-PartsLaw =
+abbrev pub AcceptedPartsLaw : Type 0
+AcceptedPartsLaw =
     InTime (λ script after.
     (a : AcceptedRow) → Among a (after (length script.events)).accepted → is_deliver a.tpdu ≡ true
     → IsPartOf script.setup script.events after (after (length script.events)) a)
@@ -128,3 +131,16 @@ abbrev pub JoinedPiecesLaw : Type 0
 JoinedPiecesLaw =
     (script : Script) (after : ℕ → Report) → AreTyped script.events → AreReports script after → AllTimely 1 script.events (beginning script.setup)
     → AllFresh 1 script.events (beginning script.setup) → EachJoined script.setup script.events after (after (length script.events))
+
+-- ---- all of it
+
+-- From what is left, that each entry that counts as sent is a message, the whole plain headline follows.
+abbrev pub AllSent : Script → (ℕ → Report) → Type 0
+AllSent script after =
+    (x : OutboxRow) → Among x (after (length script.events)).outboxes → x.state ≡ Sent
+    → IsSent script.setup script.events after (after (length script.events)) x
+
+abbrev pub ButSentLaw : Type 0
+ButSentLaw =
+    (script : Script) (after : ℕ → Report) (broken : Option Broken) → AreTyped script.events → AreReports script after
+    → premises_of script.setup script.events ≡ Ok broken → (broken ≡ None → AllSent script after) → PlainHeadline script.setup script.events after broken

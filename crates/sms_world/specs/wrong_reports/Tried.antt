@@ -1,9 +1,10 @@
 -- For each claim a report that does not have it, and reports that do.
 use Rattle.std.specs.Prelude.{◌≡◌, ℕ, List, [], ◌∷◌, None}
 use Rattle.sms_world.specs.headline.PlainHeadline.{Answers, Deliveries, Messages, PlainHeadline, Receipts}
-use Rattle.sms_world.specs.headline.PlainReport.{AreAscending, CancelsAreTrue, EachJoined, GivenOnce, HaveNoneInCommon, NoSystemError, OnlyCancelsDelete, Piece, QueriesAreTrue, Stays, WasDelivered}
+use Rattle.sms_world.specs.headline.PlainReport.{AreAscending, CancelsAreTrue, EachJoined, GivenOnce, HaveNoneInCommon, IsSent, NoSystemError, OnlyCancelsDelete, Piece, QueriesAreTrue, Stays, WasDelivered}
 use Rattle.sms_script.specs.declared.event.Act.TheVariants.{Query, Cancel}
 use Rattle.sms_script.specs.declared.event.StopPoint.TheVariants.{After, Before}
+use Rattle.sms_script.specs.declared.report.rows.EntryState.TheVariants.{Sent}
 use Rattle.sms_script.specs.declared.report.answers.Answered.TheVariants.{Accepted, Found, Status}
 use Rattle.sms_script.specs.declared.report.answers.MessageState.TheVariants.{Enroute, Final}
 use Rattle.sms_base.specs.declared.final_state.FinalState.TheVariants.{Delivered, Expired, Deleted}
@@ -120,6 +121,12 @@ JoinedTwiceLaw = ¬ EachJoined setup piece_events piece_reports joined_twice
 
 abbrev pub TrueOwnerLaw : Type 0
 TrueOwnerLaw = Messages owner_setup owner_events (owner_reports 1 (owner_line handset)) (owner_reports 1 (owner_line handset) 2)
+
+-- its entry counts as sent
+abbrev pub TrueSentLaw : Type 0
+TrueSentLaw =
+    IsSent owner_setup owner_events (owner_reports 1 (owner_line handset)) (owner_reports 1 (owner_line handset) 2)
+    (record { handset = writer; entry = 1; state = Sent })
 
 -- it is a message to another handset than he wrote it to
 abbrev pub OwnerLaw : Type 0

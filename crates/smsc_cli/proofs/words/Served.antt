@@ -9,7 +9,8 @@ use Rattle.smsc_cli.specs.declared.words.server.ServerRun.{ServerRun}
 use Rattle.smsc_cli.specs.words.Accounts.{AddsAll}
 use Rattle.smsc_cli.specs.words.LookWords.{IsCountText, MayBe, Wants}
 use Rattle.smsc_cli.specs.words.Numbers.{IsPort, SpellsCount, SpellsFrom}
-use Rattle.smsc_cli.specs.words.ServerWords.{AreOptionsOf, IsPortText, LogsMessages, SpelledOptions, SpelledServer, SpellsServer, is_given}
+use Rattle.smsc_cli.specs.words.Options.{is_given}
+use Rattle.smsc_cli.specs.words.ServerWords.{AreOptionsOf, IsPortText, LogsMessages, SpelledOptions, SpelledServer, SpellsServer}
 use Rattle.smsc_cli.specs.words.SimWords.{Gives, Spells, SpellsNumber}
 
 pub spelled : (given : List ℕ → Option (List ℕ)) (texts : List (List ℕ)) (o : Options) (run : ServerRun) → AreOptionsOf given texts o → SpelledOptions o run

@@ -166,7 +166,6 @@ pub fn add_lines<'a>(accounts: &mut Vec<AccountWords<'a>>, file: &'a str) -> Res
 }
 
 /// The number, from 1, of the first of these texts that spells no account more; none where each does, or memory lacks.
-#[tactic(auto, using(crate::proofs::words::Places::number_of_bad))]
 pub(crate) fn first_bad(alloc: Global, texts: &[&str]) -> Option<usize>
     ensures { IfSome result (λ number. (place : ℕ) × (number ≡ place + 1)
         × ((last : List AccountWordsOf) × StopsAt place (map (λ text. text.now) texts.now) [] last)) }
@@ -174,7 +173,7 @@ pub(crate) fn first_bad(alloc: Global, texts: &[&str]) -> Option<usize>
     let mut accounts = Vec::new(alloc);
     match add_all(&mut accounts, texts) {
         Ok(()) => None,
-        Err(WordsFault::BadWords) => Some(accounts.len() + 1),
+        Err(WordsFault::BadWords) => Some(accounts.as_slice().len() + 1),
         Err(WordsFault::NoMemory) => None,
     }
 }

@@ -2,7 +2,7 @@
 use Rattle.std.proofs.Common.{◌≡◌, ◌≢◌, ℕ, true, true≢false, List, [], ◌∷◌, ◌++◌, Option, Some, None, Result, Ok, Err, drop, length, set, sym, refl, ap, subst, ◌∙◌, append_assoc, append-nil}
 use Rattle.std.specs.Prelude.{MatchResult}
 use Rattle.std.specs.Io.{StartsWith}
-use Rattle.std.specs.Io.KnownBytes.{Consumes, Keeps}
+use Rattle.std.specs.Io.KnownBytes.{Consumes}
 use Rattle.std.proofs.KnownBytes.{starts_with_rest}
 use Rattle.std.proofs.Transfers.{starts_with_of_append, starts_with_trans}
 use Rattle.std.proofs.Math.Seq.{drop-append_seam}
@@ -24,14 +24,7 @@ first_of source a b h = λ all e. starts_with_trans all (a ++ b) a (h all e) (st
 pub none_of : (source : Option (List ℕ)) → IsGivenOf source []
 none_of source = λ all e. starts_with_of_append all [] all refl
 
-all_left : (all : List ℕ) → all ≡ drop 0 all
-all_left all = starts_with_rest all [] (starts_with_of_append all [] all refl)
-
 -- ---- what the reader reads
-
--- nothing was read yet
-pub read_none : (source : Option (List ℕ)) → IsReadSo source [] source
-read_none source = λ all e. (none_of source all e, e ∙ ap Some (all_left all))
 
 next_read : (all given octets : List ℕ) (behind : Option (List ℕ)) → StartsWith all given → Consumes (Some (drop (length given) all)) behind octets
     → StartsWith all (given ++ octets) × (behind ≡ Some (drop (length (given ++ octets)) all))
@@ -59,20 +52,7 @@ gave_next source source_then before behind given given_then octets h k e f =
     subst (λ (s : Option (List ℕ)). IsReadSo s given_then behind) (sym e)
     (subst (λ (os : List ℕ). IsReadSo source os behind) (sym f) (read_next source before behind given octets h k))
 
-still_left : (left : List ℕ) (behind : Option (List ℕ)) → Keeps (Some left) behind → behind ≡ Some left
-still_left left None k = absurd k
-still_left left (Some rest) k = ap Some k
-
--- a read that gives nothing
-pub read_still : (source before behind : Option (List ℕ)) (given : List ℕ) → IsReadSo source given before → Keeps before behind → IsReadSo source given behind
-read_still source before behind given h k = λ all e.
-    ((h all e).0, still_left (drop (length given) all) behind (subst (λ (rest : Option (List ℕ)). Keeps rest behind) (h all e).1 k))
-
 -- ---- what is left of a stream
-
-pub left_none : (source : Option (List ℕ)) → left_behind [] source ≡ source
-left_none None = refl
-left_none (Some all) = ap Some (sym (all_left all))
 
 -- octets that the seat takes are the next of those that are left
 pub left_next : (source : Option (List ℕ)) (taken octets : List ℕ) → IsGivenOf source (taken ++ octets)
@@ -92,25 +72,6 @@ pub take_next : {E : Type 0} (r : Result Piece E) (v w : PiecesView) (H : E → 
 take_next (Ok x) v w H h =
     subst (λ (rest : Option (List ℕ)). Consumes (left_by v) rest (octets_of x)) (sym (ap left_by h.0)) (left_next v.source v.taken (octets_of x) h.1)
 take_next (Err e) v w H h = ap left_by h.0
-
--- the invariant of the seat's end, behind a piece or none
-pub still_first : {E : Type 0} (r : Result Piece E) (v w : PiecesView) (H : E → Type 0) → IsGivenOf v.source v.taken
-    → MatchResult r (λ x. (w ≡ taker_view v.source (v.taken ++ octets_of x)) × IsGivenOf v.source (v.taken ++ octets_of x)) (λ e. (w ≡ v) × H e)
-    → IsGivenOf w.source w.taken
-still_first (Ok x) v w H first h = subst (λ (u : PiecesView). IsGivenOf u.source u.taken) (sym h.0) h.1
-still_first (Err e) v w H first h = subst (λ (u : PiecesView). IsGivenOf u.source u.taken) (sym h.0) first
-
-pub still_takes : {E : Type 0} (r : Result Piece E) (v w : PiecesView) (H : E → Type 0) → v ≡ taker_view v.source v.taken
-    → MatchResult r (λ x. (w ≡ taker_view v.source (v.taken ++ octets_of x)) × IsGivenOf v.source (v.taken ++ octets_of x)) (λ e. (w ≡ v) × H e)
-    → w ≡ taker_view w.source w.taken
-still_takes (Ok x) v w H is h = subst (λ (u : PiecesView). u ≡ taker_view u.source u.taken) (sym h.0) refl
-still_takes (Err e) v w H is h = subst (λ (u : PiecesView). u ≡ taker_view u.source u.taken) (sym h.0) is
-
--- the invariant of the reader's end
-pub still_gives : {E : Type 0} (r : Result (Unit {0}) E) (v w : PiecesView) (octets : List ℕ) (H : E → Type 0) → v ≡ giver_view v.source v.given
-    → MatchResult r (λ _. w ≡ giver_view v.source (v.given ++ octets)) (λ e. H e × (w ≡ v)) → w ≡ giver_view w.source w.given
-still_gives (Ok done) v w octets H is h = subst (λ (u : PiecesView). u ≡ giver_view u.source u.given) (sym h) refl
-still_gives (Err e) v w octets H is h = subst (λ (u : PiecesView). u ≡ giver_view u.source u.given) (sym h.1) is
 
 -- ---- steps
 

@@ -1,5 +1,5 @@
 -- The threads of the seats, one more of them, and what the keeper did put together with what they hand back.
-use Rattle.std.proofs.Common.{◌≡◌, ◌⊎◌, ◌+◌, ◌<◌, ℕ, zero, suc, Bool, true, false, true≢false, List, [], ◌∷◌, ◌++◌, length, slice_get, Option, Some, None, Result, Ok, Err, OnOk, refl, sym, ap, subst, ◌∙◌, inl, inr, append_assoc, append-nil, length-append, arith}
+use Rattle.std.proofs.Common.{◌≡◌, ◌⊎◌, ◌+◌, ◌<◌, ℕ, zero, suc, Bool, true, false, true≢false, List, [], ◌∷◌, ◌++◌, length, slice_get, Option, Some, None, Result, Ok, Err, IfOk, OnOk, refl, sym, ap, subst, ◌∙◌, inl, inr, append_assoc, append-nil, length-append, arith}
 use Rattle.std.specs.Prelude.{is_ok}
 use Rattle.std.proofs.lemmas.Option.{none-some, same_Some}
 use Rattle.std.specs.Arc.{arc_value}
@@ -92,6 +92,12 @@ module _ {S : Type 0} (admitted : Admitted) where
       → AreThreadsOf admitted seats threads → OnOk r (AreThreadsOf admitted seats behind)
   threads_stay seats threads behind (Err fault) e h = tt
   threads_stay seats threads behind (Ok done) e h = subst (λ (l : List (SeatThread S)). AreThreadsOf admitted seats l) (sym e) h
+
+-- what is said of whom the threads admit
+pub admitted_so : {S E : Type 0} (P : Admitted → Type 0) (threads : List (SeatThread S)) (first second : Admitted) (r : Result (Unit {0}) E) → first ≡ second
+    → IfOk r (λ done. (admitted : Admitted) → HaveAdmitted admitted threads → P admitted) → HaveAdmitted first threads → IfOk r (λ done. P second)
+admitted_so P threads first second (Err fault) e h have = tt
+admitted_so P threads first second (Ok done) e h have = subst P e (h first have)
 
 pub admits_same : (a b : List Account) (c d : LinkAccess) → a ≡ b → c ≡ d → admits a c ≡ admits b d
 admits_same a b c d e f = ap (λ (x : List Account). admits x c) e ∙ ap (λ (y : LinkAccess). admits b y) f

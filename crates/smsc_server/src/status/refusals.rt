@@ -1,4 +1,7 @@
 //! Refused requests, counted by the account and the command_status.
+ghost use Rattle.std.specs.Prelude.{◌≡◌, ◌<◌, ◌≤◌};
+ghost use Rattle.smsc_server.specs.Refusals.{account_at, column_of as column, place_of as place_of_pair, refusals_at, row_of as row};
+
 use std::alloc::{AllocError, Global};
 use std::sync::atomic::{AtomicU64, Ordering};
 
@@ -24,22 +27,48 @@ pub struct RefusalTable {
     counts: Vec<AtomicU64>,
 }
 
-fn row_of(account: Option<u8>) -> usize {
+fn row_of(account: Option<u8>) -> usize
+    ensures row { result ≡ row account }
+    ensures few { result ≤ 32 }
+{
     match account {
         Some(place) if usize::from(place) < NO_ACCOUNT => usize::from(place),
         _ => NO_ACCOUNT,
     }
 }
 
-fn column_of(status: u32) -> usize {
+fn column_of(status: u32) -> usize
+    ensures column { result ≡ column status }
+    ensures few { result < 256 }
+{
     if status < 255 { status as usize } else { 255 }
 }
 
-fn account_of(row: usize) -> Option<u8> {
+// Where a request of that account, or of none, with that status is counted.
+fn place_of(account: Option<u8>, status: u32) -> usize
+    ensures { result ≡ place_of_pair account status }
+{
+    row_of(account) * STATUSES + column_of(status)
+}
+
+fn account_of(row: usize) -> Option<u8>
+    ensures { result ≡ account_at row }
+{
     if row < NO_ACCOUNT {
         Some(row as u8)
     } else {
         None
+    }
+}
+
+// What so many of that place are.
+fn refusals_of(place: usize, count: u64) -> Refusals
+    ensures { result ≡ refusals_at place count }
+{
+    Refusals {
+        account: account_of(place / STATUSES),
+        status: (place % STATUSES) as u32,
+        count,
     }
 }
 
@@ -55,18 +84,8 @@ impl RefusalTable {
 
     /// One more was refused.
     pub fn count(&self, account: Option<u8>, status: u32) {
-        let place = row_of(account) * STATUSES + column_of(status);
-        if let Some(counter) = self.counts.get(place) {
+        if let Some(counter) = self.counts.get(place_of(account, status)) {
             counter.fetch_add(1, Ordering::SeqCst);
-        }
-    }
-
-    // Those at the place, by a count of them.
-    fn at(place: usize, count: u64) -> Refusals {
-        Refusals {
-            account: account_of(place / STATUSES),
-            status: (place % STATUSES) as u32,
-            count,
         }
     }
 
@@ -76,7 +95,7 @@ impl RefusalTable {
         for place in 0..self.counts.len() {
             let count = self.counts[place].load(Ordering::SeqCst);
             if count > 0 {
-                all.push(RefusalTable::at(place, count))?;
+                all.push(refusals_of(place, count))?;
             }
         }
         Ok(all)
@@ -92,7 +111,7 @@ impl RefusalTable {
         let counter = self.counts.get(kind)?;
         match counter.swap(0, Ordering::SeqCst) {
             0 => None,
-            count => Some(RefusalTable::at(kind, count)),
+            count => Some(refusals_of(kind, count)),
         }
     }
 }

@@ -1,10 +1,12 @@
 use Rattle.sms_world.proofs.headline.PlainClaims.{ascend_is, ascending_is, longer_is, no_error_is, plain_once_is, receipts_is, references_is}
 use Rattle.sms_world.proofs.headline.PlainDeleted.{deleted_is}
 use Rattle.sms_world.proofs.headline.PlainDelivered.{accepted_lines_are, delivered_lines_are, of_events_is, told_lines_are}
+use Rattle.sms_world.proofs.headline.PlainJoined.{joined_pieces_are}
 use Rattle.sms_world.proofs.headline.PlainNamed.{named_is}
 use Rattle.sms_world.proofs.headline.PlainReports.{reports_is}
 use Rattle.sms_world.proofs.headline.PlainRequests.{cancels_are, queries_are}
 use Rattle.sms_world.proofs.headline.PlainStays.{each_stays_is}
+use Rattle.sms_world.proofs.headline.PlainWhole.{plain_is}
 use Rattle.sms_world.proofs.headline.plain_claims_hold.Goals as goal
 
 pub returns : goal.returns
@@ -26,4 +28,6 @@ returns c = record {
   delivered = delivered_lines_are;
   told = told_lines_are;
   accepted = accepted_lines_are;
+  joined = joined_pieces_are;
+  but_sent = plain_is;
 }

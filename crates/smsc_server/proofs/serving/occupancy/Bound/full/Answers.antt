@@ -13,4 +13,4 @@ loop-account-preserved c =
     let seats = c.args.self.now.accounts.items in
     let l = c.loop-account in
     let less = c.loop-account-test.true in
-    subst (λ (full : List Bool). Tells limits seats (l.account + 1) full) (sym c.with_account.ensures) (tells_next limits seats l.account l.full l.invariant (omega (arith, less)))
+    subst (λ (full : List Bool). Tells limits seats (l.account + 1) full) (sym c.with_account-full.ensures) (tells_next limits seats l.account l.full l.invariant (omega (arith, less)))
