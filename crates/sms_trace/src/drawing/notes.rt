@@ -1,5 +1,8 @@
 //! What is said beside the rows of a ladder.
-use sms_base::{Carried, FinalState, Holder, Kind, MessageId};
+use crate::drawing::causes::Cause;
+use crate::drawing::shown::put_shown;
+use sms_base::{Carried, FinalState, Holder, Kind, MessageId, Octets};
+use sms_control::Cp;
 use sms_script::report::{Answered, FrameRow, MessageState};
 use std::alloc::{AllocError, Global};
 use std::str::from_utf8;
@@ -36,8 +39,8 @@ fn carried_text(alloc: Global, carried: &Carried) -> Result<String, AllocError> 
 
 // A frame that carries nothing (3GPP TS 24.011 7.2).
 fn bare_word(octets: &[u8]) -> &'static str {
-    match octets {
-        [_, 0x04, ..] => "CP-ACK",
+    match Cp::read(octets) {
+        Ok(Cp::AckUnit { .. }) => "CP-ACK",
         _ => "CP-ERROR",
     }
 }
@@ -46,20 +49,41 @@ fn again_word(is_again: bool) -> &'static str {
     if is_again { ", again" } else { "" }
 }
 
-/// What a frame carries, and whether it is sent again.
+// What the frame carries, or what it is.
+fn content_text(alloc: Global, frame: &FrameRow) -> Result<String, AllocError> {
+    match &frame.carried {
+        Some(carried) => carried_text(alloc, carried),
+        None => {
+            let word = bare_word(frame.octets.as_slice());
+            format!(in alloc; "{word}")
+        }
+    }
+}
+
+// The cause that a frame names: its words, or its number where the standard has none.
+fn cause_text(alloc: Global, cause: Cause) -> Result<String, AllocError> {
+    let words = cause.words();
+    if words.is_empty() {
+        let number = cause.number();
+        return format!(in alloc; ": cause {number}");
+    }
+    format!(in alloc; ": {words}")
+}
+
+fn reason_text(alloc: Global, frame: &FrameRow) -> Result<String, AllocError> {
+    match Cause::of_frame(frame.direction, frame.octets.as_slice()) {
+        Some(cause) => cause_text(alloc, cause),
+        None => format!(in alloc; ""),
+    }
+}
+
+/// What a frame carries, whether it is sent again, and the cause that it names.
 pub fn frame_text(alloc: Global, frame: &FrameRow, is_again: bool) -> Result<String, AllocError> {
     let number = frame.number;
     let again = again_word(is_again);
-    match &frame.carried {
-        Some(carried) => {
-            let carried = carried_text(alloc, carried)?;
-            format!(in alloc; "frame {number}{again}: {carried}")
-        }
-        None => {
-            let word = bare_word(frame.octets.as_slice());
-            format!(in alloc; "frame {number}{again}: {word}")
-        }
-    }
+    let content = content_text(alloc, frame)?;
+    let reason = reason_text(alloc, frame)?;
+    format!(in alloc; "frame {number}{again}: {content}{reason}")
 }
 
 // A request that no PDU has is in no capture, and its answer neither.
@@ -88,17 +112,9 @@ pub enum Heading {
     Request(RequestNote),
 }
 
-/// The event of that number.
-pub fn event_text(
-    alloc: Global,
-    number: u64,
-    heading: Heading,
-    line: &[u8],
-) -> Result<String, AllocError> {
-    let line = from_utf8(line).unwrap_or("");
+// What is before the line of the event of that number.
+fn heading_text(alloc: Global, number: u64, heading: Heading) -> Result<String, AllocError> {
     match heading {
-        Heading::None => format!(in alloc; "{number}. {line}"),
-        Heading::Again => format!(in alloc; "{number}. {line}, again"),
         Heading::Request(asked) => {
             let RequestNote {
                 command,
@@ -106,9 +122,33 @@ pub fn event_text(
                 has_pdu,
             } = asked;
             let note = pdu_note(has_pdu);
-            format!(in alloc; "{number}. {command} {sequence}{note}: {line}")
+            format!(in alloc; "{number}. {command} {sequence}{note}: ")
         }
+        _ => format!(in alloc; "{number}. "),
     }
+}
+
+/// The event of that number. A line that is no UTF-8 is shown by its octets.
+pub fn event_text(
+    alloc: Global,
+    number: u64,
+    heading: Heading,
+    line: &[u8],
+) -> Result<Octets, AllocError> {
+    let mut out = Octets::new(alloc);
+    let head = heading_text(alloc, number, heading)?;
+    out.append(head.as_bytes())?;
+    put_shown(&mut out, line)?;
+    if let Heading::Again = heading {
+        out.append(b", again")?;
+    }
+    Ok(out)
+}
+
+/// What is answered is added to the note of an act.
+pub fn put_answered(note: &mut Octets, answered: &str) -> Result<(), AllocError> {
+    note.append(b": ")?;
+    note.append(answered.as_bytes())
 }
 
 /// The answer to a request.

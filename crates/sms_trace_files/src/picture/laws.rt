@@ -1,7 +1,7 @@
 //! Laws of pictures, over their definitions alone.
-ghost use Rattle.std.specs.Prelude.{◌≡◌, ℕ, List, map};
+ghost use Rattle.std.specs.Prelude.{◌≡◌, ◌≢◌, ◌<◌, ℕ, List, map};
 ghost use Rattle.sms_trace_files.specs.picture.Markup.{escaped};
-ghost use Rattle.sms_trace_files.specs.picture.Places.{lane_x, row_y};
+ghost use Rattle.sms_trace_files.specs.picture.Places.{cross_at, lane_x, names_y, note_at, row_y};
 ghost use Rattle.sms_trace_files.specs.picture.Reading.{IsRead, legible};
 
 /// A reader of XML gets each text of a picture as it was, with `?` for what is no printable ASCII. So no name and no note is
@@ -14,4 +14,15 @@ pub fn an_escaped_text_is_read_again()
 pub fn places_differ()
     ensures lanes { (one other : ℕ) → lane_x one ≡ lane_x other → one ≡ other }
     ensures rows { (one other : ℕ) → row_y one ≡ row_y other → one ≡ other }
+{}
+
+/// The cross of a frame that never arrives is right of each lane, so that no arrow runs there, and left of its note.
+pub fn crosses_are_apart()
+    ensures lanes { (lane lanes row : ℕ) → lane < lanes → lane_x lane < (cross_at lanes row).x }
+    ensures note { (lanes row : ℕ) → (cross_at lanes row).x < (note_at lanes row).x }
+{}
+
+/// The names of the lanes are on no row.
+pub fn names_are_on_no_row()
+    ensures { (head row : ℕ) → names_y head ≢ row_y row }
 {}

@@ -113,9 +113,9 @@ pub(crate) fn put_sign(out: &mut Octets, name: &[u8], at: Point) -> Result<(), A
     Ok(())
 }
 
-// What precedes the text.
+/// What precedes the text of an element.
 #[tactic(auto, unfolding(crate::specs::picture::Elements::text_head))]
-fn put_text_head(out: &mut Octets, class: &[u8], at: Point) -> Result<(), AllocError>
+pub(crate) fn put_text_head(out: &mut Octets, class: &[u8], at: Point) -> Result<(), AllocError>
     ensures { OnOk result (out.new ≡ out.old ++ text_head class.now at) }
 {
     out.append(b"<text class=\"")?;

@@ -1,0 +1,52 @@
+//! The notes of a picture.
+ghost use Rattle.std.specs.Prelude.{◌≡◌, ◌++◌, OnOk, take};
+ghost use Rattle.sms_trace_files.specs.picture.Notes.{cut_note, note_element, shown_note};
+
+use crate::picture::markup::{Point, put_escaped, put_number, put_text_head};
+use sms_base::Octets;
+use std::alloc::AllocError;
+
+// A longer note is cut behind so many octets.
+const MOST: usize = 80;
+
+fn front(note: &[u8]) -> &[u8]
+    ensures { result.now ≡ take 80 note.now }
+{
+    &note[..note.len().min(MOST)]
+}
+
+// The front of a note, and how long it is.
+#[tactic(auto, unfolding(crate::specs::picture::Notes::cut_note))]
+fn put_cut(out: &mut Octets, note: &[u8]) -> Result<(), AllocError>
+    ensures { OnOk result (out.new ≡ out.old ++ cut_note note.now) }
+{
+    put_escaped(out, front(note))?;
+    out.append(b" .. (")?;
+    put_number(out, note.len() as u64)?;
+    out.append(b" octets)")
+}
+
+fn put_shown(out: &mut Octets, note: &[u8]) -> Result<(), AllocError>
+    ensures { OnOk result (out.new ≡ out.old ++ shown_note note.now) }
+{
+    if MOST < note.len() {
+        put_cut(out, note)
+    } else {
+        put_escaped(out, note)
+    }
+}
+
+/// A note at a place. A long one is cut, and its length is said.
+#[tactic(auto, unfolding(crate::specs::picture::Notes::note_element))]
+pub(crate) fn put_note(out: &mut Octets, at: Point, note: &[u8]) -> Result<(), AllocError>
+    ensures { OnOk result (out.new ≡ out.old ++ note_element at note.now) }
+{
+    put_text_head(out, b"note", at)?;
+    put_shown(out, note)?;
+    out.append(b"</text>\n")
+}
+
+/// How many octets of a note so long are shown at most.
+pub(crate) fn shown_len(len: usize) -> u32 {
+    if len <= MOST { len as u32 } else { 113 }
+}
