@@ -1,6 +1,6 @@
 //! The notes of a picture.
 ghost use Rattle.std.specs.Prelude.{◌≡◌, ◌++◌, OnOk, take};
-ghost use Rattle.sms_trace_files.specs.picture.Notes.{cut_note, note_element, shown_note};
+ghost use Rattle.sms_trace_files.specs.picture.Notes.{cut_note, most_shown as most_shown_of, note_element, shown_note};
 
 use crate::picture::markup::{Point, put_escaped, put_number, put_text_head};
 use sms_base::Octets;
@@ -46,7 +46,9 @@ pub(crate) fn put_note(out: &mut Octets, at: Point, note: &[u8]) -> Result<(), A
     out.append(b"</text>\n")
 }
 
-/// How many octets of a note so long are shown at most.
-pub(crate) fn shown_len(len: usize) -> u32 {
+/// How many octets a note so long takes at most.
+pub(crate) fn most_shown(len: usize) -> u32
+    ensures { result ≡ most_shown_of len }
+{
     if len <= MOST { len as u32 } else { 113 }
 }

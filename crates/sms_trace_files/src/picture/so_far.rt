@@ -1,6 +1,6 @@
 //! A picture that is put together row by row while a run is played.
 use crate::picture::drawing::{Extent, Lane, Picture};
-use crate::picture::notes::shown_len;
+use crate::picture::notes::most_shown;
 use crate::picture::rows::{Departure, Passage, PictureRow, Shape, Sign};
 use sms_base::Octets;
 use std::alloc::{AllocError, Global};
@@ -54,7 +54,7 @@ impl PictureSoFar {
 
     fn add_row(&mut self, shape: Shape, note: &[u8]) -> Result<(), AllocError> {
         let place = self.picture.extent.rows;
-        let length = shown_len(note.len());
+        let length = most_shown(note.len());
         let note = Octets::copy_of(self.alloc, note)?;
         self.picture.rows.push(PictureRow { place, shape, note })?;
         self.picture.extent.rows = place.saturating_add(1);
