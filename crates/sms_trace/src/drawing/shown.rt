@@ -1,12 +1,13 @@
 //! Octets of a script as a note has them.
-ghost use Rattle.std.specs.Prelude.{◌≡◌, ◌++◌, ◌<◌, ¬◌, IsUtf8, OnOk};
+ghost use Rattle.std.specs.Prelude.{◌≡◌, ◌++◌, ◌<◌, IsUtf8, OnOk};
 ghost use Rattle.sms_trace.specs.drawing.Shown.{hex_digit as digit_of, shown_octet, shown_octets};
 
 use sms_base::Octets;
 use std::alloc::AllocError;
 use std::str::from_utf8;
 
-fn hex_digit(digit: u8) -> u8
+/// A hexadecimal digit.
+pub(crate) fn hex_digit(digit: u8) -> u8
     requires { digit < 16 }
     ensures { result ≡ digit_of digit }
 {
@@ -37,7 +38,7 @@ pub(crate) fn put_octets(out: &mut Octets, octets: &[u8]) -> Result<(), AllocErr
 /// Octets as a note has them: those of UTF-8 as they are, else each octet for itself.
 pub fn put_shown(out: &mut Octets, octets: &[u8]) -> Result<(), AllocError>
     ensures text { IsUtf8 octets.now → OnOk result (out.new ≡ out.old ++ octets.now) }
-    ensures octets { ¬ (IsUtf8 octets.now) → OnOk result (out.new ≡ out.old ++ shown_octets octets.now) }
+    ensures octets { (IsUtf8 octets.now → ⊥) → OnOk result (out.new ≡ out.old ++ shown_octets octets.now) }
 {
     match from_utf8(octets) {
         Ok(text) => out.append(text.as_bytes()),

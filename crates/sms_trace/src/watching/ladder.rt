@@ -170,13 +170,13 @@ impl Ladder {
             Some(act) => self.heading_of(act)?,
             None => Heading::None,
         };
-        let note = event_text(self.alloc, number, heading, self.text.line())?;
+        let note = event_text(self.alloc, number, &heading, self.text.line())?;
         self.text.skip();
         Ok(note)
     }
 
-    // The answer to an application's request, or to an owner's act.
-    fn answer_note(&self, act: &Act<'_>, answered: &Answered) -> Result<String, AllocError> {
+    // The answer to an application's request.
+    fn answer_note(&self, act: &Act<'_>, answered: &Answered) -> Result<Octets, AllocError> {
         let said = answered_text(self.alloc, answered)?;
         match request_of(act) {
             Some(request) => {
@@ -184,7 +184,7 @@ impl Ladder {
                 let asked = self.asked_as(act, &request, sequence)?;
                 response_text(self.alloc, &asked, said.as_str())
             }
-            None => Ok(said),
+            None => Octets::copy_of(self.alloc, said.as_bytes()),
         }
     }
 
@@ -198,7 +198,7 @@ impl Ladder {
             return Ok(());
         };
         let note = self.answer_note(act, answered)?;
-        self.put(&row.answer(), note.as_bytes())
+        self.put(&row.answer(), note.as_slice())
     }
 
     fn put_answers<S: Scene>(
@@ -259,7 +259,7 @@ impl Ladder {
         let is_again = self.sent.send(self.lanes.digits(&frame.handset), frame)?;
         let note = frame_text(self.alloc, frame, is_again)?;
         let arrow = self.lanes.way(frame);
-        self.page.put_departure(arrow, is_again, note.as_bytes())
+        self.page.put_departure(arrow, is_again, note.as_slice())
     }
 
     fn put_frames(&mut self, frames: &[FrameRow]) -> Result<(), AllocError> {
@@ -279,9 +279,9 @@ impl Ladder {
         let sequence = self.deliver(account);
         let row = Row::Arrow(self.lanes.answer(account));
         let sent = receipt_text(self.alloc, sequence, id, state)?;
-        self.put(&row, sent.as_bytes())?;
+        self.put(&row, sent.as_slice())?;
         let accepted = receipt_answer_text(self.alloc, sequence)?;
-        self.put(&row.answer(), accepted.as_bytes())
+        self.put(&row.answer(), accepted.as_slice())
     }
 
     fn put_receipts<S: Scene>(

@@ -20,11 +20,11 @@ one_more rows lane touched = with_it (is_touched rows lane) touched where
 
 pub more_before : (rows : List PictureRow) (lane other : ℕ) → lane < other → is_touched rows lane ≡ true → drawn_before rows lane < drawn_before rows other
 more_before rows lane zero before touched = omega arith
-more_before rows lane (suc other) before touched = of_case (eqb lane other) refl where
-  of_case : (b : Bool) → eqb lane other ≡ b → drawn_before rows lane < drawn_before rows (suc other)
-  of_case true same = subst (λ (o : ℕ). drawn_before rows lane < drawn_before rows (suc o)) (eqb-true lane other same) (one_more rows lane touched)
-  of_case false differ =
+more_before rows lane (suc other) before touched = of_case (λ (below : lane < other). more_before rows lane other below touched) (eqb lane other) refl where
+  of_case : (lane < other → drawn_before rows lane < drawn_before rows other) → (b : Bool) → eqb lane other ≡ b → drawn_before rows lane < drawn_before rows (suc other)
+  of_case earlier true same = subst (λ (o : ℕ). drawn_before rows lane < drawn_before rows (suc o)) (eqb-true lane other same) (one_more rows lane touched)
+  of_case earlier false differ =
       let apart = eqb-false lane other differ in
-      let below : drawn_before rows lane < drawn_before rows other = more_before rows lane other (omega arith) touched in
+      let below : drawn_before rows lane < drawn_before rows other = earlier (omega arith) in
       let kept = no_fewer rows other in
       omega arith

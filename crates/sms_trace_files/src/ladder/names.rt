@@ -1,5 +1,5 @@
 //! The names of the lanes of a ladder.
-ghost use Rattle.std.specs.Prelude.{◌≡◌, ◌++◌, OnOk, Option, replicate, max, ◌+◌, length};
+ghost use Rattle.std.specs.Prelude.{◌≡◌, ◌≤◌, ◌+◌, ◌++◌, OnOk, Option, length, max, replicate};
 ghost use Rattle.sms_trace_files.specs.ladder.Names.{apart as apart_of, gap_behind as behind_of, name_text, names_text, shown_name as shown_of};
 
 use crate::picture::columns::Columns;
@@ -10,18 +10,26 @@ use std::alloc::AllocError;
 // A longer name is cut behind so many octets.
 const MOST: usize = 40;
 
+#[tactic(auto, using(crate::proofs::Fronts::front))]
 fn shown_name(name: &[u8]) -> &[u8]
     ensures { result.now ≡ shown_of name.now }
 {
-    &name[..name.len().min(MOST)]
+    &name[..MOST.min(name.len())]
+}
+
+#[tactic(auto, using(crate::proofs::Fronts::front_length))]
+fn shown_len(name: &[u8]) -> u8
+    ensures value { result ≡ length (shown_of name.now) }
+    ensures short { result ≤ 40 }
+{
+    MOST.min(name.len()) as u8
 }
 
 // At least so many places, and so many that a space is behind the name.
 fn wider(apart: u8, name: &[u8]) -> u8
     ensures { result ≡ max apart (length (shown_of name.now) + 1) }
 {
-    let needed = shown_name(name).len() as u8 + 1;
-    apart.max(needed)
+    apart.max(shown_len(name) + 1)
 }
 
 /// How many places the lanes are apart.
@@ -60,7 +68,7 @@ fn gap_behind(apart: u8, gap: u8, name: &[u8], column: Option<u16>) -> u8
     ensures { result ≡ behind_of apart gap name.now column }
 {
     match column {
-        Some(_) => apart.saturating_sub(shown_name(name).len() as u8),
+        Some(_) => apart.saturating_sub(shown_len(name)),
         None => gap,
     }
 }

@@ -3,9 +3,10 @@ ghost use Rattle.std.specs.Prelude.{◌≡◌, ◌++◌, OnOk, Option, codes, de
 ghost use Rattle.sms_trace_files.specs.picture.Drawing.{drawn_between, drawn_extent, drawn_in_columns, head as head_of, heads_drawn, lanes_drawn, legend, legend_arrow, legend_lost, legend_sign, line_in, name_in, names_drawn, legend_y as y_in_legend, pair, picture_drawn, size as size_of, tall, view_box, wide};
 ghost use Rattle.sms_trace_files.specs.declared.picture.rows.Sign.TheVariants.{Tick as TickSign, Act as ActSign, Restart as RestartSign};
 
+use crate::numbers::put_number;
 use crate::picture::columns::Columns;
 use crate::picture::looks::put_looks;
-use crate::picture::markup::{Point, put_attribute, put_line, put_number, put_sign, put_text};
+use crate::picture::markup::{Point, put_attribute, put_line, put_sign, put_text};
 use crate::picture::places::{heads, lane_x, names_y, row_y};
 use crate::picture::rows::{PictureRow, Sign, arrow_class, lost_class, put_rows, sign_word};
 use sms_base::Octets;

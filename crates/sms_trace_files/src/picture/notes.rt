@@ -2,17 +2,19 @@
 ghost use Rattle.std.specs.Prelude.{◌≡◌, ◌++◌, OnOk, take};
 ghost use Rattle.sms_trace_files.specs.picture.Notes.{cut_note, most_shown as most_shown_of, note_element, shown_note};
 
-use crate::picture::markup::{Point, put_escaped, put_number, put_text_head};
+use crate::numbers::put_number;
+use crate::picture::markup::{Point, put_escaped, put_text_head};
 use sms_base::Octets;
 use std::alloc::AllocError;
 
 // A longer note is cut behind so many octets.
 const MOST: usize = 80;
 
+#[tactic(auto, using(crate::proofs::Fronts::front))]
 fn front(note: &[u8]) -> &[u8]
     ensures { result.now ≡ take 80 note.now }
 {
-    &note[..note.len().min(MOST)]
+    &note[..MOST.min(note.len())]
 }
 
 // The front of a note, and how long it is.
