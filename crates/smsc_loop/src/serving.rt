@@ -31,12 +31,25 @@ const UNKNOWN_WAIT: u64 = 20;
 // patience are seen that late.
 const LONGEST_WAIT: u64 = 1000;
 
+// So many are between two tries to put a job for which there was no room, or to send octets.
+const SHORTEST_WAIT: u64 = 1;
+
 // Waits until the bell of the seat rings.
 fn rest<R: Wait, G: Endpoint>(rt: &R, seat: &OpenSeat, endpoint: &G) {
     let wait = if endpoint.is_known() {
         LONGEST_WAIT
     } else {
         UNKNOWN_WAIT
+    };
+    seat.wait(rt, Duration::from_millis(wait));
+}
+
+// Waits where jobs wait to be put. The answer to the seat's request rings its bell. The keeper rings none where it makes room in the queue.
+fn wait_to_put<R: Wait, G: Endpoint>(rt: &R, seat: &OpenSeat, endpoint: &G) {
+    let wait = if seat.has_turn() || !endpoint.octets().is_empty() {
+        SHORTEST_WAIT
+    } else {
+        LONGEST_WAIT
     };
     seat.wait(rt, Duration::from_millis(wait));
 }
@@ -80,9 +93,8 @@ fn attend<R: Wait, W: Wire, G: Endpoint, A: Surroundings>(
     if patience.stalled.is_some() {
         return Ok(TurnEnd::Stays);
     }
-    // The keeper rings no bell where it makes room.
     if endpoint.has_jobs() && !endpoint.is_full() {
-        seat.wait(rt, Duration::from_millis(1));
+        wait_to_put(rt, seat, endpoint);
         return Ok(TurnEnd::Stays);
     }
     let end = look(rt, around, wire, seat.number(), endpoint, patience, now)?;

@@ -14,6 +14,7 @@
 //!
 //! - `asking`: what a job asks of the centre
 //! - `copying`: copies of replies
+//! - `cutoff`: whether it is too late to begin anything
 //! - `ends`: the ends of messages
 //! - `seat_map`: which handset and which session is at which seat
 //! - `laws`: laws of the service's steps
@@ -38,6 +39,7 @@
 mod asking;
 mod bound_session;
 mod copying;
+mod cutoff;
 mod ends;
 pub mod laws;
 mod lending;
@@ -60,6 +62,7 @@ mod twice;
 pub use asking::{SeatRequest, job_asks};
 pub use bound_session::{handsets_of, sessions_of};
 pub use copying::copy_of_outs;
+pub use cutoff::Cutoff;
 pub use lending::serve_with;
 pub use link_board::LinkBoard;
 pub use machine::CentreMachine;

@@ -27,7 +27,12 @@ use std::sync::atomic::{AtomicBool, AtomicU8, AtomicU64, Ordering};
 use std::sync::{Arc, Wait};
 use std::time::Clock;
 
-// Milliseconds after which no seat waits for anything any more once it saw an order to stop. It sees one within a second.
+// Milliseconds after which the centre begins nothing more once a seat saw an order to stop. It sees one within a second. So much is left of
+// the seven seconds that an endpoint waits for its answers: the commit that is under way ends, each request that waits is refused, and all
+// of them are answered.
+const INTAKE_LIMIT: u64 = 5_000;
+
+// And after which no seat waits for anything any more.
 const STOP_LIMIT: u64 = 8_000;
 
 /// What the thread of a seat has beside its seat.
@@ -111,13 +116,22 @@ impl<'a, R: Wait + Clock, T: Observer> SeatSurroundings<'a, R, T> {
         now
     }
 
-    // Whether the run was ordered to end so long ago that no seat waits any more.
-    fn is_late(&self) -> bool {
+    // For how long the run has been ordered to end, as far as this seat knows.
+    fn ending_for(&self) -> u64 {
         if !self.board.is_ending() {
-            return false;
+            return 0;
         }
         let now = milliseconds(self.rt);
-        now.saturating_sub(self.stopping_since(now)) >= STOP_LIMIT
+        now.saturating_sub(self.stopping_since(now))
+    }
+
+    // Whether the run was ordered to end so long ago that no seat waits any more. Before that the centre begins nothing more.
+    fn is_late(&self) -> bool {
+        let passed = self.ending_for();
+        if passed >= INTAKE_LIMIT {
+            self.board.orders.cutoff().pass();
+        }
+        passed >= STOP_LIMIT
     }
 }
 

@@ -187,6 +187,7 @@ where
         alloc,
         keep,
         given.links.as_ref(),
+        given.orders.cutoff(),
         |service|
             requires listener { IsSend L.row }
             requires stream { IsSend L.Stream.row }
