@@ -31,25 +31,12 @@ const UNKNOWN_WAIT: u64 = 20;
 // patience are seen that late.
 const LONGEST_WAIT: u64 = 1000;
 
-// So many are between two tries to put a job for which there was no room, or to send octets.
-const SHORTEST_WAIT: u64 = 1;
-
 // Waits until the bell of the seat rings.
 fn rest<R: Wait, G: Endpoint>(rt: &R, seat: &OpenSeat, endpoint: &G) {
     let wait = if endpoint.is_known() {
         LONGEST_WAIT
     } else {
         UNKNOWN_WAIT
-    };
-    seat.wait(rt, Duration::from_millis(wait));
-}
-
-// Waits where jobs wait to be put. The answer to the seat's request rings its bell. The keeper rings none where it makes room in the queue.
-fn wait_to_put<R: Wait, G: Endpoint>(rt: &R, seat: &OpenSeat, endpoint: &G) {
-    let wait = if seat.has_turn() || !endpoint.octets().is_empty() {
-        SHORTEST_WAIT
-    } else {
-        LONGEST_WAIT
     };
     seat.wait(rt, Duration::from_millis(wait));
 }
@@ -75,7 +62,7 @@ fn look<R: Wait, W: Wire, G: Endpoint, A: Surroundings>(
     end
 }
 
-// Reads where nothing waits to be sent or put, and rests where there is nothing to do.
+// Reads where there was room for what was sent and put, and rests where there is nothing to do.
 fn attend<R: Wait, W: Wire, G: Endpoint, A: Surroundings>(
     rt: &R,
     around: &A,
@@ -93,8 +80,10 @@ fn attend<R: Wait, W: Wire, G: Endpoint, A: Surroundings>(
     if patience.stalled.is_some() {
         return Ok(TurnEnd::Stays);
     }
-    if endpoint.has_jobs() && !endpoint.is_full() {
-        wait_to_put(rt, seat, endpoint);
+    // There was no room for a job, and the keeper rings no bell where it makes room. Jobs that wait for their turn go on with the answer that
+    // the seat has to get, which rings the bell.
+    if endpoint.has_jobs() && seat.has_turn() {
+        seat.wait(rt, Duration::from_millis(1));
         return Ok(TurnEnd::Stays);
     }
     let end = look(rt, around, wire, seat.number(), endpoint, patience, now)?;

@@ -8,7 +8,8 @@
 //! rows.
 //!
 //! `Service` is what a hub's keeper runs: it asks the centre for a seat's job, or lets time pass, and gives each seat
-//! its replies. Its steps are one history of the centre's definition (`specs/Serving.antt`). `SeatMap` keeps which
+//! its replies. Its steps are one history of the centre's definition (`specs/Serving.antt`). Behind its `Cutoff` it begins
+//! no event: each fails as for want of memory. `SeatMap` keeps which
 //! handset's link and which session is at which seat, so that frames and receipts find their seats. `serve_with` owns a
 //! service and lends it, so that no crate above proves how a centre is dropped.
 //!

@@ -1,4 +1,4 @@
-use Rattle.std.proofs.Common.{refl}
+use Rattle.std.proofs.Common.{◌∙◌, refl, sym, true≢false}
 use Rattle.smsc_service.proofs.ByFate.{is_undone, was_undone}
 use Rattle.smsc_service.proofs.service.Service.begin.Goals as goal
 
@@ -12,3 +12,12 @@ returns-then-is_late-clause-refused g c = λ s honest serving e. was_undone _ _ 
 
 pub returns-then-is_late-clause-late : goal.returns-then-is_late-clause-late
 returns-then-is_late-clause-late g c = λ e. (c.unmade.ensures.fate, refl)
+
+pub returns-clause-gives : goal.returns-clause-gives
+returns-clause-gives g c = c.happen.ensures.gives
+
+pub returns-clause-refused : goal.returns-clause-refused
+returns-clause-refused g c = c.happen.ensures.refused
+
+pub returns-clause-late : goal.returns-clause-late
+returns-clause-late g c = λ e. absurd (true≢false (sym e ∙ c.if-is_late.false))

@@ -1,4 +1,4 @@
-use Rattle.std.proofs.Common.{subst, sym}
+use Rattle.std.proofs.Common.{refl, subst, sym}
 use Rattle.sms_keeper.specs.declared.machine.Fate.TheVariants.{Done}
 use Rattle.smsc_service.specs.declared.asking.SeatRequest.{SeatRequest}
 use Rattle.smsc_service.specs.declared.asking.SeatRequest.TheVariants.{Nothing, Taken}
@@ -33,3 +33,12 @@ returns-in-Nothing-clause-refused g c = λ s honest serving e. was_done _ _ c.un
 
 pub returns-in-Taken-clause-refused : goal.returns-in-Taken-clause-refused
 returns-in-Taken-clause-refused g c = λ s honest serving e. was_done _ _ c.turned_away.ensures.fate e
+
+pub returns-in-Event-clause-late : goal.returns-in-Event-clause-late
+returns-in-Event-clause-late g c = λ e. (c.begin.ensures.late e).1
+
+pub returns-in-Nothing-clause-late : goal.returns-in-Nothing-clause-late
+returns-in-Nothing-clause-late g c = λ e. refl
+
+pub returns-in-Taken-clause-late : goal.returns-in-Taken-clause-late
+returns-in-Taken-clause-late g c = λ e. refl
