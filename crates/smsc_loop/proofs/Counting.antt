@@ -1,5 +1,5 @@
 -- How many answers a seat has still to get.
-use Rattle.std.proofs.Common.{◌≡◌, ◌≤◌, ◌==◌, ◌||◌, ℕ, zero, suc, ◌+◌, ◌-◌, ◌<◌, List, [], ◌∷◌, ◌++◌, Option, Some, None, Bool, true, false, if◌then◌else◌, refl, sym, ap, subst, ◌∙◌, true≢false, arith}
+use Rattle.std.proofs.Common.{◌≡◌, ◌≤◌, ◌==◌, ◌||◌, ℕ, zero, suc, ◌+◌, ◌-◌, List, [], ◌∷◌, ◌++◌, Option, Some, None, Bool, true, false, if◌then◌else◌, refl, sym, ap, subst, ◌∙◌, true≢false, arith}
 use Rattle.sms_centre_spec.specs.declared.answer.CentreAnswer.{CentreAnswer}
 use Rattle.sms_centre_spec.specs.declared.jobs.job.Job.{Job}
 use Rattle.sms_centre_spec.specs.declared.jobs.reply.Reply.{Reply}
@@ -123,9 +123,6 @@ module _ (put put_then : List (Option Job)) (taken taken_then : List Reply) (awa
 
 -- ---- turns
 
-pub one_put : (awaited : ℕ) → (awaited < 1) → awaited + 1 ≤ most_in_queue
-one_put awaited h = omega arith
-
 one_more_at_most : (b : Bool) (r a w : ℕ) → r ≤ a + w → counted_in b r ≤ a + counted_in b w
 one_more_at_most true r a w h = omega arith
 one_more_at_most false r a w h = h
@@ -162,6 +159,11 @@ module _ (put put_then : List (Option Job)) (taken taken_then : List Reply) (awa
       (subst (λ (taken : List Reply). counted_in (is_request job) (requests_in put) ≤ answers_in taken + left) (sym f)
       (subst (λ (n : ℕ). counted_in (is_request job) (requests_in put) ≤ answers_in taken + n) (sym d) more))
 
+  -- and the seat takes its turns
+  pub turns_job : (job : Job) (left : ℕ) → left ≡ awaited_with job awaited → put_then ≡ put ++ Some job ∷ [] → taken_then ≡ taken
+      → left ≤ most_in_queue → TakesTurns put_then taken_then
+  turns_job job left d e f few = sum_at_most (requests_in put_then) (answers_in taken_then) left most_in_queue (turn_job job left d e f) few
+
   -- a job is handed back
   pub turn_same : put_then ≡ put → taken_then ≡ taken → requests_in put_then ≤ answers_in taken_then + awaited
   turn_same e f =
@@ -182,13 +184,3 @@ module _ (put put_then : List (Option Job)) (taken taken_then : List Reply) (awa
       subst (λ (put : List (Option Job)). requests_in put ≤ answers_in taken_then + left) (sym e)
       (subst (λ (taken : List Reply). requests_in put ≤ answers_in taken + left) (sym f)
       (subst (λ (n : ℕ). requests_in put ≤ answers_in (taken ++ reply ∷ []) + n) (sym d) (turn_among reply)))
-
-pub takes_turns : (put : List (Option Job)) (taken : List Reply) (awaited : ℕ) → requests_in put ≤ answers_in taken + awaited → awaited ≤ most_in_queue
-    → TakesTurns put taken
-takes_turns put taken awaited turn few = sum_at_most (requests_in put) (answers_in taken) awaited most_in_queue turn few
-
--- nothing was put or taken yet
-pub turn_new : (put : List (Option Job)) (taken : List Reply) → put ≡ [] → taken ≡ [] → requests_in put ≤ answers_in taken + 0
-turn_new put taken e f =
-    let requests : requests_in put ≡ 0 = ap requests_in e in
-    omega arith

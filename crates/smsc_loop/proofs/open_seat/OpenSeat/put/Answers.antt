@@ -1,5 +1,4 @@
-use Rattle.std.proofs.Common.{refl}
-use Rattle.smsc_loop.proofs.Counting.{answered_kept, counted_job, last_job, takes_turns, turn_job, turn_same}
+use Rattle.smsc_loop.proofs.Counting.{answered_kept, counted_job, last_job, turn_job, turn_same, turns_job}
 use Rattle.smsc_loop.proofs.open_seat.OpenSeat.put.Goals as goal
 
 pub invariant_of-self-2 : goal.invariant_of-self-2
@@ -14,5 +13,4 @@ invariant_of-self-2 g c = record {
 
 pub returns-clause-turn : goal.returns-clause-turn
 returns-clause-turn g c =
-    takes_turns _ _ c.in-Some.awaited
-    (turn_job _ _ _ _ _ c.args.self.now.in_turn c.args.job c.in-Some.awaited c.in-Some.ensures.0 c.in_ok-put.ensures.put c.put.ensures.taken) c.in-Some.ensures.1
+    turns_job _ _ _ _ _ c.args.self.now.in_turn c.args.job c.in-Some.awaited c.in-Some.ensures.0 c.in_ok-put.ensures.put c.put.ensures.taken c.in-Some.ensures.1
