@@ -105,6 +105,7 @@ pub fn open<R: Clock + Copy>(
     let alloc = host.alloc();
     let listener = listen_at(&host, port)?;
     let table = SeatTable::new(alloc)?;
+    let series = Series::new(alloc)?;
     let clients = no_clients(alloc)?;
     Ok(Pages {
         host,
@@ -113,7 +114,7 @@ pub fn open<R: Clock + Copy>(
         about,
         source,
         table,
-        series: Series::new(alloc),
+        series,
         events: VecDeque::new(alloc),
         clients,
         waiting: None,
@@ -283,7 +284,7 @@ impl<R: Wait + Clock> Pages<R> {
         self.second = second;
         let counts = self.source.counters.messages();
         let commits = self.source.counters.commits().count();
-        let _ = self.series.end_second(&counts, commits);
+        self.series.end_second(&counts, commits);
         self.files = StoreFigures {
             file: octets_at(&self.host, self.about.paths.file.as_str()),
             log: octets_at(&self.host, self.about.paths.log.as_str()),

@@ -1,9 +1,11 @@
-//! Tests of what the programs over links use: frames in a stream, owners' lines, words, captures.
+//! Tests of what the programs over links use: frames in a stream, owners' lines, words, captures, ladders.
 
 #[cfg(test)]
 mod captures;
 #[cfg(test)]
 mod frames;
+#[cfg(test)]
+mod ladders;
 #[cfg(test)]
 mod owners;
 #[cfg(test)]
