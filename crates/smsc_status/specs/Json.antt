@@ -4,6 +4,7 @@ use Rattle.std.specs.Str.{trim_end}
 use Rattle.smsc_status.specs.declared.commits.CommitFigures.{CommitFigures}
 use Rattle.smsc_status.specs.declared.commits.Quantile.{Quantile}
 use Rattle.smsc_status.specs.declared.commits.TheConstants.{LIMITS}
+use Rattle.smsc_status.specs.declared.figures.AccountLine.{AccountLine}
 use Rattle.smsc_status.specs.declared.figures.LinkLine.{LinkLine}
 use Rattle.smsc_status.specs.declared.figures.MessageCounts.{MessageCounts}
 use Rattle.smsc_status.specs.declared.figures.MessageFigures.{MessageFigures}
@@ -73,6 +74,12 @@ link_text l =
     ++ (codes "\",\"waiting\":" ++ (decimal l.waiting ++ (codes ",\"full\":" ++ (truth_text l.is_full ++ (codes ",\"under_way\":" ++ (truth_text l.is_under_way
     ++ codes "}")))))))))))
 
+-- ---- accounts
+
+unfoldable pub account_text : AccountLine → List ℕ
+account_text a =
+    codes "{\"account\":" ++ (string (string_bytes a.account) ++ (codes ",\"submits\":" ++ (decimal a.submits ++ (codes ",\"receipts\":" ++ (decimal a.receipts ++ codes "}")))))
+
 -- ---- what was refused
 
 unfoldable pub refused_submits_text : RefusedSubmits → List ℕ
@@ -115,6 +122,9 @@ lists_text v =
     ++ (array_start (codes "sessions") ++ (elements session_text v.sessions.now ++ (array_end
     ++ (array_start (codes "links") ++ (elements link_text v.links.now ++ array_end)))))))
 
+unfoldable pub accounts_text : List AccountLine → List ℕ
+accounts_text accounts = array_start (codes "accounts") ++ (elements account_text accounts ++ array_end)
+
 unfoldable pub refusals_text : StatusView → List ℕ
 refusals_text v =
     array_start (codes "refused_submits") ++ (elements refused_submits_text v.refused_submits.now ++ (array_end
@@ -128,5 +138,5 @@ events_text v = array_start (codes "events") ++ (elements (λ event. string (str
 
 unfoldable pub json_text : StatusView → Quantile → Quantile → List ℕ
 json_text v median most =
-    run_text v ++ (messages_text v.messages ++ (counts_text v.counts ++ (lists_text v ++ (refusals_text v
-    ++ (commits_text v.store v.commits median most ++ (events_text v ++ lost_text v.lost_events v.lost_lines))))))
+    run_text v ++ (messages_text v.messages ++ (counts_text v.counts ++ (lists_text v ++ (accounts_text v.accounts.now ++ (refusals_text v
+    ++ (commits_text v.store v.commits median most ++ (events_text v ++ lost_text v.lost_events v.lost_lines)))))))

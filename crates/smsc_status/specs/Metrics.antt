@@ -3,6 +3,7 @@ use Rattle.std.specs.Prelude.{ℕ, zero, suc, List, [], ◌++◌, codes, decimal
 use Rattle.std.specs.Str.{trim_end}
 use Rattle.smsc_status.specs.declared.commits.CommitFigures.{CommitFigures}
 use Rattle.smsc_status.specs.declared.commits.TheConstants.{LIMITS}
+use Rattle.smsc_status.specs.declared.figures.AccountLine.{AccountLine}
 use Rattle.smsc_status.specs.declared.figures.LinkLine.{LinkLine}
 use Rattle.smsc_status.specs.declared.figures.MessageCounts.{MessageCounts}
 use Rattle.smsc_status.specs.declared.figures.MessageFigures.{MessageFigures}
@@ -99,6 +100,21 @@ links_metrics links =
     ++ (metric (codes "smsc_link_under_way") (codes "gauge") (codes "Whether something to a handset is under way.")
     ++ link_samples (codes "smsc_link_under_way") UnderWay links))))))
 
+-- ---- accounts
+
+abbrev pub account_submits : List AccountLine → List ℕ
+account_submits accounts = flat_map (λ a. labelled_sample (codes "smsc_account_submits_total") (codes "account") (string_bytes a.account) a.submits) accounts
+
+abbrev pub account_receipts : List AccountLine → List ℕ
+account_receipts accounts = flat_map (λ a. labelled_sample (codes "smsc_account_receipts_total") (codes "account") (string_bytes a.account) a.receipts) accounts
+
+unfoldable pub accounts_metrics : List AccountLine → List ℕ
+accounts_metrics accounts =
+    metric (codes "smsc_account_submits_total") (codes "counter") (codes "Requests submit_sm of an account since the run began.")
+    ++ (account_submits accounts
+    ++ (metric (codes "smsc_account_receipts_total") (codes "counter") (codes "Receipts that an account was sent since the run began.")
+    ++ account_receipts accounts))
+
 -- ---- what was refused
 
 unfoldable pub submits_sample : RefusedSubmits → List ℕ
@@ -164,4 +180,4 @@ lost_metrics events lines =
 unfoldable pub metrics_text : StatusView → List ℕ
 metrics_text v =
     run_metrics v ++ (lost_metrics v.lost_events v.lost_lines ++ (counts_metric v.counts ++ (messages_metric v.messages ++ (sessions_metrics v.sessions.now
-    ++ (links_metrics v.links.now ++ (refusals_metrics v ++ (store_metrics v.store ++ commits_metrics v.commits)))))))
+    ++ (links_metrics v.links.now ++ (accounts_metrics v.accounts.now ++ (refusals_metrics v ++ (store_metrics v.store ++ commits_metrics v.commits))))))))

@@ -59,6 +59,17 @@ pub struct LinkLine {
     pub is_under_way: bool,
 }
 
+/// What all sessions of an account did since the run began.
+#[derive(Drop)]
+pub struct AccountLine {
+    /// The system_id of the account.
+    pub account: String,
+    /// How many submit_sm they sent.
+    pub submits: u64,
+    /// How many receipts they were sent.
+    pub receipts: u64,
+}
+
 /// Requests submit_sm of an account that were refused alike.
 #[derive(Drop)]
 pub struct RefusedSubmits {
@@ -127,6 +138,8 @@ pub struct StatusView<'a> {
     pub counts: MessageCounts,
     pub sessions: &'a [SessionLine],
     pub links: &'a [LinkLine],
+    /// The accounts of which a session did something in this run.
+    pub accounts: &'a [AccountLine],
     /// The requests of this run that were refused.
     pub refused_submits: &'a [RefusedSubmits],
     pub refused_binds: &'a [RefusedBinds],

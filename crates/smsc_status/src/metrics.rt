@@ -1,13 +1,13 @@
 //! The figures in Prometheus' text format.
 ghost use Rattle.std.specs.Prelude.{◌≡◌, ◌++◌, ◌<◌, IfOk, OnOk, codes, flat_map, string_bytes};
-ghost use Rattle.smsc_status.specs.Metrics.{binds_sample, bucket, commits_metrics, counts_metric, first_buckets, labelled_sample, link_number, link_samples, links_metrics};
+ghost use Rattle.smsc_status.specs.Metrics.{account_receipts, account_submits, accounts_metrics, binds_sample, bucket, commits_metrics, counts_metric, first_buckets, labelled_sample, link_number, link_samples, links_metrics};
 ghost use Rattle.smsc_status.specs.Metrics.{lost_metrics, messages_metric, metric, metrics_text, plain_sample, refusals_metrics, run_metrics, session_number};
 ghost use Rattle.smsc_status.specs.Metrics.{session_sample, session_samples, sessions_metrics, store_metrics, submits_sample, totals};
 
 use crate::commits::{CommitFigures, LIMITS};
 use crate::figures::{
-    LinkLine, MessageCounts, MessageFigures, RefusedBinds, RefusedSubmits, SessionLine, StatusView,
-    StoreFigures,
+    AccountLine, LinkLine, MessageCounts, MessageFigures, RefusedBinds, RefusedSubmits,
+    SessionLine, StatusView, StoreFigures,
 };
 use crate::pieces::{Piece, put_pieces};
 use sms_base::Octets;
@@ -277,6 +277,58 @@ fn put_links(out: &mut Octets, links: &[LinkLine]) -> Result<(), AllocError>
     put_each_link(out, name, links, LinkMetric::UnderWay)
 }
 
+// ---- accounts
+
+fn put_account_submits(out: &mut Octets, accounts: &[AccountLine]) -> Result<(), AllocError>
+    ensures { OnOk result (out.new ≡ out.old ++ account_submits accounts.now) }
+{
+    for line in accounts {
+        put_labelled(
+            out,
+            b"smsc_account_submits_total",
+            b"account",
+            line.account.as_bytes(),
+            line.submits,
+        )?;
+    }
+    Ok(())
+}
+
+fn put_account_receipts(out: &mut Octets, accounts: &[AccountLine]) -> Result<(), AllocError>
+    ensures { OnOk result (out.new ≡ out.old ++ account_receipts accounts.now) }
+{
+    for line in accounts {
+        put_labelled(
+            out,
+            b"smsc_account_receipts_total",
+            b"account",
+            line.account.as_bytes(),
+            line.receipts,
+        )?;
+    }
+    Ok(())
+}
+
+#[tactic(auto, unfolding(crate::specs::Metrics::accounts_metrics))]
+fn put_accounts(out: &mut Octets, accounts: &[AccountLine]) -> Result<(), AllocError>
+    ensures { OnOk result (out.new ≡ out.old ++ accounts_metrics accounts.now) }
+{
+    put_metric(
+        out,
+        b"smsc_account_submits_total",
+        b"counter",
+        b"Requests submit_sm of an account since the run began.",
+    )?;
+    put_account_submits(out, accounts)?;
+    put_metric(
+        out,
+        b"smsc_account_receipts_total",
+        b"counter",
+        b"Receipts that an account was sent since the run began.",
+    )?;
+    put_account_receipts(out, accounts)
+}
+
 // ---- what was refused
 
 #[tactic(auto, unfolding(crate::specs::Metrics::submits_sample))]
@@ -480,6 +532,7 @@ fn put_metrics(out: &mut Octets, view: &StatusView<'_>) -> Result<(), AllocError
     put_stored(out, &view.messages)?;
     put_sessions(out, view.sessions)?;
     put_links(out, view.links)?;
+    put_accounts(out, view.accounts)?;
     put_refusals(out, view)?;
     put_store(out, &view.store)?;
     put_commits(out, &view.commits)

@@ -41,7 +41,8 @@ fn reason_word(why: LeaveReason) -> &'static str {
     }
 }
 
-fn number_text(alloc: Global, handset: &Digits) -> Result<String, AllocError> {
+/// Digits, or the characters of a name.
+pub fn number_text(alloc: Global, handset: &Digits) -> Result<String, AllocError> {
     let mut text = String::new(alloc);
     for digit in handset.as_slice() {
         text.push(*digit)?;

@@ -3,6 +3,7 @@
 //! It gives sockets, a clock, a file and a log to `smsc_server::serve`, which does the work. What its threads and sockets
 //! carry is not proved.
 //!
+//! - `access`: the access log
 //! - `control`: orders of an operator, over a Unix socket
 //! - `lines`: the lines of the log
 //! - `link_secrets`: the secrets of links, from their file
@@ -25,6 +26,7 @@
 //! - `watching`: whether the store's files are still those that were opened
 #![tactic(auto)]
 
+mod access;
 mod control;
 mod lines;
 mod link_secrets;

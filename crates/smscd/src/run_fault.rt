@@ -171,6 +171,7 @@ pub const USAGE: &str =
     \u{20}  --control PATH    a socket for orders\n\
     \u{20}  --status PORT     a page for a browser, and figures for Prometheus\n\
     \u{20}  --log messages    a line as a message is accepted, and one as it ends\n\
+    \u{20}  --log access      one line a message at its end: who, to whom, when, how it ended; never a text\n\
     \u{20}  --sessions N      end by itself after N connections\n\
     a store that a run refuses otherwise:\n\
     \u{20}  --ahead           its rows are ahead of the clock, and that is right\n\
