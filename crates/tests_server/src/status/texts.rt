@@ -2,8 +2,8 @@
 use crate::rows::holds;
 use sms_base::{Moment, Octets};
 use smsc_status::{
-    CommitFigures, MessageCounts, MessageFigures, RefusedBinds, RefusedSubmits, Resource,
-    SessionKind, SessionLine, StatusView, StoreFigures, Wanted, response_to,
+    AccountLine, CommitFigures, MessageCounts, MessageFigures, RefusedBinds, RefusedSubmits,
+    Resource, SessionKind, SessionLine, StatusView, StoreFigures, Wanted, response_to,
 };
 use std::alloc::Global;
 use std::test::Fail;
@@ -35,6 +35,16 @@ fn session(alloc: Global) -> Result<SessionLine, Fail> {
         submits: 7,
         receipts: 6,
         window: 1,
+    })
+}
+
+// What all sessions of that account did, also those that have ended.
+fn account_line(alloc: Global) -> Result<AccountLine, Fail> {
+    let account = account(alloc)?;
+    Ok(AccountLine {
+        account,
+        submits: 19,
+        receipts: 17,
     })
 }
 
@@ -73,6 +83,7 @@ fn no_messages() -> (MessageFigures, MessageCounts) {
 
 fn view_of<'a>(
     sessions: &'a [SessionLine],
+    accounts: &'a [AccountLine],
     refused_submits: &'a [RefusedSubmits],
     moment: Moment,
 ) -> StatusView<'a> {
@@ -86,6 +97,7 @@ fn view_of<'a>(
         counts,
         sessions,
         links: &[],
+        accounts,
         refused_submits,
         refused_binds: BINDS,
         samples: &[],
@@ -112,7 +124,13 @@ fn responded(alloc: Global, wanted: Wanted) -> Result<Octets, Fail> {
     let moment = moment()?;
     let sessions = vec![in alloc; session(alloc)?]?;
     let refused = vec![in alloc; refused(alloc)?]?;
-    let view = view_of(sessions.as_slice(), refused.as_slice(), moment);
+    let accounts = vec![in alloc; account_line(alloc)?]?;
+    let view = view_of(
+        sessions.as_slice(),
+        accounts.as_slice(),
+        refused.as_slice(),
+        moment,
+    );
     response(alloc, wanted, &view)
 }
 
@@ -144,10 +162,53 @@ const RESPONSES: &[Row] = &[
     (PAGE, "<td><b>", false, b"", "no markup of a name"),
     (
         PAGE,
-        "<b>5</b><span>UNDELIV</span>",
+        "<b class=\"bad\">5</b><span>UNDELIV</span>",
+        true,
+        b"",
+        "a bad figure stands out",
+    ),
+    (
+        PAGE,
+        "<b>2</b><span>DELIVRD</span>",
         true,
         b"",
         "messages in a state",
+    ),
+    (
+        PAGE,
+        "<b>0</b><span>commits refused</span>",
+        true,
+        b"",
+        "no bad figure",
+    ),
+    (PAGE, "<b>31</b><span>free of 32</span>", true, b"", "seats"),
+    (
+        PAGE,
+        "<tr><td>&lt;b&gt;&amp;&quot;\\?x</td><td class=\"n\">19</td><td class=\"n\">17</td></tr>\n",
+        true,
+        b"",
+        "an account in the page",
+    ),
+    (
+        METRICS,
+        "\nsmsc_account_submits_total{account=\"<b>&\\\"\\\\?x\"} 19\n",
+        true,
+        b"",
+        "submits of an account",
+    ),
+    (
+        METRICS,
+        "\nsmsc_account_receipts_total{account=\"<b>&\\\"\\\\?x\"} 17\n",
+        true,
+        b"",
+        "receipts of an account",
+    ),
+    (
+        JSON,
+        "\"accounts\":[{\"account\":\"<b>&\\\"\\\\?x\",\"submits\":19,\"receipts\":17}],\"refused_submits\":[",
+        true,
+        b"",
+        "an account in the JSON",
     ),
     (
         METRICS,
