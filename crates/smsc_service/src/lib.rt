@@ -13,6 +13,7 @@
 //! service and lends it, so that no crate above proves how a centre is dropped.
 //!
 //! - `asking`: what a job asks of the centre
+//! - `causes`: by which causes handsets refused what was delivered
 //! - `copying`: copies of replies
 //! - `ends`: the ends of messages
 //! - `seat_map`: which handset and which session is at which seat
@@ -37,6 +38,7 @@
 
 mod asking;
 mod bound_session;
+mod causes;
 mod copying;
 mod ends;
 pub mod laws;
@@ -61,7 +63,7 @@ pub use asking::{SeatRequest, job_asks};
 pub use bound_session::{handsets_of, sessions_of};
 pub use copying::copy_of_outs;
 pub use lending::serve_with;
-pub use link_board::LinkBoard;
+pub use link_board::{CauseCount, LinkBoard};
 pub use machine::CentreMachine;
 pub use replies::{Requester, failed, reply_outs, taken};
 pub use seat_map::{BoundSession, LinkSeat, SeatMap};

@@ -18,7 +18,6 @@ use smsc_status::{
     SessionLine, StatusView, StoreFigures, Wanted, response_to,
 };
 use std::alloc::{AllocError, Global};
-use std::cmp::Reverse;
 use std::collections::VecDeque;
 use std::net::{TcpListener, TcpStream};
 use std::sync::atomic::{AtomicBool, Ordering};
@@ -372,7 +371,7 @@ impl<R: Wait + Clock> Pages<R> {
         );
         let mut links = self.table.links(alloc, &self.about.links)?;
         // Those for whom most waits come first.
-        links.sort_by_key(|link| Reverse(link.waiting))?;
+        links.sort_by_key(|link| u64::MAX - link.waiting)?;
         put(&mut lists.links, links);
         let accounts = counters.accounts(alloc)?;
         put_accounts(alloc, names, accounts.as_slice(), &mut lists.accounts)?;
