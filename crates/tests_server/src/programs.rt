@@ -1,4 +1,4 @@
-//! Tests of what the programs over links use: frames in a stream, owners' lines, words, captures.
+//! Tests of what the programs over links use: frames in a stream, owners' lines, words, tables, captures.
 
 #[cfg(test)]
 mod captures;
@@ -10,5 +10,7 @@ mod owners;
 mod secret_words;
 #[cfg(test)]
 mod server_words;
+#[cfg(test)]
+mod stuck;
 #[cfg(test)]
 mod words;

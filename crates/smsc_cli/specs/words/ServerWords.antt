@@ -151,21 +151,21 @@ pub record AreOptionsOf (given : List ℕ → Option (List ℕ)) (texts : List (
 -- they ask for a run, with these accounts and no others
 abbrev pub AsksToServe : List (List ℕ) → ServerWords → Type 0
 AsksToServe words (Run run accounts) = SpelledServer (λ name. server_value name words) run × AddsAll (account_texts words) [] accounts.items
-AsksToServe words (Show store filter) = ⊥
+AsksToServe words (Show store filter by_handset) = ⊥
 AsksToServe words (Save store to) = ⊥
 AsksToServe words (Stop control wait) = ⊥
 AsksToServe words (End control seat) = ⊥
 
 abbrev pub AsksToLook : List (List ℕ) → ServerWords → Type 0
 AsksToLook words (Run run accounts) = ⊥
-AsksToLook words (Show store filter) = SpelledLook (λ name. look_value name words) store.now filter
+AsksToLook words (Show store filter by_handset) = SpelledLook (λ name. look_value name words) store.now filter by_handset
 AsksToLook words (Save store to) = ⊥
 AsksToLook words (Stop control wait) = ⊥
 AsksToLook words (End control seat) = ⊥
 
 abbrev pub AsksToSave : List (List ℕ) → ServerWords → Type 0
 AsksToSave words (Run run accounts) = ⊥
-AsksToSave words (Show store filter) = ⊥
+AsksToSave words (Show store filter by_handset) = ⊥
 AsksToSave words (Save store to) = (save_value (codes "store") words ≡ Some store.now) × (save_value (codes "to") words ≡ Some to.now)
 AsksToSave words (Stop control wait) = ⊥
 AsksToSave words (End control seat) = ⊥
@@ -180,7 +180,7 @@ pub record AskForSave (words : List (List ℕ)) : Type 0 where
 
 abbrev pub AsksToStop : List (List ℕ) → ServerWords → Type 0
 AsksToStop words (Run run accounts) = ⊥
-AsksToStop words (Show store filter) = ⊥
+AsksToStop words (Show store filter by_handset) = ⊥
 AsksToStop words (Save store to) = ⊥
 AsksToStop words (Stop control wait) = (stop_value (codes "control") words ≡ Some control.now) × Wants SpellsCount (stop_value (codes "wait") words) wait
 AsksToStop words (End control seat) = ⊥
@@ -196,7 +196,7 @@ pub record AskForStop (words : List (List ℕ)) : Type 0 where
 
 abbrev pub AsksToEnd : List (List ℕ) → ServerWords → Type 0
 AsksToEnd words (Run run accounts) = ⊥
-AsksToEnd words (Show store filter) = ⊥
+AsksToEnd words (Show store filter by_handset) = ⊥
 AsksToEnd words (Save store to) = ⊥
 AsksToEnd words (Stop control wait) = ⊥
 AsksToEnd words (End control seat) = (end_value (codes "control") words ≡ Some control.now) × Gives SpellsCount (end_value (codes "seat") words) seat

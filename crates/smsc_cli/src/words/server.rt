@@ -67,6 +67,8 @@ pub enum ServerWords<'a> {
         store: &'a str,
         /// Which messages.
         filter: Filter<'a>,
+        /// What waits of them is shown, by handset.
+        by_handset: bool,
     },
     /// `save --store FILE --to FILE`.
     Save {
@@ -470,7 +472,11 @@ fn show_asked<'a>(alloc: Global, words: &'a [&'a str]) -> Result<ServerWords<'a>
     ensures good { AskForLook (map (λ w. w.now) words.entry.now) → IfErr result (λ fault. fault ≡ NoMemory) }
 {
     match look_words(alloc, words) {
-        Ok((store, filter)) => Ok(ServerWords::Show { store, filter }),
+        Ok((store, filter, by_handset)) => Ok(ServerWords::Show {
+            store,
+            filter,
+            by_handset,
+        }),
         Err(fault) => Err(fault),
     }
 }
@@ -491,7 +497,7 @@ pub(crate) fn is_second(words: &[&str], wanted: &str) -> bool
 /// - `--store FILE --smpp PORT --links PORT --centre NUMBER` in any order. Optional are `--sessions N`, `--accounts FILE`,
 ///   `--control PATH`, `--status PORT`, `--ahead`, `--log WORD`, `--new-store`, `--accept-loss` and up to 32 words
 ///   `NAME:PASSWORD:NUMBER` or `NAME:PASSWORD:NUMBER:SESSIONS`, no two of one name
-/// - `show --store FILE`, perhaps with `--id ID`, `--from WHO`, `--to NUMBER`, `--account NAME`, `--state STATE` and `--last N`
+/// - `show --store FILE`, perhaps with `--id ID`, `--from WHO`, `--to NUMBER`, `--account NAME`, `--state STATE`, `--last N` and `--stuck`
 /// - `save --store FILE --to FILE`, `stop --control PATH`, perhaps with `--wait SECONDS`, `end --control PATH SEAT`
 ///
 /// The WORD of the log is `messages` or `access`. A FILE or PATH is a path, a PORT 1 to 65535, and a NUMBER 1 to 20 digits 0 to 9. N and SEAT are 0 to 4294967295. The

@@ -453,6 +453,27 @@ fn the_log_may_have_the_ends_of_messages_alone(rt: HostRuntime) -> Result<(), Fa
     }
 }
 
+const STUCK: &[&str] = &["smscd", "show", "--stuck", "--store", "c", "--to", "447700900456"];
+
+fn is_by_handset(alloc: Global, words: &[&str]) -> Result<bool, Fail> {
+    match server_words(alloc, words)? {
+        ServerWords::Show {
+            by_handset,
+            ..
+        } => Ok(by_handset),
+        _ => Err(Fail::new("a look")),
+    }
+}
+
+#[test]
+fn a_look_may_be_at_what_waits(rt: HostRuntime) -> Result<(), Fail> {
+    holds(is_by_handset(rt.alloc(), STUCK)?, "by handset")?;
+    holds(
+        !is_by_handset(rt.alloc(), &["smscd", "show", "--store", "c"])?,
+        "messages",
+    )
+}
+
 // What is said of words that ask for nothing.
 const WHY: &[(&[&str], &str)] = &[
     (
