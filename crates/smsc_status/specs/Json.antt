@@ -9,6 +9,7 @@ use Rattle.smsc_status.specs.declared.figures.LinkLine.{LinkLine}
 use Rattle.smsc_status.specs.declared.figures.MessageCounts.{MessageCounts}
 use Rattle.smsc_status.specs.declared.figures.MessageFigures.{MessageFigures}
 use Rattle.smsc_status.specs.declared.figures.RefusedBinds.{RefusedBinds}
+use Rattle.smsc_status.specs.declared.figures.RefusedDeliveries.{RefusedDeliveries}
 use Rattle.smsc_status.specs.declared.figures.RefusedSubmits.{RefusedSubmits}
 use Rattle.smsc_status.specs.declared.figures.Sample.{Sample}
 use Rattle.smsc_status.specs.declared.figures.SessionLine.{SessionLine}
@@ -89,6 +90,10 @@ refused_submits_text r =
 unfoldable pub refused_binds_text : RefusedBinds → List ℕ
 refused_binds_text r = codes "{\"reason\":\"" ++ (r.reason.now ++ (codes "\",\"count\":" ++ (decimal r.count ++ codes "}")))
 
+unfoldable pub refused_deliveries_text : RefusedDeliveries → List ℕ
+refused_deliveries_text r =
+    codes "{\"cause\":" ++ (decimal r.cause ++ (codes ",\"reason\":\"" ++ (r.reason.now ++ (codes "\",\"count\":" ++ (decimal r.count ++ codes "}")))))
+
 -- ---- the store
 
 -- a place: its limit, and how many commits count there
@@ -128,7 +133,8 @@ accounts_text accounts = array_start (codes "accounts") ++ (elements account_tex
 unfoldable pub refusals_text : StatusView → List ℕ
 refusals_text v =
     array_start (codes "refused_submits") ++ (elements refused_submits_text v.refused_submits.now ++ (array_end
-    ++ (array_start (codes "refused_binds") ++ (elements refused_binds_text v.refused_binds.now ++ array_end))))
+    ++ (array_start (codes "refused_binds") ++ (elements refused_binds_text v.refused_binds.now ++ (array_end
+    ++ (array_start (codes "refused_deliveries") ++ (elements refused_deliveries_text v.refused_deliveries.now ++ array_end)))))))
 
 unfoldable pub commits_text : StoreFigures → CommitFigures → Quantile → Quantile → List ℕ
 commits_text s c median most = store_text s c median most ++ (first_places c.counts 13 ++ last_place (get_or c.counts 13 0))

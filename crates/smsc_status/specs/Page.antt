@@ -7,6 +7,7 @@ use Rattle.smsc_status.specs.declared.figures.AccountLine.{AccountLine}
 use Rattle.smsc_status.specs.declared.figures.LinkLine.{LinkLine}
 use Rattle.smsc_status.specs.declared.figures.MessageFigures.{MessageFigures}
 use Rattle.smsc_status.specs.declared.figures.RefusedBinds.{RefusedBinds}
+use Rattle.smsc_status.specs.declared.figures.RefusedDeliveries.{RefusedDeliveries}
 use Rattle.smsc_status.specs.declared.figures.RefusedSubmits.{RefusedSubmits}
 use Rattle.smsc_status.specs.declared.figures.Sample.{Sample}
 use Rattle.smsc_status.specs.declared.figures.SessionLine.{SessionLine}
@@ -125,13 +126,18 @@ unfoldable pub binds_row : RefusedBinds → List ℕ
 binds_row r =
     codes "<tr><td>bind</td><td></td><td>" ++ (escaped r.reason.now ++ (codes "</td><td class=\"n\">" ++ (decimal r.count ++ codes "</td></tr>\n")))
 
+unfoldable pub deliveries_row : RefusedDeliveries → List ℕ
+deliveries_row r =
+    codes "<tr><td>delivery</td><td></td><td>RP cause " ++ (decimal r.cause ++ (codes ", " ++ (escaped r.reason.now ++ (codes "</td><td class=\"n\">" ++ (decimal r.count
+    ++ codes "</td></tr>\n")))))
+
 abbrev pub is_nothing_refused : StatusView → Bool
-is_nothing_refused v = length v.refused_submits.now == 0 && length v.refused_binds.now == 0
+is_nothing_refused v = length v.refused_submits.now == 0 && (length v.refused_binds.now == 0 && length v.refused_deliveries.now == 0)
 
 unfoldable pub refusals_table : StatusView → List ℕ
 refusals_table v =
-    REFUSALS_HEAD.now ++ (flat_map submits_row v.refused_submits.now ++ (flat_map binds_row v.refused_binds.now
-    ++ (none_row (is_nothing_refused v) (codes "4") ++ table_end)))
+    REFUSALS_HEAD.now ++ (flat_map submits_row v.refused_submits.now ++ (flat_map binds_row v.refused_binds.now ++ (flat_map deliveries_row v.refused_deliveries.now
+    ++ (none_row (is_nothing_refused v) (codes "4") ++ table_end))))
 
 -- ---- the store
 

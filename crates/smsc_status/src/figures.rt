@@ -87,6 +87,15 @@ pub struct RefusedBinds {
     pub count: u64,
 }
 
+/// What handsets refused alike of what was delivered to them.
+#[derive(Clone, Copy)]
+pub struct RefusedDeliveries {
+    /// The cause of their RP-ERROR (3GPP TS 24.011 8.2.5.4), and its name.
+    pub cause: u8,
+    pub reason: &'static str,
+    pub count: u64,
+}
+
 /// How many messages there are in each state.
 #[derive(Clone, Copy, PartialEq, Eq)]
 pub struct MessageFigures {
@@ -143,6 +152,7 @@ pub struct StatusView<'a> {
     /// The requests of this run that were refused.
     pub refused_submits: &'a [RefusedSubmits],
     pub refused_binds: &'a [RefusedBinds],
+    pub refused_deliveries: &'a [RefusedDeliveries],
     /// The last ten minutes, a second each, the oldest first.
     pub samples: &'a [Sample],
     /// The last events, the oldest first.

@@ -43,8 +43,8 @@ mod words;
 pub use access::{AccessLine, access_line};
 pub use commits::{CommitFigures, PLACES, Quantile, place_of};
 pub use figures::{
-    AccountLine, LinkLine, MessageCounts, MessageFigures, RefusedBinds, RefusedSubmits, Sample,
-    SessionKind, SessionLine, StatusView, StoreFigures,
+    AccountLine, LinkLine, MessageCounts, MessageFigures, RefusedBinds, RefusedDeliveries,
+    RefusedSubmits, Sample, SessionKind, SessionLine, StatusView, StoreFigures,
 };
 pub use requests::{Resource, Wanted, wanted_of};
 pub use responses::response_to;

@@ -1,10 +1,10 @@
 //! The status page: one document of HTML, which shows itself anew every five seconds, and needs neither script nor anything else.
 //!
 //! A text that somebody outside chose is an escaped piece, so no browser takes it for markup.
-ghost use Rattle.std.specs.Prelude.{◌≡◌, ◌++◌, IfOk, OnOk, codes, decimal, flat_map, length, map, reverse, string_bytes};
+ghost use Rattle.std.specs.Prelude.{◌≡◌, ◌-◌, ◌++◌, IfOk, OnOk, codes, decimal, flat_map, length, map, reverse, string_bytes};
 ghost use Rattle.std.specs.Str.{trim_end};
 ghost use Rattle.smsc_status.specs.Commits.{IsQuantile};
-ghost use Rattle.smsc_status.specs.Page.{account_row, accounts_table, bad_or_not, binds_row, charts_text, event_item, events_begin, events_end, events_list};
+ghost use Rattle.smsc_status.specs.Page.{account_row, accounts_table, bad_or_not, binds_row, charts_text, deliveries_row, event_item, events_begin, events_end, events_list};
 ghost use Rattle.smsc_status.specs.Page.{foot_text, graded_tile, heading_text, is_nothing_refused as is_nothing_refused_of, link_row, links_table, lost_text, mark, messages_tiles, none_cell, none_row, page_text, refusals_table};
 ghost use Rattle.smsc_status.specs.Page.{seats_tiles, session_row, sessions_table, store_tiles, submits_row, table_end, tile, tiles_begin, tiles_end, yes_or_no};
 ghost use Rattle.smsc_status.specs.Numbers.{size_text};
@@ -16,8 +16,8 @@ ghost use Rattle.smsc_status.specs.declared.figures.Sample.{Sample as SampleOf};
 use crate::chart::put_chart;
 use crate::commits::{CommitFigures, Quantile};
 use crate::figures::{
-    AccountLine, LinkLine, MessageFigures, RefusedBinds, RefusedSubmits, Sample, SessionLine,
-    StatusView, StoreFigures,
+    AccountLine, LinkLine, MessageFigures, RefusedBinds, RefusedDeliveries, RefusedSubmits, Sample,
+    SessionLine, StatusView, StoreFigures,
 };
 use crate::pieces::{Piece, put_pieces};
 use crate::series::commits_a_second;
@@ -159,6 +159,14 @@ fn put_messages(out: &mut Octets, messages: &MessageFigures) -> Result<(), Alloc
 // How many seats there are.
 const SEATS: u64 = 32;
 
+// How many seats are left.
+fn put_free(out: &mut Octets, sessions: u64, links: u64) -> Result<(), AllocError>
+    ensures { OnOk result (out.new ≡ out.old ++ tile (decimal (32 - sessions - links)) (codes "free of 32")) }
+{
+    let free = SEATS.saturating_sub(sessions).saturating_sub(links);
+    put_tile(out, free, b"free of 32")
+}
+
 #[tactic(auto, unfolding(crate::specs::Page::seats_tiles))]
 fn put_seats(out: &mut Octets, sessions: u64, links: u64) -> Result<(), AllocError>
     ensures { OnOk result (out.new ≡ out.old ++ seats_tiles sessions links) }
@@ -166,11 +174,7 @@ fn put_seats(out: &mut Octets, sessions: u64, links: u64) -> Result<(), AllocErr
     begin_tiles(out, b"Seats")?;
     put_tile(out, sessions, b"sessions")?;
     put_tile(out, links, b"links")?;
-    put_tile(
-        out,
-        SEATS.saturating_sub(sessions).saturating_sub(links),
-        b"free of 32",
-    )?;
+    put_free(out, sessions, links)?;
     end_tiles(out)
 }
 
@@ -448,10 +452,38 @@ fn put_binds_rows(out: &mut Octets, refused: &[RefusedBinds]) -> Result<(), Allo
     Ok(())
 }
 
+#[tactic(auto, unfolding(crate::specs::Page::deliveries_row))]
+fn put_refused_deliveries(out: &mut Octets, refused: &RefusedDeliveries) -> Result<(), AllocError>
+    ensures { OnOk result (out.new ≡ out.old ++ deliveries_row refused.now) }
+{
+    put_pieces(
+        out,
+        &[
+            Piece::Text(b"<tr><td>delivery</td><td></td><td>RP cause "),
+            Piece::Number(u64::from(refused.cause)),
+            Piece::Text(b", "),
+            Piece::Escaped(refused.reason.as_bytes()),
+            Piece::Text(b"</td><td class=\"n\">"),
+            Piece::Number(refused.count),
+            Piece::Text(b"</td></tr>\n"),
+        ],
+    )
+}
+
+fn put_deliveries_rows(out: &mut Octets, refused: &[RefusedDeliveries]) -> Result<(), AllocError>
+    ensures { OnOk result (out.new ≡ out.old ++ flat_map deliveries_row refused.now) }
+{
+    for some in refused {
+        put_refused_deliveries(out, some)?;
+    }
+    Ok(())
+}
+
 fn is_nothing_refused(view: &StatusView<'_>) -> bool
     ensures { result ≡ is_nothing_refused_of view.entry.now }
 {
-    view.refused_submits.is_empty() && view.refused_binds.is_empty()
+    view.refused_submits.is_empty()
+        && (view.refused_binds.is_empty() && view.refused_deliveries.is_empty())
 }
 
 #[tactic(auto, unfolding(crate::specs::Page::refusals_table))]
@@ -461,6 +493,7 @@ fn put_refusals(out: &mut Octets, view: &StatusView<'_>) -> Result<(), AllocErro
     out.append(REFUSALS_HEAD)?;
     put_submits_rows(out, view.refused_submits)?;
     put_binds_rows(out, view.refused_binds)?;
+    put_deliveries_rows(out, view.refused_deliveries)?;
     put_none(out, is_nothing_refused(view), b"4")?;
     end_table(out)
 }

@@ -201,6 +201,36 @@ fn submit_word(status: u32) -> &'static str {
     }
 }
 
+/// The name of the cause of an RP-ERROR (3GPP TS 24.011 8.2.5.4).
+pub fn cause_word(cause: u8) -> &'static str {
+    match cause {
+        1 => "unassigned number",
+        8 => "operator determined barring",
+        10 => "call barred",
+        21 => "short message transfer rejected",
+        22 => "memory capacity exceeded",
+        27 => "destination out of order",
+        28 => "unidentified subscriber",
+        29 => "facility rejected",
+        30 => "unknown subscriber",
+        38 => "network out of order",
+        41 => "temporary failure",
+        42 => "congestion",
+        47 => "resources unavailable",
+        50 => "requested facility not subscribed",
+        69 => "requested facility not implemented",
+        81 => "invalid short message transfer reference",
+        95 => "semantically incorrect message",
+        96 => "invalid mandatory information",
+        97 => "message type non-existent",
+        98 => "message not compatible with the state",
+        99 => "information element non-existent",
+        111 => "protocol error",
+        127 => "interworking",
+        _ => "a cause without a name",
+    }
+}
+
 /// The text of a line for submit_sm that were refused within a second.
 pub fn refusals_text(
     alloc: Global,

@@ -2,7 +2,7 @@
 //!
 //! It reads numbers that the run counts and takes the events that the run leaves for it. It never opens the store: it
 //! asks the system how long its files are.
-use crate::lines::{line_of, refusal_word};
+use crate::lines::{cause_word, line_of, refusal_word};
 use crate::moments::{now, text_of};
 use crate::ports::listen;
 use crate::store_files::{StorePaths, octets_at};
@@ -12,10 +12,10 @@ use sms_base::{Moment, Octets};
 use smsc_cli::words::VERSION;
 use smsc_server::status::{AccountCounts, Client, Heard, Refusals, SeatTable};
 use smsc_server::{Event, milliseconds};
-use smsc_service::LinkBoard;
+use smsc_service::{CauseCount, LinkBoard};
 use smsc_status::{
-    AccountLine, LinkLine, MessageFigures, RefusedBinds, RefusedSubmits, Sample, Series,
-    SessionLine, StatusView, StoreFigures, Wanted, response_to,
+    AccountLine, LinkLine, MessageFigures, RefusedBinds, RefusedDeliveries, RefusedSubmits, Sample,
+    Series, SessionLine, StatusView, StoreFigures, Wanted, response_to,
 };
 use std::alloc::{AllocError, Global};
 use std::collections::VecDeque;
@@ -158,6 +158,7 @@ struct Lists {
     accounts: Vec<AccountLine>,
     refused_submits: Vec<RefusedSubmits>,
     refused_binds: Vec<RefusedBinds>,
+    refused_deliveries: Vec<RefusedDeliveries>,
     samples: Vec<Sample>,
     lines: Vec<String>,
 }
@@ -170,6 +171,7 @@ impl Lists {
             accounts: Vec::new(alloc),
             refused_submits: Vec::new(alloc),
             refused_binds: Vec::new(alloc),
+            refused_deliveries: Vec::new(alloc),
             samples: Vec::new(alloc),
             lines: Vec::new(alloc),
         }
@@ -240,6 +242,20 @@ fn put_bind(
 fn put_binds(refusals: &[Refusals], lines: &mut Vec<RefusedBinds>) -> Result<(), AllocError> {
     for refused in refusals {
         put_bind(refusal_word(refused.status), refused.count, lines)?;
+    }
+    Ok(())
+}
+
+fn put_deliveries(
+    causes: &[CauseCount],
+    lines: &mut Vec<RefusedDeliveries>,
+) -> Result<(), AllocError> {
+    for refused in causes {
+        lines.push(RefusedDeliveries {
+            cause: refused.cause,
+            reason: cause_word(refused.cause),
+            count: refused.count,
+        })?;
     }
     Ok(())
 }
@@ -379,6 +395,8 @@ impl<R: Wait + Clock> Pages<R> {
         put_submits(alloc, names, submits.as_slice(), &mut lists.refused_submits)?;
         let binds = counters.binds_refused(alloc)?;
         put_binds(binds.as_slice(), &mut lists.refused_binds)?;
+        let causes = self.about.links.causes(alloc)?;
+        put_deliveries(causes.as_slice(), &mut lists.refused_deliveries)?;
         put(&mut lists.samples, self.series.samples(alloc)?);
         self.put_lines(&mut lists.lines)
     }
@@ -398,6 +416,7 @@ impl<R: Wait + Clock> Pages<R> {
             accounts: lists.accounts.as_slice(),
             refused_submits: lists.refused_submits.as_slice(),
             refused_binds: lists.refused_binds.as_slice(),
+            refused_deliveries: lists.refused_deliveries.as_slice(),
             samples: lists.samples.as_slice(),
             events: lists.lines.as_slice(),
             lost_events: self.source.lost.load(Ordering::SeqCst),

@@ -453,14 +453,19 @@ fn the_log_may_have_the_ends_of_messages_alone(rt: HostRuntime) -> Result<(), Fa
     }
 }
 
-const STUCK: &[&str] = &["smscd", "show", "--stuck", "--store", "c", "--to", "447700900456"];
+const STUCK: &[&str] = &[
+    "smscd",
+    "show",
+    "--stuck",
+    "--store",
+    "c",
+    "--to",
+    "447700900456",
+];
 
 fn is_by_handset(alloc: Global, words: &[&str]) -> Result<bool, Fail> {
     match server_words(alloc, words)? {
-        ServerWords::Show {
-            by_handset,
-            ..
-        } => Ok(by_handset),
+        ServerWords::Show { by_handset, .. } => Ok(by_handset),
         _ => Err(Fail::new("a look")),
     }
 }

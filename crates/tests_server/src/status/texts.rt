@@ -2,8 +2,9 @@
 use crate::rows::holds;
 use sms_base::{Moment, Octets};
 use smsc_status::{
-    AccountLine, CommitFigures, MessageCounts, MessageFigures, RefusedBinds, RefusedSubmits,
-    Resource, SessionKind, SessionLine, StatusView, StoreFigures, Wanted, response_to,
+    AccountLine, CommitFigures, MessageCounts, MessageFigures, RefusedBinds, RefusedDeliveries,
+    RefusedSubmits, Resource, SessionKind, SessionLine, StatusView, StoreFigures, Wanted,
+    response_to,
 };
 use std::alloc::Global;
 use std::test::Fail;
@@ -63,6 +64,13 @@ const BINDS: &[RefusedBinds] = &[RefusedBinds {
     count: 2,
 }];
 
+// A full memory (3GPP TS 24.011 8.2.5.4).
+const DELIVERIES: &[RefusedDeliveries] = &[RefusedDeliveries {
+    cause: 22,
+    reason: "memory capacity exceeded",
+    count: 6,
+}];
+
 fn no_messages() -> (MessageFigures, MessageCounts) {
     let figures = MessageFigures {
         enroute: 1,
@@ -100,6 +108,7 @@ fn view_of<'a>(
         accounts,
         refused_submits,
         refused_binds: BINDS,
+        refused_deliveries: DELIVERIES,
         samples: &[],
         events: &[],
         lost_events: 0,
@@ -282,10 +291,31 @@ const RESPONSES: &[Row] = &[
     ),
     (
         JSON,
-        "\"refused_binds\":[{\"reason\":\"wrong_password\",\"count\":2}],\"store\":{\"octets\":4096,",
+        "\"refused_binds\":[{\"reason\":\"wrong_password\",\"count\":2}],\"refused_deliveries\":[",
         true,
         b"",
         "refused binds in the JSON",
+    ),
+    (
+        PAGE,
+        "<tr><td>delivery</td><td></td><td>RP cause 22, memory capacity exceeded</td><td class=\"n\">6</td></tr>\n",
+        true,
+        b"",
+        "refused deliveries in the page",
+    ),
+    (
+        METRICS,
+        "\nsmsc_deliver_attempts_failed_total{cause=\"22\"} 6\n",
+        true,
+        b"",
+        "refused deliveries in the metrics",
+    ),
+    (
+        JSON,
+        "\"refused_deliveries\":[{\"cause\":22,\"reason\":\"memory capacity exceeded\",\"count\":6}],\"store\":{\"octets\":4096,",
+        true,
+        b"",
+        "refused deliveries in the JSON",
     ),
     (
         Wanted::NotFound(false),

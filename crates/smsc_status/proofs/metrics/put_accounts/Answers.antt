@@ -11,8 +11,8 @@ returns c =
     on_ok_weaker c.put_account_receipts.result
     (λ e. chain4 c.args.out.now
     (metric (codes "smsc_account_submits_total") (codes "counter") (codes "Requests submit_sm of an account since the run began."))
-    (account_submits a)
+    (account_submits (codes "smsc_account_submits_total") a)
     (metric (codes "smsc_account_receipts_total") (codes "counter") (codes "Receipts that an account was sent since the run began."))
-    (account_receipts a)
+    (account_receipts (codes "smsc_account_receipts_total") a)
     c.in_ok-put_metric.ensures c.in_ok-put_account_submits.ensures c.in_ok-put_metric-2.ensures e)
     c.put_account_receipts.ensures

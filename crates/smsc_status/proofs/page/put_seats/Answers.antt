@@ -13,5 +13,5 @@ returns c =
     (λ e. chain5 c.args.out.now
     (tiles_begin (codes "Seats")) (tile (decimal s) (codes "sessions")) (tile (decimal l) (codes "links"))
     (tile (decimal (32 - s - l)) (codes "free of 32")) tiles_end
-    c.in_ok-begin_tiles.ensures c.in_ok-put_tile.ensures c.in_ok-put_tile-2.ensures c.in_ok-put_tile-3.ensures e)
+    c.in_ok-begin_tiles.ensures c.in_ok-put_tile.ensures c.in_ok-put_tile-2.ensures c.in_ok-put_free.ensures e)
     c.end_tiles.ensures
