@@ -360,7 +360,7 @@ fn put_refused_deliveries(
         &[
             Piece::Text(before),
             Piece::Text(b"{\"cause\":"),
-            Piece::Number(u64::from(refused.cause)),
+            Piece::Number(refused.cause as u64),
             Piece::Text(b",\"reason\":\""),
             Piece::Text(refused.reason.as_bytes()),
             Piece::Text(b"\",\"count\":"),

@@ -393,7 +393,7 @@ fn put_refused_deliveries(out: &mut Octets, refused: &RefusedDeliveries) -> Resu
         out,
         &[
             Piece::Text(b"smsc_deliver_attempts_failed_total{cause=\""),
-            Piece::Number(u64::from(refused.cause)),
+            Piece::Number(refused.cause as u64),
             Piece::Text(b"\"} "),
             Piece::Number(refused.count),
             Piece::Text(b"\n"),

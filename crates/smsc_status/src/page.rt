@@ -460,7 +460,7 @@ fn put_refused_deliveries(out: &mut Octets, refused: &RefusedDeliveries) -> Resu
         out,
         &[
             Piece::Text(b"<tr><td>delivery</td><td></td><td>RP cause "),
-            Piece::Number(u64::from(refused.cause)),
+            Piece::Number(refused.cause as u64),
             Piece::Text(b", "),
             Piece::Escaped(refused.reason.as_bytes()),
             Piece::Text(b"</td><td class=\"n\">"),
