@@ -60,6 +60,13 @@ impl Courses {
         self.put(part.id.number(), part.number, part.progress.attempts);
     }
 
+    // A part of a message that is pending.
+    fn put_known(&mut self, part: &PartRow) {
+        if self.at(part.id.number()).is_some() {
+            self.put_part(part);
+        }
+    }
+
     // A part of a message that has ended is none of these.
     fn take(&mut self, revision: &Revision<PartRow>) {
         match revision {
@@ -153,10 +160,7 @@ impl Access {
             }
         }
         for part in rows.parts.as_slice() {
-            let mut courses = self.courses.lock(rt);
-            if courses.at(part.id.number()).is_some() {
-                courses.put_part(part);
-            }
+            self.courses.lock(rt).put_known(part);
         }
     }
 
