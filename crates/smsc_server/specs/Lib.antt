@@ -1,3 +1,4 @@
+pub mod AccountTotals
 pub mod serving
 pub mod link_run
 pub mod Refusals

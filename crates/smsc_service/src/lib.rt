@@ -14,6 +14,7 @@
 //! service and lends it, so that no crate above proves how a centre is dropped.
 //!
 //! - `asking`: what a job asks of the centre
+//! - `causes`: by which causes handsets refused what was delivered
 //! - `copying`: copies of replies
 //! - `cutoff`: whether it is too late to begin anything
 //! - `ends`: the ends of messages
@@ -39,6 +40,7 @@
 
 mod asking;
 mod bound_session;
+mod causes;
 mod copying;
 mod cutoff;
 mod ends;
@@ -65,7 +67,7 @@ pub use bound_session::{handsets_of, sessions_of};
 pub use copying::copy_of_outs;
 pub use cutoff::Cutoff;
 pub use lending::serve_with;
-pub use link_board::LinkBoard;
+pub use link_board::{CauseCount, LinkBoard};
 pub use machine::CentreMachine;
 pub use replies::{Requester, failed, reply_outs, taken};
 pub use seat_map::{BoundSession, LinkSeat, SeatMap};

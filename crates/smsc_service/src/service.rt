@@ -21,6 +21,7 @@ ghost use Rattle.smsc_service.specs.Replies.{failed_by, replies_to};
 ghost use Rattle.smsc_service.specs.InService.{HasHonestStore, IfAwaited, IfServed, IsAwaitedBy, IsBroken, IsServedBy, ServingOutcome, StepOutcome, store_in};
 
 use crate::asking::SeatRequest;
+use crate::causes::cause_told_by;
 use crate::cutoff::Cutoff;
 use crate::link_board::LinkBoard;
 use crate::machine::CentreMachine;
@@ -325,13 +326,16 @@ impl<K: CentreStore + Drop> Service<K> {
         }
     }
 
-    // Puts down how the links are, where anybody looks.
+    // Puts down how the links are and by which causes handsets refused something, where anybody looks.
     fn publish(&self, stimulus: &Stimulus<Job>) {
         let Some(board) = &self.board else {
             return;
         };
         if let Some(shown) = self.board_after(stimulus) {
             board.put(&shown);
+        }
+        if let Some(cause) = cause_told_by(stimulus) {
+            board.count(cause);
         }
     }
 

@@ -2,6 +2,7 @@
 use crate::serving::connection::Side;
 use crate::serving::occupancy::Seated;
 use sms_base::{Digits, FinalState, MessageId};
+use sms_centre_spec::Changes;
 use smsc_loop::{Activity, LeaveReason, Note};
 use std::net::SocketAddr;
 
@@ -39,4 +40,7 @@ pub trait Observer {
 
     /// The commit ended, and says whether it was made.
     fn end_commit(&self, _is_done: bool) {}
+
+    /// Takes what the commit changed, once it was made.
+    fn committed(&self, _changes: &Changes) {}
 }
