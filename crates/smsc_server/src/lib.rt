@@ -19,8 +19,9 @@ pub mod status;
 
 pub use serving::{
     Event, Given, Loopback, ObservedKeep, Observer, Orders, Ports, RunClock, SEATS, Seated,
-    ServeFault, Side, loopback_pair, milliseconds, serve, serve_machine,
+    ServeFault, loopback_pair, milliseconds, serve, serve_machine,
 };
+pub use smsc_arrivals::{Arrival, Door, Doors, Side};
 pub use smsc_cli::words;
 pub use smsc_service::CentreMachine;
 pub use smsc_service::relay::{Relayed, RunError, relay_laws, relay_once, run_relay};

@@ -1,5 +1,5 @@
 //! What the threads of a run share.
-use crate::serving::connection::Side;
+use smsc_arrivals::Side;
 use crate::serving::occupancy::{Seated, Seating};
 use crate::serving::orders::{Orders, SEATS};
 use crossbeam_channel::{Receiver, Sender, bounded};

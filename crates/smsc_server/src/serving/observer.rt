@@ -1,5 +1,5 @@
 //! The observer of a run.
-use crate::serving::connection::Side;
+use smsc_arrivals::Side;
 use crate::serving::occupancy::Seated;
 use sms_base::{Digits, FinalState, MessageId};
 use smsc_loop::{Activity, LeaveReason, Note};
