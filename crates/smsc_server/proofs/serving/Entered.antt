@@ -1,12 +1,14 @@
 -- What came at the listeners was given to the seats, step by step.
-use Rattle.std.proofs.Common.{◌≡◌, ◌≢◌, Bool, true, false, true≢false, List, [], ◌∷◌, ◌++◌, Option, Some, None, refl, sym, ap, subst, ◌∙◌, append_assoc, append-nil}
+use Rattle.std.proofs.Common.{◌≡◌, ◌≢◌, Bool, true, false, true≢false, List, [], ◌∷◌, ◌++◌, Option, Some, None, Result, Ok, Err, refl, sym, ap, subst, ◌∙◌, append_assoc, append-nil}
+use Rattle.std.specs.Prelude.{MatchResult}
 use Rattle.std.specs.declared.net.socket_addr.SocketAddr.{SocketAddr}
 use Rattle.smsc_arrivals.specs.Arriving.{HaveCome}
-use Rattle.smsc_arrivals.specs.Ways.{given_by}
+use Rattle.smsc_arrivals.specs.Ways.{IsSameTaker, given_by}
 use Rattle.smsc_arrivals.proofs.Came.{came_join, came_none}
 use Rattle.smsc_arrivals.specs.declared.arrival.Arrival.{Arrival}
 use Rattle.smsc_arrivals.specs.declared.doors.Doors.{Doors}
 use Rattle.smsc_arrivals.specs.declared.sharing.ends.Giver.{Giver}
+use Rattle.smsc_arrivals.specs.declared.sharing.ends.Taker.{Taker}
 use Rattle.smsc_server.specs.declared.serving.entrance.Entrance.{Entrance}
 use Rattle.smsc_server.specs.serving.Entering.{HasSameSeats, HaveEntered, arrivals_among}
 use Rattle.smsc_server.proofs.serving.Seated.{among_join}
@@ -17,6 +19,13 @@ module _ {T : Type 0} where
 
   pub seats_trans : (a b c : Giver T) → HasSameSeats a b → HasSameSeats b c → HasSameSeats a c
   seats_trans a b c h k = record { same = k.same ∙ h.same; made = k.made ∙ h.made; settled = k.settled ∙ h.settled; returned = k.returned ∙ h.returned }
+
+module _ {T : Type 0} where
+  pub taker_same : (a : Taker T) → IsSameTaker a a
+  taker_same a = record { queue = refl; seat = refl }
+
+  pub taker_trans : (a b c : Taker T) → IsSameTaker a b → IsSameTaker b c → IsSameTaker a c
+  taker_trans a b c h k = record { queue = k.queue ∙ h.queue; seat = k.seat ∙ h.seat }
 
 module _ {L S : Type 0} (came : L → Option (List (S × SocketAddr))) where
   pub entered_none : (start doors : Doors L) (e : Entrance L S) → doors ≡ start → e.doors ≡ doors → e.is_shut ≡ false → given_by e.giver ≡ [] → HaveEntered came start e
@@ -64,3 +73,12 @@ module _ {L S : Type 0} (came : L → Option (List (S × SocketAddr))) where
   all_given start e h open =
       subst (λ (l : List (Arrival S)). HaveCome came start e.doors l)
       (ap (λ (l : List (Arrival S)). arrivals_among (given_by e.giver) ++ l) (h.none_lost open) ∙ append-nil (arrivals_among (given_by e.giver))) h.came_so
+
+  -- an end mark was given, or not
+  pub given_mark : (start : Doors L) (a b : Entrance L S) (r : Result (Unit {0}) (Option (Arrival S))) → HaveEntered came start a → b.doors ≡ a.doors → b.is_shut ≡ a.is_shut
+      → MatchResult r (λ done. given_by b.giver ≡ given_by a.giver ++ None ∷ []) (λ back. (back ≡ None) × (given_by b.giver ≡ given_by a.giver)) → HaveEntered came start b
+  given_mark start a b (Ok done) h doors shut given =
+      entered_same start a b h (subst (λ (d : Doors L). HaveCome came a.doors d []) (sym doors) (came_none came a.doors))
+      (ap arrivals_among given ∙ (among_join (given_by a.giver) (None ∷ []) ∙ append-nil (arrivals_among (given_by a.giver)))) shut
+  given_mark start a b (Err back) h doors shut given =
+      entered_same start a b h (subst (λ (d : Doors L). HaveCome came a.doors d []) (sym doors) (came_none came a.doors)) (ap arrivals_among given.1) shut

@@ -1,14 +1,16 @@
 -- The connections that came, each with the seat that took it.
-use Rattle.std.proofs.Common.{◌≡◌, ◌≢◌, ◌==◌, ◌<◌, ℕ, Bool, true, false, if◌then◌else◌, List, [], ◌∷◌, ◌++◌, Option, Some, None, refl, sym, ap, subst, ◌∙◌, append-nil, arith}
+use Rattle.std.proofs.Common.{◌≡◌, ◌≢◌, ◌==◌, ◌<◌, ℕ, Bool, true, false, if◌then◌else◌, List, [], ◌∷◌, ◌++◌, Option, Some, None, refl, sym, ap, subst, ◌∙◌, append-nil, slice_get, arith}
 use Rattle.std.proofs.lemmas.Bool.{ne_eqb}
 use Rattle.std.specs.declared.net.socket_addr.SocketAddr.{SocketAddr}
 use Rattle.smsc_arrivals.specs.Arriving.{HaveCome}
-use Rattle.smsc_arrivals.specs.Sharing.{items_of, of}
-use Rattle.smsc_arrivals.proofs.Came.{came_join, came_none}
+use Rattle.smsc_arrivals.specs.Sharing.{AreShared, items_of, of}
+use Rattle.smsc_arrivals.specs.Ways.{given_by, known_by, made_by, settled_at}
 use Rattle.smsc_arrivals.proofs.SharingKeeps.{items_join, of_join}
 use Rattle.smsc_arrivals.specs.declared.arrival.Arrival.{Arrival}
 use Rattle.smsc_arrivals.specs.declared.doors.Doors.{Doors}
-use Rattle.smsc_server.specs.serving.Entering.{Came, arrivals_among}
+use Rattle.smsc_arrivals.specs.declared.sharing.ends.Giver.{Giver}
+use Rattle.smsc_server.specs.declared.serving.entrance.Entrance.{Entrance}
+use Rattle.smsc_server.specs.serving.Entering.{Came, HaveEntered, arrivals_among}
 
 module _ {A : Type 0} where
   pub among_join : (a b : List (Option A)) → arrivals_among (a ++ b) ≡ arrivals_among a ++ arrivals_among b
@@ -98,3 +100,14 @@ module _ {L S : Type 0} (came : L → Option (List (S × SocketAddr))) where
   pub seat_share : (s : ℕ) (handed : List (ℕ × Option (Arrival S))) (lost : List (Arrival S)) (took : List (Option (Arrival S))) → s < 32 → of s handed ≡ took
       → of s (arrivals_in handed lost) ≡ arrivals_among took
   seat_share s handed lost took less e = of_arrivals s handed lost (λ same. absurd (omega (arith, less, same))) ∙ ap arrivals_among e
+
+  -- once all came back
+  pub closed : (start : Doors L) (e : Entrance L S) (g : Giver (Option (Arrival S))) → HaveEntered came start e → AreShared (known_by g) []
+      → made_by g ≡ 32 → given_by g ≡ given_by e.giver → (arrivals : List (ℕ × Arrival S)) × Came came start e.doors arrivals
+      × ((n : ℕ) (took : List (Option (Arrival S))) → n < 32 → slice_get (settled_at g) n ≡ Some took → of n arrivals ≡ arrivals_among took)
+  closed start e g entered shared made given = (
+    arrivals_in shared.0 entered.lost,
+    seated start e.doors (given_by e.giver) entered.lost shared.0 entered.came_so (sym given ∙ shared.1)
+        (λ s less. shared.3 s (subst (λ (m : ℕ). m < s) (sym made) less)),
+    (λ n took less there. seat_share n shared.0 entered.lost took less (shared.4 n took there)),
+  )

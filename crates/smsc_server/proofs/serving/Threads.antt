@@ -58,6 +58,10 @@ pub ok_then : {E : Type 0} (P Q : Type 0) (r : Result (Unit {0}) E) → (P → Q
 ok_then P Q (Ok done) f h = f h
 ok_then P Q (Err fault) f h = tt
 
+pub both_ok : {E : Type 0} (P Q R : Type 0) (r : Result (Unit {0}) E) → (P → Q → R) → OnOk r P → OnOk r Q → OnOk r R
+both_ok P Q R (Ok done) f h k = f h k
+both_ok P Q R (Err fault) f h k = tt
+
 -- ---- threads that were started
 
 module _ {S : Type 0} (admitted : Admitted) where
@@ -87,12 +91,16 @@ module _ {S : Type 0} (admitted : Admitted) where
   thread_at (s ∷ seats) (first ∷ threads) h zero t e = (s, refl, subst (λ (x : SeatThread S). IsThreadOf admitted s x) (same_Some _ _ e) h.0)
   thread_at (s ∷ seats) (first ∷ threads) h (suc n) t e = thread_at seats threads h.1 n t e
 
-  pub threads_at : (keeper : Keeper Job Reply) (seats : List (Seat Job Reply)) (threads : List (SeatThread S))
+  threads_at : (keeper : Keeper Job Reply) (seats : List (Seat Job Reply)) (threads : List (SeatThread S))
       → ((n : ℕ) (s : Seat Job Reply) → slice_get seats n ≡ Some s → IsNewSeat keeper n s) → AreThreadsOf admitted seats threads → AreAt keeper threads
   threads_at keeper seats threads new h n t e =
       let there = thread_at seats threads h n t e in
       let seat = new n there.0 there.1 in
       (subst (λ (x : Seat Job Reply). IsSeatOf keeper x) (sym there.2.0) seat.seat, ap number_of there.2.0 ∙ seat.number)
+
+  pub started_at : (keeper : Keeper Job Reply) (giver : Giver (Option (Arrival S))) (seats : List (Seat Job Reply)) (threads : List (SeatThread S))
+      → ((n : ℕ) (s : Seat Job Reply) → slice_get seats n ≡ Some s → IsNewSeat keeper n s) → HaveStarted admitted giver seats threads → AreAt keeper threads
+  started_at keeper giver seats threads new h = threads_at keeper seats threads new h.threads_so
 
   pub threads_have : (seats : List (Seat Job Reply)) (threads : List (SeatThread S)) → AreThreadsOf admitted seats threads → HaveAdmitted admitted threads
   threads_have seats threads h n t e = (thread_at seats threads h n t e).2.1
@@ -140,6 +148,13 @@ module _ {S : Type 0} (admitted : Admitted) where
     settled = g.3 ∙ h.settled;
     returned = g.4;
   }
+
+-- what is said of whom the threads admit, and of what came since
+pub admitted_so : {S R E D : Type 0} (P : Admitted → R → Type 0) (Q : D → Type 0) (threads : List (SeatThread S)) (first second : Admitted) (doors : D) (r : Result R E)
+    → first ≡ second → IfOk r (λ x. (admitted : Admitted) (d : D) → HaveAdmitted admitted threads → Q d → P admitted x) → HaveAdmitted first threads → Q doors
+    → IfOk r (λ x. P second x)
+admitted_so P Q threads first second doors (Err fault) e h have entered = tt
+admitted_so P Q threads first second doors (Ok x) e h have entered = subst (λ (a : Admitted). P a x) e (h first doors have entered)
 
 pub admits_same : (a b : List Account) (c d : LinkAccess) → a ≡ b → c ≡ d → admits a c ≡ admits b d
 admits_same a b c d e f = ap (λ (x : List Account). admits x c) e ∙ ap (λ (y : LinkAccess). admits b y) f

@@ -1,9 +1,6 @@
 use Rattle.std.proofs.Common.{◌≡◌, ◌<◌, ◌∙◌, ℕ, List, [], ◌++◌, Option, length, slice_get, Some, refl, sym, ap, subst}
-use Rattle.smsc_arrivals.specs.Arriving.{HaveCome}
-use Rattle.smsc_arrivals.specs.Sharing.{of}
-use Rattle.smsc_server.specs.serving.Entering.{arrivals_among}
 use Rattle.smsc_server.proofs.serving.Sat.{did_same}
-use Rattle.smsc_server.proofs.serving.Seated.{arrivals_in, closed}
+use Rattle.smsc_server.proofs.serving.Seated.{closed}
 use Rattle.smsc_server.proofs.serving.run.close_all.Goals as goal
 
 pub settle_all-requires-clause-count : goal.settle_all-requires-clause-count
@@ -23,7 +20,7 @@ returns-clause-did g c = λ start entered.
     let shared = c.take_back_all.ensures.shared in
     let kept = c.take_back_all.ensures.giver in
     let settled = c.settle_all.ensures in
-    let all = closed g.L.Door.came start c.args.entrance _ _ entered shared (kept.0 ∙ (settled.giver.0 ∙ c.requires.ways.1)) (kept.1 ∙ settled.giver.1) in (
+    let all = closed g.L.Door.came start c.args.entrance _ entered shared (kept.0 ∙ (settled.giver.0 ∙ c.requires.ways.1)) (kept.1 ∙ settled.giver.1) in (
       all.0,
       all.1,
       λ admitted have n less.
