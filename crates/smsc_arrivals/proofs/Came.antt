@@ -1,5 +1,6 @@
 -- What came in two parts.
-use Rattle.std.proofs.Common.{◌≡◌, List, [], ◌∷◌, ◌++◌, Option, Some, None, refl, sym, ap, ◌∙◌, append_assoc, append-nil}
+use Rattle.std.proofs.Common.{◌≡◌, List, [], ◌∷◌, ◌++◌, Option, Some, None, refl, sym, ap, subst, ◌∙◌, append_assoc, append-nil}
+use Rattle.std.proofs.lemmas.Option.{none-some, same_Some}
 use Rattle.std.specs.declared.net.socket_addr.SocketAddr.{SocketAddr}
 use Rattle.smsc_arrivals.specs.declared.arrival.Arrival.{Arrival}
 use Rattle.smsc_arrivals.specs.declared.arrival.Side.{Side}
@@ -14,11 +15,9 @@ module _ {A : Type 0} where
 
   adds_join : (a b c : Option (List A)) (one other : List A) → AddsAll a b one → AddsAll b c other → AddsAll a c (one ++ other)
   adds_join None b c one other p q = tt
-  adds_join (Some a) None c one other p q = absurd p
-  adds_join (Some a) (Some b) c one other p q = q ∙ ap Some (ap (λ (l : List A). l ++ other) (same p) ∙ append_assoc a one other)
-    where
-      same : Some b ≡ Some (a ++ one) → b ≡ a ++ one
-      same e = cc
+  adds_join (Some a) None c one other p q = absurd (none-some (a ++ one) p)
+  adds_join (Some a) (Some b) c one other p q =
+      q ∙ ap Some (ap (λ (l : List A). l ++ other) (same_Some b (a ++ one) p) ∙ append_assoc a one other)
 
 module _ {S : Type 0} where
   applications_if : (side : Side) (a : Arrival S) (xs ys : List (S × SocketAddr)) → at_applications_if side a (xs ++ ys) ≡ at_applications_if side a xs ++ ys
@@ -44,10 +43,8 @@ module _ {L S : Type 0} (came : L → Option (List (S × SocketAddr))) where
 
   pub came_join : (a b c : Doors L) (one other : List (Arrival S)) → HaveCome came a b one → HaveCome came b c other → HaveCome came a c (one ++ other)
   came_join a b c one other p q = record {
-    applications = subst_adds _ _ (applications_join one other) (adds_join _ _ _ (at_applications one) (at_applications other) p.applications q.applications);
-    links = subst_adds _ _ (links_join one other) (adds_join _ _ _ (at_links one) (at_links other) p.links q.links);
+    applications = subst (λ (l : List (S × SocketAddr)). AddsAll (came a.applications) (came c.applications) l) (sym (applications_join one other))
+        (adds_join _ _ _ (at_applications one) (at_applications other) p.applications q.applications);
+    links = subst (λ (l : List (S × SocketAddr)). AddsAll (came a.links) (came c.links) l) (sym (links_join one other))
+        (adds_join _ _ _ (at_links one) (at_links other) p.links q.links);
   }
-    where
-      subst_adds : (x y : Option (List (S × SocketAddr))) {k l : List (S × SocketAddr)} → l ≡ k → AddsAll x y k → AddsAll x y l
-      subst_adds None y e h = tt
-      subst_adds (Some x) y e h = h ∙ ap Some (ap (λ (m : List (S × SocketAddr)). x ++ m) (sym e))

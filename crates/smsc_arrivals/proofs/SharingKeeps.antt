@@ -129,16 +129,18 @@ module _ {T : Type 0} where
           h.2,
           handed,
           items_more v.made x h.2 h.3 items h.4,
-          set_at (Fits h.0 h.1 h.2 handed) views port w
-              ((λ p. absurd (true≢false (sym p))), λ _. (
-                mine.0,
-                mine.1,
-                of_more v.made v.made x h.3 refl ∙ ap (λ (l : List T). l ++ x ∷ []) mine.2,
-                (λ s less. of_other s v.made x h.3 (λ same. absurd (omega (arith, less, same))) ∙ mine.3 s less),
-                mine.4,
-                (λ s ts there. let b = before s ts there in
-                    ((mine.5 s ts there).0, of_other s v.made x h.3 (λ same. absurd (omega (arith, b, same))) ∙ (mine.5 s ts there).1)),
-              ))
+          set_at (Fits h.0 h.1 h.2 handed) views port w (
+            (λ p. absurd (true≢false (sym p))),
+            λ _. (
+              mine.0,
+              mine.1,
+              of_more v.made v.made x h.3 refl ∙ ap (λ (l : List T). l ++ x ∷ []) mine.2,
+              (λ s less. of_other s v.made x h.3 (λ same. absurd (omega (arith, less, same))) ∙ mine.3 s less),
+              mine.4,
+              (λ s ts there. let b = before s ts there in
+                  ((mine.5 s ts there).0, of_other s v.made x h.3 (λ same. absurd (omega (arith, b, same))) ∙ (mine.5 s ts there).1)),
+            ),
+          )
               (λ j u other e. let theirs = h.5 j u e in (
                 (λ p. let t = theirs.0 p in
                     (t.0, t.1 ∙ sym (of_other u.seat v.made x h.3 (λ same. other (t.0 ∙ (ap h.1 same ∙ (mine.4 v.made (omega arith) ∙ sym mine.0))))))),
@@ -163,16 +165,18 @@ module _ {T : Type 0} where
         h.3,
         h.4,
         snoc_at (Fits h.0 owner h.2 h.3) vs r
-            (set_at (Fits h.0 owner h.2 h.3) views port l
-            ((λ p. absurd (true≢false (sym p))), λ _. (
-              mine.0,
-              mine.1,
-              mine.3 (v.made + 1) (omega arith),
-              (λ s less. mine.3 s (omega (arith, less))),
-              (λ s most. upd_else h.1 v.made new s (λ e. absurd (omega (arith, most, e))) ∙ mine.4 s (omega (arith, most))),
-              (λ s ts there. let b = before s ts there in
-                  (upd_else h.1 v.made new s (λ e. absurd (omega (arith, b, e))) ∙ (mine.5 s ts there).0, (mine.5 s ts there).1)),
-            ))
+            (set_at (Fits h.0 owner h.2 h.3) views port l (
+              (λ p. absurd (true≢false (sym p))),
+              λ _. (
+                mine.0,
+                mine.1,
+                mine.3 (v.made + 1) (omega arith),
+                (λ s less. mine.3 s (omega (arith, less))),
+                (λ s most. upd_else h.1 v.made new s (λ e. absurd (omega (arith, most, e))) ∙ mine.4 s (omega (arith, most))),
+                (λ s ts there. let b = before s ts there in
+                    (upd_else h.1 v.made new s (λ e. absurd (omega (arith, b, e))) ∙ (mine.5 s ts there).0, (mine.5 s ts there).1)),
+              ),
+            )
             (λ j u other e. (
               (λ p. let t = (h.5 j u e).0 p in
                   (t.0 ∙ sym (upd_else h.1 v.made new u.seat (λ same. other (t.0 ∙ (ap h.1 same ∙ (mine.4 v.made (omega arith) ∙ sym mine.0))))), t.1)),
@@ -206,7 +210,7 @@ module _ {T : Type 0} where
           (λ s ts there. ⊎_elim
               (λ (old : slice_get v.settled s ≡ Some ts). (own s (mine.5 s ts old).0, (mine.5 s ts old).1))
               (λ (last : (s ≡ length v.settled) × (w.taken ≡ ts)). let e : s ≡ w.seat = last.0 ∙ sym next in
-                  (upd_here h.1 w.seat port s e ∙ mine.0, ap (λ (n : ℕ). of n h.3) e ∙ (sym theirs.1 ∙ last.1)))
+              (upd_here h.1 w.seat port s e ∙ mine.0, ap (λ (n : ℕ). of n h.3) e ∙ (sym theirs.1 ∙ last.1)))
               (slice_get_snoc v.settled w.taken ts s there)),
         )),
       ))
@@ -214,8 +218,7 @@ module _ {T : Type 0} where
         (λ p. let t = (h.5 j u e).0 p in
             (t.0 ∙ sym (upd_else h.1 w.seat port u.seat (λ same. apart (t.0 ∙ (ap h.1 same ∙ sym theirs.0)))), t.1)),
         λ p. absurd (away (((h.5 j u e).1 p).0 ∙ sym mine.0)),
-      )) in
-      (
+      )) in (
         h.0,
         owner,
         h.2,

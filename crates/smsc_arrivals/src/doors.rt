@@ -8,13 +8,14 @@ use std::net::{SocketAddr, TcpListener, TcpStream};
 /// A listener, which gives the connections that wait there.
 pub trait Door {
     ghost use Rattle.std.specs.Prelude.{◌≡◌, List, Option, MatchOption};
+    ghost use Rattle.std.specs.declared.net.socket_addr.SocketAddr.{SocketAddr as PeerOf};
     ghost use Rattle.smsc_arrivals.specs.Arriving.{Adds};
 
     /// A connection.
     type Stream: Drop;
 
     /// The connections that it gave so far, each with the address of its other side, in order, where it states them.
-    ghost came: { Self → Option (List (Self.Stream × SocketAddr)) };
+    ghost came: { Self → Option (List (Self.Stream × PeerOf)) };
 
     /// Takes the next connection that waits there, if there is one.
     fn accept(&mut self) -> Option<(Self::Stream, SocketAddr)>

@@ -94,8 +94,6 @@ impl<T: Drop> Taker<T> {
             (λ item. taken_by self.new ≡ taken_by self.old ++ item ∷ []) }
         ensures same { IsSameTaker self.old self.new }
     {
-        self.receiver
-            .recv_as::<Takes, R>(rt, &mut self.pass)
-            .ok()
+        self.receiver.recv_as::<Takes, R>(rt, &mut self.pass).ok()
     }
 }

@@ -4,7 +4,7 @@ ghost use Rattle.crossbeam_channel.specs.Claims.{view, IsSeatAt};
 ghost use Rattle.crossbeam_channel.specs.Ends.{receives_on, sends_on};
 ghost use Rattle.smsc_arrivals.specs.Sharing.{giver_view, taker_view};
 
-use crate::sharing::{Sharing, SharesPass, SharesView};
+use crate::sharing::{SharesPass, SharesView, Sharing};
 use crossbeam_channel::{RuledReceiver, RuledSender};
 
 /// The end of whoever gives.

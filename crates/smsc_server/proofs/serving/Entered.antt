@@ -33,7 +33,7 @@ module _ {L S : Type 0} (came : L → Option (List (S × SocketAddr))) where
     lost = [];
     came_so = subst (λ (l : List (Arrival S)). HaveCome came start e.doors l) (sym (append-nil (arrivals_among (given_by e.giver)) ∙ ap arrivals_among none))
         (subst (λ (d : Doors L). HaveCome came start d []) (sym (so ∙ is)) (came_none came start));
-    none_lost = λ open. refl;
+    none_lost = λ is. refl;
   }
 
   -- nothing came, or an end mark was given
@@ -44,7 +44,7 @@ module _ {L S : Type 0} (came : L → Option (List (S × SocketAddr))) where
     came_so = subst (λ (l : List (Arrival S)). HaveCome came start b.doors l)
         (append-nil (arrivals_among (given_by a.giver) ++ h.lost) ∙ ap (λ (l : List (Arrival S)). l ++ h.lost) (sym given))
         (came_join came start a.doors b.doors _ [] h.came_so none);
-    none_lost = λ open. h.none_lost (sym shut ∙ open);
+    none_lost = λ is. h.none_lost (sym shut ∙ is);
   }
 
   -- one more was given
@@ -55,7 +55,7 @@ module _ {L S : Type 0} (came : L → Option (List (S × SocketAddr))) where
     came_so = subst (λ (l : List (Arrival S)). HaveCome came start e.doors l)
         (sym (append-nil (arrivals_among (given_by e.giver)) ∙ (ap arrivals_among is ∙ among_join before (Some x ∷ []))))
         (came_join came start middle e.doors (arrivals_among before) (x ∷ []) h k);
-    none_lost = λ open. refl;
+    none_lost = λ is. refl;
   }
 
   -- nobody took it
@@ -65,14 +65,14 @@ module _ {L S : Type 0} (came : L → Option (List (S × SocketAddr))) where
     lost = x ∷ [];
     came_so = subst (λ (l : List (Option (Arrival S))). HaveCome came start e.doors (arrivals_among l ++ x ∷ [])) (sym is)
         (came_join came start middle e.doors (arrivals_among before) (x ∷ []) h k);
-    none_lost = λ open. absurd (true≢false (sym shut ∙ open));
+    none_lost = λ is. absurd (true≢false (sym shut ∙ is));
   }
 
   -- where the entrance is open all that came was given
   pub all_given : (start : Doors L) (e : Entrance L S) → HaveEntered came start e → e.is_shut ≡ false → HaveCome came start e.doors (arrivals_among (given_by e.giver))
-  all_given start e h open =
+  all_given start e h is =
       subst (λ (l : List (Arrival S)). HaveCome came start e.doors l)
-      (ap (λ (l : List (Arrival S)). arrivals_among (given_by e.giver) ++ l) (h.none_lost open) ∙ append-nil (arrivals_among (given_by e.giver))) h.came_so
+      (ap (λ (l : List (Arrival S)). arrivals_among (given_by e.giver) ++ l) (h.none_lost is) ∙ append-nil (arrivals_among (given_by e.giver))) h.came_so
 
   -- an end mark was given, or not
   pub given_mark : (start : Doors L) (a b : Entrance L S) (r : Result (Unit {0}) (Option (Arrival S))) → HaveEntered came start a → b.doors ≡ a.doors → b.is_shut ≡ a.is_shut

@@ -168,17 +168,19 @@ impl<R: Wait + Clock, S: Drop, L: Door<Stream = S>, T: Observer> Acceptor<R, L, 
             is_left = self.turn(is_left);
         }
     }
+}
 
-    /// Takes so many connections, and then tells the seats that no more come.
-    pub(crate) fn accept_all(self) -> Entrance<L, S>
-        ensures entered { (start : DoorsOf L) → HaveEntered L.came start self.entrance → HaveEntered L.came start result }
-        ensures seats { HasSameSeats self.entrance.giver result.giver }
-    {
-        let mut acceptor = self;
-        acceptor.accept_so_many();
-        let Acceptor { rt, entrance, .. } = acceptor;
-        let mut entrance = entrance;
-        entrance.close(&rt);
-        entrance
-    }
+/// Takes so many connections, and then tells the seats that no more come.
+pub(crate) fn accept_all<R: Wait + Clock + Copy, S: Drop, L: Door<Stream = S>, T: Observer + Drop>(
+    acceptor: Acceptor<R, L, S, T>,
+) -> Entrance<L, S>
+    ensures entered { (start : DoorsOf L) → HaveEntered L.came start acceptor.entrance → HaveEntered L.came start result }
+    ensures seats { HasSameSeats acceptor.entrance.giver result.giver }
+{
+    let mut acceptor = acceptor;
+    acceptor.accept_so_many();
+    let Acceptor { rt, entrance, .. } = acceptor;
+    let mut entrance = entrance;
+    entrance.close(&rt);
+    entrance
 }

@@ -1,7 +1,7 @@
 //! The observer of a run.
-use smsc_arrivals::Side;
 use crate::serving::occupancy::Seated;
 use sms_base::{Digits, FinalState, MessageId};
+use smsc_arrivals::Side;
 use smsc_loop::{Activity, LeaveReason, Note};
 use std::net::SocketAddr;
 

@@ -11,14 +11,16 @@ ghost use Rattle.smsc_arrivals.specs.declared.doors.Doors.{Doors as DoorsOf};
 ghost use Rattle.smsc_server.specs.serving.Entering.{HasSameSeats, HaveEntered};
 ghost use Rattle.smsc_server.specs.serving.SeatThreads.{HasOneMore, HaveStarted, IsThreadOf, SeatThread as ThreadOf, end_of};
 
-use crate::serving::accepting::Acceptor;
+use crate::serving::accepting::{Acceptor, accept_all};
 use crate::serving::board::Board;
 use crate::serving::endpoints::SeatContext;
-use crate::serving::entrance::{ArrivalGiver, ArrivalTaker, Entrance, EntrancePromise, EntranceThread, PLACES};
+use crate::serving::entrance::{
+    ArrivalGiver, ArrivalTaker, Entrance, EntrancePromise, EntranceThread, PLACES,
+};
 use crate::serving::fault::ServeFault;
 use crate::serving::observer::Observer;
-use crate::serving::poller::Poller;
 use crate::serving::orders::{Orders, SEATS};
+use crate::serving::poller::Poller;
 use crate::serving::reading::{Reader, Reading};
 use crate::serving::seat_thread::{SeatThread, start_thread};
 use crossbeam_channel::{Sender, bounded};
@@ -280,7 +282,7 @@ fn start_acceptor<
         move || -> Entrance<L, S>
             ensures entered { (start : DoorsOf L) → HaveEntered L.came start acceptor.entrance → HaveEntered L.came start result }
             ensures seats { HasSameSeats acceptor.entrance.giver result.giver }
-        { acceptor.accept_all() },
+        { accept_all(acceptor) },
     );
     match started {
         Ok(thread) => Ok(thread),

@@ -1,5 +1,5 @@
 use Rattle.smsc_server.proofs.serving.Entered.{seats_trans}
-use Rattle.smsc_server.proofs.serving.accepting.Acceptor.accept_all.Goals as goal
+use Rattle.smsc_server.proofs.serving.accepting.accept_all.Goals as goal
 
 pub returns-clause-entered : goal.returns-clause-entered
 returns-clause-entered g c = λ start h. c.close.ensures.entered start (c.accept_so_many.ensures.entered start h)
