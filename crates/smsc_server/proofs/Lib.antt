@@ -1,4 +1,5 @@
 pub mod AnswersAmongReplies
+pub mod HeardEnds
 pub mod LinkWritten
 pub mod PartsWritten
 pub mod RequestsArrive
