@@ -5,8 +5,8 @@ use Rattle.std.proofs.lemmas.Bool.Decides.{eqb_tells}
 use Rattle.std.proofs.lemmas.Option.{none-some}
 use mathlib.Core.Option.{some, some-injective, some-ne-none}
 use lib.ListN.{get_elem?}
-use Rattle.crossbeam_channel.specs.Fifo.{Pushes, Pops, Forks, Merges, Learns}
-use Rattle.sms_seats.proofs.Places.{At, at_one, set_at, slice_get_snoc, snoc_at, upd, upd_here, upd_else}
+use Rattle.crossbeam_channel.specs.Fifo.{Held, Pushes, Pops, Forks, Merges, Learns}
+use Rattle.sms_seats.proofs.Places.{At, at_one, length_nil, set_at, slice_get_snoc, snoc_at, upd, upd_here, upd_else}
 use Rattle.smsc_arrivals.specs.declared.sharing.SharesView.{SharesView}
 use Rattle.smsc_arrivals.specs.Sharing.{of, items_of, giver_view, taker_view, settled_view, spent_view, AreShared, FitsGiver, FitsTaker, Shared}
 
@@ -230,6 +230,11 @@ module _ {T : Type 0} where
   pub learns : (port : ℕ) (v : SharesView T) → v.gives ≡ true → Learns Shared port v (λ items. AreShared v items)
   learns port v may items views h at =
       let mine = (h.5 port v at).1 may in (h.3, mine.1 ∙ h.4, mine.2, mine.3, λ s ts there. (mine.5 s ts there).1)
+
+  -- where the queue was empty at one moment, all that was given was taken then
+  pub none_left : (v w : SharesView T) → w ≡ v → Held 0 (λ items. AreShared v items) → AreShared w []
+  none_left v w e h =
+      subst (λ (u : SharesView T). AreShared u []) (sym e) (subst (λ (l : List T). AreShared v l) (length_nil h.0 h.1) h.2)
 
   slice_less : (xs : List (List T)) (s : ℕ) (ts : List T) → slice_get xs s ≡ Some ts → s < length xs
   slice_less [] s ts e = absurd (none-some ts e)

@@ -80,9 +80,13 @@ impl<T: Drop> Giver<T> {
         ensures made { made_by self.new ≡ made_by self.old }
         ensures settled { settled_at self.new ≡ settled_at self.old }
     {
-        self.receiver
+        match self
+            .receiver
             .try_recv_as::<TakesBack, R>(rt, &mut self.pass)
-            .ok()
+        {
+            Ok(item) => Some(item),
+            Err(_) => None,
+        }
     }
 }
 
