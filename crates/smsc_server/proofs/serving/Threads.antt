@@ -117,9 +117,6 @@ module _ {S : Type 0} (admitted : Admitted) where
     subst (λ (x : Taker (Option (Arrival S))). IsNewTaker giver n x) (sym h.3) new,
   )
 
-  pub ways_kept : (a b : Giver (Option (Arrival S))) (threads : List (SeatThread S)) → IsSameGiver a b → AreWays a threads → AreWays b threads
-  ways_kept a b threads same h n t e = let way = h n t e in (way.0 ∙ sym same, way.1)
-
   pub started_none : (giver : Giver (Option (Arrival S))) (threads : List (SeatThread S)) → IsNewGiver giver → threads ≡ [] → HaveStarted admitted giver [] threads
   started_none giver threads new none = record {
     threads_so = subst (λ (l : List (SeatThread S)). AreThreadsOf admitted [] l) (sym none) tt;
@@ -150,11 +147,11 @@ module _ {S : Type 0} (admitted : Admitted) where
   }
 
 -- what is said of whom the threads admit, and of what came since
-pub admitted_so : {S R E D : Type 0} (P : Admitted → R → Type 0) (Q : D → Type 0) (threads : List (SeatThread S)) (first second : Admitted) (doors : D) (r : Result R E)
-    → first ≡ second → IfOk r (λ x. (admitted : Admitted) (d : D) → HaveAdmitted admitted threads → Q d → P admitted x) → HaveAdmitted first threads → Q doors
-    → IfOk r (λ x. P second x)
-admitted_so P Q threads first second doors (Err fault) e h have entered = tt
-admitted_so P Q threads first second doors (Ok x) e h have entered = subst (λ (a : Admitted). P a x) e (h first doors have entered)
+pub admitted_so : {S R E D : Type 0} (P : Admitted → D → R → Type 0) (Q : D → Type 0) (threads : List (SeatThread S)) (first second : Admitted) (d : D)
+    (r : Result R E) → first ≡ second → IfOk r (λ x. (admitted : Admitted) (doors : D) → HaveAdmitted admitted threads → Q doors → P admitted doors x)
+    → HaveAdmitted first threads → Q d → IfOk r (λ x. P second d x)
+admitted_so P Q threads first second d (Err fault) e h have entered = tt
+admitted_so P Q threads first second d (Ok x) e h have entered = subst (λ (a : Admitted). P a d x) e (h first d have entered)
 
 pub admits_same : (a b : List Account) (c d : LinkAccess) → a ≡ b → c ≡ d → admits a c ≡ admits b d
 admits_same a b c d e f = ap (λ (x : List Account). admits x c) e ∙ ap (λ (y : LinkAccess). admits b y) f
@@ -162,3 +159,7 @@ admits_same a b c d e f = ap (λ (x : List Account). admits x c) e ∙ ap (λ (y
 -- the keeper is the same
 pub at_kept : {S : Type 0} (a b : Keeper Job Reply) (threads : List (SeatThread S)) → IsSameHub a b → AreAt a threads → AreAt b threads
 at_kept a b threads same h n t e = let at = h n t e in (seat_kept a b (seat_in t) same at.0, at.1)
+
+-- and so is the queue
+pub ways_kept : {S : Type 0} (a b : Giver (Option (Arrival S))) (threads : List (SeatThread S)) → IsSameGiver a b → AreWays a threads → AreWays b threads
+ways_kept a b threads same h n t e = let way = h n t e in (way.0 ∙ sym same, way.1)

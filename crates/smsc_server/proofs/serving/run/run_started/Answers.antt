@@ -29,7 +29,7 @@ close_all-requires-clause-count g c = (
 pub close_all-requires-clause-ways : goal.close_all-requires-clause-ways
 close_all-requires-clause-ways g c =
     let h = c.join-entrance.ensures.1 in (
-      ways_kept _ _ _ _ h.same (subst (λ (v : Vec (SeatThread g.row.S.Denot) Global). AreWays c.args.entrance.promise.entrance.value.giver v.items) (sym c.end-threads.ensures) c.requires.ways),
+      ways_kept _ _ _ h.same (subst (λ (v : Vec (SeatThread g.row.S.Denot) Global). AreWays c.args.entrance.promise.entrance.value.giver v.items) (sym c.end-threads.ensures) c.requires.ways),
       h.made ∙ c.requires.made.0,
       h.settled ∙ c.requires.made.1,
     )

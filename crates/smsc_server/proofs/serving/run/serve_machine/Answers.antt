@@ -12,7 +12,7 @@ pub run_started-requires-clause-count : goal.run_started-requires-clause-count
 run_started-requires-clause-count g c = λ lifetimes bounds. threads_count _ _ _ c.in-Ok.ensures.seats.1.threads_so ∙ c.in_ok-keeper.ensures.count
 
 pub run_started-requires-clause-ways : goal.run_started-requires-clause-ways
-run_started-requires-clause-ways g c = λ lifetimes bounds. ways_kept _ _ _ _ c.in-Ok.ensures.seats.2.same c.in-Ok.ensures.seats.1.ways
+run_started-requires-clause-ways g c = λ lifetimes bounds. ways_kept _ _ _ c.in-Ok.ensures.seats.2.same c.in-Ok.ensures.seats.1.ways
 
 pub run_started-requires-clause-made : goal.run_started-requires-clause-made
 run_started-requires-clause-made g c = λ lifetimes bounds.
@@ -21,4 +21,4 @@ run_started-requires-clause-made g c = λ lifetimes bounds.
 
 pub returns-in-Ok-clause-history : goal.returns-in-Ok-clause-history
 returns-in-Ok-clause-history g c =
-    admitted_so _ _ _ _ _ c.run_started.result c.in_ok-shared.ensures c.run_started.ensures.history (threads_have _ _ _ c.in-Ok.ensures.seats.1.threads_so) c.in-Ok.ensures.entrance
+    admitted_so _ _ _ _ _ _ c.run_started.result c.in_ok-shared.ensures c.run_started.ensures.history (threads_have _ _ _ c.in-Ok.ensures.seats.1.threads_so) c.in-Ok.ensures.entrance
