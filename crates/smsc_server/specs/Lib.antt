@@ -4,3 +4,4 @@ pub mod link_run
 pub mod Refusals
 pub mod WhatIsRead
 pub mod WhatALinkReads
+pub mod RunPromises

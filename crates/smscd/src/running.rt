@@ -482,7 +482,8 @@ fn serve_open<R: Threads + Wait + Clock + Copy + Send + Sync + 'static, K: Centr
     clock: &RunClock<R>,
 ) -> Result<(), ServeFault> {
     let keep = observed(keep, given);
-    serve(rt, alloc, keep, &OpenGate, clock, ports, given)
+    drop(serve(rt, alloc, keep, &OpenGate, clock, ports, given)?);
+    Ok(())
 }
 
 fn serve_ports<R: Threads + Wait + Clock + Copy + Send + Sync + 'static, K: CentreStore + Drop>(

@@ -1,8 +1,8 @@
 //! The observer of a run.
-use crate::serving::connection::Side;
 use crate::serving::occupancy::Seated;
 use sms_base::{Digits, FinalState, MessageId};
 use sms_centre_spec::Changes;
+use smsc_arrivals::Side;
 use smsc_loop::{Activity, LeaveReason, Note};
 use std::net::SocketAddr;
 
