@@ -58,4 +58,6 @@ pub mod AskedWords
 pub mod PlainEvents
 pub mod PlainDelivered
 pub mod PlainJoined
+pub mod AnsweredFrames
+pub mod PlainSent
 pub mod PlainWhole

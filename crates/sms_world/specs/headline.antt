@@ -16,4 +16,5 @@ pub mod PlainWords
 pub mod PlainScript
 pub mod PlainReport
 pub mod PlainHeadline
+pub mod PlainReports
 pub mod PlainLaws
