@@ -35,6 +35,7 @@ pub mod TrueRequests
 pub mod SentReceipts
 pub mod OneRuns
 pub mod NamedAnswers
+pub mod StatusRows
 pub mod StatusFrames
 pub mod HeadlineHolds
 pub mod WorldAnswers

@@ -7,6 +7,7 @@ pub mod RequestClaims
 pub mod OneRun
 pub mod SplitClaims
 pub mod Origins
+pub mod ReportClaims
 pub mod Headline
 pub mod DecidedPremises
 pub mod HeadlineLaws

@@ -14,7 +14,7 @@
 //! `sms_world::messages_have_origins` ties the rows of messages to the events that submitted them.
 ghost use Rattle.sms_world.specs.headline.DecidedPremises.{FirstLaw, NoneLaw};
 ghost use Rattle.sms_world.specs.headline.PlainLaws.{AcceptedPartsLaw, AllSentLaw, AscendLaw, AscendingLaw, CancelsLaw, DeletedLaw, DeliveredLinesLaw, EachStaysLaw, JoinedPiecesLaw, LongerLaw, NamedLaw, NoErrorLaw, NoneTwiceLaw, OfEventsLaw, PlainLaw, PlainReportLaw, QueriesLaw, ReceiptsLaw, ReferencesLaw, ReportsLaw, ToldLaw};
-ghost use Rattle.sms_world.specs.headline.HeadlineLaws.{ConfirmedLaw, DeliveredLaw, FinalLaw, GivenLaw, HeadlineLaw, HeldLaw, JoinedLaw, JoinedOnceLaw, JoinedWholeLaw, LineLaw, OnceLaw, OneRunLaw, PartsLaw, ReceiptLaw, ReceiptsStayLaw, SentLaw, SplitJoinedLaw, SplitLongLaw, SplitStaysLaw, SplitTextLaw, StatusLaw, StayLaw, ReportedLaw, WorldLaw};
+ghost use Rattle.sms_world.specs.headline.HeadlineLaws.{ConfirmedLaw, DeliveredLaw, FinalLaw, GivenLaw, HeadlineLaw, HeldLaw, JoinedLaw, JoinedOnceLaw, JoinedWholeLaw, LineLaw, OnceLaw, OneRunLaw, PartsLaw, ReceiptLaw, ReceiptsStayLaw, ReportsSayLaw, SentLaw, SplitJoinedLaw, SplitLongLaw, SplitStaysLaw, SplitTextLaw, StatusLaw, StayLaw, ReportedLaw, WorldLaw};
 
 /// The events of a script, up to any of them, are one run of the world from the empty one on. Each course on the way shows
 /// the world there.
@@ -118,10 +118,12 @@ pub fn split_texts_are_joined()
 {}
 
 /// Whatever happens, a submit_sm that was answered with a number is a message in the table. Each STATUS-REPORT among the
-/// frames is of a status report that is listed.
+/// frames is of a status report that is listed. It says which message it reports, when that was taken, and when and how it ended. It goes to
+/// the handset that sent the message.
 pub fn what_is_confirmed_is_there()
     ensures messages { ConfirmedLaw }
     ensures status_reports { StatusLaw }
+    ensures told { ReportsSayLaw }
 {}
 
 /// All of it, of whatever is played.

@@ -9,6 +9,7 @@ use Rattle.sms_script.specs.declared.setup.Setup.{Setup}
 use Rattle.sms_world.specs.headline.Claims.{AllTimely, AreOnce, DeliveredOnce, FinalStays, GivenOnce, HeldDiffer, JoinedWhole, LinesStay, PartsOnce, ReceiptsStay, ReceiptsHaveState, SentSubmitted, ConfirmedAreThere, StatusReportsAreListed, AllFresh}
 use Rattle.sms_world.specs.headline.OneRun.{Runs}
 use Rattle.sms_world.specs.headline.PlainReport.{AreAscending}
+use Rattle.sms_world.specs.headline.ReportClaims.{StatusReportsSay}
 use Rattle.sms_world.specs.headline.SplitClaims.{SplitsJoined, TextsSplit}
 use Rattle.sms_world.specs.headline.Origins.{AreFromEvents, LinesDelivered, ReportedDelivered}
 use Rattle.sms_world_model.specs.World.{empty}
@@ -76,6 +77,8 @@ pub record Headline (setup : Setup) (events : List WorldEvent) (report : Report)
   pub origins : AreFromEvents setup events play
   pub texts : TextsSplit setup events play
   pub confirmed : Confirmed report
+  -- each STATUS-REPORT says which message it reports, when that was taken, and when and how it ended; the handset that sent it is told
+  pub told : StatusReportsSay play
   -- while each frame that is handed over is timely
   pub delivered : AllTimely 1 events (beginning setup) → WasDelivered setup events play
   pub sent : AllTimely 1 events (beginning setup) → SentSubmitted play
