@@ -32,6 +32,7 @@ pub mod SplitClaimed
 pub mod SeenWorlds
 pub mod AnsweredSubmits
 pub mod TrueRequests
+pub mod SentSessions
 pub mod SentReceipts
 pub mod OneRuns
 pub mod NamedAnswers

@@ -2,12 +2,12 @@ pub mod SeenFrames
 pub mod SeenWorld
 pub mod SentRows
 pub mod SeenPlay
+pub mod ReportClaims
 pub mod Claims
 pub mod RequestClaims
 pub mod OneRun
 pub mod SplitClaims
 pub mod Origins
-pub mod ReportClaims
 pub mod Headline
 pub mod DecidedPremises
 pub mod HeadlineLaws

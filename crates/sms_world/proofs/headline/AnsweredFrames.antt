@@ -31,9 +31,6 @@ use Rattle.sms_world.proofs.scripts_are_runs.Growing.{in_front, in_rest}
 same_frame : (u v : Frame) → Carried u ≡ Carried v → u ≡ v
 same_frame u v e = cc
 
-same_receive : (u v : Frame) (s x : Submission) (ts ys : List Ticket) → Receive u s ts ≡ Receive v x ys → u ≡ v
-same_receive u v s x ts ys e = cc
-
 data_ack : Data ≡ Ack → ⊥
 data_ack e = absurd cc
 
@@ -172,13 +169,27 @@ pub record IsTaken (w v : World) (u : Frame) (id : ℕ) : Type 0 where
   pub there : (s : Submission) × (st : State) × IsRecorded v.table id s st
 
 module _ (m : ℕ) (b : Bool) (u : Frame) (s : Submission) (tickets : List Ticket) where
+  taken_first : (w : World) (xs : List Step) → Run w (items m b (Receive u s tickets ∷ xs)) → IsTaken w (end w (items m b (Receive u s tickets ∷ xs))) u s.id
+  taken_first w xs run =
+      let v : World = after_item w (record { step = Receive u s tickets; moment = m; stopped = b }) in
+      let now = messages_stay v (items m b xs) run.1 s.id s (Pending []) (entered_here w.table s (Pending [])) in
+      record {
+        line = run.0.0.1;
+        kind = run.0.0.2;
+        new = λ y st r. new_not_found w.table s.id y st run.0.2.0 r;
+        there = (s, now.0, now.1);
+      }
+
+  taken_here : (w : World) (x : Step) (xs : List Step) → Receive u s tickets ≡ x → Run w (items m b (x ∷ xs)) → IsTaken w (end w (items m b (x ∷ xs))) u s.id
+  taken_here w x xs e run =
+      subst (λ (z : Step). IsTaken w (end w (items m b (z ∷ xs))) u s.id) e (taken_first w xs (subst (λ (z : Step). Run w (items m b (z ∷ xs))) (sym e) run))
+
   pub taken_there : (w : World) (ss : List Step) → Run w (items m b ss) → Among (Receive u s tickets) ss → IsTaken w (end w (items m b ss)) u s.id
   taken_there w [] run i = absurd i
   taken_there w (x ∷ xs) run i = ⊎_elim
-      (λ (e : Receive u s tickets ≡ x). first x e run)
+      (λ (e : Receive u s tickets ≡ x). taken_here w x xs e run)
       (λ (j : Among (Receive u s tickets) xs).
-      let v : World = after_item w (record { step = x; moment = m; stopped = b }) in
-      let k = taken_there v xs run.1 j in
+      let k = taken_there (after_item w (record { step = x; moment = m; stopped = b })) xs run.1 j in
       record {
         line = k.line;
         kind = k.kind;
@@ -186,22 +197,6 @@ module _ (m : ℕ) (b : Bool) (u : Frame) (s : Submission) (tickets : List Ticke
         there = k.there;
       })
       i
-    where
-      first : (y : Step) → Receive u s tickets ≡ y → Run w (items m b (y ∷ xs)) → IsTaken w (end w (items m b (y ∷ xs))) u s.id
-      first y e go =
-          subst (λ (z : Step). IsTaken w (end w (items m b (z ∷ xs))) u s.id) e
-          (here (subst (λ (z : Step). Run w (items m b (z ∷ xs))) (sym e) go))
-        where
-          here : Run w (items m b (Receive u s tickets ∷ xs)) → IsTaken w (end w (items m b (Receive u s tickets ∷ xs))) u s.id
-          here run_now =
-              let v : World = after_item w (record { step = Receive u s tickets; moment = m; stopped = b }) in
-              let now = messages_stay v (items m b xs) run_now.1 s.id s (Pending []) (entered_here w.table s (Pending [])) in
-              record {
-                line = run_now.0.0.1;
-                kind = run_now.0.0.2;
-                new = λ y st r. new_not_found w.table s.id y st run_now.0.2.0 r;
-                there = (s, now.0, now.1);
-              }
 
 -- ---- what an entry counts as
 

@@ -22,8 +22,7 @@ use Rattle.sms_script.specs.declared.play_fault.PlayFault.{PlayFault}
 use Rattle.sms_script.specs.declared.report.Report.{Report}
 use Rattle.sms_script.specs.declared.report.rows.Direction.{Direction}
 use Rattle.sms_script.specs.declared.report.rows.Direction.TheVariants.{Up as UpRow}
-use Rattle.sms_script.specs.declared.report.rows.EntryState.{EntryState}
-use Rattle.sms_script.specs.declared.report.rows.EntryState.TheVariants.{Failed, Queued, Sending, Sent, Unsure}
+use Rattle.sms_script.specs.declared.report.rows.EntryState.TheVariants.{Sent}
 use Rattle.sms_script.specs.declared.report.rows.FrameRow.{FrameRow}
 use Rattle.sms_script.specs.declared.report.rows.OutboxRow.{OutboxRow}
 use Rattle.sms_script.specs.declared.report.rows.ReportedMessage.{ReportedMessage}
@@ -36,8 +35,8 @@ use Rattle.sms_play.specs.Setups.{beginning}
 use Rattle.sms_world_model.specs.References.{Ticket}
 use Rattle.sms_world_model.specs.ScriptRun.{Asked, Belongs, Cancelled, Event, Handed, Happening, Removed, Restarted, Submitted, Tick_centre, Tick_handset, Wrote, happened, is_stopped, items}
 use Rattle.sms_world_model.specs.Submission.{Submission}
-use Rattle.sms_world_model.specs.World.{Carried, Frame, IsRecorded, OutEntry, Sent as Sent_frame, World, empty}
-use Rattle.sms_world_model.specs.WorldStep.{Item, Receive, Run, Step, after, after_item, end}
+use Rattle.sms_world_model.specs.World.{Carried, Frame, IsRecorded, Sent as Sent_frame, World, empty}
+use Rattle.sms_world_model.specs.WorldStep.{Receive, Run, Step, after as after_step, after_item, end}
 use Rattle.sms_world_model.proofs.Runs.{bag_grows}
 use Rattle.sms_world_model.proofs.Upward.{up_empty}
 use Rattle.sms_world.specs.frames_pass_between_sides.Between.{frame_up}
@@ -84,8 +83,8 @@ next_place some e = let l : length (some ++ e ∷ []) ≡ length some + 1 = leng
 same_place : (a b : ℕ) → a ≤ b → b ≤ a → a ≡ b
 same_place a b l m = omega (arith, l, m)
 
-not_both : (a b : ℕ) → a < b → b ≤ a → ⊥
-not_both a b l m = omega (arith, l, m)
+next_up : (a b : ℕ) → a < b → suc a ≤ b
+next_up a b l = omega (arith, l)
 
 sooner : (a k : ℕ) → a < suc k → a ≤ k
 sooner a k l = omega (arith, l)
@@ -173,7 +172,7 @@ bag_stays : (w : World) (m : ℕ) (b : Bool) (ss : List Step) (x : Sent_frame) �
 bag_stays w m b [] x i = i
 bag_stays w m b (s ∷ ss) x i = bag_stays (after_item w (record { step = s; moment = m; stopped = b })) m b ss x (now b)
   where
-    now : (c : Bool) → Among x (cond c w.bag (after w m s).bag)
+    now : (c : Bool) → Among x (cond c w.bag (after_step w m s).bag)
     now true = i
     now false = bag_grows w m s x i
 
@@ -329,9 +328,9 @@ module _ (script : Script) (after : ℕ → Report) where
 
     one_place : (id a b : ℕ) → a ≤ length script.events → b ≤ length script.events → ¬ HasLine id (after a).table → HasLine id (after (suc a)).table → ¬ HasLine id (after b).table → HasLine id (after (suc b)).table → a ≡ b
     one_place id a b few_a few_b new_a there_a new_b there_b = ⊎_elim
-        (λ (l : a < b). absurd (new_b (lines_to id (suc a) b l few_b there_a)))
+        (λ (l : a < b). absurd (new_b (lines_to id (suc a) b (next_up a b l) few_b there_a)))
         (λ (l : b ≤ a). ⊎_elim
-        (λ (m : b < a). absurd (new_a (lines_to id (suc b) a m few_a there_b)))
+        (λ (m : b < a). absurd (new_a (lines_to id (suc b) a (next_up b a m) few_a there_b)))
         (λ (m : a ≤ b). same_place a b m l)
         (cases_lt b a))
         (cases_lt a b)
@@ -347,9 +346,6 @@ module _ (script : Script) (after : ℕ → Report) where
     -- ---- each entry that counts as sent
 
     module _ (x : OutboxRow) (k : IsTakenIn x.handset x.entry) where
-      told : Report
-      told = after (length script.events)
-
       within : suc k.place ≤ length script.events
       within = place_within script.events k.place k.event k.at
 
