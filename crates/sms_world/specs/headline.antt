@@ -17,5 +17,6 @@ pub mod PlainWords
 pub mod PlainScript
 pub mod PlainReport
 pub mod PlainHeadline
+pub mod OwnerClaims
 pub mod PlainReports
 pub mod PlainLaws

@@ -96,6 +96,7 @@ use Rattle.sms_world.specs.handset_runs_are_steps.PlanLaws.{event_seen}
 use Rattle.sms_world.specs.handset_runs_are_steps.RefinesLink.{RefinesAnswer, RefinesBegun, RefinesOpened}
 use Rattle.sms_world.specs.headline.OneRun.{event_of}
 use Rattle.sms_world.specs.headline.Origins.{user_data_of}
+pub use Rattle.sms_world.specs.headline.OwnerClaims.{IsOwners}
 use Rattle.sms_world.specs.headline.PlainLaws.{AreReports}
 use Rattle.sms_world.specs.headline.PlainReport.{IsEntered}
 use Rattle.sms_world.specs.headline.PlainScript.{Does}
@@ -120,37 +121,6 @@ use Rattle.sms_world.proofs.scripts_are_runs.Events.{ok_play, same_play}
 use Rattle.sms_world.proofs.scripts_are_runs.Growing.{either_part, in_front, in_rest}
 use Rattle.sms_world.proofs.scripts_are_runs.Meetings.{Meets, meets, number_of}
 use Rattle.sms_world.proofs.scripts_are_runs.Parties.{number_there, party_found, with_numbers}
-
--- ---- what an entry carries
-
--- The octets are a SUBMIT of the one part, at the entry's place, of a text that the owner gave at an event. Its first part has the entry that was
--- entered first there.
-pub record IsOwners (script : Script) (after : ℕ → Report) (h : List ℕ) (n : ℕ) (tpdu : List ℕ) : Type 0 where
-  pub submit : SubmitOf
-  pub reads : submit_at tpdu ≡ Ok submit
-  pub given_at : ℕ
-  pub first : ℕ
-  pub place : ℕ
-  pub own : n ≡ first + place
-  pub entered : (e : ℕ) → IsEntered after given_at h e → first ≤ e
-  pub first_entered : IsEntered after given_at h first
-  pub owner : Among h (numbers_of (parties_of script.setup script.setup.handsets))
-  pub writing : WorldEvent
-  pub written_at : numbered given_at script.events ≡ Some writing
-  pub to : List ℕ
-  pub report : Bool
-  pub text : List ℕ
-  pub writes : Does writing (Write h to report text)
-  pub reference : ℕ
-  pub body : SinglePart
-  pub piece : numbered (suc place) (bodies_under reference (WholeText (content_of_text (chars text)))) ≡ Some body
-  pub destination : submit.destination_address.digits ≡ to
-  pub request : submit.status_report_request ≡ report
-  pub protocol_identifier : submit.protocol_identifier ≡ 0
-  pub reply_path : submit.reply_path ≡ false
-  pub scheme : submit.data_coding_scheme ≡ body.data_coding_scheme
-  pub header : submit.user_data_header_indicator ≡ body.header_indicator
-  pub user_data : submit.user_data ≡ user_data_of body
 
 -- ---- plain facts
 
