@@ -5,7 +5,6 @@ use Rattle.std.specs.Prelude.{◌⊎◌, ◌==◌}
 use Rattle.std.proofs.lemmas.Bool.{and_parts}
 use Rattle.std.proofs.lemmas.Slice.Eq.{bytes_eq-Decides}
 use Rattle.sms_base.specs.Among.{Among}
-use Rattle.sms_base.specs.declared.carried.Kind.{Kind}
 use Rattle.sms_base.specs.declared.carried.Kind.TheVariants.{Ack, Data, Error}
 use Rattle.sms_base.specs.declared.holder.Holder.TheVariants.{Entry, Memory}
 use Rattle.sms_tpdu.specs.TpduReading.{data_up_at, submit_at, up_at}
@@ -14,10 +13,10 @@ use Rattle.sms_tpdu.specs.declared.fault.TpduFault.TheVariants.{Truncated}
 use Rattle.sms_tpdu.specs.declared.up.Up.TheVariants.{Submit as SubmitUp}
 use Rattle.sms_world_model.specs.Premises.{IsTimely, ReadsTimely, allocations}
 use Rattle.sms_world_model.specs.References.{Ticket}
-use Rattle.sms_world_model.specs.ScriptRun.{After, AllControl, AllMayFollow, AllWrite, Asked, Before, Belongs, Cancelled, Event, Follows, Handed, IsControl, IsExpiry, IsInOrder, IsOwn, MayFollow, Reads, Removed, Restarted, Submitted, Tick_centre, Tick_handset, Went, Whole, Wrote, is_stopped, items}
+use Rattle.sms_world_model.specs.ScriptRun.{After, AllControl, AllMayFollow, AllWrite, Asked, Before, Belongs, Cancelled, Event, Follows, Handed, IsExpiry, IsInOrder, IsOwn, MayFollow, Reads, Removed, Restarted, Submitted, Tick_centre, Tick_handset, Went, Whole, Wrote, is_stopped, items}
 use Rattle.sms_world_model.specs.Submission.{IsSubmitTo, Submission}
 use Rattle.sms_world_model.specs.World.{Allocation, Bare, Carried, Down, EntryState, Failed, Frame, IsLatest, IsRecorded, Line, OutEntry, Pending, Queued, Sending, Sent, Sent_up, State, Unsure, Up, World, answer, is_same_handset, next_number}
-use Rattle.sms_world_model.specs.WorldStep.{Acknowledged, Again, Can, Control, Delete, Expire, HasReferenceUp, Item, Lapse, Memory_free, Offer, Offer_memory, Offer_up, Receive, Refuse, Refused, Reject, Remove, Repeat_memory, Run, Settle, Step, Submit, Take, Take_again, Write, after, after_item, data_of, end, is_entry, memory_of, removed, replaced}
+use Rattle.sms_world_model.specs.WorldStep.{Acknowledged, Again, Can, Control, Delete, Expire, Item, Lapse, Memory_free, Offer, Offer_memory, Offer_up, Receive, Refuse, Refused, Reject, Remove, Repeat_memory, Run, Settle, Step, Submit, Take, Take_again, Write, after, after_item, data_of, end, is_entry, memory_of, removed, replaced}
 use Rattle.sms_world_model.proofs.Runs.{bag_grows, latest_same, messages_stay, table_grows}
 use Rattle.sms_world_model.proofs.Tables.{entered_here, new_not_found}
 use Rattle.sms_world_model.proofs.Upward.{IsUpward, removed_from, up_item}

@@ -1,5 +1,5 @@
 -- While frames come in time, each entry that counts as sent is a message: the event that made it handed over a frame of that entry.
-use Rattle.std.proofs.Common.{◌≡◌, ℕ, zero, suc, ◌+◌, ◌<◌, ◌≤◌, arith, List, [], ◌∷◌, ◌++◌, length, length-append, Bool, true, false, cond, refl, sym, ◌∙◌, ap, subst, inl, inr, ⊎_elim, Option, Some, None, Result, Ok, Err}
+use Rattle.std.proofs.Common.{◌≡◌, ℕ, zero, suc, ◌+◌, ◌<◌, ◌≤◌, arith, List, [], ◌∷◌, ◌++◌, length, length-append, Bool, true, false, cond, refl, sym, ◌∙◌, ap, subst, inl, inr, ⊎_elim, Option, Some, Result}
 use Rattle.std.specs.Prelude.{◌⊎◌, slice_get}
 use Rattle.std.proofs.lemmas.Bool.{cases_lt}
 use Rattle.sms_base.specs.Among.{Among}
@@ -61,8 +61,7 @@ use Rattle.sms_world.proofs.headline.PlainNamed.{has_line, line_stored}
 use Rattle.sms_world.proofs.headline.PlainStays.{each_stays_is}
 use Rattle.sms_world.proofs.headline.PlainSteps.{IsPartedAt, IsStep, at_place, last_of, parted_at, step_of}
 use Rattle.sms_world.proofs.headline.SentClaims.{none_tell}
-use Rattle.sms_world.proofs.headline.Tables.{line_of, line_there, row_of_line}
-use Rattle.sms_world.proofs.messages_have_origins.EventsMake.{WasStoredIn}
+use Rattle.sms_world.proofs.headline.Tables.{line_of, row_of_line}
 use Rattle.sms_world.proofs.scripts_are_runs.Bags.{row_seen}
 use Rattle.sms_world.proofs.scripts_are_runs.Beginnings.{begins}
 use Rattle.sms_world.proofs.scripts_are_runs.Events.{event_leads, ok_play, same_play}

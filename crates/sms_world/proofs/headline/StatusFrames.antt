@@ -5,13 +5,9 @@ use Rattle.sms_base.specs.declared.carried.Kind.{Kind}
 use Rattle.sms_base.specs.declared.carried.Kind.TheVariants.{Data}
 use Rattle.sms_base.specs.declared.holder.Holder.{Holder}
 use Rattle.sms_base.specs.declared.holder.Holder.TheVariants.{Entry, Memory, Part, Report}
-use Rattle.sms_base.specs.HandsetNumber.{own_address}
-use Rattle.sms_base.specs.declared.final_state.FinalState.{FinalState}
 use Rattle.sms_base.specs.declared.originator.Originator.TheVariants.{Handset}
 use Rattle.sms_centre_rows.proofs.reports.AllWaiting.{report_found}
 use Rattle.sms_centre_rows.specs.declared.messages.message.MessageRow.{MessageRow}
-use Rattle.sms_centre_rows.specs.declared.reports.report.ReportKind.{ReportKind}
-use Rattle.sms_centre_rows.specs.declared.reports.report.ReportKind.TheVariants.{Status}
 use Rattle.sms_centre_rows.specs.declared.reports.report.ReportRow.{ReportRow}
 use Rattle.sms_centre_rows.specs.messages.Messages.{message_at, message_key}
 use Rattle.sms_centre_rows.specs.reports.Reports.{report_of as report_at}
@@ -22,10 +18,9 @@ use Rattle.sms_script.specs.declared.report.rows.Direction.{Direction}
 use Rattle.sms_script.specs.declared.report.rows.Direction.TheVariants.{Down as DownRow}
 use Rattle.sms_script.specs.declared.report.rows.FrameRow.{FrameRow}
 use Rattle.sms_script.specs.declared.report.rows.ReceiptRow.{ReceiptRow}
-use Rattle.sms_receipt.specs.StatusReports.{status_of, status_report_of}
+use Rattle.sms_receipt.specs.StatusReports.{status_report_of}
 use Rattle.sms_rows.proofs.table.Tables.{found_among, found_key}
 use Rattle.sms_tpdu.proofs.MoreBits.{compared_reads}
-use Rattle.sms_tpdu.specs.Codes.{status_octet}
 use Rattle.sms_tpdu.specs.MoreMessages.{compared, reading_with_more_messages}
 use Rattle.sms_tpdu.specs.TpduReading.{down_at}
 use Rattle.sms_tpdu.specs.declared.carrier.Carrier.TheVariants.{InData}
@@ -60,11 +55,13 @@ one_status a b e = cc
 one_message : (a b : MessageRow) → Some a ≡ Some b → a ≡ b
 one_message a b e = cc
 
+abbrev seen_of : ReportRow → ReportSeen
+seen_of r = record { kind = r.kind; is_done = r.progress.is_done }
+
 -- the row that was seen
 some_report : (o : Option ReportRow) (x : ReportSeen) → report_seen o ≡ Some x → (r : ReportRow) × ((o ≡ Some r) × (r.kind ≡ x.kind))
 some_report None x e = absurd cc
-some_report (Some r) x e =
-    let same : record { kind = r.kind; is_done = r.progress.is_done } ≡ x = cc in (r, (refl, ap (λ (z : ReportSeen). z.kind) same))
+some_report (Some r) x e = let same : seen_of r ≡ x = cc in (r, (refl, ap (λ (z : ReportSeen). z.kind) same))
 
 module _ (c : PlayState) (w : World) (s : PlayRefines c w) (f : FrameRow) (x : Carries) (i : Among f c.bag) (down : f.direction ≡ DownRow) (carried : f.carried ≡ Some x) (kind : x.kind ≡ Data) where
   abbrev frame : Frame

@@ -1,7 +1,7 @@
 -- The row of a status report is the STATUS-REPORT of its message as it ended, and stays so through every event.
 use Rattle.std.proofs.Common.{◌≡◌, ◌⊎◌, inl, inr, ℕ, ◌+◌, List, [], ◌∷◌, Bool, true, false, Option, Some, None, Ok, refl, sym, ◌∙◌, ap, subst, ⊎_elim, arith}
 use Rattle.std.specs.Prelude.{is_none, nat_le}
-use Rattle.std.proofs.lemmas.Bool.{and_parts, cond_both}
+use Rattle.std.proofs.lemmas.Bool.{cond_both}
 use Rattle.sms_base.specs.Among.{Among}
 use Rattle.sms_base.specs.TimeStamp.{IsMoment}
 use Rattle.sms_base.specs.declared.final_state.FinalState.{FinalState}
@@ -32,7 +32,6 @@ use Rattle.sms_centre_rows.specs.waiting.Revisions.{Revised}
 use Rattle.sms_centre_rows.specs.waiting.SoundAllocations.{IsNumber}
 use Rattle.sms_centre_rows.specs.waiting.Trying.{finished}
 use Rattle.sms_centre_spec.specs.CentreEvent.{happened}
-use Rattle.sms_centre_spec.specs.Consistent.{IsSubmission}
 use Rattle.sms_centre_spec.specs.Draft.{Core, Store, handsets_in, messages_in, parts_in, reports_in, rows_of, with_given, with_message, with_part_at, with_report_at}
 use Rattle.sms_centre_spec.specs.Ends.{end, is_wished, make_report, report_to, status_given}
 use Rattle.sms_centre_spec.specs.Finals.{final_of}

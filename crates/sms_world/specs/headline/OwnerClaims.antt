@@ -1,5 +1,5 @@
 -- What handsets send up for the entries of their outboxes: the texts that their owners gave.
-use Rattle.std.specs.Prelude.{◌≡◌, ◌≤◌, ◌+◌, ℕ, suc, List, Bool, false, Option, Some, Ok}
+use Rattle.std.specs.Prelude.{◌≡◌, ◌≤◌, ◌+◌, ℕ, suc, List, Bool, false, Some, Ok}
 use Rattle.std.specs.Str.{chars}
 use Rattle.sms_base.specs.Among.{Among}
 use Rattle.sms_base.specs.declared.carried.Carried.{Carried}

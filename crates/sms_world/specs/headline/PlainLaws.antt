@@ -1,5 +1,5 @@
 -- The plain headline, and its claims one by one, proved of the course that a report is read off.
-use Rattle.std.specs.Prelude.{◌≡◌, ◌++◌, ◌<◌, ℕ, suc, List, length, Ok, Option, None, true}
+use Rattle.std.specs.Prelude.{◌≡◌, ◌<◌, ℕ, suc, List, length, Ok, Option, true}
 use Rattle.sms_base.specs.Among.{Among}
 use Rattle.sms_base.specs.declared.final_state.FinalState.TheVariants.{Delivered}
 use Rattle.sms_play.specs.PlayState.{PlayState}

@@ -1,5 +1,5 @@
 -- What a STATUS-REPORT (3GPP TS 23.040 9.2.2.3) and a receipt (SMPP v3.4 appendix B) say of their message, and to whom they go.
-use Rattle.std.specs.Prelude.{◌≡◌, ℕ, List, Option, Some, Ok, true}
+use Rattle.std.specs.Prelude.{◌≡◌, ℕ, Some, Ok, true}
 use Rattle.sms_base.specs.Among.{Among}
 use Rattle.sms_base.specs.HandsetNumber.{own_address}
 use Rattle.sms_base.specs.declared.carried.Carried.{Carried}
