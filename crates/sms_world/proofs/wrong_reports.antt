@@ -1,6 +1,7 @@
 pub mod Apart
 pub mod Read
 pub mod FinalKept
+pub mod LineGone
 pub mod ReceiptState
 pub mod ReceiptOnce
 pub mod NumberOnce
@@ -8,6 +9,7 @@ pub mod QueryFalse
 pub mod CancelFalse
 pub mod PartTwice
 pub mod NeverAccepted
+pub mod ToldFalsely
 pub mod JoinedNothing
 pub mod OtherText
 pub mod GoodReport

@@ -1,4 +1,4 @@
-//! Tests of what the programs over links use: frames in a stream, owners' lines, words, captures, ladders.
+//! Tests of what the programs over links use: frames in a stream, owners' lines, words, tables, captures, ladders.
 
 #[cfg(test)]
 mod captures;
@@ -12,5 +12,7 @@ mod owners;
 mod secret_words;
 #[cfg(test)]
 mod server_words;
+#[cfg(test)]
+mod stuck;
 #[cfg(test)]
 mod words;

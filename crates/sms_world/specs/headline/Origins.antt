@@ -126,8 +126,8 @@ pub record IsOfHandset (number : ℕ) (before : PlayState) (m : MessageRow) (par
   pub from_handset : frame.direction ≡ Up
   pub submit : SubmitOf
   pub reads : up_at InData (frame_tpdu (cp_at frame.octets)) ≡ Ok (SubmitUp submit)
-  pub message_reference : ℕ
-  pub originator : m.originator ≡ Handset message_reference
+  -- its TP-Message-Reference (9.2.3.6), which a STATUS-REPORT gives back
+  pub originator : m.originator ≡ Handset submit.message_reference
   pub source : m.source.digits ≡ frame.handset
   -- an international number of the telephone numbering plan
   pub address : m.source ≡ own_address m.source.digits

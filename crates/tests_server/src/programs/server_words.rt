@@ -2,7 +2,8 @@
 use crate::programs::words::with;
 use crate::rows::holds;
 use smsc_cli::words::{
-    AccountWords, FileFault, ServerWords, WordsFault, add_lines, server_words, why_no_server_words,
+    AccountWords, FileFault, LogDetail, ServerWords, WordsFault, add_lines, server_words,
+    why_no_server_words,
 };
 use std::alloc::Global;
 use std::test::Fail;
@@ -66,7 +67,7 @@ fn is_written(words: &ServerWords<'_>) -> bool {
                 && !run.is_ahead
                 && !run.begins_anew
                 && !run.accepts_loss
-                && !run.logs_messages
+                && run.log == LogDetail::Runs
                 && is_account(accounts.as_slice())
         }
         _ => false,
@@ -383,7 +384,7 @@ fn is_whole(words: &ServerWords<'_>) -> bool {
                 && run.is_ahead
                 && run.accepts_loss
                 && !run.begins_anew
-                && run.logs_messages
+                && run.log == LogDetail::Messages
                 && run.sessions.is_none()
         }
         _ => false,
@@ -440,6 +441,44 @@ fn server_words_are_judged(rt: HostRuntime) -> Result<(), Fail> {
     Ok(())
 }
 
+const ACCESS: &[&str] = &[
+    "smscd", "--store", "c", "--smpp", "1", "--links", "2", "--centre", "1", "--log", "access",
+];
+
+#[test]
+fn the_log_may_have_the_ends_of_messages_alone(rt: HostRuntime) -> Result<(), Fail> {
+    match server_words(rt.alloc(), ACCESS)? {
+        ServerWords::Run(run, _) => holds(run.log == LogDetail::Access, "the log's word"),
+        _ => Err(Fail::new("a run")),
+    }
+}
+
+const STUCK: &[&str] = &[
+    "smscd",
+    "show",
+    "--stuck",
+    "--store",
+    "c",
+    "--to",
+    "447700900456",
+];
+
+fn is_by_handset(alloc: Global, words: &[&str]) -> Result<bool, Fail> {
+    match server_words(alloc, words)? {
+        ServerWords::Show { by_handset, .. } => Ok(by_handset),
+        _ => Err(Fail::new("a look")),
+    }
+}
+
+#[test]
+fn a_look_may_be_at_what_waits(rt: HostRuntime) -> Result<(), Fail> {
+    holds(is_by_handset(rt.alloc(), STUCK)?, "by handset")?;
+    holds(
+        !is_by_handset(rt.alloc(), &["smscd", "show", "--store", "c"])?,
+        "messages",
+    )
+}
+
 // What is said of words that ask for nothing.
 const WHY: &[(&[&str], &str)] = &[
     (
@@ -457,7 +496,7 @@ const WHY: &[(&[&str], &str)] = &[
             "smscd", "--store", "c", "--smpp", "1", "--links", "2", "--centre", "1", "--log",
             "texts",
         ],
-        "error: invalid value 'texts' for '--log': messages is wanted\n",
+        "error: invalid value 'texts' for '--log': messages or access is wanted\n",
     ),
     (
         &[
