@@ -24,11 +24,11 @@ use Rattle.sms_trace.specs.declared.drawing.notes.RequestNote.{RequestNote}
 unfoldable pub hex_pair : ℕ → List ℕ
 hex_pair octet = hex_digit (octet / 16) ∷ hex_digit (octet % 16) ∷ []
 
-unfoldable pub part_note : ℕ → ℕ → List ℕ
-part_note id number = codes "part " ++ (decimal number ++ (codes " of message " ++ decimal id))
-
 unfoldable pub numbered : List ℕ → ℕ → List ℕ
 numbered what number = what ++ decimal number
+
+unfoldable pub part_note : ℕ → ℕ → List ℕ
+part_note id number = numbered (codes "part ") number ++ numbered (codes " of message ") id
 
 -- for whom a frame is
 abbrev pub holder_note : Holder → List ℕ
@@ -119,7 +119,7 @@ reported_word None = codes "ENROUTE"
 
 unfoldable pub receipt_note : ℕ → ℕ → Option FinalState → List ℕ
 receipt_note sequence id state =
-    codes "deliver_sm " ++ (decimal sequence ++ (codes ": receipt of message " ++ (decimal id ++ (codes ", " ++ reported_word state))))
+    numbered (codes "deliver_sm ") sequence ++ (numbered (codes ": receipt of message ") id ++ (codes ", " ++ reported_word state))
 
 unfoldable pub receipt_answer_note : ℕ → List ℕ
 receipt_answer_note sequence = numbered (codes "deliver_sm_resp ") sequence

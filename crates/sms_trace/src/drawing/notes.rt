@@ -26,22 +26,20 @@ fn put_hex(out: &mut Octets, octet: u8) -> Result<(), AllocError>
     out.append(&[hex_digit(octet / 16), hex_digit(octet % 16)])
 }
 
-#[tactic(auto, unfolding(crate::specs::drawing::Notes::part_note))]
-fn put_part(out: &mut Octets, id: MessageId, number: u8) -> Result<(), AllocError>
-    ensures { OnOk result (out.new ≡ out.old ++ part_note id number) }
-{
-    out.append(b"part ")?;
-    put_number(out, u64::from(number))?;
-    out.append(b" of message ")?;
-    put_number(out, id.number())
-}
-
 #[tactic(auto, unfolding(crate::specs::drawing::Notes::numbered))]
 fn put_numbered(out: &mut Octets, what: &str, number: u64) -> Result<(), AllocError>
     ensures { OnOk result (out.new ≡ out.old ++ numbered what.now number) }
 {
     out.append(what.as_bytes())?;
     put_number(out, number)
+}
+
+#[tactic(auto, unfolding(crate::specs::drawing::Notes::part_note))]
+fn put_part(out: &mut Octets, id: MessageId, number: u8) -> Result<(), AllocError>
+    ensures { OnOk result (out.new ≡ out.old ++ part_note id number) }
+{
+    put_numbered(out, "part ", u64::from(number))?;
+    put_numbered(out, " of message ", id.number())
 }
 
 fn put_holder(out: &mut Octets, holder: Holder) -> Result<(), AllocError>
@@ -334,10 +332,8 @@ fn put_receipt(
 ) -> Result<(), AllocError>
     ensures { OnOk result (out.new ≡ out.old ++ receipt_note sequence id state) }
 {
-    out.append(b"deliver_sm ")?;
-    put_number(out, u64::from(sequence))?;
-    out.append(b": receipt of message ")?;
-    put_number(out, id.number())?;
+    put_numbered(out, "deliver_sm ", u64::from(sequence))?;
+    put_numbered(out, ": receipt of message ", id.number())?;
     out.append(b", ")?;
     out.append(reported_word(state).as_bytes())
 }

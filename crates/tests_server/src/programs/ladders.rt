@@ -43,10 +43,10 @@ centre              447700900456        447700900789\n\
 |                   *                   |  2. stopped before write 447700900456 447700900789 1 61\n\
 |                   X                   |  stopped, and it starts again\n\
 |                   *                   |  3. write 447700900456 447700900789 1 61: done\n\
-|< - - - - - - - - -|                   |  frame 1: data 00, entry 0\n\
+|< - - - - - - - - -|                   |  frame 1: data 00, entry 1\n\
 |<------------------|                   |  4. deliver 1\n\
 |- - - - - x        |                   |  frame 2: CP-ACK\n\
-|- - - - - x        |                   |  frame 3: acknowledgement 00, entry 0\n\
+|- - - - - x        |                   |  frame 3: acknowledgement 00, entry 1\n\
 |- - - - - x        |                   |  frame 4: data 00, part 1 of message 1\n\
 frame 2 never arrives\n\
 frame 3 never arrives\n\
