@@ -1,7 +1,8 @@
 //! The observer of a run.
-use crate::serving::connection::Side;
 use crate::serving::occupancy::Seated;
 use sms_base::{Digits, FinalState, MessageId};
+use sms_centre_spec::Changes;
+use smsc_arrivals::Side;
 use smsc_loop::{Activity, LeaveReason, Note};
 use std::net::SocketAddr;
 
@@ -39,4 +40,7 @@ pub trait Observer {
 
     /// The commit ended, and says whether it was made.
     fn end_commit(&self, _is_done: bool) {}
+
+    /// Takes what the commit changed, once it was made.
+    fn committed(&self, _changes: &Changes) {}
 }
