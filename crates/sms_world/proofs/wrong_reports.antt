@@ -4,6 +4,7 @@ pub mod FinalKept
 pub mod LineGone
 pub mod ReceiptState
 pub mod ReceiptOnce
+pub mod StatusSays
 pub mod NumberOnce
 pub mod QueryFalse
 pub mod CancelFalse

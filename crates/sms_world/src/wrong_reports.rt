@@ -3,6 +3,7 @@
 //! Each clause is about one small literal report of a small script (`specs/wrong_reports`). So each claim is seen to refuse
 //! a wrong report, and to admit a right one.
 ghost use Rattle.sms_world.specs.wrong_reports.Tried.{AcceptedLaw, AscendLaw, CancelLaw, CommonLaw, DeletedLaw, FinalLaw, ForgottenLaw, GivenLaw, GoneLaw, GoodLaw, JoinedLaw, JoinedTwiceLaw, LineLaw, NeverLaw, NumberLaw, OriginLaw, OtherEntryLaw, OtherTextLaw, OwnerLaw, QueryLaw, ReceiptLaw, ReceiptsLaw, SentLaw, SplitLaw, StatusLaw, StoppedLaw, SystemErrorLaw, ToldLaw, TrueCancelLaw, TrueOwnerLaw, TrueQueryLaw, TrueSentLaw, TrueSplitLaw, TrueStopLaw, TwiceLaw, UnansweredLaw};
+ghost use Rattle.sms_world.specs.wrong_reports.StatusReports.{DoneLaw, RecipientLaw, ReferenceLaw, RightLaw, StateLaw, SubmittedLaw};
 ghost use Rattle.sms_world.specs.wrong_reports.Worlds.{FreshLaw, InTimeLaw, LateLaw, ReusedLaw};
 
 /// The report of a text that was submitted, accepted and reported DELIVRD has the whole headline. A query that finds ENROUTE
@@ -40,6 +41,17 @@ pub fn wrong_receipts_are_refused()
     ensures state { ReceiptLaw }
     ensures once { ReceiptsLaw }
     ensures unlisted { StatusLaw }
+{}
+
+/// A STATUS-REPORT says of its message what it does. One with another reference says another thing, and so does one with another recipient,
+/// another date of either kind, or another state.
+pub fn wrong_status_reports_are_refused()
+    ensures right { RightLaw }
+    ensures reference { ReferenceLaw }
+    ensures recipient { RecipientLaw }
+    ensures submitted { SubmittedLaw }
+    ensures done { DoneLaw }
+    ensures state { StateLaw }
 {}
 
 /// One number for two submissions. A query_sm that finds DELIVRD of a message under way. A cancel_sm that was answered

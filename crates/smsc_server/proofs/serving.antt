@@ -4,7 +4,7 @@ pub mod Limits
 pub mod OneAnswer
 pub mod Ran
 pub mod Sat
-pub mod Seated
+pub mod ShareLists
 pub mod Served
 pub mod Settled
 pub mod Stretched

@@ -274,7 +274,7 @@ module _ (script : Script) (after : ℕ → Report) where
             (
               l.1.2,
               event_stands IsTakenIn w h.event h.went h.moment l.0 l.1.0 (hands_down e st.first w moment s timely)
-              (hands_answers (1 + length some) e st.first st.next w moment s k.2 k.1.0 timely st.is) takes l.1.1 k.1,
+                  (hands_answers (1 + length some) e st.first st.next w moment s k.2 k.1.0 timely st.is) takes l.1.1 k.1,
               held_reported (1 + length some) e st.first st.next w s st.is k.2,
             ),
           )

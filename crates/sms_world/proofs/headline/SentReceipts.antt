@@ -43,9 +43,9 @@ module _ (event : CentreEvent) (c : Core) (s : IsSoundCore c) (is : IsEvent even
   later = core_of (happened event c)
 
   -- it ended at a moment
-  ended_at : (o : Option FinalState) (done : Option ℕ) (state : FinalState) → o ≡ Some state → EndsAt o done → (moment : ℕ) × (done ≡ Some moment)
-  ended_at None done state e k = absurd cc
-  ended_at (Some f) done state e k = k
+  ended_at : (o : Option FinalState) (at : Option ℕ) (state : FinalState) → o ≡ Some state → EndsAt o at → (moment : ℕ) × (at ≡ Some moment)
+  ended_at None at state e k = absurd cc
+  ended_at (Some f) at state e k = k
 
   sends_one : (x : Delivery) → Among x (happened event c).bindings.deliveries → IsReceiptSent later x
   sends_one x i =

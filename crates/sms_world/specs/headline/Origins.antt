@@ -166,6 +166,8 @@ pub record IsFrom (s : Setup) (events : List WorldEvent) (m : MessageRow) (parts
   pub before : PlayState
   pub leads : play_state_of s some ≡ Ok before
   pub makes : Makes event before m parts
+  -- at the centre's moment then, which its receipt or status report says
+  pub submitted : m.submitted ≡ before.centre.moment
   pub next : PlayState
   pub leads_next : play_state_of s (some ++ event ∷ []) ≡ Ok next
   pub there : (x : MessageRow) × (message_at m.id next.centre.rows.messages ≡ Some x)

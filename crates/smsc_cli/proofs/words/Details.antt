@@ -1,5 +1,5 @@
 -- A word that is neither of two spells nothing.
-use Rattle.std.proofs.Common.{◌≡◌, ℕ, List, Option, Some, true≢false, false, sym, ◌∙◌, codes}
+use Rattle.std.proofs.Common.{◌≡◌, ℕ, List, Some, true≢false, false, sym, ◌∙◌, codes}
 use Rattle.std.specs.Prelude.{bytes_eq}
 use Rattle.smsc_cli.specs.declared.words.detail.LogDetail.{LogDetail}
 use Rattle.smsc_cli.specs.declared.words.detail.LogDetail.TheVariants.{Runs, Messages, Access}

@@ -51,15 +51,15 @@ fn second_digits(moment: Moment) -> [u8; 2]
     [b'0' + second / 10, b'0' + second % 10]
 }
 
-/// A moment at UTC, YYMMDDhhmmss.
-pub(crate) fn put_time(out: &mut Octets, moment: Moment) -> Result<(), AllocError>
+fn put_time(out: &mut Octets, moment: Moment) -> Result<(), AllocError>
     ensures { OnOk result (out.new ≡ out.old ++ time_of moment) }
 {
     out.append(&moment.date_digits())?;
     out.append(&second_digits(moment))
 }
 
-fn put_moment(out: &mut Octets, moment: Moment) -> Result<(), AllocError>
+/// A moment at UTC, YYMMDDhhmmss, and a space.
+pub(crate) fn put_moment(out: &mut Octets, moment: Moment) -> Result<(), AllocError>
     ensures { OnOk result (out.new ≡ out.old ++ (time_of moment ++ codes " ")) }
 {
     put_time(out, moment)?;

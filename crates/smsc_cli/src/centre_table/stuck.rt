@@ -1,9 +1,9 @@
 //! The table of what waits, by handset.
 ghost use Rattle.std.specs.Prelude.{◌≡◌, ◌++◌, IfOk, OnOk};
-ghost use Rattle.smsc_cli.specs.centre_table.StuckTable.{stuck_line, stuck_table};
+ghost use Rattle.smsc_cli.specs.centre_table.StuckTable.{attempts, stuck_line, stuck_table, what_waits};
 ghost use Rattle.smsc_cli.specs.columns.Columns.{lines};
 
-use crate::centre_table::messages::{put_due, put_time};
+use crate::centre_table::messages::{put_due, put_moment};
 use crate::columns::{put_name, put_number};
 use sms_base::{Digits, Moment, Octets};
 use std::alloc::{AllocError, Global};
@@ -22,17 +22,29 @@ pub struct StuckLine {
     pub due: Option<Moment>,
 }
 
-#[tactic(auto, unfolding(crate::specs::centre_table::StuckTable::stuck_line))]
-fn put_line(out: &mut Octets, line: &StuckLine) -> Result<(), AllocError>
-    ensures { OnOk result (out.new ≡ out.old ++ stuck_line line.now) }
+#[tactic(auto, unfolding(crate::specs::centre_table::StuckTable::what_waits))]
+fn put_waiting(out: &mut Octets, line: &StuckLine) -> Result<(), AllocError>
+    ensures { OnOk result (out.new ≡ out.old ++ what_waits line.now) }
 {
     put_name(out, 22, line.handset.as_slice())?;
     put_number(out, 8, line.waiting)?;
-    put_time(out, line.since)?;
-    out.append(b" ")?;
+    put_moment(out, line.since)
+}
+
+#[tactic(auto, unfolding(crate::specs::centre_table::StuckTable::attempts))]
+fn put_attempts(out: &mut Octets, line: &StuckLine) -> Result<(), AllocError>
+    ensures { OnOk result (out.new ≡ out.old ++ attempts line.now) }
+{
     put_number(out, 7, u64::from(line.failed))?;
     put_due(out, None, line.due)?;
     out.append(b"\n")
+}
+
+fn put_line(out: &mut Octets, line: &StuckLine) -> Result<(), AllocError>
+    ensures { OnOk result (out.new ≡ out.old ++ stuck_line line.now) }
+{
+    put_waiting(out, line)?;
+    put_attempts(out, line)
 }
 
 fn put_lines(out: &mut Octets, rows: &[StuckLine]) -> Result<(), AllocError>

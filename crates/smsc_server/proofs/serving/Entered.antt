@@ -11,7 +11,7 @@ use Rattle.smsc_arrivals.specs.declared.sharing.ends.Giver.{Giver}
 use Rattle.smsc_arrivals.specs.declared.sharing.ends.Taker.{Taker}
 use Rattle.smsc_server.specs.declared.serving.entrance.Entrance.{Entrance}
 use Rattle.smsc_server.specs.serving.Entering.{HasSameSeats, HaveEntered, arrivals_among}
-use Rattle.smsc_server.proofs.serving.Seated.{among_join}
+use Rattle.smsc_server.proofs.serving.ShareLists.{among_join}
 
 module _ {T : Type 0} where
   pub seats_same : (a : Giver T) → HasSameSeats a a

@@ -45,7 +45,7 @@ fn come<R: Net<Stream = TcpStream>>(rt: &R, server: SocketAddr) -> Result<(), Fa
 #[test]
 fn an_account_with_one_session_has_no_second_one(rt: HostRuntime) -> Result<(), Fail> {
     let alloc = rt.alloc();
-    let limits = vec![in alloc; 1]?;
+    let limits = vec![in alloc; 1u8]?;
     serves_within(rt, alloc, keep(alloc)?, &Open, 2, limits, |at: Loopback| {
         come(&rt, at.applications)
     })

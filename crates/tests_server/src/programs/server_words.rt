@@ -445,13 +445,20 @@ const ACCESS: &[&str] = &[
     "smscd", "--store", "c", "--smpp", "1", "--links", "2", "--centre", "1", "--log", "access",
 ];
 
-#[test]
-fn the_log_may_have_the_ends_of_messages_alone(rt: HostRuntime) -> Result<(), Fail> {
-    match server_words(rt.alloc(), ACCESS)? {
-        ServerWords::Run(run, _) => holds(run.log == LogDetail::Access, "the log's word"),
-        _ => Err(Fail::new("a run")),
+fn is_of_ends(words: &ServerWords<'_>) -> bool {
+    match words {
+        ServerWords::Run(run, _) => run.log == LogDetail::Access,
+        _ => false,
     }
 }
+
+#[test]
+fn the_log_may_have_the_ends_of_messages_alone(rt: HostRuntime) -> Result<(), Fail> {
+    let words = server_words(rt.alloc(), ACCESS)?;
+    holds(is_of_ends(&words), "the log's word")
+}
+
+const LOOK: &[&str] = &["smscd", "show", "--store", "c"];
 
 const STUCK: &[&str] = &[
     "smscd",
@@ -463,20 +470,22 @@ const STUCK: &[&str] = &[
     "447700900456",
 ];
 
-fn is_by_handset(alloc: Global, words: &[&str]) -> Result<bool, Fail> {
-    match server_words(alloc, words)? {
-        ServerWords::Show { by_handset, .. } => Ok(by_handset),
-        _ => Err(Fail::new("a look")),
+fn is_by_handset(words: &ServerWords<'_>) -> bool {
+    match words {
+        ServerWords::Show { by_handset, .. } => *by_handset,
+        _ => false,
     }
+}
+
+fn shows_by_handset(alloc: Global, words: &[&str]) -> Result<bool, Fail> {
+    let words = server_words(alloc, words)?;
+    Ok(is_by_handset(&words))
 }
 
 #[test]
 fn a_look_may_be_at_what_waits(rt: HostRuntime) -> Result<(), Fail> {
-    holds(is_by_handset(rt.alloc(), STUCK)?, "by handset")?;
-    holds(
-        !is_by_handset(rt.alloc(), &["smscd", "show", "--store", "c"])?,
-        "messages",
-    )
+    holds(shows_by_handset(rt.alloc(), STUCK)?, "by handset")?;
+    holds(!shows_by_handset(rt.alloc(), LOOK)?, "messages")
 }
 
 // What is said of words that ask for nothing.

@@ -6,4 +6,4 @@ use Rattle.smsc_status.proofs.access.put_number.Goals as goal
 pub returns : goal.returns
 unfolding number_text
 returns c =
-    rw (one_text c.digits.result (id_text c.args.id) c.args.id c.digits.ensures (text_writes c.args.id c.number-range.ensures.range)) at c.put_pieces.ensures
+    rw (one_text c.digits-digits.result (id_text c.args.id) c.args.id c.digits-digits.ensures (text_writes c.args.id c.number-range.ensures.range)) at c.put_pieces.ensures

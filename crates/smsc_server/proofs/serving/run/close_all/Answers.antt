@@ -1,6 +1,6 @@
 use Rattle.std.proofs.Common.{◌≡◌, ◌<◌, ◌∙◌, ℕ, List, [], ◌++◌, Option, length, slice_get, Some, refl, sym, ap, subst}
 use Rattle.smsc_server.proofs.serving.Sat.{did_same}
-use Rattle.smsc_server.proofs.serving.Seated.{closed}
+use Rattle.smsc_server.proofs.serving.ShareLists.{closed}
 use Rattle.smsc_server.proofs.serving.run.close_all.Goals as goal
 
 pub settle_all-requires-clause-count : goal.settle_all-requires-clause-count
