@@ -327,13 +327,13 @@ fn reported_word(state: Option<FinalState>) -> &'static str
 fn put_receipt(
     out: &mut Octets,
     sequence: u32,
-    id: MessageId,
+    message: u64,
     state: Option<FinalState>,
 ) -> Result<(), AllocError>
-    ensures { OnOk result (out.new ≡ out.old ++ receipt_note sequence id state) }
+    ensures { OnOk result (out.new ≡ out.old ++ receipt_note sequence message state) }
 {
     put_numbered(out, "deliver_sm ", u64::from(sequence))?;
-    put_numbered(out, ": receipt of message ", id.number())?;
+    put_numbered(out, ": receipt of message ", message)?;
     out.append(b", ")?;
     out.append(reported_word(state).as_bytes())
 }
@@ -348,7 +348,7 @@ pub fn receipt_text(
     ensures { IfOk result (λ text. text ≡ receipt_note sequence id state) }
 {
     let mut out = Octets::new(alloc);
-    put_receipt(&mut out, sequence, id, state)?;
+    put_receipt(&mut out, sequence, id.number(), state)?;
     Ok(out)
 }
 
