@@ -4,7 +4,7 @@ ghost use Rattle.sms_control.specs.ControlReading.{cp_at};
 ghost use Rattle.sms_trace.specs.drawing.Causes.{cause_of_frame};
 ghost use Rattle.sms_trace.specs.drawing.Notes.{again_note, asked_note, bare_word as word_of_bare, behind_note, carried_note, cause_name, cause_note};
 ghost use Rattle.sms_trace.specs.drawing.Notes.{content_note, event_note, frame_note, hex_pair, holder_note, kind_word as word_of_kind, numbered, part_note};
-ghost use Rattle.sms_trace.specs.drawing.Notes.{pdu_note as note_of_pdu, reason_note, receipt_answer_note, receipt_note, reported_word as word_of_report};
+ghost use Rattle.sms_trace.specs.drawing.Notes.{pdu_note as note_of_pdu, reason_note, receipt_answer_note, receipt_note, reported_word};
 ghost use Rattle.sms_trace.specs.drawing.Notes.{request_note, response_note, state_word as word_of_state};
 ghost use Rattle.sms_trace.specs.drawing.Shown.{shown_octets};
 
@@ -314,28 +314,29 @@ pub fn answered_text(alloc: Global, answered: &Answered) -> Result<String, Alloc
 
 // ---- a receipt
 
-fn reported_word(state: Option<FinalState>) -> &'static str
-    ensures { result.now ≡ word_of_report state }
+fn put_state(out: &mut Octets, state: Option<FinalState>) -> Result<(), AllocError>
+    ensures { OnOk result (out.new ≡ out.old ++ reported_word state) }
 {
     match state {
-        Some(state) => state_word(state),
-        None => "ENROUTE",
+        Some(state) => out.append(state_word(state).as_bytes()),
+        None => out.append(b"ENROUTE"),
     }
 }
 
 #[tactic(auto, unfolding(crate::specs::drawing::Notes::receipt_note))]
 fn put_receipt(
     out: &mut Octets,
-    sequence: u32,
+    sequence: u64,
     message: u64,
     state: Option<FinalState>,
 ) -> Result<(), AllocError>
     ensures { OnOk result (out.new ≡ out.old ++ receipt_note sequence message state) }
 {
-    put_numbered(out, "deliver_sm ", u64::from(sequence))?;
+    put_numbered(out, "deliver_sm ", sequence)?;
     put_numbered(out, ": receipt of message ", message)?;
     out.append(b", ")?;
-    out.append(reported_word(state).as_bytes())
+    put_state(out, state)?;
+    Ok(())
 }
 
 /// What a receipt says, in a deliver_sm of that sequence number.
@@ -348,7 +349,7 @@ pub fn receipt_text(
     ensures { IfOk result (λ text. text ≡ receipt_note sequence id state) }
 {
     let mut out = Octets::new(alloc);
-    put_receipt(&mut out, sequence, id.number(), state)?;
+    put_receipt(&mut out, u64::from(sequence), id.number(), state)?;
     Ok(out)
 }
 
