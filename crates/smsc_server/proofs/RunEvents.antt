@@ -177,7 +177,7 @@ raised_short : (o : Option ℕ) (seat : ℕ) (handset : List ℕ) (links : List 
 raised_short None seat handset links few short l there =
     ⊎_elim (λ (new : l ≡ record { seat = seat; handset = handset }). subst (λ (x : LinkSeat). length x.handset ≤ 20) (sym new) few) (λ old. short l old.0)
     (among_put link_key l (record { seat = seat; handset = handset }) links there)
-raised_short (Some other) seat handset links few short = short
+raised_short (Some other) seat handset links few short l there = short l there
 
 followed_short : (seat : ℕ) (job : Job) (s : Seats) → IsJob job → AreShort s.links → AreShort (followed seat job s).links
 followed_short seat (Bound account receives) s is short = short

@@ -329,7 +329,7 @@ module _ (stand : AnswersStand) (rows : Rows) (items : List (Item Job Reply)) (l
       (subst (λ (x : Stimulus Job). Among (answer_for asked (Submitted id)) (gives s.0 x e.fate)) stimulus (subst (λ (l : List (Out Reply)). Among (answer_for asked (Submitted id)) l) s.1 there)) in
       let keeps = subst (λ (x : Stimulus Job). Keeps (after s.0 x e.fate).core.rows last.core.rows) stimulus s.2 in
       let x = keeps.messages id told.1.0 told.1.1 in
-      (told.0, x.0, x.1.0)
+      (told.0, (x.0, x.1.0))
 
   pub run_keeps : KeepsPromises (restarted rows nobody) items last
   run_keeps = record {
