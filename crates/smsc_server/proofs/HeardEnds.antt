@@ -23,17 +23,19 @@ among_parts x (z ∷ zs) ys (inl e) = inl (inl e)
 among_parts x (z ∷ zs) ys (inr there) = ⊎_elim (λ (h : Among x zs). inl (inr h)) (λ (h : Among x ys). inr h) (among_parts x zs ys there)
 
 -- a reply to a seat is an out for it
+out_is : (n : ℕ) (r : Reply) (o : Out Reply) → n ≡ o.seat → r ≡ o.out → record { seat = n; out = r } ≡ o
+out_is n r o e f = ap (λ (k : ℕ). record { seat = k; out = r }) e ∙ ap (λ (x : Reply). record { seat = o.seat; out = x }) f
+
+here_or : (n : ℕ) (r : Reply) (o : Out Reply) (os : List (Out Reply)) (b : Bool) → (n == o.seat) ≡ b
+    → (Among r (outs_to n os) → Among (record { seat = n; out = r }) os) → Among r (if b then o.out ∷ outs_to n os else outs_to n os)
+    → Among (record { seat = n; out = r }) (o ∷ os)
+here_or n r o os true e later (inl is) = inl (out_is n r o (eqb-true n o.seat e) is)
+here_or n r o os true e later (inr rest) = inr (later rest)
+here_or n r o os false e later rest = inr (later rest)
+
 out_of : (n : ℕ) (r : Reply) (os : List (Out Reply)) → Among r (outs_to n os) → Among (record { seat = n; out = r }) os
 out_of n r [] there = there
-out_of n r (o ∷ os) there = by_seat (n == o.seat) refl there
-  where
-    by_seat : (b : Bool) → (n == o.seat) ≡ b → Among r (if b then o.out ∷ outs_to n os else outs_to n os) → Among (record { seat = n; out = r }) (o ∷ os)
-    by_seat true e (inl is) = inl (out_is o (eqb-true n o.seat e) is)
-      where
-        out_is : (o : Out Reply) → n ≡ o.seat → r ≡ o.out → record { seat = n; out = r } ≡ o
-        out_is o e f = ap (λ (k : ℕ). record { seat = k; out = r }) e ∙ ap (λ (x : Reply). record { seat = o.seat; out = x }) f
-    by_seat true e (inr rest) = inr (out_of n r os rest)
-    by_seat false e rest = inr (out_of n r os rest)
+out_of n r (o ∷ os) there = here_or n r o os (n == o.seat) refl (λ rest. out_of n r os rest) there
 
 abbrev IsOutOf : ℕ → Reply → List (Item Job Reply) → Type 0
 IsOutOf n r items =

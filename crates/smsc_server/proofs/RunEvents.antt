@@ -1,7 +1,7 @@
 -- What the items of a run ask are events of a centre.
-use Rattle.std.proofs.Common.{◌≡◌, ◌≤◌, ◌||◌, ◌⊎◌, inl, inr, ⊎_elim, ℕ, Bool, true, false, true≢false, not, List, [], ◌∷◌, ◌++◌, length, Option, Some, None, Result, Ok, Err, if◌then◌else◌, refl, sym, subst}
+use Rattle.std.proofs.Common.{◌≡◌, ◌<◌, ◌≤◌, ◌||◌, ◌⊎◌, arith, inl, inr, ⊎_elim, ℕ, zero, suc, Bool, true, false, true≢false, not, List, [], ◌∷◌, ◌++◌, length, Option, Some, None, Result, Ok, Err, if◌then◌else◌, refl, sym, subst}
 use Rattle.std.specs.Prelude.{nat_eq, nat_lt}
-use Rattle.std.specs.List.{list_all}
+use Rattle.std.specs.List.{AllByRecursion, list_all}
 use Rattle.std.proofs.lemmas.Bool.{and_parts, cond_both}
 use Rattle.sms_base.specs.Among.{Among}
 use Rattle.sms_base.specs.Reading.{AreOctets}
@@ -28,7 +28,6 @@ use Rattle.smsc_service.specs.Asking.{IfEvent, asked, asked_by, link_for, of_han
 use Rattle.smsc_service.specs.Numbers.{is_number}
 use Rattle.smsc_service.specs.Seats.{Seats, followed, handset_of, link_key, raised, seat_of}
 use Rattle.smsc_service.specs.Serving.{followed_by}
-use Rattle.smsc_service.proofs.Numbers.{number_is, some_there}
 use Rattle.smsc_server.specs.RunPromises.{IsAsked, IsJob}
 
 -- the number of each link has at most 20 digits
@@ -44,6 +43,24 @@ not_false false e = absurd (true≢false e)
 not_true : (a : Bool) → not a ≡ true → a ≡ false
 not_true true e = absurd (true≢false (sym e))
 not_true false e = refl
+
+some_there : (n : ℕ) → nat_eq n 0 ≡ false → 0 < n
+some_there zero e = absurd cc
+some_there (suc n) e = omega arith
+
+all_digits : (text : List ℕ) → list_all is_digit text ≡ true → AllByRecursion (λ c. is_digit c ≡ true) text
+all_digits [] e = tt
+all_digits (c ∷ cs) e = let p = and_parts (is_digit c) (list_all is_digit cs) e in (p.0, all_digits cs p.1)
+
+number_is : (digits : List ℕ) → 0 < length digits → length digits ≤ 20 → list_all is_digit digits ≡ true → IsNumber digits
+number_is digits some few all = record {
+  npi = (let l : 1 < 16 = omega arith in l);
+  digits = record {
+    some = some;
+    number = λ no. record { few = few; digits = all_digits digits all };
+    name = λ yes. absurd cc;
+  };
+}
 
 pub number_of : (number : List ℕ) → length number ≤ 20 → is_number number ≡ true → IsNumber number
 number_of number few e =
@@ -160,7 +177,7 @@ raised_short : (o : Option ℕ) (seat : ℕ) (handset : List ℕ) (links : List 
 raised_short None seat handset links few short l there =
     ⊎_elim (λ (new : l ≡ record { seat = seat; handset = handset }). subst (λ (x : LinkSeat). length x.handset ≤ 20) (sym new) few) (λ old. short l old.0)
     (among_put link_key l (record { seat = seat; handset = handset }) links there)
-raised_short (Some other) seat handset links few short = short
+raised_short (Some other) seat handset links few short l there = short l there
 
 followed_short : (seat : ℕ) (job : Job) (s : Seats) → IsJob job → AreShort s.links → AreShort (followed seat job s).links
 followed_short seat (Bound account receives) s is short = short

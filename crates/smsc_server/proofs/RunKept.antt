@@ -1,6 +1,8 @@
 -- A run of the centre keeps its promises.
-use Rattle.std.proofs.Common.{◌≡◌, ◌≤◌, ◌||◌, ◌⊎◌, inl, inr, ⊎_elim, ℕ, Bool, true, false, true≢false, not, List, [], ◌∷◌, ◌++◌, length, slice_get, Option, Some, None, if◌then◌else◌, refl, sym, ap, subst, ◌∙◌}
-use Rattle.std.proofs.lemmas.Bool.{cond_both}
+use Rattle.std.proofs.Common.{◌≡◌, ◌≤◌, ◌||◌, ◌⊎◌, inl, inr, ⊎_elim, ℕ, Bool, true, false, true≢false, not, List, [], ◌∷◌, ◌++◌, length, slice_get, Option, Some, None, if◌then◌else◌, refl, sym, ap, subst, ◌∙◌, bytes_eq}
+use Rattle.std.proofs.lemmas.Bool.{both_ways, cases_Bool, cond-false, cond-true, cond_both}
+use Rattle.std.proofs.lemmas.Slice.Eq.{bytes_eq-Decides}
+use Rattle.sms_centre_rows.specs.waiting.SoundAllocations.{IsNumber}
 use Rattle.sms_base.specs.Among.{Among}
 use Rattle.sms_base.specs.declared.final_state.FinalState.{FinalState}
 use Rattle.sms_centre_rows.specs.declared.messages.message.MessageRow.{MessageRow}
@@ -49,12 +51,35 @@ use Rattle.smsc_service.specs.declared.asking.SeatRequest.{SeatRequest}
 use Rattle.smsc_service.specs.declared.asking.SeatRequest.TheVariants.{Event, Nothing, Taken}
 use Rattle.smsc_service.specs.declared.seat_map.BoundSession.{BoundSession}
 use Rattle.smsc_service.specs.declared.seat_map.LinkSeat.{LinkSeat}
-use Rattle.smsc_service.proofs.RokNames.{answer_stands}
-use Rattle.smsc_service.proofs.Sittings.{apart_snoc, not_among, numbers_snoc}
 use Rattle.smsc_server.specs.RunPromises.{AreAsked, IsAsked, IsReported, KeepsPromises, receipt_for}
 use Rattle.smsc_server.proofs.RunEvents.{AreShort, asked_is, number_of, seats_short}
 
 -- ---- a centre that starts again
+
+among_snoc : (n : List ℕ) (ns : List (List ℕ)) (m : List ℕ) → Among n (ns ++ m ∷ []) → Among n ns ⊎ (n ≡ m)
+among_snoc n [] m (inl e) = inr e
+among_snoc n [] m (inr x) = absurd x
+among_snoc n (k ∷ ns) m (inl e) = inl (inl e)
+among_snoc n (k ∷ ns) m (inr x) = ⊎_elim (λ h. inl (inr h)) (λ e. inr e) (among_snoc n ns m x)
+
+numbers_snoc : (ns : List (List ℕ)) (m : List ℕ) → AreNumbers ns → IsNumber m → AreNumbers (ns ++ m ∷ [])
+numbers_snoc ns m h k n there = ⊎_elim (λ x. h n x) (λ is. subst IsNumber (sym is) k) (among_snoc n ns m there)
+
+apart_snoc : (ns : List (List ℕ)) (m : List ℕ) → AreDifferent ns → ¬ Among m ns → AreDifferent (ns ++ m ∷ [])
+apart_snoc [] m d new = ((λ x. x), tt)
+apart_snoc (k ∷ ns) m d new =
+    ((λ x. ⊎_elim (λ h. d.0 h) (λ e. new (inl (sym e))) (among_snoc k ns m x)), apart_snoc ns m d.1 (λ x. new (inr x)))
+
+-- what is not found among them is not there
+not_among : (n : List ℕ) (ns : List (List ℕ)) → is_among n ns ≡ false → Among n ns → ⊥
+not_among n [] e there = there
+not_among n (k ∷ ns) e there = ⊎_elim
+    (λ (t : bytes_eq k n ≡ true). let y : true ≡ false = sym (cond-true (bytes_eq k n) true (is_among n ns) t) ∙ e in absurd cc)
+    (λ (t : bytes_eq k n ≡ false). ⊎_elim
+    (λ (q : n ≡ k). both_ways (bytes_eq k n) t ((bytes_eq-Decides k n).1 (sym q)))
+    (λ (q : Among n ns). not_among n ns (sym (cond-false (bytes_eq k n) true (is_among n ns) t) ∙ e) q)
+    there)
+    (cases_Bool (bytes_eq k n))
 
 or_false : (a b : Bool) → (a || b) ≡ false → (a ≡ false) × (b ≡ false)
 or_false true b e = absurd (true≢false e)
@@ -71,8 +96,8 @@ number_apart : (number : List ℕ) (numbers : List (List ℕ)) → length number
 number_apart number numbers few h =
     cond_both (not (is_number number) || is_among number numbers) numbers (numbers ++ number ∷ []) AreApart (λ t. h)
     (λ t. let p = or_false (not (is_number number)) (is_among number numbers) t in (
-      numbers_snoc numbers number (numbers ++ number ∷ []) refl h.0 (number_of number few (not_false (is_number number) p.0)),
-      apart_snoc numbers number (numbers ++ number ∷ []) refl h.1 (not_among number numbers p.1),
+      numbers_snoc numbers number h.0 (number_of number few (not_false (is_number number) p.0)),
+      apart_snoc numbers number h.1 (not_among number numbers p.1),
     ))
 
 handsets_apart : (links : List LinkSeat) (numbers : List (List ℕ)) → AreShort links → AreApart numbers → AreApart (handsets_from numbers links)
@@ -265,7 +290,13 @@ reported_still rows last end keeps h =
     let same = x.1.1.final end.state h.3 in
     (h.0, x.0, x.1.0, subst (λ (m : MessageRow). m.state ≡ Some end.state) (sym same) h.3, subst (λ (m : MessageRow). end ≡ final_of end.state end.done m) (sym same) h.4)
 
-module _ (rows : Rows) (items : List (Item Job Reply)) (last : Serving) (sound : IsSound rows) (are : AreAsked items)
+-- the law that an answer names a message of the rows behind it
+abbrev AnswersStand : Type 0
+AnswersStand =
+    (s : Serving) (seat account asked id : ℕ) (pdu : List ℕ) (fate : Fate) → Among (answer_for asked (Submitted id)) (gives s (JobOf seat (Submit account pdu)) fate)
+    → (asked ≡ seat) × ((row : MessageRow) × (message_at id (after s (JobOf seat (Submit account pdu)) fate).core.rows.messages ≡ Some row))
+
+module _ (stand : AnswersStand) (rows : Rows) (items : List (Item Job Reply)) (last : Serving) (sound : IsSound rows) (are : AreAsked items)
     (run : IsHistory gives after (restarted rows nobody) items last) where
   first_good : IsGood (restarted rows nobody)
   first_good = record { core = restart_sound rows nobody sound (λ l there. absurd there); short = λ l there. absurd there }
@@ -294,11 +325,11 @@ module _ (rows : Rows) (items : List (Item Job Reply)) (last : Serving) (sound :
       → (asked ≡ seat) × ((row : MessageRow) × (message_at id last.core.rows.messages ≡ Some row))
   submitted one other e seat account asked id pdu is stimulus there =
       let s = step one other e is in
-      let told = answer_stands s.0 seat account asked id pdu e.fate
+      let told = stand s.0 seat account asked id pdu e.fate
       (subst (λ (x : Stimulus Job). Among (answer_for asked (Submitted id)) (gives s.0 x e.fate)) stimulus (subst (λ (l : List (Out Reply)). Among (answer_for asked (Submitted id)) l) s.1 there)) in
       let keeps = subst (λ (x : Stimulus Job). Keeps (after s.0 x e.fate).core.rows last.core.rows) stimulus s.2 in
       let x = keeps.messages id told.1.0 told.1.1 in
-      (told.0, x.0, x.1.0)
+      (told.0, (x.0, x.1.0))
 
   pub run_keeps : KeepsPromises (restarted rows nobody) items last
   run_keeps = record {

@@ -16,6 +16,7 @@ ghost use Rattle.smsc_server.specs.serving.Sittings.{SeatDid, replies_to};
 ghost use Rattle.smsc_service.specs.Seats.{nobody};
 ghost use Rattle.smsc_service.specs.Serving.{Serving, after, gives, restarted};
 
+use smsc_service::laws::an_answer_names_a_message;
 use std::io::{Read, Write};
 
 /// Of the history that `serve` runs from sound rows on, whatever applications and handsets do. At each moment the centre is sound. What the rows
@@ -24,7 +25,9 @@ use std::io::{Read, Write};
 pub fn a_run_keeps_its_promises()
     ensures { (rows : Rows) (items : List (Item Job Reply)) (last : Serving) → IsSound rows → AreAsked items
         → IsHistory gives after (restarted rows nobody) items last → KeepsPromises (restarted rows nobody) items last }
-{}
+{
+    an_answer_names_a_message();
+}
 
 /// Each receipt that a connection of such a run heard is that of a message, and says the state in which the message is at the end.
 pub fn a_connection_hears_final_states<S: Read + Write>()

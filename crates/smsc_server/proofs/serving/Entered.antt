@@ -1,6 +1,6 @@
 -- What came at the listeners was given to the seats, step by step.
 use Rattle.std.proofs.Common.{◌≡◌, ◌≢◌, Bool, true, false, true≢false, List, [], ◌∷◌, ◌++◌, Option, Some, None, Result, Ok, Err, refl, sym, ap, subst, ◌∙◌, append_assoc, append-nil}
-use Rattle.std.specs.Prelude.{MatchResult}
+use Rattle.std.specs.Prelude.{MatchOption, MatchResult}
 use Rattle.std.specs.declared.net.socket_addr.SocketAddr.{SocketAddr}
 use Rattle.smsc_arrivals.specs.Arriving.{HaveCome}
 use Rattle.smsc_arrivals.specs.Ways.{IsSameTaker, given_by}
@@ -19,6 +19,12 @@ module _ {T : Type 0} where
 
   pub seats_trans : (a b c : Giver T) → HasSameSeats a b → HasSameSeats b c → HasSameSeats a c
   seats_trans a b c h k = record { same = k.same ∙ h.same; made = k.made ∙ h.made; settled = k.settled ∙ h.settled; returned = k.returned ∙ h.returned }
+
+-- one more item was taken: a connection, or an end mark
+pub next_taken : {A : Type 0} (old new : List (Option A)) (item : Option A) → new ≡ old ++ item ∷ []
+    → MatchOption item (arrivals_among new ≡ arrivals_among old) (λ a. arrivals_among new ≡ arrivals_among old ++ a ∷ [])
+next_taken old new None e = ap arrivals_among e ∙ (among_join old (None ∷ []) ∙ append-nil (arrivals_among old))
+next_taken old new (Some a) e = ap arrivals_among e ∙ among_join old (Some a ∷ [])
 
 module _ {T : Type 0} where
   pub taker_same : (a : Taker T) → IsSameTaker a a

@@ -131,13 +131,22 @@ impl<R: Wait + Clock, S: Drop, L: Door<Stream = S>, T: Observer> Acceptor<R, L, 
         !self.has_served_all() && !self.board.is_ending()
     }
 
-    // Whether nobody was taken, though there is a seat.
-    fn took_none(&mut self) -> bool
+    // Takes the next connection that waits at each side. Says of which there was one and the seats have it.
+    fn take_both(&mut self) -> (bool, bool)
         ensures entered { (start : DoorsOf L) → HaveEntered L.came start self.old.entrance → HaveEntered L.came start self.new.entrance }
         ensures seats { HasSameSeats self.old.entrance.giver self.new.entrance.giver }
     {
         let first = self.take(Side::Application);
         let second = self.take(Side::Handset);
+        (first, second)
+    }
+
+    // Whether nobody was taken, though there is a seat.
+    fn took_none(&mut self) -> bool
+        ensures entered { (start : DoorsOf L) → HaveEntered L.came start self.old.entrance → HaveEntered L.came start self.new.entrance }
+        ensures seats { HasSameSeats self.old.entrance.giver self.new.entrance.giver }
+    {
+        let (first, second) = self.take_both();
         !first && !second && self.may_continue() && !self.board.is_full()
     }
 

@@ -277,7 +277,7 @@ where
             requires observer { IsSend T.row }
             ensures history { IfOk result (λ doors. IsOneHistory L.Stream.remaining L.Stream.contents
                 (admits (arc_value given.entry.now.accounts) (arc_value given.entry.now.access)) (C.reads clock.entry.now)
-                L.came (doors_of ports.entry) doors gives after (HasHonestStore K.state service.new) (IsServedBy K.state service.old) (IsServedBy K.state service.new)) }
+                L.came (doors_of ports) doors gives after (HasHonestStore K.state service.new) (IsServedBy K.state service.old) (IsServedBy K.state service.new)) }
             ensures before { WasHonest (K.state (store_in service.old)) (K.state (store_in service.new)) }
         { serve_machine(rt, alloc, service, gate, clock, ports, given) },
     );

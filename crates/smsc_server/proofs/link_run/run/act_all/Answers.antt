@@ -1,4 +1,7 @@
-use Rattle.std.proofs.Common.{◌≡◌, ◌+◌, List, [], ◌∷◌, ◌++◌, map, drop, refl, sym, ap, ◌∙◌, append_assoc}
+use Rattle.std.proofs.Common.{◌≡◌, ◌+◌, List, [], ◌∷◌, ◌++◌, map, drop, refl, sym, ap, subst, ◌∙◌, append_assoc, append-nil, arith}
+use Rattle.std.proofs.Math.ListN.{drop_of_length-le}
+use Rattle.sms_handset.specs.declared.event.HandsetEvent.{HandsetEvent}
+use Rattle.smsc_server.specs.link_run.Turns.{AreTimed}
 use Rattle.sms_handset.specs.declared.event.HandsetEvent.TheVariants.{Tick}
 use Rattle.sms_script.specs.declared.owner.act.OwnersAct.{OwnersAct}
 use Rattle.smsc_server.specs.link_run.Asking.{event_of}
@@ -30,4 +33,9 @@ loop-asked-preserved g c =
 
 pub returns : goal.returns
 returns g c =
-    let l = c.loop-asked.invariant in l
+    let l = c.loop-asked.invariant in
+    let acts = c.args.acts.now in
+    let all : l.0 ≡ map event_of acts =
+    sym (append-nil l.0)
+    ∙ (ap (λ (k : List OwnersAct). l.0 ++ map event_of k) (sym (drop_of_length-le acts (omega (arith, c.loop-asked-test.false)))) ∙ l.2.0) in
+    (l.1, subst (λ (k : List HandsetEvent). AreTimed (g.C.Clock.reads c.args.clock.now) k l.1) all l.2.1, l.2.2)

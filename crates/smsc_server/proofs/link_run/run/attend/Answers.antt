@@ -8,11 +8,8 @@ pub loop-preserved : goal.loop-preserved
 loop-preserved g c =
     let met = c.in_ok-left.ensures in
     attended_more _ _ _ _ _ _ _ _ _ _ _ _
-    (record { now = c.now.result; shown = c.now.ensures; octets = met.1; few = met.2.0; frames = met.0 })
+    (record { now = c.now-now.result; shown = c.now-now.ensures; octets = met.1; few = met.2.0; frames = met.0 })
     c.loop.invariant met.2.1 met.2.2 met.2.3
-
-pub returns-then-eq : goal.returns-then-eq
-returns-then-eq g c = (_, c.loop.invariant)
 
 pub returns : goal.returns
 returns g c = (_, c.loop.invariant)

@@ -20,7 +20,7 @@ returns-clause-did g c = λ start entered.
     let shared = c.take_back_all.ensures.shared in
     let kept = c.take_back_all.ensures.giver in
     let settled = c.settle_all.ensures in
-    let all = closed g.L.Door.came start c.args.entrance _ entered shared (kept.0 ∙ (settled.giver.0 ∙ c.requires.ways.1)) (kept.1 ∙ settled.giver.1) in (
+    let all = closed g.L.Door.came start c.args.entrance c.take_back_all.new.giver entered shared (kept.0 ∙ (settled.giver.0 ∙ c.requires.ways.1)) (kept.1 ∙ settled.giver.1) in (
       all.0,
       all.1,
       λ admitted have n less.

@@ -8,7 +8,7 @@ use Rattle.smsc_server.proofs.serving.Threads.{at_kept, ways_kept}
 use Rattle.smsc_server.proofs.serving.run.run_started.Goals as goal
 
 pub close_all-requires-clause-seats : goal.close_all-requires-clause-seats
-close_all-requires-clause-seats g c =
+close_all-requires-clause-seats g c = λ lifetimes bounds.
     let k = c.args.keeper in
     let ran = c.run_keeper-ended.new.keeper in
     let known = c.know_others.new.self in
@@ -17,19 +17,19 @@ close_all-requires-clause-seats g c =
     (subst (λ (v : Vec (SeatThread g.row.S.Denot) Global). AreAt k v.items) (sym c.end-threads.ensures) c.requires.seats))
 
 pub close_all-requires-clause-closed : goal.close_all-requires-clause-closed
-close_all-requires-clause-closed g c = closed_kept c.run_keeper-ended.new.keeper c.know_others.new.self c.know_others.ensures.keeper c.in-Ok.ensures.closed
+close_all-requires-clause-closed g c = λ lifetimes bounds. closed_kept c.run_keeper-ended.new.keeper c.know_others.new.self c.know_others.ensures.keeper c.in-Ok.ensures.closed
 
 pub close_all-requires-clause-count : goal.close_all-requires-clause-count
-close_all-requires-clause-count g c = (
+close_all-requires-clause-count g c = λ lifetimes bounds. (
   ap (λ (v : Vec (SeatThread g.row.S.Denot) Global). length v.items) c.end-threads.ensures ∙ c.requires.count,
   keeper_count _ _ _ _ _ _ c.args.keeper c.run_keeper-ended.new.keeper c.know_others.new.self c.requires.new c.in-Ok.ensures.ran c.in-Ok.ensures.closed
       c.know_others.ensures.keeper,
 )
 
 pub close_all-requires-clause-ways : goal.close_all-requires-clause-ways
-close_all-requires-clause-ways g c =
+close_all-requires-clause-ways g c = λ lifetimes bounds.
     let h = c.join-entrance.ensures.1 in (
-      ways_kept _ _ _ h.same (subst (λ (v : Vec (SeatThread g.row.S.Denot) Global). AreWays c.args.entrance.promise.entrance.value.giver v.items) (sym c.end-threads.ensures) c.requires.ways),
+      ways_kept c.args.entrance.promise.entrance.value.giver c.join-entrance.result.giver c.end-threads.result.items h.same (subst (λ (v : Vec (SeatThread g.row.S.Denot) Global). AreWays c.args.entrance.promise.entrance.value.giver v.items) (sym c.end-threads.ensures) c.requires.ways),
       h.made ∙ c.requires.made.0,
       h.settled ∙ c.requires.made.1,
     )

@@ -12,7 +12,7 @@ pub run_started-requires-clause-count : goal.run_started-requires-clause-count
 run_started-requires-clause-count g c = λ lifetimes bounds. threads_count _ _ _ c.in-Ok.ensures.seats.1.threads_so ∙ c.in_ok-keeper.ensures.count
 
 pub run_started-requires-clause-ways : goal.run_started-requires-clause-ways
-run_started-requires-clause-ways g c = λ lifetimes bounds. ways_kept _ _ _ c.in-Ok.ensures.seats.2.same c.in-Ok.ensures.seats.1.ways
+run_started-requires-clause-ways g c = λ lifetimes bounds. let h = c.in-Ok.ensures.seats in ways_kept h.0 c.in-Ok.entrance.promise.entrance.value.giver _ h.2.same h.1.ways
 
 pub run_started-requires-clause-made : goal.run_started-requires-clause-made
 run_started-requires-clause-made g c = λ lifetimes bounds.

@@ -1,10 +1,11 @@
-use Rattle.std.proofs.Common.{◌≡◌, ◌<◌, ◌++◌, ◌∷◌, [], ◌∙◌, ℕ, List, Option, length, refl, sym, ap, subst, arith}
+use Rattle.std.proofs.Common.{◌≡◌, ◌+◌, ◌<◌, ◌++◌, ◌∷◌, [], ◌∙◌, ℕ, List, Option, length, refl, sym, ap, subst, arith}
 use Rattle.std.specs.Vec.Iter.{into_iter_items}
 use Rattle.sms_keeper.specs.History.{for_seat, work}
 use Rattle.sms_keeper.specs.Keeping.{given_by, ran_by, seats_of}
 use Rattle.sms_keeper.proofs.Histories.{seat_kept}
 use Rattle.sms_seats.proofs.Places.{length_nil, length_snoc}
 use Rattle.sms_hub.proofs.Sessions.{unchanged_same, unchanged_trans}
+use Rattle.smsc_arrivals.specs.Ways.{made_by}
 use Rattle.smsc_arrivals.specs.declared.arrival.Arrival.{Arrival}
 use Rattle.smsc_server.specs.serving.Connections.{Admitted}
 use Rattle.smsc_server.specs.serving.Entering.{arrivals_among}
@@ -40,7 +41,8 @@ settle-requires-clause-next g c = let l = c.loop-thread.invariant in
 
 pub settle-requires-clause-made : goal.settle-requires-clause-made
 settle-requires-clause-made g c = let l = c.loop-thread.invariant in
-    let left = place_left _ _ _ _ _ (sym c.requires.made) (split_next _ _ _ _ _ l.split c.in-Some.ensures.steps.0) in
+    let left : length c.loop-thread.yielded < made_by c.args.giver.now =
+    place_left _ c.loop-thread.yielded _ c.in-Some.thread (made_by c.args.giver.now) (sym c.requires.made) (split_next _ _ _ _ _ l.split c.in-Some.ensures.steps.0) in
     let count = l.count in let made = l.made in omega (arith, left, count, made)
 
 pub loop-thread-preserved : goal.loop-thread-preserved

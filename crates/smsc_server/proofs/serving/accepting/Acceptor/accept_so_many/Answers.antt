@@ -6,6 +6,6 @@ loop-init g c = record { entered = λ start h. h; seats = seats_same _ }
 
 pub loop-preserved : goal.loop-preserved
 loop-preserved g c = record {
-  entered = λ start h. c.turn.ensures.entered start (c.loop.invariant.entered start h);
-  seats = seats_trans _ _ _ c.loop.invariant.seats c.turn.ensures.seats;
+  entered = λ start h. c.turn-is_left.ensures.entered start (c.loop.invariant.entered start h);
+  seats = seats_trans _ _ _ c.loop.invariant.seats c.turn-is_left.ensures.seats;
 }

@@ -7,7 +7,7 @@ pub loop-init : goal.loop-init
 loop-init g c = record { sat = sat_none g.S.Read.remaining g.S.Write.contents _ _ _; cleared = c.requires; same = taker_same _ }
 
 pub returns-in_default-clause-sat : goal.returns-in_default-clause-sat
-returns-in_default-clause-sat g c = sat_same g.S.Read.remaining g.S.Write.contents _ _ _ _ _ _ c.next_arrival.ensures.taken c.loop.invariant.sat
+returns-in_default-clause-sat g c = sat_same g.S.Read.remaining g.S.Write.contents _ _ _ _ _ _ c.in_default.ensures.taken c.loop.invariant.sat
 
 pub returns-in_default-clause-same : goal.returns-in_default-clause-same
 returns-in_default-clause-same g c = taker_trans _ _ _ c.loop.invariant.same c.next_arrival.ensures.same

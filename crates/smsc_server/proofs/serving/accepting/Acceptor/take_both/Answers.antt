@@ -1,5 +1,5 @@
 use Rattle.smsc_server.proofs.serving.Entered.{seats_trans}
-use Rattle.smsc_server.proofs.serving.accepting.Acceptor.took_none.Goals as goal
+use Rattle.smsc_server.proofs.serving.accepting.Acceptor.take_both.Goals as goal
 
 pub returns-clause-entered : goal.returns-clause-entered
 returns-clause-entered g c = λ start h. c.take-second.ensures.entered start (c.take-first.ensures.entered start h)
