@@ -98,7 +98,7 @@ fn print_handset(rt: &HostRuntime, path: &str) -> io::Result<()> {
 // Prints the messages that are asked for.
 fn print_shown(rt: &HostRuntime, asked: &ServerWords<'_>) -> io::Result<()> {
     match asked {
-        ServerWords::Show { store, filter } => print_centre(rt, *store, filter),
+        ServerWords::Show { store, filter, .. } => print_centre(rt, *store, filter),
         _ => println!(rt; "no look"),
     }
 }
