@@ -136,13 +136,19 @@ pub fn open<R: Clock + Copy>(
 // Puts an event behind the others, of which so many stay at most.
 fn keep_last(
     events: &mut VecDeque<PastEvent>,
-    past: PastEvent,
     most: usize,
+    place: u64,
+    moment: Moment,
+    event: &Event,
 ) -> Result<(), AllocError> {
     if events.len() >= most {
         let _ = events.pop_front();
     }
-    events.push_back(past)?;
+    events.push_back(PastEvent {
+        place,
+        moment,
+        event: *event,
+    })?;
     Ok(())
 }
 
@@ -281,16 +287,18 @@ impl<R: Wait + Clock> Pages<R> {
 
     // One more event. The oldest of its kind makes room for it.
     fn note(&mut self, event: &Event, moment: Moment) -> Result<(), AllocError> {
-        self.taken = self.taken.saturating_add(1);
-        let past = PastEvent {
-            place: self.taken,
-            moment,
-            event: *event,
-        };
+        let place = self.taken.saturating_add(1);
+        self.taken = place;
         if is_of_messages(event) {
-            keep_last(&mut self.of_messages, past, MOST_OF_MESSAGES)
+            keep_last(
+                &mut self.of_messages,
+                MOST_OF_MESSAGES,
+                place,
+                moment,
+                event,
+            )
         } else {
-            keep_last(&mut self.events, past, MOST_EVENTS)
+            keep_last(&mut self.events, MOST_EVENTS, place, moment, event)
         }
     }
 
