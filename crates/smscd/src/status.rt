@@ -133,25 +133,6 @@ pub fn open<R: Clock + Copy>(
     })
 }
 
-// Puts an event behind the others, of which so many stay at most.
-fn keep_last(
-    events: &mut VecDeque<PastEvent>,
-    most: usize,
-    place: u64,
-    moment: Moment,
-    event: &Event,
-) -> Result<(), AllocError> {
-    if events.len() >= most {
-        let _ = events.pop_front();
-    }
-    events.push_back(PastEvent {
-        place,
-        moment,
-        event: *event,
-    })?;
-    Ok(())
-}
-
 fn timed(alloc: Global, moment: Moment, text: &str) -> Result<String, AllocError> {
     let time = text_of(alloc, moment)?;
     Ok(format!(in alloc; "{time} {text}")?)
@@ -285,20 +266,45 @@ impl<R: Wait + Clock> Pages<R> {
         }
     }
 
-    // One more event. The oldest of its kind makes room for it.
+    // One more event of a message. The oldest of these makes room for it.
+    fn note_of_message(
+        &mut self,
+        place: u64,
+        event: &Event,
+        moment: Moment,
+    ) -> Result<(), AllocError> {
+        if self.of_messages.len() >= MOST_OF_MESSAGES {
+            let _ = self.of_messages.pop_front();
+        }
+        self.of_messages.push_back(PastEvent {
+            place,
+            moment,
+            event: *event,
+        })?;
+        Ok(())
+    }
+
+    // One more event of another kind. The oldest of these makes room for it.
+    fn note_other(&mut self, place: u64, event: &Event, moment: Moment) -> Result<(), AllocError> {
+        if self.events.len() >= MOST_EVENTS {
+            let _ = self.events.pop_front();
+        }
+        self.events.push_back(PastEvent {
+            place,
+            moment,
+            event: *event,
+        })?;
+        Ok(())
+    }
+
+    // One more event, behind all others.
     fn note(&mut self, event: &Event, moment: Moment) -> Result<(), AllocError> {
         let place = self.taken.saturating_add(1);
         self.taken = place;
         if is_of_messages(event) {
-            keep_last(
-                &mut self.of_messages,
-                MOST_OF_MESSAGES,
-                place,
-                moment,
-                event,
-            )
+            self.note_of_message(place, event, moment)
         } else {
-            keep_last(&mut self.events, MOST_EVENTS, place, moment, event)
+            self.note_other(place, event, moment)
         }
     }
 
