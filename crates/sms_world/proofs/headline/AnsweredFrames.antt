@@ -1,5 +1,5 @@
--- While frames come in time, what a handset counts as sent was acknowledged, and an acknowledgement that goes up for an entry answers a frame
--- of that entry which the centre took in.
+-- While frames come in time, what a handset counts as sent was acknowledged. Such an acknowledgement answers a frame of the entry, and the
+-- centre took that in.
 use Rattle.std.proofs.Common.{◌≡◌, ℕ, List, [], ◌∷◌, ◌++◌, Bool, true, false, cond, refl, sym, ◌∙◌, ap, subst, inl, inr, ⊎_elim, Ok, Err, eqb-true}
 use Rattle.std.specs.Prelude.{◌⊎◌, ◌==◌}
 use Rattle.std.proofs.lemmas.Bool.{and_parts}

@@ -37,8 +37,8 @@ pub record References (c : PlayState) : Type 0 where
   pub given : GivenOnce c.given
 
 -- A submit_sm that was answered with a number is a message in the table. Each STATUS-REPORT among the frames is of a status report that is
--- listed. No request was answered ESME_RSYSERR. Of each event of the run it is said that each
--- deliver_sm is of a receipt that is listed, and goes to a session of its account.
+-- listed. No request was answered ESME_RSYSERR. Each event of the run says of each deliver_sm that its receipt is listed, and that it goes to
+-- its account.
 pub record Confirmed (report : Report) : Type 0 where
   pub messages : ConfirmedAreThere report
   pub status_reports : StatusReportsAreListed report

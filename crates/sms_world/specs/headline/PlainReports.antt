@@ -14,7 +14,7 @@ abbrev pub ReportsOf : Setup → List WorldEvent → (ℕ → Report) → Type 0
 ReportsOf setup events after = (some others : List WorldEvent) → events ≡ some ++ others → play_of setup some ≡ Ok (after (length some))
 
 -- The report is the last of them, and they have the plain headline with what breaks a premise. What handsets sent for entries are their
--- owners' texts, whatever became of it: that is said over octets, so it is no field of the plain headline.
+-- owners' texts, whatever became of it. That is said over octets, so it is no field of the plain headline.
 pub record IsPlain (setup : Setup) (events : List WorldEvent) (report : Report) (broken : Option Broken) : Type 0 where
   pub after : ℕ → Report
   pub each : ReportsOf setup events after

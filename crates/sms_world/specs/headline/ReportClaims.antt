@@ -25,8 +25,8 @@ use Rattle.sms_tpdu.specs.declared.down.Down.TheVariants.{StatusReport}
 use Rattle.sms_tpdu.specs.declared.status_report.StatusReport.{StatusReport as StatusReportOf}
 use Rattle.sms_world.specs.headline.SeenFrames.{octets_down}
 
--- It gives back the reference of the SUBMIT (TP-MR) and names the recipient (TP-RA), by which the handset that sent the message tells which it
--- is. It says when the centre took the message (TP-SCTS), when it ended (TP-DT), and how (TP-ST).
+-- It gives back the reference of the SUBMIT (TP-MR) and names the recipient (TP-RA). By these its handset tells which message it is of. It
+-- says when the centre took the message (TP-SCTS), when it ended (TP-DT), and how (TP-ST).
 pub record SaysOf (m : MessageRow) (s : StatusReportOf) : Type 0 where
   pub reference : m.originator ≡ Handset s.message_reference
   pub recipient : s.recipient_address ≡ own_address m.handset
