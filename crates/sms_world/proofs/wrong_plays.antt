@@ -1,0 +1,12 @@
+pub mod NoMessage
+pub mod LinesMoved
+pub mod HeldTwice
+pub mod StatusRead
+pub mod NotConfirmed
+pub mod ReportTold
+pub mod NotDelivered
+pub mod NotSent
+pub mod NotJoined
+pub mod NotShown
+pub mod NotHappened
+pub mod NotFrom

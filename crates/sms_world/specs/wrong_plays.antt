@@ -1,0 +1,4 @@
+pub mod Plays
+pub mod Told
+pub mod Shown
+pub mod Happened
