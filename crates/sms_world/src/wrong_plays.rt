@@ -2,6 +2,8 @@
 //!
 //! Each clause is about one small literal play state or report (`specs/wrong_plays`). So each claim over rows is seen to
 //! refuse a wrong one, as those over lines are in `crate::wrong_reports`.
+ghost use Rattle.sms_world.specs.wrong_plays.Happened.{CancelledAgainLaw, CancelledAllTheSameLaw, FalseQueryLaw, FromQueryLaw, FromStoppedLaw, ImpossibleStepLaw, NotCancelledLaw, NotOfEventLaw, NotTakenInLaw, OtherIdLaw, OtherMomentLaw, OtherNumberLaw, OthersQueryLaw, QueryEndsLaw, ReceiptEarlyLaw, ReceiptNotListedLaw, ReceiptToOtherLaw, ReceiptToTransmitterLaw, ReceiptUnboundLaw, ReceiptUndatedLaw, RightQueryLaw, RightReceiptLaw};
+ghost use Rattle.sms_world.specs.wrong_plays.Shown.{AcceptedUnknownLaw, BeginningLaw, EntryUnknownLaw, FrameSaysNothingLaw, FrameUnknownLaw, GivenUnknownLaw, GivenUpUnknownLaw, GivenWithoutRowLaw, HolderWithoutRowLaw, MessageUnknownLaw, MessageWithoutRowLaw, NotApartLaw, OpenReportLaw, PartNotGivenLaw, PartUnknownLaw, ReceiptUnknownLaw, ReceiptUnlistedLaw};
 ghost use Rattle.sms_world.specs.wrong_plays.Told.{AcceptedTwiceLaw, FromNoneLaw, GivenTwiceLaw, HeldTwiceLaw, JoinedOfNoneLaw, LineGoneLaw, LineOfNoneLaw, LinesLaw, NeverAcceptedLaw, NobodysLaw, NotGivenLaw, NotListedLaw, NotThereLaw, OtherEndLaw, OtherStateLaw, OtherTextLaw, PartTwiceLaw, ReceiptGoneLaw, ReceiptOfNoneLaw, RightToldLaw, SentElsewhereLaw, SentOfNoneLaw, SplitOfNoneLaw, SystemErrorLaw, ToRecipientLaw, ToldEarlyLaw, ToldOfNoneLaw, TwoReceiptsLaw};
 
 /// A report with a message that nobody submitted. Such a message comes from no event.
@@ -65,4 +67,69 @@ pub fn entries_sent_to_nobody_are_refused()
 pub fn texts_joined_of_nothing_are_refused()
     ensures round { JoinedOfNoneLaw }
     ensures text { SplitOfNoneLaw }
+{}
+
+/// The beginning shows the empty world. A play state does not show a world that lacks one of its messages, parts, receipts, entries,
+/// references or frames, or what a handset accepted. It does not show one that has a message, a receipt, an open status report
+/// or a giving more. No two of its handsets have one number.
+pub fn other_worlds_are_not_shown()
+    ensures beginning { BeginningLaw }
+    ensures message { MessageUnknownLaw }
+    ensures row { MessageWithoutRowLaw }
+    ensures part { PartUnknownLaw }
+    ensures receipt { ReceiptUnknownLaw }
+    ensures listed { ReceiptUnlistedLaw }
+    ensures opened { OpenReportLaw }
+    ensures accepted { AcceptedUnknownLaw }
+    ensures entry { EntryUnknownLaw }
+    ensures apart { NotApartLaw }
+    ensures given { GivenUnknownLaw }
+    ensures recorded { GivenWithoutRowLaw }
+    ensures holder { HolderWithoutRowLaw }
+    ensures reference { PartNotGivenLaw }
+    ensures up { GivenUpUnknownLaw }
+    ensures frame { FrameUnknownLaw }
+    ensures octets { FrameSaysNothingLaw }
+{}
+
+/// A query_sm that deletes a message, and the deletion of one that is not there. A submit_sm that was answered with a number, and of
+/// which nothing was taken in. A first message with another number than the next.
+pub fn wrong_steps_are_refused()
+    ensures event { NotOfEventLaw }
+    ensures possible { ImpossibleStepLaw }
+    ensures taken { NotTakenInLaw }
+    ensures number { OtherNumberLaw }
+{}
+
+/// A query_sm that finds the state of the account's message is admitted. One that finds another state is refused, one of another's message, and one
+/// that ends it. So is a cancel_sm that was answered ESME_ROK and deletes nothing, or a message that had ended, and one that was refused and deletes.
+pub fn wrong_requests_are_refused()
+    ensures right { RightQueryLaw }
+    ensures state { FalseQueryLaw }
+    ensures own { OthersQueryLaw }
+    ensures same { QueryEndsLaw }
+    ensures cancelled { NotCancelledLaw }
+    ensures pending { CancelledAgainLaw }
+    ensures refused { CancelledAllTheSameLaw }
+{}
+
+/// A deliver_sm of a listed receipt, in a session of the account that submitted its message, is admitted. One of a message under way is refused, one
+/// without a date, and one that is not listed. So is one in a session that is not bound, that only transmits, or that is another account's.
+pub fn wrong_deliver_sms_are_refused()
+    ensures right { RightReceiptLaw }
+    ensures ended { ReceiptEarlyLaw }
+    ensures done { ReceiptUndatedLaw }
+    ensures listed { ReceiptNotListedLaw }
+    ensures bound { ReceiptUnboundLaw }
+    ensures receives { ReceiptToTransmitterLaw }
+    ensures account { ReceiptToOtherLaw }
+{}
+
+/// A message is not from a query_sm, nor from a submission that was stopped before its store call. It is not from a submit_sm of another
+/// moment, or under another number than the next.
+pub fn wrong_origins_are_refused()
+    ensures query { FromQueryLaw }
+    ensures stopped { FromStoppedLaw }
+    ensures moment { OtherMomentLaw }
+    ensures number { OtherIdLaw }
 {}

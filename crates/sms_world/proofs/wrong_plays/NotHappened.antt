@@ -74,8 +74,15 @@ named = record {
 abbrev found : MessageState → List Answer
 found state = record { event = 1; answered = Found state } ∷ []
 
+abbrev answered_first : List Answer → Answered
+answered_first [] = Found Enroute
+answered_first (a ∷ answers) = a.answered
+
+found_state : (a b : MessageState) → Found a ≡ Found b → a ≡ b
+found_state a b e = cc
+
 same_state : (a b : MessageState) → found a ≡ found b → a ≡ b
-same_state a b e = cc
+same_state a b e = found_state a b (ap answered_first e)
 
 pub right_query : RightQueryLaw
 right_query = record { same = refl; found = λ state e. (from_application, (named, same_state (Final Delivered) state e)) }
