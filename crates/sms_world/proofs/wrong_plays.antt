@@ -10,3 +10,6 @@ pub mod NotJoined
 pub mod NotShown
 pub mod NotHappened
 pub mod NotFrom
+pub mod WholePlay
+pub mod NotSubmitted
+pub mod NotSentUp

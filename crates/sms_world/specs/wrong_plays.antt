@@ -2,3 +2,5 @@ pub mod Plays
 pub mod Told
 pub mod Shown
 pub mod Happened
+pub mod Played
+pub mod SentUp

@@ -3,6 +3,8 @@
 //! Each clause is about one small literal play state or report (`specs/wrong_plays`). So each claim over rows is seen to
 //! refuse a wrong one, as those over lines are in `crate::wrong_reports`.
 ghost use Rattle.sms_world.specs.wrong_plays.Happened.{CancelledAgainLaw, CancelledAllTheSameLaw, FalseQueryLaw, FromQueryLaw, FromStoppedLaw, ImpossibleStepLaw, NotCancelledLaw, NotOfEventLaw, NotTakenInLaw, OtherIdLaw, OtherMomentLaw, OtherNumberLaw, OthersQueryLaw, QueryEndsLaw, ReceiptEarlyLaw, ReceiptNotListedLaw, ReceiptToOtherLaw, ReceiptToTransmitterLaw, ReceiptUnboundLaw, ReceiptUndatedLaw, RightQueryLaw, RightReceiptLaw};
+ghost use Rattle.sms_world.specs.wrong_plays.Played.{LateAloneLaw, LateFrameLaw, LostPartLaw, LostTextLaw, NoReceiptLaw, NotAnsweredLaw, OnePartMoreLaw, OtherHandsetLaw, OtherLimitLaw, OtherOriginatorLaw, OtherProtocolLaw, OtherSourceLaw, OtherSplitLaw, OtherReportLaw, OtherWishLaw, RightFreshLaw, RightReportLaw, RightTimelyLaw, ShortLaw, StaleAloneLaw};
+ghost use Rattle.sms_world.specs.wrong_plays.SentUp.{AloneLaw, CommonLaw, FrameLaw, HandsetLaw, NextLaw, OwnersLaw, ReferenceLaw, RightLaw, SentByOtherLaw, SentOtherTextLaw, SourceLaw, SubmittedTextLaw, TakersLaw, TextLaw, WishLaw};
 ghost use Rattle.sms_world.specs.wrong_plays.Shown.{AcceptedUnknownLaw, BeginningLaw, EntryUnknownLaw, FrameSaysNothingLaw, FrameUnknownLaw, GivenUnknownLaw, GivenUpUnknownLaw, GivenWithoutRowLaw, HolderWithoutRowLaw, MessageUnknownLaw, MessageWithoutRowLaw, NotApartLaw, OpenReportLaw, PartNotGivenLaw, PartUnknownLaw, ReceiptUnknownLaw, ReceiptUnlistedLaw};
 ghost use Rattle.sms_world.specs.wrong_plays.Told.{AcceptedTwiceLaw, FromNoneLaw, GivenTwiceLaw, HeldTwiceLaw, JoinedOfNoneLaw, LineGoneLaw, LineOfNoneLaw, LinesLaw, NeverAcceptedLaw, NobodysLaw, NotGivenLaw, NotListedLaw, NotThereLaw, OtherEndLaw, OtherStateLaw, OtherTextLaw, PartTwiceLaw, ReceiptGoneLaw, ReceiptOfNoneLaw, RightToldLaw, SentElsewhereLaw, SentOfNoneLaw, SplitOfNoneLaw, SystemErrorLaw, ToRecipientLaw, ToldEarlyLaw, ToldOfNoneLaw, TwoReceiptsLaw};
 
@@ -132,4 +134,64 @@ pub fn wrong_origins_are_refused()
     ensures stopped { FromStoppedLaw }
     ensures moment { OtherMomentLaw }
     ensures number { OtherIdLaw }
+{}
+
+/// A script submits a text, and hands over its DELIVER and the acknowledgement. Its report has the headline, and its events keep both premises. The report with
+/// another state of the message is refused, and the one without its receipt. So is a play in which a query_sm has no answer.
+pub fn other_reports_of_a_play_are_refused()
+    ensures right { RightReportLaw }
+    ensures timely { RightTimelyLaw }
+    ensures fresh { RightFreshLaw }
+    ensures state { OtherReportLaw }
+    ensures receipt { NoReceiptLaw }
+    ensures answered { NotAnsweredLaw }
+{}
+
+/// A frame whose reference was given to another message since is late. It is not late of a play state alone, and a submission is not stale
+/// of the world alone.
+pub fn premises_of_one_side_are_refused()
+    ensures late { LateFrameLaw }
+    ensures timely { LateAloneLaw }
+    ensures fresh { StaleAloneLaw }
+{}
+
+/// A message of another account, source, handset, protocol identifier, wish or limit than its submission. One that is marked as split and fits one
+/// part. One that has lost its part, or has one more. As a split text, one that one part holds, and one that has no parts.
+pub fn other_messages_than_submitted_are_refused()
+    ensures originator { OtherOriginatorLaw }
+    ensures source { OtherSourceLaw }
+    ensures handset { OtherHandsetLaw }
+    ensures protocol { OtherProtocolLaw }
+    ensures wish { OtherWishLaw }
+    ensures limit { OtherLimitLaw }
+    ensures split { OtherSplitLaw }
+    ensures each { LostPartLaw }
+    ensures only { OnePartMoreLaw }
+    ensures long { ShortLaw }
+    ensures carried { LostTextLaw }
+{}
+
+/// The message of a SUBMIT in a frame that a handset sent is admitted. One under another number is refused, one of a frame that was not sent, and
+/// one with another reference, source, wish, handset or text than the SUBMIT, or with a part more.
+pub fn other_messages_than_sent_are_refused()
+    ensures right { RightLaw }
+    ensures next { NextLaw }
+    ensures frame { FrameLaw }
+    ensures reference { ReferenceLaw }
+    ensures source { SourceLaw }
+    ensures wish { WishLaw }
+    ensures handset { HandsetLaw }
+    ensures alone { AloneLaw }
+    ensures text { TextLaw }
+{}
+
+/// An entry that counts as sent, whose message is from another handset or has another text. An application's message with another text than was
+/// submitted. A SUBMIT for an entry that no event wrote. One part in two joined texts. One who accepts, and is no handset.
+pub fn texts_of_nobody_are_refused()
+    ensures source { SentByOtherLaw }
+    ensures sent { SentOtherTextLaw }
+    ensures submitted { SubmittedTextLaw }
+    ensures owners { OwnersLaw }
+    ensures common { CommonLaw }
+    ensures takers { TakersLaw }
 {}
