@@ -102,8 +102,8 @@ pub others_query : OthersQueryLaw
 others_query q =
     let x = q.found (Final Delivered) refl in
     no_truth
-        (ap (λ (m : MessageRow). is_account x.1.0.account.name m.originator) (only_row x.1.0.number (record from_writer { id = 1 }) x.0 x.1.0.there)
-        ∙ x.1.0.own)
+    (ap (λ (m : MessageRow). is_account x.1.0.account.name m.originator) (only_row x.1.0.number (record from_writer { id = 1 }) x.0 x.1.0.there)
+    ∙ x.1.0.own)
 
 no_end : (state : FinalState) → None ≡ Some state → ⊥
 no_end state e = absurd cc
@@ -120,7 +120,7 @@ not_cancelled c =
     let x = c.done refl in
     let m : pending from_application ≡ x.0 = only_row x.1.0.number (pending from_application) x.0 x.1.0.there in
     let q : pending from_application ∷ [] ≡ put message_key (ended Deleted 946684800 (pending from_application)) (pending from_application ∷ []) =
-        x.1.2 ∙ ap (λ (z : MessageRow). put message_key (ended Deleted 946684800 z) (pending from_application ∷ [])) (sym m) in
+    x.1.2 ∙ ap (λ (z : MessageRow). put message_key (ended Deleted 946684800 z) (pending from_application ∷ [])) (sym m) in
     no_end Deleted (ap first_state q)
 
 pub cancelled_again : CancelledAgainLaw
@@ -182,6 +182,6 @@ pub receipt_to_other : ReceiptToOtherLaw
 receipt_to_other r = ⊎_elim
     (λ (e : r.session ≡ session source).
     no_truth
-        (ap (λ (z : MessageRow). is_account source z.originator) (only_row 1 from_application r.message r.there)
-        ∙ (sym (ap (λ (z : Session). is_account z.account r.message.originator) e) ∙ r.account)))
+    (ap (λ (z : MessageRow). is_account source z.originator) (only_row 1 from_application r.message r.there)
+    ∙ (sym (ap (λ (z : Session). is_account z.account r.message.originator) e) ∙ r.account)))
     (λ (n : ⊥). n) r.bound

@@ -31,6 +31,7 @@ nothing_joins (suc (suc n)) content e = no_content content (sym (none n) ∙ e)
     no_parts : (n : ℕ) → parts_to (suc n) [] ≡ None
     no_parts zero = refl
     no_parts (suc n) = ap (λ (z : Option (List PartOf)). with_part z None) (no_parts n)
+
     none : (n : ℕ) → joined_content (suc (suc n)) [] ≡ None
     none n = ap (λ (z : Option (List PartOf)). joined_parts z) (no_parts (suc n))
 

@@ -15,7 +15,7 @@ pub elsewhere : SentElsewhereLaw
 elsewhere all =
     let x = all (party writer [] writers_core) entry (inl refl) (inl refl) refl in
     ⊎_elim
-        (λ (e : x.0 ≡ record from_writer { handset = writer }).
-        let q : 11 ≡ 12 = ap (λ (h : List ℕ). length h) (sym (ap (λ (m : MessageRow). m.handset) e) ∙ x.2.handset) in let l : ⊥ = omega (arith, q) in l)
-        (λ (n : ⊥). n)
-        x.2.there
+    (λ (e : x.0 ≡ record from_writer { handset = writer }).
+    let q : 11 ≡ 12 = ap (λ (h : List ℕ). length h) (sym (ap (λ (m : MessageRow). m.handset) e) ∙ x.2.handset) in let l : ⊥ = omega (arith, q) in l)
+    (λ (n : ⊥). n)
+    x.2.there

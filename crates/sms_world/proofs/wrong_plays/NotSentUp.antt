@@ -35,6 +35,7 @@ use Rattle.sms_world.proofs.wrong_reports.Read.{part, parts_read}
 use Rattle.sms_world.specs.headline.Origins.{IsDeliverFor, IsDeliverOfSubmit, IsOfHandset, part_numbered}
 use Rattle.sms_world.specs.headline.PlainWords.{numbered}
 use Rattle.sms_world.specs.headline.SeenFrames.{frame_tpdu}
+use Rattle.sms_world.specs.headline.SeenWorld.{user_data_in}
 use Rattle.sms_world.specs.wrong_plays.Plays.{entry, first, from_application, from_writer, part_one, part_two, party, setup, writers_core}
 use Rattle.sms_world.specs.wrong_plays.SentUp.{AloneLaw, CommonLaw, FrameLaw, HandsetLaw, NextLaw, OwnersLaw, ReferenceLaw, RightLaw, SentByOtherLaw, SentOtherTextLaw, SourceLaw, SubmittedTextLaw, TakersLaw, TextLaw, WishLaw, frame_up, from_up, other_deliver, part_up, sent_up}
 use Rattle.sms_world.specs.wrong_reports.Literals.{deliver, handset, hello_octets, other_octets, source, writer}
@@ -110,8 +111,11 @@ application_reads = refl
 same_deliver : (d e : DeliverOf) → ReadsDown (Ok (DeliverDown d)) e → d ≡ e
 same_deliver d e q = cc
 
+octets_differ : other_octets ≡ hello_octets → ⊥
+octets_differ e = absurd cc
+
 texts_differ : text other_octets ≡ text hello_octets → ⊥
-texts_differ e = absurd cc
+texts_differ e = octets_differ (ap (λ (u : UserData). u.octets) e)
 
 -- ---- a message from a handset
 
@@ -182,9 +186,9 @@ pub other_text : TextLaw
 other_text o =
     let p : record part_up { tpdu = other_deliver } ≡ o.part = o.alone (record part_up { tpdu = other_deliver }) (inl refl) refl in
     let d : record delivered { user_data = text other_octets } ≡ o.carries.deliver =
-        same_deliver _ o.carries.deliver (sym other_reads ∙ (ap (λ (z : PartRow). down_at InData (compared z.tpdu)) p ∙ o.carries.reads)) in
+    same_deliver _ o.carries.deliver (sym other_reads ∙ (ap (λ (z : PartRow). down_at InData (compared z.tpdu)) p ∙ o.carries.reads)) in
     texts_differ
-        (ap (λ (z : DeliverOf). z.user_data) d ∙ (o.carries.user_data ∙ ap (λ (s : SubmitOf). s.user_data) (sym (submit_is _ _ o))))
+    (ap (λ (z : DeliverOf). z.user_data) d ∙ (o.carries.user_data ∙ ap (λ (s : SubmitOf). s.user_data) (sym (submit_is _ _ o))))
 
 -- ---- an entry that counts as sent
 
@@ -192,17 +196,13 @@ pub sent_by_other : SentByOtherLaw
 sent_by_other all =
     let x = all (party writer [] writers_core) entry (inl refl) (inl refl) refl in
     ⊎_elim
-        (λ (e : x.0 ≡ record from_writer { source = own_address handset }).
-        let q : 12 ≡ 11 = ap (λ (h : List ℕ). length h) (sym (ap (λ (m : MessageRow). m.source.digits) e) ∙ x.2.source) in let l : ⊥ = omega (arith, q) in l)
-        (λ (n : ⊥). n)
-        x.2.there
+    (λ (e : x.0 ≡ record from_writer { source = own_address handset }).
+    let q : 12 ≡ 11 = ap (λ (h : List ℕ). length h) (sym (ap (λ (m : MessageRow). m.source.digits) e) ∙ x.2.source) in let l : ⊥ = omega (arith, q) in l)
+    (λ (n : ⊥). n)
+    x.2.there
 
 abbrev ReadsSubmit : Result SubmitOf TpduFault → SubmitOf → Type 0
 ReadsSubmit found s = found ≡ Ok s
-
-abbrev data_in : Result SubmitOf TpduFault → UserData
-data_in (Ok s) = s.user_data
-data_in (Err fault) = text []
 
 entry_reads : ReadsSubmit (submit_at entry.tpdu) written
 unfolding everything
@@ -212,11 +212,11 @@ pub sent_other_text : SentOtherTextLaw
 sent_other_text all =
     let x = all (party writer [] writers_core) entry (inl refl) (inl refl) refl in
     let p : record part_two { tpdu = other_deliver } ≡ x.1 = ⊎_elim
-        (λ (e : x.1 ≡ record part_two { tpdu = other_deliver }). sym e) (λ (n : ⊥). absurd n) x.2.part_there in
+    (λ (e : x.1 ≡ record part_two { tpdu = other_deliver }). sym e) (λ (n : ⊥). absurd n) x.2.part_there in
     let its = x.2.submitted.2.2 in
     let d : record delivered { user_data = text other_octets } ≡ its.deliver =
-        same_deliver _ its.deliver (sym other_reads ∙ (ap (λ (z : PartRow). down_at InData (compared z.tpdu)) p ∙ its.reads)) in
-    texts_differ (ap (λ (z : DeliverOf). z.user_data) d ∙ (its.user_data ∙ ap data_in entry_reads))
+    same_deliver _ its.deliver (sym other_reads ∙ (ap (λ (z : PartRow). down_at InData (compared z.tpdu)) p ∙ its.reads)) in
+    texts_differ (ap (λ (z : DeliverOf). z.user_data) d ∙ (its.user_data ∙ ap user_data_in entry_reads))
 
 -- ---- an application's message
 
@@ -229,7 +229,7 @@ submitted_text s =
     let p : record part_one { tpdu = deliver other_octets } ≡ x.0 = same_part _ x.0 x.1.0 in
     let its = x.1.1 in
     let d : record delivered { originating_address = own_address source; user_data = text other_octets } ≡ its.deliver =
-        same_deliver _ its.deliver (sym application_reads ∙ (ap (λ (z : PartRow). down_at InData (compared z.tpdu)) p ∙ its.reads)) in
+    same_deliver _ its.deliver (sym application_reads ∙ (ap (λ (z : PartRow). down_at InData (compared z.tpdu)) p ∙ its.reads)) in
     texts_differ (ap (λ (z : DeliverOf). z.user_data) d ∙ its.user_data)
 
 -- ---- what nobody accepted, joined twice or wrote
@@ -238,13 +238,13 @@ pub takers : TakersLaw
 takers s =
     let x = s.takers (record { handset = source; reference = 0; tpdu = [] }) (inl refl) in
     ⊎_elim
-        (λ (e : x.0 ≡ party handset [] _).
-        let q : 12 ≡ 8 = ap (λ (h : List ℕ). length h) (sym (ap (λ (z : Party). z.number) e) ∙ x.1.1) in let l : ⊥ = omega (arith, q) in l)
-        (λ (o : (x.0 ≡ party writer [] _) ⊎ ⊥). ⊎_elim
-            (λ (e : x.0 ≡ party writer [] _).
-            let q : 11 ≡ 8 = ap (λ (h : List ℕ). length h) (sym (ap (λ (z : Party). z.number) e) ∙ x.1.1) in let l : ⊥ = omega (arith, q) in l)
-            (λ (n : ⊥). n) o)
-        x.1.0
+    (λ (e : x.0 ≡ party handset [] _).
+    let q : 12 ≡ 8 = ap (λ (h : List ℕ). length h) (sym (ap (λ (z : Party). z.number) e) ∙ x.1.1) in let l : ⊥ = omega (arith, q) in l)
+    (λ (o : (x.0 ≡ party writer [] _) ⊎ ⊥). ⊎_elim
+    (λ (e : x.0 ≡ party writer [] _).
+    let q : 11 ≡ 8 = ap (λ (h : List ℕ). length h) (sym (ap (λ (z : Party). z.number) e) ∙ x.1.1) in let l : ⊥ = omega (arith, q) in l)
+    (λ (n : ⊥). n) o)
+    x.1.0
 
 pub common : CommonLaw
 common x none = none.0 (x ∷ []) x (inl refl) (inl refl) (inl refl)

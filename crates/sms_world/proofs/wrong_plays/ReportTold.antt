@@ -52,7 +52,7 @@ told_by : (f : FrameRow) (x : Carried) (s : StatusReportOf) → frame_to writer 
 told_by f x s e c k d =
     let ex : carried ≡ x = same_carried x (ap (λ (z : FrameRow). z.carried) e ∙ c) in
     let octets : down_at InData (octets_down Data (frame_to writer).octets) ≡ down_at InData (octets_down x.kind f.octets) =
-        ap (λ (z : FrameRow). down_at InData (octets_down Data z.octets)) e ∙ ap (λ (z : Carried). down_at InData (octets_down z.kind f.octets)) ex in
+    ap (λ (z : FrameRow). down_at InData (octets_down Data z.octets)) e ∙ ap (λ (z : Carried). down_at InData (octets_down z.kind f.octets)) ex in
     let es : says ≡ s = same_says s (sym reads ∙ (octets ∙ d)) in
     subst (λ (z : FrameRow). IsTold z x s) e (told_of x s ex es)
 
@@ -66,20 +66,20 @@ pub to_recipient : ToRecipientLaw
 to_recipient say =
     let x = say (frame_to handset) carried says (inl refl) refl refl refl reads in
     ⊎_elim
-        (λ (e : x.0 ≡ from_application). let q : 2 ≡ 1 = number 2 1 (x.1.1 ∙ ap (λ (m : MessageRow). ReportHolder m.id) e) in let l : ⊥ = omega (arith, q) in l)
-        (λ (o : (x.0 ≡ from_writer) ⊎ ⊥). ⊎_elim
-            (λ (e : x.0 ≡ from_writer).
-            let q : 12 ≡ 11 = ap (λ (h : List ℕ). length h) (x.1.2 ∙ ap (λ (m : MessageRow). m.source.digits) e) in let l : ⊥ = omega (arith, q) in l)
-            (λ (n : ⊥). n) o)
-        x.1.0
+    (λ (e : x.0 ≡ from_application). let q : 2 ≡ 1 = number 2 1 (x.1.1 ∙ ap (λ (m : MessageRow). ReportHolder m.id) e) in let l : ⊥ = omega (arith, q) in l)
+    (λ (o : (x.0 ≡ from_writer) ⊎ ⊥). ⊎_elim
+    (λ (e : x.0 ≡ from_writer).
+    let q : 12 ≡ 11 = ap (λ (h : List ℕ). length h) (x.1.2 ∙ ap (λ (m : MessageRow). m.source.digits) e) in let l : ⊥ = omega (arith, q) in l)
+    (λ (n : ⊥). n) o)
+    x.1.0
 
 pub told_of_none : ToldOfNoneLaw
 told_of_none say =
     let x = say (frame_to writer) carried says (inl refl) refl refl refl reads in
     ⊎_elim
-        (λ (e : x.0 ≡ from_application). let q : 2 ≡ 1 = number 2 1 (x.1.1 ∙ ap (λ (m : MessageRow). ReportHolder m.id) e) in let l : ⊥ = omega (arith, q) in l)
-        (λ (n : ⊥). n)
-        x.1.0
+    (λ (e : x.0 ≡ from_application). let q : 2 ≡ 1 = number 2 1 (x.1.1 ∙ ap (λ (m : MessageRow). ReportHolder m.id) e) in let l : ⊥ = omega (arith, q) in l)
+    (λ (n : ⊥). n)
+    x.1.0
 
 no_end : (state : FinalState) → None ≡ Some state → ⊥
 no_end state e = absurd cc
@@ -88,6 +88,6 @@ pub told_early : ToldEarlyLaw
 told_early say =
     let x = say (frame_to writer) carried says (inl refl) refl refl refl reads in
     ⊎_elim
-        (λ (e : x.0 ≡ pending from_writer). no_end x.1.3.state (sym (ap (λ (m : MessageRow). m.state) e) ∙ x.1.3.ended))
-        (λ (n : ⊥). n)
-        x.1.0
+    (λ (e : x.0 ≡ pending from_writer). no_end x.1.3.state (sym (ap (λ (m : MessageRow). m.state) e) ∙ x.1.3.ended))
+    (λ (n : ⊥). n)
+    x.1.0
