@@ -13,3 +13,4 @@ pub mod NotFrom
 pub mod WholePlay
 pub mod NotSubmitted
 pub mod NotSentUp
+pub mod PiecesJoined

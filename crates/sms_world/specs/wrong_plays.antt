@@ -4,3 +4,4 @@ pub mod Shown
 pub mod Happened
 pub mod Played
 pub mod SentUp
+pub mod Pieces

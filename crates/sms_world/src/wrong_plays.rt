@@ -3,6 +3,7 @@
 //! Each clause is about one small literal play state or report (`specs/wrong_plays`). So each claim over rows is seen to
 //! refuse a wrong one, as those over lines are in `crate::wrong_reports`.
 ghost use Rattle.sms_world.specs.wrong_plays.Happened.{CancelledAgainLaw, CancelledAllTheSameLaw, FalseQueryLaw, FromQueryLaw, FromStoppedLaw, ImpossibleStepLaw, NotCancelledLaw, NotOfEventLaw, NotTakenInLaw, OtherIdLaw, OtherMomentLaw, OtherNumberLaw, OthersQueryLaw, QueryEndsLaw, ReceiptEarlyLaw, ReceiptNotListedLaw, ReceiptToOtherLaw, ReceiptToTransmitterLaw, ReceiptUnboundLaw, ReceiptUndatedLaw, RightQueryLaw, RightReceiptLaw};
+ghost use Rattle.sms_world.specs.wrong_plays.Pieces.{EntryWithoutRowLaw, JoinedUnknownLaw, NoRoundLaw, ReportShutLaw, ReportUnknownLaw, ReportWithoutRowLaw, RightRoundLaw, TwoPartsLaw};
 ghost use Rattle.sms_world.specs.wrong_plays.Played.{LateAloneLaw, LateFrameLaw, LostPartLaw, LostTextLaw, NoReceiptLaw, NotAnsweredLaw, OnePartMoreLaw, OtherHandsetLaw, OtherLimitLaw, OtherOriginatorLaw, OtherProtocolLaw, OtherSourceLaw, OtherSplitLaw, OtherReportLaw, OtherWishLaw, RightFreshLaw, RightReportLaw, RightTimelyLaw, ShortLaw, StaleAloneLaw};
 ghost use Rattle.sms_world.specs.wrong_plays.SentUp.{AloneLaw, CommonLaw, FrameLaw, HandsetLaw, NextLaw, OwnersLaw, ReferenceLaw, RightLaw, SentByOtherLaw, SentOtherTextLaw, SourceLaw, SubmittedTextLaw, TakersLaw, TextLaw, WishLaw};
 ghost use Rattle.sms_world.specs.wrong_plays.Shown.{AcceptedUnknownLaw, BeginningLaw, EntryUnknownLaw, FrameSaysNothingLaw, FrameUnknownLaw, GivenUnknownLaw, GivenUpUnknownLaw, GivenWithoutRowLaw, HolderWithoutRowLaw, MessageUnknownLaw, MessageWithoutRowLaw, NotApartLaw, OpenReportLaw, PartNotGivenLaw, PartUnknownLaw, ReceiptUnknownLaw, ReceiptUnlistedLaw};
@@ -194,4 +195,22 @@ pub fn texts_of_nobody_are_refused()
     ensures owners { OwnersLaw }
     ensures common { CommonLaw }
     ensures takers { TakersLaw }
+{}
+
+/// A text that was joined of two parts, which were submitted and accepted, is admitted. It is refused where no reference was given to its parts. An entry
+/// that counts as sent is refused where its message has a part more.
+pub fn rounds_of_nothing_are_refused()
+    ensures right { RightRoundLaw }
+    ensures given { NoRoundLaw }
+    ensures alone { TwoPartsLaw }
+{}
+
+/// A play state does not show a world that lacks what a handset joined or a report, nor one with an entry or a receipt more. A status report that is not
+/// answered is open there.
+pub fn other_handsets_are_not_shown()
+    ensures joined { JoinedUnknownLaw }
+    ensures entry { EntryWithoutRowLaw }
+    ensures report { ReportUnknownLaw }
+    ensures row { ReportWithoutRowLaw }
+    ensures still { ReportShutLaw }
 {}
