@@ -1,7 +1,5 @@
 -- Two parts that are under way hold one reference at one handset.
-use Rattle.std.proofs.Common.{rules, arith, ◌≡◌, ℕ, zero, suc, List, [], ◌∷◌, Bool, true, false, refl, sym, ◌∙◌, ap, subst, inl, inr, ⊎_elim, Option, Some, None, ◌<◌, Result, Ok, Err}
-use Rattle.std.specs.Prelude.{◌⊎◌, ◌++◌}
-use Rattle.sms_base.specs.Among.{Among}
+use Rattle.std.proofs.Common.{◌≡◌, [], ◌∷◌, refl, inl, inr}
 use Rattle.sms_base.specs.declared.holder.Holder.TheVariants.{Part}
 use Rattle.sms_play.specs.PlayState.{PlayState}
 use Rattle.sms_world.specs.headline.Claims.{Holds}

@@ -1,10 +1,7 @@
 -- Lines and receipts that go, or change.
-use Rattle.std.proofs.Common.{rules, arith, ◌≡◌, ℕ, zero, suc, List, [], ◌∷◌, Bool, true, false, refl, sym, ◌∙◌, ap, subst, inl, inr, ⊎_elim, Option, Some, None, ◌<◌, Result, Ok, Err}
-use Rattle.std.specs.Prelude.{◌⊎◌, ◌++◌}
-use Rattle.sms_base.specs.Among.{Among}
+use Rattle.std.proofs.Common.{refl, sym, ◌∙◌, inl}
 use Rattle.sms_script.specs.declared.report.answers.MessageState.TheVariants.{Enroute, Final}
 use Rattle.sms_base.specs.declared.final_state.FinalState.TheVariants.{Delivered, Expired}
-use Rattle.sms_script.specs.declared.report.rows.ReportedMessage.{ReportedMessage}
 use Rattle.sms_world.proofs.wrong_reports.Apart.{delivered_is_not_expired, only_line}
 use Rattle.sms_world.proofs.wrong_reports.GivenTwice.{refused as given_is_refused}
 use Rattle.sms_world.proofs.wrong_reports.LineTwice.{refused as line_is_refused}

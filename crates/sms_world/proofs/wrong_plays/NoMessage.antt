@@ -1,7 +1,6 @@
 -- A message that nobody submitted is in no report of no events, and comes from none.
-use Rattle.std.proofs.Common.{rules, arith, ◌≡◌, ℕ, zero, suc, List, [], ◌∷◌, Bool, true, false, refl, sym, ◌∙◌, ap, subst, inl, inr, ⊎_elim, Option, Some, None, ◌<◌, Result, Ok, Err}
-use Rattle.std.specs.Prelude.{◌⊎◌, ◌++◌}
-use Rattle.sms_base.specs.Among.{Among}
+use Rattle.std.proofs.Common.{◌≡◌, List, [], ◌∷◌, refl, sym, ◌∙◌, ap, inl, Result, Ok}
+use Rattle.std.specs.Prelude.{◌++◌}
 use Rattle.sms_centre_rows.specs.declared.messages.message.MessageRow.{MessageRow}
 use Rattle.sms_centre_rows.specs.declared.messages.part.PartRow.{PartRow}
 use Rattle.sms_play.specs.PlayState.{PlayState}
@@ -10,12 +9,10 @@ use Rattle.sms_script.specs.declared.event.WorldEvent.{WorldEvent}
 use Rattle.sms_script.specs.declared.play_fault.PlayFault.{PlayFault}
 use Rattle.sms_script.specs.declared.report.Report.{Report}
 use Rattle.sms_script.specs.declared.report.answers.MessageState.TheVariants.{Enroute}
-use Rattle.sms_script.specs.declared.report.rows.ReportedMessage.{ReportedMessage}
 use Rattle.sms_world.specs.headline.Origins.{IsFrom}
 use Rattle.sms_world.specs.wrong_plays.Plays.{first, from_application, setup}
 use Rattle.sms_world.specs.wrong_plays.Told.{FromNoneLaw, LineOfNoneLaw, NobodysLaw, ReceiptOfNoneLaw}
 use Rattle.sms_world.specs.wrong_reports.Literals.{line, receipt}
-use Rattle.sms_script.specs.declared.report.rows.ReceiptRow.{ReceiptRow}
 
 abbrev Leads : Result PlayState PlayFault → PlayState → Type 0
 Leads found c = found ≡ Ok c

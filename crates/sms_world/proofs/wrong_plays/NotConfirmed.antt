@@ -1,7 +1,5 @@
 -- An answer of no message, a STATUS-REPORT that is not listed, and an answer ESME_RSYSERR.
-use Rattle.std.proofs.Common.{rules, arith, ◌≡◌, ℕ, zero, suc, List, [], ◌∷◌, Bool, true, false, refl, sym, ◌∙◌, ap, subst, inl, inr, ⊎_elim, Option, Some, None, ◌<◌, Result, Ok, Err}
-use Rattle.std.specs.Prelude.{◌⊎◌, ◌++◌}
-use Rattle.sms_base.specs.Among.{Among}
+use Rattle.std.proofs.Common.{refl, inl}
 use Rattle.smpp_pdu.specs.declared.status.CommandStatus.TheVariants.{ESME_RSYSERR}
 use Rattle.sms_script.specs.declared.report.answers.Answered.TheVariants.{Status}
 use Rattle.sms_world.proofs.wrong_plays.StatusRead.{carried, reads, says}

@@ -1,14 +1,12 @@
 -- A message that counts as delivered, and was not accepted as its row has it.
-use Rattle.std.proofs.Common.{rules, arith, ◌≡◌, ℕ, zero, suc, List, [], ◌∷◌, Bool, true, false, refl, sym, ◌∙◌, ap, subst, inl, inr, ⊎_elim, Option, Some, None, ◌<◌, Result, Ok, Err}
-use Rattle.std.specs.Prelude.{◌⊎◌, ◌++◌}
+use Rattle.std.proofs.Common.{◌≡◌, List, [], ◌∷◌, refl, ap, subst, inl, ⊎_elim}
 use Rattle.sms_base.specs.Among.{Among}
-use Rattle.sms_base.specs.declared.holder.Holder.TheVariants.{Part}
-use Rattle.sms_play.specs.PlayState.{Party, PlayState}
+use Rattle.sms_play.specs.PlayState.{Party}
 use Rattle.sms_play.specs.Premises.{pairs_of}
 use Rattle.sms_tpdu.specs.MoreMessages.{compared}
 use Rattle.sms_script.specs.declared.report.rows.AcceptedRow.{AcceptedRow}
-use Rattle.sms_world.specs.headline.Claims.{IsAcceptedOnce, pair_in_row}
-use Rattle.sms_world.specs.wrong_plays.Plays.{delivered, from_application, part_one, party, with_rows}
+use Rattle.sms_world.specs.headline.Claims.{pair_in_row}
+use Rattle.sms_world.specs.wrong_plays.Plays.{delivered, from_application, part_one, party}
 use Rattle.sms_world.specs.wrong_plays.Told.{AcceptedTwiceLaw, NeverAcceptedLaw, NotGivenLaw, OtherTextLaw, PartTwiceLaw}
 use Rattle.sms_world.specs.wrong_reports.Literals.{accepted, deliver, handset, hello_octets, other_octets}
 use Rattle.sms_world_model.specs.Groups.{OccursOnce}

@@ -1,7 +1,6 @@
 -- Events that a message is not from.
-use Rattle.std.proofs.Common.{rules, arith, ◌≡◌, ℕ, zero, suc, List, [], ◌∷◌, Bool, true, false, refl, sym, ◌∙◌, ap, subst, inl, inr, ⊎_elim, Option, Some, None, ◌<◌, Result, Ok, Err}
-use Rattle.std.specs.Prelude.{◌⊎◌, ◌++◌, if◌then◌else◌}
-use Rattle.sms_base.specs.Among.{Among}
+use Rattle.std.proofs.Common.{arith, ◌≡◌, List, [], ◌∷◌, refl, sym, ◌∙◌, ap, subst, Result, Ok}
+use Rattle.std.specs.Prelude.{◌++◌}
 use Rattle.sms_centre_spec.specs.MessageNumbers.{next_number}
 use Rattle.sms_play.specs.PlayState.{PlayState}
 use Rattle.sms_play.specs.Playing.{play_state_of}

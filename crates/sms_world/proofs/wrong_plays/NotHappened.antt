@@ -1,7 +1,6 @@
 -- Events that do not go so.
-use Rattle.std.proofs.Common.{rules, arith, ◌≡◌, ℕ, zero, suc, List, [], ◌∷◌, Bool, true, false, refl, sym, ◌∙◌, ap, subst, inl, inr, ⊎_elim, Option, Some, None, ◌<◌, Result, Ok, Err}
-use Rattle.std.specs.Prelude.{◌⊎◌, ◌++◌, if◌then◌else◌}
-use Rattle.sms_base.specs.Among.{Among}
+use Rattle.std.proofs.Common.{arith, ◌≡◌, ℕ, List, [], ◌∷◌, Bool, true, false, refl, sym, ◌∙◌, ap, inl, ⊎_elim, Option, Some, None}
+use Rattle.std.specs.Prelude.{if◌then◌else◌}
 use Rattle.smpp_pdu.specs.declared.status.CommandStatus.TheVariants.{ESME_RCANCELFAIL, ESME_ROK}
 use Rattle.sms_base.specs.HandsetNumber.{own_address}
 use Rattle.sms_base.specs.declared.final_state.FinalState.{FinalState}
@@ -23,9 +22,8 @@ use Rattle.sms_world.specs.wrong_plays.Plays.{from_application, from_writer}
 use Rattle.sms_world.specs.wrong_plays.Shown.{submission}
 use Rattle.sms_world.specs.wrong_plays.Told.{pending}
 use Rattle.sms_world.specs.wrong_reports.Literals.{id_one, name, receipt, source}
-use Rattle.sms_world_model.specs.Submission.{Submission}
-use Rattle.sms_world_model.specs.World.{Message, Pending, State}
-use Rattle.sms_world_model.specs.WorldStep.{Delete, Step}
+use Rattle.sms_world_model.specs.World.{Message, Pending}
+use Rattle.sms_world_model.specs.WorldStep.{Delete}
 
 -- ---- steps
 

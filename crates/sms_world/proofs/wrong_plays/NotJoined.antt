@@ -1,7 +1,5 @@
 -- A text that was joined where nothing was accepted.
-use Rattle.std.proofs.Common.{rules, arith, ◌≡◌, ℕ, zero, suc, List, [], ◌∷◌, Bool, true, false, refl, sym, ◌∙◌, ap, subst, inl, inr, ⊎_elim, Option, Some, None, ◌<◌, Result, Ok, Err}
-use Rattle.std.specs.Prelude.{◌⊎◌, ◌++◌}
-use Rattle.sms_base.specs.Among.{Among}
+use Rattle.std.proofs.Common.{◌≡◌, ℕ, zero, suc, List, [], ◌∷◌, refl, sym, ◌∙◌, ap, inl, Option, Some, None}
 use Rattle.sms_concat.specs.declared.content.Content.{Content}
 use Rattle.sms_handset_draft.specs.Draft.{recovered as handset_recovered}
 use Rattle.sms_handset_draft.specs.FirstRows.{first_rows}

@@ -1,11 +1,9 @@
 -- An entry that counts as sent, of which the centre has no message, or one to another handset.
-use Rattle.std.proofs.Common.{rules, arith, ◌≡◌, ℕ, zero, suc, List, [], ◌∷◌, Bool, true, false, refl, sym, ◌∙◌, ap, subst, inl, inr, ⊎_elim, Option, Some, None, ◌<◌, Result, Ok, Err}
-use Rattle.std.specs.Prelude.{◌⊎◌, ◌++◌}
-use Rattle.sms_base.specs.Among.{Among}
+use Rattle.std.proofs.Common.{arith, ◌≡◌, ℕ, List, [], refl, sym, ◌∙◌, ap, inl, ⊎_elim}
 use Rattle.sms_centre_rows.specs.declared.messages.message.MessageRow.{MessageRow}
 use Rattle.sms_world.specs.wrong_plays.Plays.{entry, from_writer, party, writers_core}
 use Rattle.sms_world.specs.wrong_plays.Told.{SentElsewhereLaw, SentOfNoneLaw}
-use Rattle.sms_world.specs.wrong_reports.Literals.{handset, writer}
+use Rattle.sms_world.specs.wrong_reports.Literals.{writer}
 use Rattle.std.specs.Prelude.{length}
 
 pub of_none : SentOfNoneLaw

@@ -1,16 +1,12 @@
 -- Messages that are not from a handset's SUBMIT, and texts that are not a part's.
-use Rattle.std.proofs.Common.{rules, arith, ◌≡◌, ℕ, zero, suc, List, [], ◌∷◌, Bool, true, false, refl, sym, ◌∙◌, ap, subst, inl, inr, ⊎_elim, Option, Some, None, ◌<◌, Result, Ok, Err, length}
-use Rattle.std.specs.Prelude.{◌⊎◌, ◌++◌, if◌then◌else◌}
+use Rattle.std.proofs.Common.{arith, ◌≡◌, ℕ, zero, suc, List, [], ◌∷◌, true, false, refl, sym, ◌∙◌, ap, inl, inr, ⊎_elim, Some, Result, Ok, length}
+use Rattle.std.specs.Prelude.{◌⊎◌}
 use Rattle.sms_base.specs.Among.{Among}
 use Rattle.sms_base.specs.HandsetNumber.{own_address}
-use Rattle.sms_base.specs.declared.address.Address.{Address}
 use Rattle.sms_base.specs.declared.originator.Originator.{Originator}
-use Rattle.sms_base.specs.declared.originator.Originator.TheVariants.{Handset}
-use Rattle.sms_base.specs.declared.wish.Wish.{Wish}
 use Rattle.sms_base.specs.declared.wish.Wish.TheVariants.{Always, Nothing}
 use Rattle.sms_centre_rows.specs.declared.messages.message.MessageRow.{MessageRow}
 use Rattle.sms_centre_rows.specs.declared.messages.part.PartRow.{PartRow}
-use Rattle.sms_centre_rows.specs.messages.Messages.{part_at}
 use Rattle.sms_centre_spec.specs.Finals.{submit_reference}
 use Rattle.sms_control.specs.ControlReading.{cp_at}
 use Rattle.sms_intake.specs.HandsetIntake.{wish_of}
@@ -23,7 +19,7 @@ use Rattle.sms_tpdu.specs.TpduReading.{down_at, submit_at, up_at}
 use Rattle.sms_tpdu.specs.declared.carrier.Carrier.TheVariants.{InData}
 use Rattle.sms_tpdu.specs.declared.deliver.Deliver.{Deliver as DeliverOf}
 use Rattle.sms_tpdu.specs.declared.down.Down.{Down as DownOf}
-use Rattle.sms_tpdu.specs.declared.down.Down.TheVariants.{Deliver as DeliverDown, StatusReport, SubmitReport}
+use Rattle.sms_tpdu.specs.declared.down.Down.TheVariants.{Deliver as DeliverDown}
 use Rattle.sms_tpdu.specs.declared.fault.TpduFault.{TpduFault}
 use Rattle.sms_tpdu.specs.declared.submit.Submit.{Submit as SubmitOf}
 use Rattle.sms_tpdu.specs.declared.up.Up.{Up as UpOf}
@@ -32,12 +28,12 @@ use Rattle.sms_tpdu.specs.declared.user_data.UserData.{UserData}
 use Rattle.sms_tpdu.specs.declared.validity_period.ValidityPeriod.TheVariants.{NotPresent}
 use Rattle.sms_world.proofs.Everything.{everything}
 use Rattle.sms_world.proofs.wrong_reports.Read.{part, parts_read}
-use Rattle.sms_world.specs.headline.Origins.{IsDeliverFor, IsDeliverOfSubmit, IsOfHandset, part_numbered}
+use Rattle.sms_world.specs.headline.Origins.{IsOfHandset, part_numbered}
 use Rattle.sms_world.specs.headline.PlainWords.{numbered}
 use Rattle.sms_world.specs.headline.SeenFrames.{frame_tpdu}
 use Rattle.sms_world.specs.headline.SeenWorld.{user_data_in}
-use Rattle.sms_world.specs.wrong_plays.Plays.{entry, first, from_application, from_writer, part_one, part_two, party, setup, writers_core}
-use Rattle.sms_world.specs.wrong_plays.SentUp.{AloneLaw, CommonLaw, FrameLaw, HandsetLaw, NextLaw, OwnersLaw, ReferenceLaw, RightLaw, SentByOtherLaw, SentOtherTextLaw, SourceLaw, SubmittedTextLaw, TakersLaw, TextLaw, WishLaw, frame_up, from_up, other_deliver, part_up, sent_up}
+use Rattle.sms_world.specs.wrong_plays.Plays.{entry, from_writer, part_one, part_two, party, writers_core}
+use Rattle.sms_world.specs.wrong_plays.SentUp.{AloneLaw, CommonLaw, FrameLaw, HandsetLaw, NextLaw, OwnersLaw, ReferenceLaw, RightLaw, SentByOtherLaw, SentOtherTextLaw, SourceLaw, SubmittedTextLaw, TakersLaw, TextLaw, WishLaw, frame_up, other_deliver, part_up, sent_up}
 use Rattle.sms_world.specs.wrong_reports.Literals.{deliver, handset, hello_octets, other_octets, source, writer}
 
 -- ---- what the octets read as

@@ -1,7 +1,5 @@
 -- Worlds that a play state does not show.
-use Rattle.std.proofs.Common.{rules, arith, ◌≡◌, ℕ, zero, suc, List, [], ◌∷◌, Bool, true, false, refl, sym, ◌∙◌, ap, subst, inl, inr, ⊎_elim, Option, Some, None, ◌<◌, Result, Ok, Err}
-use Rattle.std.specs.Prelude.{◌⊎◌, ◌++◌, if◌then◌else◌}
-use Rattle.sms_base.specs.Among.{Among}
+use Rattle.std.proofs.Common.{◌≡◌, [], ◌∷◌, true, refl, inl, ⊎_elim, Some, None}
 use Rattle.sms_centre_rows.specs.declared.messages.message.MessageRow.{MessageRow}
 use Rattle.sms_play.specs.Playing.{report_of}
 use Rattle.sms_tpdu.specs.MoreMessages.{compared}

@@ -1,21 +1,17 @@
 -- Messages that are not the submission, and a text that is not split so.
-use Rattle.std.proofs.Common.{rules, arith, ◌≡◌, ℕ, zero, suc, List, [], ◌∷◌, Bool, true, false, refl, sym, ◌∙◌, ap, subst, inl, inr, ⊎_elim, Option, Some, None, ◌<◌, Result, Ok, Err, length}
-use Rattle.std.specs.Prelude.{◌⊎◌, ◌++◌, if◌then◌else◌}
-use Rattle.sms_base.specs.Among.{Among}
+use Rattle.std.proofs.Common.{arith, ◌≡◌, ℕ, List, [], ◌∷◌, refl, sym, ◌∙◌, ap, inl, inr, Some, None, ◌<◌, length}
 use Rattle.sms_base.specs.declared.address.Address.{Address}
-use Rattle.sms_base.specs.declared.originator.Originator.{Originator}
 use Rattle.sms_base.specs.declared.originator.Originator.TheVariants.{Application, Handset}
 use Rattle.sms_base.specs.declared.wish.Wish.TheVariants.{Always, Nothing}
 use Rattle.sms_centre_rows.specs.declared.messages.part.PartRow.{PartRow}
 use Rattle.sms_concat.specs.Splitting.{IsDivision, joined, joined_each, numbered, room}
 use Rattle.sms_concat.specs.WholeUnits.{whole_units}
 use Rattle.sms_concat.specs.declared.content.Part.{Part as PartOf}
-use Rattle.sms_intake.specs.PartBodies.{bodies_under}
 use Rattle.sms_intake.specs.declared.submission.SinglePart.{SinglePart}
 use Rattle.sms_world.proofs.wrong_reports.Read.{part, parts_read}
 use Rattle.sms_world.specs.headline.Origins.{part_numbered}
 use Rattle.sms_world.specs.headline.SplitClaims.{IsSplitOf}
-use Rattle.sms_world.specs.wrong_plays.Played.{LostPartLaw, LostTextLaw, OnePartMoreLaw, OtherHandsetLaw, OtherLimitLaw, OtherOriginatorLaw, OtherProtocolLaw, OtherSourceLaw, OtherSplitLaw, OtherWishLaw, ShortLaw, long_content, taken}
+use Rattle.sms_world.specs.wrong_plays.Played.{LostPartLaw, LostTextLaw, OnePartMoreLaw, OtherHandsetLaw, OtherLimitLaw, OtherOriginatorLaw, OtherProtocolLaw, OtherSourceLaw, OtherSplitLaw, OtherWishLaw, ShortLaw, long_content}
 use Rattle.sms_world.specs.wrong_plays.Plays.{from_application, part_one}
 use Rattle.sms_world.specs.wrong_reports.Literals.{name}
 use Rattle.std.specs.Prelude.{slice_get}

@@ -1,15 +1,13 @@
 -- A STATUS-REPORT that says what its message does, and such as are of another, or go to another handset.
-use Rattle.std.proofs.Common.{rules, arith, ◌≡◌, ℕ, zero, suc, List, [], ◌∷◌, Bool, true, false, refl, sym, ◌∙◌, ap, subst, inl, inr, ⊎_elim, Option, Some, None, ◌<◌, Result, Ok, Err}
-use Rattle.std.specs.Prelude.{◌⊎◌, ◌++◌}
+use Rattle.std.proofs.Common.{arith, ◌≡◌, ℕ, List, [], ◌∷◌, refl, sym, ◌∙◌, ap, subst, inl, inr, ⊎_elim, Some, None, Result, Ok}
+use Rattle.std.specs.Prelude.{◌⊎◌}
 use Rattle.sms_base.specs.Among.{Among}
 use Rattle.sms_base.specs.declared.carried.Carried.{Carried}
 use Rattle.sms_base.specs.declared.carried.Kind.TheVariants.{Data}
 use Rattle.sms_base.specs.declared.final_state.FinalState.{FinalState}
 use Rattle.sms_base.specs.declared.final_state.FinalState.TheVariants.{Delivered}
-use Rattle.sms_base.specs.declared.holder.Holder.{Holder}
 use Rattle.sms_base.specs.declared.holder.Holder.TheVariants.{Report as ReportHolder}
 use Rattle.sms_centre_rows.specs.declared.messages.message.MessageRow.{MessageRow}
-use Rattle.sms_script.specs.declared.report.rows.Direction.TheVariants.{Down}
 use Rattle.sms_script.specs.declared.report.rows.FrameRow.{FrameRow}
 use Rattle.sms_tpdu.specs.TpduReading.{down_at}
 use Rattle.sms_tpdu.specs.declared.carrier.Carrier.TheVariants.{InData}

@@ -1,7 +1,5 @@
 -- What the octets of the STATUS-REPORT read as.
-use Rattle.std.proofs.Common.{rules, arith, ◌≡◌, ℕ, zero, suc, List, [], ◌∷◌, Bool, true, false, refl, sym, ◌∙◌, ap, subst, inl, inr, ⊎_elim, Option, Some, None, ◌<◌, Result, Ok, Err}
-use Rattle.std.specs.Prelude.{◌⊎◌, ◌++◌}
-use Rattle.sms_base.specs.Among.{Among}
+use Rattle.std.proofs.Common.{◌≡◌, refl, Ok}
 use Rattle.sms_base.specs.declared.carried.Carried.{Carried}
 use Rattle.sms_base.specs.declared.carried.Kind.TheVariants.{Data}
 use Rattle.sms_base.specs.declared.holder.Holder.TheVariants.{Report as ReportHolder}

@@ -1,14 +1,9 @@
 -- The report of a script that is played to the end, and other reports of it.
-use Rattle.std.proofs.Common.{rules, arith, ◌≡◌, ℕ, zero, suc, List, [], ◌∷◌, Bool, true, false, refl, sym, ◌∙◌, ap, subst, inl, inr, ⊎_elim, Option, Some, None, ◌<◌, Result, Ok, Err, length}
-use Rattle.std.specs.Prelude.{◌⊎◌, ◌++◌, if◌then◌else◌}
-use Rattle.sms_base.specs.Among.{Among}
+use Rattle.std.proofs.Common.{◌≡◌, List, [], ◌∷◌, true, false, refl, sym, ◌∙◌, ap, inl, Result, Ok, Err}
 use Rattle.sms_base.specs.Reading.{◌>>=◌}
 use Rattle.sms_base.specs.declared.final_state.FinalState.TheVariants.{Delivered}
 use Rattle.sms_play.specs.PlayState.{PlayState}
-use Rattle.sms_play.specs.PlayedEvent.{played}
 use Rattle.sms_play.specs.Playing.{play_of, report_of}
-use Rattle.sms_play.specs.Premises.{is_timely_event}
-use Rattle.sms_play.specs.Setups.{beginning}
 use Rattle.sms_script.specs.declared.play_fault.PlayFault.{PlayFault}
 use Rattle.sms_script.specs.declared.report.Report.{Report}
 use Rattle.sms_script.specs.declared.report.answers.Answer.{Answer}
@@ -20,9 +15,8 @@ use Rattle.sms_world.proofs.headline.HeadlineHolds.{headline_is}
 use Rattle.sms_world.proofs.wrong_reports.BrokenPremises.{reused}
 use Rattle.sms_world.specs.headline.Headline.{Headline}
 use Rattle.sms_world.specs.headline.TypedEvents.{AreTyped}
-use Rattle.sms_world.specs.wrong_plays.Happened.{queries}
 use Rattle.sms_world.specs.wrong_plays.Played.{LateAloneLaw, LateFrameLaw, NoReceiptLaw, NotAnsweredLaw, OtherReportLaw, RightFreshLaw, RightReportLaw, RightTimelyLaw, StaleAloneLaw, again, plays, report}
-use Rattle.sms_world.specs.wrong_reports.Literals.{line, receipt, setup}
+use Rattle.sms_world.specs.wrong_reports.Literals.{receipt, setup}
 
 typed : AreTyped plays
 typed = record { good = (tt, (tt, (tt, tt))); texts = (tt, (tt, (tt, tt))) }

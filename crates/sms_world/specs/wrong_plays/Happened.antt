@@ -1,17 +1,13 @@
 -- For each field of `IsEventRun` an event that does not go so, and for a message an event that it is not from.
-use Rattle.std.specs.Prelude.{◌≡◌, ℕ, List, [], ◌∷◌, Some, None, true, false, Ok}
+use Rattle.std.specs.Prelude.{ℕ, List, [], ◌∷◌, Some, None, true, false}
 use Rattle.smpp_pdu.specs.declared.status.CommandStatus.TheVariants.{ESME_RCANCELFAIL, ESME_ROK}
-use Rattle.sms_base.specs.HandsetNumber.{own_address}
 use Rattle.sms_base.specs.declared.final_state.FinalState.TheVariants.{Deleted, Delivered}
-use Rattle.sms_base.specs.declared.originator.Originator.TheVariants.{Application, Handset}
-use Rattle.sms_base.specs.declared.wish.Wish.TheVariants.{Always, Nothing}
 use Rattle.sms_centre_rows.specs.declared.messages.message.MessageRow.{MessageRow}
 use Rattle.sms_centre_rows.specs.declared.reports.delivery.Delivery.{Delivery}
 use Rattle.sms_centre_rows.specs.declared.reports.report.ReportKind.TheVariants.{Receipt}
 use Rattle.sms_centre_rows.specs.reports.Receipts.{Session}
 use Rattle.sms_centre_spec.specs.Draft.{Core}
 use Rattle.sms_play.specs.PlayState.{PlayState, answer}
-use Rattle.sms_play.specs.PlayedEvent.{played}
 use Rattle.sms_script.specs.declared.event.Act.TheVariants.{Query}
 use Rattle.sms_script.specs.declared.event.StopPoint.TheVariants.{Before}
 use Rattle.sms_script.specs.declared.event.WorldEvent.{WorldEvent}
@@ -19,17 +15,17 @@ use Rattle.sms_script.specs.declared.event.WorldEvent.TheVariants.{Stopped, Whol
 use Rattle.sms_script.specs.declared.event.Act.TheVariants.{Submit}
 use Rattle.sms_script.specs.declared.report.answers.Answered.TheVariants.{Accepted, Found, Status}
 use Rattle.sms_script.specs.declared.report.answers.MessageState.TheVariants.{Enroute, Final}
-use Rattle.sms_world.specs.headline.OneRun.{EntersNext, IsEventRun, SubmitsAsAnswered, happening_of}
+use Rattle.sms_world.specs.headline.OneRun.{EntersNext, SubmitsAsAnswered, happening_of}
 use Rattle.sms_world.specs.headline.Origins.{IsFrom}
 use Rattle.sms_world.specs.headline.ReportClaims.{IsReceiptSent}
 use Rattle.sms_world.specs.headline.RequestClaims.{IsCancelled, IsQueried}
-use Rattle.sms_world.specs.wrong_plays.Plays.{delivered, first, from_application, from_writer, part_one, report_row, setup, with_rows}
+use Rattle.sms_world.specs.wrong_plays.Plays.{first, from_application, from_writer, part_one, report_row, setup, with_rows}
 use Rattle.sms_world.specs.wrong_plays.Shown.{submission}
 use Rattle.sms_world.specs.wrong_plays.Told.{pending}
-use Rattle.sms_world.specs.wrong_reports.Literals.{asked, id_one, name, source, submits, writer}
+use Rattle.sms_world.specs.wrong_reports.Literals.{asked, id_one, name, source, submits}
 use Rattle.sms_world_model.specs.ScriptRun.{Belongs, Whole as WentWhole, happened}
-use Rattle.sms_world_model.specs.World.{Pending, World, empty}
-use Rattle.sms_world_model.specs.WorldStep.{Delete, Run, Step}
+use Rattle.sms_world_model.specs.World.{Pending, empty}
+use Rattle.sms_world_model.specs.WorldStep.{Delete, Run}
 
 -- ---- steps
 

@@ -1,5 +1,5 @@
 -- A text of two parts that a handset joined, and more of what a play state may lack.
-use Rattle.std.specs.Prelude.{ℕ, List, [], ◌∷◌, Some, None}
+use Rattle.std.specs.Prelude.{ℕ, List, [], ◌∷◌, Some}
 use Rattle.sms_alphabet.specs.declared.concat_key.ConcatKey.{ConcatKey}
 use Rattle.sms_alphabet.specs.declared.concat_key.ConcatReference.TheVariants.{EightBit}
 use Rattle.sms_base.specs.declared.final_state.FinalState.TheVariants.{Delivered}
@@ -19,7 +19,7 @@ use Rattle.sms_world.specs.headline.SeenWorld.{RefinesHandset, entry_seen}
 use Rattle.sms_world.specs.wrong_plays.Plays.{entry, from_application, from_writer, of_handset, part_one, part_two, party, report_row, sent, setup, status_report, with_rows, writers_core}
 use Rattle.sms_world.specs.wrong_plays.Shown.{receipt_there}
 use Rattle.sms_world.specs.wrong_reports.Literals.{given, handset, joined_row, writer}
-use Rattle.sms_world_model.specs.World.{World, empty}
+use Rattle.sms_world_model.specs.World.{empty}
 
 -- ---- two messages of one part each, which are the two parts of one text
 

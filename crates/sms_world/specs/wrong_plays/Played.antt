@@ -1,5 +1,5 @@
 -- A small script that is played to the end, and its report. Reports, events and premises that differ from it.
-use Rattle.std.specs.Prelude.{◌≡◌, ◌↔◌, ℕ, List, [], ◌∷◌, Some, None, true, false, Ok}
+use Rattle.std.specs.Prelude.{◌≡◌, ◌↔◌, List, [], ◌∷◌, Some, None, true, false, Ok}
 use Rattle.sms_alphabet.specs.declared.scheme.Coding.TheVariants.{Octets, Septets}
 use Rattle.sms_base.specs.HandsetNumber.{own_address}
 use Rattle.sms_base.specs.declared.carried.Kind.TheVariants.{Ack, Data}
@@ -29,9 +29,9 @@ use Rattle.sms_world.specs.headline.SplitClaims.{IsSplitOf}
 use Rattle.sms_world.specs.wrong_plays.Happened.{queries}
 use Rattle.sms_world.specs.wrong_plays.Plays.{first, from_application, part_one}
 use Rattle.sms_world.specs.wrong_plays.Shown.{submission}
-use Rattle.sms_world.specs.wrong_reports.Literals.{accepted, answer, deliver, given, handset, hello, hello_octets, line, name, other_octets, receipt, setup, source, submits, writer, zeros}
+use Rattle.sms_world.specs.wrong_reports.Literals.{accepted, answer, deliver, given, handset, hello, hello_octets, line, name, receipt, setup, source, submits, writer, zeros}
 use Rattle.sms_world.specs.wrong_reports.Worlds.{first_given, first_of_two}
-use Rattle.sms_world_model.specs.World.{World, empty}
+use Rattle.sms_world_model.specs.World.{empty}
 use Rattle.sms_world_model.specs.WorldStep.{Step, Submit as SubmitStep}
 
 -- ---- an application submits `hello`; the DELIVER is handed over, and then its RP-ACK

@@ -1,19 +1,15 @@
 -- A small play state: an application's text and a handset's text, both delivered, and the STATUS-REPORT of the second on its way.
-use Rattle.std.specs.Prelude.{ℕ, List, [], ◌∷◌, Option, Some, None, true, false}
+use Rattle.std.specs.Prelude.{ℕ, List, [], ◌∷◌, Some, None, true, false}
 use Rattle.sms_base.specs.HandsetNumber.{own_address}
 use Rattle.sms_base.specs.declared.carried.Kind.TheVariants.{Data}
-use Rattle.sms_base.specs.declared.final_state.FinalState.{FinalState}
-use Rattle.sms_base.specs.declared.final_state.FinalState.TheVariants.{Delivered}
 use Rattle.sms_base.specs.declared.holder.Holder.TheVariants.{Part, Report as ReportHolder}
 use Rattle.sms_base.specs.declared.originator.Originator.TheVariants.{Application}
-use Rattle.sms_base.specs.declared.wish.Wish.TheVariants.{Always}
 use Rattle.sms_centre_rows.specs.declared.messages.message.MessageRow.{MessageRow}
 use Rattle.sms_centre_rows.specs.declared.messages.part.PartRow.{PartRow}
 use Rattle.sms_centre_rows.specs.declared.reports.report.ReportKind.{ReportKind}
-use Rattle.sms_centre_rows.specs.declared.reports.report.ReportKind.TheVariants.{Receipt, Status}
+use Rattle.sms_centre_rows.specs.declared.reports.report.ReportKind.TheVariants.{Receipt}
 use Rattle.sms_centre_rows.specs.declared.reports.report.ReportRow.{ReportRow}
 use Rattle.sms_centre_rows.specs.declared.waiting.progress.Progress.{Progress}
-use Rattle.sms_centre_spec.specs.declared.rows.Rows.{Rows as CentreRows}
 use Rattle.sms_handset_draft.specs.Draft.{Core as HandsetCore}
 use Rattle.sms_handset_rows.specs.declared.outbox.out_entry.EntryState.TheVariants.{Sent}
 use Rattle.sms_handset_rows.specs.declared.outbox.out_entry.OutEntry.{OutEntry}
@@ -28,7 +24,7 @@ use Rattle.sms_script.specs.declared.report.rows.GivenRow.{GivenRow}
 use Rattle.sms_script.specs.declared.report.rows.JoinedRow.{JoinedRow}
 use Rattle.sms_script.specs.declared.setup.HandsetSetup.{HandsetSetup}
 use Rattle.sms_script.specs.declared.setup.Setup.{Setup}
-use Rattle.sms_world.specs.wrong_reports.Literals.{account, accepted, answer, deliver, given, handset, hello_octets, name, of_writer, source, writer}
+use Rattle.sms_world.specs.wrong_reports.Literals.{account, deliver, given, handset, hello_octets, name, of_writer, source, writer}
 use Rattle.sms_world.specs.wrong_reports.StatusReports.{message}
 
 -- ---- the head: an account, and two handsets

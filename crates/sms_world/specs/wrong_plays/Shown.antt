@@ -1,21 +1,20 @@
 -- For each field of `SeenWorld` a play state and a world that does not show it. Most differ from the beginning in one thing.
-use Rattle.std.specs.Prelude.{◌≡◌, ℕ, List, [], ◌∷◌, None}
+use Rattle.std.specs.Prelude.{◌≡◌, [], ◌∷◌, None}
 use Rattle.sms_base.specs.declared.final_state.FinalState.TheVariants.{Delivered}
-use Rattle.sms_base.specs.declared.holder.Holder.TheVariants.{Entry, Part}
+use Rattle.sms_base.specs.declared.holder.Holder.TheVariants.{Entry}
 use Rattle.sms_play.specs.PlayState.{numbers_of}
 use Rattle.sms_script.specs.declared.report.rows.Direction.TheVariants.{Down, Up}
-use Rattle.sms_script.specs.declared.report.rows.FrameRow.{FrameRow}
 use Rattle.sms_script.specs.declared.report.rows.GivenRow.{GivenRow}
 use Rattle.sms_world.specs.centres_refine_the_world.RefinesGiven.{RefinesHolders}
 use Rattle.sms_world.specs.centres_refine_the_world.RefinesReports.{RefinesReports, reports_by}
 use Rattle.sms_world.specs.headline.SeenPlay.{IsAsInTable, SeenWorld}
 use Rattle.sms_world.specs.headline.SeenWorld.{AgreesDown, AgreesUp, PartSeen, RefinesHandset, RefinesReceipts, RefinesTable, all_seen, messages_by, parts_by}
 use Rattle.sms_world.specs.headline.SentRows.{IsWholeBy}
-use Rattle.sms_world.specs.wrong_plays.Plays.{entry, first, frame_to, from_application, joined, part_one, party, setup, writers_core}
-use Rattle.sms_world.specs.wrong_reports.Literals.{accepted, given, handset, hello_octets, joined_row, receipt, writer}
+use Rattle.sms_world.specs.wrong_plays.Plays.{first, frame_to, from_application, part_one, party, writers_core}
+use Rattle.sms_world.specs.wrong_reports.Literals.{accepted, given, handset, hello_octets, receipt, writer}
 use Rattle.sms_world.specs.wrong_reports.Worlds.{given_to}
 use Rattle.sms_world_model.specs.Groups.{OccursOnce}
-use Rattle.sms_world_model.specs.World.{Accepted, Message, Pending, ReceiptOf, World, empty}
+use Rattle.sms_world_model.specs.World.{Pending, ReceiptOf, empty}
 use Rattle.sms_world_model.specs.Submission.{Never, Submission}
 use Rattle.sms_base.specs.HandsetNumber.{own_address}
 use Rattle.std.specs.Prelude.{false}

@@ -1,10 +1,8 @@
 -- For each field of `Headline` that speaks of one play state or one report, such as do not have it.
-use Rattle.std.specs.Prelude.{List, [], ◌∷◌, None, false}
+use Rattle.std.specs.Prelude.{[], ◌∷◌, None, false}
 use Rattle.sms_base.specs.declared.final_state.FinalState.TheVariants.{Delivered, Expired}
 use Rattle.sms_centre_rows.specs.declared.messages.message.MessageRow.{MessageRow}
 use Rattle.sms_centre_rows.specs.declared.messages.part.PartRow.{PartRow}
-use Rattle.sms_centre_rows.specs.declared.reports.report.ReportKind.TheVariants.{Receipt}
-use Rattle.sms_play.specs.PlayState.{PlayState}
 use Rattle.sms_play.specs.answers.AnswerLaws.{HaveNoSystemError}
 use Rattle.sms_script.specs.declared.report.answers.MessageState.TheVariants.{Enroute, Final}
 use Rattle.sms_world.specs.headline.Claims.{AreOnce, ConfirmedAreThere, DeliveredOnce, FinalStays, GivenOnce, HeldDiffer, JoinedWhole, LinesStay, PartsOnce, ReceiptsHaveState, ReceiptsStay, SentSubmitted, StatusReportsAreListed}
@@ -14,7 +12,7 @@ use Rattle.sms_world.specs.headline.PlainReport.{AreAscending}
 use Rattle.sms_world.specs.headline.ReportClaims.{StatusReportsSay}
 use Rattle.sms_world.specs.headline.SplitClaims.{SplitsJoined}
 use Rattle.sms_world.specs.wrong_reports.Literals.{accepted, answer, ended, given_twice, good, handset, hello_octets, joined_row, line, nothing, other_octets, receipt_of_expired, system_error, taken, two_lines, two_receipts, writer}
-use Rattle.sms_world.specs.wrong_plays.Plays.{delivered, frame_to, from_application, from_writer, joined, part_one, part_two, progress, reporting, sent, setup, with_rows, writers_deliver}
+use Rattle.sms_world.specs.wrong_plays.Plays.{delivered, frame_to, from_application, from_writer, joined, part_one, part_two, progress, reporting, sent, setup, with_rows}
 
 -- ---- a report that its script does not lead to: it has a message that nobody submitted
 

@@ -1,11 +1,11 @@
 -- For each claim a report that does not have it, and reports that do.
-use Rattle.std.specs.Prelude.{◌≡◌, ℕ, List, [], ◌∷◌, None}
+use Rattle.std.specs.Prelude.{[], ◌∷◌, None}
 use Rattle.sms_world.specs.headline.PlainHeadline.{Answers, Deliveries, Messages, PlainHeadline, Receipts}
 use Rattle.sms_world.specs.headline.PlainReport.{AreAscending, CancelsAreTrue, EachJoined, GivenOnce, HaveNoneInCommon, IsSent, NoSystemError, OnlyCancelsDelete, Piece, QueriesAreTrue, Stays, WasDelivered}
 use Rattle.sms_script.specs.declared.event.Act.TheVariants.{Query, Cancel}
 use Rattle.sms_script.specs.declared.event.StopPoint.TheVariants.{After, Before}
 use Rattle.sms_script.specs.declared.report.rows.EntryState.TheVariants.{Sent}
-use Rattle.sms_script.specs.declared.report.answers.Answered.TheVariants.{Accepted, Found, Status}
+use Rattle.sms_script.specs.declared.report.answers.Answered.TheVariants.{Found, Status}
 use Rattle.sms_script.specs.declared.report.answers.MessageState.TheVariants.{Enroute, Final}
 use Rattle.sms_base.specs.declared.final_state.FinalState.TheVariants.{Delivered, Expired, Deleted}
 use Rattle.smpp_pdu.specs.declared.status.CommandStatus.TheVariants.{ESME_RCANCELFAIL, ESME_ROK}
