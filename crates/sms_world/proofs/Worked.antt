@@ -1,5 +1,5 @@
 -- Words for worked scripts: what the report of a script's text tells, in short.
-use Rattle.std.proofs.Common.{ℕ, ◌+◌, ◌-◌, ◌*◌, nat_lt, List, [], ◌∷◌, if◌then◌else◌, Option, Some, None, Result, Ok, Err}
+use Rattle.std.proofs.Common.{ℕ, ◌+◌, ◌-◌, ◌*◌, nat_lt, List, [], ◌∷◌, if◌then◌else◌, Option, Result, Ok, Err}
 use Rattle.sms_script.specs.declared.report.answers.Answer.{Answer}
 use Rattle.sms_script.specs.declared.report.answers.MessageState.{MessageState}
 use Rattle.sms_script.specs.declared.report.Broken.{Broken}

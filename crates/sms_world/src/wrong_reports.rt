@@ -2,7 +2,7 @@
 //!
 //! Each clause is about one small literal report of a small script (`specs/wrong_reports`). So each claim is seen to refuse
 //! a wrong report, and to admit a right one.
-ghost use Rattle.sms_world.specs.wrong_reports.Tried.{AcceptedLaw, AscendLaw, CancelLaw, CommonLaw, DeletedLaw, FinalLaw, ForgottenLaw, GivenLaw, GoneLaw, GoodLaw, JoinedLaw, JoinedTwiceLaw, LineLaw, NeverLaw, NumberLaw, OriginLaw, OtherEntryLaw, OtherTextLaw, OwnerLaw, QueryLaw, ReceiptLaw, ReceiptsLaw, SentLaw, SplitLaw, StatusLaw, StoppedLaw, SystemErrorLaw, ToldLaw, TrueCancelLaw, TrueOwnerLaw, TrueQueryLaw, TrueSentLaw, TrueSplitLaw, TrueStopLaw, TwiceLaw, UnansweredLaw};
+ghost use Rattle.sms_world.specs.wrong_reports.Tried.{AcceptedLaw, AscendLaw, CancelLaw, CommonLaw, DeletedLaw, FinalLaw, ForgottenLaw, GivenLaw, GoneLaw, GoodLaw, JoinedLaw, JoinedTwiceLaw, LineLaw, NeverLaw, NumberLaw, OriginLaw, OtherEntryLaw, OtherTextLaw, OwnerLaw, QueryLaw, ReceiptLaw, ReceiptsLaw, RefusedCancelLaw, SentLaw, SplitLaw, StatusLaw, StoppedLaw, SystemErrorLaw, ToldLaw, TrueCancelLaw, TrueOwnerLaw, TrueQueryLaw, TrueSentLaw, TrueSplitLaw, TrueStopLaw, TwiceLaw, UnansweredLaw};
 ghost use Rattle.sms_world.specs.wrong_reports.StatusReports.{DoneLaw, RecipientLaw, ReferenceLaw, RightLaw, StateLaw, SubmittedLaw};
 ghost use Rattle.sms_world.specs.wrong_reports.Worlds.{FreshLaw, InTimeLaw, LateLaw, ReusedLaw};
 
@@ -55,11 +55,12 @@ pub fn wrong_status_reports_are_refused()
 {}
 
 /// One number for two submissions. A query_sm that finds DELIVRD of a message under way. A cancel_sm that was answered
-/// ESME_ROK and deletes nothing. A message that a frame deletes. An answer ESME_RSYSERR. Two answers of one event.
+/// ESME_ROK and deletes nothing, and one that was refused and deletes. A message that a frame deletes. An answer ESME_RSYSERR. Two answers of one event.
 pub fn wrong_answers_are_refused()
     ensures number { NumberLaw }
     ensures query { QueryLaw }
     ensures cancel { CancelLaw }
+    ensures refused { RefusedCancelLaw }
     ensures deleted { DeletedLaw }
     ensures system_error { SystemErrorLaw }
     ensures twice { AscendLaw }

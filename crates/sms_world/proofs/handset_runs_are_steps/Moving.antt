@@ -11,7 +11,7 @@ use Rattle.sms_link.specs.declared.outgoing.Outgoing.{Outgoing}
 use Rattle.sms_handset_draft.specs.Draft.{Draft}
 use Rattle.sms_world.proofs.frames_pass_between_sides.RunsOn.{end_both, run_both}
 use Rattle.sms_world_model.specs.World.{World, Sent}
-use Rattle.sms_world_model.specs.WorldStep.{Step, Run, end, after_item}
+use Rattle.sms_world_model.specs.WorldStep.{Step, Run, end}
 use Rattle.sms_world_model.specs.ScriptRun.{items, Event, Follows, Handed, MayFollow, Removed, Tick_handset, Wrote, AllControl, AllMayFollow, IsOwn}
 use Rattle.sms_world_model.specs.Sides.{AllOfHandset}
 use Rattle.sms_world.specs.frames_pass_between_sides.FramesUp.{AreWhole, stacked}

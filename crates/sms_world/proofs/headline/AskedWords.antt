@@ -11,7 +11,6 @@ use Rattle.sms_base.specs.declared.address_error.AddressError.{AddressError}
 use Rattle.sms_base.specs.declared.wish.Wish.{Wish}
 use Rattle.sms_base.proofs.Addresses.{address_found}
 use Rattle.sms_base.proofs.Steps.{bind_ok, ok_is}
-use Rattle.smpp_pdu.specs.declared.address.SmeAddress.{SmeAddress}
 use Rattle.smpp_pdu.specs.declared.message.Message.{Message as Pdu}
 use Rattle.smpp_pdu.specs.declared.status.CommandStatus.{CommandStatus}
 use Rattle.smpp_pdu.specs.declared.status.CommandStatus.TheVariants.{ESME_RINVDSTADR, ESME_RINVESMCLASS, ESME_RINVPARLEN, ESME_RINVSRCADR, ESME_ROPTPARNOTALLWD}
@@ -41,7 +40,6 @@ use Rattle.sms_tpdu.specs.declared.deliver.Deliver.{Deliver as DeliverOf}
 use Rattle.sms_tpdu.specs.declared.down.Down.{Down}
 use Rattle.sms_tpdu.specs.declared.down.Down.TheVariants.{Deliver}
 use Rattle.sms_tpdu.specs.declared.fault.TpduFault.{TpduFault}
-use Rattle.sms_tpdu.specs.declared.user_data.UserData.{UserData}
 use Rattle.sms_tpdu.proofs.MoreBits.{more_messages_keeps}
 use Rattle.sms_base.specs.UtcClock.{stamp_of}
 use Rattle.sms_world.specs.headline.Claims.{IsStamped}

@@ -1,5 +1,5 @@
 -- The claims of every script.
-use Rattle.std.proofs.Common.{◌≡◌, ℕ, ◌+◌, List, length, true, false, sym, ◌∙◌, ap, subst, ⊎_elim, Some, Result, Ok, Err}
+use Rattle.std.proofs.Common.{◌≡◌, ◌+◌, List, length, true, false, sym, ◌∙◌, ap, subst, ⊎_elim, Some, Result, Err}
 use Rattle.std.proofs.lemmas.Bool.{cases_Bool, cond-false, cond-true}
 use Rattle.sms_base.specs.Among.{Among}
 use Rattle.sms_base.specs.declared.final_state.FinalState.{FinalState}

@@ -1,5 +1,5 @@
 -- A message becomes DELETED by the own step of a cancellation, and by no other step.
-use Rattle.std.proofs.Common.{Bool, List, Option, Some, [], ap, false, inl, inr, length, refl, subst, sym, true, ⊎_elim, ℕ, ◌++◌, ◌∙◌, ◌∷◌, ◌≡◌}
+use Rattle.std.proofs.Common.{Bool, List, Some, [], ap, false, inl, inr, length, refl, subst, sym, true, ⊎_elim, ℕ, ◌++◌, ◌∙◌, ◌∷◌, ◌≡◌}
 use Rattle.std.specs.Prelude.{◌==◌, ◌⊎◌}
 use Rattle.std.proofs.lemmas.Bool.{cases_Bool, cond-false, cond-true, cond_both}
 use Rattle.sms_base.specs.Among.{Among}

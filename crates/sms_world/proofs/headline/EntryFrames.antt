@@ -1,13 +1,10 @@
 -- What a link sends of its own accord says what was sent before: data for an entry of the outbox carry what that entry has.
 use Rattle.std.proofs.Common.{◌≡◌, ℕ, ◌<◌, List, [], ◌∷◌, ◌++◌, Option, Some, None, Result, Ok, Err, sym, ◌∙◌, ap, subst}
 use Rattle.std.specs.Prelude.{is_none, ◌&&◌, is_some}
-use Rattle.std.proofs.lemmas.Bool.{cond_both}
 use Rattle.sms_base.specs.declared.carried.Carried.{Carried}
-use Rattle.sms_base.specs.declared.carried.Kind.{Kind}
-use Rattle.sms_base.specs.declared.carried.Kind.TheVariants.{Data, Ack, Error}
+use Rattle.sms_base.specs.declared.carried.Kind.TheVariants.{Data}
 use Rattle.sms_base.specs.declared.holder.Holder.{Holder}
 use Rattle.sms_base.specs.declared.holder.Holder.TheVariants.{Entry, Memory, Part, Report}
-use Rattle.sms_control.specs.declared.cause.CpCause.TheVariants.{InvalidTransactionIdentifier}
 use Rattle.sms_control.specs.declared.fault.CpFault.{CpFault}
 use Rattle.sms_control.specs.declared.link_state.Answer.{Answer}
 use Rattle.sms_control.specs.declared.link_state.Begun.{Begun}
@@ -18,9 +15,8 @@ use Rattle.sms_control.specs.declared.message.Cp.TheVariants.{DataUnit, AckUnit,
 use Rattle.sms_control.specs.declared.transaction.Transaction.{Transaction}
 use Rattle.sms_control.specs.declared.transaction.TransactionFlag.{TransactionFlag}
 use Rattle.sms_control.specs.declared.transaction.TransactionFlag.TheVariants.{FromOriginator, ToOriginator}
-use Rattle.sms_control.specs.ControlGrammar.{turned}
 use Rattle.sms_control.specs.ControlReading.{cp_at}
-use Rattle.sms_control.specs.LinkStep.{Step, ack_taken, acknowledgement, answer_frames, answer_of, answer_taken, answered, begun_frames, data_taken, error_taken, fire_step, frame_taken, frames_of, has_begun, has_opened, if_again, in_transaction, is_same, opening_of, opening_taken, quiet, rejection, reply_in, reply_step, take_step}
+use Rattle.sms_control.specs.LinkStep.{Step, ack_taken, acknowledgement, answer_frames, answer_of, answer_taken, answered, begun_frames, data_taken, error_taken, fire_step, frame_taken, frames_of, has_begun, has_opened, if_again, is_same, opening_of, opening_taken, quiet, rejection, reply_in, reply_step, take_step}
 use Rattle.sms_control.specs.Timers.{begun_firing, opened_firing}
 use Rattle.sms_control.proofs.FiringCases.{firing_cases}
 use Rattle.sms_control.proofs.LinkLaws.{either}

@@ -1,5 +1,5 @@
 -- Through every stage of an event of a handset, what is sent for an entry of the outbox carries what the entry has.
-use Rattle.std.proofs.Common.{◌≡◌, ℕ, zero, suc, ◌+◌, ◌*◌, ◌%◌, ◌<◌, ◌≤◌, arith, List, [], ◌∷◌, ◌++◌, length, Bool, true, false, cond, refl, sym, ◌∙◌, ap, subst, inl, inr, ⊎_elim, Option, Some, None, Result, Ok, Err}
+use Rattle.std.proofs.Common.{◌≡◌, ℕ, suc, ◌+◌, ◌%◌, ◌<◌, ◌≤◌, arith, List, [], ◌∷◌, ◌++◌, length, Bool, true, false, cond, refl, sym, ◌∙◌, ap, subst, inl, inr, ⊎_elim, Option, Some, None, Result, Ok, Err}
 use Rattle.std.specs.Prelude.{nat_le, ◌||◌, nat_lt, min, ◌==◌, ◌-◌, slice_get}
 use Rattle.std.specs.List.{AllByRecursion}
 use Rattle.std.proofs.lemmas.Bool.{cond_both}
@@ -28,7 +28,7 @@ use Rattle.sms_control.specs.declared.message.Cp.TheVariants.{DataUnit as CpData
 use Rattle.sms_control.specs.declared.transaction.TransactionFlag.TheVariants.{FromOriginator}
 use Rattle.sms_control.specs.ControlGrammar.{spelled}
 use Rattle.sms_control.specs.ControlReading.{cp_at}
-use Rattle.sms_control.specs.LinkStep.{Step, awaits_reply, begin_step, in_transaction, is_busy, reply_step, started as links_started}
+use Rattle.sms_control.specs.LinkStep.{Step, awaits_reply, begin_step, in_transaction, is_busy, reply_step}
 use Rattle.sms_control.specs.Timers.{later}
 use Rattle.sms_control.proofs.ControlFrames.{cp_again}
 use Rattle.sms_relay.specs.RelayGrammar.{ack_up, data_up, error_up, smma_up}
@@ -79,7 +79,7 @@ use Rattle.sms_handset_draft.specs.MemoryAvailable.{first_notice, flag, freed, h
 use Rattle.sms_handset_draft.specs.Outbox.{entry_concluded, follow, holder_concluded, is_notice_next, lapse, lapse_rows, offer, offer_after, offer_entry, offer_message, offer_wanted}
 use Rattle.sms_handset_draft.specs.Receiving.{accept, acknowledge, data_received, deliver_received, fault_cause, member_received, new_part_received, no_room, note, part_received, reference_octet, refuse, reject, single_received, tpdu_received, unit_received}
 use Rattle.sms_handset_draft.specs.Storing.{completed, drop_all, ended, free_all, keep, marked, store_part, store_single}
-use Rattle.sms_handset.specs.HandsetEvent.{acted, frame_received, tag_of, ticked}
+use Rattle.sms_handset.specs.HandsetEvent.{acted, tag_of}
 use Rattle.sms_handset.specs.OwnersActs.{count_split, delete, delete_in, delete_out, discard, discard_at, discard_group, discard_in, discard_members, fits_outbox, write, write_part, write_parts, write_split, write_to, written}
 use Rattle.sms_handset.specs.declared.event.HandsetEvent.{HandsetEvent}
 use Rattle.sms_handset.specs.declared.event.HandsetEvent.TheVariants.{Frame, Tick, Write, Delete, Discard}

@@ -1,5 +1,5 @@
 -- What an owner writes: its first entry has the next number, and each SUBMIT is read as it was meant.
-use Rattle.std.proofs.Common.{◌≡◌, ℕ, zero, suc, ◌+◌, ◌-◌, ◌%◌, List, [], ◌∷◌, length, Bool, true, false, cond, refl, sym, ◌∙◌, ap, subst, ⊎_elim, Option, Some, None, Result, Ok, Err}
+use Rattle.std.proofs.Common.{◌≡◌, ℕ, zero, suc, ◌+◌, List, [], ◌∷◌, length, Bool, true, false, cond, refl, sym, ◌∙◌, ap, subst, ⊎_elim, Option, Some, None, Result, Ok, Err}
 use Rattle.std.specs.Prelude.{nat_lt, min, slice_get}
 use Rattle.std.specs.List.{AllByRecursion}
 use Rattle.std.proofs.lemmas.Bool.{cases_eq, cond_both}
@@ -16,7 +16,6 @@ use Rattle.sms_concat.specs.declared.content.UserData.{UserData}
 use Rattle.sms_concat.specs.declared.split_error.SplitError.{SplitError}
 use Rattle.sms_concat.proofs.Bodies.{user_data_is}
 use Rattle.sms_intake.specs.PartBodies.{bodies_of, body_of}
-use Rattle.sms_intake.specs.declared.submission.SinglePart.{SinglePart}
 use Rattle.sms_control.specs.LinkStep.{is_busy}
 use Rattle.sms_rows.specs.table.Table.{put, row_at}
 use Rattle.sms_rows.proofs.table.Tables.{row_at_put, row_at_put_other}
@@ -38,8 +37,8 @@ use Rattle.sms_handset_rows.specs.outbox.Submits.{packed_behind, submit_for, sub
 use Rattle.sms_handset_rows.proofs.outbox.PartFields.{carries}
 use Rattle.sms_handset_rows.proofs.outbox.SoundWriting.{IsWritable}
 use Rattle.sms_handset_draft.specs.Draft.{Core, Draft, draft_of, put_out}
-use Rattle.sms_handset_draft.specs.MemoryAvailable.{first_notice, send_notice}
-use Rattle.sms_handset_draft.specs.Outbox.{follow, is_notice_next, lapse, lapse_rows, offer, offer_after, offer_entry, offer_message, offer_wanted}
+use Rattle.sms_handset_draft.specs.MemoryAvailable.{first_notice}
+use Rattle.sms_handset_draft.specs.Outbox.{follow, is_notice_next, lapse, lapse_rows, offer_after, offer_entry, offer_message, offer_wanted}
 use Rattle.sms_handset.specs.HandsetEvent.{acted, wrote}
 use Rattle.sms_handset.specs.OwnersActs.{count_split, fits_outbox, write, write_part, write_parts, write_split, write_to, written}
 use Rattle.sms_handset.specs.declared.refusal.Refusal.{Refusal}

@@ -25,7 +25,7 @@ use Rattle.sms_world_model.proofs.Faithful.{IsFaithful, no_part_twice}
 use Rattle.sms_world_model.proofs.Sound.{IsKnown}
 use Rattle.sms_world_model.specs.Groups.{OccursOnce}
 use Rattle.sms_world_model.specs.World.{Accepted, Allocation, World, pair_given}
-use Rattle.std.proofs.Common.{Bool, Err, List, Ok, Result, [], ap, cond, false, inl, inr, refl, subst, sym, true, ⊎_elim, ℕ, ◌%◌, ◌++◌, ◌∙◌, ◌∷◌, ◌≡◌}
+use Rattle.std.proofs.Common.{Err, List, Ok, Result, [], ap, false, inl, inr, refl, subst, sym, true, ⊎_elim, ℕ, ◌%◌, ◌++◌, ◌∙◌, ◌∷◌, ◌≡◌}
 use Rattle.std.proofs.lemmas.Bool.{cases_Bool, cond-false, cond-true, eqb-true}
 use Rattle.std.proofs.lemmas.Slice.Eq.{bytes_eq-Decides}
 use Rattle.std.specs.Str.{bytes_eq}

@@ -2,7 +2,7 @@
 use Rattle.sms_base.specs.Reading.{◌>>=◌}
 use Rattle.sms_play.proofs.answers.PlayAnswers.{no_system_error}
 use Rattle.sms_play.specs.PlayState.{PlayState}
-use Rattle.sms_play.specs.Playing.{play_state_of, report_of}
+use Rattle.sms_play.specs.Playing.{report_of}
 use Rattle.sms_play.specs.Setups.{beginning}
 use Rattle.sms_script.specs.declared.play_fault.PlayFault.{PlayFault}
 use Rattle.sms_script.specs.declared.report.Report.{Report}
@@ -13,7 +13,7 @@ use Rattle.sms_world.proofs.headline.PlainTables.{answers_ascend, lines_ascend}
 use Rattle.sms_world.proofs.headline.StatusFrames.{tags_listed}
 use Rattle.sms_world.specs.headline.PlainLaws.{AscendLaw, AscendingLaw, LongerLaw, NoErrorLaw, NoneTwiceLaw, ReceiptsLaw, ReferencesLaw}
 use Rattle.sms_world.specs.scripts_are_runs.PlayRefinement.{PlayRefines}
-use Rattle.std.proofs.Common.{Ok, Result, ap, refl, ◌≡◌}
+use Rattle.std.proofs.Common.{Ok, Result, ap, refl}
 
 pub ascending_is : AscendingLaw
 ascending_is script some others c d is on =

@@ -1,5 +1,4 @@
 -- A line becomes DELETED by a cancellation that names its message, and by nothing else.
-use Rattle.smpp_pdu.specs.declared.cancel.CancelSm.{CancelSm}
 use Rattle.sms_base.specs.Among.{Among}
 use Rattle.sms_base.specs.Reading.{◌>>=◌}
 use Rattle.sms_base.specs.declared.final_state.FinalState.{FinalState}
@@ -17,7 +16,7 @@ use Rattle.sms_play.specs.CentreSide.{state_of}
 use Rattle.sms_play.specs.Meeting.{AtCentre, Meeting, account_from, by_account}
 use Rattle.sms_play.specs.PlayState.{PlayState}
 use Rattle.sms_play.specs.PlayedEvent.{met, played, stopped}
-use Rattle.sms_play.specs.Playing.{message_lines, report_of}
+use Rattle.sms_play.specs.Playing.{report_of}
 use Rattle.sms_rows.proofs.table.Tables.{among_found, found_among, found_key, row_at_put_other}
 use Rattle.sms_script.specs.Requests.{cancel_of}
 use Rattle.sms_script.specs.declared.event.Act.TheVariants.{Cancel}
@@ -27,9 +26,8 @@ use Rattle.sms_script.specs.declared.event.WorldEvent.TheVariants.{Stopped, Whol
 use Rattle.sms_script.specs.declared.report.Report.{Report}
 use Rattle.sms_script.specs.declared.report.answers.MessageState.TheVariants.{Final as FinalLine}
 use Rattle.sms_script.specs.declared.report.rows.ReportedMessage.{ReportedMessage}
-use Rattle.sms_script.specs.declared.script.Script.{Script}
 use Rattle.sms_world.proofs.headline.DeletedSteps.{Cancels, EventDeletesNone, event_case, steps_were}
-use Rattle.sms_world.proofs.headline.PlainSteps.{IsStep, at_place, one_at, parted_at, step_of}
+use Rattle.sms_world.proofs.headline.PlainSteps.{IsStep, one_at, parted_at, step_of}
 use Rattle.sms_world.proofs.headline.Tables.{line_of, line_stays, line_there, one_line, row_of_line, same_end, state_final}
 use Rattle.sms_world.proofs.headline.TrueRequests.{Cancels as CancelsAt, Deletes, Refuses, cancel_is}
 use Rattle.sms_world.proofs.messages_have_origins.Unmoved.{Rows, meets_leaves}
@@ -48,12 +46,11 @@ use Rattle.sms_world_model.specs.Agreement.{FinalForGood}
 use Rattle.sms_world_model.specs.ScriptRun.{Happening, happened as happened_in, is_stopped}
 use Rattle.sms_world_model.specs.World.{Final, IsRecorded, State, World}
 use Rattle.sms_world_model.specs.WorldStep.{end}
-use Rattle.std.proofs.Common.{Bool, List, None, Option, Result, Some, [], ap, inl, inr, length, refl, subst, suc, sym, ⊎_elim, ℕ, ◌+◌, ◌++◌, ◌*◌, ◌-◌, ◌<◌, ◌∙◌, ◌∷◌, ◌≡◌}
+use Rattle.std.proofs.Common.{List, None, Option, Some, [], ap, inl, inr, length, refl, subst, suc, sym, ⊎_elim, ℕ, ◌+◌, ◌*◌, ◌-◌, ◌∙◌, ◌∷◌, ◌≡◌}
 use Rattle.std.proofs.lemmas.Bool.{cases_eq}
 use Rattle.std.specs.Prelude.{◌&&◌, ◌==◌, ◌⊎◌, if◌then◌else◌, nat_lt}
 use Rattle.std.specs.List.{list_all}
 use Rattle.sms_base.specs.HandsetNumber.{is_decimal}
-use Rattle.sms_script.specs.declared.play_fault.PlayFault.{PlayFault}
 
 -- ---- ids, in the words of the plain headline
 

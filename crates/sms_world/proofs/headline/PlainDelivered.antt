@@ -1,5 +1,5 @@
 -- Each line is of an event; what counts as delivered was accepted, as its event's words say; and what was accepted is a part of a message.
-use Rattle.std.proofs.Common.{◌≡◌, Bool, false, ℕ, zero, suc, ◌+◌, ◌*◌, ◌<◌, ◌≤◌, arith, List, [], ◌∷◌, ◌++◌, length, true, refl, sym, ◌∙◌, ap, subst, inl, inr, ⊎_elim, Option, Some, None}
+use Rattle.std.proofs.Common.{◌≡◌, false, ℕ, zero, suc, ◌+◌, ◌*◌, ◌<◌, ◌≤◌, arith, List, [], ◌∷◌, ◌++◌, length, true, refl, sym, ◌∙◌, ap, subst, inl, inr, ⊎_elim, Option, Some, None}
 use Rattle.std.proofs.lemmas.Bool.{cond-true}
 use Rattle.std.specs.Prelude.{◌==◌, ◌⊎◌, slice_get}
 use Rattle.sms_base.specs.Among.{Among}
@@ -15,15 +15,13 @@ use Rattle.sms_intake.specs.PartBodies.{deliver_octets, is_wish}
 use Rattle.sms_intake.specs.declared.submission.SinglePart.{SinglePart}
 use Rattle.sms_intake.specs.declared.submission.Submission.{Submission}
 use Rattle.sms_play.specs.PlayState.{Party, PlayState, numbers_of}
-use Rattle.sms_play.specs.Playing.{accepted_lines, play_state_of, played_on, report_of}
+use Rattle.sms_play.specs.Playing.{accepted_lines, played_on, report_of}
 use Rattle.sms_play.specs.Premises.{is_same_side, pairs_of}
 use Rattle.sms_play.specs.Setups.{beginning, can_be_played}
 use Rattle.sms_rows.specs.table.Keys.{pair_key}
 use Rattle.sms_rows.proofs.table.KeyLaws.{pairs_apart}
 use Rattle.sms_rows.proofs.table.Tables.{among_found, found_among, found_key}
-use Rattle.sms_script.specs.declared.event.WorldEvent.{WorldEvent}
 use Rattle.sms_script.specs.declared.report.Report.{Report}
-use Rattle.sms_script.specs.declared.report.answers.MessageState.TheVariants.{Final}
 use Rattle.sms_script.specs.declared.report.rows.AcceptedRow.{AcceptedRow}
 use Rattle.sms_script.specs.declared.report.rows.Direction.{Direction}
 use Rattle.sms_script.specs.declared.report.rows.Direction.TheVariants.{Down, Up}

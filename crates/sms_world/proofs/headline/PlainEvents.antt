@@ -1,7 +1,7 @@
 -- Each message of a report was made by one event of the script, as its words say; and its parts are DELIVERs of what that event submitted.
 use Rattle.std.proofs.Common.{◌≡◌, ℕ, zero, suc, ◌+◌, ◌<◌, ◌≤◌, arith, List, [], ◌∷◌, ◌++◌, length, length-append, Bool, true, false, refl, sym, ◌∙◌, ap, subst, inl, inr, ⊎_elim, Option, Some, None, Result, Ok, Err}
 use Rattle.std.proofs.lemmas.Bool.{cases_Bool, cond-true, le-leb, ltb-false}
-use Rattle.std.specs.Prelude.{◌⊎◌, if◌then◌else◌, nat_le, nat_lt, slice_get}
+use Rattle.std.specs.Prelude.{◌⊎◌, if◌then◌else◌, nat_le, nat_lt}
 use Rattle.std.specs.Str.{chars}
 use Rattle.sms_base.specs.Among.{Among}
 use Rattle.sms_base.specs.HandsetNumber.{own_address}
@@ -11,7 +11,6 @@ use Rattle.sms_base.specs.declared.carried.Kind.{Kind}
 use Rattle.sms_base.specs.declared.carried.Kind.TheVariants.{Ack, Data, Error}
 use Rattle.sms_base.specs.declared.holder.Holder.{Holder}
 use Rattle.sms_base.specs.declared.holder.Holder.TheVariants.{Entry, Memory, Part, Report as ReportHolder}
-use Rattle.sms_base.specs.declared.originator.Originator.TheVariants.{Handset}
 use Rattle.sms_base.specs.declared.wish.Wish.{Wish}
 use Rattle.sms_base.specs.declared.wish.Wish.TheVariants.{Always, Nothing}
 use Rattle.smpp_pdu.specs.declared.status.CommandStatus.{CommandStatus}
@@ -31,7 +30,6 @@ use Rattle.sms_concat.specs.UserData.{capacity}
 use Rattle.sms_concat.specs.declared.content.Part.{Part as PartOf}
 use Rattle.sms_concat.specs.declared.split_error.SplitError.{SplitError}
 use Rattle.sms_intake.specs.PartBodies.{bodies_of, bodies_under, is_long, is_wish, parts_or_none}
-use Rattle.sms_intake.specs.declared.submission.CentreAccount.{CentreAccount}
 use Rattle.sms_intake.specs.declared.submission.SinglePart.{SinglePart}
 use Rattle.sms_intake.specs.declared.submission.Submission.{Submission}
 use Rattle.sms_intake.specs.declared.submission.Text.{Text}
@@ -62,18 +60,15 @@ use Rattle.sms_script.specs.declared.report.Report.{Report}
 use Rattle.sms_script.specs.declared.report.answers.Answer.{Answer}
 use Rattle.sms_script.specs.declared.report.answers.Answered.TheVariants.{Accepted}
 use Rattle.sms_script.specs.declared.report.rows.Direction.{Direction}
-use Rattle.sms_script.specs.declared.report.rows.Direction.TheVariants.{Up}
 use Rattle.sms_script.specs.declared.report.rows.FrameRow.{FrameRow}
-use Rattle.sms_script.specs.declared.report.rows.ReportedMessage.{ReportedMessage}
 use Rattle.sms_script.specs.declared.script.Script.{Script}
-use Rattle.sms_script.specs.declared.setup.AccountSetup.{AccountSetup}
 use Rattle.sms_script.specs.declared.setup.HandsetSetup.{HandsetSetup}
 use Rattle.sms_script.specs.declared.setup.Setup.{Setup}
 use Rattle.sms_play.specs.CentreSide.{centre_meets, whole, with_answer}
 use Rattle.sms_play.specs.Meeting.{account_from}
 use Rattle.sms_play.specs.PlayState.{PlayState, numbers_of}
 use Rattle.sms_play.specs.PlayedEvent.{met, played}
-use Rattle.sms_play.specs.Playing.{play_state_of, report_of}
+use Rattle.sms_play.specs.Playing.{play_state_of}
 use Rattle.sms_play.specs.Setups.{beginning, centre_setup, parties_of}
 use Rattle.sms_tpdu.specs.MoreMessages.{compared}
 use Rattle.sms_tpdu.specs.TpduReading.{data_up_at, submit_at, up_at}
@@ -82,20 +77,17 @@ use Rattle.sms_tpdu.specs.declared.fault.TpduFault.{TpduFault}
 use Rattle.sms_tpdu.specs.declared.submit.Submit.{Submit as SubmitOf}
 use Rattle.sms_tpdu.specs.declared.up.Up.{Up as UpUnit}
 use Rattle.sms_tpdu.specs.declared.up.Up.TheVariants.{Submit as SubmitUp}
-use Rattle.sms_world.specs.frames_pass_between_sides.FramesUp.{CarriesUp, IsBare, IsOfKind, IsWhole}
-use Rattle.sms_world.specs.headline.HeadlineLaws.{LeadsOn}
-use Rattle.sms_world.specs.headline.Origins.{ActMakes, IsDeliverFor, IsDeliverOfSubmit, IsFrom, Makes, part_numbered}
+use Rattle.sms_world.specs.frames_pass_between_sides.FramesUp.{IsBare, IsOfKind, IsWhole}
+use Rattle.sms_world.specs.headline.Origins.{ActMakes, IsDeliverFor, IsFrom, Makes, part_numbered}
 use Rattle.sms_world.specs.headline.Origins.{IsOfApplication as IsRowOfApplication, IsOfHandset as IsRowOfHandset}
 use Rattle.sms_world.specs.headline.PlainLaws.{AreReports}
-use Rattle.sms_world.specs.headline.PlainReport.{Appears, HasLine, IsAnswered, IsOfApplication, IsOfEvent, IsOfOwner, Origin}
-use Rattle.sms_world.specs.headline.PlainScript.{Does, IsAskedBy, IsWrittenBy}
+use Rattle.sms_world.specs.headline.PlainReport.{HasLine, IsAnswered, IsOfApplication, IsOfEvent, IsOfOwner, Origin}
+use Rattle.sms_world.specs.headline.PlainScript.{Does, IsAskedBy}
 use Rattle.sms_world.specs.headline.PlainWords.{numbered}
 use Rattle.sms_world.specs.headline.SeenFrames.{frame_tpdu, unit_tpdu}
 use Rattle.sms_world.specs.headline.SentRows.{IsWholeBy}
 use Rattle.sms_world.specs.headline.TypedEvents.{AreTyped}
-use Rattle.sms_world.specs.scripts_are_runs.PlayRefinement.{PlayRefines}
-use Rattle.sms_world_model.specs.World.{World}
-use Rattle.sms_world.proofs.headline.AnsweredSubmits.{account_met, submit_next, whole_answers}
+use Rattle.sms_world.proofs.headline.AnsweredSubmits.{account_met, submit_next}
 use Rattle.sms_world.proofs.headline.AskedWords.{account_of, read_is}
 use Rattle.sms_world.proofs.headline.Claimed.{can_play}
 use Rattle.sms_world.proofs.headline.EntryFrames.{HolderSays}
@@ -104,11 +96,11 @@ use Rattle.sms_world.proofs.headline.PlainEntries.{IsOwners, owners_known}
 use Rattle.sms_world.proofs.headline.PlainGrowth.{Leaves, event_leaves}
 use Rattle.sms_world.proofs.headline.PlainNamed.{has_line, line_stored, next_is_free}
 use Rattle.sms_world.proofs.headline.PlainOwners.{account_named}
-use Rattle.sms_world.proofs.headline.PlainSteps.{IsStep, at_place, is_script, last_of, on_last, all_of, step_of}
+use Rattle.sms_world.proofs.headline.PlainSteps.{IsStep, at_place, last_of, on_last, all_of, step_of}
 use Rattle.sms_world.proofs.headline.Tables.{line_of}
 use Rattle.sms_world.proofs.messages_have_origins.EventsMake.{WasStoredIn}
 use Rattle.sms_world.proofs.messages_have_origins.OriginClaims.{origin_is}
-use Rattle.sms_world.proofs.messages_have_origins.Unmoved.{Rows, meets_leaves, rows_in, rows_of}
+use Rattle.sms_world.proofs.messages_have_origins.Unmoved.{Rows, meets_leaves}
 use Rattle.sms_world.proofs.scripts_are_runs.Events.{ok_play, same_play}
 use Rattle.sms_world.proofs.scripts_are_runs.Growing.{in_rest}
 

@@ -1,5 +1,5 @@
 -- What each event leaves: the centre's setup, which handsets there are, and the frames that were sent.
-use Rattle.std.proofs.Common.{◌≡◌, ℕ, zero, suc, ◌+◌, List, [], ◌∷◌, ◌++◌, length, true, refl, ◌∙◌, subst, inl, inr, ⊎_elim, Option, Some, None, Result, Ok, Err}
+use Rattle.std.proofs.Common.{◌≡◌, ℕ, zero, suc, ◌+◌, List, [], ◌∷◌, ◌++◌, length, true, refl, ◌∙◌, subst, Option, Some, None, Result, Ok, Err}
 use Rattle.std.proofs.lemmas.Bool.{cond_both}
 use Rattle.sms_base.specs.Among.{Among}
 use Rattle.sms_base.specs.Reading.{◌>>=◌}
@@ -7,7 +7,7 @@ use Rattle.sms_link.specs.declared.outgoing.Outgoing.{Outgoing}
 use Rattle.sms_centre_rows.specs.declared.reports.delivery.Delivery.{Delivery}
 use Rattle.sms_centre_rows.specs.declared.waiting.handset_link.Sent.{Sent as SentDown}
 use Rattle.sms_centre_spec.specs.CentreEvent.{happened as centre_happened}
-use Rattle.sms_centre_spec.specs.Draft.{Draft as CentreDraft, core_of}
+use Rattle.sms_centre_spec.specs.Draft.{Draft as CentreDraft}
 use Rattle.sms_centre_spec.specs.SoundCore.{IsEvent, IsSoundCore}
 use Rattle.sms_centre_spec.specs.declared.answer.CentreAnswer.{CentreAnswer}
 use Rattle.sms_centre_spec.specs.declared.event.CentreEvent.{CentreEvent}

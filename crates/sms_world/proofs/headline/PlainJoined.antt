@@ -1,12 +1,11 @@
 -- What handsets joined is whole and joined once, as the lines of a report say it.
-use Rattle.std.proofs.Common.{◌≡◌, ℕ, zero, suc, ◌+◌, ◌<◌, ◌≤◌, arith, List, [], ◌∷◌, ◌++◌, length, refl, sym, ◌∙◌, ap, subst, inl, inr, ⊎_elim, Option, Some, None, Result, Ok, Err}
+use Rattle.std.proofs.Common.{◌≡◌, ℕ, zero, suc, ◌<◌, List, [], ◌∷◌, ◌++◌, length, refl, sym, ◌∙◌, ap, subst, inl, inr, ⊎_elim, Option, Some, None, Result, Ok, Err}
 use Rattle.std.specs.Prelude.{◌⊎◌}
 use Rattle.sms_alphabet.specs.declared.scheme.Coding.{Coding}
 use Rattle.sms_alphabet.specs.declared.scheme.Coding.TheVariants.{Compressed, Octets, Septets, Ucs2}
 use Rattle.sms_alphabet.specs.declared.unpacking.UnpackError.{UnpackError}
 use Rattle.sms_base.specs.Among.{Among}
 use Rattle.sms_base.specs.declared.address.Address.{Address}
-use Rattle.sms_base.specs.declared.holder.Holder.{Holder}
 use Rattle.sms_base.specs.declared.holder.Holder.TheVariants.{Part}
 use Rattle.sms_centre_rows.specs.declared.messages.message.MessageRow.{MessageRow}
 use Rattle.sms_centre_rows.specs.declared.messages.part.PartRow.{PartRow}
@@ -14,43 +13,39 @@ use Rattle.sms_centre_rows.specs.messages.Messages.{part_at, part_key}
 use Rattle.sms_centre_spec.specs.SoundCore.{AreDifferent}
 use Rattle.sms_concat.specs.Joining.{content_joined}
 use Rattle.sms_concat.specs.UserDataWriting.{part_in}
-use Rattle.sms_concat.specs.declared.content.Content.{Content}
 use Rattle.sms_concat.specs.declared.content.Part.{Part as PartOf}
 use Rattle.sms_intake.specs.declared.submission.SinglePart.{SinglePart}
 use Rattle.sms_intake.specs.declared.submission.Submission.{Submission}
 use Rattle.sms_play.specs.HandsetSide.{coding_of}
 use Rattle.sms_play.specs.PlayState.{Party, PlayState, numbers_of}
-use Rattle.sms_play.specs.Playing.{joined_lines, report_of}
+use Rattle.sms_play.specs.Playing.{joined_lines}
 use Rattle.sms_play.specs.Premises.{pairs_of}
 use Rattle.sms_play.specs.Setups.{beginning}
 use Rattle.sms_rows.proofs.table.Tables.{among_found}
 use Rattle.sms_script.specs.declared.report.Report.{Report}
 use Rattle.sms_script.specs.declared.report.rows.Direction.TheVariants.{Down}
 use Rattle.sms_script.specs.declared.report.rows.GivenRow.{GivenRow}
-use Rattle.sms_script.specs.declared.report.rows.JoinedCoding.{JoinedCoding}
 use Rattle.sms_script.specs.declared.report.rows.JoinedRow.{JoinedRow}
 use Rattle.sms_script.specs.declared.report.rows.ReportedMessage.{ReportedMessage}
 use Rattle.sms_script.specs.declared.script.Script.{Script}
 use Rattle.sms_tpdu.specs.MoreMessages.{compared}
-use Rattle.sms_tpdu.specs.TpduReading.{down_at}
-use Rattle.sms_tpdu.specs.declared.carrier.Carrier.TheVariants.{InData}
 use Rattle.sms_tpdu.specs.declared.deliver.Deliver.{Deliver as DeliverOf}
 use Rattle.sms_tpdu.specs.declared.down.Down.{Down as DownUnit}
 use Rattle.sms_tpdu.specs.declared.down.Down.TheVariants.{Deliver}
 use Rattle.sms_tpdu.specs.declared.fault.TpduFault.{TpduFault}
-use Rattle.sms_world.specs.headline.Claims.{AllFresh, AllTimely, AreJoinedRounds, GivenOnce, IsGivenTo, IsJoinedRound, IsLongMessage, IsPartOf, IsStamped, JoinedWhole, pair_in_row}
+use Rattle.sms_world.specs.headline.Claims.{AllTimely, AreJoinedRounds, GivenOnce, IsJoinedRound, IsLongMessage, IsPartOf, IsStamped, JoinedWhole, pair_in_row}
 use Rattle.sms_world.specs.headline.Claims.{HaveNoneInCommon as RoundsApart}
 use Rattle.sms_world.specs.headline.Origins.{IsDeliverFor}
 use Rattle.sms_world.specs.headline.PlainLaws.{AreReports, JoinedPiecesLaw}
-use Rattle.sms_world.specs.headline.PlainReport.{AreJoined, EachJoined, HaveNoneInCommon, IsAcceptedOnce, IsJoined, IsPiece, Piece, contents}
+use Rattle.sms_world.specs.headline.PlainReport.{AreJoined, HaveNoneInCommon, IsAcceptedOnce, IsJoined, IsPiece, Piece, contents}
 use Rattle.sms_world.specs.headline.PlainWords.{joined_coding}
-use Rattle.sms_world.specs.headline.SplitClaims.{IsSplitUnder, split_key}
+use Rattle.sms_world.specs.headline.SplitClaims.{split_key}
 use Rattle.sms_world.specs.headline.TypedEvents.{AreTyped}
 use Rattle.sms_world.specs.scripts_are_runs.PlayRefinement.{PlayRefines}
 use Rattle.sms_world_model.proofs.Alike.{place_alike}
 use Rattle.sms_world_model.proofs.Keys.{for_is}
 use Rattle.sms_world_model.specs.Groups.{carried_by, number_in, parts_to}
-use Rattle.sms_world_model.specs.Place.{Key, Place, carried_in, part_of as part_or_none, part_read, place_in, with_part}
+use Rattle.sms_world_model.specs.Place.{Key, carried_in, part_of as part_or_none, part_read, place_in, with_part}
 use Rattle.sms_world_model.specs.World.{Accepted}
 use Rattle.sms_world.proofs.headline.Claimed.{joined_whole_is}
 use Rattle.sms_world.proofs.headline.GivenRows.{given_once}

@@ -7,8 +7,7 @@ use Rattle.sms_centre_rows.specs.reports.Receipts.{is_account}
 use Rattle.sms_centre_spec.proofs.SteadyTimes.{above_among}
 use Rattle.sms_play.specs.CentreSide.{state_of}
 use Rattle.sms_play.specs.PlayState.{PlayState}
-use Rattle.sms_play.specs.PlayedEvent.{played}
-use Rattle.sms_play.specs.Playing.{message_lines, report_of}
+use Rattle.sms_play.specs.Playing.{message_lines}
 use Rattle.sms_rows.proofs.table.Places.{without_gap}
 use Rattle.sms_rows.proofs.table.Tables.{found_among, found_key, insert_behind, insert_here, without_behind, without_here}
 use Rattle.sms_rows.specs.table.Table.{AllAbove, Rises, insert, put, without}
@@ -21,23 +20,22 @@ use Rattle.sms_script.specs.declared.report.answers.Answer.{Answer}
 use Rattle.sms_script.specs.declared.report.answers.Answered.{Answered}
 use Rattle.sms_script.specs.declared.report.answers.Answered.TheVariants.{Found, Status}
 use Rattle.sms_script.specs.declared.report.answers.MessageState.{MessageState}
-use Rattle.sms_script.specs.declared.report.answers.MessageState.TheVariants.{Enroute, Final as FinalLine}
+use Rattle.sms_script.specs.declared.report.answers.MessageState.TheVariants.{Final as FinalLine}
 use Rattle.sms_script.specs.declared.report.rows.ReportedMessage.{ReportedMessage}
 use Rattle.sms_script.specs.declared.script.Script.{Script}
 use Rattle.sms_world.proofs.headline.PlainDeleted.{same_id}
 use Rattle.sms_world.proofs.headline.PlainNamed.{IsAnswerAt, answer_at}
 use Rattle.sms_world.proofs.headline.PlainOwners.{account_named, own_is}
-use Rattle.sms_world.proofs.headline.PlainSteps.{IsStep, at_place, step_of}
+use Rattle.sms_world.proofs.headline.PlainSteps.{IsStep, at_place}
 use Rattle.sms_world.proofs.headline.Tables.{line_of, line_there}
 use Rattle.sms_world.proofs.headline.TrueRequests.{cancel_true, query_true}
-use Rattle.sms_world.proofs.scripts_are_runs.Events.{ok_play}
 use Rattle.sms_world.specs.headline.PlainLaws.{AreReports, CancelsLaw, QueriesLaw}
 use Rattle.sms_world.specs.headline.PlainReport.{IsCancelled, IsChanged, IsFoundTruly, IsOwn}
 use Rattle.sms_world.specs.headline.PlainWords.{id_in, numbered}
 use Rattle.sms_world.specs.headline.RequestClaims.{IsAnswered, IsNamedBy}
 use Rattle.sms_world.specs.headline.RequestClaims.{IsCancelled as CancelsSo, IsQueried}
 use Rattle.sms_world.specs.headline.TypedEvents.{AreTyped}
-use Rattle.std.proofs.Common.{Bool, List, None, Option, Some, [], ap, arith, false, inl, inr, length, refl, subst, suc, sym, true, zero, ⊎_elim, ℕ, ◌+◌, ◌++◌, ◌<◌, ◌≤◌, ◌∙◌, ◌∷◌, ◌≡◌}
+use Rattle.std.proofs.Common.{List, Some, [], ap, arith, false, inl, inr, length, refl, subst, suc, sym, true, ⊎_elim, ℕ, ◌+◌, ◌++◌, ◌<◌, ◌≤◌, ◌∙◌, ◌∷◌, ◌≡◌}
 use Rattle.std.proofs.lemmas.Bool.{cases_Bool, cond-false, cond-true, eqb-false}
 use Rattle.std.proofs.lemmas.Option.{slice_get_within}
 use Rattle.std.specs.Prelude.{slice_get, ◌==◌}

@@ -1,6 +1,5 @@
 -- An event leaves the lines of messages, their final states, and receipts.
 use Rattle.sms_base.specs.Among.{Among}
-use Rattle.sms_base.specs.declared.final_state.FinalState.{FinalState}
 use Rattle.sms_play.specs.PlayState.{PlayState}
 use Rattle.sms_play.specs.PlayedEvent.{played}
 use Rattle.sms_play.specs.Playing.{report_of}

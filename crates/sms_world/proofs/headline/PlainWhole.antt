@@ -1,5 +1,5 @@
 -- The whole plain headline, from its claims one by one, and of each report.
-use Rattle.std.proofs.Common.{◌≡◌, ℕ, List, [], length, sym, ◌∙◌, ap, subst, Option, None, Result, Ok}
+use Rattle.std.proofs.Common.{◌≡◌, ℕ, List, [], length, sym, ◌∙◌, ap, subst, Option, Result, Ok}
 use Rattle.sms_base.specs.Among.{Among}
 use Rattle.sms_base.specs.declared.holder.Holder.{Holder}
 use Rattle.sms_control.specs.ControlReading.{cp_at}

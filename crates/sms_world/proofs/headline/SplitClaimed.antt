@@ -1,5 +1,5 @@
 -- The claims of messages that the centre split, of every script.
-use Rattle.std.proofs.Common.{◌≡◌, ℕ, ◌+◌, List, ◌∷◌, length, sym, ◌∙◌, subst, Some, Result, Ok, Err}
+use Rattle.std.proofs.Common.{◌≡◌, ℕ, ◌+◌, List, length, sym, ◌∙◌, subst, Some, Result, Ok, Err}
 use Rattle.sms_base.specs.Reading.{◌>>=◌}
 use Rattle.sms_concat.specs.declared.content.Content.{Content}
 use Rattle.sms_centre_rows.specs.declared.messages.message.MessageRow.{MessageRow}

@@ -1,5 +1,5 @@
 -- A message that an event of a script adds has the number that was next.
-use Rattle.std.proofs.Common.{◌≡◌, ℕ, List, Bool, true, Option, Some, None, Result, Ok, Err, refl, sym, ◌∙◌, ap, subst}
+use Rattle.std.proofs.Common.{◌≡◌, ℕ, Option, Some, None, Result, Ok, Err, refl, sym, ◌∙◌, ap, subst}
 use Rattle.std.proofs.lemmas.Bool.{cond_both}
 use Rattle.sms_base.specs.Among.{Among}
 use Rattle.sms_base.specs.Reading.{◌>>=◌}
@@ -29,8 +29,7 @@ use Rattle.sms_play.specs.PlayState.{PlayState, Party, answer, party_at}
 use Rattle.sms_play.specs.HandsetSide.{handset_meets, happened, is_owners, with_answer, whole}
 use Rattle.sms_play.specs.Meeting.{AtCentre, AtHandset, Meeting, is_answered, meeting_of}
 use Rattle.sms_play.specs.PlayedEvent.{handset_stored, handset_restarted, handset_restarts, stored, met, played, restart, restarted, stopped}
-use Rattle.sms_world_model.specs.Submission.{Submission}
-use Rattle.sms_world_model.specs.World.{State, IsRecorded, World}
+use Rattle.sms_world_model.specs.World.{IsRecorded, World}
 use Rattle.sms_world.specs.headline.OneRun.{EntersNext}
 use Rattle.sms_world.specs.scripts_are_runs.PlayRefinement.{PlayRefines}
 use Rattle.sms_world.specs.scripts_are_runs.Happening.{HandsOctets, IsGoodEvent}

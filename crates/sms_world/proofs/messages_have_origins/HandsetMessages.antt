@@ -1,5 +1,5 @@
 -- A handset's message is what the SUBMIT in a frame asks for.
-use Rattle.std.proofs.Common.{◌≡◌, ℕ, ◌<◌, ◌≤◌, arith, List, [], length, refl, sym, ◌∙◌, ap, subst, ⊎_elim, Option, Some, None, Result, Ok}
+use Rattle.std.proofs.Common.{◌≡◌, ℕ, ◌<◌, ◌≤◌, arith, List, [], length, refl, sym, ◌∙◌, ap, subst, Option, Some, None, Result, Ok}
 use Rattle.sms_base.specs.Among.{Among}
 use Rattle.sms_base.specs.declared.address.Address.{Address}
 use Rattle.sms_base.specs.declared.carried.Carried.{Carried as Carries}

@@ -1,5 +1,5 @@
 -- A run over a front that is enough to judge a text ends as one over the text.
-use Rattle.std.proofs.Common.{◌≡◌, ℕ, List, Option, Some, None, Result, sym, subst, ap, ◌∙◌}
+use Rattle.std.proofs.Common.{◌≡◌, ℕ, List, Option, Some, None, Result, subst, ap, ◌∙◌}
 use Rattle.std.specs.Prelude.{IfSome}
 use Rattle.sms_play.specs.Running.{Ran, ran, run_of}
 use Rattle.sms_script.specs.Limits.{IsEnoughOf}

@@ -1,7 +1,6 @@
 -- How a run over the text of a script ends, by how its calls end.
 use Rattle.std.proofs.Common.{◌≡◌, ℕ, List, sym, subst, ap, ◌∙◌, Option, Result, Ok, Err}
 use Rattle.std.specs.Prelude.{IfOk, IsOk}
-use Rattle.sms_base.specs.Reading.{◌>>=◌}
 use Rattle.sms_play.specs.Playing.{play_of, premises_of}
 use Rattle.sms_play.specs.Running.{Ran, Stopped, Wrote, ran, reported, run_of}
 use Rattle.sms_script.specs.declared.play_fault.PlayFault.{PlayFault}

@@ -1,6 +1,5 @@
 -- A message that comes of a submit_sm is the submission that the PDU reads as.
 use Rattle.std.proofs.Common.{◌≡◌, ◌⊎◌, inl, inr, ℕ, ◌<◌, List, Option, Some, None, Result, Ok, Err, refl, sym, ◌∙◌, ap, subst, ⊎_elim}
-use Rattle.std.specs.Prelude.{if◌then◌else◌}
 use Rattle.std.proofs.lemmas.Bool.{cases_eq, cond-false, cond-true, cond_both}
 use Rattle.smpp_pdu.specs.declared.message.Message.{Message as Pdu}
 use Rattle.smpp_pdu.specs.declared.status.CommandStatus.{CommandStatus}

@@ -1,15 +1,11 @@
 -- A frame that is late is not timely, and a reference that is used again before its message has arrived is not fresh.
-use Rattle.std.proofs.Common.{◌≡◌, arith, ℕ, ◌<◌, ◌≤◌, List, [], ◌∷◌, Bool, true, false, refl, sym, ◌∙◌, ap, inl, inr, ⊎_elim, Some, Ok}
-use Rattle.std.specs.Prelude.{◌⊎◌}
+use Rattle.std.proofs.Common.{◌≡◌, arith, ◌<◌, ◌≤◌, [], ◌∷◌, true, false, refl, sym, ◌∙◌, ap, inl, ⊎_elim}
 use Rattle.jiff_core.specs.Calendar.{days_from_civil, day_count, days_of_years, days_of_months}
 use Rattle.sms_alphabet.specs.Concatenation.{key_of}
 use Rattle.sms_alphabet.specs.HeaderGrammar.{header_at, elements_behind}
 use Rattle.sms_alphabet.specs.declared.concat_key.ConcatReference.TheVariants.{EightBit}
-use Rattle.sms_base.specs.Among.{Among}
 use Rattle.sms_base.specs.Reading.{run_in}
 use Rattle.sms_base.specs.TimeStamp.{scts_in, clock_in, zone_in, moment_in}
-use Rattle.sms_base.specs.declared.address.Address.{Address}
-use Rattle.sms_base.specs.declared.holder.Holder.{Holder}
 use Rattle.sms_base.specs.declared.holder.Holder.TheVariants.{Part}
 use Rattle.sms_base.specs.declared.type_of_number.TypeOfNumber.TheVariants.{International}
 use Rattle.sms_tpdu.specs.AddressReading.{address_in, type_of_number_in, characters_in, digits_in, two_digits_in}
@@ -17,11 +13,11 @@ use Rattle.sms_tpdu.specs.TimeReading.{time_in}
 use Rattle.sms_tpdu.specs.TpduReading.{down_at, data_down_at, deliver_at}
 use Rattle.sms_tpdu.specs.UserDataReading.{text_in, text_test, user_data_in}
 use Rattle.sms_world.specs.wrong_reports.Literals.{handset}
-use Rattle.sms_world.specs.wrong_reports.Worlds.{FreshLaw, InTimeLaw, LateLaw, ReusedLaw, again_given, first_given, first_of_two, given_to}
+use Rattle.sms_world.specs.wrong_reports.Worlds.{FreshLaw, InTimeLaw, LateLaw, ReusedLaw, again_given, first_given, given_to}
 use Rattle.sms_world_model.specs.Groups.{is_among, is_for, number_in, numbers, rounds_of}
-use Rattle.sms_world_model.specs.Place.{Key, Place, place_in}
+use Rattle.sms_world_model.specs.Place.{Key, place_in}
 use Rattle.sms_world_model.specs.Premises.{AllArrived}
-use Rattle.sms_world_model.specs.World.{Accepted, Allocation, IsLatest, SameReference}
+use Rattle.sms_world_model.specs.World.{Allocation, IsLatest, SameReference}
 
 other_message : Part 2 1 ≡ Part 1 1 → ⊥
 other_message e = absurd cc

@@ -1,25 +1,24 @@
-use Rattle.std.proofs.Common.{rules, arith, ◌≡◌, ℕ, zero, suc, List, [], ◌∷◌, Bool, true, false, refl, sym, ◌∙◌, ap, subst, inl, inr, ⊎_elim, Option, Some, None, ◌<◌}
-use Rattle.std.specs.Prelude.{◌⊎◌}
+use Rattle.std.proofs.Common.{arith, ◌≡◌, ℕ, zero, suc, List, [], ◌∷◌, false, refl, sym, ◌∙◌, ap, subst, inl, ⊎_elim, Some, ◌<◌}
 use Rattle.sms_base.specs.Among.{Among}
 use Rattle.sms_script.specs.declared.report.rows.ReportedMessage.{ReportedMessage}
 use Rattle.sms_script.specs.declared.report.rows.ReceiptRow.{ReceiptRow}
 use Rattle.sms_script.specs.declared.report.answers.MessageState.{MessageState}
 use Rattle.sms_script.specs.declared.report.answers.MessageState.TheVariants.{Enroute, Final}
 use Rattle.sms_base.specs.declared.final_state.FinalState.{FinalState}
-use Rattle.sms_base.specs.declared.final_state.FinalState.TheVariants.{Delivered, Expired, Deleted}
-use Rattle.std.specs.Prelude.{◌≤◌, length}
+use Rattle.sms_base.specs.declared.final_state.FinalState.TheVariants.{Delivered, Deleted}
+use Rattle.std.specs.Prelude.{◌≤◌}
 use Rattle.sms_intake.specs.SmppText.{plain_text}
 use Rattle.sms_concat.specs.Cutting.{split_of}
 use Rattle.sms_tpdu.specs.MoreMessages.{compared}
 use Rattle.sms_world.proofs.wrong_reports.Apart.{only_line}
 use Rattle.sms_world.proofs.wrong_reports.Read.{part, content, octets_are}
-use Rattle.sms_world.specs.wrong_reports.Literals.{account, accepted, answer, asked, deliver, ended, events, given, good, handed, handset, hello_octets, line, name, nothing, receipt, reports, setup, source, submits, taken}
+use Rattle.sms_world.specs.wrong_reports.Literals.{account, accepted, answer, asked, events, given, good, handed, handset, hello_octets, line, name, nothing, receipt, reports, setup, source, submits, taken}
 use Rattle.sms_base.specs.HandsetNumber.{own_address}
 use Rattle.sms_intake.specs.PartTexts.{deliver_octets}
-use Rattle.sms_world.specs.headline.PlainHeadline.{Answers, Deliveries, Messages, PlainHeadline, Receipts}
-use Rattle.sms_world.specs.headline.PlainReport.{Appears, HasLine, IsAcceptedOnce, IsOfApplication, IsOfEvent, IsPartOf, NamesMessage, Origin, Stays, WasDelivered, OnlyCancelsDelete, QueriesAreTrue, CancelsAreTrue, compared_line}
+use Rattle.sms_world.specs.headline.PlainHeadline.{Answers}
+use Rattle.sms_world.specs.headline.PlainReport.{Appears, IsAcceptedOnce, IsOfApplication, IsOfEvent, IsPartOf, NamesMessage, Origin, Stays, WasDelivered, compared_line}
 use Rattle.sms_world.specs.headline.PlainScript.{IsAskedBy}
-use Rattle.sms_world.specs.headline.PlainWords.{OccursOnce, numbered}
+use Rattle.sms_world.specs.headline.PlainWords.{numbered}
 use Rattle.sms_world.specs.wrong_reports.Tried.{GoodLaw}
 use Rattle.sms_base.specs.declared.originator.Originator.TheVariants.{Application}
 use Rattle.sms_base.specs.declared.wish.Wish.TheVariants.{Always}
@@ -27,14 +26,10 @@ use Rattle.sms_intake.specs.declared.submission.SinglePart.{SinglePart}
 use Rattle.sms_intake.specs.declared.submission.Submission.{Submission}
 use Rattle.sms_intake.specs.declared.submission.Text.TheVariants.{Whole as WholeText}
 use Rattle.sms_script.specs.declared.report.rows.AcceptedRow.{AcceptedRow}
-use Rattle.sms_script.specs.declared.event.Act.{Act}
-use Rattle.sms_script.specs.declared.event.Act.TheVariants.{Submit, Query, Cancel}
+use Rattle.sms_script.specs.declared.event.Act.TheVariants.{Query, Cancel}
 use Rattle.sms_script.specs.declared.report.answers.Answer.{Answer}
-use Rattle.sms_script.specs.declared.report.answers.Answered.{Answered}
 use Rattle.sms_script.specs.declared.report.answers.Answered.TheVariants.{Accepted, Status}
 use Rattle.smpp_pdu.specs.declared.status.CommandStatus.TheVariants.{ESME_RSYSERR}
-use Rattle.sms_script.specs.declared.report.Report.{Report}
-use Rattle.sms_script.specs.declared.event.WorldEvent.{WorldEvent}
 use Rattle.sms_script.specs.declared.event.WorldEvent.TheVariants.{Whole}
 
 -- ---- what was submitted

@@ -1,5 +1,4 @@
-use Rattle.std.proofs.Common.{arith, Bool, ◌≡◌, ℕ, zero, suc, List, [], ◌∷◌, refl, sym, ◌∙◌, ap, subst, inl, inr, ⊎_elim, Option, Some, None, ◌<◌, Ok, Result}
-use Rattle.std.specs.Prelude.{◌⊎◌, ◌≤◌}
+use Rattle.std.proofs.Common.{Bool, ◌≡◌, ℕ, zero, suc, List, [], ◌∷◌, refl, sym, ◌∙◌, ap, subst, inl, ⊎_elim, Option, Some, None, Ok, Result}
 use Rattle.sms_base.specs.Among.{Among}
 use Rattle.sms_concat.specs.Cutting.{filled, split_of}
 use Rattle.sms_concat.specs.declared.content.Content.{Content}

@@ -1,15 +1,7 @@
-use Rattle.std.proofs.Common.{rules, arith, ◌≡◌, ℕ, zero, suc, List, [], ◌∷◌, Bool, true, false, refl, sym, ◌∙◌, ap, subst, inl, inr, ⊎_elim, Option, Some, None, ◌<◌}
-use Rattle.std.specs.Prelude.{◌⊎◌}
-use Rattle.sms_base.specs.Among.{Among}
-use Rattle.sms_script.specs.declared.report.rows.ReportedMessage.{ReportedMessage}
-use Rattle.sms_script.specs.declared.report.rows.ReceiptRow.{ReceiptRow}
-use Rattle.sms_script.specs.declared.report.answers.MessageState.{MessageState}
-use Rattle.sms_script.specs.declared.report.answers.MessageState.TheVariants.{Enroute, Final}
-use Rattle.sms_base.specs.declared.final_state.FinalState.{FinalState}
-use Rattle.sms_base.specs.declared.final_state.FinalState.TheVariants.{Delivered, Expired, Deleted}
+use Rattle.std.proofs.Common.{◌≡◌, List, [], ◌∷◌, refl, inl, Some, None}
 use Rattle.sms_world.specs.wrong_reports.Literals.{setup, events, reports, joined_of_nothing}
 use Rattle.sms_script.specs.declared.report.rows.JoinedRow.{JoinedRow}
-use Rattle.sms_world.specs.headline.PlainReport.{AreJoined, IsJoined, Piece, IsPiece, contents}
+use Rattle.sms_world.specs.headline.PlainReport.{AreJoined, IsJoined, Piece}
 use Rattle.sms_world.specs.wrong_reports.Tried.{JoinedLaw}
 
 -- no message has a line, so there is no piece, and of none nothing is joined

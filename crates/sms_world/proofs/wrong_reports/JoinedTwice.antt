@@ -26,13 +26,11 @@ use Rattle.sms_script.specs.declared.event.StopPoint.TheVariants.{After}
 use Rattle.sms_script.specs.declared.event.Submission.{Submission as ScriptSubmission}
 use Rattle.sms_script.specs.declared.event.WorldEvent.{WorldEvent}
 use Rattle.sms_script.specs.declared.event.WorldEvent.TheVariants.{Stopped, Whole}
-use Rattle.sms_script.specs.declared.report.Report.{Report}
-use Rattle.sms_script.specs.declared.report.rows.JoinedRow.{JoinedRow}
 use Rattle.sms_script.specs.declared.report.rows.ReportedMessage.{ReportedMessage}
 use Rattle.sms_world.specs.headline.PlainReport.{AreJoined, HasLine, HaveNoneInCommon, IsJoined, IsOfApplication, IsOfEvent, IsOfOwner, IsPiece, Origin, Piece, contents}
 use Rattle.sms_world.specs.headline.PlainScript.{Does}
 use Rattle.sms_world.specs.headline.PlainWords.{numbered}
-use Rattle.sms_world.specs.wrong_reports.Literals.{joined_row, joined_twice, nothing, piece_asked, piece_events, piece_line, piece_reports, setup}
+use Rattle.sms_world.specs.wrong_reports.Literals.{joined_row, joined_twice, piece_asked, piece_events, piece_line, piece_reports, setup}
 use Rattle.sms_world.specs.wrong_reports.Tried.{JoinedTwiceLaw}
 
 -- ---- what was submitted

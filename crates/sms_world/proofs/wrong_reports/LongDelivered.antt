@@ -1,9 +1,7 @@
 -- A text of two parts was delivered: each part was accepted once, under its own reference.
-use Rattle.std.proofs.Common.{arith, ◌≡◌, ℕ, zero, suc, ◌≤◌, List, [], ◌∷◌, false, true, refl, sym, ◌∙◌, ap, subst, inl, inr, ⊎_elim, Option, Some, None}
-use Rattle.sms_alphabet.specs.declared.concat_key.ConcatKey.{ConcatKey}
+use Rattle.std.proofs.Common.{arith, ◌≡◌, ℕ, zero, suc, ◌≤◌, [], ◌∷◌, false, true, refl, sym, ap, subst, inl, inr, ⊎_elim, Some}
 use Rattle.sms_alphabet.specs.declared.concat_key.ConcatReference.TheVariants.{SixteenBit}
 use Rattle.sms_alphabet.specs.declared.scheme.Coding.TheVariants.{Octets}
-use Rattle.sms_base.specs.Among.{Among}
 use Rattle.sms_base.specs.HandsetNumber.{own_address}
 use Rattle.sms_base.specs.StampWriting.{clock_at}
 use Rattle.sms_base.specs.declared.final_state.FinalState.TheVariants.{Delivered}
@@ -21,7 +19,7 @@ use Rattle.sms_script.specs.declared.event.WorldEvent.TheVariants.{Whole}
 use Rattle.sms_script.specs.declared.report.answers.MessageState.TheVariants.{Final}
 use Rattle.sms_script.specs.declared.report.rows.AcceptedRow.{AcceptedRow}
 use Rattle.sms_tpdu.specs.MoreMessages.{compared}
-use Rattle.sms_world.specs.headline.PlainReport.{Appears, IsAcceptedOnce, IsOfApplication, IsOfEvent, Origin, WasDelivered, compared_line}
+use Rattle.sms_world.specs.headline.PlainReport.{Appears, IsAcceptedOnce, IsOfApplication, IsOfEvent, Origin, compared_line}
 use Rattle.sms_world.specs.headline.PlainScript.{IsAskedBy}
 use Rattle.sms_world.specs.headline.PlainWords.{numbered}
 use Rattle.sms_world.specs.wrong_reports.Literals.{account, both, both_parts, given, handset, line, long_accepted, long_asked, long_data, long_events, name, second_given, setup, source, zeros}

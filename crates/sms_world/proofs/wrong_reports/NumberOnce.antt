@@ -1,16 +1,11 @@
-use Rattle.std.proofs.Common.{rules, arith, ◌≡◌, ℕ, zero, suc, List, [], ◌∷◌, Bool, true, false, refl, sym, ◌∙◌, ap, subst, inl, inr, ⊎_elim, Option, Some, None, ◌<◌}
-use Rattle.std.specs.Prelude.{◌⊎◌}
+use Rattle.std.proofs.Common.{◌≡◌, ℕ, suc, refl, subst, inl, inr}
 use Rattle.sms_base.specs.Among.{Among}
 use Rattle.sms_script.specs.declared.report.rows.ReportedMessage.{ReportedMessage}
-use Rattle.sms_script.specs.declared.report.rows.ReceiptRow.{ReceiptRow}
-use Rattle.sms_script.specs.declared.report.answers.MessageState.{MessageState}
-use Rattle.sms_script.specs.declared.report.answers.MessageState.TheVariants.{Enroute, Final}
-use Rattle.sms_base.specs.declared.final_state.FinalState.{FinalState}
-use Rattle.sms_base.specs.declared.final_state.FinalState.TheVariants.{Delivered, Expired, Deleted}
+use Rattle.sms_script.specs.declared.report.answers.MessageState.TheVariants.{Enroute}
 use Rattle.sms_world.specs.wrong_reports.Literals.{line}
 use Rattle.sms_script.specs.declared.report.answers.Answered.TheVariants.{Accepted}
-use Rattle.sms_world.specs.headline.PlainReport.{Appears, NamesMessage}
-use Rattle.sms_world.specs.wrong_reports.Literals.{both_reports, submits}
+use Rattle.sms_world.specs.headline.PlainReport.{Appears}
+use Rattle.sms_world.specs.wrong_reports.Literals.{both_reports}
 use Rattle.sms_world.specs.wrong_reports.Tried.{NumberLaw}
 
 -- the second event cannot have made message 1, which has a line before it

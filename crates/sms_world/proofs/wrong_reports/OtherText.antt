@@ -1,17 +1,12 @@
-use Rattle.std.proofs.Common.{rules, arith, ◌≡◌, ℕ, zero, suc, List, [], ◌∷◌, Bool, true, false, refl, sym, ◌∙◌, ap, subst, inl, inr, ⊎_elim, Option, Some, None, ◌<◌}
-use Rattle.std.specs.Prelude.{◌⊎◌}
+use Rattle.std.proofs.Common.{◌≡◌, [], ◌∷◌, refl, sym, ◌∙◌, ap, inl, ⊎_elim}
 use Rattle.sms_base.specs.Among.{Among}
-use Rattle.sms_script.specs.declared.report.rows.ReportedMessage.{ReportedMessage}
-use Rattle.sms_script.specs.declared.report.rows.ReceiptRow.{ReceiptRow}
-use Rattle.sms_script.specs.declared.report.answers.MessageState.{MessageState}
-use Rattle.sms_script.specs.declared.report.answers.MessageState.TheVariants.{Enroute, Final}
-use Rattle.sms_base.specs.declared.final_state.FinalState.{FinalState}
-use Rattle.sms_base.specs.declared.final_state.FinalState.TheVariants.{Delivered, Expired, Deleted}
+use Rattle.sms_script.specs.declared.report.answers.MessageState.TheVariants.{Final}
+use Rattle.sms_base.specs.declared.final_state.FinalState.TheVariants.{Delivered}
 use Rattle.sms_tpdu.specs.MoreMessages.{compared}
 use Rattle.sms_world.proofs.wrong_reports.Read.{part, first_part, is_read, octets_are}
 use Rattle.sms_world.specs.wrong_reports.Literals.{line, other_text, reports, given, accepted, other_octets, hello_octets, deliver, handset}
 use Rattle.sms_intake.specs.PartTexts.{deliver_octets}
-use Rattle.sms_world.specs.headline.PlainReport.{WasDelivered, IsAcceptedOnce, compared_line}
+use Rattle.sms_world.specs.headline.PlainReport.{compared_line}
 use Rattle.sms_intake.specs.declared.submission.Submission.{Submission}
 use Rattle.sms_script.specs.declared.report.rows.AcceptedRow.{AcceptedRow}
 use Rattle.sms_script.specs.declared.report.rows.GivenRow.{GivenRow}

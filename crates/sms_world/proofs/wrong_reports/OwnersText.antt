@@ -1,6 +1,5 @@
 -- The text of an owner is of the handset that he wrote it to, and from his own.
-use Rattle.std.proofs.Common.{arith, ◌≡◌, Bool, ℕ, zero, suc, ◌+◌, ◌≤◌, ◌<◌, List, [], ◌∷◌, length, refl, sym, ◌∙◌, ap, subst, inl, inr, ⊎_elim, Option, Some, None, false}
-use Rattle.std.specs.Prelude.{◌⊎◌}
+use Rattle.std.proofs.Common.{arith, ◌≡◌, Bool, ℕ, zero, suc, ◌+◌, ◌≤◌, ◌<◌, List, [], ◌∷◌, length, refl, sym, ◌∙◌, ap, subst, inl, inr, ⊎_elim, Some, false}
 use Rattle.std.specs.Str.{chars}
 use Rattle.sms_alphabet.specs.Spelling.{lacks_code, septets_for, spelled}
 use Rattle.sms_base.specs.Alphabet.{code_for, main_septet_of}
@@ -27,10 +26,10 @@ use Rattle.sms_script.specs.declared.report.rows.FrameRow.{FrameRow}
 use Rattle.sms_script.specs.declared.report.rows.GivenRow.{GivenRow}
 use Rattle.sms_script.specs.declared.report.rows.ReceiptRow.{ReceiptRow}
 use Rattle.sms_script.specs.declared.report.rows.ReportedMessage.{ReportedMessage}
-use Rattle.sms_world.specs.headline.PlainReport.{Appears, IsEntered, IsOfApplication, IsOfEvent, IsOfOwner, Origin, Stays}
+use Rattle.sms_world.specs.headline.PlainReport.{Appears, IsEntered, IsOfApplication, IsOfEvent, IsOfOwner, Stays}
 use Rattle.sms_world.specs.headline.PlainScript.{Does, IsWrittenBy}
 use Rattle.sms_world.specs.headline.PlainWords.{numbered}
-use Rattle.sms_world.specs.wrong_reports.Literals.{handset, hello, hello_octets, nothing, of_writer, owner_carried, owner_events, owner_frame, owner_given, owner_line, owner_reports, owner_setup, writer}
+use Rattle.sms_world.specs.wrong_reports.Literals.{handset, hello, of_writer, owner_carried, owner_events, owner_frame, owner_given, owner_line, owner_reports, owner_setup, writer}
 use Rattle.sms_world.specs.wrong_reports.Tried.{OtherEntryLaw, OwnerLaw, TrueOwnerLaw, TrueSentLaw}
 use Rattle.sms_world.proofs.wrong_reports.Read.{content, part}
 

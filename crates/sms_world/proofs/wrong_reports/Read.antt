@@ -1,22 +1,15 @@
 -- What the one submission of the small script is, read from its words.
-use Rattle.std.proofs.Common.{rules, arith, ◌≡◌, ℕ, zero, suc, List, [], ◌∷◌, Bool, true, false, refl, sym, ◌∙◌, ap, subst, inl, inr, ⊎_elim, Option, Some, None, ◌<◌, Ok, Err, Result}
-use Rattle.std.specs.Prelude.{◌⊎◌}
+use Rattle.std.proofs.Common.{◌≡◌, ℕ, zero, suc, List, [], ◌∷◌, Bool, false, refl, sym, ◌∙◌, ap, subst, ⊎_elim, Some, None, Ok, Result}
 use Rattle.sms_base.specs.Among.{Among}
 use Rattle.sms_script.specs.declared.report.rows.ReportedMessage.{ReportedMessage}
-use Rattle.sms_script.specs.declared.report.rows.ReceiptRow.{ReceiptRow}
-use Rattle.sms_script.specs.declared.report.answers.MessageState.{MessageState}
-use Rattle.sms_script.specs.declared.report.answers.MessageState.TheVariants.{Enroute, Final}
-use Rattle.sms_base.specs.declared.final_state.FinalState.{FinalState}
-use Rattle.sms_base.specs.declared.final_state.FinalState.TheVariants.{Delivered, Expired, Deleted}
-use Rattle.sms_world.specs.wrong_reports.Literals.{asked, account, events, hello, hello_octets, other_octets, deliver, setup, source, handset, submits, given, accepted}
+use Rattle.sms_world.specs.wrong_reports.Literals.{asked, account, events, hello, hello_octets, deliver, setup, source}
 use Rattle.sms_base.specs.HandsetNumber.{own_address}
-use Rattle.sms_intake.specs.SmppText.{plain_text, text_in, wish_in}
+use Rattle.sms_intake.specs.SmppText.{plain_text, text_in}
 use Rattle.sms_concat.specs.Cutting.{split_of}
 use Rattle.sms_base.specs.StampWriting.{clock_at}
 use Rattle.sms_intake.specs.PartTexts.{bodies_under, deliver_octets}
 use Rattle.sms_script.specs.Requests.{submit_of}
-use Rattle.sms_tpdu.specs.Bits.{bit}
-use Rattle.sms_world.specs.headline.PlainReport.{IsOfApplication, IsOfOwner, IsOfEvent, IsAcceptedOnce, Origin}
+use Rattle.sms_world.specs.headline.PlainReport.{IsOfApplication, IsOfOwner, IsOfEvent, Origin}
 use Rattle.sms_world.specs.headline.PlainScript.{Does, IsAskedBy}
 use Rattle.sms_world.specs.headline.PlainWords.{numbered}
 use Rattle.sms_alphabet.specs.declared.scheme.Coding.TheVariants.{Septets}
@@ -25,8 +18,7 @@ use Rattle.sms_intake.specs.declared.submission.SinglePart.{SinglePart}
 use Rattle.sms_intake.specs.declared.submission.Submission.{Submission}
 use Rattle.sms_intake.specs.declared.submission.Text.{Text}
 use Rattle.sms_intake.specs.declared.submission.Text.TheVariants.{Whole as WholeText}
-use Rattle.sms_script.specs.declared.event.Act.{Act}
-use Rattle.sms_script.specs.declared.event.Act.TheVariants.{Submit, Write, Deliver}
+use Rattle.sms_script.specs.declared.event.Act.TheVariants.{Submit, Write}
 use Rattle.sms_script.specs.declared.setup.AccountSetup.{AccountSetup}
 use Rattle.sms_script.specs.declared.report.Report.{Report}
 use Rattle.sms_script.specs.declared.event.StopPoint.TheVariants.{After}

@@ -1,5 +1,5 @@
 -- A STATUS-REPORT that says what its message does, and such as do not.
-use Rattle.std.proofs.Common.{arith, ◌≡◌, ℕ, List, length, refl, sym, ◌∙◌, ap, Option, Some}
+use Rattle.std.proofs.Common.{arith, ◌≡◌, ℕ, length, refl, sym, ◌∙◌, ap, Some}
 use Rattle.sms_base.specs.declared.address.Address.{Address}
 use Rattle.sms_base.specs.declared.final_state.FinalState.{FinalState}
 use Rattle.sms_base.specs.declared.final_state.FinalState.TheVariants.{Delivered}

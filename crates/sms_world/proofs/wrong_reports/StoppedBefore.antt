@@ -1,6 +1,4 @@
-use Rattle.std.proofs.Common.{arith, ◌≡◌, ℕ, zero, suc, List, [], ◌∷◌, refl, sym, ◌∙◌, ap, subst, inl, inr, ⊎_elim, Option, Some, None, ◌<◌, Ok, Result}
-use Rattle.std.specs.Prelude.{◌⊎◌, ◌≤◌}
-use Rattle.sms_base.specs.Among.{Among}
+use Rattle.std.proofs.Common.{◌≡◌, ℕ, zero, suc, refl, ◌∙◌, inl, ⊎_elim, Some}
 use Rattle.sms_script.specs.declared.event.Act.{Act}
 use Rattle.sms_script.specs.declared.event.Act.TheVariants.{Deliver, Submit}
 use Rattle.sms_script.specs.declared.event.StopPoint.TheVariants.{After, Before}

@@ -1,5 +1,5 @@
-use Rattle.std.proofs.Common.{arith, ◌≡◌, ℕ, zero, suc, List, [], ◌∷◌, refl, sym, ◌∙◌, ap, subst, inl, inr, ⊎_elim, Option, Some, None, ◌<◌, Ok, Result}
-use Rattle.std.specs.Prelude.{◌⊎◌, ◌≤◌}
+use Rattle.std.proofs.Common.{arith, ◌≡◌, ℕ, zero, suc, [], ◌∷◌, refl, sym, subst, inl, inr, ⊎_elim, ◌<◌}
+use Rattle.std.specs.Prelude.{◌≤◌}
 use Rattle.sms_base.specs.Among.{Among}
 use Rattle.sms_script.specs.declared.event.Act.TheVariants.{Submit}
 use Rattle.sms_script.specs.declared.event.StopPoint.TheVariants.{After}

@@ -1,25 +1,18 @@
-use Rattle.std.proofs.Common.{rules, arith, ◌≡◌, ℕ, zero, suc, List, [], ◌∷◌, Bool, true, false, refl, sym, ◌∙◌, ap, subst, inl, inr, ⊎_elim, Option, Some, None, ◌<◌}
-use Rattle.std.specs.Prelude.{◌⊎◌}
+use Rattle.std.proofs.Common.{◌≡◌, ℕ, zero, suc, List, [], ◌∷◌, refl, ap, subst, inl, ⊎_elim, Some}
 use Rattle.sms_base.specs.Among.{Among}
-use Rattle.sms_script.specs.declared.report.rows.ReportedMessage.{ReportedMessage}
-use Rattle.sms_script.specs.declared.report.rows.ReceiptRow.{ReceiptRow}
-use Rattle.sms_script.specs.declared.report.answers.MessageState.{MessageState}
 use Rattle.sms_script.specs.declared.report.answers.MessageState.TheVariants.{Enroute, Final}
-use Rattle.sms_base.specs.declared.final_state.FinalState.{FinalState}
-use Rattle.sms_base.specs.declared.final_state.FinalState.TheVariants.{Delivered, Expired, Deleted}
-use Rattle.sms_world.specs.wrong_reports.Literals.{name, id_one, line, asking, asked, asked_then, submits, source, handset, taken, answer}
-use Rattle.sms_world.specs.headline.PlainReport.{Appears, IsCancelled, IsFoundTruly, IsOwn, IsChanged}
-use Rattle.sms_world.specs.headline.PlainWords.{numbered, id_in}
-use Rattle.sms_script.specs.declared.event.Act.{Act}
-use Rattle.sms_script.specs.declared.event.Act.TheVariants.{Submit, Query, Cancel}
+use Rattle.sms_base.specs.declared.final_state.FinalState.TheVariants.{Deleted}
+use Rattle.sms_world.specs.wrong_reports.Literals.{name, id_one, line, asking, asked, asked_then, submits, answer}
+use Rattle.sms_world.specs.headline.PlainReport.{Appears, IsCancelled, IsOwn}
+use Rattle.sms_world.specs.headline.PlainWords.{numbered}
+use Rattle.sms_script.specs.declared.event.Act.TheVariants.{Cancel}
 use Rattle.sms_script.specs.declared.report.answers.Answer.{Answer}
 use Rattle.sms_script.specs.declared.report.answers.Answered.{Answered}
-use Rattle.sms_script.specs.declared.report.answers.Answered.TheVariants.{Accepted, Found, Status}
+use Rattle.sms_script.specs.declared.report.answers.Answered.TheVariants.{Status}
 use Rattle.smpp_pdu.specs.declared.status.CommandStatus.TheVariants.{ESME_ROK}
 use Rattle.sms_script.specs.declared.report.Report.{Report}
-use Rattle.sms_script.specs.declared.event.WorldEvent.{WorldEvent}
 use Rattle.sms_script.specs.declared.event.WorldEvent.TheVariants.{Whole}
-use Rattle.sms_world.specs.wrong_reports.Tried.{TrueQueryLaw, TrueCancelLaw}
+use Rattle.sms_world.specs.wrong_reports.Tried.{TrueCancelLaw}
 
 abbrev after : ℕ → Report
 after = asked_then (Status ESME_ROK) (line (Final Deleted) ∷ [])

@@ -1,6 +1,4 @@
-use Rattle.std.proofs.Common.{arith, ◌≡◌, ℕ, zero, suc, List, [], ◌∷◌, refl, sym, ◌∙◌, ap, subst, inl, inr, ⊎_elim, Option, Some, None, ◌<◌, Ok, Result}
-use Rattle.std.specs.Prelude.{◌⊎◌, ◌≤◌}
-use Rattle.sms_base.specs.Among.{Among}
+use Rattle.std.proofs.Common.{◌≡◌, ℕ, zero, suc, [], ◌∷◌, refl, ◌∙◌, inl, ⊎_elim, Some}
 use Rattle.sms_script.specs.declared.event.Act.{Act}
 use Rattle.sms_script.specs.declared.event.Act.TheVariants.{Deliver, Submit}
 use Rattle.sms_script.specs.declared.event.StopPoint.TheVariants.{After}
@@ -9,7 +7,6 @@ use Rattle.sms_script.specs.declared.event.WorldEvent.TheVariants.{Stopped, Whol
 use Rattle.sms_script.specs.declared.report.answers.Answered.TheVariants.{Accepted}
 use Rattle.sms_script.specs.declared.report.answers.MessageState.TheVariants.{Enroute}
 use Rattle.sms_world.specs.headline.PlainReport.{IsAnswered, IsOfApplication, IsOfOwner}
-use Rattle.sms_world.specs.headline.PlainScript.{Does}
 use Rattle.sms_world.specs.headline.PlainWords.{numbered}
 use Rattle.sms_world.specs.wrong_reports.Literals.{line, setup, stopped, submits}
 use Rattle.sms_world.specs.wrong_reports.Tried.{UnansweredLaw}

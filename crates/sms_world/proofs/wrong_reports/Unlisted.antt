@@ -1,6 +1,4 @@
-use Rattle.std.proofs.Common.{arith, ◌≡◌, ℕ, zero, suc, List, [], ◌∷◌, refl, sym, ◌∙◌, ap, subst, inl, inr, ⊎_elim, Option, Some, None, ◌<◌, Ok, Result}
-use Rattle.std.specs.Prelude.{◌⊎◌, ◌≤◌}
-use Rattle.sms_base.specs.Among.{Among}
+use Rattle.std.proofs.Common.{[], refl, inl, Some}
 use Rattle.sms_base.specs.declared.carried.Kind.TheVariants.{Data}
 use Rattle.sms_base.specs.declared.holder.Holder.TheVariants.{Report as ReportHolder}
 use Rattle.sms_script.specs.declared.report.rows.Direction.TheVariants.{Down}

@@ -4,7 +4,7 @@ use Rattle.sms_script.specs.declared.event.Act.TheVariants.{Submit, Query, Cance
 use Rattle.sms_script.specs.declared.event.Side.{Side}
 use Rattle.sms_script.specs.declared.event.Side.TheVariants.{Centre, Handset}
 use Rattle.sms_world_model.specs.ScriptRun.{Asked, Cancelled, Event, Handed, Removed, Submitted, Tick_centre, Tick_handset, Wrote, After, Before, Happening, Restarted, Went, Whole as WentWhole, Belongs, happened}
-use Rattle.std.specs.Prelude.{ℕ, max, List, [], ◌++◌, ◌+◌, ◌↔◌, ◌∷◌, ◌≡◌, Ok, true}
+use Rattle.std.specs.Prelude.{ℕ, max, List, [], ◌+◌, ◌↔◌, ◌∷◌, ◌≡◌, Ok, true}
 use Rattle.sms_script.specs.declared.event.StopPoint.{StopPoint}
 use Rattle.sms_script.specs.declared.event.StopPoint.TheVariants.{Before as StopBefore, After as StopAfter}
 use Rattle.sms_script.specs.declared.event.WorldEvent.{WorldEvent}

@@ -1,18 +1,18 @@
 -- A small script: an application submits `hello`, and two frames are handed over. What its reports would be, and reports that break a claim.
-use Rattle.std.specs.Prelude.{ℕ, zero, suc, List, [], ◌∷◌, Option, Some, None, true, false}
+use Rattle.std.specs.Prelude.{ℕ, zero, suc, List, [], ◌∷◌, Some, false}
 use Rattle.sms_script.specs.declared.setup.Setup.{Setup}
 use Rattle.sms_script.specs.declared.setup.AccountSetup.{AccountSetup}
 use Rattle.sms_script.specs.declared.setup.HandsetSetup.{HandsetSetup}
 use Rattle.sms_script.specs.declared.event.Submission.{Submission}
 use Rattle.sms_script.specs.declared.event.Act.{Act}
-use Rattle.sms_script.specs.declared.event.Act.TheVariants.{Submit, Query, Cancel, Deliver, Write}
+use Rattle.sms_script.specs.declared.event.Act.TheVariants.{Submit, Deliver, Write}
 use Rattle.sms_script.specs.declared.event.WorldEvent.{WorldEvent}
 use Rattle.sms_script.specs.declared.event.StopPoint.{StopPoint}
 use Rattle.sms_script.specs.declared.event.WorldEvent.TheVariants.{Stopped, Whole}
 use Rattle.sms_script.specs.declared.report.Report.{Report}
 use Rattle.sms_script.specs.declared.report.answers.Answer.{Answer}
 use Rattle.sms_script.specs.declared.report.answers.Answered.{Answered}
-use Rattle.sms_script.specs.declared.report.answers.Answered.TheVariants.{Accepted, Found, Status}
+use Rattle.sms_script.specs.declared.report.answers.Answered.TheVariants.{Accepted, Status}
 use Rattle.sms_script.specs.declared.report.answers.MessageState.{MessageState}
 use Rattle.sms_script.specs.declared.report.answers.MessageState.TheVariants.{Enroute, Final}
 use Rattle.sms_script.specs.declared.report.rows.ReportedMessage.{ReportedMessage}
@@ -24,12 +24,10 @@ use Rattle.sms_script.specs.declared.report.rows.GivenRow.{GivenRow}
 use Rattle.sms_script.specs.declared.report.rows.JoinedRow.{JoinedRow}
 use Rattle.sms_script.specs.declared.report.rows.JoinedCoding.TheVariants.{Octets, Septets}
 use Rattle.sms_script.specs.declared.report.rows.Direction.TheVariants.{Up, Down}
-use Rattle.sms_base.specs.declared.final_state.FinalState.{FinalState}
 use Rattle.sms_base.specs.declared.final_state.FinalState.TheVariants.{Delivered, Expired, Deleted}
 use Rattle.sms_base.specs.declared.holder.Holder.TheVariants.{Entry, Part, Report as ReportHolder}
 use Rattle.sms_base.specs.declared.carried.Kind.TheVariants.{Data}
-use Rattle.smpp_pdu.specs.declared.status.CommandStatus.TheVariants.{ESME_ROK, ESME_RSYSERR}
-use Rattle.sms_script.specs.declared.report.rows.OutboxRow.{OutboxRow}
+use Rattle.smpp_pdu.specs.declared.status.CommandStatus.TheVariants.{ESME_RSYSERR}
 use Rattle.sms_script.specs.declared.report.rows.EntryState.TheVariants.{Sent}
 
 -- ---- the script

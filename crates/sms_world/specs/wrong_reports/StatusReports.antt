@@ -1,5 +1,5 @@
 -- A STATUS-REPORT (3GPP TS 23.040 9.2.2.3) of a message that was delivered, and such as say another thing of it.
-use Rattle.std.specs.Prelude.{ℕ, [], Some, None, false, true}
+use Rattle.std.specs.Prelude.{Some, None, false, true}
 use Rattle.sms_base.specs.HandsetNumber.{own_address}
 use Rattle.sms_base.specs.declared.final_state.FinalState.TheVariants.{Delivered}
 use Rattle.sms_base.specs.declared.originator.Originator.TheVariants.{Handset}

@@ -1,11 +1,10 @@
 -- A world in which a frame comes late, and one in which a concatenation reference is used again too early.
 use Rattle.std.specs.Prelude.{ℕ, List, [], ◌∷◌}
 use Rattle.sms_base.specs.declared.carried.Kind.TheVariants.{Data}
-use Rattle.sms_base.specs.declared.holder.Holder.{Holder}
 use Rattle.sms_base.specs.declared.holder.Holder.TheVariants.{Part}
 use Rattle.sms_world.specs.wrong_reports.Literals.{handset}
 use Rattle.sms_world_model.specs.Premises.{IsTimely, MayBegin}
-use Rattle.sms_world_model.specs.World.{Accepted, Allocation, Down, Frame, World, empty, pair_given}
+use Rattle.sms_world_model.specs.World.{Accepted, Allocation, Down, Frame, World, empty}
 
 -- ---- timely frames
 

@@ -1,0 +1,16 @@
+pub mod NoMessage
+pub mod LinesMoved
+pub mod HeldTwice
+pub mod StatusRead
+pub mod NotConfirmed
+pub mod ReportTold
+pub mod NotDelivered
+pub mod NotSent
+pub mod NotJoined
+pub mod NotShown
+pub mod NotHappened
+pub mod NotFrom
+pub mod WholePlay
+pub mod NotSubmitted
+pub mod NotSentUp
+pub mod PiecesJoined
