@@ -2,6 +2,7 @@
 use crate::logging::Log;
 use crate::watching::Guard;
 use crossbeam_channel::{Receiver, Sender, bounded};
+use sms_rows::keep::KeepError;
 use smsc_loop::{Activity, Note};
 use smsc_server::status::Counters;
 use smsc_server::{Event, Observer};
@@ -130,13 +131,13 @@ impl<R: Wait + Copy + Clock> Observer for Watchers<R> {
         }
     }
 
-    fn end_commit(&self, is_done: bool) {
+    fn end_commit(&self, refused: Option<KeepError>) {
         self.guard.look();
-        if !is_done {
-            self.guard.look_after_refusal();
+        if let Some(error) = refused {
+            self.guard.look_after_refusal(error);
         }
         if let Some(feed) = &self.feed {
-            feed.end_commit(is_done);
+            feed.end_commit(refused.is_none());
         }
     }
 }
