@@ -120,7 +120,7 @@ sent_somewhere moment ms r m s bindings waiting there among receives few =
           cond-true (waits moment r bindings.sessions) (send_to r.id (session_for (message_at r.id ms) bindings.sessions) bindings) bindings waiting
               ∙ ap (λ (o : Option MessageRow). send_to r.id (session_for o bindings.sessions) bindings) there
               ∙ ap (λ (o : Option Session). send_to r.id o bindings) f.1.0
-              ∙ cond-true (nat_lt (length t.unanswered) window) (send_in r.id t bindings) bindings (lt-ltb (length t.unanswered) window room),
+              ∙ cond-true (nat_lt (length f.0.unanswered) window) (send_in r.id f.0 bindings) bindings (lt-ltb (length f.0.unanswered) window room),
         ),
       ),
     )
