@@ -5,7 +5,8 @@
  *   FAULT_READ_ONLY   the file system can't be written (open for writing and pwrite give EROFS);
  *   FAULT_LOST        a store's disk is lost (statx of a path that ends in .store or -wal gives EIO);
  *   FAULT_UNLOGGED    standard error takes nothing (write to it gives ENOSPC);
- *   FAULT_SLOW        a store's log opens slowly (open of a path that ends in -wal takes five seconds).
+ *   FAULT_SLOW        a store's log opens slowly (open of a path that ends in -wal takes five seconds);
+ *   FAULT_SLOW_DISK   the disk takes a tenth of a second for a commit (fdatasync and fsync).
  * Each is the path of such a file. */
 #define _GNU_SOURCE
 #include <errno.h>
@@ -19,6 +20,7 @@
 #include <unistd.h>
 
 #define TEN_DAYS 864000
+#define TENTH 100000000
 #define LOG_END "-wal"
 #define FILE_END ".store"
 
@@ -69,6 +71,26 @@ ssize_t write(int file, const void *octets, size_t count)
 ssize_t pwrite64(int file, const void *octets, size_t count, off_t at)
 {
 	return pwrite(file, octets, count, at);
+}
+
+static void turn_disk(void)
+{
+	struct timespec tenth = { .tv_sec = 0, .tv_nsec = TENTH };
+
+	if (is_so("FAULT_SLOW_DISK"))
+		nanosleep(&tenth, NULL);
+}
+
+int fdatasync(int file)
+{
+	turn_disk();
+	return syscall(SYS_fdatasync, file);
+}
+
+int fsync(int file)
+{
+	turn_disk();
+	return syscall(SYS_fsync, file);
 }
 
 static int ends_in(const char *path, const char *end)

@@ -16,6 +16,7 @@ FOREIGN = {
     "curl", "epoll", "fdatasync", "free", "iconv", "lscpu", "malloc", "memcpy", "perf", "strace", "sqlite3",
     "new_transmitter", "new_receiver", "read_pdu", "busy_timeout", "Wary", "YYMMDDhhmm", "YYMMDDhhmmss", "YYMMDDhhmmsstnnp",
     "stunnel4", "CAfile",
+    "serde_json", "http_server", "always_served", "record_line",
     "drbdadm", "fencing", "fence_ipmilan", "fence_virsh", "fence_vmware_rest", "nobarrier", "ring1_addr", "soft", "StandAlone",
 }
 BUILT = ("out/", "/out/")

@@ -22,6 +22,11 @@ pub(crate) struct SystemClock<'a> {
 }
 
 impl Clock for SystemClock<'_> {
+    ghost use Rattle.std.specs.Prelude.{⊤};
+
+    // Any moment: nothing is known of the machine's clock.
+    ghost reads = { λ c m. ⊤ };
+
     fn now(&self) -> Moment {
         let Ok(now) = SystemTime::now(self.rt) else {
             return first_moment();

@@ -1,1 +1,2 @@
+pub mod drawing
 pub mod sessions

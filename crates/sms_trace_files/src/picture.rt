@@ -2,14 +2,17 @@
 //!
 //! `PictureSoFar` gathers a run row by row, and `put_picture` writes the `Picture` that it becomes. A frame that arrives
 //! is one arrow, from the row in which it was sent to the row in which it arrives. A frame that never arrives is half a
-//! broken arrow. Names and notes are escaped, so that no reader takes them for markup (`laws`).
+//! broken arrow, with a cross before its note. Lanes that no row touches are left out, and long notes are cut. Names and
+//! notes are escaped, so that no reader takes them for markup (`laws`).
 
-mod drawing;
+pub(crate) mod columns;
+pub(crate) mod drawing;
 pub mod laws;
 mod looks;
 mod markup;
+mod notes;
 mod places;
-mod rows;
+pub(crate) mod rows;
 mod so_far;
 
 pub use drawing::{Extent, Lane, Picture, put_picture};

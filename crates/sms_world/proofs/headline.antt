@@ -32,9 +32,11 @@ pub mod SplitClaimed
 pub mod SeenWorlds
 pub mod AnsweredSubmits
 pub mod TrueRequests
+pub mod SentSessions
 pub mod SentReceipts
 pub mod OneRuns
 pub mod NamedAnswers
+pub mod StatusRows
 pub mod StatusFrames
 pub mod HeadlineHolds
 pub mod WorldAnswers
@@ -58,4 +60,6 @@ pub mod AskedWords
 pub mod PlainEvents
 pub mod PlainDelivered
 pub mod PlainJoined
+pub mod AnsweredFrames
+pub mod PlainSent
 pub mod PlainWhole

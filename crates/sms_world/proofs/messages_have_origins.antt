@@ -5,6 +5,7 @@ pub mod HandsetOriginators
 pub mod HandsetMessages
 pub mod KeptRows
 pub mod SetupStays
+pub mod SubmittedMoments
 pub mod OriginClaims
 pub mod Unmoved
 pub mod EventNumbers

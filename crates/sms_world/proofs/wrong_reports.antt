@@ -1,13 +1,16 @@
 pub mod Apart
 pub mod Read
 pub mod FinalKept
+pub mod LineGone
 pub mod ReceiptState
 pub mod ReceiptOnce
+pub mod StatusSays
 pub mod NumberOnce
 pub mod QueryFalse
 pub mod CancelFalse
 pub mod PartTwice
 pub mod NeverAccepted
+pub mod ToldFalsely
 pub mod JoinedNothing
 pub mod OtherText
 pub mod GoodReport

@@ -2,6 +2,7 @@ pub mod SeenFrames
 pub mod SeenWorld
 pub mod SentRows
 pub mod SeenPlay
+pub mod ReportClaims
 pub mod Claims
 pub mod RequestClaims
 pub mod OneRun
@@ -16,4 +17,6 @@ pub mod PlainWords
 pub mod PlainScript
 pub mod PlainReport
 pub mod PlainHeadline
+pub mod OwnerClaims
+pub mod PlainReports
 pub mod PlainLaws

@@ -1,3 +1,4 @@
 pub mod Literals
 pub mod Tried
 pub mod Worlds
+pub mod StatusReports

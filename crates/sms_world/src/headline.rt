@@ -13,8 +13,8 @@
 //!
 //! `sms_world::messages_have_origins` ties the rows of messages to the events that submitted them.
 ghost use Rattle.sms_world.specs.headline.DecidedPremises.{FirstLaw, NoneLaw};
-ghost use Rattle.sms_world.specs.headline.PlainLaws.{AcceptedPartsLaw, AscendLaw, AscendingLaw, ButSentLaw, CancelsLaw, DeletedLaw, DeliveredLinesLaw, EachStaysLaw, JoinedPiecesLaw, LongerLaw, NamedLaw, NoErrorLaw, NoneTwiceLaw, OfEventsLaw, QueriesLaw, ReceiptsLaw, ReferencesLaw, ReportsLaw, ToldLaw};
-ghost use Rattle.sms_world.specs.headline.HeadlineLaws.{ConfirmedLaw, DeliveredLaw, FinalLaw, GivenLaw, HeadlineLaw, HeldLaw, JoinedLaw, JoinedOnceLaw, JoinedWholeLaw, LineLaw, OnceLaw, OneRunLaw, PartsLaw, ReceiptLaw, ReceiptsStayLaw, SentLaw, SplitJoinedLaw, SplitLongLaw, SplitStaysLaw, SplitTextLaw, StatusLaw, StayLaw, ReportedLaw, WorldLaw};
+ghost use Rattle.sms_world.specs.headline.PlainLaws.{AcceptedPartsLaw, AllSentLaw, AscendLaw, AscendingLaw, CancelsLaw, DeletedLaw, DeliveredLinesLaw, EachStaysLaw, JoinedPiecesLaw, LongerLaw, NamedLaw, NoErrorLaw, NoneTwiceLaw, OfEventsLaw, PlainLaw, PlainReportLaw, QueriesLaw, ReceiptsLaw, ReferencesLaw, ReportsLaw, ToldLaw};
+ghost use Rattle.sms_world.specs.headline.HeadlineLaws.{ConfirmedLaw, DeliveredLaw, FinalLaw, GivenLaw, HeadlineLaw, HeldLaw, JoinedLaw, JoinedOnceLaw, JoinedWholeLaw, LineLaw, OnceLaw, OneRunLaw, PartsLaw, ReceiptLaw, ReceiptsStayLaw, ReportsSayLaw, SentLaw, SplitJoinedLaw, SplitLongLaw, SplitStaysLaw, SplitTextLaw, StatusLaw, StayLaw, ReportedLaw, WorldLaw};
 
 /// The events of a script, up to any of them, are one run of the world from the empty one on. Each course on the way shows
 /// the world there.
@@ -80,9 +80,9 @@ pub fn joined_was_submitted()
 ///
 /// While each frame that is handed over is timely, no part of any message was accepted twice. What the table or a receipt calls delivered
 /// was accepted by its handset, each part exactly once and octet for octet. What a handset accepted as a DELIVER is a part of a message to
-/// it. Where references are fresh, too, what was joined is whole, and joined once.
+/// it. An entry that counts as sent is a message. Where references are fresh, too, what was joined is whole, and joined once.
 ///
-/// One claim of `PlainHeadline` is left: that each entry that counts as sent is a message. Where that holds, all of it does.
+/// So the reports of a script have all of `PlainHeadline`, and each report that a script leads to.
 pub fn plain_claims_hold()
     ensures reports { ReportsLaw }
     ensures ascending { AscendingLaw }
@@ -102,7 +102,9 @@ pub fn plain_claims_hold()
     ensures told { ToldLaw }
     ensures accepted { AcceptedPartsLaw }
     ensures joined { JoinedPiecesLaw }
-    ensures but_sent { ButSentLaw }
+    ensures sent { AllSentLaw }
+    ensures whole { PlainLaw }
+    ensures report { PlainReportLaw }
 {}
 
 /// Whatever happens, a message that the centre split is a long message of one key. An event may submit a text, to its end or
@@ -116,10 +118,12 @@ pub fn split_texts_are_joined()
 {}
 
 /// Whatever happens, a submit_sm that was answered with a number is a message in the table. Each STATUS-REPORT among the
-/// frames is of a status report that is listed.
+/// frames is of a status report that is listed. It says which message it reports, when that was taken, and when and how it ended. It goes to
+/// the handset that sent the message.
 pub fn what_is_confirmed_is_there()
     ensures messages { ConfirmedLaw }
     ensures status_reports { StatusLaw }
+    ensures told { ReportsSayLaw }
 {}
 
 /// All of it, of whatever is played.

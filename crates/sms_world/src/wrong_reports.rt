@@ -2,7 +2,8 @@
 //!
 //! Each clause is about one small literal report of a small script (`specs/wrong_reports`). So each claim is seen to refuse
 //! a wrong report, and to admit a right one.
-ghost use Rattle.sms_world.specs.wrong_reports.Tried.{AcceptedLaw, AscendLaw, CancelLaw, CommonLaw, DeletedLaw, FinalLaw, GivenLaw, GoodLaw, JoinedLaw, JoinedTwiceLaw, LineLaw, NeverLaw, NumberLaw, OriginLaw, OtherEntryLaw, OtherTextLaw, OwnerLaw, QueryLaw, ReceiptLaw, ReceiptsLaw, SentLaw, SplitLaw, StatusLaw, StoppedLaw, SystemErrorLaw, TrueCancelLaw, TrueOwnerLaw, TrueQueryLaw, TrueSentLaw, TrueSplitLaw, TrueStopLaw, TwiceLaw, UnansweredLaw};
+ghost use Rattle.sms_world.specs.wrong_reports.Tried.{AcceptedLaw, AscendLaw, CancelLaw, CommonLaw, DeletedLaw, FinalLaw, ForgottenLaw, GivenLaw, GoneLaw, GoodLaw, JoinedLaw, JoinedTwiceLaw, LineLaw, NeverLaw, NumberLaw, OriginLaw, OtherEntryLaw, OtherTextLaw, OwnerLaw, QueryLaw, ReceiptLaw, ReceiptsLaw, SentLaw, SplitLaw, StatusLaw, StoppedLaw, SystemErrorLaw, ToldLaw, TrueCancelLaw, TrueOwnerLaw, TrueQueryLaw, TrueSentLaw, TrueSplitLaw, TrueStopLaw, TwiceLaw, UnansweredLaw};
+ghost use Rattle.sms_world.specs.wrong_reports.StatusReports.{DoneLaw, RecipientLaw, ReferenceLaw, RightLaw, StateLaw, SubmittedLaw};
 ghost use Rattle.sms_world.specs.wrong_reports.Worlds.{FreshLaw, InTimeLaw, LateLaw, ReusedLaw};
 
 /// The report of a text that was submitted, accepted and reported DELIVRD has the whole headline. A query that finds ENROUTE
@@ -19,11 +20,13 @@ pub fn right_reports_are_admitted()
     ensures split { TrueSplitLaw }
 {}
 
-/// A message that was DELIVRD and is EXPIRED in a longer report, one that has two lines, and one that is there before any
+/// A message that was DELIVRD and is EXPIRED in a longer report, one whose line is gone there, and a receipt that is. One that has two lines, and one that is there before any
 /// event. One of a submission that was stopped before its store call, and one of a submission that was not answered. An owner's
 /// text as a message to another handset, and one whose frame is of an entry that the text has not.
 pub fn wrong_messages_are_refused()
     ensures state { FinalLaw }
+    ensures gone { GoneLaw }
+    ensures forgotten { ForgottenLaw }
     ensures line { LineLaw }
     ensures event { OriginLaw }
     ensures stopped { StoppedLaw }
@@ -38,6 +41,17 @@ pub fn wrong_receipts_are_refused()
     ensures state { ReceiptLaw }
     ensures once { ReceiptsLaw }
     ensures unlisted { StatusLaw }
+{}
+
+/// A STATUS-REPORT says of its message what it does. One with another reference says another thing, and so does one with another recipient,
+/// another date of either kind, or another state.
+pub fn wrong_status_reports_are_refused()
+    ensures right { RightLaw }
+    ensures reference { ReferenceLaw }
+    ensures recipient { RecipientLaw }
+    ensures submitted { SubmittedLaw }
+    ensures done { DoneLaw }
+    ensures state { StateLaw }
 {}
 
 /// One number for two submissions. A query_sm that finds DELIVRD of a message under way. A cancel_sm that was answered
@@ -56,12 +70,13 @@ pub fn wrong_references_are_refused()
     ensures { GivenLaw }
 {}
 
-/// A DELIVRD message whose part was accepted twice, or never, or with another text. One of two parts, of which one was
+/// A DELIVRD message whose part was accepted twice, or never, or with another text. One that only its receipt calls DELIVRD. One of two parts, of which one was
 /// accepted. What was accepted of nobody. An entry that counts as sent and is no message. What was joined of nothing. One
 /// part in two joined texts.
 pub fn wrong_deliveries_are_refused()
     ensures twice { TwiceLaw }
     ensures never { NeverLaw }
+    ensures told { ToldLaw }
     ensures text { OtherTextLaw }
     ensures half { SplitLaw }
     ensures accepted { AcceptedLaw }

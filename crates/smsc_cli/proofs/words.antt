@@ -1,6 +1,7 @@
 pub mod Asked
 pub mod Cuts
 pub mod Decimals
+pub mod Details
 pub mod Lines
 pub mod Looked
 pub mod Misbehaved

@@ -1,3 +1,4 @@
 pub mod CentreTable
 pub mod Progressing
 pub mod Selecting
+pub mod StuckTable

@@ -2,6 +2,7 @@ pub mod About
 pub mod Accounts
 pub mod Explaining
 pub mod HandsetWords
+pub mod LogWords
 pub mod LookWords
 pub mod MisbehaviourWords
 pub mod Numbers

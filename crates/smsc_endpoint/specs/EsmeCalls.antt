@@ -292,6 +292,10 @@ heard Taken e = e
 
 -- ---- jobs
 
+-- eight requests that it took have no answer yet, with the keeper or waiting for their turn
+abbrev pub is_loaded : EsmeView → Bool
+is_loaded e = nat_le 8 (length e.waiting)
+
 -- the keeper is given no more requests now
 abbrev pub is_busy : EsmeView → Bool
 is_busy e = nat_le 8 e.with_keeper

@@ -9,7 +9,7 @@ ghost use Rattle.sms_receipt.specs.Receipts.{receipt_of};
 ghost use Rattle.smsc_endpoint.specs.EsmeView.{opened};
 ghost use Rattle.smsc_endpoint.specs.EsmeCalls.{account_octet, account_of, acted, acted_all, acted_next, answered_next, answered_one, asked_to_leave, at_time};
 ghost use Rattle.smsc_endpoint.specs.EsmeCalls.{bind_refused, bound as bound_of, bound_wrongly, counting_request, ended, handed_back, handed_out, handing, header_in};
-ghost use Rattle.smsc_endpoint.specs.EsmeCalls.{heard, is_busy as is_busy_of, refuses_submit as refuses_submit_of, sending_pdu, submit_refused, told, is_known as is_known_of, is_over as is_over_of, is_wrong as is_wrong_of, next_note};
+ghost use Rattle.smsc_endpoint.specs.EsmeCalls.{heard, is_busy as is_busy_of, is_loaded as is_loaded_of, refuses_submit as refuses_submit_of, sending_pdu, submit_refused, told, is_known as is_known_of, is_over as is_over_of, is_wrong as is_wrong_of, next_note};
 ghost use Rattle.smsc_endpoint.specs.EsmeCalls.{is_sendable as is_sendable_of, last_job, moment_or, octets_of, one_more, owes, passed_up, passed_with, submits_in as submits_of};
 ghost use Rattle.smsc_endpoint.specs.EsmeCalls.{receipt_answered, receipt_by, receipt_given, refused_receipt, request_back, request_job as request_job_of};
 ghost use Rattle.smsc_endpoint.specs.EsmeCalls.{receives as receives_of, responding, saying, sent as sent_of, taken, taken_in, throttled_next, unbound as unbound_of};
@@ -41,7 +41,7 @@ use std::collections::VecDeque;
 use std::marker::Model;
 use std::sync::Arc;
 
-// So many of its requests are with the keeper at most.
+// So many of its requests are with the keeper at most. Where so many have no answer, no more octets are read.
 const MOST_REQUESTS: usize = 8;
 
 // So many wrong binds end the session.
@@ -538,6 +538,13 @@ impl Esme {
         MOST_REQUESTS <= self.with_keeper
     }
 
+    // Whether as many requests as may be have no answer yet.
+    fn is_loaded(&self) -> bool
+        ensures { result ≡ is_loaded_of self.now }
+    {
+        MOST_REQUESTS <= self.waiting.len()
+    }
+
     // The job is put to the keeper.
     fn count(&mut self, job: &Job)
         ensures { self.new ≡ record self.old { with_keeper = one_more (is_request job.now) self.old.with_keeper } }
@@ -685,11 +692,11 @@ impl Endpoint for Esme {
         self.outbox.has_jobs()
     }
 
-    // Those that were handed back, or are still to be put, have no answer yet.
+    // Also those that wait for their turn, or were handed back and have no answer yet.
     fn unanswered(&self) -> usize
-        ensures { result ≡ self.now.with_keeper }
+        ensures { result ≡ length self.now.waiting }
     {
-        self.with_keeper
+        self.waiting.len()
     }
 
     fn owes(&self) -> bool
@@ -699,9 +706,9 @@ impl Endpoint for Esme {
     }
 
     fn is_full(&self) -> bool
-        ensures { result ≡ (is_some self.now.held || is_busy_of self.now) }
+        ensures { result ≡ (is_some self.now.held || is_loaded_of self.now) }
     {
-        self.held.is_some() || self.is_busy()
+        self.held.is_some() || self.is_loaded()
     }
 
     // A session that still owes answers is not given up.

@@ -1,11 +1,11 @@
 -- How many answers a seat has still to get.
-use Rattle.std.proofs.Common.{◌≡◌, ◌==◌, ◌||◌, ℕ, zero, suc, ◌+◌, ◌-◌, List, [], ◌∷◌, ◌++◌, Option, Some, None, Bool, true, false, if◌then◌else◌, refl, sym, ap, ◌∙◌, true≢false, arith}
+use Rattle.std.proofs.Common.{◌≡◌, ◌≤◌, ◌==◌, ◌||◌, ℕ, zero, suc, ◌+◌, ◌-◌, List, [], ◌∷◌, ◌++◌, Option, Some, None, Bool, true, false, if◌then◌else◌, refl, sym, ap, subst, ◌∙◌, true≢false, arith}
 use Rattle.sms_centre_spec.specs.declared.answer.CentreAnswer.{CentreAnswer}
 use Rattle.sms_centre_spec.specs.declared.jobs.job.Job.{Job}
 use Rattle.sms_centre_spec.specs.declared.jobs.reply.Reply.{Reply}
 use Rattle.sms_centre_spec.specs.declared.jobs.reply.Reply.TheVariants.{Answer, Receipt, Frame, Taken}
 use Rattle.sms_centre_spec.specs.jobs.Requests.{is_request}
-use Rattle.smsc_loop.specs.Owing.{answers_in, asks_nothing, awaited_after, awaited_with, ends_answered, ends_asked, is_answer, others_after, requests_in}
+use Rattle.smsc_loop.specs.Owing.{TakesTurns, answers_in, asks_nothing, awaited_after, awaited_with, ends_answered, ends_asked, is_answer, most_in_queue, others_after, requests_in}
 
 abbrev counted_in : Bool → ℕ → ℕ
 counted_in b n = if b then suc n else n
@@ -120,3 +120,67 @@ module _ (put put_then : List (Option Job)) (taken taken_then : List Reply) (awa
       let answers : answers_in taken_then ≡ answers_in (taken ++ reply ∷ []) = ap answers_in f in
       let known = counted_among reply (sym m ∙ none) in
       omega arith
+
+-- ---- turns
+
+one_more_at_most : (b : Bool) (r a w : ℕ) → r ≤ a + w → counted_in b r ≤ a + counted_in b w
+one_more_at_most true r a w h = omega arith
+one_more_at_most false r a w h = h
+
+one_fewer : (r a w : ℕ) → r ≤ a + w → r ≤ suc a + (w - 1)
+one_fewer r a zero h = omega arith
+one_fewer r a (suc w) h = omega arith
+
+fewer : (n most : ℕ) → n ≤ most → n - 1 ≤ most
+fewer zero most h = h
+fewer (suc n) most h = omega arith
+
+sum_at_most : (r a w most : ℕ) → r ≤ a + w → w ≤ most → r ≤ a + most
+sum_at_most r a w most h few = omega arith
+
+few_among : (reply : Reply) (awaited : ℕ) → awaited ≤ most_in_queue → awaited_after reply awaited ≤ most_in_queue
+few_among (Answer answer) awaited h = fewer awaited most_in_queue h
+few_among (Receipt end) awaited h = h
+few_among (Frame octets) awaited h = h
+few_among Taken awaited h = h
+
+pub few_after : (reply : Reply) (awaited left : ℕ) → left ≡ awaited_after reply awaited → awaited ≤ most_in_queue → left ≤ most_in_queue
+few_after reply awaited left e h = subst (λ (n : ℕ). n ≤ most_in_queue) (sym e) (few_among reply awaited h)
+
+module _ (put put_then : List (Option Job)) (taken taken_then : List Reply) (awaited : ℕ)
+    (turn : requests_in put ≤ answers_in taken + awaited) where
+  -- a job is put
+  pub turn_job : (job : Job) (left : ℕ) → left ≡ awaited_with job awaited → put_then ≡ put ++ Some job ∷ [] → taken_then ≡ taken
+      → requests_in put_then ≤ answers_in taken_then + left
+  turn_job job left d e f =
+      let requests : requests_in put_then ≡ counted_in (is_request job) (requests_in put) = ap requests_in e ∙ requests_next put job in
+      let more = one_more_at_most (is_request job) (requests_in put) (answers_in taken) awaited turn in
+      subst (λ (n : ℕ). n ≤ answers_in taken_then + left) (sym requests)
+      (subst (λ (taken : List Reply). counted_in (is_request job) (requests_in put) ≤ answers_in taken + left) (sym f)
+      (subst (λ (n : ℕ). counted_in (is_request job) (requests_in put) ≤ answers_in taken + n) (sym d) more))
+
+  -- and the seat takes its turns
+  pub turns_job : (job : Job) (left : ℕ) → left ≡ awaited_with job awaited → put_then ≡ put ++ Some job ∷ [] → taken_then ≡ taken
+      → left ≤ most_in_queue → TakesTurns put_then taken_then
+  turns_job job left d e f few = sum_at_most (requests_in put_then) (answers_in taken_then) left most_in_queue (turn_job job left d e f) few
+
+  -- a job is handed back
+  pub turn_same : put_then ≡ put → taken_then ≡ taken → requests_in put_then ≤ answers_in taken_then + awaited
+  turn_same e f =
+      subst (λ (put : List (Option Job)). requests_in put ≤ answers_in taken_then + awaited) (sym e)
+      (subst (λ (taken : List Reply). requests_in put ≤ answers_in taken + awaited) (sym f) turn)
+
+  turn_among : (reply : Reply) → requests_in put ≤ answers_in (taken ++ reply ∷ []) + awaited_after reply awaited
+  turn_among (Answer answer) =
+      subst (λ (n : ℕ). requests_in put ≤ n + (awaited - 1)) (sym (answers_more taken answer)) (one_fewer (requests_in put) (answers_in taken) awaited turn)
+  turn_among (Receipt end) = subst (λ (n : ℕ). requests_in put ≤ n + awaited) (sym (answers_same taken (Receipt end) refl)) turn
+  turn_among (Frame octets) = subst (λ (n : ℕ). requests_in put ≤ n + awaited) (sym (answers_same taken (Frame octets) refl)) turn
+  turn_among Taken = subst (λ (n : ℕ). requests_in put ≤ n + awaited) (sym (answers_same taken Taken refl)) turn
+
+  -- a reply is taken
+  pub turn_reply : (reply : Reply) (left : ℕ) → left ≡ awaited_after reply awaited → put_then ≡ put → taken_then ≡ taken ++ reply ∷ []
+      → requests_in put_then ≤ answers_in taken_then + left
+  turn_reply reply left d e f =
+      subst (λ (put : List (Option Job)). requests_in put ≤ answers_in taken_then + left) (sym e)
+      (subst (λ (taken : List Reply). requests_in put ≤ answers_in taken + left) (sym f)
+      (subst (λ (n : ℕ). requests_in put ≤ answers_in (taken ++ reply ∷ []) + n) (sym d) (turn_among reply)))

@@ -1,5 +1,5 @@
 -- What a seat still has to get.
-use Rattle.std.specs.Prelude.{◌≡◌, ◌==◌, ◌||◌, ℕ, suc, ◌-◌, Bool, true, false, List, [], ◌∷◌, Option, Some, None, if◌then◌else◌}
+use Rattle.std.specs.Prelude.{◌≡◌, ◌≤◌, ◌==◌, ◌||◌, ℕ, suc, ◌+◌, ◌-◌, Bool, true, false, List, [], ◌∷◌, Option, Some, None, if◌then◌else◌}
 use Rattle.sms_centre_spec.specs.declared.jobs.job.Job.{Job}
 use Rattle.sms_centre_spec.specs.declared.jobs.job.Job.TheVariants.{Query}
 use Rattle.sms_centre_spec.specs.declared.jobs.reply.Reply.{Reply}
@@ -17,6 +17,15 @@ abbrev pub answers_in : List Reply → ℕ
 answers_in [] = 0
 answers_in (Answer answer ∷ taken) = suc (answers_in taken)
 answers_in (reply ∷ taken) = answers_in taken
+
+-- So many requests of a seat lie in the keeper's queue at most. The queue takes the seats' jobs in the order in which they were put, so a seat
+-- with one request waits for one of each other seat.
+abbrev pub most_in_queue : ℕ
+most_in_queue = 1
+
+-- Each request that was put has its answer, but for so many.
+abbrev pub TakesTurns : List (Option Job) → List Reply → Type 0
+TakesTurns put taken = requests_in put ≤ answers_in taken + most_in_queue
 
 -- so many answers are still to come behind a job
 abbrev pub awaited_with : Job → ℕ → ℕ

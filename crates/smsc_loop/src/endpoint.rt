@@ -84,7 +84,7 @@ pub trait Endpoint {
     /// Whether no more of its octets are to be read now.
     fn is_full(&self) -> bool;
 
-    /// How many of its requests are with the keeper.
+    /// How many requests that it took have no answer yet.
     fn unanswered(&self) -> usize;
 
     /// Whether a request that it took has no answer yet.

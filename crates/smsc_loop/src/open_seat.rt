@@ -1,10 +1,10 @@
 //! A seat that has not closed.
-ghost use Rattle.std.specs.Prelude.{◌≡◌, ◌⊎◌, [], ◌∷◌, ◌++◌, ◌+◌, Some, None, true, false, IfSome, MatchOption, MatchResult};
+ghost use Rattle.std.specs.Prelude.{◌≡◌, ◌≤◌, ◌⊎◌, [], ◌∷◌, ◌++◌, ◌+◌, Some, None, true, false, IfSome, MatchOption, MatchResult};
 ghost use Rattle.sms_seats.specs.Jobs.{has_end};
 ghost use Rattle.sms_seats.specs.Seats.{IsSameSeat, number_of, put_by, taken_by};
 ghost use Rattle.smsc_loop.specs.Emptying.{Drops};
 ghost use Rattle.smsc_loop.specs.Owing.{IsCleared, answers_in, asks_nothing as asks_nothing_of, awaited_after, awaited_with as awaited_with_of, ends_answered, ends_asked};
-ghost use Rattle.smsc_loop.specs.Owing.{is_answer as is_answer_of, others_after, requests_in};
+ghost use Rattle.smsc_loop.specs.Owing.{TakesTurns, is_answer as is_answer_of, most_in_queue, others_after, requests_in};
 
 use sms_centre_spec::jobs::{Job, Reply};
 use sms_seats::{Bell, Seat};
@@ -13,7 +13,12 @@ use std::sync::Wait;
 use std::sync::atomic::{AtomicBool, Ordering};
 use std::time::Duration;
 
-/// A seat of the hub whose end mark was not put. It counts the answers that it has still to get.
+// So many requests of a seat lie in the keeper's queue at most: a session with one request waits for one of each other session, however
+// many these have. With one alone the keeper waits for a session that asks by itself, from each answer to the next request.
+const MOST_IN_QUEUE: usize = 1;
+
+/// A seat of the hub whose end mark was not put. It counts the answers that it has still to get, and takes its turn: it puts no request
+/// while one of its own is in the keeper's queue.
 #[derive(Drop)]
 pub struct OpenSeat {
     pub seat: Seat<Job, Reply>,
@@ -25,6 +30,8 @@ pub struct OpenSeat {
     // It took nothing yet, or an answer last.
     is_answered: bool,
     ghost open: { has_end (put_by seat) ≡ false },
+    ghost few: { awaited ≤ most_in_queue },
+    ghost in_turn: { requests_in (put_by seat) ≤ answers_in (taken_by seat) + awaited },
     ghost counted: { has_others ≡ false → requests_in (put_by seat) ≡ answers_in (taken_by seat) + awaited },
     ghost asked: { is_asked ≡ true → ends_asked (put_by seat) ≡ true },
     ghost answered: { is_answered ≡ true → ends_answered (taken_by seat) ≡ true },
@@ -39,14 +46,18 @@ fn asks_nothing(job: &Job) -> bool
     }
 }
 
-// How many answers a seat has still to get behind the job, by how many it had before; none where they can't be counted.
+// How many answers a seat has still to get behind the job, by how many it had before; none where it is not its turn.
 fn awaited_with(job: &Job, awaited: usize) -> Option<usize>
-    ensures { IfSome result (λ n. n ≡ awaited_with_of job.now awaited) }
+    requires { awaited ≤ most_in_queue }
+    ensures { IfSome result (λ n. (n ≡ awaited_with_of job.now awaited) × (n ≤ most_in_queue)) }
 {
-    if job.is_request() {
-        awaited.checked_add(1)
+    if !job.is_request() {
+        return Some(awaited);
+    }
+    if awaited < MOST_IN_QUEUE {
+        Some(awaited + 1)
     } else {
-        Some(awaited)
+        None
     }
 }
 
@@ -98,13 +109,19 @@ impl OpenSeat {
         self.seat.number()
     }
 
-    /// Puts a job, or hands it back where the queue was full.
+    /// Whether it may put a request: fewer of its own than it may have there are in the keeper's queue.
+    pub(crate) fn has_turn(&self) -> bool {
+        self.awaited < MOST_IN_QUEUE
+    }
+
+    /// Puts a job, or hands it back where the queue was full, or it is a request and not the seat's turn.
     pub fn put<R: Wait>(&mut self, rt: &R, job: Job) -> Result<(), Job>
         ensures seat { IsSameSeat self.old.seat self.new.seat }
         ensures taken { taken_by self.new.seat ≡ taken_by self.old.seat }
         ensures put { MatchResult result
             (λ _. put_by self.new.seat ≡ put_by self.old.seat ++ Some job ∷ [])
             (λ back. (back ≡ job) × (put_by self.new.seat ≡ put_by self.old.seat)) }
+        ensures turn { TakesTurns (put_by self.new.seat) (taken_by self.new.seat) }
     {
         let Some(awaited) = awaited_with(&job, self.awaited) else {
             return Err(job);

@@ -66,7 +66,8 @@ fn offer<R: Wait>(rt: &R, seat: &mut OpenSeat, has_ended: bool, job: Job) -> Res
     seat.put(rt, job)
 }
 
-// Puts the next job of the endpoint. False where there is none, or it is to be put again.
+// Puts the next job of the endpoint. False where there is none, it is not the seat's turn, or the job is to be put again. The endpoint is not
+// asked for a job before its turn, since it answers a request that is handed back with ESME_RTHROTTLED.
 fn put_next<R: Wait, G: Endpoint>(
     rt: &R,
     seat: &mut OpenSeat,
@@ -76,6 +77,9 @@ fn put_next<R: Wait, G: Endpoint>(
     ensures { (p : Phase) (a w : Option (List ℕ)) → Listens p → Did G.does (standing endpoint.old p a w seat.old.seat)
         (standing endpoint.new (behind (is_ok result) p) a w seat.new.seat) }
 {
+    if !seat.has_turn() {
+        return Ok(false);
+    }
     let Some(job) = endpoint.next_job() else {
         return Ok(false);
     };
@@ -88,7 +92,7 @@ fn put_next<R: Wait, G: Endpoint>(
     }
 }
 
-/// Puts the jobs of the endpoint, until one is to be put again.
+/// Puts the jobs of the endpoint, as far as it is the seat's turn, until one is to be put again.
 pub(crate) fn put_jobs<R: Wait, G: Endpoint>(
     rt: &R,
     seat: &mut OpenSeat,

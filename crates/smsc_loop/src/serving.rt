@@ -62,7 +62,7 @@ fn look<R: Wait, W: Wire, G: Endpoint, A: Surroundings>(
     end
 }
 
-// Reads where nothing waits to be sent or put, and rests where there is nothing to do.
+// Reads where there was room for what was sent and put, and rests where there is nothing to do.
 fn attend<R: Wait, W: Wire, G: Endpoint, A: Surroundings>(
     rt: &R,
     around: &A,
@@ -80,8 +80,9 @@ fn attend<R: Wait, W: Wire, G: Endpoint, A: Surroundings>(
     if patience.stalled.is_some() {
         return Ok(TurnEnd::Stays);
     }
-    // The keeper rings no bell where it makes room.
-    if endpoint.has_jobs() && !endpoint.is_full() {
+    // There was no room for a job, and the keeper rings no bell where it makes room. Jobs that wait for their turn go on with the answer that
+    // the seat has to get, which rings the bell.
+    if endpoint.has_jobs() && seat.has_turn() {
         seat.wait(rt, Duration::from_millis(1));
         return Ok(TurnEnd::Stays);
     }

@@ -1,9 +1,12 @@
 pub mod Crossing
+pub mod Entered
 pub mod Limits
 pub mod OneAnswer
 pub mod Ran
 pub mod Sat
+pub mod ShareLists
 pub mod Served
+pub mod Settled
 pub mod Stretched
 pub mod Threads
 pub mod Unanswered

@@ -1,3 +1,4 @@
 pub mod Asking
-pub mod Run
 pub mod Ends
+pub mod Run
+pub mod Turns

@@ -1,4 +1,5 @@
 pub mod Connections
+pub mod Entering
 pub mod KeptSeats
 pub mod PieceEnds
 pub mod Pieces

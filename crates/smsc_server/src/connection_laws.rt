@@ -5,6 +5,7 @@ ghost use Rattle.sms_centre_spec.specs.declared.jobs.reply.Reply.{Reply};
 ghost use Rattle.sms_keeper.specs.declared.machine.Item.{Item};
 ghost use Rattle.sms_keeper.specs.History.{IsHistory, answers_in, jobs_of};
 ghost use Rattle.smsc_service.specs.Serving.{Serving, after, gives};
+ghost use Rattle.smsc_arrivals.specs.declared.arrival.Arrival.{Arrival};
 ghost use Rattle.smsc_server.specs.serving.Connections.{Admitted};
 ghost use Rattle.smsc_server.specs.serving.Sittings.{SeatDid};
 ghost use Rattle.smsc_server.specs.serving.Stretches.{HaveStretches};
@@ -15,7 +16,8 @@ use std::io::{Read, Write};
 /// connection put. The replies for the seat are those that it heard or dropped, all of them and no others. Only the last connection may
 /// have left some.
 pub fn each_connection_has_its_own_replies<S: Read + Write>()
-    ensures { (admitted : Admitted) (seat : ℕ) (before behind : Serving) (items : List (Item Job Reply)) → IsHistory gives after before items behind
-        → (did : SeatDid S.remaining S.contents admitted (jobs_of seat items) (answers_in seat items))
+    ensures { (admitted : Admitted) (seat : ℕ) (before behind : Serving) (items : List (Item Job Reply)) (took : List (Arrival S))
+        → IsHistory gives after before items behind
+        → (did : SeatDid S.remaining S.contents admitted (jobs_of seat items) (answers_in seat items) took)
         → HaveStretches S.remaining S.contents admitted seat did.connections items }
 {}

@@ -7,6 +7,7 @@
 //! - `answer_laws`: what an application reads in answer to what it submits
 //! - `connection_laws`: what a connection takes of the centre
 //! - `link_run`: a run of a handset over any link, keep and clock
+//! - `run_laws`: what a run of the server keeps, whatever its connections ask
 //! - `serving`: a run of the server
 //! - `status`: what a run says of itself
 #![tactic(auto)]
@@ -14,13 +15,15 @@
 pub mod answer_laws;
 pub mod connection_laws;
 pub mod link_run;
+pub mod run_laws;
 mod serving;
 pub mod status;
 
 pub use serving::{
     Event, Given, Loopback, ObservedKeep, Observer, Orders, Ports, RunClock, SEATS, Seated,
-    ServeFault, Side, loopback_pair, milliseconds, serve, serve_machine,
+    ServeFault, loopback_pair, milliseconds, serve, serve_machine,
 };
+pub use smsc_arrivals::{Arrival, Door, Doors, Side};
 pub use smsc_cli::words;
 pub use smsc_service::CentreMachine;
 pub use smsc_service::relay::{Relayed, RunError, relay_laws, relay_once, run_relay};

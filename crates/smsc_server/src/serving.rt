@@ -7,8 +7,8 @@
 //! - `accepting`: connections, accepted at both ports
 //! - `board`: what the threads of a run share
 //! - `clock`: the time of a run
-//! - `connection`: a connection that was accepted
-//! - `pieces`: the pieces that cross from the reader of a connection to its seat
+//! - `connection`: the ports, and the wire of a connection that was accepted
+//! - `entrance`: the listeners, and the way from them to the seats
 //! - `poller`: what wakes the thread that accepts connections
 //! - `fault`: why a run ended early
 //! - `endpoints`: the threads of the seats
@@ -29,6 +29,7 @@ mod board;
 mod clock;
 mod connection;
 mod endpoints;
+mod entrance;
 mod fault;
 mod loopback;
 mod observed_keep;
@@ -44,8 +45,8 @@ mod seat_thread;
 mod server;
 
 pub use clock::{RunClock, milliseconds};
+pub use connection::Ports;
 pub(crate) use connection::is_later;
-pub use connection::{Ports, Side};
 pub use fault::ServeFault;
 pub use loopback::{Loopback, loopback_pair};
 pub use observed_keep::ObservedKeep;

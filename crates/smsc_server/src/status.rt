@@ -1,17 +1,20 @@
 //! What a run says of itself: what its threads count, who sits at each seat, and to whom it is shown.
 //!
+//! - `accounts`: what the sessions of each account did
 //! - `client`: a client of the status page
 //! - `counters`: what the threads of a run count
 //! - `refusals`: refused requests, by the account and the status
 //! - `rows`: the messages of a store
 //! - `seats`: who sits at each seat
 
+mod accounts;
 mod client;
 mod counters;
 mod refusals;
 mod rows;
 mod seats;
 
+pub use accounts::{AccountCounts, AccountTotals};
 pub use client::{Client, Heard};
 pub use counters::Counters;
 pub use refusals::{RefusalTable, Refusals};

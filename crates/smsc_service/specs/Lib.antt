@@ -7,6 +7,7 @@ pub mod Seats
 pub mod ShownLinks
 pub mod Serving
 pub mod BoundSession
+pub mod Causes
 pub mod Starting
 pub mod Stepping
 pub mod Replies

@@ -7,6 +7,7 @@ ghost use Rattle.smsc_service.specs.Seats.{nobody};
 ghost use Rattle.smsc_service.specs.Serving.{restarted};
 ghost use Rattle.smsc_service.specs.InService.{IsServedBy, store_in};
 
+use crate::cutoff::Cutoff;
 use crate::link_board::LinkBoard;
 use crate::service::Service;
 use crate::start_error::StartError;
@@ -15,19 +16,24 @@ use sms_centre_spec::bodies::CentreStore;
 use std::alloc::Global;
 use std::sync::Arc;
 
+// One share more.
+fn share_of<T>(shared: &Arc<T>) -> Result<Arc<T>, StartError> {
+    match Arc::try_clone(shared) {
+        Ok(share) => Ok(share),
+        Err(_) => Err(StartError::NoMemory),
+    }
+}
+
 // One more share of the board, if there is one.
-fn share_of(board: Option<&Arc<LinkBoard>>) -> Result<Option<Arc<LinkBoard>>, StartError> {
+fn share_of_board(board: Option<&Arc<LinkBoard>>) -> Result<Option<Arc<LinkBoard>>, StartError> {
     match board {
-        Some(board) => match Arc::try_clone(board) {
-            Ok(share) => Ok(Some(share)),
-            Err(_) => Err(StartError::NoMemory),
-        },
+        Some(board) => Ok(Some(share_of(board)?)),
         None => Ok(None),
     }
 }
 
 /// Starts a service with the rows of a keep, with nobody at any seat, lends it to the work, and gives what the work gives. Who calls
-/// this owns no service. Where there is a board, the service puts on it how links are.
+/// this owns no service. Where there is a board, the service puts on it how links are. Behind the cutoff it begins nothing.
 ///
 /// # Errors
 /// As `Service::start`. The work is not done then.
@@ -35,6 +41,7 @@ pub fn serve_with<K: CentreStore + Drop, R, W: FnOnce(&mut Service<K>) -> R>(
     alloc: Global,
     keep: K,
     board: Option<&Arc<LinkBoard>>,
+    cutoff: &Arc<Cutoff>,
     work: W,
 ) -> Result<R, StartError>
     requires { W.IsAlwaysCallable work }
@@ -43,7 +50,8 @@ pub fn serve_with<K: CentreStore + Drop, R, W: FnOnce(&mut Service<K>) -> R>(
         × ((rows : RowsOf) → IfHeld rows (K.state keep) (K.state (store_in lent)) (IsServedBy K.state lent (restarted rows nobody)))
         × WasHonest (K.state keep) (K.state (store_in lent)) × FnOnceReturnsAtMut W.FnOnce work lent given left) }
 {
-    let board = share_of(board)?;
-    let service = Service::start(alloc, keep, board)?;
+    let board = share_of_board(board)?;
+    let cutoff = share_of(cutoff)?;
+    let service = Service::start(alloc, keep, board, cutoff)?;
     Ok(lend(service, work))
 }

@@ -8,12 +8,15 @@
 //! rows.
 //!
 //! `Service` is what a hub's keeper runs: it asks the centre for a seat's job, or lets time pass, and gives each seat
-//! its replies. Its steps are one history of the centre's definition (`specs/Serving.antt`). `SeatMap` keeps which
+//! its replies. Its steps are one history of the centre's definition (`specs/Serving.antt`). Behind its `Cutoff` it begins
+//! no event: each fails as for want of memory. `SeatMap` keeps which
 //! handset's link and which session is at which seat, so that frames and receipts find their seats. `serve_with` owns a
 //! service and lends it, so that no crate above proves how a centre is dropped.
 //!
 //! - `asking`: what a job asks of the centre
+//! - `causes`: by which causes handsets refused what was delivered
 //! - `copying`: copies of replies
+//! - `cutoff`: whether it is too late to begin anything
 //! - `ends`: the ends of messages
 //! - `seat_map`: which handset and which session is at which seat
 //! - `laws`: laws of the service's steps
@@ -37,7 +40,9 @@
 
 mod asking;
 mod bound_session;
+mod causes;
 mod copying;
+mod cutoff;
 mod ends;
 pub mod laws;
 mod lending;
@@ -60,8 +65,9 @@ mod twice;
 pub use asking::{SeatRequest, job_asks};
 pub use bound_session::{handsets_of, sessions_of};
 pub use copying::copy_of_outs;
+pub use cutoff::Cutoff;
 pub use lending::serve_with;
-pub use link_board::LinkBoard;
+pub use link_board::{CauseCount, LinkBoard};
 pub use machine::CentreMachine;
 pub use replies::{Requester, failed, reply_outs, taken};
 pub use seat_map::{BoundSession, LinkSeat, SeatMap};

@@ -2,7 +2,12 @@
 use crate::shown_links::{SEATS, ShownLinks};
 use sms_centre::LinkFigures;
 use std::alloc::{AllocError, Global};
-use std::sync::atomic::{AtomicBool, AtomicUsize, Ordering};
+use std::sync::atomic::{AtomicBool, AtomicU64, AtomicUsize, Ordering};
+
+// A cause is a number of seven bits.
+const CAUSE_NUMBERS: u8 = 128;
+
+const CAUSES: usize = CAUSE_NUMBERS as usize;
 
 // How a seat is that has no link.
 const NOTHING: LinkFigures = LinkFigures {
@@ -32,6 +37,23 @@ impl LinkPlace {
 #[derive(Drop)]
 pub struct LinkBoard {
     places: Vec<LinkPlace>,
+    // How often handsets refused something by the cause of this number.
+    causes: Vec<AtomicU64>,
+}
+
+/// How often handsets refused something by this cause (3GPP TS 24.011 8.2.5.4).
+#[derive(Clone, Copy, Debug, PartialEq, Eq)]
+pub struct CauseCount {
+    pub cause: u8,
+    pub count: u64,
+}
+
+fn no_causes(alloc: Global) -> Result<Vec<AtomicU64>, AllocError> {
+    let mut causes = Vec::with_capacity(alloc, CAUSES)?;
+    for _ in 0..CAUSES {
+        causes.push(AtomicU64::new(0))?;
+    }
+    Ok(causes)
 }
 
 impl LinkBoard {
@@ -45,7 +67,27 @@ impl LinkBoard {
                 is_under_way: AtomicBool::new(false),
             })?;
         }
-        Ok(LinkBoard { places })
+        let causes = no_causes(alloc)?;
+        Ok(LinkBoard { places, causes })
+    }
+
+    /// A handset refused something by this cause.
+    pub(crate) fn count(&self, cause: u8) {
+        if let Some(counter) = self.causes.get(usize::from(cause)) {
+            counter.fetch_add(1, Ordering::SeqCst);
+        }
+    }
+
+    /// How often handsets refused something, by the cause.
+    pub fn causes(&self, alloc: Global) -> Result<Vec<CauseCount>, AllocError> {
+        let mut causes = Vec::new(alloc);
+        for (cause, counter) in (0..CAUSE_NUMBERS).zip(self.causes.iter()) {
+            let count = counter.load(Ordering::SeqCst);
+            if count > 0 {
+                causes.push(CauseCount { cause, count })?;
+            }
+        }
+        Ok(causes)
     }
 
     /// Puts down how the links at all seats are.

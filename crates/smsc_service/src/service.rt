@@ -1,5 +1,5 @@
 //! The centre as the machine of a hub.
-ghost use Rattle.std.specs.Prelude.{◌≡◌, ⊤, false, is_some, IfOk, IfSome, OnOk};
+ghost use Rattle.std.specs.Prelude.{◌≡◌, ⊤, false, true, is_some, IfOk, IfSome, OnOk};
 ghost use Rattle.sms_rows.specs.keep.StoreOutcome.{IfHeld, StoreOutcome, WasHonest};
 ghost use Rattle.sms_centre.specs.plans.EventOutcome.{IsOutcome};
 ghost use Rattle.sms_centre.specs.state.CentreState.{Represents};
@@ -13,7 +13,7 @@ ghost use Rattle.smsc_service.specs.declared.asking.SeatRequest.TheVariants.{Eve
 ghost use Rattle.smsc_service.specs.Asking.{IfEvent};
 ghost use Rattle.smsc_service.specs.Room.{IsReady};
 ghost use Rattle.smsc_service.specs.Seats.{nobody, seats_in};
-ghost use Rattle.sms_keeper.specs.declared.machine.Fate.TheVariants.{Refused};
+ghost use Rattle.sms_keeper.specs.declared.machine.Fate.TheVariants.{NoMemory, Refused};
 ghost use Rattle.smsc_service.specs.Stepping.{RefusedOne, as_result};
 ghost use Rattle.smsc_service.specs.ShownLinks.{AreShown, is_shown_after};
 ghost use Rattle.smsc_service.specs.Serving.{GivesUp, Serving, after, followed_by, gives, restarted};
@@ -21,6 +21,8 @@ ghost use Rattle.smsc_service.specs.Replies.{failed_by, replies_to};
 ghost use Rattle.smsc_service.specs.InService.{HasHonestStore, IfAwaited, IfServed, IsAwaitedBy, IsBroken, IsServedBy, ServingOutcome, StepOutcome, store_in};
 
 use crate::asking::SeatRequest;
+use crate::causes::cause_told_by;
+use crate::cutoff::Cutoff;
 use crate::link_board::LinkBoard;
 use crate::machine::CentreMachine;
 use crate::restarting::restarted_from;
@@ -50,6 +52,8 @@ pub struct Service<K: CentreStore + Drop> {
     is_broken: bool,
     // Where it is put down how links are, if anybody looks.
     board: Option<Arc<LinkBoard>>,
+    // Behind it nothing is begun.
+    cutoff: Arc<Cutoff>,
 }
 
 // The plan is carried out: what it changes is committed, and it is adopted.
@@ -97,6 +101,7 @@ impl<K: CentreStore + Drop> Service<K> {
         centre: Centre,
         seat_map: SeatMap,
         board: Option<Arc<LinkBoard>>,
+        cutoff: Arc<Cutoff>,
     ) -> Service<K>
         ensures keep { result.machine.keep ≡ keep }
         ensures centre { result.machine.centre ≡ centre }
@@ -108,10 +113,12 @@ impl<K: CentreStore + Drop> Service<K> {
             seat_map,
             is_broken: false,
             board,
+            cutoff,
         }
     }
 
-    /// The service that starts with the rows of a keep, with nobody at any seat. Where there is a board, it puts on it how links are.
+    /// The service that starts with the rows of a keep, with nobody at any seat. Where there is a board, it puts on it how links are. Behind
+    /// the cutoff it begins nothing.
     ///
     /// # Errors
     /// The store gave no rows, or they are not sound, or a growth was refused.
@@ -119,6 +126,7 @@ impl<K: CentreStore + Drop> Service<K> {
         alloc: Global,
         keep: K,
         board: Option<Arc<LinkBoard>>,
+        cutoff: Arc<Cutoff>,
     ) -> Result<Service<K>, StartError>
         ensures served { IfOk result (λ service. (rows : RowsOf)
             → IfHeld rows (K.state keep) (K.state (store_in service)) (IsServedBy K.state service (restarted rows nobody))) }
@@ -127,7 +135,7 @@ impl<K: CentreStore + Drop> Service<K> {
         let mut keep = keep;
         let seat_map = SeatMap::new(alloc);
         let centre = restarted_from(alloc, &mut keep, &seat_map)?;
-        Ok(Service::of(alloc, keep, centre, seat_map, board))
+        Ok(Service::of(alloc, keep, centre, seat_map, board, cutoff))
     }
 
     // The replies to the seats for the plan, made twice before anything is committed.
@@ -240,14 +248,39 @@ impl<K: CentreStore + Drop> Service<K> {
         }
     }
 
-    // What is asked is done.
+    // An event happens, unless it is too late to begin it: then it fails as for want of memory, and nothing changes.
+    fn begin<G: Gate>(
+        &mut self,
+        gate: &G,
+        event: &CentreEvent<'_>,
+        stimulus: &Stimulus<Job>,
+        is_late: bool,
+    ) -> Step<Reply>
+        requires { HasNumber event.now }
+        ensures late { is_late ≡ true → (result.fate ≡ NoMemory) × (self.new ≡ self.old) }
+        ensures alike { result.to_seats ≡ result.to_history }
+        ensures before { WasHonest (K.state (store_in self.old)) (K.state (store_in self.new)) }
+        ensures refused { (s : Serving)
+            → IfServed K.state s self.old self.new (result.fate ≡ Refused → RefusedOne (K.state (store_in self.old)) (K.state (store_in self.new))) }
+        ensures gives { (s : Serving)
+            → ServingOutcome K.state self.old self.new (Event event.now) s stimulus.now result.fate result.to_history }
+    {
+        if is_late {
+            return unmade(Fate::NoMemory, stimulus);
+        }
+        self.happen(gate, event, stimulus)
+    }
+
+    // What is asked is done. Where it is late, nothing changes.
     fn serve<G: Gate>(
         &mut self,
         gate: &G,
         asked: &SeatRequest<'_>,
         stimulus: &Stimulus<Job>,
+        is_late: bool,
     ) -> Step<Reply>
         requires { IfEvent HasNumber asked.now }
+        ensures late { is_late ≡ true → self.new ≡ self.old }
         ensures alike { result.to_seats ≡ result.to_history }
         ensures before { WasHonest (K.state (store_in self.old)) (K.state (store_in self.new)) }
         ensures refused { (s : Serving)
@@ -255,27 +288,29 @@ impl<K: CentreStore + Drop> Service<K> {
         ensures gives { (s : Serving) → ServingOutcome K.state self.old self.new asked.now s stimulus.now result.fate result.to_history }
     {
         match asked {
-            SeatRequest::Event(event) => self.happen(gate, event, stimulus),
+            SeatRequest::Event(event) => self.begin(gate, event, stimulus, is_late),
             SeatRequest::Nothing => unmade(Fate::Done, stimulus),
             SeatRequest::Taken => turned_away(stimulus),
         }
     }
 
-    // What is asked is done, and answered by its octets where there was no memory for it.
+    // What is asked is done, and answered by its octets where there was no memory for it. Where it is late, nothing changes.
     fn answer<G: Gate>(
         &mut self,
         gate: &G,
         asked: &SeatRequest<'_>,
         stimulus: &Stimulus<Job>,
+        is_late: bool,
     ) -> Step<Reply>
         requires { IfEvent HasNumber asked.now }
+        ensures late { is_late ≡ true → self.new ≡ self.old }
         ensures alike { result.to_seats ≡ result.to_history }
         ensures before { WasHonest (K.state (store_in self.old)) (K.state (store_in self.new)) }
         ensures refused { (s : Serving)
             → IfServed K.state s self.old self.new (result.fate ≡ Refused → RefusedOne (K.state (store_in self.old)) (K.state (store_in self.new))) }
         ensures gives { (s : Serving) → StepOutcome K.state self.old self.new asked.now s stimulus.now result.fate result.to_history }
     {
-        let step = self.serve(gate, asked, stimulus);
+        let step = self.serve(gate, asked, stimulus, is_late);
         answered(&self.machine.centre, asked, stimulus, step)
     }
 
@@ -291,13 +326,16 @@ impl<K: CentreStore + Drop> Service<K> {
         }
     }
 
-    // Puts down how the links are, where anybody looks.
+    // Puts down how the links are and by which causes handsets refused something, where anybody looks.
     fn publish(&self, stimulus: &Stimulus<Job>) {
         let Some(board) = &self.board else {
             return;
         };
         if let Some(shown) = self.board_after(stimulus) {
             board.put(&shown);
+        }
+        if let Some(cause) = cause_told_by(stimulus) {
+            board.count(cause);
         }
     }
 
@@ -331,7 +369,8 @@ impl<K: CentreStore + Drop> Machine<Job, Reply> for Service<K> {
 
     fn step<G: Gate>(&mut self, gate: &G, stimulus: &Stimulus<Job>) -> Step<Reply> {
         let asked = asked_by(&self.seat_map, stimulus);
-        let step = self.answer(gate, &asked, stimulus);
+        let is_late = self.cutoff.is_past();
+        let step = self.answer(gate, &asked, stimulus, is_late);
         self.publish(stimulus);
         step
     }

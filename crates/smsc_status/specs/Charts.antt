@@ -18,14 +18,17 @@ abbrev pub points_text : ℕ → ℕ → List ℕ → List ℕ
 points_text x greatest [] = []
 points_text x greatest (value ∷ values) = point_text x (height value greatest) ++ points_text (suc x) greatest values
 
+-- the title, the scale beside the line, and lines at the greatest value, at half of it and at nothing
 unfoldable pub caption_text : List ℕ → ℕ → List ℕ
 caption_text title greatest =
-    codes "<figure><figcaption>" ++ (title ++ (codes " <span class=\"most\">at most " ++ (decimal greatest
-    ++ (codes " a second</span></figcaption><svg viewBox=\"0 0 600 100\" preserveAspectRatio=\"none\" role=\"img\" aria-label=\"" ++ (title
-    ++ codes "\"><path d=\"M0 98.5H600\"/><polyline points=\"")))))
+    codes "<figure><figcaption>" ++ (title ++ (codes " <span class=\"most\">a second</span></figcaption><div class=\"plot\"><div class=\"scale\"><span>" ++ (decimal greatest
+    ++ (codes "</span><span>0</span></div><svg viewBox=\"0 0 600 100\" preserveAspectRatio=\"none\" role=\"img\" aria-label=\"" ++ (title
+    ++ (codes ", at most " ++ (decimal greatest ++ codes " a second\"><path d=\"M0 2.5H600M0 50.5H600M0 98.5H600\"/><polyline points=\"")))))))
 
+-- the times below the line
 unfoldable pub figure_end : List ℕ
-figure_end = codes "\"/></svg></figure>\n"
+figure_end =
+    codes "\"/></svg></div><div class=\"times\"><span>10 minutes ago</span><span>5 minutes ago</span><span>now</span></div></figure>\n"
 
 -- the last value is that of now, at 599 of 600
 unfoldable pub figure_text : List ℕ → ℕ → List ℕ → List ℕ

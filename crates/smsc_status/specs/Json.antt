@@ -4,10 +4,12 @@ use Rattle.std.specs.Str.{trim_end}
 use Rattle.smsc_status.specs.declared.commits.CommitFigures.{CommitFigures}
 use Rattle.smsc_status.specs.declared.commits.Quantile.{Quantile}
 use Rattle.smsc_status.specs.declared.commits.TheConstants.{LIMITS}
+use Rattle.smsc_status.specs.declared.figures.AccountLine.{AccountLine}
 use Rattle.smsc_status.specs.declared.figures.LinkLine.{LinkLine}
 use Rattle.smsc_status.specs.declared.figures.MessageCounts.{MessageCounts}
 use Rattle.smsc_status.specs.declared.figures.MessageFigures.{MessageFigures}
 use Rattle.smsc_status.specs.declared.figures.RefusedBinds.{RefusedBinds}
+use Rattle.smsc_status.specs.declared.figures.RefusedDeliveries.{RefusedDeliveries}
 use Rattle.smsc_status.specs.declared.figures.RefusedSubmits.{RefusedSubmits}
 use Rattle.smsc_status.specs.declared.figures.Sample.{Sample}
 use Rattle.smsc_status.specs.declared.figures.SessionLine.{SessionLine}
@@ -73,6 +75,12 @@ link_text l =
     ++ (codes "\",\"waiting\":" ++ (decimal l.waiting ++ (codes ",\"full\":" ++ (truth_text l.is_full ++ (codes ",\"under_way\":" ++ (truth_text l.is_under_way
     ++ codes "}")))))))))))
 
+-- ---- accounts
+
+unfoldable pub account_text : AccountLine → List ℕ
+account_text a =
+    codes "{\"account\":" ++ (string (string_bytes a.account) ++ (codes ",\"submits\":" ++ (decimal a.submits ++ (codes ",\"receipts\":" ++ (decimal a.receipts ++ codes "}")))))
+
 -- ---- what was refused
 
 unfoldable pub refused_submits_text : RefusedSubmits → List ℕ
@@ -81,6 +89,10 @@ refused_submits_text r =
 
 unfoldable pub refused_binds_text : RefusedBinds → List ℕ
 refused_binds_text r = codes "{\"reason\":\"" ++ (r.reason.now ++ (codes "\",\"count\":" ++ (decimal r.count ++ codes "}")))
+
+unfoldable pub refused_deliveries_text : RefusedDeliveries → List ℕ
+refused_deliveries_text r =
+    codes "{\"cause\":" ++ (decimal r.cause ++ (codes ",\"reason\":\"" ++ (r.reason.now ++ (codes "\",\"count\":" ++ (decimal r.count ++ codes "}")))))
 
 -- ---- the store
 
@@ -115,10 +127,14 @@ lists_text v =
     ++ (array_start (codes "sessions") ++ (elements session_text v.sessions.now ++ (array_end
     ++ (array_start (codes "links") ++ (elements link_text v.links.now ++ array_end)))))))
 
+unfoldable pub accounts_text : List AccountLine → List ℕ
+accounts_text accounts = array_start (codes "accounts") ++ (elements account_text accounts ++ array_end)
+
 unfoldable pub refusals_text : StatusView → List ℕ
 refusals_text v =
     array_start (codes "refused_submits") ++ (elements refused_submits_text v.refused_submits.now ++ (array_end
-    ++ (array_start (codes "refused_binds") ++ (elements refused_binds_text v.refused_binds.now ++ array_end))))
+    ++ (array_start (codes "refused_binds") ++ (elements refused_binds_text v.refused_binds.now ++ (array_end
+    ++ (array_start (codes "refused_deliveries") ++ (elements refused_deliveries_text v.refused_deliveries.now ++ array_end)))))))
 
 unfoldable pub commits_text : StoreFigures → CommitFigures → Quantile → Quantile → List ℕ
 commits_text s c median most = store_text s c median most ++ (first_places c.counts 13 ++ last_place (get_or c.counts 13 0))
@@ -128,5 +144,5 @@ events_text v = array_start (codes "events") ++ (elements (λ event. string (str
 
 unfoldable pub json_text : StatusView → Quantile → Quantile → List ℕ
 json_text v median most =
-    run_text v ++ (messages_text v.messages ++ (counts_text v.counts ++ (lists_text v ++ (refusals_text v
-    ++ (commits_text v.store v.commits median most ++ (events_text v ++ lost_text v.lost_events v.lost_lines))))))
+    run_text v ++ (messages_text v.messages ++ (counts_text v.counts ++ (lists_text v ++ (accounts_text v.accounts.now ++ (refusals_text v
+    ++ (commits_text v.store v.commits median most ++ (events_text v ++ lost_text v.lost_events v.lost_lines)))))))

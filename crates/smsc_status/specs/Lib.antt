@@ -1,3 +1,4 @@
+pub mod Access
 pub mod Charts
 pub mod Commits
 pub mod Json
@@ -11,3 +12,4 @@ pub mod Quantiles
 pub mod Quoting
 pub mod Reading
 pub mod Series
+pub mod Words

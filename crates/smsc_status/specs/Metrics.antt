@@ -3,10 +3,12 @@ use Rattle.std.specs.Prelude.{ℕ, zero, suc, List, [], ◌++◌, codes, decimal
 use Rattle.std.specs.Str.{trim_end}
 use Rattle.smsc_status.specs.declared.commits.CommitFigures.{CommitFigures}
 use Rattle.smsc_status.specs.declared.commits.TheConstants.{LIMITS}
+use Rattle.smsc_status.specs.declared.figures.AccountLine.{AccountLine}
 use Rattle.smsc_status.specs.declared.figures.LinkLine.{LinkLine}
 use Rattle.smsc_status.specs.declared.figures.MessageCounts.{MessageCounts}
 use Rattle.smsc_status.specs.declared.figures.MessageFigures.{MessageFigures}
 use Rattle.smsc_status.specs.declared.figures.RefusedBinds.{RefusedBinds}
+use Rattle.smsc_status.specs.declared.figures.RefusedDeliveries.{RefusedDeliveries}
 use Rattle.smsc_status.specs.declared.figures.RefusedSubmits.{RefusedSubmits}
 use Rattle.smsc_status.specs.declared.figures.SessionLine.{SessionLine}
 use Rattle.smsc_status.specs.declared.figures.StatusView.{StatusView}
@@ -99,6 +101,21 @@ links_metrics links =
     ++ (metric (codes "smsc_link_under_way") (codes "gauge") (codes "Whether something to a handset is under way.")
     ++ link_samples (codes "smsc_link_under_way") UnderWay links))))))
 
+-- ---- accounts
+
+abbrev pub account_submits : List ℕ → List AccountLine → List ℕ
+account_submits name accounts = flat_map (λ a. labelled_sample name (codes "account") (string_bytes a.account) a.submits) accounts
+
+abbrev pub account_receipts : List ℕ → List AccountLine → List ℕ
+account_receipts name accounts = flat_map (λ a. labelled_sample name (codes "account") (string_bytes a.account) a.receipts) accounts
+
+unfoldable pub accounts_metrics : List AccountLine → List ℕ
+accounts_metrics accounts =
+    metric (codes "smsc_account_submits_total") (codes "counter") (codes "Requests submit_sm of an account since the run began.")
+    ++ (account_submits (codes "smsc_account_submits_total") accounts
+    ++ (metric (codes "smsc_account_receipts_total") (codes "counter") (codes "Receipts that an account was sent since the run began.")
+    ++ account_receipts (codes "smsc_account_receipts_total") accounts))
+
 -- ---- what was refused
 
 unfoldable pub submits_sample : RefusedSubmits → List ℕ
@@ -109,12 +126,17 @@ submits_sample r =
 unfoldable pub binds_sample : RefusedBinds → List ℕ
 binds_sample r = codes "smsc_binds_refused_total{reason=\"" ++ (r.reason.now ++ (codes "\"} " ++ (decimal r.count ++ codes "\n")))
 
+unfoldable pub deliveries_sample : RefusedDeliveries → List ℕ
+deliveries_sample r = codes "smsc_deliver_attempts_failed_total{cause=\"" ++ (decimal r.cause ++ (codes "\"} " ++ (decimal r.count ++ codes "\n")))
+
 unfoldable pub refusals_metrics : StatusView → List ℕ
 refusals_metrics v =
     metric (codes "smsc_submits_refused_total") (codes "counter") (codes "Requests submit_sm of an account that were refused with this command_status.")
     ++ (flat_map submits_sample v.refused_submits.now
     ++ (metric (codes "smsc_binds_refused_total") (codes "counter") (codes "Binds that were refused for this reason.")
-    ++ flat_map binds_sample v.refused_binds.now))
+    ++ (flat_map binds_sample v.refused_binds.now
+    ++ (metric (codes "smsc_deliver_attempts_failed_total") (codes "counter") (codes "What handsets refused with this RP cause of what was delivered to them.")
+    ++ flat_map deliveries_sample v.refused_deliveries.now))))
 
 -- ---- the store
 
@@ -164,4 +186,4 @@ lost_metrics events lines =
 unfoldable pub metrics_text : StatusView → List ℕ
 metrics_text v =
     run_metrics v ++ (lost_metrics v.lost_events v.lost_lines ++ (counts_metric v.counts ++ (messages_metric v.messages ++ (sessions_metrics v.sessions.now
-    ++ (links_metrics v.links.now ++ (refusals_metrics v ++ (store_metrics v.store ++ commits_metrics v.commits)))))))
+    ++ (links_metrics v.links.now ++ (accounts_metrics v.accounts.now ++ (refusals_metrics v ++ (store_metrics v.store ++ commits_metrics v.commits))))))))

@@ -1,17 +1,19 @@
 -- The page, in HTML.
-use Rattle.std.specs.Prelude.{ℕ, ◌==◌, ◌&&◌, Bool, List, [], ◌∷◌, ◌++◌, codes, decimal, flat_map, if◌then◌else◌, length, map, reverse, string_bytes}
+use Rattle.std.specs.Prelude.{ℕ, ◌-◌, ◌==◌, ◌&&◌, Bool, List, [], ◌∷◌, ◌++◌, codes, decimal, flat_map, if◌then◌else◌, length, map, reverse, string_bytes}
 use Rattle.std.specs.Str.{trim_end}
 use Rattle.smsc_status.specs.declared.commits.CommitFigures.{CommitFigures}
 use Rattle.smsc_status.specs.declared.commits.Quantile.{Quantile}
+use Rattle.smsc_status.specs.declared.figures.AccountLine.{AccountLine}
 use Rattle.smsc_status.specs.declared.figures.LinkLine.{LinkLine}
 use Rattle.smsc_status.specs.declared.figures.MessageFigures.{MessageFigures}
 use Rattle.smsc_status.specs.declared.figures.RefusedBinds.{RefusedBinds}
+use Rattle.smsc_status.specs.declared.figures.RefusedDeliveries.{RefusedDeliveries}
 use Rattle.smsc_status.specs.declared.figures.RefusedSubmits.{RefusedSubmits}
 use Rattle.smsc_status.specs.declared.figures.Sample.{Sample}
 use Rattle.smsc_status.specs.declared.figures.SessionLine.{SessionLine}
 use Rattle.smsc_status.specs.declared.figures.StatusView.{StatusView}
 use Rattle.smsc_status.specs.declared.figures.StoreFigures.{StoreFigures}
-use Rattle.smsc_status.specs.declared.page.TheConstants.{HEAD, SESSIONS_HEAD, LINKS_HEAD, REFUSALS_HEAD}
+use Rattle.smsc_status.specs.declared.page.TheConstants.{HEAD, SESSIONS_HEAD, LINKS_HEAD, ACCOUNTS_HEAD, REFUSALS_HEAD}
 use Rattle.smsc_status.specs.Charts.{chart_text}
 use Rattle.smsc_status.specs.Kinds.{kind_word}
 use Rattle.smsc_status.specs.Markup.{escaped}
@@ -30,6 +32,14 @@ heading_text v =
 unfoldable pub tile : List ℕ → List ℕ → List ℕ
 tile figure word = codes "<div class=\"tile\"><b>" ++ (figure ++ (codes "</b><span>" ++ (word ++ codes "</span></div>")))
 
+-- a figure that is bad where it is not 0 stands out then
+abbrev pub mark : ℕ → List ℕ
+mark number = if number == 0 then [] else codes " class=\"bad\""
+
+unfoldable pub graded_tile : ℕ → List ℕ → List ℕ
+graded_tile number word =
+    codes "<div class=\"tile\"><b" ++ (mark number ++ (codes ">" ++ (decimal number ++ (codes "</b><span>" ++ (word ++ codes "</span></div>")))))
+
 unfoldable pub tiles_begin : List ℕ → List ℕ
 tiles_begin title = codes "<h2>" ++ (title ++ codes "</h2><div class=\"tiles\">")
 
@@ -38,8 +48,16 @@ tiles_end = codes "</div>\n"
 
 unfoldable pub messages_tiles : MessageFigures → List ℕ
 messages_tiles m =
-    tiles_begin (codes "Messages") ++ (tile (decimal m.enroute) (codes "ENROUTE") ++ (tile (decimal m.delivered) (codes "DELIVRD") ++ (tile (decimal m.expired) (codes "EXPIRED")
-    ++ (tile (decimal m.deleted) (codes "DELETED") ++ (tile (decimal m.undeliverable) (codes "UNDELIV") ++ tiles_end)))))
+    tiles_begin (codes "Messages") ++ (tile (decimal m.enroute) (codes "ENROUTE") ++ (tile (decimal m.delivered) (codes "DELIVRD") ++ (graded_tile m.expired (codes "EXPIRED")
+    ++ (tile (decimal m.deleted) (codes "DELETED") ++ (graded_tile m.undeliverable (codes "UNDELIV") ++ tiles_end)))))
+
+-- ---- seats
+
+-- the seats of those who have said who they are, and what is left of 32
+unfoldable pub seats_tiles : ℕ → ℕ → List ℕ
+seats_tiles sessions links =
+    tiles_begin (codes "Seats") ++ (tile (decimal sessions) (codes "sessions") ++ (tile (decimal links) (codes "links")
+    ++ (tile (decimal (32 - sessions - links)) (codes "free of 32") ++ tiles_end)))
 
 -- ---- the last ten minutes
 
@@ -73,14 +91,29 @@ sessions_table sessions =
 abbrev pub yes_or_no : Bool → List ℕ
 yes_or_no is_so = if is_so then codes "yes" else codes "no"
 
+-- what is bad where it is so stands out then
+abbrev pub bad_or_not : Bool → List ℕ
+bad_or_not is_so = if is_so then codes "<span class=\"bad\">yes</span>" else codes "no"
+
 unfoldable pub link_row : LinkLine → List ℕ
 link_row l =
-    codes "<tr><td>" ++ (escaped (string_bytes l.handset) ++ (codes "</td><td class=\"n\">" ++ (decimal l.waiting ++ (codes "</td><td>" ++ (yes_or_no l.is_full
+    codes "<tr><td>" ++ (escaped (string_bytes l.handset) ++ (codes "</td><td class=\"n\">" ++ (decimal l.waiting ++ (codes "</td><td>" ++ (bad_or_not l.is_full
     ++ (codes "</td><td>" ++ (yes_or_no l.is_under_way ++ (codes "</td><td>" ++ (moment_text l.since ++ (codes "</td><td class=\"n\">" ++ (decimal l.seat
     ++ codes "</td></tr>\n")))))))))))
 
 unfoldable pub links_table : List LinkLine → List ℕ
 links_table links = LINKS_HEAD.now ++ (flat_map link_row links ++ (none_row (length links == 0) (codes "6") ++ table_end))
+
+-- ---- accounts
+
+unfoldable pub account_row : AccountLine → List ℕ
+account_row a =
+    codes "<tr><td>" ++ (escaped (string_bytes a.account) ++ (codes "</td><td class=\"n\">" ++ (decimal a.submits ++ (codes "</td><td class=\"n\">" ++ (decimal a.receipts
+    ++ codes "</td></tr>\n")))))
+
+unfoldable pub accounts_table : List AccountLine → List ℕ
+accounts_table accounts =
+    ACCOUNTS_HEAD.now ++ (flat_map account_row accounts ++ (none_row (length accounts == 0) (codes "3") ++ table_end))
 
 -- ---- what was refused
 
@@ -93,13 +126,18 @@ unfoldable pub binds_row : RefusedBinds → List ℕ
 binds_row r =
     codes "<tr><td>bind</td><td></td><td>" ++ (escaped r.reason.now ++ (codes "</td><td class=\"n\">" ++ (decimal r.count ++ codes "</td></tr>\n")))
 
+unfoldable pub deliveries_row : RefusedDeliveries → List ℕ
+deliveries_row r =
+    codes "<tr><td>delivery</td><td></td><td>RP cause " ++ (decimal r.cause ++ (codes ", " ++ (escaped r.reason.now ++ (codes "</td><td class=\"n\">" ++ (decimal r.count
+    ++ codes "</td></tr>\n")))))
+
 abbrev pub is_nothing_refused : StatusView → Bool
-is_nothing_refused v = length v.refused_submits.now == 0 && length v.refused_binds.now == 0
+is_nothing_refused v = length v.refused_submits.now == 0 && (length v.refused_binds.now == 0 && length v.refused_deliveries.now == 0)
 
 unfoldable pub refusals_table : StatusView → List ℕ
 refusals_table v =
-    REFUSALS_HEAD.now ++ (flat_map submits_row v.refused_submits.now ++ (flat_map binds_row v.refused_binds.now
-    ++ (none_row (is_nothing_refused v) (codes "4") ++ table_end)))
+    REFUSALS_HEAD.now ++ (flat_map submits_row v.refused_submits.now ++ (flat_map binds_row v.refused_binds.now ++ (flat_map deliveries_row v.refused_deliveries.now
+    ++ (none_row (is_nothing_refused v) (codes "4") ++ table_end))))
 
 -- ---- the store
 
@@ -107,7 +145,7 @@ unfoldable pub store_tiles : StoreFigures → CommitFigures → List Sample → 
 store_tiles s c samples median most =
     tiles_begin (codes "Store") ++ (tile (size_text s.file) (codes "file") ++ (tile (size_text s.log) (codes "its log")
     ++ (tile (decimal (commits_a_second samples)) (codes "commits a second") ++ (tile (quantile_text median) (codes "median of a commit")
-    ++ (tile (quantile_text most) (codes "99 of 100 commits") ++ (tile (decimal c.refused) (codes "commits refused") ++ tiles_end))))))
+    ++ (tile (quantile_text most) (codes "99 of 100 commits") ++ (graded_tile c.refused (codes "commits refused") ++ tiles_end))))))
 
 -- ---- events
 
@@ -140,5 +178,6 @@ foot_text version =
 
 unfoldable pub page_text : StatusView → Quantile → Quantile → List ℕ
 page_text v median most =
-    HEAD.now ++ (heading_text v ++ (messages_tiles v.messages ++ (charts_text (map (λ (s : Sample). s.submissions) v.samples.now) (map (λ (s : Sample). s.deliveries) v.samples.now) ++ (sessions_table v.sessions.now ++ (links_table v.links.now
-    ++ (refusals_table v ++ (store_tiles v.store v.commits v.samples.now median most ++ (events_list v ++ foot_text (trim_end v.version.now)))))))))
+    HEAD.now ++ (heading_text v ++ (messages_tiles v.messages ++ (charts_text (map (λ (s : Sample). s.submissions) v.samples.now) (map (λ (s : Sample). s.deliveries) v.samples.now)
+    ++ (seats_tiles (length v.sessions.now) (length v.links.now) ++ (sessions_table v.sessions.now ++ (links_table v.links.now ++ (accounts_table v.accounts.now
+    ++ (refusals_table v ++ (store_tiles v.store v.commits v.samples.now median most ++ (events_list v ++ foot_text (trim_end v.version.now)))))))))))

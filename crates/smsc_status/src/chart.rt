@@ -65,13 +65,19 @@ fn put_caption(out: &mut Octets, title: &[u8], greatest: u64) -> Result<(), Allo
         &[
             Piece::Text(b"<figure><figcaption>"),
             Piece::Text(title),
-            Piece::Text(b" <span class=\"most\">at most "),
+            Piece::Text(
+                b" <span class=\"most\">a second</span></figcaption><div class=\"plot\"><div class=\"scale\"><span>",
+            ),
             Piece::Number(greatest),
             Piece::Text(
-                b" a second</span></figcaption><svg viewBox=\"0 0 600 100\" preserveAspectRatio=\"none\" role=\"img\" aria-label=\"",
+                b"</span><span>0</span></div><svg viewBox=\"0 0 600 100\" preserveAspectRatio=\"none\" role=\"img\" aria-label=\"",
             ),
             Piece::Text(title),
-            Piece::Text(b"\"><path d=\"M0 98.5H600\"/><polyline points=\""),
+            Piece::Text(b", at most "),
+            Piece::Number(greatest),
+            Piece::Text(
+                b" a second\"><path d=\"M0 2.5H600M0 50.5H600M0 98.5H600\"/><polyline points=\"",
+            ),
         ],
     )
 }
@@ -80,7 +86,9 @@ fn put_caption(out: &mut Octets, title: &[u8], greatest: u64) -> Result<(), Allo
 fn end_figure(out: &mut Octets) -> Result<(), AllocError>
     ensures { OnOk result (out.new ≡ out.old ++ figure_end) }
 {
-    out.append(b"\"/></svg></figure>\n")
+    out.append(
+        b"\"/></svg></div><div class=\"times\"><span>10 minutes ago</span><span>5 minutes ago</span><span>now</span></div></figure>\n",
+    )
 }
 
 #[tactic(auto, unfolding(crate::specs::Charts::figure_text))]

@@ -59,6 +59,17 @@ pub struct LinkLine {
     pub is_under_way: bool,
 }
 
+/// What all sessions of an account did since the run began.
+#[derive(Drop)]
+pub struct AccountLine {
+    /// The system_id of the account.
+    pub account: String,
+    /// How many submit_sm they sent.
+    pub submits: u64,
+    /// How many receipts they were sent.
+    pub receipts: u64,
+}
+
 /// Requests submit_sm of an account that were refused alike.
 #[derive(Drop)]
 pub struct RefusedSubmits {
@@ -72,6 +83,15 @@ pub struct RefusedSubmits {
 /// Binds that were refused alike.
 #[derive(Clone, Copy)]
 pub struct RefusedBinds {
+    pub reason: &'static str,
+    pub count: u64,
+}
+
+/// What handsets refused alike of what was delivered to them.
+#[derive(Clone, Copy)]
+pub struct RefusedDeliveries {
+    /// The cause of their RP-ERROR (3GPP TS 24.011 8.2.5.4), and its name.
+    pub cause: u8,
     pub reason: &'static str,
     pub count: u64,
 }
@@ -127,9 +147,12 @@ pub struct StatusView<'a> {
     pub counts: MessageCounts,
     pub sessions: &'a [SessionLine],
     pub links: &'a [LinkLine],
+    /// The accounts of which a session did something in this run.
+    pub accounts: &'a [AccountLine],
     /// The requests of this run that were refused.
     pub refused_submits: &'a [RefusedSubmits],
     pub refused_binds: &'a [RefusedBinds],
+    pub refused_deliveries: &'a [RefusedDeliveries],
     /// The last ten minutes, a second each, the oldest first.
     pub samples: &'a [Sample],
     /// The last events, the oldest first.

@@ -1,16 +1,16 @@
 //! The figures in JSON (RFC 8259).
 ghost use Rattle.std.specs.Prelude.{◌≡◌, ◌++◌, IfOk, OnOk, string_bytes};
 ghost use Rattle.smsc_status.specs.Commits.{IsQuantile};
-ghost use Rattle.smsc_status.specs.Json.{array_end, array_start, comma, commits_text, counts_text, elements, events_text, first_places, json_text, last_place};
-ghost use Rattle.smsc_status.specs.Json.{link_text, lists_text, lost_text, messages_text, place_text, refusals_text, refused_binds_text, refused_submits_text, run_text};
+ghost use Rattle.smsc_status.specs.Json.{account_text, accounts_text, array_end, array_start, comma, commits_text, counts_text, elements, events_text, first_places, json_text, last_place};
+ghost use Rattle.smsc_status.specs.Json.{link_text, lists_text, lost_text, messages_text, place_text, refusals_text, refused_binds_text, refused_deliveries_text, refused_submits_text, run_text};
 ghost use Rattle.smsc_status.specs.Json.{sample_text, session_text, store_text, truth_text};
 ghost use Rattle.smsc_status.specs.Quoting.{string};
 ghost use Rattle.smsc_status.specs.declared.commits.Quantile.{Quantile as QuantileOf};
 
 use crate::commits::{CommitFigures, LIMITS, Quantile};
 use crate::figures::{
-    LinkLine, MessageCounts, MessageFigures, RefusedBinds, RefusedSubmits, Sample, SessionLine,
-    StatusView, StoreFigures,
+    AccountLine, LinkLine, MessageCounts, MessageFigures, RefusedBinds, RefusedDeliveries,
+    RefusedSubmits, Sample, SessionLine, StatusView, StoreFigures,
 };
 use crate::pieces::{Piece, put_pieces};
 use crate::quoting::put_string;
@@ -237,6 +237,50 @@ fn put_lists(out: &mut Octets, view: &StatusView<'_>) -> Result<(), AllocError>
     end_array(out)
 }
 
+// ---- accounts
+
+#[tactic(auto, unfolding(crate::specs::Json::account_text))]
+fn put_account<'a>(
+    out: &mut Octets,
+    before: &'a [u8],
+    line: &'a AccountLine,
+) -> Result<(), AllocError>
+    ensures { OnOk result (out.new ≡ out.old ++ (before.now ++ account_text line.now)) }
+{
+    put_pieces(
+        out,
+        &[
+            Piece::Text(before),
+            Piece::Text(b"{\"account\":"),
+            Piece::Quoted(line.account.as_bytes()),
+            Piece::Text(b",\"submits\":"),
+            Piece::Number(line.submits),
+            Piece::Text(b",\"receipts\":"),
+            Piece::Number(line.receipts),
+            Piece::Text(b"}"),
+        ],
+    )
+}
+
+#[tactic(auto, using(crate::proofs::Elements::one_more, crate::proofs::Elements::none_left))]
+fn put_all_accounts(out: &mut Octets, accounts: &[AccountLine]) -> Result<(), AllocError>
+    ensures { OnOk result (out.new ≡ out.old ++ elements account_text accounts.now) }
+{
+    for i in 0..accounts.len() {
+        put_account(out, comma_before(i), &accounts[i])?;
+    }
+    Ok(())
+}
+
+#[tactic(auto, unfolding(crate::specs::Json::accounts_text))]
+fn put_accounts(out: &mut Octets, accounts: &[AccountLine]) -> Result<(), AllocError>
+    ensures { OnOk result (out.new ≡ out.old ++ accounts_text accounts.now) }
+{
+    begin_array(out, b"accounts")?;
+    put_all_accounts(out, accounts)?;
+    end_array(out)
+}
+
 // ---- what was refused
 
 #[tactic(auto, unfolding(crate::specs::Json::refused_submits_text))]
@@ -303,6 +347,42 @@ fn put_all_refused_binds(out: &mut Octets, refused: &[RefusedBinds]) -> Result<(
     Ok(())
 }
 
+#[tactic(auto, unfolding(crate::specs::Json::refused_deliveries_text))]
+fn put_refused_deliveries(
+    out: &mut Octets,
+    before: &[u8],
+    refused: &RefusedDeliveries,
+) -> Result<(), AllocError>
+    ensures { OnOk result (out.new ≡ out.old ++ (before.now ++ refused_deliveries_text refused.now)) }
+{
+    put_pieces(
+        out,
+        &[
+            Piece::Text(before),
+            Piece::Text(b"{\"cause\":"),
+            Piece::Number(refused.cause as u64),
+            Piece::Text(b",\"reason\":\""),
+            Piece::Text(refused.reason.as_bytes()),
+            Piece::Text(b"\",\"count\":"),
+            Piece::Number(refused.count),
+            Piece::Text(b"}"),
+        ],
+    )
+}
+
+#[tactic(auto, using(crate::proofs::Elements::one_more, crate::proofs::Elements::none_left))]
+fn put_all_refused_deliveries(
+    out: &mut Octets,
+    refused: &[RefusedDeliveries],
+) -> Result<(), AllocError>
+    ensures { OnOk result (out.new ≡ out.old ++ elements refused_deliveries_text refused.now) }
+{
+    for i in 0..refused.len() {
+        put_refused_deliveries(out, comma_before(i), &refused[i])?;
+    }
+    Ok(())
+}
+
 #[tactic(auto, unfolding(crate::specs::Json::refusals_text))]
 fn put_refusals(out: &mut Octets, view: &StatusView<'_>) -> Result<(), AllocError>
     ensures { OnOk result (out.new ≡ out.old ++ refusals_text view.entry.now) }
@@ -312,6 +392,9 @@ fn put_refusals(out: &mut Octets, view: &StatusView<'_>) -> Result<(), AllocErro
     end_array(out)?;
     begin_array(out, b"refused_binds")?;
     put_all_refused_binds(out, view.refused_binds)?;
+    end_array(out)?;
+    begin_array(out, b"refused_deliveries")?;
+    put_all_refused_deliveries(out, view.refused_deliveries)?;
     end_array(out)
 }
 
@@ -463,6 +546,7 @@ fn put_json(
     put_messages(out, &view.messages)?;
     put_counts(out, &view.counts)?;
     put_lists(out, view)?;
+    put_accounts(out, view.accounts)?;
     put_refusals(out, view)?;
     put_commits(out, &view.store, &view.commits, median, most)?;
     put_events(out, view)?;

@@ -3,6 +3,7 @@
 //! A `StatusView` holds the figures at one moment, and `response_to` writes it for a client: as a page, in Prometheus'
 //! format, or in JSON. Each of them escapes a name from outside, so that no reader takes it for anything else (`laws`).
 //!
+//! - `access`: the line of a message at its end
 //! - `chart`: a figure over the last ten minutes, as a line
 //! - `commits`: how long commits take
 //! - `figures`: the figures of a run
@@ -18,8 +19,10 @@
 //! - `requests`: requests for a page
 //! - `responses`: responses
 //! - `series`: the last ten minutes
+//! - `words`: words of a line of the log
 #![tactic(auto)]
 
+mod access;
 mod chart;
 mod commits;
 mod figures;
@@ -35,11 +38,13 @@ mod quoting;
 mod requests;
 mod responses;
 mod series;
+mod words;
 
+pub use access::{AccessLine, access_line};
 pub use commits::{CommitFigures, PLACES, Quantile, place_of};
 pub use figures::{
-    LinkLine, MessageCounts, MessageFigures, RefusedBinds, RefusedSubmits, Sample, SessionKind,
-    SessionLine, StatusView, StoreFigures,
+    AccountLine, LinkLine, MessageCounts, MessageFigures, RefusedBinds, RefusedDeliveries,
+    RefusedSubmits, Sample, SessionKind, SessionLine, StatusView, StoreFigures,
 };
 pub use requests::{Resource, Wanted, wanted_of};
 pub use responses::response_to;

@@ -1,13 +1,13 @@
 //! The figures in Prometheus' text format.
 ghost use Rattle.std.specs.Prelude.{◌≡◌, ◌++◌, ◌<◌, IfOk, OnOk, codes, flat_map, string_bytes};
-ghost use Rattle.smsc_status.specs.Metrics.{binds_sample, bucket, commits_metrics, counts_metric, first_buckets, labelled_sample, link_number, link_samples, links_metrics};
+ghost use Rattle.smsc_status.specs.Metrics.{account_receipts, account_submits, accounts_metrics, binds_sample, bucket, commits_metrics, counts_metric, deliveries_sample, first_buckets, labelled_sample, link_number, link_samples, links_metrics};
 ghost use Rattle.smsc_status.specs.Metrics.{lost_metrics, messages_metric, metric, metrics_text, plain_sample, refusals_metrics, run_metrics, session_number};
 ghost use Rattle.smsc_status.specs.Metrics.{session_sample, session_samples, sessions_metrics, store_metrics, submits_sample, totals};
 
 use crate::commits::{CommitFigures, LIMITS};
 use crate::figures::{
-    LinkLine, MessageCounts, MessageFigures, RefusedBinds, RefusedSubmits, SessionLine, StatusView,
-    StoreFigures,
+    AccountLine, LinkLine, MessageCounts, MessageFigures, RefusedBinds, RefusedDeliveries,
+    RefusedSubmits, SessionLine, StatusView, StoreFigures,
 };
 use crate::pieces::{Piece, put_pieces};
 use sms_base::Octets;
@@ -277,6 +277,60 @@ fn put_links(out: &mut Octets, links: &[LinkLine]) -> Result<(), AllocError>
     put_each_link(out, name, links, LinkMetric::UnderWay)
 }
 
+// ---- accounts
+
+fn put_account_submits(
+    out: &mut Octets,
+    name: &[u8],
+    accounts: &[AccountLine],
+) -> Result<(), AllocError>
+    ensures { OnOk result (out.new ≡ out.old ++ account_submits name.now accounts.now) }
+{
+    for line in accounts {
+        put_labelled(out, name, b"account", line.account.as_bytes(), line.submits)?;
+    }
+    Ok(())
+}
+
+fn put_account_receipts(
+    out: &mut Octets,
+    name: &[u8],
+    accounts: &[AccountLine],
+) -> Result<(), AllocError>
+    ensures { OnOk result (out.new ≡ out.old ++ account_receipts name.now accounts.now) }
+{
+    for line in accounts {
+        put_labelled(
+            out,
+            name,
+            b"account",
+            line.account.as_bytes(),
+            line.receipts,
+        )?;
+    }
+    Ok(())
+}
+
+#[tactic(auto, unfolding(crate::specs::Metrics::accounts_metrics))]
+fn put_accounts(out: &mut Octets, accounts: &[AccountLine]) -> Result<(), AllocError>
+    ensures { OnOk result (out.new ≡ out.old ++ accounts_metrics accounts.now) }
+{
+    put_metric(
+        out,
+        b"smsc_account_submits_total",
+        b"counter",
+        b"Requests submit_sm of an account since the run began.",
+    )?;
+    put_account_submits(out, b"smsc_account_submits_total", accounts)?;
+    put_metric(
+        out,
+        b"smsc_account_receipts_total",
+        b"counter",
+        b"Receipts that an account was sent since the run began.",
+    )?;
+    put_account_receipts(out, b"smsc_account_receipts_total", accounts)
+}
+
 // ---- what was refused
 
 #[tactic(auto, unfolding(crate::specs::Metrics::submits_sample))]
@@ -331,6 +385,34 @@ fn put_each_refused_binds(out: &mut Octets, refused: &[RefusedBinds]) -> Result<
     Ok(())
 }
 
+#[tactic(auto, unfolding(crate::specs::Metrics::deliveries_sample))]
+fn put_refused_deliveries(out: &mut Octets, refused: &RefusedDeliveries) -> Result<(), AllocError>
+    ensures { OnOk result (out.new ≡ out.old ++ deliveries_sample refused.now) }
+{
+    put_pieces(
+        out,
+        &[
+            Piece::Text(b"smsc_deliver_attempts_failed_total{cause=\""),
+            Piece::Number(refused.cause as u64),
+            Piece::Text(b"\"} "),
+            Piece::Number(refused.count),
+            Piece::Text(b"\n"),
+        ],
+    )
+}
+
+fn put_each_refused_deliveries(
+    out: &mut Octets,
+    refused: &[RefusedDeliveries],
+) -> Result<(), AllocError>
+    ensures { OnOk result (out.new ≡ out.old ++ flat_map deliveries_sample refused.now) }
+{
+    for some in refused {
+        put_refused_deliveries(out, some)?;
+    }
+    Ok(())
+}
+
 #[tactic(auto, unfolding(crate::specs::Metrics::refusals_metrics))]
 fn put_refusals(out: &mut Octets, view: &StatusView<'_>) -> Result<(), AllocError>
     ensures { OnOk result (out.new ≡ out.old ++ refusals_metrics view.entry.now) }
@@ -348,7 +430,14 @@ fn put_refusals(out: &mut Octets, view: &StatusView<'_>) -> Result<(), AllocErro
         b"counter",
         b"Binds that were refused for this reason.",
     )?;
-    put_each_refused_binds(out, view.refused_binds)
+    put_each_refused_binds(out, view.refused_binds)?;
+    put_metric(
+        out,
+        b"smsc_deliver_attempts_failed_total",
+        b"counter",
+        b"What handsets refused with this RP cause of what was delivered to them.",
+    )?;
+    put_each_refused_deliveries(out, view.refused_deliveries)
 }
 
 // ---- the store
@@ -480,6 +569,7 @@ fn put_metrics(out: &mut Octets, view: &StatusView<'_>) -> Result<(), AllocError
     put_stored(out, &view.messages)?;
     put_sessions(out, view.sessions)?;
     put_links(out, view.links)?;
+    put_accounts(out, view.accounts)?;
     put_refusals(out, view)?;
     put_store(out, &view.store)?;
     put_commits(out, &view.commits)

@@ -1,12 +1,12 @@
 //! The status page: one document of HTML, which shows itself anew every five seconds, and needs neither script nor anything else.
 //!
 //! A text that somebody outside chose is an escaped piece, so no browser takes it for markup.
-ghost use Rattle.std.specs.Prelude.{◌≡◌, ◌++◌, IfOk, OnOk, codes, decimal, flat_map, map, reverse, string_bytes};
+ghost use Rattle.std.specs.Prelude.{◌≡◌, ◌-◌, ◌++◌, IfOk, OnOk, codes, decimal, flat_map, length, map, reverse, string_bytes};
 ghost use Rattle.std.specs.Str.{trim_end};
 ghost use Rattle.smsc_status.specs.Commits.{IsQuantile};
-ghost use Rattle.smsc_status.specs.Page.{binds_row, charts_text, event_item, events_begin, events_end, events_list};
-ghost use Rattle.smsc_status.specs.Page.{foot_text, heading_text, is_nothing_refused as is_nothing_refused_of, link_row, links_table, lost_text, messages_tiles, none_cell, none_row, page_text, refusals_table};
-ghost use Rattle.smsc_status.specs.Page.{session_row, sessions_table, store_tiles, submits_row, table_end, tile, tiles_begin, tiles_end, yes_or_no};
+ghost use Rattle.smsc_status.specs.Page.{account_row, accounts_table, bad_or_not, binds_row, charts_text, deliveries_row, event_item, events_begin, events_end, events_list};
+ghost use Rattle.smsc_status.specs.Page.{foot_text, graded_tile, heading_text, is_nothing_refused as is_nothing_refused_of, link_row, links_table, lost_text, mark, messages_tiles, none_cell, none_row, page_text, refusals_table};
+ghost use Rattle.smsc_status.specs.Page.{seats_tiles, session_row, sessions_table, store_tiles, submits_row, table_end, tile, tiles_begin, tiles_end, yes_or_no};
 ghost use Rattle.smsc_status.specs.Numbers.{size_text};
 ghost use Rattle.smsc_status.specs.Quantiles.{quantile_text};
 ghost use Rattle.smsc_status.specs.Series.{commits_a_second as commits_a_second_of};
@@ -16,8 +16,8 @@ ghost use Rattle.smsc_status.specs.declared.figures.Sample.{Sample as SampleOf};
 use crate::chart::put_chart;
 use crate::commits::{CommitFigures, Quantile};
 use crate::figures::{
-    LinkLine, MessageFigures, RefusedBinds, RefusedSubmits, Sample, SessionLine, StatusView,
-    StoreFigures,
+    AccountLine, LinkLine, MessageFigures, RefusedBinds, RefusedDeliveries, RefusedSubmits, Sample,
+    SessionLine, StatusView, StoreFigures,
 };
 use crate::pieces::{Piece, put_pieces};
 use crate::series::commits_a_second;
@@ -34,21 +34,27 @@ h1{font-size:22px;margin:0}h2{font-size:16px;margin:22px 0 6px}p{margin:2px 0;co
 .charts{display:flex;flex-wrap:wrap;gap:8px;margin-top:8px}figure{flex:1 1 260px;margin:0;background:#fff;border:1px solid #d9dfe8;border-radius:6px;padding:8px 10px}\n\
 figcaption{font-size:13px}.most{color:#5a6577;font-size:12px}svg{width:100%;height:90px;display:block}\n\
 polyline{fill:none;stroke:#1f5fa8;stroke-width:1.5;vector-effect:non-scaling-stroke}path{stroke:#d9dfe8;vector-effect:non-scaling-stroke}\n\
+.plot{display:flex;gap:6px}.scale{display:flex;flex-direction:column;justify-content:space-between;text-align:right;min-width:24px}\n\
+.times{display:flex;justify-content:space-between;margin-left:30px}.scale,.times{color:#5a6577;font-size:11px}\n\
+.more{display:none;font-size:12px}@media(max-width:700px){.more{display:block}}\n\
 .wide{overflow-x:auto;background:#fff;border:1px solid #d9dfe8;border-radius:6px}table{border-collapse:collapse;width:100%;font-size:13px}\n\
 th,td{text-align:left;padding:4px 10px;border-bottom:1px solid #eef1f5;white-space:nowrap}th{color:#5a6577;font-weight:600}.n{text-align:right}\n\
 ol{margin:0;padding:8px 10px 8px 44px;font:12px/1.5 ui-monospace,monospace}li{white-space:nowrap}.bad{color:#b00020}\n\
 </style></head><body>\n";
 
 const SESSIONS_HEAD: &[u8] =
-    b"<h2>Sessions</h2><div class=\"wide\"><table><tr><th>account</th><th>kind</th><th class=\"n\">submits</th><th class=\"n\">receipts</th>\
+    b"<h2>Sessions</h2><p class=\"more\">a wide table: drag it sideways</p><div class=\"wide\"><table><tr><th>account</th><th>kind</th><th class=\"n\">submits</th><th class=\"n\">receipts</th>\
 <th class=\"n\">window</th><th>since</th><th class=\"n\">seat</th></tr>\n";
 
 const LINKS_HEAD: &[u8] =
-    b"<h2>Links</h2><div class=\"wide\"><table><tr><th>handset</th><th class=\"n\">waiting</th><th>full</th><th>under way</th><th>since</th>\
+    b"<h2>Links</h2><p class=\"more\">a wide table: drag it sideways</p><div class=\"wide\"><table><tr><th>handset</th><th class=\"n\">waiting</th><th>full</th><th>under way</th><th>since</th>\
 <th class=\"n\">seat</th></tr>\n";
 
+const ACCOUNTS_HEAD: &[u8] =
+    b"<h2>Accounts, since the run began</h2><div class=\"wide\"><table><tr><th>account</th><th class=\"n\">submits</th><th class=\"n\">receipts</th></tr>\n";
+
 const REFUSALS_HEAD: &[u8] =
-    b"<h2>Refused</h2><div class=\"wide\"><table><tr><th>request</th><th>account</th><th>why</th><th class=\"n\">count</th></tr>\n";
+    b"<h2>Refused</h2><p class=\"more\">a wide table: drag it sideways</p><div class=\"wide\"><table><tr><th>request</th><th>account</th><th>why</th><th class=\"n\">count</th></tr>\n";
 
 // ---- the head
 
@@ -89,6 +95,31 @@ fn put_tile(out: &mut Octets, number: u64, word: &[u8]) -> Result<(), AllocError
     )
 }
 
+// What makes a figure stand out that is bad where it is not 0.
+fn mark_of(number: u64) -> &'static [u8]
+    ensures { result.now ≡ mark number }
+{
+    if number == 0 { b"" } else { b" class=\"bad\"" }
+}
+
+#[tactic(auto, unfolding(crate::specs::Page::graded_tile))]
+fn put_graded_tile(out: &mut Octets, number: u64, word: &[u8]) -> Result<(), AllocError>
+    ensures { OnOk result (out.new ≡ out.old ++ graded_tile number word.now) }
+{
+    put_pieces(
+        out,
+        &[
+            Piece::Text(b"<div class=\"tile\"><b"),
+            Piece::Text(mark_of(number)),
+            Piece::Text(b">"),
+            Piece::Number(number),
+            Piece::Text(b"</b><span>"),
+            Piece::Text(word),
+            Piece::Text(b"</span></div>"),
+        ],
+    )
+}
+
 #[tactic(auto, unfolding(crate::specs::Page::tiles_begin))]
 fn begin_tiles(out: &mut Octets, title: &[u8]) -> Result<(), AllocError>
     ensures { OnOk result (out.new ≡ out.old ++ tiles_begin title.now) }
@@ -117,9 +148,33 @@ fn put_messages(out: &mut Octets, messages: &MessageFigures) -> Result<(), Alloc
     begin_tiles(out, b"Messages")?;
     put_tile(out, messages.enroute, b"ENROUTE")?;
     put_tile(out, messages.delivered, b"DELIVRD")?;
-    put_tile(out, messages.expired, b"EXPIRED")?;
+    put_graded_tile(out, messages.expired, b"EXPIRED")?;
     put_tile(out, messages.deleted, b"DELETED")?;
-    put_tile(out, messages.undeliverable, b"UNDELIV")?;
+    put_graded_tile(out, messages.undeliverable, b"UNDELIV")?;
+    end_tiles(out)
+}
+
+// ---- seats
+
+// How many seats there are.
+const SEATS: u64 = 32;
+
+// How many seats are left.
+fn put_free(out: &mut Octets, sessions: u64, links: u64) -> Result<(), AllocError>
+    ensures { OnOk result (out.new ≡ out.old ++ tile (decimal (32 - sessions - links)) (codes "free of 32")) }
+{
+    let free = SEATS.saturating_sub(sessions).saturating_sub(links);
+    put_tile(out, free, b"free of 32")
+}
+
+#[tactic(auto, unfolding(crate::specs::Page::seats_tiles))]
+fn put_seats(out: &mut Octets, sessions: u64, links: u64) -> Result<(), AllocError>
+    ensures { OnOk result (out.new ≡ out.old ++ seats_tiles sessions links) }
+{
+    begin_tiles(out, b"Seats")?;
+    put_tile(out, sessions, b"sessions")?;
+    put_tile(out, links, b"links")?;
+    put_free(out, sessions, links)?;
     end_tiles(out)
 }
 
@@ -251,6 +306,16 @@ fn word_of(is_so: bool) -> &'static [u8]
     if is_so { b"yes" } else { b"no" }
 }
 
+fn bad_word_of(is_so: bool) -> &'static [u8]
+    ensures { result.now ≡ bad_or_not is_so }
+{
+    if is_so {
+        b"<span class=\"bad\">yes</span>"
+    } else {
+        b"no"
+    }
+}
+
 #[tactic(auto, unfolding(crate::specs::Page::link_row))]
 fn put_link(out: &mut Octets, link: &LinkLine) -> Result<(), AllocError>
     ensures { OnOk result (out.new ≡ out.old ++ link_row link.now) }
@@ -263,7 +328,7 @@ fn put_link(out: &mut Octets, link: &LinkLine) -> Result<(), AllocError>
             Piece::Text(b"</td><td class=\"n\">"),
             Piece::Number(link.waiting),
             Piece::Text(b"</td><td>"),
-            Piece::Text(word_of(link.is_full)),
+            Piece::Text(bad_word_of(link.is_full)),
             Piece::Text(b"</td><td>"),
             Piece::Text(word_of(link.is_under_way)),
             Piece::Text(b"</td><td>"),
@@ -291,6 +356,45 @@ fn put_links(out: &mut Octets, links: &[LinkLine]) -> Result<(), AllocError>
     out.append(LINKS_HEAD)?;
     put_link_rows(out, links)?;
     put_none(out, links.is_empty(), b"6")?;
+    end_table(out)
+}
+
+// ---- accounts
+
+#[tactic(auto, unfolding(crate::specs::Page::account_row))]
+fn put_account(out: &mut Octets, line: &AccountLine) -> Result<(), AllocError>
+    ensures { OnOk result (out.new ≡ out.old ++ account_row line.now) }
+{
+    put_pieces(
+        out,
+        &[
+            Piece::Text(b"<tr><td>"),
+            Piece::Escaped(line.account.as_bytes()),
+            Piece::Text(b"</td><td class=\"n\">"),
+            Piece::Number(line.submits),
+            Piece::Text(b"</td><td class=\"n\">"),
+            Piece::Number(line.receipts),
+            Piece::Text(b"</td></tr>\n"),
+        ],
+    )
+}
+
+fn put_account_rows(out: &mut Octets, accounts: &[AccountLine]) -> Result<(), AllocError>
+    ensures { OnOk result (out.new ≡ out.old ++ flat_map account_row accounts.now) }
+{
+    for line in accounts {
+        put_account(out, line)?;
+    }
+    Ok(())
+}
+
+#[tactic(auto, unfolding(crate::specs::Page::accounts_table))]
+fn put_accounts(out: &mut Octets, accounts: &[AccountLine]) -> Result<(), AllocError>
+    ensures { OnOk result (out.new ≡ out.old ++ accounts_table accounts.now) }
+{
+    out.append(ACCOUNTS_HEAD)?;
+    put_account_rows(out, accounts)?;
+    put_none(out, accounts.is_empty(), b"3")?;
     end_table(out)
 }
 
@@ -348,10 +452,38 @@ fn put_binds_rows(out: &mut Octets, refused: &[RefusedBinds]) -> Result<(), Allo
     Ok(())
 }
 
+#[tactic(auto, unfolding(crate::specs::Page::deliveries_row))]
+fn put_refused_deliveries(out: &mut Octets, refused: &RefusedDeliveries) -> Result<(), AllocError>
+    ensures { OnOk result (out.new ≡ out.old ++ deliveries_row refused.now) }
+{
+    put_pieces(
+        out,
+        &[
+            Piece::Text(b"<tr><td>delivery</td><td></td><td>RP cause "),
+            Piece::Number(refused.cause as u64),
+            Piece::Text(b", "),
+            Piece::Escaped(refused.reason.as_bytes()),
+            Piece::Text(b"</td><td class=\"n\">"),
+            Piece::Number(refused.count),
+            Piece::Text(b"</td></tr>\n"),
+        ],
+    )
+}
+
+fn put_deliveries_rows(out: &mut Octets, refused: &[RefusedDeliveries]) -> Result<(), AllocError>
+    ensures { OnOk result (out.new ≡ out.old ++ flat_map deliveries_row refused.now) }
+{
+    for some in refused {
+        put_refused_deliveries(out, some)?;
+    }
+    Ok(())
+}
+
 fn is_nothing_refused(view: &StatusView<'_>) -> bool
     ensures { result ≡ is_nothing_refused_of view.entry.now }
 {
-    view.refused_submits.is_empty() && view.refused_binds.is_empty()
+    view.refused_submits.is_empty()
+        && (view.refused_binds.is_empty() && view.refused_deliveries.is_empty())
 }
 
 #[tactic(auto, unfolding(crate::specs::Page::refusals_table))]
@@ -361,6 +493,7 @@ fn put_refusals(out: &mut Octets, view: &StatusView<'_>) -> Result<(), AllocErro
     out.append(REFUSALS_HEAD)?;
     put_submits_rows(out, view.refused_submits)?;
     put_binds_rows(out, view.refused_binds)?;
+    put_deliveries_rows(out, view.refused_deliveries)?;
     put_none(out, is_nothing_refused(view), b"4")?;
     end_table(out)
 }
@@ -423,7 +556,7 @@ fn put_store(
     put_rate(out, samples)?;
     put_quantile_tile(out, median, b"median of a commit")?;
     put_quantile_tile(out, most, b"99 of 100 commits")?;
-    put_tile(out, commits.refused, b"commits refused")?;
+    put_graded_tile(out, commits.refused, b"commits refused")?;
     end_tiles(out)
 }
 
@@ -530,8 +663,10 @@ fn put_page(
     put_heading(out, view)?;
     put_messages(out, &view.messages)?;
     put_charts(alloc, out, view.samples)?;
+    put_seats(out, view.sessions.len() as u64, view.links.len() as u64)?;
     put_sessions(out, view.sessions)?;
     put_links(out, view.links)?;
+    put_accounts(out, view.accounts)?;
     put_refusals(out, view)?;
     put_store(out, &view.store, &view.commits, view.samples, median, most)?;
     put_events(out, view)?;

@@ -1,62 +1,87 @@
 //! The last ten minutes, a second each.
-ghost use Rattle.std.specs.Prelude.{◌≡◌};
-ghost use Rattle.smsc_status.specs.Series.{commits_a_second as commits_a_second_of, commits_in};
+ghost use Rattle.std.specs.Prelude.{◌≡◌, IfOk};
+ghost use Rattle.smsc_status.specs.Series.{after_second, commits_a_second as commits_a_second_of, commits_in, counted_as, no_seconds, since as since_count};
 
 use crate::figures::{MessageCounts, Sample};
+use circular_buffer::HeapCircularBuffer;
 use std::alloc::{AllocError, Global};
-use std::collections::VecDeque;
+use std::marker::Model;
 
 /// So many seconds are kept.
 pub const SECONDS: usize = 600;
 
-/// What was counted so far, and what happened in each of the last seconds.
+/// What was counted so far, and what happened in each of the last seconds. Contracts see both.
 #[derive(Drop)]
 pub struct Series {
-    samples: VecDeque<Sample>,
+    samples: HeapCircularBuffer<Sample>,
     // What was counted when the last second ended.
     last: Sample,
 }
 
+impl Model for Series {
+    ghost use Rattle.std.specs.Prelude.{◌≡◌};
+    ghost use Rattle.smsc_status.specs.Series.{SecondsOf};
+
+    ghost Value = { SecondsOf };
+
+    ghost view = { λ s. record { samples = s.samples.items; last = s.last } };
+
+    ghost invariant = { λ s. s.samples.capacity ≡ 600 };
+}
+
+// What is counted now.
+fn counted(counts: &MessageCounts, commits: u64) -> Sample
+    ensures { result ≡ counted_as counts.now commits }
+{
+    Sample {
+        submissions: counts.accepted,
+        deliveries: counts.delivered,
+        commits,
+    }
+}
+
+// What happened between two counts.
+fn since(last: &Sample, now: &Sample) -> Sample
+    ensures { result ≡ since_count last.now now.now }
+{
+    Sample {
+        submissions: now.submissions.saturating_sub(last.submissions),
+        deliveries: now.deliveries.saturating_sub(last.deliveries),
+        commits: now.commits.saturating_sub(last.commits),
+    }
+}
+
 impl Series {
-    /// Nothing has happened.
-    pub fn new(alloc: Global) -> Series {
-        Series {
-            samples: VecDeque::new(alloc),
+    /// Nothing has happened. It has all of its memory from now on.
+    pub fn new(alloc: Global) -> Result<Series, AllocError>
+        ensures { IfOk result (λ series. series ≡ no_seconds) }
+    {
+        let samples = HeapCircularBuffer::with_capacity(alloc, SECONDS)?;
+        Ok(Series {
+            samples,
             last: Sample {
                 submissions: 0,
                 deliveries: 0,
                 commits: 0,
             },
-        }
+        })
     }
 
-    /// A second has ended, and so much is counted now.
-    pub fn end_second(&mut self, counts: &MessageCounts, commits: u64) -> Result<(), AllocError> {
-        let now = Sample {
-            submissions: counts.accepted,
-            deliveries: counts.delivered,
-            commits,
-        };
-        let sample = Sample {
-            submissions: now.submissions.saturating_sub(self.last.submissions),
-            deliveries: now.deliveries.saturating_sub(self.last.deliveries),
-            commits: now.commits.saturating_sub(self.last.commits),
-        };
+    /// A second has ended, and so much is counted now. The last 600 seconds are kept.
+    pub fn end_second(&mut self, counts: &MessageCounts, commits: u64)
+        ensures { self.new ≡ after_second counts.now commits self.old }
+    {
+        let now = counted(counts, commits);
+        let sample = since(&self.last, &now);
         self.last = now;
-        if self.samples.len() >= SECONDS {
-            let _ = self.samples.pop_front();
-        }
-        self.samples.push_back(sample)?;
-        Ok(())
+        let _ = self.samples.push_back(sample);
     }
 
     /// The seconds, the oldest first, in memory of their own.
-    pub fn samples(&self, alloc: Global) -> Result<Vec<Sample>, AllocError> {
-        let mut samples = Vec::with_capacity(alloc, self.samples.len())?;
-        for sample in self.samples.iter() {
-            samples.push(*sample)?;
-        }
-        Ok(samples)
+    pub fn samples(&self, alloc: Global) -> Result<Vec<Sample>, AllocError>
+        ensures { IfOk result (λ samples. samples.items ≡ self.now.samples) }
+    {
+        self.samples.to_vec(alloc)
     }
 }
 

@@ -41,7 +41,8 @@ fn reason_word(why: LeaveReason) -> &'static str {
     }
 }
 
-fn number_text(alloc: Global, handset: &Digits) -> Result<String, AllocError> {
+/// Digits, or the characters of a name.
+pub fn number_text(alloc: Global, handset: &Digits) -> Result<String, AllocError> {
     let mut text = String::new(alloc);
     for digit in handset.as_slice() {
         text.push(*digit)?;
@@ -197,6 +198,36 @@ fn submit_word(status: u32) -> &'static str {
         0xC1 => "parameter_not_allowed",
         0xC2 => "bad_parameter_length",
         _ => "refused",
+    }
+}
+
+/// The name of the cause of an RP-ERROR (3GPP TS 24.011 8.2.5.4).
+pub fn cause_word(cause: u8) -> &'static str {
+    match cause {
+        1 => "unassigned number",
+        8 => "operator determined barring",
+        10 => "call barred",
+        21 => "short message transfer rejected",
+        22 => "memory capacity exceeded",
+        27 => "destination out of order",
+        28 => "unidentified subscriber",
+        29 => "facility rejected",
+        30 => "unknown subscriber",
+        38 => "network out of order",
+        41 => "temporary failure",
+        42 => "congestion",
+        47 => "resources unavailable",
+        50 => "requested facility not subscribed",
+        69 => "requested facility not implemented",
+        81 => "invalid short message transfer reference",
+        95 => "semantically incorrect message",
+        96 => "invalid mandatory information",
+        97 => "message type non-existent",
+        98 => "message not compatible with the state",
+        99 => "information element non-existent",
+        111 => "protocol error",
+        127 => "interworking",
+        _ => "a cause without a name",
     }
 }
 

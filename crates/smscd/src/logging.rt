@@ -175,6 +175,11 @@ impl<R: Wait + Clock> Writer<R> {
 }
 
 impl<R: Wait + Copy> Log<R> {
+    /// A line could not be made.
+    pub fn lose(&self) {
+        self.counted.lose();
+    }
+
     /// Puts a line into the ring, or counts it where there is no room.
     pub fn put(&self, level: &str, text: &str) {
         let kept = match whole_line(&self.host, level, text) {

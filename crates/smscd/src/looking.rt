@@ -1,30 +1,77 @@
 //! A look at a store, which changes nothing in it.
 use crate::opening::system_fault;
 use crate::run_fault::RunFault;
+use crate::stuck::stuck_lines;
+use sms_base::Octets;
 use sms_centre_recovery::soundness::RowTables;
+use sms_centre_rows::messages::{MessageRow, PartRow};
 use sms_rows::keep::KeepError;
+use sms_rows::table::{Table, rises};
 use sms_store::look::rows_at;
-use smsc_cli::centre_table::{Filter, ShowError, show};
-use std::alloc::Global;
+use smsc_cli::centre_table::{Filter, ShowError, last_of, selected, show, stuck_table};
+use std::alloc::{AllocError, Global};
+use std::io::Write;
 
-fn print_tables(rt: &HostRuntime, tables: RowTables, filter: &Filter<'_>) -> Result<(), RunFault> {
+fn print_messages(
+    rt: &HostRuntime,
+    messages: Vec<MessageRow>,
+    parts: Vec<PartRow>,
+    filter: &Filter<'_>,
+) -> Result<(), RunFault> {
     let mut stdout = rt.stdout();
+    match show(rt.alloc(), messages, parts, filter, &mut stdout) {
+        Ok(()) => Ok(()),
+        Err(ShowError::BadRows) => Err(RunFault::BadRows),
+        Err(ShowError::NoMemory) => Err(RunFault::NoMemory),
+        Err(ShowError::Io(_)) => Err(RunFault::Output),
+    }
+}
+
+fn stuck_text(
+    alloc: Global,
+    messages: Vec<MessageRow>,
+    parts: &Table<PartRow>,
+    filter: &Filter<'_>,
+) -> Result<Octets, AllocError> {
+    let messages = selected(filter, messages);
+    let lines = stuck_lines(alloc, last_of(messages.as_slice(), filter.last), parts)?;
+    stuck_table(alloc, lines.as_slice())
+}
+
+// What waits of the messages that the filter selects, by handset.
+fn print_stuck(
+    rt: &HostRuntime,
+    messages: Vec<MessageRow>,
+    parts: Vec<PartRow>,
+    filter: &Filter<'_>,
+) -> Result<(), RunFault> {
+    if !rises(parts.as_slice()) {
+        return Err(RunFault::BadRows);
+    }
+    let parts = Table::from_vec(parts);
+    let text = stuck_text(rt.alloc(), messages, &parts, filter)?;
+    let mut stdout = rt.stdout();
+    match stdout.write_all(text.as_slice()) {
+        Ok(()) => Ok(()),
+        Err(_) => Err(RunFault::Output),
+    }
+}
+
+fn print_tables(
+    rt: &HostRuntime,
+    tables: RowTables,
+    filter: &Filter<'_>,
+    by_handset: bool,
+) -> Result<(), RunFault> {
     let RowTables {
         messages,
         parts,
         ..
     } = tables;
-    match show(
-        rt.alloc(),
-        messages.into_vec(),
-        parts.into_vec(),
-        filter,
-        &mut stdout,
-    ) {
-        Ok(()) => Ok(()),
-        Err(ShowError::BadRows) => Err(RunFault::BadRows),
-        Err(ShowError::NoMemory) => Err(RunFault::NoMemory),
-        Err(ShowError::Io(_)) => Err(RunFault::Output),
+    if by_handset {
+        print_stuck(rt, messages.into_vec(), parts.into_vec(), filter)
+    } else {
+        print_messages(rt, messages.into_vec(), parts.into_vec(), filter)
     }
 }
 
@@ -37,9 +84,14 @@ fn judge(alloc: Global, tables: &RowTables) -> Result<(), RunFault> {
     }
 }
 
-fn show_tables(rt: &HostRuntime, tables: RowTables, filter: &Filter<'_>) -> Result<(), RunFault> {
+fn show_tables(
+    rt: &HostRuntime,
+    tables: RowTables,
+    filter: &Filter<'_>,
+    by_handset: bool,
+) -> Result<(), RunFault> {
     match judge(rt.alloc(), &tables) {
-        Ok(()) => print_tables(rt, tables, filter),
+        Ok(()) => print_tables(rt, tables, filter, by_handset),
         Err(fault) => {
             drop(tables);
             Err(fault)
@@ -55,11 +107,17 @@ fn look_fault(rt: &HostRuntime, path: &str, error: KeepError) -> RunFault {
     }
 }
 
-/// Prints the messages of the store at the path that pass the filter, and how many of them are in each state. Rows on which no run would start are refused.
-pub fn show_store(rt: &HostRuntime, path: &str, filter: &Filter<'_>) -> Result<(), RunFault> {
+/// Prints the messages of the store at the path that pass the filter, and how many of them are in each state; or what waits of them,
+/// by handset. Rows on which no run would start are refused.
+pub fn show_store(
+    rt: &HostRuntime,
+    path: &str,
+    filter: &Filter<'_>,
+    by_handset: bool,
+) -> Result<(), RunFault> {
     match rows_at(rt, path) {
         Ok(rows) => match RowTables::of(rows) {
-            Some(tables) => show_tables(rt, tables, filter),
+            Some(tables) => show_tables(rt, tables, filter, by_handset),
             None => Err(RunFault::BadRows),
         },
         Err(error) => Err(look_fault(rt, path, error)),

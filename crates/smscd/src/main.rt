@@ -3,6 +3,7 @@
 //! It gives sockets, a clock, a file and a log to `smsc_server::serve`, which does the work. What its threads and sockets
 //! carry is not proved.
 //!
+//! - `access`: the access log
 //! - `control`: orders of an operator, over a Unix socket
 //! - `lines`: the lines of the log
 //! - `link_secrets`: the secrets of links, from their file
@@ -20,11 +21,13 @@
 //! - `setup`: the accounts of a run, as each part of it wants them
 //! - `status`: the status page
 //! - `store_files`: the two files of a store as the system has them
+//! - `stuck`: what waits in a store, by handset
 //! - `summary`: what a store holds as a run starts
 //! - `watchers`: the observers of a run
 //! - `watching`: whether the store's files are still those that were opened
 #![tactic(auto)]
 
+mod access;
 mod control;
 mod lines;
 mod link_secrets;
@@ -42,6 +45,7 @@ mod saving;
 mod setup;
 mod status;
 mod store_files;
+mod stuck;
 mod summary;
 mod watchers;
 mod watching;
@@ -216,7 +220,11 @@ fn do_asked<R: Threads + Wait + Clock + Copy + Send + Sync + 'static>(
 ) -> Result<(), RunFault> {
     match asked {
         ServerWords::Run(run, accounts) => run_words(host, rt, run, accounts.as_slice()),
-        ServerWords::Show { store, filter } => show_store(&host, store, filter),
+        ServerWords::Show {
+            store,
+            filter,
+            by_handset,
+        } => show_store(&host, store, filter, *by_handset),
         ServerWords::Save { store, to } => save_store(&host, store, to),
         ServerWords::Stop { control, wait } => {
             let wait = wait.unwrap_or(WAIT);

@@ -153,7 +153,7 @@ pub enum RunFault {
 /// How the program is used.
 pub const USAGE: &str =
     "usage: smscd --store FILE --smpp PORT --links PORT --centre NUMBER [OPTIONS] [ACCOUNT]..\n\
-    \u{20}      smscd show --store FILE [--id ID] [--from WHO] [--to NUMBER] [--account NAME] [--state STATE] [--last N]\n\
+    \u{20}      smscd show --store FILE [--id ID] [--from WHO] [--to NUMBER] [--account NAME] [--state STATE] [--last N] [--stuck]\n\
     \u{20}      smscd save --store FILE --to FILE\n\
     \u{20}      smscd stop --control PATH [--wait SECONDS]\n\
     \u{20}      smscd end --control PATH SEAT\n\
@@ -171,6 +171,7 @@ pub const USAGE: &str =
     \u{20}  --control PATH    a socket for orders\n\
     \u{20}  --status PORT     a page for a browser, and figures for Prometheus\n\
     \u{20}  --log messages    a line as a message is accepted, and one as it ends\n\
+    \u{20}  --log access      one line a message at its end: who, to whom, when, how it ended; never a text\n\
     \u{20}  --sessions N      end by itself after N connections\n\
     a store that a run refuses otherwise:\n\
     \u{20}  --ahead           its rows are ahead of the clock, and that is right\n\
@@ -178,6 +179,7 @@ pub const USAGE: &str =
     \u{20}  --accept-loss     give up what damage took\n\
     a look at a store, a copy of it: also beside a run\n\
     \u{20}  ID is ten digits, WHO a NUMBER or a name, STATE one of ENROUTE, DELIVRD, EXPIRED, DELETED, UNDELIV\n\
+    \u{20}  --stuck           in place of the messages what waits of them: a line for each handset, the most first\n\
     orders:\n\
     \u{20}  stop              end in good order; waited for 15 seconds, or SECONDS\n\
     \u{20}  end SEAT          end the connection at that seat, 0 to 31\n\

@@ -219,9 +219,9 @@ fn watchers_of<R: Wait + Copy>(
     guard: Arc<Guard>,
 ) -> Result<(Watchers<R>, Option<StatusPart>), AllocError> {
     let Some(port) = run.status else {
-        return Ok((log_alone(log, run.logs_messages, guard), None));
+        return Ok((log_alone(rt, alloc, log, run.log, guard), None));
     };
-    let (watchers, source) = log_and_page(rt, alloc, log, run.logs_messages, guard)?;
+    let (watchers, source) = log_and_page(rt, alloc, log, run.log, guard)?;
     let links = Arc::new(alloc, LinkBoard::new(alloc)?)?;
     let part = StatusPart {
         port,
@@ -413,15 +413,16 @@ fn say_store<R: Wait + Copy>(
 // Logs what the rows say, and gives it.
 fn look_at<R: Wait + Copy, K: CentreStore>(
     alloc: Global,
-    log: &Log<R>,
+    watchers: &Watchers<R>,
     keep: &mut K,
     found: &FoundStore,
     start: Moment,
 ) -> Result<Summary, RunFault> {
     let rows = keep.gather()?;
     let summary = summary_of(&rows, start);
+    watchers.begin(&rows);
     drop(rows);
-    say_store(alloc, log, found, &summary)?;
+    say_store(alloc, &*watchers.log, found, &summary)?;
     Ok(summary)
 }
 
@@ -481,7 +482,8 @@ fn serve_open<R: Threads + Wait + Clock + Copy + Send + Sync + 'static, K: Centr
     clock: &RunClock<R>,
 ) -> Result<(), ServeFault> {
     let keep = observed(keep, given);
-    serve(rt, alloc, keep, &OpenGate, clock, ports, given)
+    drop(serve(rt, alloc, keep, &OpenGate, clock, ports, given)?);
+    Ok(())
 }
 
 fn serve_ports<R: Threads + Wait + Clock + Copy + Send + Sync + 'static, K: CentreStore + Drop>(
@@ -512,8 +514,7 @@ fn serve_keep<R: Threads + Wait + Clock + Copy + Send + Sync + 'static, K: Centr
     start: Moment,
 ) -> Result<(), RunFault> {
     let mut keep = keep;
-    let log = &*given.observer.log;
-    let summary = look_at(host.alloc(), log, &mut keep, found, start)?;
+    let summary = look_at(host.alloc(), &*given.observer, &mut keep, found, start)?;
     let clock = clock_of(rt, summary.newest, run.is_ahead)?;
     let ports = open_ports(&host, run)?;
     serve_ports(host, rt, run, given, part, keep, ports, &summary, &clock)

@@ -2,20 +2,20 @@
 //!
 //! It reads numbers that the run counts and takes the events that the run leaves for it. It never opens the store: it
 //! asks the system how long its files are.
-use crate::lines::{line_of, refusal_word};
+use crate::lines::{cause_word, line_of, refusal_word};
 use crate::moments::{now, text_of};
 use crate::ports::listen;
 use crate::store_files::{StorePaths, octets_at};
-use crate::watchers::Source;
+use crate::watchers::{Source, is_of_messages};
 use sms_base::lending::put;
 use sms_base::{Moment, Octets};
 use smsc_cli::words::VERSION;
-use smsc_server::status::{Client, Heard, Refusals, SeatTable};
+use smsc_server::status::{AccountCounts, Client, Heard, Refusals, SeatTable};
 use smsc_server::{Event, milliseconds};
-use smsc_service::LinkBoard;
+use smsc_service::{CauseCount, LinkBoard};
 use smsc_status::{
-    LinkLine, MessageFigures, RefusedBinds, RefusedSubmits, Sample, Series, SessionLine,
-    StatusView, StoreFigures, Wanted, response_to,
+    AccountLine, LinkLine, MessageFigures, RefusedBinds, RefusedDeliveries, RefusedSubmits, Sample,
+    Series, SessionLine, StatusView, StoreFigures, Wanted, response_to,
 };
 use std::alloc::{AllocError, Global};
 use std::collections::VecDeque;
@@ -28,8 +28,10 @@ use std::{io, thread};
 // So many clients are served at once. Those beyond wait.
 const MOST_CLIENTS: usize = 4;
 
-// The page has so many events.
+// The page has so many events, and besides so many of messages, so that these leave room for what was refused.
 const MOST_EVENTS: usize = 100;
+
+const MOST_OF_MESSAGES: usize = 30;
 
 // So many events are taken in one turn.
 const MOST_TAKEN: u32 = 4096;
@@ -55,6 +57,8 @@ pub struct About {
 // What happened, and when.
 #[derive(Clone, Copy)]
 struct PastEvent {
+    // Its place among all events.
+    place: u64,
     moment: Moment,
     event: Event,
 }
@@ -70,6 +74,9 @@ pub struct Pages<R> {
     table: SeatTable,
     series: Series,
     events: VecDeque<PastEvent>,
+    of_messages: VecDeque<PastEvent>,
+    // How many events were taken.
+    taken: u64,
     clients: Vec<Option<Client>>,
     // The next client, where each place is taken.
     waiting: Option<TcpStream>,
@@ -105,6 +112,7 @@ pub fn open<R: Clock + Copy>(
     let alloc = host.alloc();
     let listener = listen_at(&host, port)?;
     let table = SeatTable::new(alloc)?;
+    let series = Series::new(alloc)?;
     let clients = no_clients(alloc)?;
     Ok(Pages {
         host,
@@ -113,14 +121,29 @@ pub fn open<R: Clock + Copy>(
         about,
         source,
         table,
-        series: Series::new(alloc),
+        series,
         events: VecDeque::new(alloc),
+        of_messages: VecDeque::new(alloc),
+        taken: 0,
         clients,
         waiting: None,
         files: StoreFigures { file: 0, log: 0 },
         second: 0,
         over,
     })
+}
+
+// Puts an event behind the others, of which so many stay at most.
+fn keep_last(
+    events: &mut VecDeque<PastEvent>,
+    past: PastEvent,
+    most: usize,
+) -> Result<(), AllocError> {
+    if events.len() >= most {
+        let _ = events.pop_front();
+    }
+    events.push_back(past)?;
+    Ok(())
 }
 
 fn timed(alloc: Global, moment: Moment, text: &str) -> Result<String, AllocError> {
@@ -133,8 +156,10 @@ fn timed(alloc: Global, moment: Moment, text: &str) -> Result<String, AllocError
 struct Lists {
     sessions: Vec<SessionLine>,
     links: Vec<LinkLine>,
+    accounts: Vec<AccountLine>,
     refused_submits: Vec<RefusedSubmits>,
     refused_binds: Vec<RefusedBinds>,
+    refused_deliveries: Vec<RefusedDeliveries>,
     samples: Vec<Sample>,
     lines: Vec<String>,
 }
@@ -144,8 +169,10 @@ impl Lists {
         Lists {
             sessions: Vec::new(alloc),
             links: Vec::new(alloc),
+            accounts: Vec::new(alloc),
             refused_submits: Vec::new(alloc),
             refused_binds: Vec::new(alloc),
+            refused_deliveries: Vec::new(alloc),
             samples: Vec::new(alloc),
             lines: Vec::new(alloc),
         }
@@ -163,6 +190,22 @@ fn name_of(alloc: Global, names: &[String], account: Option<u8>) -> Result<Strin
         }
     }
     Ok(text)
+}
+
+fn put_accounts(
+    alloc: Global,
+    names: &[String],
+    accounts: &[AccountCounts],
+    lines: &mut Vec<AccountLine>,
+) -> Result<(), AllocError> {
+    for counts in accounts {
+        lines.push(AccountLine {
+            account: name_of(alloc, names, Some(counts.account))?,
+            submits: counts.submits,
+            receipts: counts.receipts,
+        })?;
+    }
+    Ok(())
 }
 
 fn put_submits(
@@ -204,6 +247,20 @@ fn put_binds(refusals: &[Refusals], lines: &mut Vec<RefusedBinds>) -> Result<(),
     Ok(())
 }
 
+fn put_deliveries(
+    causes: &[CauseCount],
+    lines: &mut Vec<RefusedDeliveries>,
+) -> Result<(), AllocError> {
+    for refused in causes {
+        lines.push(RefusedDeliveries {
+            cause: refused.cause,
+            reason: cause_word(refused.cause),
+            count: refused.count,
+        })?;
+    }
+    Ok(())
+}
+
 // ---- what happened
 
 impl<R: Wait + Clock> Pages<R> {
@@ -222,16 +279,19 @@ impl<R: Wait + Clock> Pages<R> {
         }
     }
 
-    // One more event. The oldest makes room for it.
+    // One more event. The oldest of its kind makes room for it.
     fn note(&mut self, event: &Event, moment: Moment) -> Result<(), AllocError> {
-        if self.events.len() >= MOST_EVENTS {
-            let _ = self.events.pop_front();
-        }
-        self.events.push_back(PastEvent {
+        self.taken = self.taken.saturating_add(1);
+        let past = PastEvent {
+            place: self.taken,
             moment,
             event: *event,
-        })?;
-        Ok(())
+        };
+        if is_of_messages(event) {
+            keep_last(&mut self.of_messages, past, MOST_OF_MESSAGES)
+        } else {
+            keep_last(&mut self.events, past, MOST_EVENTS)
+        }
     }
 
     fn put_line(&self, past: &PastEvent, lines: &mut Vec<String>) -> Result<(), AllocError> {
@@ -244,9 +304,23 @@ impl<R: Wait + Clock> Pages<R> {
         }
     }
 
+    // The last events, the oldest first.
+    fn past_events(&self) -> Result<Vec<PastEvent>, AllocError> {
+        let mut events = Vec::new(self.host.alloc());
+        for past in self.events.iter() {
+            events.push(*past)?;
+        }
+        for past in self.of_messages.iter() {
+            events.push(*past)?;
+        }
+        events.sort_by_key(|past| past.place)?;
+        Ok(events)
+    }
+
     // The lines of the last events, the oldest first.
     fn put_lines(&self, lines: &mut Vec<String>) -> Result<(), AllocError> {
-        for past in self.events.iter() {
+        let events = self.past_events()?;
+        for past in events.iter() {
             self.put_line(past, lines)?;
         }
         Ok(())
@@ -266,9 +340,19 @@ impl<R: Wait + Clock> Pages<R> {
             };
             self.take(&event, moment);
         }
+        self.take_messages(moment);
         for _ in 0..MOST_TAKEN {
             let Ok(event) = self.source.others.try_recv(&self.rt) else {
                 break;
+            };
+            self.take(&event, moment);
+        }
+    }
+
+    fn take_messages(&mut self, moment: Moment) {
+        for _ in 0..MOST_TAKEN {
+            let Ok(event) = self.source.messages.try_recv(&self.rt) else {
+                return;
             };
             self.take(&event, moment);
         }
@@ -283,7 +367,7 @@ impl<R: Wait + Clock> Pages<R> {
         self.second = second;
         let counts = self.source.counters.messages();
         let commits = self.source.counters.commits().count();
-        let _ = self.series.end_second(&counts, commits);
+        self.series.end_second(&counts, commits);
         self.files = StoreFigures {
             file: octets_at(&self.host, self.about.paths.file.as_str()),
             log: octets_at(&self.host, self.about.paths.log.as_str()),
@@ -302,14 +386,18 @@ impl<R: Wait + Clock> Pages<R> {
             &mut lists.sessions,
             self.table.sessions(alloc, names, counters)?,
         );
-        put(
-            &mut lists.links,
-            self.table.links(alloc, &self.about.links)?,
-        );
+        let mut links = self.table.links(alloc, &self.about.links)?;
+        // Those for whom most waits come first.
+        links.sort_by_key(|link| u64::MAX - link.waiting)?;
+        put(&mut lists.links, links);
+        let accounts = counters.accounts(alloc)?;
+        put_accounts(alloc, names, accounts.as_slice(), &mut lists.accounts)?;
         let submits = counters.submits_refused(alloc)?;
         put_submits(alloc, names, submits.as_slice(), &mut lists.refused_submits)?;
         let binds = counters.binds_refused(alloc)?;
         put_binds(binds.as_slice(), &mut lists.refused_binds)?;
+        let causes = self.about.links.causes(alloc)?;
+        put_deliveries(causes.as_slice(), &mut lists.refused_deliveries)?;
         put(&mut lists.samples, self.series.samples(alloc)?);
         self.put_lines(&mut lists.lines)
     }
@@ -326,8 +414,10 @@ impl<R: Wait + Clock> Pages<R> {
             counts,
             sessions: lists.sessions.as_slice(),
             links: lists.links.as_slice(),
+            accounts: lists.accounts.as_slice(),
             refused_submits: lists.refused_submits.as_slice(),
             refused_binds: lists.refused_binds.as_slice(),
+            refused_deliveries: lists.refused_deliveries.as_slice(),
             samples: lists.samples.as_slice(),
             events: lists.lines.as_slice(),
             lost_events: self.source.lost.load(Ordering::SeqCst),

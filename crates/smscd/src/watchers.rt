@@ -1,8 +1,11 @@
 //! The observers of a run: its log, and what its status page shows.
+use crate::access::Access;
 use crate::logging::Log;
 use crate::watching::Guard;
 use crossbeam_channel::{Receiver, Sender, bounded};
+use sms_centre_spec::{Changes, Rows};
 use sms_rows::keep::KeepError;
+use smsc_cli::words::LogDetail;
 use smsc_loop::{Activity, Note};
 use smsc_server::status::Counters;
 use smsc_server::{Event, Observer};
@@ -21,11 +24,11 @@ struct Feed<R> {
     counters: Arc<Counters>,
     // What changes who sits where.
     seats: Sender<Event>,
+    // That a message was accepted, or has ended.
+    messages: Sender<Event>,
     // All else that is worth a line.
     others: Sender<Event>,
     lost: Arc<AtomicU64>,
-    // When the commit under way began, in millionths of a second.
-    began: AtomicU64,
 }
 
 /// What the thread of a status page takes.
@@ -33,6 +36,7 @@ struct Feed<R> {
 pub struct Source {
     pub counters: Arc<Counters>,
     pub seats: Receiver<Event>,
+    pub messages: Receiver<Event>,
     pub others: Receiver<Event>,
     /// How many events found no room.
     pub lost: Arc<AtomicU64>,
@@ -43,11 +47,17 @@ pub struct Source {
 /// The observers of a run.
 #[derive(Drop)]
 pub struct Watchers<R: Wait> {
+    rt: R,
+    alloc: Global,
     pub log: Arc<Log<R>>,
-    // The log has lines of messages.
+    // The log has lines of messages as they are accepted and end.
     logs_messages: bool,
+    access: Option<Access>,
     pub guard: Arc<Guard>,
     feed: Option<Feed<R>>,
+    // When the commit under way began, and how long the last one took, in millionths of a second.
+    began: AtomicU64,
+    took: AtomicU64,
 }
 
 fn micros<R: Clock>(rt: &R) -> u64 {
@@ -72,7 +82,8 @@ fn is_of_seats(event: &Event) -> bool {
     )
 }
 
-fn is_of_messages(event: &Event) -> bool {
+/// Whether a message was accepted, or has ended.
+pub fn is_of_messages(event: &Event) -> bool {
     matches!(event, Event::Accepted(_, _) | Event::Final(_, _))
 }
 
@@ -80,6 +91,8 @@ impl<R: Wait + Clock> Feed<R> {
     fn put(&self, event: &Event) {
         let sender = if is_of_seats(event) {
             &self.seats
+        } else if is_of_messages(event) {
+            &self.messages
         } else {
             &self.others
         };
@@ -96,14 +109,21 @@ impl<R: Wait + Clock> Feed<R> {
         }
     }
 
-    fn end_commit(&self, is_done: bool) {
-        if !is_done {
+    fn end_commit(&self, is_done: bool, took: u64) {
+        if is_done {
+            self.counters.commit_took(took);
+        } else {
             self.counters.commit_refused();
-            return;
         }
-        let began = self.began.load(Ordering::SeqCst);
-        self.counters
-            .commit_took(micros(&self.rt).saturating_sub(began));
+    }
+}
+
+impl<R: Wait> Watchers<R> {
+    /// The run begins with these rows.
+    pub fn begin(&self, rows: &Rows) {
+        if let Some(access) = &self.access {
+            access.begin(&self.rt, rows);
+        }
     }
 }
 
@@ -126,18 +146,25 @@ impl<R: Wait + Copy + Clock> Observer for Watchers<R> {
     // What is committed is confirmed only if the files are those of the run before the commit and after it.
     fn begin_commit(&self) {
         self.guard.look();
-        if let Some(feed) = &self.feed {
-            feed.began.store(micros(&feed.rt), Ordering::SeqCst);
-        }
+        self.began.store(micros(&self.rt), Ordering::SeqCst);
     }
 
     fn end_commit(&self, refused: Option<KeepError>) {
+        let took = micros(&self.rt).saturating_sub(self.began.load(Ordering::SeqCst));
+        self.took.store(took, Ordering::SeqCst);
         self.guard.look();
         if let Some(error) = refused {
             self.guard.look_after_refusal(error);
         }
         if let Some(feed) = &self.feed {
-            feed.end_commit(refused.is_none());
+            feed.end_commit(refused.is_none(), took);
+        }
+    }
+
+    fn committed(&self, changes: &Changes) {
+        if let Some(access) = &self.access {
+            let took = self.took.load(Ordering::SeqCst);
+            access.take(&self.rt, self.alloc, &*self.log, changes, took);
         }
     }
 }
@@ -145,6 +172,7 @@ impl<R: Wait + Copy + Clock> Observer for Watchers<R> {
 fn source_of(
     alloc: Global,
     seats: Receiver<Event>,
+    messages: Receiver<Event>,
     others: Receiver<Event>,
     lost_lines: Arc<AtomicU64>,
 ) -> Result<Source, AllocError> {
@@ -154,6 +182,7 @@ fn source_of(
     Ok(Source {
         counters,
         seats,
+        messages,
         others,
         lost,
         lost_lines,
@@ -164,6 +193,7 @@ fn feed_of<R: Copy>(
     rt: R,
     source: &Source,
     seats: Sender<Event>,
+    messages: Sender<Event>,
     others: Sender<Event>,
 ) -> Result<Feed<R>, AllocError> {
     let counters = Arc::try_clone(&source.counters)?;
@@ -172,9 +202,9 @@ fn feed_of<R: Copy>(
         rt,
         counters,
         seats,
+        messages,
         others,
         lost,
-        began: AtomicU64::new(0),
     })
 }
 
@@ -184,20 +214,48 @@ fn fed<R: Copy>(
     lost_lines: Arc<AtomicU64>,
 ) -> Result<(Feed<R>, Source), AllocError> {
     let (seats, seats_taken) = bounded::<Event, _>(alloc, MOST_EVENTS)?;
+    let (messages, messages_taken) = bounded::<Event, _>(alloc, MOST_EVENTS)?;
     let (others, others_taken) = bounded::<Event, _>(alloc, MOST_EVENTS)?;
-    let source = source_of(alloc, seats_taken, others_taken, lost_lines)?;
-    let feed = feed_of(rt, &source, seats, others)?;
+    let source = source_of(alloc, seats_taken, messages_taken, others_taken, lost_lines)?;
+    let feed = feed_of(rt, &source, seats, messages, others)?;
     Ok((feed, source))
 }
 
-/// The log alone.
-pub fn log_alone<R: Wait>(log: Arc<Log<R>>, logs_messages: bool, guard: Arc<Guard>) -> Watchers<R> {
+// What the observers of a run have, whether or not it has a status page.
+fn watchers_of<R: Wait>(
+    rt: R,
+    alloc: Global,
+    log: Arc<Log<R>>,
+    detail: LogDetail,
+    guard: Arc<Guard>,
+    feed: Option<Feed<R>>,
+) -> Watchers<R> {
+    let access = match detail {
+        LogDetail::Access => Some(Access::new(alloc)),
+        LogDetail::Runs | LogDetail::Messages => None,
+    };
     Watchers {
+        rt,
+        alloc,
         log,
-        logs_messages,
+        logs_messages: detail == LogDetail::Messages,
+        access,
         guard,
-        feed: None,
+        feed,
+        began: AtomicU64::new(0),
+        took: AtomicU64::new(0),
     }
+}
+
+/// The log alone.
+pub fn log_alone<R: Wait>(
+    rt: R,
+    alloc: Global,
+    log: Arc<Log<R>>,
+    detail: LogDetail,
+    guard: Arc<Guard>,
+) -> Watchers<R> {
+    watchers_of(rt, alloc, log, detail, guard, None)
 }
 
 /// The log and a status page, and what the thread of the page takes.
@@ -205,15 +263,10 @@ pub fn log_and_page<R: Wait + Copy>(
     rt: R,
     alloc: Global,
     log: Arc<Log<R>>,
-    logs_messages: bool,
+    detail: LogDetail,
     guard: Arc<Guard>,
 ) -> Result<(Watchers<R>, Source), AllocError> {
     let (feed, source) = fed(rt, alloc, log.lost_lines()?)?;
-    let watchers = Watchers {
-        log,
-        logs_messages,
-        guard,
-        feed: Some(feed),
-    };
+    let watchers = watchers_of(rt, alloc, log, detail, guard, Some(feed));
     Ok((watchers, source))
 }

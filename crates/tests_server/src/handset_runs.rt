@@ -1,8 +1,10 @@
-//! Tests of a run of a handset over octets in place of a socket, and over links and answers that fail at a call.
+//! Tests of a run of a handset over octets in place of a socket, by a clock that moves, and over links and answers that fail at a call.
 
 #[cfg(test)]
 mod failing;
 #[cfg(test)]
 pub(crate) mod machine;
+#[cfg(test)]
+mod passing;
 #[cfg(test)]
 mod whole;

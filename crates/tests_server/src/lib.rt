@@ -2,7 +2,7 @@
 //!
 //! - `handset_runs`: a run of a handset over octets, and over links that fail
 //! - `loopback`: a run of the server over sockets of this machine
-//! - `programs`: frames in a stream, owners' lines, words, captures
+//! - `programs`: frames in a stream, owners' lines, words, captures, ladders
 //! - `seats`: sessions and links at seats, without wire or hub
 //! - `server`: relay runs over readers and writers, and their words
 //! - `service`: the centre as the machine of a hub, turn by turn, over a store that fails on demand

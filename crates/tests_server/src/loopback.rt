@@ -9,6 +9,8 @@ mod handset;
 #[cfg(test)]
 mod held_gate;
 #[cfg(test)]
+mod limits;
+#[cfg(test)]
 mod server;
 #[cfg(test)]
 mod waiting;

@@ -1,11 +1,11 @@
 //! A run over a script, written as a ladder.
 use crate::drawing::notes::{
-    Heading, RequestNote, answered_text, event_text, frame_text, receipt_answer_text, receipt_text,
-    response_text,
+    Heading, RequestNote, answered_text, event_text, frame_text, put_answered, receipt_answer_text,
+    receipt_text, response_text,
 };
-use crate::drawing::{Row, SentSoFar, Stroke, Text};
+use crate::drawing::{Row, SentSoFar, Text};
 use crate::sessions::SequenceNumbers;
-use crate::watching::arriving::{row_of, row_of_event};
+use crate::watching::arriving::{is_owners, row_of, row_of_event};
 use crate::watching::heads::act_of;
 use crate::watching::lanes::Lanes;
 use crate::watching::page::{LadderForm, Page};
@@ -16,6 +16,7 @@ use sms_centre_rows::reports::Delivery;
 use sms_play::judging::{Scene, Watcher};
 use sms_script::report::{Answer, Answered, FrameRow};
 use sms_script::{Act, Setup, WorldEvent};
+use sms_trace_files::picture::Sign;
 use std::alloc::{AllocError, Global};
 
 /// A ladder that is drawn while the script is played, as text or as a picture. It has a lane for each application, for the
@@ -63,21 +64,21 @@ impl Ladder {
 
     /// The ladder of a script that was played to its end. So many frames were sent; a text lists those at its end that
     /// no event handed over.
-    pub fn finish(mut self, frames: usize) -> Result<Octets, AllocError> {
-        match self.put_lost(frames) {
-            Ok(()) => {
-                let Ladder { alloc, page, .. } = self;
-                page.finish(alloc)
-            }
-            Err(error) => {
-                drop(self);
-                Err(error)
-            }
-        }
+    pub fn finish(self, frames: usize) -> Result<Octets, AllocError> {
+        let Ladder {
+            alloc,
+            sent,
+            page,
+            ..
+        } = self;
+        let listed = if page.lists_lost() { frames } else { 0 };
+        let mut out = page.finish(alloc)?;
+        put_lost(alloc, &mut out, &sent, listed)?;
+        Ok(out)
     }
 
-    fn put(&mut self, row: &Row, note: &str) -> Result<(), AllocError> {
-        self.page.put(&self.lanes, row, note)
+    fn put(&mut self, row: &Row, note: &[u8]) -> Result<(), AllocError> {
+        self.page.put(row, note)
     }
 
     // The row of an event; where a frame is handed over, with the frame's number.
@@ -85,11 +86,11 @@ impl Ladder {
         &mut self,
         event: &WorldEvent<'_>,
         row: &Row,
-        note: &str,
+        note: &[u8],
     ) -> Result<(), AllocError> {
         match (act_of(event), row) {
             (Some(Act::Deliver(number)), Row::Arrow(arrow)) => {
-                self.page.put_arrival(&self.lanes, *arrow, *number, note)
+                self.page.put_arrival(*arrow, *number, note)
             }
             _ => self.put(row, note),
         }
@@ -164,18 +165,18 @@ impl Ladder {
     }
 
     // The text beside the row of the event of that number.
-    fn note_of(&mut self, number: u64, event: &WorldEvent<'_>) -> Result<String, AllocError> {
+    fn note_of(&mut self, number: u64, event: &WorldEvent<'_>) -> Result<Octets, AllocError> {
         let heading = match act_of(event) {
             Some(act) => self.heading_of(act)?,
             None => Heading::None,
         };
-        let note = event_text(self.alloc, number, heading, self.text.line())?;
+        let note = event_text(self.alloc, number, &heading, self.text.line())?;
         self.text.skip();
         Ok(note)
     }
 
-    // The answer to an application's request, or to an owner's act.
-    fn answer_note(&self, act: &Act<'_>, answered: &Answered) -> Result<String, AllocError> {
+    // The answer to an application's request.
+    fn answer_note(&self, act: &Act<'_>, answered: &Answered) -> Result<Octets, AllocError> {
         let said = answered_text(self.alloc, answered)?;
         match request_of(act) {
             Some(request) => {
@@ -183,7 +184,7 @@ impl Ladder {
                 let asked = self.asked_as(act, &request, sequence)?;
                 response_text(self.alloc, &asked, said.as_str())
             }
-            None => Ok(said),
+            None => Octets::copy_of(self.alloc, said.as_bytes()),
         }
     }
 
@@ -197,7 +198,7 @@ impl Ladder {
             return Ok(());
         };
         let note = self.answer_note(act, answered)?;
-        self.put(&row.answer(), note.as_str())
+        self.put(&row.answer(), note.as_slice())
     }
 
     fn put_answers<S: Scene>(
@@ -215,9 +216,30 @@ impl Ladder {
     // The side stops at the act and starts again: nothing is sent.
     fn put_stop<S: Scene>(&mut self, act: &Act<'_>, scene: &S) -> Result<(), AllocError> {
         match row_of(&self.lanes, act, scene) {
-            Some(row) => self.put(&Row::Mark(row.end(), b'X'), "stopped, and it starts again"),
+            Some(row) => self.put(
+                &Row::Sign(row.end(), Sign::Restart),
+                b"stopped, and it starts again",
+            ),
             None => Ok(()),
         }
+    }
+
+    // An owner's act, and what it is answered.
+    fn put_done<S: Scene>(
+        &mut self,
+        number: u64,
+        event: &WorldEvent<'_>,
+        scene: &S,
+    ) -> Result<(), AllocError> {
+        let Some(row) = row_of_event(&self.lanes, event, scene) else {
+            return Ok(());
+        };
+        let mut note = self.note_of(number, event)?;
+        for answer in self.since.answers(scene) {
+            let said = answered_text(self.alloc, &answer.answered)?;
+            put_answered(&mut note, said.as_str())?;
+        }
+        self.put(&row, note.as_slice())
     }
 
     fn put_outcome<S: Scene>(
@@ -236,9 +258,8 @@ impl Ladder {
     fn put_frame(&mut self, frame: &FrameRow) -> Result<(), AllocError> {
         let is_again = self.sent.send(self.lanes.digits(&frame.handset), frame)?;
         let note = frame_text(self.alloc, frame, is_again)?;
-        let arrow = self.lanes.way(frame, Stroke::Broken);
-        self.page
-            .put_departure(&self.lanes, arrow, is_again, note.as_str())
+        let arrow = self.lanes.way(frame);
+        self.page.put_departure(arrow, is_again, note.as_slice())
     }
 
     fn put_frames(&mut self, frames: &[FrameRow]) -> Result<(), AllocError> {
@@ -258,9 +279,9 @@ impl Ladder {
         let sequence = self.deliver(account);
         let row = Row::Arrow(self.lanes.answer(account));
         let sent = receipt_text(self.alloc, sequence, id, state)?;
-        self.put(&row, sent.as_str())?;
+        self.put(&row, sent.as_slice())?;
         let accepted = receipt_answer_text(self.alloc, sequence)?;
-        self.put(&row.answer(), accepted.as_str())
+        self.put(&row.answer(), accepted.as_slice())
     }
 
     fn put_receipts<S: Scene>(
@@ -274,21 +295,39 @@ impl Ladder {
         }
         Ok(())
     }
+}
 
-    // The frames that no event handed over.
-    fn put_lost(&mut self, frames: usize) -> Result<(), AllocError> {
-        for place in 0..frames {
-            let number = place as u64 + 1;
-            if !self.sent.has_arrived(number) {
-                self.page.put_never(self.alloc, number)?;
-            }
+fn put_never(alloc: Global, out: &mut Octets, number: u64) -> Result<(), AllocError> {
+    let note = format!(in alloc; "frame {number} never arrives\n")?;
+    out.append(note.as_bytes())
+}
+
+// The frames that no event handed over.
+fn put_lost(
+    alloc: Global,
+    out: &mut Octets,
+    sent: &SentSoFar,
+    frames: usize,
+) -> Result<(), AllocError> {
+    for place in 0..frames {
+        let number = place as u64 + 1;
+        if !sent.has_arrived(number) {
+            put_never(alloc, out, number)?;
         }
-        Ok(())
+    }
+    Ok(())
+}
+
+// Whether the event is an owner's act that is done whole: it is drawn once, when it is answered.
+fn is_done_whole(event: &WorldEvent<'_>) -> bool {
+    match event {
+        WorldEvent::Whole(act) => is_owners(act),
+        _ => false,
     }
 }
 
 impl Watcher for Ladder {
-    // What happens at a side is drawn before it is played.
+    // What reaches a side is drawn before it is played.
     fn before<S: Scene>(
         &mut self,
         number: u64,
@@ -296,9 +335,12 @@ impl Watcher for Ladder {
         scene: &S,
     ) -> Result<(), AllocError> {
         self.since = Since::of(scene);
+        if is_done_whole(event) {
+            return Ok(());
+        }
         let note = self.note_of(number, event)?;
         match row_of_event(&self.lanes, event, scene) {
-            Some(row) => self.put_event_row(event, &row, note.as_str()),
+            Some(row) => self.put_event_row(event, &row, note.as_slice()),
             None => Ok(()),
         }
     }
@@ -306,12 +348,16 @@ impl Watcher for Ladder {
     // What is answered and sent is drawn behind it.
     fn after<S: Scene>(
         &mut self,
-        _number: u64,
+        number: u64,
         event: &WorldEvent<'_>,
         scene: &S,
     ) -> Result<(), AllocError> {
         let since = self.since;
-        self.put_outcome(event, since.answers(scene), scene)?;
+        if is_done_whole(event) {
+            self.put_done(number, event, scene)?;
+        } else {
+            self.put_outcome(event, since.answers(scene), scene)?;
+        }
         self.put_frames(since.frames(scene))?;
         self.put_receipts(since.deliveries(scene), scene)
     }

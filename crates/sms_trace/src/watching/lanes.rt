@@ -1,7 +1,7 @@
 //! The lanes of a ladder: the accounts' and the handsets', in the order of the script's head, with the centre's between them.
 ghost use Rattle.std.specs.Prelude.{◌≤◌};
 
-use crate::drawing::{Arrow, Stroke};
+use crate::drawing::Arrow;
 use crate::watching::heads::Places;
 use sms_base::{Digits, Octets};
 use sms_script::report::{Direction, FrameRow};
@@ -33,11 +33,6 @@ impl Lanes {
     /// The numbers of the handsets.
     pub(crate) fn handsets(&self) -> &[Octets] {
         self.places.handsets()
-    }
-
-    /// How many there are.
-    pub(crate) fn count(&self) -> usize {
-        self.centre() + 1 + self.handsets().len().min(MOST_HANDSETS)
     }
 
     pub(crate) fn centre(&self) -> usize
@@ -74,18 +69,16 @@ impl Lanes {
     }
 
     /// The way of a frame.
-    pub(crate) fn way(&self, frame: &FrameRow, stroke: Stroke) -> Arrow {
+    pub(crate) fn way(&self, frame: &FrameRow) -> Arrow {
         let handset = self.digits(&frame.handset);
         match frame.direction {
             Direction::Up => Arrow {
                 from: handset,
                 to: self.centre(),
-                stroke,
             },
             Direction::Down => Arrow {
                 from: self.centre(),
                 to: handset,
-                stroke,
             },
         }
     }
@@ -95,7 +88,6 @@ impl Lanes {
         Arrow {
             from: self.account(name),
             to: self.centre(),
-            stroke: Stroke::Whole,
         }
     }
 
@@ -104,7 +96,6 @@ impl Lanes {
         Arrow {
             from: self.centre(),
             to: account,
-            stroke: Stroke::Whole,
         }
     }
 }

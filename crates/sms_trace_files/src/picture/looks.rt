@@ -16,9 +16,9 @@ fn put_style(out: &mut Octets) -> Result<(), AllocError>
     .lane { stroke: #b8b8b8; stroke-width: 1 }\n\
     .arrow { marker-end: url(#arrow) }\n\
     .again { stroke: #c2500a; marker-end: url(#again) }\n\
-    .lost { stroke-dasharray: 6 4; marker-end: url(#lost) }\n\
+    .lost { stroke-dasharray: 6 4; marker-end: none }\n\
     text { font: 12px monospace; fill: #202020 }\n\
-    .name { font-weight: bold; text-anchor: middle }\n\
+    .name { font-weight: bold; text-anchor: middle; paint-order: stroke; stroke: #fff; stroke-width: 6px }\n\
     </style>\n",
     )
 }
@@ -31,8 +31,7 @@ fn put_markers(out: &mut Octets) -> Result<(), AllocError>
     out.append(
         b"<defs>\n\
     <marker id=\"arrow\" viewBox=\"0 0 10 10\" refX=\"10\" refY=\"5\" markerWidth=\"6\" markerHeight=\"6\" orient=\"auto\"><path d=\"M0 0L10 5L0 10z\" fill=\"#1f5fa8\"/></marker>\n\
-    <marker id=\"again\" viewBox=\"0 0 10 10\" refX=\"10\" refY=\"5\" markerWidth=\"6\" markerHeight=\"6\" orient=\"auto\"><path d=\"M0 0L10 5L0 10z\" fill=\"#c2500a\"/></marker>\n\
-    <marker id=\"lost\" viewBox=\"0 0 10 10\" refX=\"5\" refY=\"5\" markerWidth=\"7\" markerHeight=\"7\"><path d=\"M1 1L9 9M9 1L1 9\" stroke=\"#b00020\" stroke-width=\"2\"/></marker>\n",
+    <marker id=\"again\" viewBox=\"0 0 10 10\" refX=\"10\" refY=\"5\" markerWidth=\"6\" markerHeight=\"6\" orient=\"auto\"><path d=\"M0 0L10 5L0 10z\" fill=\"#c2500a\"/></marker>\n",
     )
 }
 
@@ -43,6 +42,7 @@ fn put_signs(out: &mut Octets) -> Result<(), AllocError>
 {
     out.append(
         b"<circle id=\"dot\" r=\"2.5\" fill=\"#1f5fa8\"/>\n\
+    <path id=\"cross\" d=\"M-4 -4L4 4M4 -4L-4 4\" stroke=\"#b00020\" stroke-width=\"2\"/>\n\
     <circle id=\"tick\" r=\"6\" fill=\"#fff\" stroke=\"#202020\"/>\n\
     <rect id=\"act\" x=\"-5\" y=\"-5\" width=\"10\" height=\"10\" fill=\"#202020\"/>\n\
     <path id=\"restart\" d=\"M-6 -6L6 6M6 -6L-6 6\" stroke=\"#b00020\" stroke-width=\"3\"/>\n\

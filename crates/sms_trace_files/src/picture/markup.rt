@@ -3,7 +3,7 @@ ghost use Rattle.std.specs.Prelude.{◌≡◌, ◌++◌, OnOk, decimal};
 ghost use Rattle.sms_trace_files.specs.picture.Markup.{escaped, escaped_octet};
 ghost use Rattle.sms_trace_files.specs.picture.Elements.{attribute, line_element, line_ends, place, sign_element, text_element, text_head};
 
-use itoa::Buffer;
+use crate::numbers::put_number;
 use sms_base::Octets;
 use std::alloc::AllocError;
 
@@ -42,14 +42,6 @@ pub(crate) fn put_escaped(out: &mut Octets, text: &[u8]) -> Result<(), AllocErro
         put_escaped_octet(out, *octet)?;
     }
     Ok(())
-}
-
-/// A number in decimal digits.
-pub(crate) fn put_number(out: &mut Octets, number: u64) -> Result<(), AllocError>
-    ensures { OnOk result (out.new ≡ out.old ++ decimal number) }
-{
-    let mut buffer = Buffer::new();
-    out.append(buffer.format(number).as_bytes())
 }
 
 /// The attribute of that name with a number as its value.
@@ -113,9 +105,9 @@ pub(crate) fn put_sign(out: &mut Octets, name: &[u8], at: Point) -> Result<(), A
     Ok(())
 }
 
-// What precedes the text.
+/// What precedes the text of an element.
 #[tactic(auto, unfolding(crate::specs::picture::Elements::text_head))]
-fn put_text_head(out: &mut Octets, class: &[u8], at: Point) -> Result<(), AllocError>
+pub(crate) fn put_text_head(out: &mut Octets, class: &[u8], at: Point) -> Result<(), AllocError>
     ensures { OnOk result (out.new ≡ out.old ++ text_head class.now at) }
 {
     out.append(b"<text class=\"")?;

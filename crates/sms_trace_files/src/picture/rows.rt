@@ -1,10 +1,11 @@
 //! The rows of a picture.
 ghost use Rattle.std.specs.Prelude.{◌≡◌, ◌++◌, OnOk};
-ghost use Rattle.sms_trace_files.specs.picture.Rows.{arrow_class as class_of_arrow, departure_drawn, lost_class as class_of_lost, passage_drawn, row_drawn, rows_drawn, shape_drawn, sign_word as word_of_sign};
-ghost use Rattle.sms_trace_files.specs.picture.Places.{note_at as note_point};
+ghost use Rattle.sms_trace_files.specs.picture.Rows.{arrow_class as class_of_arrow, departure_drawn, lost_class as class_of_lost, lost_drawn, passage_drawn, row_drawn, rows_drawn, shape_drawn, sign_word as word_of_sign};
 
-use crate::picture::markup::{Point, put_line, put_sign, put_text};
-use crate::picture::places::{halfway, lane_x, on_lane, row_y};
+use crate::picture::columns::Columns;
+use crate::picture::markup::{put_line, put_sign};
+use crate::picture::notes::put_note;
+use crate::picture::places::{cross_at, halfway, note_at, on_lane};
 use sms_base::Octets;
 use std::alloc::AllocError;
 
@@ -87,56 +88,65 @@ fn put_passage(out: &mut Octets, row: u32, passage: &Passage) -> Result<(), Allo
     put_line(out, arrow_class(passage.is_again).as_bytes(), from, to)
 }
 
-// A dot, or half of a broken arrow.
-fn put_departure(out: &mut Octets, row: u32, departure: &Departure) -> Result<(), AllocError>
-    ensures { OnOk result (out.new ≡ out.old ++ departure_drawn row departure.now) }
+// Half of a broken arrow, and its cross.
+#[tactic(auto, unfolding(crate::specs::picture::Rows::lost_drawn))]
+fn put_lost(out: &mut Octets, lanes: u16, row: u32, departure: &Departure) -> Result<(), AllocError>
+    ensures { OnOk result (out.new ≡ out.old ++ lost_drawn lanes row departure.now) }
 {
     let from = on_lane(departure.from, row);
     let end = halfway(departure.from, departure.to, row);
+    put_line(out, lost_class(departure.is_again).as_bytes(), from, end)?;
+    put_sign(out, b"cross", cross_at(lanes, row))
+}
+
+// A dot where it arrives in a later row.
+fn put_departure(
+    out: &mut Octets,
+    lanes: u16,
+    row: u32,
+    departure: &Departure,
+) -> Result<(), AllocError>
+    ensures { OnOk result (out.new ≡ out.old ++ departure_drawn lanes row departure.now) }
+{
     if departure.arrives {
-        put_sign(out, b"dot", from)
+        put_sign(out, b"dot", on_lane(departure.from, row))
     } else {
-        put_line(out, lost_class(departure.is_again).as_bytes(), from, end)
+        put_lost(out, lanes, row, departure)
     }
 }
 
-fn put_shape(out: &mut Octets, row: u32, shape: &Shape) -> Result<(), AllocError>
-    ensures { OnOk result (out.new ≡ out.old ++ shape_drawn row shape.now) }
+fn put_shape(out: &mut Octets, lanes: u16, row: u32, shape: &Shape) -> Result<(), AllocError>
+    ensures { OnOk result (out.new ≡ out.old ++ shape_drawn lanes row shape.now) }
 {
     match shape {
         Shape::Passage(passage) => put_passage(out, row, passage),
-        Shape::Departure(departure) => put_departure(out, row, departure),
+        Shape::Departure(departure) => put_departure(out, lanes, row, departure),
         Shape::Sign(lane, sign) => {
             put_sign(out, sign_word(*sign).as_bytes(), on_lane(*lane, row))
         }
     }
 }
 
-// Where the note of a row begins.
-fn note_at(lanes: u16, row: u32) -> Point
-    ensures { result ≡ note_point lanes row }
-{
-    Point {
-        x: lane_x(lanes) - 80,
-        y: row_y(row) + 4,
-    }
-}
-
-// A row of a picture of that many lanes.
+// A row of a picture with those columns.
 #[tactic(auto, unfolding(crate::specs::picture::Rows::row_drawn))]
-fn put_whole_row(out: &mut Octets, lanes: u16, row: &PictureRow) -> Result<(), AllocError>
-    ensures { OnOk result (out.new ≡ out.old ++ row_drawn lanes row.now) }
+fn put_whole_row(out: &mut Octets, columns: &Columns, row: &PictureRow) -> Result<(), AllocError>
+    ensures { OnOk result (out.new ≡ out.old ++ row_drawn columns.now.table.items columns.now.count row.now) }
 {
-    put_shape(out, row.place, &row.shape)?;
-    put_text(out, b"note", note_at(lanes, row.place), row.note.as_slice())
+    let shape = columns.place(&row.shape);
+    put_shape(out, columns.count, row.place, &shape)?;
+    put_note(out, note_at(columns.count, row.place), row.note.as_slice())
 }
 
-/// The rows of a picture of that many lanes.
-pub(crate) fn put_rows(out: &mut Octets, lanes: u16, rows: &[PictureRow]) -> Result<(), AllocError>
-    ensures { OnOk result (out.new ≡ out.old ++ rows_drawn lanes rows.now) }
+/// The rows of a picture with those columns.
+pub(crate) fn put_rows(
+    out: &mut Octets,
+    columns: &Columns,
+    rows: &[PictureRow],
+) -> Result<(), AllocError>
+    ensures { OnOk result (out.new ≡ out.old ++ rows_drawn columns.now.table.items columns.now.count rows.now) }
 {
     for row in rows {
-        put_whole_row(out, lanes, row)?;
+        put_whole_row(out, columns, row)?;
     }
     Ok(())
 }

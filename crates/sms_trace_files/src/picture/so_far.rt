@@ -1,5 +1,6 @@
 //! A picture that is put together row by row while a run is played.
 use crate::picture::drawing::{Extent, Lane, Picture};
+use crate::picture::notes::most_shown;
 use crate::picture::rows::{Departure, Passage, PictureRow, Shape, Sign};
 use sms_base::Octets;
 use std::alloc::{AllocError, Global};
@@ -51,10 +52,10 @@ impl PictureSoFar {
         Ok(())
     }
 
-    fn add_row(&mut self, shape: Shape, note: &str) -> Result<(), AllocError> {
+    fn add_row(&mut self, shape: Shape, note: &[u8]) -> Result<(), AllocError> {
         let place = self.picture.extent.rows;
-        let length = note.len().min(100_000) as u32;
-        let note = Octets::copy_of(self.alloc, note.as_bytes())?;
+        let length = most_shown(note.len());
+        let note = Octets::copy_of(self.alloc, note)?;
         self.picture.rows.push(PictureRow { place, shape, note })?;
         self.picture.extent.rows = place.saturating_add(1);
         self.picture.extent.longest = self.picture.extent.longest.max(length);
@@ -62,12 +63,12 @@ impl PictureSoFar {
     }
 
     /// Something is done in a lane.
-    pub fn put_sign(&mut self, lane: u16, sign: Sign, note: &str) -> Result<(), AllocError> {
+    pub fn put_sign(&mut self, lane: u16, sign: Sign, note: &[u8]) -> Result<(), AllocError> {
         self.add_row(Shape::Sign(lane, sign), note)
     }
 
     /// Something arrives as it is sent.
-    pub fn put_exchange(&mut self, route: Route, note: &str) -> Result<(), AllocError> {
+    pub fn put_exchange(&mut self, route: Route, note: &[u8]) -> Result<(), AllocError> {
         let passage = Passage {
             from: route.from,
             to: route.to,
@@ -82,7 +83,7 @@ impl PictureSoFar {
         &mut self,
         route: Route,
         is_again: bool,
-        note: &str,
+        note: &[u8],
     ) -> Result<(), AllocError> {
         self.sent.push(self.picture.extent.rows)?;
         let departure = Departure {
@@ -110,7 +111,7 @@ impl PictureSoFar {
     }
 
     /// The frame of that number, from 1, arrives.
-    pub fn put_arrival(&mut self, route: Route, frame: u64, note: &str) -> Result<(), AllocError> {
+    pub fn put_arrival(&mut self, route: Route, frame: u64, note: &[u8]) -> Result<(), AllocError> {
         let place = frame.saturating_sub(1).min(u64::from(u32::MAX)) as usize;
         let begun = match self.sent.get(place) {
             Some(begun) => *begun,

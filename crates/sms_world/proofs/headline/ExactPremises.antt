@@ -117,7 +117,7 @@ plays_reported n (x ∷ es) c o e =
     let r = plays_reported (n + 1) es p.0 l.0 l.1 in
     (r.0, ap (λ (z : Result PlayState PlayFault). z >>= λ (d : PlayState). played_on (n + 1) es d) p.1.0 ∙ r.1)
 
-reported_plays : (n : ℕ) (es : List WorldEvent) (c d : PlayState) → played_on n es c ≡ ok_play d → (o : Option Broken) × (broken_on n es c ≡ answers o)
+pub reported_plays : (n : ℕ) (es : List WorldEvent) (c d : PlayState) → played_on n es c ≡ ok_play d → (o : Option Broken) × (broken_on n es c ≡ answers o)
 reported_plays n [] c d e = (None, refl)
 reported_plays n (x ∷ es) c d e =
     let p = after_played (played n x c) (λ (z : PlayState). played_on (n + 1) es z) d e in
@@ -197,7 +197,7 @@ of_head : {A : Type 0} (b : Bool) (r : Result A PlayFault) (y : A) → (if b the
 of_head true r y e = (refl, e)
 of_head false r y e = absurd cc
 
-to_head : {A : Type 0} (b : Bool) (r : Result A PlayFault) (y : A) → b ≡ true → r ≡ Ok y → (if b then r else Err BadSetup) ≡ Ok y
+pub to_head : {A : Type 0} (b : Bool) (r : Result A PlayFault) (y : A) → b ≡ true → r ≡ Ok y → (if b then r else Err BadSetup) ≡ Ok y
 to_head true r y t e = e
 to_head false r y t e = absurd cc
 

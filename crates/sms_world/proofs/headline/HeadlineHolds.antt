@@ -19,7 +19,9 @@ use Rattle.sms_world.proofs.headline.Parting.{others_good, parted}
 use Rattle.sms_world.proofs.headline.PlainTables.{lines_ascend}
 use Rattle.sms_world.proofs.headline.SentReceipts.{listed_on, reported_on}
 use Rattle.sms_world.proofs.headline.SplitClaimed.{split_joined_is}
-use Rattle.sms_world.proofs.headline.StatusFrames.{status_listed}
+use Rattle.sms_world.proofs.headline.SplitPlays.{rows_preserved}
+use Rattle.sms_world.proofs.headline.StatusFrames.{reports_say, status_listed}
+use Rattle.sms_world.proofs.headline.StatusRows.{StatusRows, status_holds}
 use Rattle.sms_world.proofs.headline.Tables.{line_of, line_there, message_stays}
 use Rattle.sms_world.proofs.headline.TimelyClaims.{parts_once}
 use Rattle.sms_world.proofs.messages_have_origins.DeliveredClaims.{delivered_from}
@@ -29,7 +31,7 @@ use Rattle.sms_world.proofs.scripts_are_runs.Beginnings.{begins}
 use Rattle.sms_world.proofs.scripts_are_runs.Events.{ok_play}
 use Rattle.sms_world.specs.headline.Claims.{AllTimely}
 use Rattle.sms_world.specs.headline.Headline.{FinalStates, Headline, Stay, WasDelivered}
-use Rattle.sms_world.specs.headline.HeadlineLaws.{ConfirmedLaw, HeadlineLaw, IsScript, LeadsOn, OneRunLaw, PartsLaw, ReceiptsStayLaw, StatusLaw, StayLaw}
+use Rattle.sms_world.specs.headline.HeadlineLaws.{ConfirmedLaw, HeadlineLaw, IsScript, LeadsOn, OneRunLaw, PartsLaw, ReceiptsStayLaw, ReportsSayLaw, StatusLaw, StayLaw}
 use Rattle.sms_world.specs.headline.PlainReport.{AreAscending}
 use Rattle.sms_world.specs.headline.TypedEvents.{AreTyped}
 use Rattle.sms_world.specs.scripts_are_runs.PlayRuns.{AllHandOctets, AreGood, happenings}
@@ -122,6 +124,14 @@ status_is script some others c d is on =
     let x = run_is script some others c d is on in
     status_listed c x.0 x.2.1
 
+pub reports_say_is : ReportsSayLaw
+reports_say_is script some others c d is on =
+    let p : Plays script some c = plays script some others c d is on in
+    let x = run_is script some others c d is on in
+    let rows : StatusRows c.centre.rows =
+    rows_preserved StatusRows status_holds 1 some (beginning script.setup) c empty (begins script.setup p.can) (λ r reference tpdu i. absurd i) p.good p.octets p.leads in
+    reports_say c x.0 x.2.1 rows
+
 -- ---- all of it
 
 module _ (setup : Setup) (events : List WorldEvent) (typed : AreTyped events) (c : PlayState) (leads : play_state_of setup events ≡ ok_play c) where
@@ -177,6 +187,7 @@ module _ (setup : Setup) (events : List WorldEvent) (typed : AreTyped events) (c
       status_reports = status_is script events [] c c is on;
       no_system_error = no_system_error setup events (report_of c) (ap (λ (r : Result PlayState PlayFault). r >>= λ (x : PlayState). ok_report (report_of x)) leads);
     };
+    told = reports_say_is script events [] c c is on;
     delivered = delivered;
     sent = λ timely. sent_is script events [] c c is on timely;
     joined = λ timely fresh. record {

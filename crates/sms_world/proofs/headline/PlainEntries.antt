@@ -1,20 +1,16 @@
 -- Each entry of an outbox, and each frame that is sent for one, carries a part of a text that an event of its owner gave.
-use Rattle.std.proofs.Common.{◌≡◌, ℕ, zero, suc, ◌+◌, ◌<◌, ◌≤◌, arith, List, [], ◌∷◌, ◌++◌, length, Bool, true, false, refl, sym, ◌∙◌, ap, subst, inl, inr, ⊎_elim, Option, Some, None, Result, Ok, Err}
+use Rattle.std.proofs.Common.{◌≡◌, ℕ, zero, suc, ◌+◌, ◌<◌, ◌≤◌, arith, List, [], ◌∷◌, ◌++◌, length, Bool, true, refl, sym, ◌∙◌, ap, subst, inl, inr, ⊎_elim, Option, Some, None, Result, Ok, Err}
 use Rattle.std.specs.Prelude.{◌⊎◌, if◌then◌else◌, slice_get}
 use Rattle.std.specs.Str.{bytes_eq, chars}
 use Rattle.std.proofs.lemmas.Bool.{cond_both}
-use Rattle.sms_base.specs.Address.{address_of}
 use Rattle.sms_base.specs.Among.{Among}
 use Rattle.sms_base.specs.Reading.{◌>>=◌}
-use Rattle.sms_base.specs.declared.address.Address.{Address}
 use Rattle.sms_base.specs.declared.carried.Carried.{Carried as Carries}
 use Rattle.sms_base.specs.declared.carried.Kind.{Kind}
 use Rattle.sms_base.specs.declared.carried.Kind.TheVariants.{Ack, Data, Error}
 use Rattle.sms_base.specs.declared.holder.Holder.{Holder}
 use Rattle.sms_base.specs.declared.holder.Holder.TheVariants.{Entry, Memory}
 use Rattle.sms_base.proofs.Addresses.{address_found}
-use Rattle.sms_concat.specs.Splitting.{split_of}
-use Rattle.sms_concat.specs.TextContent.{content_of_text}
 use Rattle.sms_concat.specs.UserData.{data_length, header_of}
 use Rattle.sms_concat.specs.declared.content.Part.{Part as PartOf}
 use Rattle.sms_concat.specs.declared.split_error.SplitError.{SplitError}
@@ -24,12 +20,10 @@ use Rattle.sms_control.specs.declared.link_state.Begun.{Begun}
 use Rattle.sms_control.specs.declared.link_state.Opened.{Opened}
 use Rattle.sms_control.specs.declared.message.Cp.{Cp}
 use Rattle.sms_control.specs.declared.message.Cp.TheVariants.{DataUnit as CpData, AckUnit as CpAck, ErrorUnit as CpError}
-use Rattle.sms_control.specs.declared.transaction.TransactionFlag.{TransactionFlag}
 use Rattle.sms_control.specs.declared.transaction.TransactionFlag.TheVariants.{FromOriginator, ToOriginator}
 use Rattle.sms_control.specs.ControlReading.{cp_at}
 use Rattle.sms_control.proofs.ControlFrames.{cp_again}
 use Rattle.sms_link.specs.declared.outgoing.Outgoing.{Outgoing}
-use Rattle.sms_link.specs.LinkTurn.{carried_in}
 use Rattle.sms_centre_rows.specs.declared.reports.delivery.Delivery.{Delivery}
 use Rattle.sms_centre_rows.specs.declared.waiting.handset_link.Sent.{Sent as SentDown}
 use Rattle.sms_centre_spec.specs.CentreEvent.{happened as centre_happened}
@@ -39,20 +33,14 @@ use Rattle.sms_centre_spec.specs.declared.event.CentreEvent.{CentreEvent}
 use Rattle.sms_centre_spec.specs.declared.event.CentreEvent.TheVariants.{DeliverAnswered}
 use Rattle.sms_rows.specs.table.Table.{row_at}
 use Rattle.sms_rows.proofs.table.Tables.{found_among, found_key}
-use Rattle.sms_tpdu.specs.TpduReading.{submit_at}
-use Rattle.sms_tpdu.specs.declared.submit.Submit.{Submit as SubmitOf}
 use Rattle.sms_tpdu.specs.declared.user_data.UserData.{UserData}
-use Rattle.sms_intake.specs.PartBodies.{bodies_of, bodies_under, body_of, parts_or_none}
-use Rattle.sms_intake.specs.declared.submission.SinglePart.{SinglePart}
-use Rattle.sms_intake.specs.declared.submission.Text.TheVariants.{Whole as WholeText}
-use Rattle.sms_handset_rows.specs.declared.outbox.notice.Notice.{Notice}
+use Rattle.sms_intake.specs.PartBodies.{bodies_of, body_of, parts_or_none}
 use Rattle.sms_handset_rows.specs.declared.outbox.out_entry.OutEntry.{OutEntry}
 use Rattle.sms_handset_rows.specs.outbox.Keys.{out_key}
 use Rattle.sms_handset_rows.specs.outbox.Offers.{rejecting_duplicates}
-use Rattle.sms_handset_rows.specs.outbox.Submits.{packed_behind, submit_for, submit_octets}
+use Rattle.sms_handset_rows.specs.outbox.Submits.{submit_for}
 use Rattle.sms_handset_rows.proofs.outbox.SoundWriting.{split_is_writable}
 use Rattle.sms_handset_draft.specs.Draft.{Draft, recovered}
-use Rattle.sms_handset.specs.Planning.{OfFrame}
 use Rattle.sms_handset.specs.HandsetEvent.{tag_of as handset_tag}
 use Rattle.sms_handset.specs.declared.event.HandsetEvent.{HandsetEvent}
 use Rattle.sms_handset.specs.declared.event.HandsetEvent.TheVariants.{Frame as HandsetFrame, Tick as HandsetTick, Write as HandsetWrite, Delete as HandsetDelete, Discard as HandsetDiscard}
@@ -76,34 +64,33 @@ use Rattle.sms_script.specs.declared.report.rows.FrameRow.{FrameRow}
 use Rattle.sms_script.specs.declared.report.rows.GivenRow.{GivenRow}
 use Rattle.sms_script.specs.declared.script.Script.{Script}
 use Rattle.sms_play.specs.CentreSide.{accepted_after, all_sent as all_sent_down, centre_meets, done as centre_done, with_answer as centre_told, whole as centre_whole}
-use Rattle.sms_play.specs.HandsetSide.{all_sent as all_sent_up, committed, entries_given, given_by, handset_meets, happened, is_owners, memories_given, party_after, with_answer, whole}
+use Rattle.sms_play.specs.HandsetSide.{all_sent as all_sent_up, entries_given, given_by, handset_meets, happened, is_owners, memories_given, party_after, with_answer, whole}
 use Rattle.sms_play.specs.Meeting.{AtCentre, AtHandset, Meeting, by_handset, is_answered, meeting_of}
 use Rattle.sms_play.specs.PlayState.{Party, PlayState, answer, numbers_of, party_at, with_party}
 use Rattle.sms_play.specs.PlayedEvent.{handset_stored, handset_restarted, handset_restarts, met, party_restarted, played, restart, restarted, stored, stopped}
-use Rattle.sms_play.specs.Playing.{play_state_of, report_of}
+use Rattle.sms_play.specs.Playing.{play_state_of}
 use Rattle.sms_play.specs.Premises.{is_same_side}
 use Rattle.sms_play.specs.Setups.{beginning, handset_setup, parties_of}
 use Rattle.sms_handset_draft.specs.FirstRows.{first_rows}
 use Rattle.sms_script.specs.declared.setup.HandsetSetup.{HandsetSetup}
 use Rattle.sms_script.specs.declared.setup.Setup.{Setup}
-use Rattle.sms_world_model.specs.ScriptRun.{Asked, Cancelled, Event, Handed, Removed, Submitted, Tick_centre, Tick_handset, Wrote}
+use Rattle.sms_world_model.specs.ScriptRun.{Asked, Cancelled, Handed, Removed, Submitted, Tick_centre, Tick_handset, Wrote}
 use Rattle.sms_world_model.specs.World.{Carried, Frame, Sent, World, Up as UpLine}
 use Rattle.sms_world.specs.entries_keep_references.ReportedEntries.{AreBelow}
 use Rattle.sms_world.specs.frames_pass_between_sides.Between.{frame_up}
 use Rattle.sms_world.specs.frames_pass_between_sides.FramesDown.{IsHanded}
 use Rattle.sms_world.specs.frames_pass_between_sides.FramesUp.{IsBare, flag_for}
-use Rattle.sms_world.specs.handset_runs_are_steps.PlanLaws.{event_seen}
 use Rattle.sms_world.specs.handset_runs_are_steps.RefinesLink.{RefinesAnswer, RefinesBegun, RefinesOpened}
 use Rattle.sms_world.specs.headline.OneRun.{event_of}
-use Rattle.sms_world.specs.headline.Origins.{user_data_of}
+pub use Rattle.sms_world.specs.headline.OwnerClaims.{IsOwners}
 use Rattle.sms_world.specs.headline.PlainLaws.{AreReports}
 use Rattle.sms_world.specs.headline.PlainReport.{IsEntered}
 use Rattle.sms_world.specs.headline.PlainScript.{Does}
 use Rattle.sms_world.specs.headline.PlainWords.{numbered}
 use Rattle.sms_world.specs.headline.SeenFrames.{frame_down, frame_tpdu, line_down, line_up, octets_of, sent_as}
-use Rattle.sms_world.specs.headline.SeenWorld.{all_seen, sent_by, sent_row}
+use Rattle.sms_world.specs.headline.SeenWorld.{sent_by, sent_row}
 use Rattle.sms_world.specs.headline.TypedEvents.{AreTyped}
-use Rattle.sms_world.specs.scripts_are_runs.Happening.{ActHandsOctets, HandsOctets, IsGoodAct, IsGoodEvent}
+use Rattle.sms_world.specs.scripts_are_runs.Happening.{HandsOctets, IsGoodEvent}
 use Rattle.sms_world.specs.scripts_are_runs.PlayRefinement.{PlayRefines}
 use Rattle.sms_world.proofs.entries_keep_references.EntriesAgreeing.{Ends, event_ends}
 use Rattle.sms_world.proofs.handset_runs_are_steps.Hearing.{again_carries}
@@ -111,7 +98,7 @@ use Rattle.sms_world.proofs.handset_runs_are_steps.Submitting.{submit_rejects}
 use Rattle.sms_world.proofs.headline.Claimed.{can_play}
 use Rattle.sms_world.proofs.headline.DecidedTimely.{row_from}
 use Rattle.sms_world.proofs.headline.EntryFrames.{AllSay, AnswerSays, BegunSays, Brings, HolderSays, LinkSays, OpenedSays, Says}
-use Rattle.sms_world.proofs.headline.EntryStages.{EventBrings, IfDoneAt, PartsKnown, WritesKnown, event_says}
+use Rattle.sms_world.proofs.headline.EntryStages.{EventBrings, IfDoneAt, WritesKnown, event_says}
 use Rattle.sms_world.proofs.headline.EntryWriting.{Has, body_at, same_octets, submit_reads, writable_at, wrote_has}
 use Rattle.sms_world.proofs.headline.HeadlineHolds.{of_play}
 use Rattle.sms_world.proofs.headline.PlainSteps.{IsStep, at_place, step_of}
@@ -120,37 +107,6 @@ use Rattle.sms_world.proofs.scripts_are_runs.Events.{ok_play, same_play}
 use Rattle.sms_world.proofs.scripts_are_runs.Growing.{either_part, in_front, in_rest}
 use Rattle.sms_world.proofs.scripts_are_runs.Meetings.{Meets, meets, number_of}
 use Rattle.sms_world.proofs.scripts_are_runs.Parties.{number_there, party_found, with_numbers}
-
--- ---- what an entry carries
-
--- The octets are a SUBMIT of the one part, at the entry's place, of a text that the owner gave at an event. Its first part has the entry that was
--- entered first there.
-pub record IsOwners (script : Script) (after : ℕ → Report) (h : List ℕ) (n : ℕ) (tpdu : List ℕ) : Type 0 where
-  pub submit : SubmitOf
-  pub reads : submit_at tpdu ≡ Ok submit
-  pub given_at : ℕ
-  pub first : ℕ
-  pub place : ℕ
-  pub own : n ≡ first + place
-  pub entered : (e : ℕ) → IsEntered after given_at h e → first ≤ e
-  pub first_entered : IsEntered after given_at h first
-  pub owner : Among h (numbers_of (parties_of script.setup script.setup.handsets))
-  pub writing : WorldEvent
-  pub written_at : numbered given_at script.events ≡ Some writing
-  pub to : List ℕ
-  pub report : Bool
-  pub text : List ℕ
-  pub writes : Does writing (Write h to report text)
-  pub reference : ℕ
-  pub body : SinglePart
-  pub piece : numbered (suc place) (bodies_under reference (WholeText (content_of_text (chars text)))) ≡ Some body
-  pub destination : submit.destination_address.digits ≡ to
-  pub request : submit.status_report_request ≡ report
-  pub protocol_identifier : submit.protocol_identifier ≡ 0
-  pub reply_path : submit.reply_path ≡ false
-  pub scheme : submit.data_coding_scheme ≡ body.data_coding_scheme
-  pub header : submit.user_data_header_indicator ≡ body.header_indicator
-  pub user_data : submit.user_data ≡ user_data_of body
 
 -- ---- plain facts
 

@@ -100,7 +100,7 @@ module _ (name : List ℕ) (before : PlayState) (m : MessageRow) (parts : List P
   whole_made (Write handset to report text) k = absurd k
   whole_made (Delete handset entry) k = absurd k
   whole_made (Discard handset entry) k = absurd k
-  whole_made (Deliver number) k = absurd (not_handsets name m.originator k.message_reference k.originator own)
+  whole_made (Deliver number) k = absurd (not_handsets name m.originator k.submit.message_reference k.originator own)
   whole_made (Tick side now) k = absurd k
 
   after_made : (act : Act) → ActMakes act before m parts → IsMade name (Stopped After act) before m parts
@@ -110,7 +110,7 @@ module _ (name : List ℕ) (before : PlayState) (m : MessageRow) (parts : List P
   after_made (Write handset to report text) k = absurd k
   after_made (Delete handset entry) k = absurd k
   after_made (Discard handset entry) k = absurd k
-  after_made (Deliver number) k = absurd (not_handsets name m.originator k.message_reference k.originator own)
+  after_made (Deliver number) k = absurd (not_handsets name m.originator k.submit.message_reference k.originator own)
   after_made (Tick side now) k = absurd k
 
   made_by : (e : WorldEvent) → Makes e before m parts → IsMade name e before m parts

@@ -1,10 +1,13 @@
--- Each deliver_sm that the centre sends is of a receipt that is listed, and what is listed stays so.
+-- Each deliver_sm that the centre sends is of a receipt that is listed and goes to its account, and what is listed stays so.
 use Rattle.sms_base.specs.Among.{Among}
+use Rattle.sms_base.specs.declared.final_state.FinalState.{FinalState}
 use Rattle.sms_centre_rows.proofs.reports.AllWaiting.{report_found}
 use Rattle.sms_centre_rows.specs.declared.messages.message.MessageRow.{MessageRow}
 use Rattle.sms_centre_rows.specs.declared.reports.delivery.Delivery.{Delivery}
 use Rattle.sms_centre_rows.specs.declared.reports.report.ReportRow.{ReportRow}
-use Rattle.sms_centre_rows.specs.messages.Messages.{message_key}
+use Rattle.sms_centre_rows.specs.messages.Messages.{message_at, message_key}
+use Rattle.sms_centre_rows.specs.messages.SoundMessages.{EndsAt}
+use Rattle.sms_centre_rows.specs.reports.Receipts.{is_account}
 use Rattle.sms_centre_spec.proofs.EventLaws.{sends_receipts, stays_sound}
 use Rattle.sms_centre_spec.specs.CentreEvent.{happened}
 use Rattle.sms_centre_spec.specs.Draft.{Core, core_of}
@@ -14,44 +17,79 @@ use Rattle.sms_centre_spec.specs.declared.event.CentreEvent.TheVariants.{Deliver
 use Rattle.sms_play.specs.Meeting.{AtCentre}
 use Rattle.sms_play.specs.PlayState.{PlayState}
 use Rattle.sms_play.specs.Playing.{receipt_lines}
-use Rattle.sms_rows.proofs.table.Tables.{found_key}
+use Rattle.sms_rows.proofs.table.Tables.{found_among, found_key}
 use Rattle.sms_script.specs.declared.event.WorldEvent.{WorldEvent}
 use Rattle.sms_script.specs.declared.event.WorldEvent.TheVariants.{Restart, Stopped, Whole}
 use Rattle.sms_script.specs.declared.report.rows.ReceiptRow.{ReceiptRow}
 use Rattle.sms_world.proofs.headline.SeenWorlds.{receipt_there, receipts_listed, receipts_of_world}
 use Rattle.sms_world.proofs.scripts_are_runs.Meetings.{Meets, meets}
-use Rattle.sms_world.specs.headline.Claims.{DeliversListed, IsListed, happened_then}
+use Rattle.sms_world.proofs.headline.SentSessions.{Goes, goes_to}
+use Rattle.sms_world.specs.headline.Claims.{DeliversReceipts, happened_then}
+use Rattle.sms_world.specs.headline.ReportClaims.{IsReceiptSent}
 use Rattle.sms_world.specs.scripts_are_runs.Happening.{HandsOctets, IsGoodEvent}
 use Rattle.sms_world.specs.scripts_are_runs.PlayRefinement.{PlayRefines}
 use Rattle.sms_world_model.specs.WorldStep.{Item, after_item, end, Receipt, Status, Step, after}
 use Rattle.sms_world_model.specs.World.{ReceiptOf, World}
-use Rattle.std.proofs.Common.{inr, ◌∙◌}
-use Rattle.std.specs.Prelude.{List, [], true, ℕ, ◌∷◌, ◌≡◌}
+use Rattle.std.proofs.Common.{ap, inr, sym, ◌∙◌}
+use Rattle.std.specs.Prelude.{List, None, Option, Some, [], true, ℕ, ◌∷◌, ◌≡◌}
 
 -- ---- deliver_sm
 
-row_listed : (c : Core) (id : ℕ) → IsSoundCore c → IsReceiptRow c.rows id → IsListed c id
-row_listed c id s r =
-    let messages : List MessageRow = c.rows.messages in
-    let row : ReportRow = r.0 in
-    let here = report_found id row c.rows.reports r.1.0 in
-    let of_message = (s.rows.reports.each row here.0).message in
-    let m : MessageRow = of_message.0 in
-    let own : m.id ≡ id = found_key message_key row.id m messages of_message.1.0 ∙ here.1 in (
-      record { id = m.id; state = of_message.1.1.0.0 },
-      (receipt_there row m of_message.1.1.0.0 messages c.rows.reports here.0 of_message.1.0 of_message.1.1.0.1, own),
-    )
+one_row : (a b : MessageRow) → Some a ≡ Some b → a ≡ b
+one_row a b e = cc
 
-sends_listed : (accepted : List Delivery) (event : CentreEvent) (c : Core) → IsSoundCore c → IsEvent event → (x : Delivery) → Among x (happened_then accepted event c).bindings.deliveries
-    → IsListed (core_of (happened_then accepted event c)) x.id
-sends_listed [] event c s is x i = row_listed (core_of (happened event c)) x.id (stays_sound event c s is) (sends_receipts event c s is x i)
-sends_listed (y ∷ accepted) event c s is x i =
-    sends_listed accepted (DeliverAnswered y.session y.id true) (core_of (happened event c)) (stays_sound event c s is) tt x i
+module _ (event : CentreEvent) (c : Core) (s : IsSoundCore c) (is : IsEvent event) where
+  abbrev later : Core
+  later = core_of (happened event c)
 
-pub delivers_listed : (n : ℕ) (e : WorldEvent) (c : PlayState) (w : World) → PlayRefines c w → IsGoodEvent e → HandsOctets e c → DeliversListed n e c
+  -- it ended at a moment
+  ended_at : (o : Option FinalState) (at : Option ℕ) (state : FinalState) → o ≡ Some state → EndsAt o at → (moment : ℕ) × (at ≡ Some moment)
+  ended_at None at state e k = absurd cc
+  ended_at (Some f) at state e k = k
+
+  sends_one : (x : Delivery) → Among x (happened event c).bindings.deliveries → IsReceiptSent later x
+  sends_one x i =
+      let sound : IsSoundCore later = stays_sound event c s is in
+      let messages : List MessageRow = later.rows.messages in
+      let r : IsReceiptRow later.rows x.id = sends_receipts event c s is x i in
+      let row : ReportRow = r.0 in
+      let here = report_found x.id row later.rows.reports r.1.0 in
+      let of_message = (sound.rows.reports.each row here.0).message in
+      let m : MessageRow = of_message.0 in
+      let state : FinalState = of_message.1.1.0.0 in
+      let own : m.id ≡ x.id = found_key message_key row.id m messages of_message.1.0 ∙ here.1 in
+      let g : Goes messages later.sessions x = goes_to event c s x i in
+      let at : message_at x.id messages ≡ Some m = ap (λ (n : ℕ). message_at n messages) (sym here.1) ∙ of_message.1.0 in
+      let same : m ≡ g.message = one_row m g.message (sym at ∙ g.there) in
+      let among : Among m messages = found_among message_key row.id m messages of_message.1.0 in
+      let done = ended_at m.state m.done state of_message.1.1.0.1 (sound.rows.messages.each_message m among).ended in
+      record {
+        message = m;
+        there = at;
+        state = state;
+        ended = of_message.1.1.0.1;
+        moment = done.0;
+        done = done.1;
+        line = record { id = m.id; state = state };
+        listed = receipt_there row m state messages later.rows.reports here.0 of_message.1.0 of_message.1.1.0.1;
+        says = λ j. record { id = own j; state = state };
+        session = g.session;
+        bound = g.bound;
+        number = g.number;
+        receives = g.receives;
+        account = ap (λ (z : MessageRow). is_account g.session.account z.originator) same ∙ g.account;
+      }
+
+sends_all : (accepted : List Delivery) (event : CentreEvent) (c : Core) → IsSoundCore c → IsEvent event → (x : Delivery) → Among x (happened_then accepted event c).bindings.deliveries
+    → IsReceiptSent (core_of (happened_then accepted event c)) x
+sends_all [] event c s is x i = sends_one event c s is x i
+sends_all (y ∷ accepted) event c s is x i =
+    sends_all accepted (DeliverAnswered y.session y.id true) (core_of (happened event c)) (stays_sound event c s is) tt x i
+
+pub delivers_listed : (n : ℕ) (e : WorldEvent) (c : PlayState) (w : World) → PlayRefines c w → IsGoodEvent e → HandsOctets e c → DeliversReceipts n e c
 delivers_listed n (Whole act) c w s good octets = λ event met accepted x i.
     let k : Meets act c w (AtCentre event) = meets c w s n act good octets (AtCentre event) met in
-    sends_listed accepted event c.centre s.sound k.is x i
+    sends_all accepted event c.centre s.sound k.is x i
 delivers_listed n (Stopped stop act) c w s good octets = tt
 delivers_listed n (Restart side) c w s good octets = tt
 

@@ -1,4 +1,4 @@
--- A fact of the centre's messages and parts that each of its events keeps is kept along a course.
+-- A fact of the centre's rows that each of its events keeps is kept along a course.
 use Rattle.std.proofs.Common.{◌≡◌, ℕ, zero, suc, ◌+◌, List, [], ◌∷◌, ◌++◌, true, refl, subst, Option, Some, None, Result, Ok, Err}
 use Rattle.std.proofs.lemmas.Bool.{cond_both}
 use Rattle.sms_base.specs.Reading.{◌>>=◌}
@@ -14,7 +14,8 @@ use Rattle.sms_script.specs.declared.event.StopPoint.TheVariants.{Before, After}
 use Rattle.sms_script.specs.declared.event.WorldEvent.{WorldEvent}
 use Rattle.sms_script.specs.declared.event.WorldEvent.TheVariants.{Whole, Stopped, Restart}
 use Rattle.sms_centre_spec.specs.CentreEvent.{happened as centre_happened}
-use Rattle.sms_centre_spec.specs.Draft.{Core, Draft as CentreDraft, messages_in, parts_in}
+use Rattle.sms_centre_spec.specs.Draft.{Core, Draft as CentreDraft, messages_in, parts_in, rows_of}
+use Rattle.sms_centre_spec.specs.declared.rows.Rows.{Rows}
 use Rattle.sms_centre_spec.specs.SoundCore.{IsEvent, IsSoundCore}
 use Rattle.sms_centre_spec.specs.declared.answer.CentreAnswer.{CentreAnswer}
 use Rattle.sms_centre_spec.specs.declared.event.CentreEvent.{CentreEvent}
@@ -41,10 +42,9 @@ use Rattle.sms_world.specs.headline.OneRun.{happening_of}
 use Rattle.sms_world.proofs.scripts_are_runs.Events.{event_leads, ok_play, same_play}
 use Rattle.sms_world.proofs.scripts_are_runs.Meetings.{Meets, meets}
 
-module _ (P : List MessageRow → List PartRow → Type 0)
-    (keeps : (event : CentreEvent) (c : Core) → IsSoundCore c → IsEvent event → P c.rows.messages c.rows.parts → P (messages_in (centre_happened event c).store) (parts_in (centre_happened event c).store)) where
+module _ (Q : Rows → Type 0) (keeps : (event : CentreEvent) (c : Core) → IsSoundCore c → IsEvent event → Q c.rows → Q (rows_of (centre_happened event c).store)) where
   abbrev Has : PlayState → Type 0
-  Has c = P c.centre.rows.messages c.centre.rows.parts
+  Has c = Q c.centre.rows
 
   module _ (n : ℕ) where
     -- ---- the centre
@@ -138,7 +138,14 @@ module _ (P : List MessageRow → List PartRow → Type 0)
       go x (end w (happened_in (happening_of e c.centre.moment) l.0)) l.1.2 (event_preserved n c w s k e x good octets is) later q
   then_all n e c d w more Octets go s k good octets (Err fault) is later q = absurd cc
 
-  pub all_preserved : (n : ℕ) (es : List WorldEvent) (c d : PlayState) (w : World) → PlayRefines c w → Has c → AreGood es → AllHandOctets n es c → played_on n es c ≡ ok_play d → Has d
-  all_preserved n [] c d w s k good octets q = subst (λ (z : PlayState). Has z) (same_play c d q) k
-  all_preserved n (e ∷ es) c d w s k good octets q =
-      then_all n e c d w (λ x. played_on (n + 1) es x) (λ x. AllHandOctets (n + 1) es x) (λ x v t h o p. all_preserved (n + 1) es x d v t h good.1 o p) s k good.0 octets.0 (played n e c) refl octets.1 q
+  pub rows_preserved : (n : ℕ) (es : List WorldEvent) (c d : PlayState) (w : World) → PlayRefines c w → Has c → AreGood es → AllHandOctets n es c → played_on n es c ≡ ok_play d → Has d
+  rows_preserved n [] c d w s k good octets q = subst (λ (z : PlayState). Has z) (same_play c d q) k
+  rows_preserved n (e ∷ es) c d w s k good octets q =
+      then_all n e c d w (λ x. played_on (n + 1) es x) (λ x. AllHandOctets (n + 1) es x) (λ x v t h o p. rows_preserved (n + 1) es x d v t h good.1 o p) s k good.0 octets.0 (played n e c) refl octets.1 q
+
+-- of the messages and their parts alone
+module _ (P : List MessageRow → List PartRow → Type 0)
+    (keeps : (event : CentreEvent) (c : Core) → IsSoundCore c → IsEvent event → P c.rows.messages c.rows.parts → P (messages_in (centre_happened event c).store) (parts_in (centre_happened event c).store)) where
+  pub all_preserved : (n : ℕ) (es : List WorldEvent) (c d : PlayState) (w : World) → PlayRefines c w → P c.centre.rows.messages c.centre.rows.parts → AreGood es → AllHandOctets n es c → played_on n es c ≡ ok_play d
+      → P d.centre.rows.messages d.centre.rows.parts
+  all_preserved n es c d w s k good octets q = rows_preserved (λ (rows : Rows). P rows.messages rows.parts) keeps n es c d w s k good octets q

@@ -13,7 +13,7 @@ use Rattle.sms_world.proofs.headline.AnswersTimely.{HandsAnswers}
 use Rattle.sms_world.proofs.headline.FaithfulRuns.{HandsDown, control_timely, end_parts, follows_timely, run_parts, stays_timely}
 
 -- control frames leave the outboxes, and what handsets gave
-control_leaves : (w : World) (m : ℕ) (b : Bool) (ss : List Step) → AllControl ss → ((end w (items m b ss)).up ≡ w.up) × ((end w (items m b ss)).outbox ≡ w.outbox)
+pub control_leaves : (w : World) (m : ℕ) (b : Bool) (ss : List Step) → AllControl ss → ((end w (items m b ss)).up ≡ w.up) × ((end w (items m b ss)).outbox ≡ w.outbox)
 control_leaves w m b [] c = (refl, refl)
 control_leaves w m b (Again u ∷ ss) c = control_leaves (after_item w (record { step = Again u; moment = m; stopped = b })) m b ss c.1
 control_leaves w m b (Control a ∷ ss) c = control_leaves (after_item w (record { step = Control a; moment = m; stopped = b })) m b ss c.1
@@ -35,7 +35,7 @@ module _ (w v : World) (u : Frame) (same : (v.up ≡ w.up) × (v.outbox ≡ w.ou
     has.2 ∙ ap (λ (z : Frame). z.reference) r,
   )
 
-  reads_timely : (m : ℕ) (s : Step) → Reads u s → Can v m s → ReadsTimely v s
+  pub reads_timely : (m : ℕ) (s : Step) → Reads u s → Can v m s → ReadsTimely v s
   reads_timely m (Take x) r can = subst (λ (z : Frame). IsTimely v z) (sym r) (more (hands (ap (λ (z : Frame). z.line) (sym r) ∙ can.0.1)))
   reads_timely m (Settle x g id n) r can = subst (λ (z : Frame). IsTimely v z) (sym r) (more (hands (ap (λ (z : Frame). z.line) (sym r) ∙ can.0.1)))
   reads_timely m (Acknowledged x g e) r can =
@@ -45,7 +45,7 @@ module _ (w v : World) (u : Frame) (same : (v.up ≡ w.up) × (v.outbox ≡ w.ou
 
 -- ---- an event
 
-abbrev HandsOne : World → ℕ → List Step → Type 0
+abbrev pub HandsOne : World → ℕ → List Step → Type 0
 HandsOne w n own = (u : Frame) × (s : Step) × (Among (Carried u) w.bag × (u.number ≡ n) × Reads u s × (own ≡ s ∷ []))
 
 own_upward : (w v : World) (m n : ℕ) (b : Bool) (own : List Step) → (own ≡ []) ⊎ HandsOne w n own → ((v.up ≡ w.up) × (v.outbox ≡ w.outbox)) → ((u : Frame) → IsTimely w u → IsTimely v u) → HandsDown w (Handed n)

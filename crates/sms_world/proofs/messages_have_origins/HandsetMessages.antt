@@ -187,7 +187,6 @@ module _ (c : PlayState) (w : World) (s : PlayRefines c w) (u : Submission) (st 
         from_handset = k.from_handset;
         submit = asks.submit;
         reads = reads;
-        message_reference = asks.submit.message_reference;
         originator = own.originator ∙ ap (λ (z : SubmitOf). Handset z.message_reference) same;
         address = own.address;
         wish = own.wish ∙ ap (λ (z : SubmitOf). wish_of z.status_report_request) same;

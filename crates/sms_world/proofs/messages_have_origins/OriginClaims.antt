@@ -1,5 +1,5 @@
 -- Each message of a script came of an event, and what is submitted is kept.
-use Rattle.std.proofs.Common.{◌≡◌, ◌⊎◌, inl, inr, ℕ, ◌+◌, arith, List, [], ◌∷◌, ◌++◌, length, Some, Result, Ok, refl, sym, ◌∙◌, ap, subst, ⊎_elim}
+use Rattle.std.proofs.Common.{◌≡◌, ◌⊎◌, inl, inr, ℕ, ◌+◌, arith, List, [], ◌∷◌, ◌++◌, length, Option, Some, None, Result, Ok, refl, sym, ◌∙◌, ap, subst, ⊎_elim}
 use Rattle.std.proofs.lemmas.Bool.{cond-true}
 use Rattle.sms_base.specs.Reading.{◌>>=◌}
 use Rattle.sms_base.proofs.Steps.{ok_is}
@@ -47,6 +47,7 @@ use Rattle.sms_world.proofs.submissions_stay.StaysSubmitted.{HasSubmitted}
 use Rattle.sms_world.specs.messages_have_origins.OriginLaws.{OriginLaw, SubmitLaw}
 use Rattle.sms_world.specs.headline.SplitClaims.{Submits}
 use Rattle.sms_world.proofs.messages_have_origins.EventsMake.{WasStoredIn, SubmitLeads, event_makes, stopped_leads, submitted_preserved, whole_leads}
+use Rattle.sms_world.proofs.messages_have_origins.SubmittedMoments.{made_then}
 use Rattle.sms_world.proofs.messages_have_origins.Unmoved.{Rows, rows_in, rows_of}
 
 -- ---- along a course
@@ -60,9 +61,16 @@ record IsFound (n : ℕ) (events : List WorldEvent) (c : PlayState) (m : Message
   before : PlayState
   leads : played_on n some c ≡ ok_play before
   makes : Makes event before m parts
+  submitted : m.submitted ≡ before.centre.moment
   next : PlayState
   then : played_on n (some ++ event ∷ []) c ≡ ok_play next
   there : WasStoredIn next m.id
+
+-- it was there before, or is found new
+if_new : (n : ℕ) (events : List WorldEvent) (c : PlayState) (m : MessageRow) (parts : List PartRow) (o : Option MessageRow) → message_at m.id c.centre.rows.messages ≡ o
+    → (message_at m.id c.centre.rows.messages ≡ None → IsFound n events c m parts) → WasStoredIn c m.id ⊎ IsFound n events c m parts
+if_new n events c m parts (Some y) old f = let found : WasStoredIn c m.id ⊎ IsFound n events c m parts = inl (y, old) in found
+if_new n events c m parts None none f = inr (f none)
 
 traced : (n : ℕ) (es : List WorldEvent) (c d : PlayState) (w : World) (m : MessageRow) → PlayRefines c w → AreGood es → AllHandOctets n es c → played_on n es c ≡ ok_play d → message_at m.id d.centre.rows.messages ≡ Some m
     → WasStoredIn c m.id ⊎ IsFound n es c m d.centre.rows.parts
@@ -74,7 +82,8 @@ traced n (e ∷ es) c d w m s good octets q at =
     (λ (there : WasStoredIn f.next m.id). ⊎_elim
     (λ (old : WasStoredIn c m.id). let found : WasStoredIn c m.id ⊎ IsFound n (e ∷ es) c m d.centre.rows.parts = inl old in found)
     (λ (makes : Makes e c m d.centre.rows.parts).
-    let found : WasStoredIn c m.id ⊎ IsFound n (e ∷ es) c m d.centre.rows.parts = inr (record {
+    if_new n (e ∷ es) c m d.centre.rows.parts (message_at m.id c.centre.rows.messages) refl
+    (λ none. record {
       some = [];
       event = e;
       others = es;
@@ -82,10 +91,11 @@ traced n (e ∷ es) c d w m s good octets q at =
       before = c;
       leads = refl;
       makes = makes;
+      submitted = made_then n e es c f.next d w s good.0 octets.0 f.is good.1 f.octets f.leads m at makes there none;
       next = f.next;
       then = ap (λ (r : Result PlayState PlayFault). r >>= λ (y : PlayState). ok_play y) f.is;
       there = there;
-    }) in found)
+    }))
     (event_makes n e es c f.next d w s good.0 octets.0 f.is good.1 f.octets f.leads m at there))
     (λ (x : IsFound (n + 1) es f.next m d.centre.rows.parts).
     let found : WasStoredIn c m.id ⊎ IsFound n (e ∷ es) c m d.centre.rows.parts = inr (record {
@@ -96,6 +106,7 @@ traced n (e ∷ es) c d w m s good octets q at =
       before = x.before;
       leads = ap (λ (r : Result PlayState PlayFault). r >>= λ (y : PlayState). played_on (n + 1) x.some y) f.is ∙ x.leads;
       makes = x.makes;
+      submitted = x.submitted;
       next = x.next;
       then = ap (λ (r : Result PlayState PlayFault). r >>= λ (y : PlayState). played_on (n + 1) (x.some ++ x.event ∷ []) y) f.is ∙ x.then;
       there = x.there;
@@ -131,6 +142,7 @@ origin_is script some others c d is on m i =
       before = f.before;
       leads = cond-true (can_be_played s) (played_on 1 f.some start) unplayed here.can ∙ f.leads;
       makes = f.makes;
+      submitted = f.submitted;
       next = f.next;
       leads_next = cond-true (can_be_played s) (played_on 1 (f.some ++ f.event ∷ []) start) unplayed here.can ∙ f.then;
       there = f.there;

@@ -10,6 +10,7 @@ use Rattle.sms_script.specs.report.ReportText.{report_text}
 use Rattle.sms_world.proofs.headline.ExactPremises.{premises_are}
 use Rattle.sms_world.proofs.headline.GoodScripts.{script_typed}
 use Rattle.sms_world.proofs.headline.HeadlineHolds.{headline_is}
+use Rattle.sms_world.proofs.headline.PlainWhole.{plainly}
 use Rattle.sms_world.specs.declared.running.run.SimError.{SimError}
 use Rattle.sms_world.specs.running.RunEnd.{EndsFor, HasHeadline, Outputs}
 use Rattle.std.proofs.Common.{refl, subst, sym}
@@ -28,6 +29,7 @@ module _ (input text : List ℕ) (writes : List ℕ → Type 0) (was : writes te
     headline = headline_is script.setup script.events report (script_typed input script reads) plays;
     broken = broken;
     premises = premises_are script.setup script.events broken is;
+    plain = plainly script.setup script.events report broken (script_typed input script reads) plays is;
     written = subst (λ (t : List ℕ). writes t) (sym (wrote_same (report_text report broken) text e)) was;
   }
   by_premises script reads report plays (Err fault) is e = absurd cc

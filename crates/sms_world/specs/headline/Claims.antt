@@ -28,6 +28,7 @@ use Rattle.sms_tpdu.specs.declared.carrier.Carrier.TheVariants.{InData}
 use Rattle.sms_tpdu.specs.declared.down.Down.TheVariants.{StatusReport, Deliver}
 use Rattle.sms_tpdu.specs.declared.status_report.StatusReport.{StatusReport as StatusReportOf}
 pub use Rattle.sms_world.specs.headline.PlainReport.{AreOnce, GivenOnce}
+use Rattle.sms_world.specs.headline.ReportClaims.{IsReceiptSent}
 use Rattle.sms_world.specs.headline.SeenFrames.{octets_down}
 use Rattle.sms_centre_rows.specs.declared.reports.delivery.Delivery.{Delivery}
 use Rattle.sms_centre_spec.specs.CentreEvent.{happened}
@@ -35,7 +36,7 @@ use Rattle.sms_centre_spec.specs.Draft.{Core, Draft, core_of}
 use Rattle.sms_centre_spec.specs.declared.event.CentreEvent.{CentreEvent}
 use Rattle.sms_centre_spec.specs.declared.event.CentreEvent.TheVariants.{DeliverAnswered}
 use Rattle.sms_play.specs.Meeting.{AtCentre, meeting_of}
-use Rattle.sms_play.specs.Playing.{receipt_lines, report_of as report_told_of}
+use Rattle.sms_play.specs.Playing.{report_of as report_told_of}
 use Rattle.sms_script.specs.declared.event.WorldEvent.{WorldEvent}
 use Rattle.sms_script.specs.declared.event.WorldEvent.TheVariants.{Restart, Stopped, Whole}
 use Rattle.sms_script.specs.declared.play_fault.PlayFault.{PlayFault}
@@ -121,22 +122,18 @@ abbrev pub happened_then : List Delivery → CentreEvent → Core → Draft
 happened_then [] event c = happened event c
 happened_then (x ∷ accepted) event c = happened_then accepted (DeliverAnswered x.session x.id true) (core_of (happened event c))
 
--- a receipt or status report of that message is listed in a report of these rows
-abbrev pub IsListed : Core → ℕ → Type 0
-IsListed c id = (l : ReceiptRow) × (Among l (receipt_lines c.rows.messages c.rows.reports) × (l.id ≡ id))
-
--- each deliver_sm that the centre sends at the event, whatever was accepted since, is of a receipt that is listed then
-abbrev pub SendsListed : CentreEvent → Core → Type 0
-SendsListed event c =
+-- each deliver_sm that the centre sends at the event, whatever was accepted since, is of a receipt, and goes to its account
+abbrev pub SendsReceipts : CentreEvent → Core → Type 0
+SendsReceipts event c =
     (accepted : List Delivery) (x : Delivery) → Among x (happened_then accepted event c).bindings.deliveries
-    → IsListed (core_of (happened_then accepted event c)) x.id
+    → IsReceiptSent (core_of (happened_then accepted event c)) x
 
 -- An event of a script that the centre meets sends such deliver_sm's, and its applications accept each at once. A stopped event sends
 -- none, nor does a restart.
-abbrev pub DeliversListed : ℕ → WorldEvent → PlayState → Type 0
-DeliversListed number (Whole act) c = (event : CentreEvent) → meeting_of number act c ≡ Ok (AtCentre event) → SendsListed event c.centre
-DeliversListed number (Stopped stop act) c = Unit {0}
-DeliversListed number (Restart side) c = Unit {0}
+abbrev pub DeliversReceipts : ℕ → WorldEvent → PlayState → Type 0
+DeliversReceipts number (Whole act) c = (event : CentreEvent) → meeting_of number act c ≡ Ok (AtCentre event) → SendsReceipts event c.centre
+DeliversReceipts number (Stopped stop act) c = Unit {0}
+DeliversReceipts number (Restart side) c = Unit {0}
 
 -- ---- the premises, as they are decided
 

@@ -9,6 +9,7 @@ use Rattle.sms_script.specs.declared.setup.Setup.{Setup}
 use Rattle.sms_world.specs.headline.Claims.{AllTimely, AreOnce, DeliveredOnce, FinalStays, GivenOnce, HeldDiffer, JoinedWhole, LinesStay, PartsOnce, ReceiptsStay, ReceiptsHaveState, SentSubmitted, ConfirmedAreThere, StatusReportsAreListed, AllFresh}
 use Rattle.sms_world.specs.headline.OneRun.{Runs}
 use Rattle.sms_world.specs.headline.PlainReport.{AreAscending}
+use Rattle.sms_world.specs.headline.ReportClaims.{StatusReportsSay}
 use Rattle.sms_world.specs.headline.SplitClaims.{SplitsJoined, TextsSplit}
 use Rattle.sms_world.specs.headline.Origins.{AreFromEvents, LinesDelivered, ReportedDelivered}
 use Rattle.sms_world_model.specs.World.{empty}
@@ -36,7 +37,8 @@ pub record References (c : PlayState) : Type 0 where
   pub given : GivenOnce c.given
 
 -- A submit_sm that was answered with a number is a message in the table. Each STATUS-REPORT among the frames is of a status report that is
--- listed. No request was answered ESME_RSYSERR. That each deliver_sm is of a receipt that is listed is said of each event of the run.
+-- listed. No request was answered ESME_RSYSERR. Each event of the run says of each deliver_sm that its receipt is listed, and that it goes to
+-- its account.
 pub record Confirmed (report : Report) : Type 0 where
   pub messages : ConfirmedAreThere report
   pub status_reports : StatusReportsAreListed report
@@ -76,6 +78,8 @@ pub record Headline (setup : Setup) (events : List WorldEvent) (report : Report)
   pub origins : AreFromEvents setup events play
   pub texts : TextsSplit setup events play
   pub confirmed : Confirmed report
+  -- each STATUS-REPORT says which message it reports, when that was taken, and when and how it ended; the handset that sent it is told
+  pub told : StatusReportsSay play
   -- while each frame that is handed over is timely
   pub delivered : AllTimely 1 events (beginning setup) → WasDelivered setup events play
   pub sent : AllTimely 1 events (beginning setup) → SentSubmitted play

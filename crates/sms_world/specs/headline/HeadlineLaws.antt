@@ -9,6 +9,7 @@ use Rattle.sms_script.specs.declared.setup.Setup.{Setup}
 use Rattle.sms_world.specs.headline.Claims.{AllTimely, AreOnce, DeliveredOnce, FinalStays, GivenOnce, HasOneLine, HeldDiffer, JoinedOfParts, JoinedOnce, JoinedWhole, LinesStay, PartsOnce, ReceiptsStay, ReceiptsHaveState, SentSubmitted, ReportedOnce, ConfirmedAreThere, StatusReportsAreListed, AllFresh}
 use Rattle.sms_world.specs.headline.Headline.{Headline}
 use Rattle.sms_world.specs.headline.OneRun.{Runs}
+use Rattle.sms_world.specs.headline.ReportClaims.{StatusReportsSay}
 use Rattle.sms_world.specs.headline.SplitClaims.{SplitsAreLong, SplitsJoined, SplitsStay, TextsSplit}
 use Rattle.sms_world.specs.headline.TypedEvents.{AreTyped}
 use Rattle.sms_world.specs.scripts_are_runs.PlayRuns.{happenings}
@@ -141,6 +142,10 @@ ConfirmedLaw = Of (λ c. ConfirmedAreThere (report_of c))
 
 abbrev pub StatusLaw : Type 0
 StatusLaw = Of (λ c. StatusReportsAreListed (report_of c))
+
+-- each STATUS-REPORT says of its message what its row does
+abbrev pub ReportsSayLaw : Type 0
+ReportsSayLaw = Of (λ c. StatusReportsSay c)
 
 -- ---- all of it
 

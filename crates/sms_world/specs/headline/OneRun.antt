@@ -20,7 +20,7 @@ use Rattle.sms_world_model.specs.Premises.{SubmitsFresh, HandsTimely}
 use Rattle.sms_world_model.specs.World.{State, IsRecorded, World}
 use Rattle.sms_play.specs.PlayedEvent.{played}
 use Rattle.sms_play.specs.Premises.{is_fresh_event, is_timely_event}
-use Rattle.sms_world.specs.headline.Claims.{DeliversListed}
+use Rattle.sms_world.specs.headline.Claims.{DeliversReceipts}
 pub use Rattle.sms_world.specs.headline.RequestClaims.{IsAnswered}
 use Rattle.sms_world.specs.headline.RequestClaims.{RequestsAreTrue}
 use Rattle.sms_world.specs.headline.SeenPlay.{SeenWorld}
@@ -113,8 +113,8 @@ pub record IsEventRun (number : ℕ) (e : WorldEvent) (c : PlayState) (w : World
   -- what a query_sm finds is true, and a cancel_sm cancels what it says
   pub requests : RequestsAreTrue number e c next
   pub numbers : EntersNext c w (end w (happened (happening_of e c.centre.moment) steps))
-  -- each deliver_sm that is sent is of a receipt that is listed
-  pub delivers : DeliversListed number e c
+  -- each deliver_sm that is sent is of a receipt that is listed, and goes to the account of its message
+  pub delivers : DeliversReceipts number e c
   -- what is decided on play states is what the world says: each frame that is handed over is timely, and each submission fresh
   pub timely : (is_timely_event e c ≡ true) ↔ IsTimelyThere e c w
   pub fresh : (is_fresh_event c next ≡ true) ↔ AreFreshThere e c w steps

@@ -126,8 +126,8 @@ pub record IsOfHandset (number : ℕ) (before : PlayState) (m : MessageRow) (par
   pub from_handset : frame.direction ≡ Up
   pub submit : SubmitOf
   pub reads : up_at InData (frame_tpdu (cp_at frame.octets)) ≡ Ok (SubmitUp submit)
-  pub message_reference : ℕ
-  pub originator : m.originator ≡ Handset message_reference
+  -- its TP-Message-Reference (9.2.3.6), which a STATUS-REPORT gives back
+  pub originator : m.originator ≡ Handset submit.message_reference
   pub source : m.source.digits ≡ frame.handset
   -- an international number of the telephone numbering plan
   pub address : m.source ≡ own_address m.source.digits
@@ -166,6 +166,8 @@ pub record IsFrom (s : Setup) (events : List WorldEvent) (m : MessageRow) (parts
   pub before : PlayState
   pub leads : play_state_of s some ≡ Ok before
   pub makes : Makes event before m parts
+  -- at the centre's moment then, which its receipt or status report says
+  pub submitted : m.submitted ≡ before.centre.moment
   pub next : PlayState
   pub leads_next : play_state_of s (some ++ event ∷ []) ≡ Ok next
   pub there : (x : MessageRow) × (message_at m.id next.centre.rows.messages ≡ Some x)

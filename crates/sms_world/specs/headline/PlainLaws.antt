@@ -1,5 +1,5 @@
--- Which claims of the plain headline every report has already, proved of the course that it is read off.
-use Rattle.std.specs.Prelude.{◌≡◌, ◌++◌, ◌<◌, ℕ, suc, List, length, Ok, Option, None, true}
+-- The plain headline, and its claims one by one, proved of the course that a report is read off.
+use Rattle.std.specs.Prelude.{◌≡◌, ◌<◌, ℕ, suc, List, length, Ok, Option, true}
 use Rattle.sms_base.specs.Among.{Among}
 use Rattle.sms_base.specs.declared.final_state.FinalState.TheVariants.{Delivered}
 use Rattle.sms_play.specs.PlayState.{PlayState}
@@ -17,10 +17,12 @@ use Rattle.sms_script.specs.declared.report.rows.OutboxRow.{OutboxRow}
 use Rattle.sms_script.specs.declared.report.rows.ReceiptRow.{ReceiptRow}
 use Rattle.sms_script.specs.declared.report.rows.ReportedMessage.{ReportedMessage}
 use Rattle.sms_script.specs.declared.script.Script.{Script}
+use Rattle.sms_script.specs.declared.setup.Setup.{Setup}
 use Rattle.sms_world.specs.headline.Claims.{AllFresh, AllTimely}
 use Rattle.sms_world.specs.headline.HeadlineLaws.{IsScript, LeadsOn, Of}
 use Rattle.sms_world.specs.headline.PlainHeadline.{PlainHeadline, Receipts}
 use Rattle.sms_world.specs.headline.PlainReport.{AnswersAscend, AreAscending, CancelsAreTrue, EachJoined, GivenOnce, IsOfEvent, IsPartOf, IsSent, NamesMessage, NoSystemError, NoneTwice, OnlyCancelsDelete, QueriesAreTrue, Stays, WasDelivered, compared_lines, is_deliver}
+use Rattle.sms_world.specs.headline.PlainReports.{HasPlainHeadline, ReportsOf}
 use Rattle.sms_world.specs.headline.TypedEvents.{AreTyped}
 
 -- each message has one line, in the order of their numbers
@@ -53,7 +55,7 @@ NoErrorLaw = Of (λ c. NoSystemError (report_of c))
 
 -- `after n` is the report that the first n events lead to
 abbrev pub AreReports : Script → (ℕ → Report) → Type 0
-AreReports script after = (some others : List WorldEvent) → script.events ≡ some ++ others → play_of script.setup some ≡ Ok (after (length some))
+AreReports script after = ReportsOf script.setup script.events after
 
 abbrev pub Over : (Script → (ℕ → Report) → Type 0) → Type 0
 Over Claim = (script : Script) (after : ℕ → Report) → AreTyped script.events → AreReports script after → Claim script after
@@ -134,13 +136,22 @@ JoinedPiecesLaw =
 
 -- ---- all of it
 
--- From what is left, that each entry that counts as sent is a message, the whole plain headline follows.
+-- each entry that counts as sent is a message
 abbrev pub AllSent : Script → (ℕ → Report) → Type 0
 AllSent script after =
     (x : OutboxRow) → Among x (after (length script.events)).outboxes → x.state ≡ Sent
     → IsSent script.setup script.events after (after (length script.events)) x
 
-abbrev pub ButSentLaw : Type 0
-ButSentLaw =
+abbrev pub AllSentLaw : Type 0
+AllSentLaw = InTime (λ script after. AllSent script after)
+
+-- The reports of all parts of a script have the plain headline, with what is decided of its premises.
+abbrev pub PlainLaw : Type 0
+PlainLaw =
     (script : Script) (after : ℕ → Report) (broken : Option Broken) → AreTyped script.events → AreReports script after
-    → premises_of script.setup script.events ≡ Ok broken → (broken ≡ None → AllSent script after) → PlainHeadline script.setup script.events after broken
+    → premises_of script.setup script.events ≡ Ok broken → PlainHeadline script.setup script.events after broken
+
+-- So has each report that a script leads to.
+abbrev pub PlainReportLaw : Type 0
+PlainReportLaw =
+    (setup : Setup) (events : List WorldEvent) (report : Report) → AreTyped events → play_of setup events ≡ Ok report → HasPlainHeadline setup events report

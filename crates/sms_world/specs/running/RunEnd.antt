@@ -15,6 +15,7 @@ use Rattle.sms_script.specs.declared.script.Script.{Script}
 use Rattle.sms_script.specs.WholeScript.{script_in}
 use Rattle.sms_world.specs.headline.Headline.{Headline}
 use Rattle.sms_world.specs.headline.DecidedPremises.{Premises}
+use Rattle.sms_world.specs.headline.PlainReports.{IsPlain}
 
 -- the text of a report, with what its events break
 abbrev pub text_of_report : Result Report PlayFault → Result (Option Broken) PlayFault → Result (List ℕ) PlayFault
@@ -71,8 +72,8 @@ Outputs (Err BadSetup) ran = ran ≡ Stopped HasBadSetup
 Outputs (Err NoMemory) ran = Reads ran
 Outputs (Err (Io error)) ran = ⊥
 
--- The input reads as a script, and a report of it has the headline. The text of that report, with the first event that breaks a premise, is
--- written.
+-- The input reads as a script, and a report of it has the headline, in its plain words too. The text of that report, with the first event
+-- that breaks a premise, is written.
 pub record HasHeadline (input : List ℕ) (writes : List ℕ → Type 0) : Type 0 where
   pub script : Script
   pub reads : script_in input ≡ Ok script
@@ -80,4 +81,5 @@ pub record HasHeadline (input : List ℕ) (writes : List ℕ → Type 0) : Type 
   pub headline : Headline script.setup script.events report
   pub broken : Option Broken
   pub premises : Premises script.setup script.events broken
+  pub plain : IsPlain script.setup script.events report broken
   pub written : writes (report_text report broken)

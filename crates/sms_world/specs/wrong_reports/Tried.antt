@@ -19,6 +19,13 @@ GoodLaw = PlainHeadline setup events (reports good) None
 abbrev pub FinalLaw : Type 0
 FinalLaw = ¬ Stays good (ended (Final Expired) [] [])
 
+-- a line that is gone, and a receipt that is gone
+abbrev pub GoneLaw : Type 0
+GoneLaw = ¬ Stays taken nothing
+
+abbrev pub ForgottenLaw : Type 0
+ForgottenLaw = ¬ Stays good (ended (Final Delivered) good.accepted [])
+
 abbrev pub ReceiptLaw : Type 0
 ReceiptLaw = ¬ Receipts receipt_of_expired
 
@@ -43,6 +50,10 @@ TwiceLaw = ¬ Deliveries setup events (reports accepted_twice) accepted_twice
 
 abbrev pub NeverLaw : Type 0
 NeverLaw = ¬ Deliveries setup events (reports never_accepted) never_accepted
+
+-- a receipt says DELIVRD of a message that is EXPIRED and was never accepted
+abbrev pub ToldLaw : Type 0
+ToldLaw = ¬ Deliveries setup events (reports receipt_of_expired) receipt_of_expired
 
 abbrev pub OtherTextLaw : Type 0
 OtherTextLaw = ¬ Deliveries setup events (reports other_text) other_text

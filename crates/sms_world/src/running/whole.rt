@@ -3,6 +3,7 @@ ghost use Rattle.sms_play.specs.Playing.{play_of, premises_of};
 ghost use Rattle.std.specs.Prelude.{IfOk};
 ghost use Rattle.sms_world.specs.headline.DecidedPremises.{Premises};
 ghost use Rattle.sms_world.specs.headline.Headline.{Headline};
+ghost use Rattle.sms_world.specs.headline.PlainReports.{HasPlainHeadline};
 ghost use Rattle.sms_world.specs.headline.WorldPremises.{WorldPremises};
 ghost use Rattle.sms_world.specs.running.Reporting.{FaultsAs, Gives, Reports};
 ghost use Rattle.sms_world.specs.declared.running.ending.Judged.{Judged as JudgedOf};
@@ -43,6 +44,8 @@ pub fn play(
     ensures report { Reports result (play_of setup.now events.now) }
     // It has the headline.
     ensures headline { IfOk result (λ report. Headline setup.now events.now report) }
+    // It has it in plain words, too, over the lines of reports alone: a reader judges those without a store or a world.
+    ensures plain { IfOk result (λ report. HasPlainHeadline setup.now events.now report) }
 {
     are_typed(events);
     match judge(alloc, setup, events) {

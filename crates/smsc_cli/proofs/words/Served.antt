@@ -1,16 +1,18 @@
 -- The values of the options are those of the words.
-use Rattle.std.proofs.Common.{◌≡◌, ℕ, List, [], Bool, Option, Result, Ok, Err, IfErr, codes, map, option_map, ap, sym, subst, ◌∙◌}
+use Rattle.std.proofs.Common.{◌≡◌, ℕ, List, [], Option, Result, Ok, Err, IfErr, codes, map, option_map, ap, sym, subst, ◌∙◌}
 use Rattle.smsc_cli.proofs.words.Asked.{memory_else}
 use Rattle.smsc_cli.specs.declared.words.account.AccountWords.{AccountWords}
 use Rattle.smsc_cli.specs.declared.words.fault.WordsFault.{WordsFault}
 use Rattle.smsc_cli.specs.declared.words.fault.WordsFault.TheVariants.{BadWords, NoMemory}
+use Rattle.smsc_cli.specs.declared.words.detail.LogDetail.{LogDetail}
 use Rattle.smsc_cli.specs.declared.words.server.Options.{Options}
 use Rattle.smsc_cli.specs.declared.words.server.ServerRun.{ServerRun}
 use Rattle.smsc_cli.specs.words.Accounts.{AddsAll}
+use Rattle.smsc_cli.specs.words.LogWords.{SpellsLog}
 use Rattle.smsc_cli.specs.words.LookWords.{IsCountText, MayBe, Wants}
 use Rattle.smsc_cli.specs.words.Numbers.{IsPort, SpellsCount, SpellsFrom}
 use Rattle.smsc_cli.specs.words.Options.{is_given}
-use Rattle.smsc_cli.specs.words.ServerWords.{AreOptionsOf, IsPortText, LogsMessages, SpelledOptions, SpelledServer, SpellsServer}
+use Rattle.smsc_cli.specs.words.ServerWords.{AreOptionsOf, IsPortText, SpelledOptions, SpelledServer, SpellsServer}
 use Rattle.smsc_cli.specs.words.SimWords.{Gives, Spells, SpellsNumber}
 
 pub spelled : (given : List ℕ → Option (List ℕ)) (texts : List (List ℕ)) (o : Options) (run : ServerRun) → AreOptionsOf given texts o → SpelledOptions o run
@@ -28,7 +30,7 @@ spelled given texts o run a h = record {
   ahead = h.ahead ∙ ap is_given a.ahead;
   new_store = h.new_store ∙ ap is_given a.new_store;
   accept_loss = h.accept_loss ∙ ap is_given a.accept_loss;
-  log = subst (λ v. LogsMessages v run.logs_messages) a.log h.log;
+  log = subst (λ v. SpellsLog v run.log) a.log h.log;
 }
 
 pub given_to : (given : List ℕ → Option (List ℕ)) (texts : List (List ℕ)) (o : Options) → AreOptionsOf given texts o
@@ -42,7 +44,7 @@ given_to given texts o a h = (
   subst (λ v. Spells SpellsNumber v) (sym a.centre) h.3,
   subst (λ v. MayBe IsCountText v) (sym a.sessions) h.4,
   subst (λ v. MayBe IsPortText v) (sym a.status) h.5,
-  subst (λ v. (logs : Bool) × LogsMessages v logs) (sym a.log) h.6,
+  subst (λ v. (detail : LogDetail) × SpellsLog v detail) (sym a.log) h.6,
 )
 
 -- ---- what a run's words give

@@ -1,6 +1,7 @@
 -- What the value of an option is to be.
-use Rattle.std.specs.Prelude.{◌≡◌, ℕ, List, bytes_eq, codes, true}
+use Rattle.std.specs.Prelude.{◌≡◌, ℕ, List, true}
 use Rattle.sms_base.specs.declared.address.Address.{Address}
+use Rattle.smsc_cli.specs.words.LogWords.{is_log_word}
 use Rattle.smsc_cli.specs.words.LookWords.{IsCountText, IsMessageText, IsPartyText, IsStateWord}
 use Rattle.smsc_cli.specs.words.MisbehaviourWords.{IsPercentText, IsRefusalText}
 use Rattle.smsc_cli.specs.words.Numbers.{IsSlots}
@@ -19,6 +20,6 @@ IsWanted Seconds text = (moment : ℕ) × IsSeconds text moment
 IsWanted Message text = IsMessageText text
 IsWanted Party text = IsPartyText text
 IsWanted State text = IsStateWord text
-IsWanted Log text = bytes_eq text (codes "messages") ≡ true
+IsWanted Log text = is_log_word text ≡ true
 IsWanted Refusal text = IsRefusalText text
 IsWanted Percent text = IsPercentText text

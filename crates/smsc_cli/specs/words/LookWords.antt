@@ -9,7 +9,7 @@ use Rattle.smsc_cli.specs.declared.centre_table.selecting.Filter.{Filter}
 use Rattle.smsc_cli.specs.declared.words.look.LookOptions.{LookOptions}
 use Rattle.smsc_cli.specs.centre_table.CentreTable.{state_word}
 use Rattle.smsc_cli.specs.words.Numbers.{IsCount, SpellsCount}
-use Rattle.smsc_cli.specs.words.Options.{optional_option}
+use Rattle.smsc_cli.specs.words.Options.{flag_option, is_given, optional_option}
 use Rattle.smsc_cli.specs.words.SimWords.{HasValue, required_option}
 
 abbrev pub parties_command : App
@@ -19,8 +19,8 @@ parties_command =
 
 abbrev pub look_command : App
 look_command =
-    with_rule (with_rule (with_rule parties_command (optional_option (codes "account"))) (optional_option (codes "state")))
-    (optional_option (codes "last"))
+    with_rule (with_rule (with_rule (with_rule parties_command (optional_option (codes "account"))) (optional_option (codes "state")))
+    (optional_option (codes "last"))) (flag_option (codes "stuck"))
 
 -- the value of an option in the matches of the words
 abbrev pub look_value : List ℕ → List (List ℕ) → Option (List ℕ)
@@ -69,7 +69,7 @@ MayBe Is None = Unit {0}
 MayBe Is (Some text) = Is text
 
 -- the values of the options spell whose messages are to be shown, and which of them
-pub record SpelledLook (given : List ℕ → Option (List ℕ)) (path : List ℕ) (filter : Filter) : Type 0 where
+pub record SpelledLook (given : List ℕ → Option (List ℕ)) (path : List ℕ) (filter : Filter) (by_handset : Bool) : Type 0 where
   pub store : given (codes "store") ≡ Some path
   pub id : Wants IsIdText (given (codes "id")) filter.id
   pub from : Wants SpellsDigits (given (codes "from")) filter.from
@@ -78,6 +78,7 @@ pub record SpelledLook (given : List ℕ → Option (List ℕ)) (path : List ℕ
   pub state : given (codes "state") ≡ option_map (λ s. s.now) filter.state
   pub known : MayBe IsStateWord (given (codes "state"))
   pub last : Wants SpellsCount (given (codes "last")) filter.last
+  pub stuck : by_handset ≡ is_given (given (codes "stuck"))
 
 -- so where they are these
 pub record SpelledFilter (o : LookOptions) (filter : Filter) : Type 0 where
@@ -115,3 +116,4 @@ pub record AreLookOptions (given : List ℕ → Option (List ℕ)) (o : LookOpti
   pub account : option_map (λ s. s.now) o.account ≡ given (codes "account")
   pub state : option_map (λ s. s.now) o.state ≡ given (codes "state")
   pub last : option_map (λ s. s.now) o.last ≡ given (codes "last")
+  pub stuck : option_map (λ s. s.now) o.stuck ≡ given (codes "stuck")

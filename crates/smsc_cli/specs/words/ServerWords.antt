@@ -4,10 +4,12 @@ use Rattle.clap.specs.Words.{App, Rule, all_of, first_of, matches_of, new_app, n
 use Rattle.clap.specs.declared.builder.action.ArgAction.TheVariants.{Append, Set}
 use Rattle.smsc_cli.specs.words.Accounts.{AddsAll}
 use Rattle.smsc_cli.specs.words.SimWords.{Gives, HasValue, Spells, SpellsNumber, required_option}
+use Rattle.smsc_cli.specs.words.LogWords.{SpellsLog}
 use Rattle.smsc_cli.specs.words.LookWords.{AskForLook, IsCountText, MayBe, SpelledLook, Wants, look_value}
 use Rattle.smsc_cli.specs.words.Numbers.{IsCount, IsPort, SpellsCount, SpellsFrom}
 use Rattle.smsc_cli.specs.words.Options.{flag_option, is_given, optional_option}
 use Rattle.smsc_cli.specs.declared.words.account.AccountWords.{AccountWords}
+use Rattle.smsc_cli.specs.declared.words.detail.LogDetail.{LogDetail}
 use Rattle.smsc_cli.specs.declared.words.server.Options.{Options}
 use Rattle.smsc_cli.specs.declared.words.server.ServerRun.{ServerRun}
 use Rattle.smsc_cli.specs.declared.words.server.ServerWords.{ServerWords}
@@ -79,11 +81,6 @@ listed (Some values) = values
 abbrev pub account_texts : List (List ℕ) → List (List ℕ)
 account_texts words = listed (all_of (codes "account") (matches_of server_command words))
 
--- `messages` is the one word of its option, and says that the log has lines of messages
-abbrev pub LogsMessages : Option (List ℕ) → Bool → Type 0
-LogsMessages None logs = logs ≡ false
-LogsMessages (Some word) logs = (bytes_eq word (codes "messages") ≡ true) × (logs ≡ true)
-
 -- the values of the options spell what a run is to do
 pub record SpelledServer (given : List ℕ → Option (List ℕ)) (run : ServerRun) : Type 0 where
   pub store : given (codes "store") ≡ Some run.store.now
@@ -98,7 +95,7 @@ pub record SpelledServer (given : List ℕ → Option (List ℕ)) (run : ServerR
   pub ahead : run.is_ahead ≡ is_given (given (codes "ahead"))
   pub new_store : run.begins_anew ≡ is_given (given (codes "new-store"))
   pub accept_loss : run.accepts_loss ≡ is_given (given (codes "accept-loss"))
-  pub log : LogsMessages (given (codes "log")) run.logs_messages
+  pub log : SpellsLog (given (codes "log")) run.log
 
 -- so where they are these
 pub record SpelledOptions (o : Options) (run : ServerRun) : Type 0 where
@@ -114,7 +111,7 @@ pub record SpelledOptions (o : Options) (run : ServerRun) : Type 0 where
   pub ahead : run.is_ahead ≡ is_given (option_map (λ s. s.now) o.ahead)
   pub new_store : run.begins_anew ≡ is_given (option_map (λ s. s.now) o.new_store)
   pub accept_loss : run.accepts_loss ≡ is_given (option_map (λ s. s.now) o.accept_loss)
-  pub log : LogsMessages (option_map (λ s. s.now) o.log) run.logs_messages
+  pub log : SpellsLog (option_map (λ s. s.now) o.log) run.log
 
 abbrev pub IsPortText : List ℕ → Type 0
 IsPortText text = (port : ℕ) × IsPort text port
@@ -123,7 +120,7 @@ IsPortText text = (port : ℕ) × IsPort text port
 abbrev pub SpellsServer : Option (List ℕ) → Option (List ℕ) → Option (List ℕ) → Option (List ℕ) → Option (List ℕ) → Option (List ℕ) → Option (List ℕ) → Type 0
 SpellsServer given_store given_smpp given_links given_centre given_sessions given_status given_log =
     HasValue given_store × Spells IsPort given_smpp × Spells IsPort given_links
-    × Spells SpellsNumber given_centre × MayBe IsCountText given_sessions × MayBe IsPortText given_status × ((logs : Bool) × LogsMessages given_log logs)
+    × Spells SpellsNumber given_centre × MayBe IsCountText given_sessions × MayBe IsPortText given_status × ((detail : LogDetail) × SpellsLog given_log detail)
 
 -- clap takes the words, their options spell a run, and each word that no option takes adds an account
 pub record AskForServer (words : List (List ℕ)) : Type 0 where
@@ -154,21 +151,21 @@ pub record AreOptionsOf (given : List ℕ → Option (List ℕ)) (texts : List (
 -- they ask for a run, with these accounts and no others
 abbrev pub AsksToServe : List (List ℕ) → ServerWords → Type 0
 AsksToServe words (Run run accounts) = SpelledServer (λ name. server_value name words) run × AddsAll (account_texts words) [] accounts.items
-AsksToServe words (Show store filter) = ⊥
+AsksToServe words (Show store filter by_handset) = ⊥
 AsksToServe words (Save store to) = ⊥
 AsksToServe words (Stop control wait) = ⊥
 AsksToServe words (End control seat) = ⊥
 
 abbrev pub AsksToLook : List (List ℕ) → ServerWords → Type 0
 AsksToLook words (Run run accounts) = ⊥
-AsksToLook words (Show store filter) = SpelledLook (λ name. look_value name words) store.now filter
+AsksToLook words (Show store filter by_handset) = SpelledLook (λ name. look_value name words) store.now filter by_handset
 AsksToLook words (Save store to) = ⊥
 AsksToLook words (Stop control wait) = ⊥
 AsksToLook words (End control seat) = ⊥
 
 abbrev pub AsksToSave : List (List ℕ) → ServerWords → Type 0
 AsksToSave words (Run run accounts) = ⊥
-AsksToSave words (Show store filter) = ⊥
+AsksToSave words (Show store filter by_handset) = ⊥
 AsksToSave words (Save store to) = (save_value (codes "store") words ≡ Some store.now) × (save_value (codes "to") words ≡ Some to.now)
 AsksToSave words (Stop control wait) = ⊥
 AsksToSave words (End control seat) = ⊥
@@ -183,7 +180,7 @@ pub record AskForSave (words : List (List ℕ)) : Type 0 where
 
 abbrev pub AsksToStop : List (List ℕ) → ServerWords → Type 0
 AsksToStop words (Run run accounts) = ⊥
-AsksToStop words (Show store filter) = ⊥
+AsksToStop words (Show store filter by_handset) = ⊥
 AsksToStop words (Save store to) = ⊥
 AsksToStop words (Stop control wait) = (stop_value (codes "control") words ≡ Some control.now) × Wants SpellsCount (stop_value (codes "wait") words) wait
 AsksToStop words (End control seat) = ⊥
@@ -199,7 +196,7 @@ pub record AskForStop (words : List (List ℕ)) : Type 0 where
 
 abbrev pub AsksToEnd : List (List ℕ) → ServerWords → Type 0
 AsksToEnd words (Run run accounts) = ⊥
-AsksToEnd words (Show store filter) = ⊥
+AsksToEnd words (Show store filter by_handset) = ⊥
 AsksToEnd words (Save store to) = ⊥
 AsksToEnd words (Stop control wait) = ⊥
 AsksToEnd words (End control seat) = (end_value (codes "control") words ≡ Some control.now) × Gives SpellsCount (end_value (codes "seat") words) seat

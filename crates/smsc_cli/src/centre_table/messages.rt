@@ -58,7 +58,8 @@ fn put_time(out: &mut Octets, moment: Moment) -> Result<(), AllocError>
     out.append(&second_digits(moment))
 }
 
-fn put_moment(out: &mut Octets, moment: Moment) -> Result<(), AllocError>
+/// A moment at UTC, YYMMDDhhmmss, and a space.
+pub(crate) fn put_moment(out: &mut Octets, moment: Moment) -> Result<(), AllocError>
     ensures { OnOk result (out.new ≡ out.old ++ (time_of moment ++ codes " ")) }
 {
     put_time(out, moment)?;
@@ -73,7 +74,8 @@ fn put_moments(out: &mut Octets, message: &MessageRow) -> Result<(), AllocError>
     put_moment(out, message.done.unwrap_or(message.submitted))
 }
 
-fn put_due(
+/// When a message is tried next, or that it is not.
+pub(crate) fn put_due(
     out: &mut Octets,
     state: Option<FinalState>,
     due: Option<Moment>,
@@ -95,7 +97,8 @@ fn put_tries(out: &mut Octets, state: Option<FinalState>, own: &[PartRow]) -> Re
     out.append(b"\n")
 }
 
-fn own_parts(parts: &Table<PartRow>, id: MessageId) -> &[PartRow]
+/// The parts of the message of this number.
+pub fn own_parts(parts: &Table<PartRow>, id: MessageId) -> &[PartRow]
     ensures { result.now ≡ own_parts id parts.now.rows }
 {
     let id = id.number();

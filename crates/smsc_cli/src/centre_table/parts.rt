@@ -6,7 +6,7 @@ use sms_base::Moment;
 use sms_centre_rows::messages::PartRow;
 
 /// How often the part failed that failed most often.
-pub(crate) fn attempts_in(parts: &[PartRow]) -> u8
+pub fn attempts_in(parts: &[PartRow]) -> u8
     ensures { result ≡ attempts_of parts.now }
 {
     let mut most = 0;
@@ -36,7 +36,7 @@ fn with_part(first: Option<Moment>, part: &PartRow) -> Option<Moment>
 }
 
 /// When the first of the parts that wait is offered next.
-pub(crate) fn due_in(parts: &[PartRow]) -> Option<Moment>
+pub fn due_in(parts: &[PartRow]) -> Option<Moment>
     ensures { result ≡ due_of parts.now }
 {
     let mut first = None;

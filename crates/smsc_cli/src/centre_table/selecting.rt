@@ -110,7 +110,7 @@ fn is_selected(filter: &Filter<'_>, message: &MessageRow) -> bool
 }
 
 /// The messages that are as wanted.
-pub(crate) fn selected(filter: &Filter<'_>, messages: Vec<MessageRow>) -> Vec<MessageRow>
+pub fn selected(filter: &Filter<'_>, messages: Vec<MessageRow>) -> Vec<MessageRow>
     ensures { result.items ≡ filter_list (λ m. is_selected_by filter.now m) messages.items }
 {
     let mut messages = messages;
@@ -119,7 +119,7 @@ pub(crate) fn selected(filter: &Filter<'_>, messages: Vec<MessageRow>) -> Vec<Me
 }
 
 /// The last so many messages; all of them, where no number is given.
-pub(crate) fn last_of(messages: &[MessageRow], last: Option<u32>) -> &[MessageRow]
+pub fn last_of(messages: &[MessageRow], last: Option<u32>) -> &[MessageRow]
     ensures { result.now ≡ last_among last messages.now }
 {
     match last {

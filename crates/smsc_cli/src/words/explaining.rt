@@ -4,6 +4,7 @@ ghost use Rattle.clap.specs.Words.{first_value, found_of};
 ghost use Rattle.smsc_cli.specs.words.Explaining.{IsWanted};
 ghost use Rattle.smsc_cli.specs.words.LookWords.{MayBe};
 
+use crate::words::detail::is_log_word;
 use crate::words::look::{is_message, is_party, is_state_word};
 use crate::words::misbehaviour::{percent_of, refusal_of};
 use crate::words::number::{address_of, count_of, port_of, slots_of};
@@ -49,7 +50,7 @@ impl Wanted {
             Wanted::Message => "the number of a message has ten digits, not all of them 0",
             Wanted::Party => "a number of 1 to 20 digits or a name of 1 to 11 characters is wanted",
             Wanted::State => "ENROUTE, DELIVRD, EXPIRED, DELETED or UNDELIV is wanted",
-            Wanted::Log => "messages is wanted",
+            Wanted::Log => "messages or access is wanted",
             Wanted::Refusal =>
                 "a cause of 0 to 127 is wanted, perhaps with a colon and a count behind it",
             Wanted::Percent => "0 to 100 is wanted",
@@ -69,7 +70,7 @@ impl Wanted {
             Wanted::Message => is_message(text),
             Wanted::Party => is_party(text),
             Wanted::State => is_state_word(text),
-            Wanted::Log => text == "messages",
+            Wanted::Log => is_log_word(text),
             Wanted::Refusal => refusal_of(text).is_some(),
             Wanted::Percent => percent_of(text).is_some(),
         }

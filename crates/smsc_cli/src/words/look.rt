@@ -4,12 +4,13 @@ ghost use Rattle.clap.specs.Words.{app_of, first_value, found_of, kind_of, takes
 ghost use Rattle.clap.specs.declared.error.kind.ErrorKind.TheVariants.{OutOfMemory};
 ghost use Rattle.sms_base.specs.MessageId.{IsIdText};
 ghost use Rattle.smsc_cli.specs.declared.words.fault.WordsFault.TheVariants.{BadWords, NoMemory};
+ghost use Rattle.smsc_cli.specs.words.Options.{is_given};
 ghost use Rattle.smsc_cli.specs.words.LookWords.{AreLookOptions, AskForLook, IsMessageText, IsNameText, IsNumberText, IsPartyText, IsStateWord, MayBe, SpelledFilter, SpelledLook, SpellsDigits, SpellsFilter, SpellsLook, Wants, is_state_word, look_command, look_value, parties_command};
 
 use crate::centre_table::Filter;
 use crate::words::fault::{WordsFault, fault_of};
 use crate::words::number::optional_count;
-use crate::words::option::{optional, required, with_three};
+use crate::words::option::{flag, is_set, optional, required, with_three};
 use clap::{ArgMatches, Command, Error};
 use sms_base::{Address, Digits, MessageId};
 use std::alloc::{AllocError, Global};
@@ -24,6 +25,7 @@ struct LookOptions<'a> {
     account: Option<&'a str>,
     state: Option<&'a str>,
     last: Option<&'a str>,
+    stuck: Option<&'a str>,
 }
 
 // The first options of a look.
@@ -48,7 +50,8 @@ pub(crate) fn look_command<'a>(alloc: Global) -> Result<Command<'a>, AllocError>
         optional(alloc, "account"),
         optional(alloc, "state"),
         optional(alloc, "last"),
-    )
+    )?
+    .arg(flag(alloc, "stuck"))
 }
 
 // The values of the options in the matches of the words.
@@ -63,6 +66,7 @@ fn options_of<'a>(matches: &ArgMatches<'a>) -> LookOptions<'a>
         account: matches.get_str("account"),
         state: matches.get_str("state"),
         last: matches.get_str("last"),
+        stuck: matches.get_str("stuck"),
     }
 }
 
@@ -191,27 +195,29 @@ fn filter_of<'a>(options: &LookOptions<'a>) -> Option<Filter<'a>>
     })
 }
 
-// The store and the filter of options with these values.
-fn look_of<'a>(options: &LookOptions<'a>) -> Result<(&'a str, Filter<'a>), WordsFault>
+// The store and the filter of options with these values, and whether what waits is shown by handset.
+fn look_of<'a>(options: &LookOptions<'a>) -> Result<(&'a str, Filter<'a>, bool), WordsFault>
     ensures store { IfOk result (λ r. option_map (λ s. s.now) options.entry.now.store ≡ Some r.0.now) }
     ensures filter { IfOk result (λ r. SpelledFilter options.entry.now r.1) }
+    ensures stuck { IfOk result (λ r. r.2 ≡ is_given (option_map (λ s. s.now) options.entry.now.stuck)) }
     ensures bad { IfErr result (λ fault. (fault ≡ BadWords) × (¬ SpellsLook (option_map (λ s. s.now) options.entry.now.store)
         (option_map (λ s. s.now) options.entry.now.id) (option_map (λ s. s.now) options.entry.now.from)
         (option_map (λ s. s.now) options.entry.now.to) (option_map (λ s. s.now) options.entry.now.state) (option_map (λ s. s.now) options.entry.now.last))) }
 {
     match (options.store, filter_of(options)) {
-        (Some(store), Some(filter)) => Ok((store, filter)),
+        (Some(store), Some(filter)) => Ok((store, filter, is_set(options.stuck))),
         _ => Err(WordsFault::BadWords),
     }
 }
 
-/// The store that the words behind the program's name ask to look at, and which of its messages.
+/// The store that the words behind the program's name ask to look at, which of its messages, and whether what waits of them
+/// is shown by handset.
 #[tactic(auto, using(crate::proofs::words::Looked::looked, crate::proofs::words::Looked::given_to))]
 pub(crate) fn look_words<'a>(
     alloc: Global,
     words: &'a [&'a str],
-) -> Result<(&'a str, Filter<'a>), WordsFault>
-    ensures asked { IfOk result (λ r. SpelledLook (λ name. look_value name (map (λ w. w.now) words.entry.now)) r.0.now r.1) }
+) -> Result<(&'a str, Filter<'a>, bool), WordsFault>
+    ensures asked { IfOk result (λ r. SpelledLook (λ name. look_value name (map (λ w. w.now) words.entry.now)) r.0.now r.1 r.2) }
     ensures good { AskForLook (map (λ w. w.now) words.entry.now) → IfErr result (λ fault. fault ≡ NoMemory) }
 {
     match look_options(alloc, words) {

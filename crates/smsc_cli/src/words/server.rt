@@ -1,5 +1,5 @@
 //! The words of the server.
-ghost use Rattle.std.specs.Prelude.{◌≡◌, ◌<◌, [], Bool, length, List, Some, true, false, map, drop, option_map, slice_get, codes, IfErr, IfNone, IfSome, IfOk};
+ghost use Rattle.std.specs.Prelude.{◌≡◌, ◌<◌, [], length, List, Some, true, false, map, drop, option_map, slice_get, codes, IfErr, IfNone, IfSome, IfOk};
 ghost use Rattle.clap.specs.Words.{app_of, first_value, found_of, kind_of, matched_of, raw_values, rule_of, takes};
 ghost use Rattle.clap.specs.declared.error.kind.ErrorKind.TheVariants.{OutOfMemory};
 ghost use Rattle.smsc_cli.specs.declared.words.account.AccountWords.{AccountWords as AccountWordsOf};
@@ -8,12 +8,13 @@ ghost use Rattle.smsc_cli.specs.words.Accounts.{AddsAll};
 ghost use Rattle.smsc_cli.specs.words.SimWords.{Gives, Spells};
 ghost use Rattle.smsc_cli.specs.words.LookWords.{AskForLook, MayBe, Wants};
 ghost use Rattle.smsc_cli.specs.words.Numbers.{IsCount, SpellsCount, SpellsFrom};
-ghost use Rattle.smsc_cli.specs.words.ServerWords.{AreOptionsOf, AskForEnd, AskForSave, AskForServer, AskForStop, AskServer, AsksOfServer, AsksToEnd, AsksToLook, AsksToSave, AsksToServe, AsksToStop, IsPortText, LogsMessages, SpelledOptions, SpelledServer, SpellsEnd, SpellsServer, SpellsStop};
+ghost use Rattle.smsc_cli.specs.words.ServerWords.{AreOptionsOf, AskForEnd, AskForSave, AskForServer, AskForStop, AskServer, AsksOfServer, AsksToEnd, AsksToLook, AsksToSave, AsksToServe, AsksToStop, IsPortText, SpelledOptions, SpelledServer, SpellsEnd, SpellsServer, SpellsStop};
 ghost use Rattle.smsc_cli.specs.words.ServerWords.{account_texts, end_command, end_value, is_word, listed, listed_words, more_command, needed_command, paths_command, port_command, save_command, save_value, seat_word, server_command, server_value, store_command, stop_command, stop_value};
 
 use crate::centre_table::Filter;
 use crate::words::account::AccountWords;
 use crate::words::accounts::accounts_of;
+use crate::words::detail::{LogDetail, detail_of};
 use crate::words::fault::{WordsFault, fault_of};
 use crate::words::look::look_words;
 use crate::words::number::{address_of, count_of, optional_count, port_of};
@@ -49,15 +50,15 @@ pub struct ServerRun<'a> {
     pub begins_anew: bool,
     /// What damage took from the store is given up.
     pub accepts_loss: bool,
-    /// The log has a line as a message is accepted, and one as it ends.
-    pub logs_messages: bool,
+    /// What the log has besides.
+    pub log: LogDetail,
 }
 
 /// What the words ask of the server.
 #[derive(Drop)]
 pub enum ServerWords<'a> {
     /// `--store FILE --smpp PORT --links PORT --centre NUMBER`, and as wanted `--sessions N`, `--accounts FILE`,
-    /// `--link-secrets FILE`, `--control PATH`, `--status PORT`, `--ahead`, `--log messages`, `--new-store`,
+    /// `--link-secrets FILE`, `--control PATH`, `--status PORT`, `--ahead`, `--log WORD`, `--new-store`,
     /// `--accept-loss` and accounts.
     Run(ServerRun<'a>, Vec<AccountWords<'a>>),
     /// `show --store FILE`, perhaps with options of a filter.
@@ -66,6 +67,8 @@ pub enum ServerWords<'a> {
         store: &'a str,
         /// Which messages.
         filter: Filter<'a>,
+        /// What waits of them is shown, by handset.
+        by_handset: bool,
     },
     /// `save --store FILE --to FILE`.
     Save {
@@ -271,17 +274,6 @@ fn run_options<'a>(alloc: Global, words: &'a [&'a str]) -> Result<Options<'a>, E
     Ok(options)
 }
 
-// Whether the log has lines of messages; none where the word is another one.
-fn logs_of(word: Option<&str>) -> Option<bool>
-    ensures found { IfSome result (λ logs. LogsMessages (option_map (λ s. s.now) word.entry) logs) }
-    ensures none { IfNone result ((logs : Bool) → ¬ LogsMessages (option_map (λ s. s.now) word.entry) logs) }
-{
-    match word {
-        Some(word) => { if word == "messages" { Some(true) } else { None } }
-        None => Some(false),
-    }
-}
-
 // The port of the status page, if the words ask for one; none where the word is no port.
 fn status_of(word: Option<&str>) -> Option<Option<u16>>
     ensures found { IfSome result (λ port. Wants (SpellsFrom 1) (option_map (λ s. s.now) word.entry) port) }
@@ -306,7 +298,7 @@ fn run_of<'a>(options: &Options<'a>) -> Option<ServerRun<'a>>
     let centre = address_of(options.centre?)?;
     let sessions = optional_count(options.sessions)?;
     let status = status_of(options.status)?;
-    let logs_messages = logs_of(options.log)?;
+    let log = detail_of(options.log)?;
     let is_ahead = is_set(options.ahead);
     let begins_anew = is_set(options.new_store);
     let accepts_loss = is_set(options.accept_loss);
@@ -323,7 +315,7 @@ fn run_of<'a>(options: &Options<'a>) -> Option<ServerRun<'a>>
         is_ahead,
         begins_anew,
         accepts_loss,
-        logs_messages,
+        log,
     })
 }
 
@@ -480,7 +472,11 @@ fn show_asked<'a>(alloc: Global, words: &'a [&'a str]) -> Result<ServerWords<'a>
     ensures good { AskForLook (map (λ w. w.now) words.entry.now) → IfErr result (λ fault. fault ≡ NoMemory) }
 {
     match look_words(alloc, words) {
-        Ok((store, filter)) => Ok(ServerWords::Show { store, filter }),
+        Ok((store, filter, by_handset)) => Ok(ServerWords::Show {
+            store,
+            filter,
+            by_handset,
+        }),
         Err(fault) => Err(fault),
     }
 }
@@ -499,12 +495,12 @@ pub(crate) fn is_second(words: &[&str], wanted: &str) -> bool
 /// What the words, the program's own name first, ask of the server.
 ///
 /// - `--store FILE --smpp PORT --links PORT --centre NUMBER` in any order. Optional are `--sessions N`, `--accounts FILE`,
-///   `--control PATH`, `--status PORT`, `--ahead`, `--log messages`, `--new-store`, `--accept-loss` and up to 32 words
+///   `--control PATH`, `--status PORT`, `--ahead`, `--log WORD`, `--new-store`, `--accept-loss` and up to 32 words
 ///   `NAME:PASSWORD:NUMBER` or `NAME:PASSWORD:NUMBER:SESSIONS`, no two of one name
-/// - `show --store FILE`, perhaps with `--id ID`, `--from WHO`, `--to NUMBER`, `--account NAME`, `--state STATE` and `--last N`
+/// - `show --store FILE`, perhaps with `--id ID`, `--from WHO`, `--to NUMBER`, `--account NAME`, `--state STATE`, `--last N` and `--stuck`
 /// - `save --store FILE --to FILE`, `stop --control PATH`, perhaps with `--wait SECONDS`, `end --control PATH SEAT`
 ///
-/// A FILE or PATH is a path, a PORT 1 to 65535, and a NUMBER 1 to 20 digits 0 to 9. N and SEAT are 0 to 4294967295. The
+/// The WORD of the log is `messages` or `access`. A FILE or PATH is a path, a PORT 1 to 65535, and a NUMBER 1 to 20 digits 0 to 9. N and SEAT are 0 to 4294967295. The
 /// first two colons of an account end its NAME, 1 to 15 ASCII characters, and its PASSWORD, up to 8. SESSIONS is 1 to 32. All else is bad
 /// words.
 /// Words that ask for something are refused for want of memory alone.

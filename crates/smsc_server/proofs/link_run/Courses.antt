@@ -5,13 +5,12 @@ use Rattle.std.proofs.Math.Seq.{drop-cons}
 use Rattle.std.specs.Prelude.{OnOk}
 use Rattle.std.specs.Io.KnownBytes.{Appends, Consumes}
 use Rattle.sms_link.specs.framing.Framing.{framed, joined}
-use Rattle.sms_handset_draft.specs.Draft.{Core, Draft}
+use Rattle.sms_handset_draft.specs.Draft.{Core}
 use Rattle.sms_handset.specs.declared.event.HandsetEvent.{HandsetEvent}
-use Rattle.sms_handset.specs.declared.event.HandsetEvent.TheVariants.{Frame, Tick, Write, Delete, Discard}
+use Rattle.sms_handset.specs.declared.event.HandsetEvent.TheVariants.{Tick}
 use Rattle.sms_script.specs.declared.owner.act.OwnersAct.{OwnersAct}
-use Rattle.sms_script.specs.declared.owner.act.OwnersAct.TheVariants.{Write as AskWrite, Delete as AskDelete, Discard as AskDiscard}
-use Rattle.smsc_server.specs.link_run.Asking.{event_of}
-use Rattle.smsc_server.specs.link_run.Run.{Follows, Meets, ReadAs, Sends, received, untimed}
+use Rattle.smsc_server.specs.link_run.Run.{Follows, Meets, Sends, received}
+use Rattle.smsc_server.specs.link_run.Turns.{AreTimed, Attended, Cut, Turn, events_in, octets_in}
 
 -- ---- known bytes
 
@@ -37,14 +36,6 @@ consumes_none (Some a) = refl
 
 -- ---- events
 
-untimed_join : (one other : List HandsetEvent) → untimed (one ++ other) ≡ untimed one ++ untimed other
-untimed_join [] other = refl
-untimed_join (Tick now ∷ one) other = untimed_join one other
-untimed_join (Frame octets tag ∷ one) other = ap (λ (l : List HandsetEvent). Frame octets tag ∷ l) (untimed_join one other)
-untimed_join (Write text to report ∷ one) other = ap (λ (l : List HandsetEvent). Write text to report ∷ l) (untimed_join one other)
-untimed_join (Delete entry ∷ one) other = ap (λ (l : List HandsetEvent). Delete entry ∷ l) (untimed_join one other)
-untimed_join (Discard entry ∷ one) other = ap (λ (l : List HandsetEvent). Discard entry ∷ l) (untimed_join one other)
-
 goes_join : (one other : List HandsetEvent) (a b c : Core) (o p : List ℕ) → Follows one a b o → Follows other b c p → Follows (one ++ other) a c (o ++ p)
 goes_join [] other a b c o p g h = subst (λ (x : Core). Follows other x c (o ++ p)) g.0 (subst (λ (l : List ℕ). Follows other b c (l ++ p)) (sym g.1) h)
 goes_join (e ∷ one) other a b c o p g h =
@@ -53,27 +44,20 @@ goes_join (e ∷ one) other a b c o p g h =
 -- ---- parts of a run
 
 pub meets_none : (a : Core) (h : Option (List ℕ)) → Meets [] a a h h
-meets_none a h = ([], [], (refl, (refl, refl), appends_none h))
+meets_none a h = ([], ((refl, refl), appends_none h))
 
 pub meets_join : (one other : List HandsetEvent) (a b c : Core) (f g h : Option (List ℕ)) → Meets one a b f g → Meets other b c g h → Meets (one ++ other) a c f h
-meets_join one other a b c f g h p q = (
-  p.0 ++ q.0,
-  p.1 ++ q.1,
-  (
-    untimed_join p.0 q.0 ∙ (ap (λ (l : List HandsetEvent). l ++ untimed q.0) p.2.0 ∙ ap (λ (l : List HandsetEvent). one ++ l) q.2.0),
-    goes_join p.0 q.0 a b c p.1 q.1 p.2.1 q.2.1,
-    appends_join f g h p.1 q.1 p.2.2 q.2.2,
-  ),
-)
+meets_join one other a b c f g h p q =
+    (p.0 ++ q.0, (goes_join one other a b c p.0 q.0 p.1.0 q.1.0, appends_join f g h p.0 q.0 p.1.1 q.1.1))
 
-pub meets_one : (e : HandsetEvent) (a b : Core) (f g : Option (List ℕ)) (out : List ℕ) → Sends e a b out → Appends f g out → Meets (untimed (e ∷ [])) a b f g
-meets_one e a b f g out s p = (e ∷ [], out, (refl, (b, out, [], (s, (refl, refl), sym (append-nil out))), p))
+pub meets_one : (e : HandsetEvent) (a b : Core) (f g : Option (List ℕ)) (out : List ℕ) → Sends e a b out → Appends f g out → Meets (e ∷ []) a b f g
+meets_one e a b f g out s p = (out, ((b, out, [], (s, (refl, refl), sym (append-nil out))), p))
 
 map_arrived : (one other : List (List ℕ)) → map received (one ++ other) ≡ map received one ++ map received other
 map_arrived [] other = refl
 map_arrived (x ∷ one) other = ap (λ (l : List HandsetEvent). received x ∷ l) (map_arrived one other)
 
-pub joined_join : (one other : List (List ℕ)) → joined (one ++ other) ≡ joined one ++ joined other
+joined_join : (one other : List (List ℕ)) → joined (one ++ other) ≡ joined one ++ joined other
 joined_join [] other = refl
 joined_join (x ∷ one) other = ap (λ (l : List ℕ). framed x ++ l) (joined_join one other) ∙ sym (append_assoc (framed x) (joined one) (joined other))
 
@@ -90,11 +74,47 @@ cut_join start middle last one other p q =
 pub cut_one : (middle frame last : List ℕ) → middle ≡ framed frame ++ last → middle ≡ joined (frame ∷ []) ++ last
 cut_one middle frame last e = e ∙ ap (λ (l : List ℕ). l ++ last) (sym (append-nil (framed frame)))
 
--- what an owner asks is no tick
-pub asked_untimed : (act : OwnersAct) → untimed (event_of act ∷ []) ≡ event_of act ∷ []
-asked_untimed (AskWrite to report text) = refl
-asked_untimed (AskDelete entry) = refl
-asked_untimed (AskDiscard entry) = refl
+-- ---- turns
+
+module _ (reads : ℕ → Type 0) where
+  -- one more that was asked
+  pub timed_more : (asked timed : List HandsetEvent) (now : ℕ) (e : HandsetEvent) → AreTimed reads asked timed → reads now
+      → AreTimed reads (asked ++ e ∷ []) (timed ++ Tick now ∷ e ∷ [])
+  timed_more [] timed now e h shown = (now, shown, [], ap (λ (l : List HandsetEvent). l ++ Tick now ∷ e ∷ []) h, refl)
+  timed_more (first ∷ asked) timed now e h shown =
+      (h.0, h.1, h.2 ++ Tick now ∷ e ∷ [], ap (λ (l : List HandsetEvent). l ++ Tick now ∷ e ∷ []) h.3, timed_more asked h.2 now e h.4 shown)
+
+  -- one more turn
+  pub events_more : (turns : List (Turn reads)) (turn : Turn reads)
+      → events_in reads (turns ++ turn ∷ []) ≡ events_in reads turns ++ Tick turn.now ∷ map received turn.frames
+  events_more [] turn = ap (λ (l : List HandsetEvent). Tick turn.now ∷ l) (append-nil (map received turn.frames))
+  events_more (first ∷ turns) turn =
+      ap (λ (l : List HandsetEvent). Tick first.now ∷ (map received first.frames ++ l)) (events_more turns turn)
+      ∙ ap (λ (l : List HandsetEvent). Tick first.now ∷ l) (sym (append_assoc (map received first.frames) (events_in reads turns) (Tick turn.now ∷ map received turn.frames)))
+
+  pub octets_more : (turns : List (Turn reads)) (turn : Turn reads) → octets_in reads (turns ++ turn ∷ []) ≡ octets_in reads turns ++ turn.octets
+  octets_more [] turn = append-nil turn.octets
+  octets_more (first ∷ turns) turn =
+      ap (λ (l : List ℕ). first.octets ++ l) (octets_more turns turn) ∙ sym (append_assoc first.octets (octets_in reads turns) turn.octets)
+
+  pub cut_more : (left : List ℕ) (turns : List (Turn reads)) (middle : List ℕ) (turn : Turn reads) (rest : List ℕ) → Cut reads left turns middle
+      → middle ++ turn.octets ≡ joined turn.frames ++ rest → Cut reads left (turns ++ turn ∷ []) rest
+  cut_more left [] middle turn rest h e = (rest, ap (λ (l : List ℕ). l ++ turn.octets) (sym h) ∙ e, refl)
+  cut_more left (first ∷ turns) middle turn rest h e = (h.0, h.1, cut_more h.0 turns middle turn rest h.2 e)
+
+  pub attended_none : (had : Option (List ℕ)) (left : List ℕ) (a : Core) (held : Option (List ℕ)) → left ≡ [] → Attended reads had had left a a held held
+  attended_none had left a held e = record { turns = []; read_so = consumes_none had; cut_so = e; met = meets_none a held }
+
+  pub attended_more : (had have has : Option (List ℕ)) (left rest : List ℕ) (a b c : Core) (held hold holds : Option (List ℕ)) (turn : Turn reads)
+      → Attended reads had have left a b held hold → Consumes have has turn.octets → left ++ turn.octets ≡ joined turn.frames ++ rest
+      → Meets (Tick turn.now ∷ map received turn.frames) b c hold holds → Attended reads had has rest a c held holds
+  attended_more had have has left rest a b c held hold holds turn h read cut met = record {
+    turns = h.turns ++ turn ∷ [];
+    read_so = subst (λ (l : List ℕ). Consumes had has l) (sym (octets_more h.turns turn)) (consumes_join had have has (octets_in reads h.turns) turn.octets h.read_so read);
+    cut_so = cut_more [] h.turns left turn rest h.cut_so cut;
+    met = subst (λ (l : List HandsetEvent). Meets l a c held holds) (sym (events_more h.turns turn))
+        (meets_join (events_in reads h.turns) (Tick turn.now ∷ map received turn.frames) a b c held hold holds h.met met);
+  }
 
 pub on_ok : {P Q E : Type 0} (r : Result (Unit {0}) E) → OnOk r P → (P → Q) → OnOk r Q
 on_ok (Ok done) p f = f p

@@ -13,8 +13,9 @@ use Rattle.smsc_loop.specs.Courses.{Did, Standing}
 use Rattle.smsc_loop.specs.Emptying.{Drops}
 use Rattle.smsc_loop.specs.Owing.{IsCleared}
 use Rattle.smsc_loop.proofs.Joins.{seat_same, seat_trans}
-use Rattle.smsc_server.specs.serving.Connections.{Admitted, Connection, Session, Link, TurnedAway, HasSat, Sits, calls_of}
-use Rattle.smsc_server.specs.serving.Sittings.{HaveSat, InTurn, IsHandedBack, SeatDid, jobs_by, replies_to}
+use Rattle.smsc_arrivals.specs.declared.arrival.Arrival.{Arrival}
+use Rattle.smsc_server.specs.serving.Connections.{Admitted, Connection, Session, Link, TurnedAway, HasSat, Sits, calls_of, came_as}
+use Rattle.smsc_server.specs.serving.Sittings.{HaveSat, InTurn, IsHandedBack, SeatDid, arrivals_of, jobs_by, replies_to}
 
 -- what some calls did at a seat
 record DidAt (calls : List Call) (s t : Seat Job Reply) : Type 0 where
@@ -90,7 +91,7 @@ module _ {S : Type 0} (remaining contents : S → Option (List ℕ)) (admitted :
       → DidAt (calls_of remaining contents admitted c) s t
   sat_at s (Session visit) t h = at_ends _ visit.seat s visit.seat_then t h.0 h.1 (did_at _ _ _ _ visit.served.served visit.served.left)
   sat_at s (Link visit) t h = at_ends _ visit.seat s visit.seat_then t h.0 h.1 (did_at _ _ _ _ visit.served.served visit.served.left)
-  sat_at s (TurnedAway side) t h = at_ends _ s s s t refl (sym h) (record { put = sym (append-nil (put_by s)); taken = sym (append-nil (taken_by s)); seat = seat_same s })
+  sat_at s (TurnedAway arrival) t h = at_ends _ s s s t refl (sym h) (record { put = sym (append-nil (put_by s)); taken = sym (append-nil (taken_by s)); seat = seat_same s })
 
   jobs_more : (cs : List (Connection remaining contents admitted)) (c : Connection remaining contents admitted)
       → jobs_by remaining contents admitted (cs ++ c ∷ []) ≡ jobs_by remaining contents admitted cs ++ jobs_put (calls_of remaining contents admitted c)
@@ -121,20 +122,40 @@ module _ {S : Type 0} (remaining contents : S → Option (List ℕ)) (admitted :
             (cleared _ _ _ _ (sym (append_assoc put (jobs_put x) (jobs_by remaining contents admitted cs))) (sym (append_assoc taken (replies_taken x) (replies_to remaining contents admitted cs))) e),
       )
 
-  pub sat_none : (s : Seat Job Reply) → HaveSat remaining contents admitted s s
-  sat_none s = record { connections = []; in_turn = tt; put = sym (append-nil (put_by s)); taken = sym (append-nil (taken_by s)); seat = seat_same s }
+  arrivals_more : (cs : List (Connection remaining contents admitted)) (c : Connection remaining contents admitted)
+      → arrivals_of remaining contents admitted (cs ++ c ∷ []) ≡ arrivals_of remaining contents admitted cs ++ came_as remaining contents admitted c ∷ []
+  arrivals_more [] c = refl
+  arrivals_more (first ∷ cs) c = ap (λ (l : List (Arrival S)). came_as remaining contents admitted first ∷ l) (arrivals_more cs c)
 
-  pub sat_more : (s t u : Seat Job Reply) → HaveSat remaining contents admitted s t → IsCleared (put_by t) (taken_by t)
-      → HasSat remaining contents admitted t u → HaveSat remaining contents admitted s u
-  sat_more s t u h e k =
-      let c = k.0 in let d = sat_at t k.0 u k.1 in record {
+  pub sat_none : (s : Seat Job Reply) (a : List (Arrival S)) → HaveSat remaining contents admitted s s a a
+  sat_none s a = record {
+    connections = [];
+    in_turn = tt;
+    came = sym (append-nil a);
+    put = sym (append-nil (put_by s));
+    taken = sym (append-nil (taken_by s));
+    seat = seat_same s;
+  }
+
+  -- no other connection came
+  pub sat_same : (s t : Seat Job Reply) (a b c : List (Arrival S)) → c ≡ b → HaveSat remaining contents admitted s t a b → HaveSat remaining contents admitted s t a c
+  sat_same s t a b c e h = subst (λ (l : List (Arrival S)). HaveSat remaining contents admitted s t a l) (sym e) h
+
+  pub sat_more : (s t u : Seat Job Reply) (a b d : List (Arrival S)) (x : Arrival S) → HaveSat remaining contents admitted s t a b → IsCleared (put_by t) (taken_by t)
+      → d ≡ b ++ x ∷ [] → HasSat remaining contents admitted x t u → HaveSat remaining contents admitted s u a d
+  sat_more s t u a b d x h e f k =
+      let c = k.0 in let did = sat_at t k.0 u k.2 in record {
         connections = h.connections ++ c ∷ [];
         in_turn = turn_more (put_by s) (taken_by s) h.connections c h.in_turn (cleared _ _ _ _ h.put h.taken e);
-        put = d.put ∙ (ap (λ (l : List (Option Job)). l ++ jobs_put (calls_of remaining contents admitted c)) h.put
+        came = f ∙ (ap (λ (l : List (Arrival S)). l ++ x ∷ []) h.came
+            ∙ (append_assoc a (arrivals_of remaining contents admitted h.connections) (x ∷ [])
+            ∙ ap (λ (l : List (Arrival S)). a ++ l)
+            (ap (λ (y : Arrival S). arrivals_of remaining contents admitted h.connections ++ y ∷ []) (sym k.1) ∙ sym (arrivals_more h.connections c))));
+        put = did.put ∙ (ap (λ (l : List (Option Job)). l ++ jobs_put (calls_of remaining contents admitted c)) h.put
             ∙ (append_assoc (put_by s) _ _ ∙ ap (λ (l : List (Option Job)). put_by s ++ l) (sym (jobs_more h.connections c))));
-        taken = d.taken ∙ (ap (λ (l : List Reply). l ++ replies_taken (calls_of remaining contents admitted c)) h.taken
+        taken = did.taken ∙ (ap (λ (l : List Reply). l ++ replies_taken (calls_of remaining contents admitted c)) h.taken
             ∙ (append_assoc (taken_by s) _ _ ∙ ap (λ (l : List Reply). taken_by s ++ l) (sym (replies_more h.connections c))));
-        seat = seat_trans s t u h.seat d.seat;
+        seat = seat_trans s t u h.seat did.seat;
       }
 
   -- ---- the seat comes back
@@ -143,10 +164,11 @@ module _ {S : Type 0} (remaining contents : S → Option (List ℕ)) (admitted :
   closed_jobs put put_then (inl e) = ap jobs_among e
   closed_jobs put put_then (inr e) = ap jobs_among e ∙ (jobs_join put (None ∷ []) ∙ append-nil (jobs_among put))
 
-  pub handed_back : (s t r : Seat Job Reply) → put_by s ≡ [] → taken_by s ≡ [] → HaveSat remaining contents admitted s t
-      → (put_by r ≡ put_by t) ⊎ (put_by r ≡ put_by t ++ None ∷ []) → Drops (taken_by t) (taken_by r) → IsHandedBack remaining contents admitted r
-  handed_back s t r none nothing h closed dropped = record {
+  pub handed_back : (s t r : Seat Job Reply) (a b : List (Arrival S)) → put_by s ≡ [] → taken_by s ≡ [] → a ≡ [] → HaveSat remaining contents admitted s t a b
+      → (put_by r ≡ put_by t) ⊎ (put_by r ≡ put_by t ++ None ∷ []) → Drops (taken_by t) (taken_by r) → IsHandedBack remaining contents admitted r b
+  handed_back s t r a b none nothing new h closed dropped = record {
     connections = h.connections;
+    came = h.came ∙ ap (λ (l : List (Arrival S)). l ++ arrivals_of remaining contents admitted h.connections) new;
     in_turn = subst (λ (l : List Reply). InTurn remaining contents admitted [] l h.connections) nothing
         (subst (λ (l : List (Option Job)). InTurn remaining contents admitted l (taken_by s) h.connections) none h.in_turn);
     put = closed_jobs (put_by t) (put_by r) closed
@@ -155,22 +177,24 @@ module _ {S : Type 0} (remaining contents : S → Option (List ℕ)) (admitted :
     taken = dropped.1 ∙ ap (λ (l : List Reply). l ++ dropped.0) (h.taken ∙ ap (λ (l : List Reply). l ++ replies_to remaining contents admitted h.connections) nothing);
   }
 
-  pub seat_did : (n m : ℕ) (r : Seat Job Reply) (ran : List (Letter Job)) (given : ℕ → List Reply) → m ≡ n → IsHandedBack remaining contents admitted r
+  pub seat_did : (n m : ℕ) (r : Seat Job Reply) (ran : List (Letter Job)) (given : ℕ → List Reply) (took : List (Arrival S)) → m ≡ n → IsHandedBack remaining contents admitted r took
       → (has_end (of m ran) ≡ true → for_seat m (work ran) ≡ jobs_among (put_by r))
       → ((rest : List Reply) × (given m ≡ taken_by r ++ rest)) → has_end (of n ran) ≡ true
-      → SeatDid remaining contents admitted (for_seat n (work ran)) (given n)
-  seat_did n m r ran given is h run taken closed = record {
+      → SeatDid remaining contents admitted (for_seat n (work ran)) (given n) took
+  seat_did n m r ran given took is h run taken closed = record {
     connections = h.connections;
+    came = h.came;
     in_turn = h.in_turn;
     jobs = ap (λ (k : ℕ). for_seat k (work ran)) (sym is) ∙ (run (ap (λ (k : ℕ). has_end (of k ran)) is ∙ closed) ∙ h.put);
     untaken = h.untaken ++ taken.0;
     replies = ap given (sym is) ∙ (taken.1 ∙ (ap (λ (l : List Reply). l ++ taken.0) h.taken ∙ append_assoc (replies_to remaining contents admitted h.connections) h.untaken taken.0));
   }
 
-  pub did_same : (ran ran_then : List Job) (given given_then : List Reply) → ran_then ≡ ran → given_then ≡ given → SeatDid remaining contents admitted ran given
-      → SeatDid remaining contents admitted ran_then given_then
-  did_same ran ran_then given given_then e f h = record {
+  pub did_same : (ran ran_then : List Job) (given given_then : List Reply) (took took_then : List (Arrival S)) → ran_then ≡ ran → given_then ≡ given → took_then ≡ took
+      → SeatDid remaining contents admitted ran given took → SeatDid remaining contents admitted ran_then given_then took_then
+  did_same ran ran_then given given_then took took_then e f g h = record {
     connections = h.connections;
+    came = g ∙ h.came;
     in_turn = h.in_turn;
     jobs = e ∙ h.jobs;
     untaken = h.untaken;

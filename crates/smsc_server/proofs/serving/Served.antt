@@ -9,36 +9,41 @@ use Rattle.smsc_service.specs.declared.service.Service.{Service}
 use Rattle.smsc_service.specs.InService.{HasHonestStore, IsServedBy, store_in}
 use Rattle.smsc_service.specs.Seats.{nobody}
 use Rattle.smsc_service.specs.Serving.{after, gives, restarted}
+use Rattle.std.specs.declared.net.socket_addr.SocketAddr.{SocketAddr}
+use Rattle.smsc_arrivals.specs.declared.doors.Doors.{Doors}
 use Rattle.smsc_server.specs.serving.Connections.{Admitted}
 use Rattle.smsc_server.specs.serving.Serving.{IsOneHistory, IsServed}
 
-module _ {S : Type 0} (remaining contents : S → Option (List ℕ)) (admitted : Admitted) (reads : ℕ → Type 0) where
+module _ {L S : Type 0} (remaining contents : S → Option (List ℕ)) (admitted : Admitted) (reads : ℕ → Type 0)
+    (came : L → Option (List (S × SocketAddr))) (doors : Doors L) where
   -- One history of a service that was lent is one history from the rows of its keep on.
-  pub served : {K : Type 0} (state : K → KeepState Rows) (keep : K) (lent left : Service K)
+  pub served : {K : Type 0} (state : K → KeepState Rows) (keep : K) (lent left : Service K) (doors_then : Doors L)
       → ((rows : Rows) → IfHeld rows (state keep) (state (store_in lent)) (IsServedBy state lent (restarted rows nobody)))
       → WasHonest (state keep) (state (store_in lent))
-      → IsOneHistory remaining contents admitted reads gives after (HasHonestStore state left) (IsServedBy state lent) (IsServedBy state left)
+      → IsOneHistory remaining contents admitted reads came doors doors_then gives after (HasHonestStore state left) (IsServedBy state lent) (IsServedBy state left)
       → WasHonest (state (store_in lent)) (state (store_in left))
-      → IsServed remaining contents admitted reads state keep
-  served state keep lent left begins so history before = (
+      → IsServed remaining contents admitted reads came doors doors_then state keep
+  served state keep lent left doors_then begins so history before = (
     left,
     (λ is. so (before is)),
     history.0,
     history.1,
-    λ rows is held. let led = history.2 is (restarted rows nobody) (begins rows (before is) held) in (led.0, led.1),
+    history.2,
+    history.3,
+    λ rows is held. let led = history.4 is (restarted rows nobody) (begins rows (before is) held) in (led.0, led.1),
   )
 
   -- So of a run that ended in order: the work is done on the service that is lent, and leaves the service in which the rows end.
-  pub served_if : {K F : Type 0} (state : K → KeepState Rows) (keep : K) (lent shown left : Service K) (ended : Result (Unit {0}) F)
+  pub served_if : {K F : Type 0} (state : K → KeepState Rows) (keep : K) (lent shown left : Service K) (ended : Result (Doors L) F)
       → ((rows : Rows) → IfHeld rows (state keep) (state (store_in lent)) (IsServedBy state lent (restarted rows nobody)))
       → WasHonest (state keep) (state (store_in lent))
       → shown ≡ lent
-      → IfOk ended (λ _. IsOneHistory remaining contents admitted reads gives after (HasHonestStore state left) (IsServedBy state shown) (IsServedBy state left))
+      → IfOk ended (λ doors_then. IsOneHistory remaining contents admitted reads came doors doors_then gives after (HasHonestStore state left) (IsServedBy state shown) (IsServedBy state left))
       → WasHonest (state (store_in shown)) (state (store_in left))
-      → IfOk ended (λ _. IsServed remaining contents admitted reads state keep)
-  served_if {K} state keep lent shown left (Ok done) begins so shows history before =
+      → IfOk ended (λ doors_then. IsServed remaining contents admitted reads came doors doors_then state keep)
+  served_if {K} state keep lent shown left (Ok doors_then) begins so shows history before =
       let begun : HasHonestStore state shown → HasHonestStore state lent = subst (λ (s : Service K). HasHonestStore state s) shows in
-      served state keep shown left
+      served state keep shown left doors_then
       (λ rows is held. subst (λ (s : Service K). IsServedBy state s (restarted rows nobody)) (sym shows) (begins rows (begun is) held))
       (λ is. so (begun is)) history before
   served_if state keep lent shown left (Err fault) begins so shows history before = tt

@@ -1,5 +1,5 @@
--- The threads of the seats, one more of them, and what the keeper did put together with what they hand back.
-use Rattle.std.proofs.Common.{◌≡◌, ◌⊎◌, ◌+◌, ◌<◌, ℕ, zero, suc, Bool, true, false, true≢false, List, [], ◌∷◌, ◌++◌, length, slice_get, Option, Some, None, Result, Ok, Err, IfOk, OnOk, refl, sym, ap, subst, ◌∙◌, inl, inr, append_assoc, append-nil, length-append, arith}
+-- The threads of the seats, and one more of them.
+use Rattle.std.proofs.Common.{◌≡◌, ◌⊎◌, ◌+◌, ◌<◌, ℕ, zero, suc, Bool, true, false, true≢false, List, [], ◌∷◌, ◌++◌, length, slice_get, Option, Some, None, Result, Ok, Err, IfOk, OnOk, refl, sym, ap, subst, ◌∙◌, inl, inr, ⊎_elim, append_assoc, append-nil, length-append, arith}
 use Rattle.std.specs.Prelude.{is_ok}
 use Rattle.std.proofs.lemmas.Option.{none-some, same_Some}
 use Rattle.std.specs.Arc.{arc_value}
@@ -8,17 +8,20 @@ use Rattle.smsc_endpoint.specs.declared.link_access.LinkAccess.{LinkAccess}
 use Rattle.sms_centre_spec.specs.declared.jobs.job.Job.{Job}
 use Rattle.sms_centre_spec.specs.declared.jobs.reply.Reply.{Reply}
 use Rattle.sms_seats.specs.declared.seat.Seat.{Seat}
-use Rattle.sms_seats.specs.Jobs.{has_end, of}
-use Rattle.sms_seats.specs.Seats.{number_of, put_by, taken_by}
+use Rattle.sms_seats.specs.Seats.{number_of}
 use Rattle.sms_keeper.specs.declared.keeper.Keeper.{Keeper}
-use Rattle.sms_keeper.specs.History.{for_seat, work}
-use Rattle.sms_keeper.specs.Keeping.{IsClosed, IsSameHub, given_by, ran_by, seats_of}
-use Rattle.sms_keeper.specs.Seating.{IsNewSeat, IsSeatOf, IsUnchanged}
+use Rattle.sms_keeper.specs.Keeping.{IsSameHub}
+use Rattle.sms_keeper.specs.Seating.{IsNewSeat, IsSeatOf}
 use Rattle.sms_keeper.proofs.Histories.{seat_kept}
 use Rattle.smsc_server.specs.serving.Connections.{Admitted, admits}
-use Rattle.smsc_server.specs.serving.SeatThreads.{AreAt, AreThreadsOf, HasOneMore, HaveAdmitted, IsThreadOf, SeatThread, admitted_by}
-use Rattle.smsc_server.specs.serving.Sittings.{SeatDid}
-use Rattle.smsc_server.proofs.serving.Sat.{did_same}
+use Rattle.sms_seats.proofs.Places.{length_snoc, slice_get_snoc}
+use Rattle.crossbeam_channel.specs.Ends.{receives_on}
+use Rattle.smsc_arrivals.specs.Ways.{IsNewGiver, IsNewTaker, IsSameGiver, given_by as items_given, made_by, returned_to, seat_of, settled_at}
+use Rattle.smsc_arrivals.specs.declared.arrival.Arrival.{Arrival}
+use Rattle.smsc_arrivals.specs.declared.sharing.ends.Giver.{Giver}
+use Rattle.smsc_arrivals.specs.declared.sharing.ends.Taker.{Taker}
+use Rattle.smsc_server.specs.serving.Entering.{HasSameSeats}
+use Rattle.smsc_server.specs.serving.SeatThreads.{AreAt, AreThreadsOf, AreWays, HasOneMore, HaveAdmitted, HaveStarted, IsThreadOf, SeatThread, admitted_by, end_of, seat_in}
 
 pub at_length : {A : Type 0} (xs : List A) (x : A) (rest : List A) → slice_get (xs ++ x ∷ rest) (length xs) ≡ Some x
 at_length [] x rest = refl
@@ -55,12 +58,16 @@ pub ok_then : {E : Type 0} (P Q : Type 0) (r : Result (Unit {0}) E) → (P → Q
 ok_then P Q (Ok done) f h = f h
 ok_then P Q (Err fault) f h = tt
 
+pub both_ok : {E : Type 0} (P Q R : Type 0) (r : Result (Unit {0}) E) → (P → Q → R) → OnOk r P → OnOk r Q → OnOk r R
+both_ok P Q R (Ok done) f h k = f h k
+both_ok P Q R (Err fault) f h k = tt
+
 -- ---- threads that were started
 
 module _ {S : Type 0} (admitted : Admitted) where
-  pub threads_more : (s : Seat Job Reply) (seats : List (Seat Job Reply)) (threads more : List (SeatThread S)) → AreThreadsOf admitted seats threads
-      → HasOneMore admitted s threads more → AreThreadsOf admitted (seats ++ s ∷ []) more
-  threads_more s seats threads more h k =
+  pub threads_more : (giver : Giver (Option (Arrival S))) (n : ℕ) (s : Seat Job Reply) (seats : List (Seat Job Reply)) (threads more : List (SeatThread S))
+      → AreThreadsOf admitted seats threads → HasOneMore admitted giver n s threads more → AreThreadsOf admitted (seats ++ s ∷ []) more
+  threads_more giver n s seats threads more h k =
       subst (λ (l : List (SeatThread S)). AreThreadsOf admitted (seats ++ s ∷ []) l) (sym k.1) (behind seats threads h)
     where
       behind : (seats : List (Seat Job Reply)) (threads : List (SeatThread S)) → AreThreadsOf admitted seats threads
@@ -84,75 +91,75 @@ module _ {S : Type 0} (admitted : Admitted) where
   thread_at (s ∷ seats) (first ∷ threads) h zero t e = (s, refl, subst (λ (x : SeatThread S). IsThreadOf admitted s x) (same_Some _ _ e) h.0)
   thread_at (s ∷ seats) (first ∷ threads) h (suc n) t e = thread_at seats threads h.1 n t e
 
-  pub threads_at : (keeper : Keeper Job Reply) (seats : List (Seat Job Reply)) (threads : List (SeatThread S))
+  threads_at : (keeper : Keeper Job Reply) (seats : List (Seat Job Reply)) (threads : List (SeatThread S))
       → ((n : ℕ) (s : Seat Job Reply) → slice_get seats n ≡ Some s → IsNewSeat keeper n s) → AreThreadsOf admitted seats threads → AreAt keeper threads
   threads_at keeper seats threads new h n t e =
       let there = thread_at seats threads h n t e in
       let seat = new n there.0 there.1 in
       (subst (λ (x : Seat Job Reply). IsSeatOf keeper x) (sym there.2.0) seat.seat, ap number_of there.2.0 ∙ seat.number)
 
+  pub started_at : (keeper : Keeper Job Reply) (giver : Giver (Option (Arrival S))) (seats : List (Seat Job Reply)) (threads : List (SeatThread S))
+      → ((n : ℕ) (s : Seat Job Reply) → slice_get seats n ≡ Some s → IsNewSeat keeper n s) → HaveStarted admitted giver seats threads → AreAt keeper threads
+  started_at keeper giver seats threads new h = threads_at keeper seats threads new h.threads_so
+
   pub threads_have : (seats : List (Seat Job Reply)) (threads : List (SeatThread S)) → AreThreadsOf admitted seats threads → HaveAdmitted admitted threads
   threads_have seats threads h n t e = (thread_at seats threads h n t e).2.1
 
-  -- so where the list before was spelled otherwise
-  pub more_from : {E : Type 0} (other : Admitted) (s : Seat Job Reply) (first between last : List (SeatThread S)) (r : Result (Unit {0}) E) → other ≡ admitted
-      → between ≡ first → OnOk r (HasOneMore other s between last) → OnOk r (HasOneMore admitted s first last)
-  more_from other s first between last (Err fault) e f h = tt
-  more_from other s first between last (Ok done) e f h =
-      subst (λ (l : List (SeatThread S)). HasOneMore admitted s l last) f (subst (λ (a : Admitted). HasOneMore a s between last) e h)
+  -- the thread of a new seat was started
+  pub more_from : {E : Type 0} (other : Admitted) (giver : Giver (Option (Arrival S))) (n : ℕ) (taker : Taker (Option (Arrival S))) (s : Seat Job Reply)
+      (first between last : List (SeatThread S)) (r : Result (Unit {0}) E) → other ≡ admitted → between ≡ first → IsNewTaker giver n taker
+      → OnOk r ((t : SeatThread S) × (last ≡ between ++ t ∷ []) × IsThreadOf other s t × (end_of t ≡ taker)) → OnOk r (HasOneMore admitted giver n s first last)
+  more_from other giver n taker s first between last (Err fault) e f new h = tt
+  more_from other giver n taker s first between last (Ok done) e f new h = (
+    h.0,
+    h.1 ∙ ap (λ (l : List (SeatThread S)). l ++ h.0 ∷ []) f,
+    subst (λ (a : Admitted). IsThreadOf a s h.0) e h.2,
+    subst (λ (x : Taker (Option (Arrival S))). IsNewTaker giver n x) (sym h.3) new,
+  )
 
-  pub threads_stay : {E : Type 0} (seats : List (Seat Job Reply)) (threads behind : List (SeatThread S)) (r : Result (Unit {0}) E) → behind ≡ threads
-      → AreThreadsOf admitted seats threads → OnOk r (AreThreadsOf admitted seats behind)
-  threads_stay seats threads behind (Err fault) e h = tt
-  threads_stay seats threads behind (Ok done) e h = subst (λ (l : List (SeatThread S)). AreThreadsOf admitted seats l) (sym e) h
+  pub started_none : (giver : Giver (Option (Arrival S))) (threads : List (SeatThread S)) → IsNewGiver giver → threads ≡ [] → HaveStarted admitted giver [] threads
+  started_none giver threads new none = record {
+    threads_so = subst (λ (l : List (SeatThread S)). AreThreadsOf admitted [] l) (sym none) tt;
+    ways = subst (λ (l : List (SeatThread S)). AreWays giver l) (sym none) (λ n t e. absurd (none-some t e));
+    made = new.made ∙ sym (ap length none);
+    given = new.given;
+    settled = new.settled;
+    returned = new.returned;
+  }
 
--- what is said of whom the threads admit
-pub admitted_so : {S E : Type 0} (P : Admitted → Type 0) (threads : List (SeatThread S)) (first second : Admitted) (r : Result (Unit {0}) E) → first ≡ second
-    → IfOk r (λ done. (admitted : Admitted) → HaveAdmitted admitted threads → P admitted) → HaveAdmitted first threads → IfOk r (λ done. P second)
-admitted_so P threads first second (Err fault) e h have = tt
-admitted_so P threads first second (Ok done) e h have = subst P e (h first have)
+  pub started_more : (a b : Giver (Option (Arrival S))) (s : Seat Job Reply) (seats : List (Seat Job Reply)) (threads more : List (SeatThread S))
+      → HaveStarted admitted a seats threads → HasOneMore admitted b (made_by a) s threads more
+      → (IsSameGiver a b × (made_by b ≡ made_by a + 1) × (items_given b ≡ items_given a) × (settled_at b ≡ settled_at a) × (returned_to b ≡ []))
+      → HaveStarted admitted b (seats ++ s ∷ []) more
+  started_more a b s seats threads more h k g = record {
+    threads_so = threads_more b (made_by a) s seats threads more h.threads_so k;
+    ways = λ n t e. ⊎_elim
+        (λ (old : slice_get threads n ≡ Some t). let way = h.ways n t old in (way.0 ∙ sym g.0, way.1))
+        (λ (last : (n ≡ length threads) × (k.0 ≡ t)). (
+          ap (λ (x : SeatThread S). receives_on (end_of x).receiver) (sym last.1) ∙ k.3.way,
+          ap (λ (x : SeatThread S). seat_of (end_of x)) (sym last.1) ∙ (k.3.seat ∙ (h.made ∙ sym last.0)),
+        ))
+        (slice_get_snoc threads k.0 t n (ap (λ (l : List (SeatThread S)). slice_get l n) (sym k.1) ∙ e));
+    made = g.1 ∙ (ap (λ (n : ℕ). n + 1) h.made ∙ sym (length_snoc threads k.0 more k.1));
+    given = g.2 ∙ h.given;
+    settled = g.3 ∙ h.settled;
+    returned = g.4;
+  }
+
+-- what is said of whom the threads admit, and of what came since
+pub admitted_so : {S R E D : Type 0} (P : Admitted → D → R → Type 0) (Q : D → Type 0) (threads : List (SeatThread S)) (first second : Admitted) (d : D)
+    (r : Result R E) → first ≡ second → IfOk r (λ x. (admitted : Admitted) (doors : D) → HaveAdmitted admitted threads → Q doors → P admitted doors x)
+    → HaveAdmitted first threads → Q d → IfOk r (λ x. P second d x)
+admitted_so P Q threads first second d (Err fault) e h have entered = tt
+admitted_so P Q threads first second d (Ok x) e h have entered = subst (λ (a : Admitted). P a d x) e (h first d have entered)
 
 pub admits_same : (a b : List Account) (c d : LinkAccess) → a ≡ b → c ≡ d → admits a c ≡ admits b d
 admits_same a b c d e f = ap (λ (x : List Account). admits x c) e ∙ ap (λ (y : LinkAccess). admits b y) f
 
--- ---- seats that come back
+-- the keeper is the same
+pub at_kept : {S : Type 0} (a b : Keeper Job Reply) (threads : List (SeatThread S)) → IsSameHub a b → AreAt a threads → AreAt b threads
+at_kept a b threads same h n t e = let at = h n t e in (seat_kept a b (seat_in t) same at.0, at.1)
 
-pub below_next : (m n : ℕ) → m < suc n → (m < n) ⊎ (m ≡ n)
-below_next zero zero h = inr refl
-below_next zero (suc n) h = inl (omega arith)
-below_next (suc m) zero h = absurd (omega arith)
-below_next (suc m) (suc n) h = next (below_next m n (omega arith))
-  where
-    next : (m < n) ⊎ (m ≡ n) → (suc m < suc n) ⊎ (suc m ≡ suc n)
-    next (inl less) = inl (omega arith)
-    next (inr is) = inr (ap suc is)
-
-module _ {S : Type 0} (remaining contents : S → Option (List ℕ)) where
-  pub at_kept : (a b : Keeper Job Reply) (threads : List (SeatThread S)) → IsSameHub a b → AreAt a threads → AreAt b threads
-  at_kept a b threads same h n t e = let at = h n t e in (seat_kept a b t.promise.seat.value same at.0, at.1)
-
-  -- the next thread
-  pub did_here : (a b : Keeper Job Reply) (n : ℕ) (t : SeatThread S) (admitted : Admitted) → IsUnchanged a b → number_of t.promise.seat.value ≡ n
-      → admitted_by t.promise ≡ admitted → IsClosed a → n < seats_of a
-      → (has_end (of (number_of t.promise.seat.value) (ran_by b)) ≡ true
-      → SeatDid remaining contents (admitted_by t.promise) (for_seat (number_of t.promise.seat.value) (work (ran_by b)))
-      (given_by b (number_of t.promise.seat.value)))
-      → SeatDid remaining contents admitted (for_seat n (work (ran_by a))) (given_by a n)
-  did_here a b n t admitted same is have closed less h =
-      let did = h (ap (λ (k : ℕ). has_end (of k (ran_by b))) is ∙ (ap (λ l. has_end (of n l)) same.ran ∙ closed n less)) in
-      did_same remaining contents admitted _ _ _ _
-      (ap (λ l. for_seat n (work l)) (sym same.ran) ∙ ap (λ (k : ℕ). for_seat k (work (ran_by b))) (sym is))
-      (sym (same.given n) ∙ ap (given_by b) (sym is))
-      (subst (λ (l : Admitted). SeatDid remaining contents l (for_seat (number_of t.promise.seat.value) (work (ran_by b))) (given_by b (number_of t.promise.seat.value))) have did)
-
-  -- so of all threads so far and of this one
-  pub all_next : (admitted : Admitted) (a : Keeper Job Reply) (seen : List (SeatThread S)) (t : SeatThread S)
-      → ((n : ℕ) → n < length seen → SeatDid remaining contents admitted (for_seat n (work (ran_by a))) (given_by a n))
-      → SeatDid remaining contents admitted (for_seat (length seen) (work (ran_by a))) (given_by a (length seen))
-      → (n : ℕ) → n < length (seen ++ t ∷ []) → SeatDid remaining contents admitted (for_seat n (work (ran_by a))) (given_by a n)
-  all_next admitted a seen t before here n less =
-      here_or (below_next n (length seen) (let d = length-append seen (t ∷ []) in omega arith))
-    where
-      here_or : (n < length seen) ⊎ (n ≡ length seen) → SeatDid remaining contents admitted (for_seat n (work (ran_by a))) (given_by a n)
-      here_or (inl below) = before n below
-      here_or (inr is) = subst (λ (m : ℕ). SeatDid remaining contents admitted (for_seat m (work (ran_by a))) (given_by a m)) (sym is) here
+-- and so is the queue
+pub ways_kept : {S : Type 0} (a b : Giver (Option (Arrival S))) (threads : List (SeatThread S)) → IsSameGiver a b → AreWays a threads → AreWays b threads
+ways_kept a b threads same h n t e = let way = h n t e in (way.0 ∙ sym same, way.1)

@@ -14,9 +14,11 @@ use Rattle.smsc_endpoint.specs.PendingRequests.{is_any_request}
 use Rattle.smsc_loop.specs.Courses.{standing}
 use Rattle.smsc_loop.specs.Phases.{Serves}
 use Rattle.smsc_loop.specs.Served.{Served}
-use Rattle.smsc_server.specs.declared.serving.connection.Side.{Side}
+use Rattle.std.specs.declared.net.socket_addr.SocketAddr.{SocketAddr}
+use Rattle.smsc_arrivals.specs.declared.arrival.Arrival.{Arrival}
+use Rattle.smsc_arrivals.specs.declared.arrival.Side.TheVariants.{Application, Handset}
 use Rattle.smsc_server.specs.declared.serving.connection.Socket.{Socket}
-use Rattle.smsc_server.specs.serving.Connections.{Admitted, Session, Link, TurnedAway, HasSat, IsOpened, has_ended, is_closed, remaining_on, written_on}
+use Rattle.smsc_server.specs.serving.Connections.{Admitted, Session, Link, TurnedAway, HasSat, IsOpened, arrival_of, has_ended, is_closed, remaining_on, written_on}
 
 module _ {S : Type 0} (remaining contents : S → Option (List ℕ)) (s t : Seat Job Reply) (stream reader : S) (wire wire_then : Socket S)
     (opened : IsOpened remaining contents stream reader wire) where
@@ -30,10 +32,12 @@ module _ {S : Type 0} (remaining contents : S → Option (List ℕ)) (s t : Seat
       Served link_waits (λ (l : LinkView). l.is_over) (λ (l : LinkView). false) LinkDoes any_link_job ⊤ (has_ended wire_then) (is_closed wire_then)
       (standing l Serves (remaining_on wire) (written_on contents wire) s) m (remaining_on wire_then) (written_on contents wire_then) t
 
-  pub session_sat : (admitted : Admitted) (e f : EsmeView) → e ≡ opened_session admitted.accounts → SessionServed e f → HasSat remaining contents admitted s t
-  session_sat admitted e f is served = (
+  pub session_sat : (admitted : Admitted) (peer : SocketAddr) (e f : EsmeView) → e ≡ opened_session admitted.accounts → SessionServed e f
+      → HasSat remaining contents admitted (arrival_of stream Application peer) s t
+  session_sat admitted peer e f is served = (
     Session (record {
-      stream = stream;
+      arrival = arrival_of stream Application peer;
+      side_so = refl;
       reader = reader;
       wire = wire;
       wire_then = wire_then;
@@ -43,13 +47,16 @@ module _ {S : Type 0} (remaining contents : S → Option (List ℕ)) (s t : Seat
       is_opened = opened;
       served = subst (λ (x : EsmeView). SessionServed x f) is served;
     }),
+    refl,
     (refl, refl),
   )
 
-  pub link_sat : (admitted : Admitted) (l m : LinkView) → l ≡ opened_link admitted.access → LinkServed l m → HasSat remaining contents admitted s t
-  link_sat admitted l m is served = (
+  pub link_sat : (admitted : Admitted) (peer : SocketAddr) (l m : LinkView) → l ≡ opened_link admitted.access → LinkServed l m
+      → HasSat remaining contents admitted (arrival_of stream Handset peer) s t
+  link_sat admitted peer l m is served = (
     Link (record {
-      stream = stream;
+      arrival = arrival_of stream Handset peer;
+      side_so = refl;
       reader = reader;
       wire = wire;
       wire_then = wire_then;
@@ -59,9 +66,10 @@ module _ {S : Type 0} (remaining contents : S → Option (List ℕ)) (s t : Seat
       is_opened = opened;
       served = subst (λ (x : LinkView). LinkServed x m) is served;
     }),
+    refl,
     (refl, refl),
   )
 
 module _ {S : Type 0} (remaining contents : S → Option (List ℕ)) (admitted : Admitted) where
-  pub turned_away : (side : Side) (s : Seat Job Reply) → HasSat remaining contents admitted s s
-  turned_away side s = (TurnedAway side, refl)
+  pub turned_away : (arrival : Arrival S) (s : Seat Job Reply) → HasSat remaining contents admitted arrival s s
+  turned_away arrival s = (TurnedAway arrival, refl, refl)

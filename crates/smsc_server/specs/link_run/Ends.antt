@@ -1,12 +1,13 @@
 -- How a run of a handset ends.
-use Rattle.std.specs.Prelude.{ℕ, List, ◌∷◌, ◌++◌, map, Option, Some, None}
+use Rattle.std.specs.Prelude.{ℕ, List, ◌∷◌, ◌++◌, Option, Some, None}
 use Rattle.std.specs.Str.{encode_utf8_all}
 use Rattle.std.specs.Io.KnownBytes.{Appends}
 use Rattle.sms_base.specs.declared.address.Address.{Address}
 use Rattle.sms_link.specs.framing.Framing.{framed}
 use Rattle.sms_handset_draft.specs.Draft.{Core}
 use Rattle.sms_handset.specs.declared.event.HandsetEvent.{HandsetEvent}
-use Rattle.smsc_server.specs.link_run.Run.{Meets, ReadAs, received}
+use Rattle.smsc_server.specs.link_run.Run.{Meets}
+use Rattle.smsc_server.specs.link_run.Turns.{AreTimed, Attended}
 use Rattle.smsc_server.specs.declared.link_run.run.RunEnd.{RunEnd}
 use Rattle.smsc_server.specs.declared.link_run.run.RunEnd.TheVariants.{Done, Broken}
 
@@ -19,12 +20,21 @@ with_secret (Some secret) number = number ++ 0x20 ∷ secret
 abbrev pub greeting : Address → Option (List ℕ) → List ℕ
 greeting number secret = with_secret secret (encode_utf8_all number.digits)
 
--- The number as the first frame, with its secret if it has one; then what the owner asked, and the frames that were read, are met in this order.
-abbrev pub IsRunDone : List HandsetEvent → Address → Option (List ℕ) → Core → Core → Option (List ℕ) → Option (List ℕ) → Option (List ℕ) → Option (List ℕ) → Type 0
-IsRunDone asked number secret before after had has held holds =
-    (frames : List (List ℕ)) × (greeted : Option (List ℕ))
-    × (ReadAs frames had has × Appends held greeted (framed (greeting number secret)) × Meets (asked ++ map received frames) before after greeted holds)
+-- The number as the first frame, with its secret if it has one. Then what the owner asked is met, each behind a tick, and then each turn of
+-- the link: a tick, and the frames that were whole when it was read.
+pub record IsRunDone (reads : ℕ → Type 0) (asked : List HandsetEvent) (number : Address) (secret : Option (List ℕ)) (before after : Core)
+    (had has held holds : Option (List ℕ)) : Type 0 where
+  pub greeted : Option (List ℕ)
+  pub number_so : Appends held greeted (framed (greeting number secret))
+  pub timed : List HandsetEvent
+  pub asked_so : AreTimed reads asked timed
+  pub between : Core
+  pub sent : Option (List ℕ)
+  pub asked_met : Meets timed before between greeted sent
+  pub rest : List ℕ
+  pub attended : Attended reads had has rest between after sent holds
 
-abbrev pub IsRun : List HandsetEvent → Address → Option (List ℕ) → Core → Core → Option (List ℕ) → Option (List ℕ) → Option (List ℕ) → Option (List ℕ) → RunEnd → Type 0
-IsRun asked number secret before after had has held holds Done = IsRunDone asked number secret before after had has held holds
-IsRun asked number secret before after had has held holds Broken = Unit {0}
+abbrev pub IsRun : (ℕ → Type 0) → List HandsetEvent → Address → Option (List ℕ) → Core → Core → Option (List ℕ) → Option (List ℕ) → Option (List ℕ)
+    → Option (List ℕ) → RunEnd → Type 0
+IsRun reads asked number secret before after had has held holds Done = IsRunDone reads asked number secret before after had has held holds
+IsRun reads asked number secret before after had has held holds Broken = Unit {0}

@@ -1,13 +1,13 @@
 -- What a run does: the events that a handset meets, one after the other, and what they put on the link.
 use Rattle.std.specs.Prelude.{◌≡◌, ℕ, List, [], ◌∷◌, ◌++◌, map, Option, None, Result, Ok, Err}
-use Rattle.std.specs.Io.KnownBytes.{Appends, Consumes}
+use Rattle.std.specs.Io.KnownBytes.{Appends}
 use Rattle.sms_link.specs.declared.outgoing.Outgoing.{Outgoing}
 use Rattle.sms_link.specs.framing.Framing.{joined}
 use Rattle.sms_handset_draft.specs.Draft.{Core, Draft, HandsetOf}
 use Rattle.sms_handset_draft.specs.Outcome.{outcome_of}
 use Rattle.sms_handset.specs.Planning.{adopted}
 use Rattle.sms_handset.specs.declared.event.HandsetEvent.{HandsetEvent}
-use Rattle.sms_handset.specs.declared.event.HandsetEvent.TheVariants.{Frame, Tick, Write, Delete, Discard}
+use Rattle.sms_handset.specs.declared.event.HandsetEvent.TheVariants.{Frame}
 use Rattle.sms_handset.specs.declared.refusal.Refusal.{Refusal}
 use Rattle.sms_handset.specs.machine.Stepping.{happened}
 use Rattle.sms_handset.specs.declared.machine.step_error.StepError.{StepError}
@@ -38,24 +38,10 @@ Follows [] before after out = (after ≡ before) × (out ≡ [])
 Follows (event ∷ events) before after out =
     (mid : Core) × (first : List ℕ) × (rest : List ℕ) × (Sends event before mid first × Follows events mid after rest × (out ≡ first ++ rest))
 
--- the events but for ticks
-abbrev pub untimed : List HandsetEvent → List HandsetEvent
-untimed [] = []
-untimed (Tick now ∷ events) = untimed events
-untimed (Frame octets tag ∷ events) = Frame octets tag ∷ untimed events
-untimed (Write text to report ∷ events) = Write text to report ∷ untimed events
-untimed (Delete entry ∷ events) = Delete entry ∷ untimed events
-untimed (Discard entry ∷ events) = Discard entry ∷ untimed events
-
 -- a frame that was received over a link
 abbrev pub received : List ℕ → HandsetEvent
 received octets = Frame octets None
 
--- A part of a run: the events that it met, but for ticks, are these, and what they put on the link was written there.
+-- A part of a run: it met these events, and what they put on the link was written there.
 abbrev pub Meets : List HandsetEvent → Core → Core → Option (List ℕ) → Option (List ℕ) → Type 0
-Meets asked before after held holds =
-    (events : List HandsetEvent) × (out : List ℕ) × ((untimed events ≡ asked) × Follows events before after out × Appends held holds out)
-
--- the frames, and a rest of octets behind them, are what was read
-abbrev pub ReadAs : List (List ℕ) → Option (List ℕ) → Option (List ℕ) → Type 0
-ReadAs frames had has = (octets : List ℕ) × (rest : List ℕ) × (Consumes had has octets × (octets ≡ joined frames ++ rest))
+Meets events before after held holds = (out : List ℕ) × (Follows events before after out × Appends held holds out)

@@ -1,5 +1,6 @@
 -- What became of a connection at a seat.
 use Rattle.std.specs.Prelude.{◌≡◌, ℕ, Bool, false, List, [], ◌++◌, Option, ⊤}
+use Rattle.std.specs.declared.net.socket_addr.SocketAddr.{SocketAddr}
 use Rattle.smpp_session.specs.declared.account.Account.{Account}
 use Rattle.sms_centre_spec.specs.declared.jobs.job.Job.{Job}
 use Rattle.sms_centre_spec.specs.declared.jobs.reply.Reply.{Reply}
@@ -16,7 +17,9 @@ use Rattle.smsc_loop.specs.Calls.{Call}
 use Rattle.smsc_loop.specs.Courses.{standing}
 use Rattle.smsc_loop.specs.Phases.{Serves}
 use Rattle.smsc_loop.specs.Served.{Served}
-use Rattle.smsc_server.specs.declared.serving.connection.Side.{Side}
+use Rattle.smsc_arrivals.specs.declared.arrival.Arrival.{Arrival}
+use Rattle.smsc_arrivals.specs.declared.arrival.Side.{Side}
+use Rattle.smsc_arrivals.specs.declared.arrival.Side.TheVariants.{Application, Handset}
 use Rattle.smsc_server.specs.declared.serving.connection.Socket.{Socket}
 use Rattle.smsc_server.specs.serving.PieceEnds.{left_at}
 
@@ -29,6 +32,10 @@ abbrev pub admits : List Account → LinkAccess → Admitted
 admits accounts access = record { accounts = accounts; access = access }
 
 module _ {S : Type 0} where
+  -- a connection as it came
+  abbrev pub arrival_of : S → Side → SocketAddr → Arrival S
+  arrival_of stream side peer = record { stream = stream; side = side; peer = peer }
+
   -- the octets that a wire has still to give, where its stream states them
   abbrev pub remaining_on : Socket S → Option (List ℕ)
   remaining_on wire = left_at wire.pieces
@@ -53,10 +60,11 @@ module _ {S : Type 0} (remaining contents : S → Option (List ℕ)) where
     pub may_send : has_ended wire ≡ false
     pub may_take : is_closed wire ≡ false
 
-  -- An endpoint that was served on the wire of a stream. From its opening it ran on what the stream gave and on the replies that it heard.
+  -- An endpoint that was served on the wire of a connection of that side. From its opening it ran on what the stream gave and on the replies that it heard.
   -- What it sent was written, and the seat put its jobs, until the connection ended for some reason and the endpoint had left its seat.
-  pub record Visit {V : Type 0} (waits : V → List ℕ) (over owing : V → Bool) (does : Call → V → V → Type 0) (any_job : V → Bool) (opened : V) : Type 0 where
-    pub stream : S
+  pub record Visit {V : Type 0} (waits : V → List ℕ) (over owing : V → Bool) (does : Call → V → V → Type 0) (any_job : V → Bool) (opened : V) (side : Side) : Type 0 where
+    pub arrival : Arrival S
+    pub side_so : arrival.side ≡ side
     pub reader : S
     -- the wire as it was opened, and at the end; so of the seat
     pub wire : Socket S
@@ -64,7 +72,7 @@ module _ {S : Type 0} (remaining contents : S → Option (List ℕ)) where
     pub seat : Seat Job Reply
     pub seat_then : Seat Job Reply
     pub endpoint : V
-    pub is_opened : IsOpened stream reader wire
+    pub is_opened : IsOpened arrival.stream reader wire
     pub served : Served waits over owing does any_job ⊤ (has_ended wire_then) (is_closed wire_then)
         (standing opened Serves (remaining_on wire) (written_on contents wire) seat) endpoint (remaining_on wire_then) (written_on contents wire_then) seat_then
 
@@ -72,29 +80,36 @@ module _ {S : Type 0} (remaining contents : S → Option (List ℕ)) where
     -- the session of an application
     abbrev pub SessionVisit : Type 0
     SessionVisit =
-        Visit octets_of is_over (λ (e : EsmeView). is_any_request e.waiting) EsmeDoes (λ (e : EsmeView). is_any e.outbox.jobs) (opened_session admitted.accounts)
+        Visit octets_of is_over (λ (e : EsmeView). is_any_request e.waiting) EsmeDoes (λ (e : EsmeView). is_any e.outbox.jobs) (opened_session admitted.accounts) Application
 
     -- the link of a handset
     abbrev pub LinkVisit : Type 0
-    LinkVisit = Visit link_waits (λ (l : LinkView). l.is_over) (λ (l : LinkView). false) LinkDoes any_link_job (opened_link admitted.access)
+    LinkVisit = Visit link_waits (λ (l : LinkView). l.is_over) (λ (l : LinkView). false) LinkDoes any_link_job (opened_link admitted.access) Handset
 
     pub data Connection : Type 0 where
       Session : SessionVisit → Connection
       Link : LinkVisit → Connection
       -- There was no second handle of it or no memory for it. Nothing of it reached the seat, and nothing of the seat reached it.
-      TurnedAway : Side → Connection
+      TurnedAway : Arrival S → Connection
+
+    -- how it came
+    abbrev pub came_as : Connection → Arrival S
+    came_as (Session visit) = visit.arrival
+    came_as (Link visit) = visit.arrival
+    came_as (TurnedAway arrival) = arrival
 
     -- the calls of its endpoint, in order, and what the loop did at the seat by itself
     abbrev pub calls_of : Connection → List Call
     calls_of (Session visit) = visit.served.served.calls ++ visit.served.left.calls
     calls_of (Link visit) = visit.served.served.calls ++ visit.served.left.calls
-    calls_of (TurnedAway side) = []
+    calls_of (TurnedAway arrival) = []
 
     -- it sat at the seat, which was so before and so behind it
     abbrev pub Sits : Seat Job Reply → Connection → Seat Job Reply → Type 0
     Sits s (Session visit) t = (visit.seat ≡ s) × (visit.seat_then ≡ t)
     Sits s (Link visit) t = (visit.seat ≡ s) × (visit.seat_then ≡ t)
-    Sits s (TurnedAway side) t = t ≡ s
+    Sits s (TurnedAway arrival) t = t ≡ s
 
-    abbrev pub HasSat : Seat Job Reply → Seat Job Reply → Type 0
-    HasSat s t = (c : Connection) × Sits s c t
+    -- the connection that came so sat at the seat
+    abbrev pub HasSat : Arrival S → Seat Job Reply → Seat Job Reply → Type 0
+    HasSat arrival s t = (c : Connection) × (came_as c ≡ arrival) × Sits s c t

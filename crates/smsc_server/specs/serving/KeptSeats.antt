@@ -1,8 +1,8 @@
 -- Which connections may sit at the 32 seats of a run. Eight seats are kept for applications and eight for handsets, so that neither side
 -- shuts the other out.
 use Rattle.std.specs.Prelude.{ℕ, ◌+◌, nat_lt, ◌&&◌, Bool}
-use Rattle.smsc_server.specs.declared.serving.connection.Side.{Side}
-use Rattle.smsc_server.specs.declared.serving.connection.Side.TheVariants.{Application, Handset}
+use Rattle.smsc_arrivals.specs.declared.arrival.Side.{Side}
+use Rattle.smsc_arrivals.specs.declared.arrival.Side.TheVariants.{Application, Handset}
 
 -- how many of both sides there are of this one
 abbrev pub seated_of : Side → ℕ → ℕ → ℕ

@@ -1,5 +1,6 @@
 -- What a run of the server ran.
 use Rattle.std.specs.Prelude.{◌≡◌, ◌<◌, ◌≤◌, ℕ, List, [], Option, None}
+use Rattle.std.specs.declared.net.socket_addr.SocketAddr.{SocketAddr}
 use Rattle.sms_rows.specs.keep.KeepState.{KeepState}
 use Rattle.sms_rows.specs.keep.StoreOutcome.{IfHeld, WasHonest}
 use Rattle.sms_centre_spec.specs.declared.jobs.job.Job.{Job}
@@ -16,33 +17,40 @@ use Rattle.smsc_service.specs.declared.service.Service.{Service}
 use Rattle.smsc_service.specs.InService.{IsServedBy, store_in}
 use Rattle.smsc_service.specs.Seats.{nobody}
 use Rattle.smsc_service.specs.Serving.{Serving, after, gives, restarted}
+use Rattle.smsc_arrivals.specs.Sharing.{of}
+use Rattle.smsc_arrivals.specs.declared.arrival.Arrival.{Arrival}
+use Rattle.smsc_arrivals.specs.declared.doors.Doors.{Doors}
 use Rattle.smsc_server.specs.serving.Connections.{Admitted}
+use Rattle.smsc_server.specs.serving.Entering.{Came}
 use Rattle.smsc_server.specs.serving.Sittings.{SeatDid}
 use Rattle.smsc_server.specs.declared.serving.fault.ServeFault.{ServeFault}
 use Rattle.smsc_server.specs.declared.serving.fault.ServeFault.TheVariants.{NoMemory, NoThread, Broken}
 
 module _ {S : Type 0} (remaining contents : S → Option (List ℕ)) (admitted : Admitted) (reads : ℕ → Type 0) where
   -- These items are what was run. Each job of them was put by a connection at the seat that they name, and each reply of them was given to
-  -- its seat. The ticks are later and later, at moments that the clock shows.
-  pub record WereRun (items : List (Item Job Reply)) : Type 0 where
-    pub seats : (n : ℕ) → n < 32 → SeatDid remaining contents admitted (jobs_of n items) (answers_in n items)
+  -- its seat. The connections of a seat are those of its number, in order. The ticks are later and later, at moments that the clock shows.
+  pub record WereRun (arrivals : List (ℕ × Arrival S)) (items : List (Item Job Reply)) : Type 0 where
+    pub seats : (n : ℕ) → n < 32 → SeatDid remaining contents admitted (jobs_of n items) (answers_in n items) (of n arrivals)
     pub others : (n : ℕ) → 32 ≤ n → jobs_of n items ≡ []
     pub last_tick : Option ℕ
     pub ticks : IsRising reads None items last_tick
 
-  -- What connections asked was run. As long as the machine is honest it leads from what was before to what is after.
-  abbrev pub IsOneHistory : {T : Type 0} → (T → Stimulus Job → Fate → List (Out Reply)) → (T → Stimulus Job → Fate → T)
-      → Type 0 → (T → Type 0) → (T → Type 0) → Type 0
-  IsOneHistory gives after honest before behind =
-      (items : List (Item Job Reply)) × WereRun items × (honest → Leads gives after before items behind)
+  module _ {L : Type 0} (came : L → Option (List (S × SocketAddr))) (doors doors_then : Doors L) where
+    -- What connections asked was run. As long as the machine is honest it leads from what was before to what is after.
+    abbrev pub IsOneHistory : {T : Type 0} → (T → Stimulus Job → Fate → List (Out Reply)) → (T → Stimulus Job → Fate → T)
+        → Type 0 → (T → Type 0) → (T → Type 0) → Type 0
+    IsOneHistory gives after honest before behind =
+        (arrivals : List (ℕ × Arrival S)) × (items : List (Item Job Reply)) × Came came doors doors_then arrivals × WereRun arrivals items
+        × (honest → Leads gives after before items behind)
 
-  -- What connections asked was run. As long as the store is honest it is one history of the centre's definition on its rows, from nobody at
-  -- any seat on, and leads to what the service represents at its end.
-  abbrev pub IsServed : {K : Type 0} → (K → KeepState Rows) → K → Type 0
-  IsServed {K} state keep =
-      (last : Service K) × WasHonest (state keep) (state (store_in last)) × (items : List (Item Job Reply)) × WereRun items
-      × ((rows : Rows) → IfHeld rows (state keep) (state (store_in last))
-      ((end : Serving) × (IsHistory gives after (restarted rows nobody) items end × IsServedBy state last end)))
+    -- What connections asked was run. As long as the store is honest it is one history of the centre's definition on its rows, from nobody at
+    -- any seat on, and leads to what the service represents at its end.
+    abbrev pub IsServed : {K : Type 0} → (K → KeepState Rows) → K → Type 0
+    IsServed {K} state keep =
+        (last : Service K) × WasHonest (state keep) (state (store_in last)) × (arrivals : List (ℕ × Arrival S)) × (items : List (Item Job Reply))
+        × Came came doors doors_then arrivals × WereRun arrivals items
+        × ((rows : Rows) → IfHeld rows (state keep) (state (store_in last))
+        ((end : Serving) × (IsHistory gives after (restarted rows nobody) items end × IsServedBy state last end)))
 
 -- why there was no answer
 abbrev pub fault_of : HubFault → ServeFault

@@ -1,10 +1,13 @@
 //! The run.
-ghost use Rattle.std.specs.Prelude.{◌≡◌, ◌++◌, ℕ, List, map, option_map, IfOk, OnOk};
+ghost use Rattle.std.specs.Prelude.{◌≡◌, ◌≤◌, ◌∷◌, ◌++◌, [], ℕ, List, length, map, option_map, IfOk, OnOk};
 ghost use Rattle.std.specs.Io.KnownBytes.{Consumes};
 ghost use Rattle.sms_link.specs.framing.Framing.{joined};
 ghost use Rattle.sms_handset.specs.machine.Stepping.{MakesTheChanges};
 ghost use Rattle.smsc_server.specs.link_run.Asking.{event_of};
-ghost use Rattle.smsc_server.specs.link_run.Run.{Meets, ReadAs, received};
+ghost use Rattle.sms_handset.specs.declared.event.HandsetEvent.TheVariants.{Tick as TickOf};
+ghost use Rattle.sms_handset.specs.declared.event.HandsetEvent.{HandsetEvent as EventOf};
+ghost use Rattle.smsc_server.specs.link_run.Run.{Meets, received};
+ghost use Rattle.smsc_server.specs.link_run.Turns.{AreTimed, Attended};
 ghost use Rattle.smsc_server.specs.link_run.Ends.{IsRun, IsRunDone};
 ghost use Rattle.sms_handset.specs.machine.InMachine.{core_in};
 
@@ -34,7 +37,8 @@ fn is_pause(error: &io::Error) -> bool {
 
 // Octets that arrived, or none where nothing arrived in time; whether the link is still open.
 fn receive<R: Read>(link: &mut R, buffer: &mut FrameBuffer) -> Result<bool, LinkStop>
-    ensures { OnOk result ((octets : List ℕ) × (Consumes (R.remaining link.old) (R.remaining link.new) octets × (buffer.new ≡ buffer.old ++ octets))) }
+    ensures { OnOk result ((octets : List ℕ)
+        × ((length octets ≤ 4096) × Consumes (R.remaining link.old) (R.remaining link.new) octets × (buffer.new ≡ buffer.old ++ octets))) }
 {
     let mut room = [0; ROOM];
     match link.read(&mut room) {
@@ -57,9 +61,9 @@ fn turn<K: Keep<Rows = Rows, Changes = Changes> + Drop, R: Read, W: Write>(
     most: u32,
 ) -> Result<u32, LinkStop>
     requires { MakesTheChanges K.after }
-    ensures { IfOk result (λ left. (frames : List (List ℕ)) × (octets : List ℕ)
-        × (Consumes (R.remaining link_in.old) (R.remaining link_in.new) octets × (buffer.old ++ octets ≡ joined frames ++ buffer.new)
-        × Meets (map received frames) (core_in machine.old) (core_in machine.new) (W.contents link_out.old) (W.contents link_out.new))) }
+    ensures { IfOk result (λ left. (frames : List (List ℕ)) × (octets : List ℕ) × ((length octets ≤ 4096)
+        × Consumes (R.remaining link_in.old) (R.remaining link_in.new) octets × (buffer.old ++ octets ≡ joined frames ++ buffer.new)
+        × Meets (TickOf now ∷ map received frames) (core_in machine.old) (core_in machine.new) (W.contents link_out.old) (W.contents link_out.new))) }
 {
     tick(alloc, machine, now, link_out)?;
     let connected = receive(link_in, buffer)?;
@@ -77,8 +81,8 @@ fn attend<K: Keep<Rows = Rows, Changes = Changes> + Drop, R: Read, W: Write, C: 
     most: u32,
 ) -> Result<(), LinkStop>
     requires { MakesTheChanges K.after }
-    ensures { OnOk result ((frames : List (List ℕ)) × (ReadAs frames (R.remaining link_in.old) (R.remaining link_in.new)
-        × Meets (map received frames) (core_in machine.old) (core_in machine.new) (W.contents link_out.old) (W.contents link_out.new))) }
+    ensures { OnOk result ((rest : List ℕ) × Attended (C.reads clock.now) (R.remaining link_in.old) (R.remaining link_in.new) rest
+        (core_in machine.old) (core_in machine.new) (W.contents link_out.old) (W.contents link_out.new)) }
 {
     let mut left = most;
     let mut buffer = FrameBuffer::new(alloc);
@@ -101,7 +105,8 @@ fn act_all<K: Keep<Rows = Rows, Changes = Changes> + Drop, W: Write, A: Write, C
     clock: &C,
 ) -> Result<(), LinkStop>
     requires { MakesTheChanges K.after }
-    ensures { OnOk result (Meets (map event_of acts.now) (core_in machine.old) (core_in machine.new) (W.contents link.old) (W.contents link.new)) }
+    ensures { OnOk result ((timed : List EventOf) × AreTimed (C.reads clock.now) (map event_of acts.now) timed
+        × Meets timed (core_in machine.old) (core_in machine.new) (W.contents link.old) (W.contents link.new)) }
 {
     for asked in acts {
         tick(alloc, machine, clock.now(), link)?;
@@ -143,8 +148,8 @@ pub fn run_handset<
 ) -> Result<RunEnd, RunError>
     requires { MakesTheChanges K.after }
     // What is on the link behind the first frame is what the definition puts there for what the owner asked, and then for the
-    // frames that were read, with ticks between them; the handset is the one that they lead to.
-    ensures { IfOk result (IsRun (map event_of acts.now) number.now (option_map (λ s. s.now) secret.entry) (core_in machine.old) (core_in machine.new) (R.remaining link_in.old)
+    // frames that were read. Before each act, and at each read, is one tick. The handset is the one that all these lead to.
+    ensures { IfOk result (IsRun (C.reads clock.now) (map event_of acts.now) number.now (option_map (λ s. s.now) secret.entry) (core_in machine.old) (core_in machine.new) (R.remaining link_in.old)
         (R.remaining link_in.new) (W.contents link_out.old) (W.contents link_out.new)) }
 {
     match run(
@@ -169,7 +174,7 @@ fn run<K: Keep<Rows = Rows, Changes = Changes> + Drop, R: Read, W: Write, A: Wri
     frames: u32,
 ) -> Result<(), LinkStop>
     requires { MakesTheChanges K.after }
-    ensures { OnOk result (IsRunDone (map event_of acts.now) number.now (option_map (λ s. s.now) secret.entry) (core_in machine.old) (core_in machine.new) (R.remaining link_in.old)
+    ensures { OnOk result (IsRunDone (C.reads clock.now) (map event_of acts.now) number.now (option_map (λ s. s.now) secret.entry) (core_in machine.old) (core_in machine.new) (R.remaining link_in.old)
         (R.remaining link_in.new) (W.contents link_out.old) (W.contents link_out.new)) }
 {
     greet(alloc, link_out, number.digits.as_slice(), secret)?;

@@ -1,12 +1,14 @@
 //! Connections, accepted at both ports.
 ghost use Rattle.std.specs.Prelude.{◌≡◌, ◌↔◌, ◌-◌, Some, option_map, true};
+ghost use Rattle.smsc_arrivals.specs.declared.doors.Doors.{Doors as DoorsOf};
+ghost use Rattle.smsc_server.specs.serving.Entering.{HasSameSeats, HaveEntered};
 
 use crate::serving::board::Board;
 use crate::serving::clock::milliseconds;
-use crate::serving::connection::{Connection, Listeners, Side};
+use crate::serving::entrance::Entrance;
 use crate::serving::observer::{Event, Observer};
-use crossbeam_channel::Sender;
-use std::net::OpenListener;
+use crate::serving::poller::Poller;
+use smsc_arrivals::{Door, Side};
 use std::sync::{Arc, Wait};
 use std::thread;
 use std::time::{Clock, Duration};
@@ -22,10 +24,10 @@ const TELL: u64 = 1000;
 
 /// Who takes connections, and what it shares with the seats.
 #[derive(Drop)]
-pub(crate) struct Acceptor<R, L: OpenListener, T> {
+pub(crate) struct Acceptor<R, L, S: Drop, T> {
     pub(crate) rt: R,
-    pub(crate) listeners: Listeners<L>,
-    pub(crate) sender: Sender<Connection<L::Stream>>,
+    pub(crate) entrance: Entrance<L, S>,
+    pub(crate) poller: Poller,
     pub(crate) board: Arc<Board>,
     pub(crate) observer: Arc<T>,
     /// When it was told last that somebody waits, in milliseconds of the run's clock.
@@ -44,29 +46,28 @@ fn one_fewer(sessions: Option<u32>) -> Option<u32>
     }
 }
 
-impl<R: Wait + Clock, L: OpenListener, T: Observer> Acceptor<R, L, T> {
-    // Gives the connection to a seat. False where no seat takes any.
-    fn seat(&self, connection: Connection<L::Stream>) -> bool {
-        self.board.sit(connection.side);
-        self.sender.send(&self.rt, connection).is_ok()
-    }
-
+impl<R: Wait + Clock, S: Drop, L: Door<Stream = S>, T: Observer> Acceptor<R, L, S, T> {
     fn has_served_all(&self) -> bool
         ensures { (result ≡ true) ↔ self.now.sessions ≡ Some 0 }
     {
         self.sessions == Some(0)
     }
 
-    // Takes the next connection that waits at that side. Says whether there was one.
-    fn take(&mut self, side: Side) -> bool {
+    // Takes the next connection that waits at that side. Says whether there was one and the seats have it.
+    fn take(&mut self, side: Side) -> bool
+        ensures entered { (start : DoorsOf L) → HaveEntered L.came start self.old.entrance → HaveEntered L.came start self.new.entrance }
+        ensures seats { HasSameSeats self.old.entrance.giver self.new.entrance.giver }
+    {
         if self.has_served_all() || !self.board.has_room(side) {
             return false;
         }
-        let Some(connection) = self.listeners.accept(side) else {
-            return false;
-        };
-        self.sessions = one_fewer(self.sessions);
-        self.seat(connection)
+        match self.entrance.let_in(&self.rt, &self.board, side) {
+            Some(is_given) => {
+                self.sessions = one_fewer(self.sessions);
+                is_given
+            }
+            None => false,
+        }
     }
 
     fn pause(&self) {
@@ -74,7 +75,9 @@ impl<R: Wait + Clock, L: OpenListener, T: Observer> Acceptor<R, L, T> {
     }
 
     // Tells, once a second at most, that somebody waits and why.
-    fn tell(&mut self) {
+    fn tell(&mut self)
+        ensures { self.new.entrance ≡ self.old.entrance }
+    {
         let now = milliseconds(&self.rt);
         if now.saturating_sub(self.told) < TELL {
             return;
@@ -90,17 +93,15 @@ impl<R: Wait + Clock, L: OpenListener, T: Observer> Acceptor<R, L, T> {
 
     // Waits until a connection waits at a port, and says whether one does. Where one waited already and could not be taken, as where its
     // side has no seat or the system no further file, it is left for a moment.
-    fn wait_for_some(&mut self, is_left: bool) -> bool {
+    fn wait_for_some(&mut self, is_left: bool) -> bool
+        ensures { self.new.entrance ≡ self.old.entrance }
+    {
         self.board.let_wait(is_left && self.board.is_full_of_some());
         if is_left {
             self.tell();
             self.pause();
         }
-        match self
-            .listeners
-            .poller
-            .look(Duration::from_millis(LONGEST_WAIT))
-        {
+        match self.poller.look(Duration::from_millis(LONGEST_WAIT)) {
             Some(waits) => waits,
             None => {
                 self.pause();
@@ -110,20 +111,17 @@ impl<R: Wait + Clock, L: OpenListener, T: Observer> Acceptor<R, L, T> {
     }
 
     // Waits until a seat is free. Whoever waits at a port meanwhile stays there, and is known to wait.
-    fn wait_for_seat(&mut self) {
-        if let Some(others_wait) = self.listeners.poller.look(Duration::from_millis(0)) {
+    fn wait_for_seat(&mut self)
+        ensures { self.new.entrance ≡ self.old.entrance }
+    {
+        if let Some(others_wait) = self.poller.look(Duration::from_millis(0)) {
             self.board.let_wait(others_wait);
             if others_wait {
                 self.tell();
             }
         }
         // Whoever rose before has rung already.
-        if self.board.is_full()
-            && !self
-                .listeners
-                .poller
-                .wait(Duration::from_millis(LONGEST_WAIT))
-        {
+        if self.board.is_full() && !self.poller.wait(Duration::from_millis(LONGEST_WAIT)) {
             self.pause();
         }
     }
@@ -133,24 +131,65 @@ impl<R: Wait + Clock, L: OpenListener, T: Observer> Acceptor<R, L, T> {
         !self.has_served_all() && !self.board.is_ending()
     }
 
-    // Whether nobody was taken, though there is a seat.
-    fn took_none(&mut self) -> bool {
+    // Takes the next connection that waits at each side. Says of which there was one and the seats have it.
+    fn take_both(&mut self) -> (bool, bool)
+        ensures entered { (start : DoorsOf L) → HaveEntered L.came start self.old.entrance → HaveEntered L.came start self.new.entrance }
+        ensures seats { HasSameSeats self.old.entrance.giver self.new.entrance.giver }
+    {
         let first = self.take(Side::Application);
         let second = self.take(Side::Handset);
+        (first, second)
+    }
+
+    // Whether nobody was taken, though there is a seat.
+    fn took_none(&mut self) -> bool
+        ensures entered { (start : DoorsOf L) → HaveEntered L.came start self.old.entrance → HaveEntered L.came start self.new.entrance }
+        ensures seats { HasSameSeats self.old.entrance.giver self.new.entrance.giver }
+    {
+        let (first, second) = self.take_both();
         !first && !second && self.may_continue() && !self.board.is_full()
     }
 
-    /// Takes so many connections, each as a seat is free for it.
-    pub(crate) fn accept_all(&mut self) {
+    // Takes the connections that wait, or waits for one, or for a seat. Says whether one was left.
+    fn turn(&mut self, is_left: bool) -> bool
+        ensures entered { (start : DoorsOf L) → HaveEntered L.came start self.old.entrance → HaveEntered L.came start self.new.entrance }
+        ensures seats { HasSameSeats self.old.entrance.giver self.new.entrance.giver }
+    {
+        if self.board.is_full() {
+            self.wait_for_seat();
+        }
+        if !self.took_none() {
+            return false;
+        }
+        self.wait_for_some(is_left)
+    }
+
+    // Takes so many connections, each as a seat is free for it.
+    fn accept_so_many(&mut self)
+        ensures entered { (start : DoorsOf L) → HaveEntered L.came start self.old.entrance → HaveEntered L.came start self.new.entrance }
+        ensures seats { HasSameSeats self.old.entrance.giver self.new.entrance.giver }
+    {
         let mut is_left = false;
         for _ in 0..u64::MAX {
             if !self.may_continue() {
                 return;
             }
-            if self.board.is_full() {
-                self.wait_for_seat();
-            }
-            is_left = self.took_none() && self.wait_for_some(is_left);
+            is_left = self.turn(is_left);
         }
     }
+}
+
+/// Takes so many connections, and then tells the seats that no more come.
+pub(crate) fn accept_all<R: Wait + Clock + Copy, S: Drop, L: Door<Stream = S>, T: Observer + Drop>(
+    acceptor: Acceptor<R, L, S, T>,
+) -> Entrance<L, S>
+    ensures entered { (start : DoorsOf L) → HaveEntered L.came start acceptor.entrance → HaveEntered L.came start result }
+    ensures seats { HasSameSeats acceptor.entrance.giver result.giver }
+{
+    let mut acceptor = acceptor;
+    acceptor.accept_so_many();
+    let Acceptor { rt, entrance, .. } = acceptor;
+    let mut entrance = entrance;
+    entrance.close(&rt);
+    entrance
 }

@@ -1,11 +1,11 @@
 //! What the threads of a run share.
-use crate::serving::connection::Side;
 use crate::serving::occupancy::{Seated, Seating};
 use crate::serving::orders::{Orders, SEATS};
 use crossbeam_channel::{Receiver, Sender, bounded};
 use mio::Waker;
 use smpp_session::FullAccounts;
 use sms_base::Digits;
+use smsc_arrivals::Side;
 use std::alloc::{AllocError, Global};
 use std::sync::atomic::{AtomicBool, Ordering};
 use std::sync::{Arc, Mutex, Wait};

@@ -1,5 +1,6 @@
-//! A connection that was accepted.
+//! The ports, and the wire of a connection that was accepted.
 ghost use Rattle.std.specs.Prelude.{◌≡◌, false, IfOk};
+ghost use Rattle.smsc_server.specs.serving.Entering.{doors_of};
 ghost use Rattle.smsc_server.specs.serving.PieceEnds.{left_at};
 ghost use Rattle.smsc_server.specs.serving.Pieces.{octets_of};
 
@@ -9,37 +10,23 @@ use crate::serving::reading::Reading;
 use crate::serving::refusing::refuse;
 use crossbeam_channel::TryRecvError;
 use mio::Waker;
+use smsc_arrivals::{Doors, Side};
 use smsc_loop::{Found, LeaveReason, Wire};
 use std::alloc::Global;
 use std::io::{self, Read, Write};
-use std::net::{Net, OpenListener, OpenStream, Shutdown, SocketAddr};
+use std::net::{Net, OpenListener, OpenStream, Shutdown};
 use std::os::fd::AsRawFd;
 use std::sync::Wait;
 use std::time::Duration;
 
-/// Who is at the other end.
-#[derive(Clone, Copy, Debug, PartialEq, Eq)]
-pub enum Side {
-    /// An application, by SMPP.
-    Application,
-    /// A handset, by a link.
-    Handset,
-}
-
 /// The ports, at which connections are accepted.
 #[derive(Drop)]
 pub struct Ports<L> {
-    pub(crate) listeners: Listeners<L>,
+    pub(crate) doors: Doors<L>,
+    // Rings where a connection waits at one of them.
+    pub(crate) poller: Poller,
     // Wakes whoever waits for the poller.
     pub(crate) waker: Waker,
-}
-
-/// The two listeners, and what rings where a connection waits at one of them.
-#[derive(Drop)]
-pub(crate) struct Listeners<L> {
-    applications: L,
-    links: L,
-    pub(crate) poller: Poller,
 }
 
 impl<L: OpenListener + AsRawFd + Drop> Ports<L> {
@@ -47,41 +34,22 @@ impl<L: OpenListener + AsRawFd + Drop> Ports<L> {
     ///
     /// # Errors
     /// The system has no further file, or no memory.
-    pub fn of<N: Net>(net: &N, alloc: Global, applications: L, links: L) -> io::Result<Ports<L>> {
+    pub fn of<N: Net>(net: &N, alloc: Global, applications: L, links: L) -> io::Result<Ports<L>>
+        ensures { IfOk result (λ ports. ((doors_of ports).applications ≡ applications) × ((doors_of ports).links ≡ links)) }
+    {
         applications.set_nonblocking(true)?;
         links.set_nonblocking(true)?;
         let (poller, waker) = Poller::of(net, alloc, &applications, &links)?;
+        let doors = Doors {
+            applications,
+            links,
+        };
         Ok(Ports {
-            listeners: Listeners {
-                applications,
-                links,
-                poller,
-            },
+            doors,
+            poller,
             waker,
         })
     }
-}
-
-impl<L: OpenListener> Listeners<L> {
-    /// Takes the next connection that waits at that side, if there is one.
-    pub(crate) fn accept(&self, side: Side) -> Option<Connection<L::Stream>> {
-        let accepted = match side {
-            Side::Application => self.applications.accept(),
-            Side::Handset => self.links.accept(),
-        };
-        match accepted {
-            Ok((stream, peer)) => Some(Connection { stream, side, peer }),
-            Err(_) => None,
-        }
-    }
-}
-
-/// A connection, what it is for, and the address of its other side.
-#[derive(Drop)]
-pub(crate) struct Connection<S> {
-    pub(crate) stream: S,
-    pub(crate) side: Side,
-    pub(crate) peer: SocketAddr,
 }
 
 // A write waits so many thousandths of a second for room.

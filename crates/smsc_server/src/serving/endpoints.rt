@@ -1,23 +1,29 @@
 //! The threads of the seats.
 ghost use Rattle.std.specs.Prelude.{◌≡◌, List, [], IfOk, ⊤};
+ghost use Rattle.std.specs.declared.net.socket_addr.SocketAddr.{SocketAddr as PeerOf};
 ghost use Rattle.std.specs.Arc.{arc_value};
 ghost use Rattle.smpp_session.specs.declared.account.Account.{Account as AccountOf};
 ghost use Rattle.smsc_endpoint.specs.declared.link_access.LinkAccess.{LinkAccess as AccessOf};
 ghost use Rattle.sms_seats.specs.Seats.{IsSameSeat, put_by, taken_by};
 ghost use Rattle.smsc_loop.specs.Owing.{IsCleared};
-ghost use Rattle.smsc_server.specs.serving.Connections.{HasSat, IsOpened, admits};
+ghost use Rattle.smsc_arrivals.specs.Ways.{IsSameTaker, taken_by as items_taken};
+ghost use Rattle.smsc_arrivals.specs.declared.arrival.Side.TheVariants.{Application as ForApplication, Handset as ForHandset};
+ghost use Rattle.smsc_server.specs.serving.Connections.{HasSat, IsOpened, admits, arrival_of};
+ghost use Rattle.smsc_server.specs.serving.Entering.{arrivals_among};
 ghost use Rattle.smsc_server.specs.serving.Sittings.{HaveSat, IsHandedBack};
 
 use crate::serving::board::Board;
 use crate::serving::clock::milliseconds;
-use crate::serving::connection::{Connection, Side, Socket};
+use crate::serving::connection::Socket;
+use crate::serving::entrance::{ArrivalTaker, next_arrival};
 use crate::serving::observer::{Event, Observer};
 use crate::serving::reading::Reading;
 use crate::serving::refusing::no_room;
-use crossbeam_channel::{Receiver, Sender};
+use crossbeam_channel::Sender;
 use smpp_session::{Accounts, FullAccounts};
 use sms_centre_spec::jobs::{Job, Reply};
 use sms_keeper::Seat;
+use smsc_arrivals::{Arrival, Side};
 use smsc_endpoint::{Esme, LinkAccess, LinkEndpoint};
 use smsc_loop::{Activity, Counts, LeaveReason, Note, OpenSeat, Order, Surroundings, Wire, serve};
 use std::alloc::Global;
@@ -27,7 +33,12 @@ use std::sync::atomic::{AtomicBool, AtomicU8, AtomicU64, Ordering};
 use std::sync::{Arc, Wait};
 use std::time::Clock;
 
-// Milliseconds after which no seat waits for anything any more once it saw an order to stop. It sees one within a second.
+// Milliseconds after which the centre begins nothing more once a seat saw an order to stop. It sees one within a second. So much is left of
+// the seven seconds that an endpoint waits for its answers: the commit that is under way ends, each request that waits is refused, and all
+// of them are answered.
+const INTAKE_LIMIT: u64 = 5_000;
+
+// And after which no seat waits for anything any more.
 const STOP_LIMIT: u64 = 8_000;
 
 /// What the thread of a seat has beside its seat.
@@ -39,7 +50,6 @@ pub(crate) struct SeatContext<R, S: Read, T> {
     pub(crate) access: Arc<LinkAccess>,
     pub(crate) observer: Arc<T>,
     pub(crate) board: Arc<Board>,
-    pub(crate) connections: Receiver<Connection<S>>,
     /// To the thread that reads for the seat.
     pub(crate) readings: Sender<Reading<S>>,
 }
@@ -111,13 +121,22 @@ impl<'a, R: Wait + Clock, T: Observer> SeatSurroundings<'a, R, T> {
         now
     }
 
-    // Whether the run was ordered to end so long ago that no seat waits any more.
-    fn is_late(&self) -> bool {
+    // For how long the run has been ordered to end, as far as this seat knows.
+    fn ending_for(&self) -> u64 {
         if !self.board.is_ending() {
-            return false;
+            return 0;
         }
         let now = milliseconds(self.rt);
-        now.saturating_sub(self.stopping_since(now)) >= STOP_LIMIT
+        now.saturating_sub(self.stopping_since(now))
+    }
+
+    // Whether the run was ordered to end so long ago that no seat waits any more. Before that the centre begins nothing more.
+    fn is_late(&self) -> bool {
+        let passed = self.ending_for();
+        if passed >= INTAKE_LIMIT {
+            self.board.orders.cutoff().pass();
+        }
+        passed >= STOP_LIMIT
     }
 }
 
@@ -192,8 +211,8 @@ fn serve_application<R: Wait + Clock, S: OpenStream + Read + Write + Drop, T: Ob
     seat: &mut OpenSeat,
     wire: &mut Socket<S>,
 )
-    ensures { (stream reader : S) → IsOpened S.remaining S.contents stream reader wire.old
-        → (access : AccessOf) → HasSat S.remaining S.contents (admits (arc_value accounts.now) access) seat.old.seat seat.new.seat }
+    ensures { (stream reader : S) → IsOpened S.remaining S.contents stream reader wire.old → (access : AccessOf) (peer : PeerOf)
+        → HasSat S.remaining S.contents (admits (arc_value accounts.now) access) (arrival_of stream ForApplication peer) seat.old.seat seat.new.seat }
 {
     let Ok(accounts) = Arc::try_clone(accounts) else {
         return refuse_new(Side::Application, around, seat, wire);
@@ -210,8 +229,8 @@ fn serve_handset<R: Wait + Clock, S: OpenStream + Read + Write + Drop, T: Observ
     seat: &mut OpenSeat,
     wire: &mut Socket<S>,
 )
-    ensures { (stream reader : S) → IsOpened S.remaining S.contents stream reader wire.old
-        → (accounts : List AccountOf) → HasSat S.remaining S.contents (admits accounts (arc_value access.now)) seat.old.seat seat.new.seat }
+    ensures { (stream reader : S) → IsOpened S.remaining S.contents stream reader wire.old → (accounts : List AccountOf) (peer : PeerOf)
+        → HasSat S.remaining S.contents (admits accounts (arc_value access.now)) (arrival_of stream ForHandset peer) seat.old.seat seat.new.seat }
 {
     let Ok(access) = Arc::try_clone(access) else {
         return refuse_new(Side::Handset, around, seat, wire);
@@ -242,8 +261,9 @@ impl<R: Wait + Clock, S: OpenStream + Read + Write + Drop, T: Observer> SeatCont
         side: Side,
         socket: &mut Socket<S>,
     )
-        ensures { (stream reader : S) → IsOpened S.remaining S.contents stream reader socket.old
-            → HasSat S.remaining S.contents (admits (arc_value self.now.accounts) (arc_value self.now.access)) seat.old.seat seat.new.seat }
+        ensures { (stream reader : S) → IsOpened S.remaining S.contents stream reader socket.old → (peer : PeerOf)
+            → HasSat S.remaining S.contents (admits (arc_value self.now.accounts) (arc_value self.now.access)) (arrival_of stream side peer)
+            seat.old.seat seat.new.seat }
     {
         match side {
             Side::Application => {
@@ -274,8 +294,9 @@ impl<R: Wait + Clock, S: OpenStream + Read + Write + Drop, T: Observer> SeatCont
         side: Side,
         socket: Socket<S>,
     )
-        ensures { (stream reader : S) → IsOpened S.remaining S.contents stream reader socket
-            → HasSat S.remaining S.contents (admits (arc_value self.now.accounts) (arc_value self.now.access)) seat.old.seat seat.new.seat }
+        ensures { (stream reader : S) → IsOpened S.remaining S.contents stream reader socket → (peer : PeerOf)
+            → HasSat S.remaining S.contents (admits (arc_value self.now.accounts) (arc_value self.now.access)) (arrival_of stream side peer)
+            seat.old.seat seat.new.seat }
     {
         let mut socket = socket;
         self.serve_side(around, seat, side, &mut socket);
@@ -289,7 +310,8 @@ impl<R: Wait + Clock, S: OpenStream + Read + Write + Drop, T: Observer> SeatCont
         stream: S,
         side: Side,
     )
-        ensures { HasSat S.remaining S.contents (admits (arc_value self.now.accounts) (arc_value self.now.access)) seat.old.seat seat.new.seat }
+        ensures { (peer : PeerOf) → HasSat S.remaining S.contents (admits (arc_value self.now.accounts) (arc_value self.now.access))
+            (arrival_of stream side peer) seat.old.seat seat.new.seat }
     {
         match self.open_socket(stream, side) {
             Ok(socket) => self.serve_socket(around, seat, side, socket),
@@ -297,10 +319,10 @@ impl<R: Wait + Clock, S: OpenStream + Read + Write + Drop, T: Observer> SeatCont
         }
     }
 
-    fn serve_connection(&self, seat: &mut OpenSeat, connection: Connection<S>)
-        ensures { HasSat S.remaining S.contents (admits (arc_value self.now.accounts) (arc_value self.now.access)) seat.old.seat seat.new.seat }
+    fn serve_connection(&self, seat: &mut OpenSeat, arrival: Arrival<S>)
+        ensures { HasSat S.remaining S.contents (admits (arc_value self.now.accounts) (arc_value self.now.access)) arrival seat.old.seat seat.new.seat }
     {
-        let Connection { stream, side, peer } = connection;
+        let Arrival { stream, side, peer } = arrival;
         let around = self.surroundings(side, peer);
         self.board.orders.begin(seat.number());
         self.serve_stream(&around, seat, stream, side);
@@ -309,16 +331,18 @@ impl<R: Wait + Clock, S: OpenStream + Read + Write + Drop, T: Observer> SeatCont
 
     // Serves one connection after another, until there will be none any more. Where the run was over before the seat had all its
     // answers, no other connection gets them.
-    fn serve_all(&self, seat: &mut OpenSeat)
+    fn serve_all(&self, seat: &mut OpenSeat, taker: &mut ArrivalTaker<S>)
         requires { IsCleared (put_by seat.old.seat) (taken_by seat.old.seat) }
-        ensures { HaveSat S.remaining S.contents (admits (arc_value self.now.accounts) (arc_value self.now.access)) seat.old.seat seat.new.seat }
+        ensures sat { HaveSat S.remaining S.contents (admits (arc_value self.now.accounts) (arc_value self.now.access)) seat.old.seat seat.new.seat
+            (arrivals_among (items_taken taker.old)) (arrivals_among (items_taken taker.new)) }
+        ensures same { IsSameTaker taker.old taker.new }
     {
         for _ in 0..u64::MAX {
-            let Ok(connection) = self.connections.recv(&self.rt) else {
+            let Some(arrival) = next_arrival(&self.rt, taker) else {
                 return;
             };
-            let side = connection.side;
-            self.serve_connection(seat, connection);
+            let side = arrival.side;
+            self.serve_connection(seat, arrival);
             self.board.rise(side);
             if !seat.is_cleared() {
                 return;
@@ -327,16 +351,29 @@ impl<R: Wait + Clock, S: OpenStream + Read + Write + Drop, T: Observer> SeatCont
     }
 }
 
+/// What the thread of a seat hands back: the seat, and the end at which it took connections.
+#[derive(Drop)]
+pub(crate) struct Returned<S: Drop> {
+    pub(crate) seat: Seat<Job, Reply>,
+    pub(crate) taker: ArrivalTaker<S>,
+}
+
 /// Serves one connection after another at a seat, until there will be none any more; then the seat closes, and comes back.
 pub(crate) fn serve_seat<R: Wait + Clock, S: OpenStream + Read + Write + Drop, T: Observer>(
     context: &SeatContext<R, S, T>,
     seat: Seat<Job, Reply>,
-) -> Seat<Job, Reply>
-    requires { (put_by seat ≡ []) × (taken_by seat ≡ []) }
-    ensures seat { IsSameSeat seat result }
-    ensures sat { IsHandedBack S.remaining S.contents (admits (arc_value context.now.accounts) (arc_value context.now.access)) result }
+    taker: ArrivalTaker<S>,
+) -> Returned<S>
+    requires seat { (put_by seat ≡ []) × (taken_by seat ≡ []) }
+    requires taker { items_taken taker ≡ [] }
+    ensures seat { IsSameSeat seat result.seat }
+    ensures taker { IsSameTaker taker result.taker }
+    ensures sat { IsHandedBack S.remaining S.contents (admits (arc_value context.now.accounts) (arc_value context.now.access)) result.seat
+        (arrivals_among (items_taken result.taker)) }
 {
+    let mut taker = taker;
     let mut seat = OpenSeat::new(seat);
-    context.serve_all(&mut seat);
-    seat.close(&context.rt, &context.board.over)
+    context.serve_all(&mut seat, &mut taker);
+    let seat = seat.close(&context.rt, &context.board.over);
+    Returned { seat, taker }
 }

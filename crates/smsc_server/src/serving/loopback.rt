@@ -7,6 +7,7 @@ use crate::serving::observer::Observer;
 use crate::serving::run::serve;
 use crate::serving::server::Given;
 use sms_keeper::{Clock, Gate};
+use smsc_arrivals::Doors;
 use smsc_service::CentreStore;
 use std::alloc::Global;
 use std::io;
@@ -37,6 +38,17 @@ fn open<N: Net<Listener = TcpListener, Stream = TcpStream>>(
     };
     let ports = Ports::of(net, alloc, applications, links)?;
     Ok((ports, loopback))
+}
+
+// The listeners are not needed any more.
+fn drop_doors<L: Drop>(served: Result<Doors<L>, ServeFault>) -> Result<(), ServeFault> {
+    match served {
+        Ok(doors) => {
+            drop(doors);
+            Ok(())
+        }
+        Err(fault) => Err(fault),
+    }
 }
 
 /// Serves the connections of two free ports of this machine, as `serve` does, in a thread beside the work, which makes them. Gives
@@ -74,7 +86,7 @@ pub fn loopback_pair<
         &rt,
         move ||
             requires observer { IsSend T.row }
-        { serve(rt, alloc, keep, gate, clock, ports, given) },
+        { drop_doors(serve(rt, alloc, keep, gate, clock, ports, given)) },
         move || work(loopback),
     );
     Ok(both)

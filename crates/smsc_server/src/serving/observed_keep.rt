@@ -25,11 +25,12 @@ fn report<T: Observer>(observer: &T, message: &MessageRow) {
     }
 }
 
-fn report_all<T: Observer>(observer: Option<&T>, changes: &[Change<MessageRow>]) {
+fn report_all<T: Observer>(observer: Option<&T>, changes: &Changes) {
     let Some(observer) = observer else {
         return;
     };
-    for change in changes {
+    observer.committed(changes);
+    for change in changes.messages.as_slice() {
         if let Change::Put(message) = change {
             report(observer, message);
         }
@@ -68,7 +69,7 @@ impl<'a, K: CentreStore, T: Observer> Keep for ObservedKeep<'a, K, T> {
         let committed = self.keep.commit(changes);
         end_commit(self.observer, &committed);
         if committed.is_ok() {
-            report_all(self.observer, changes.messages.as_slice());
+            report_all(self.observer, changes);
         }
         committed
     }

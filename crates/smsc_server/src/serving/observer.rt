@@ -1,8 +1,9 @@
 //! The observer of a run.
-use crate::serving::connection::Side;
 use crate::serving::occupancy::Seated;
 use sms_base::{Digits, FinalState, MessageId};
+use sms_centre_spec::Changes;
 use sms_rows::keep::KeepError;
+use smsc_arrivals::Side;
 use smsc_loop::{Activity, LeaveReason, Note};
 use std::net::SocketAddr;
 
@@ -40,4 +41,7 @@ pub trait Observer {
 
     /// The commit ended. Where it was refused, it says why.
     fn end_commit(&self, _refused: Option<KeepError>) {}
+
+    /// Takes what the commit changed, once it was made.
+    fn committed(&self, _changes: &Changes) {}
 }

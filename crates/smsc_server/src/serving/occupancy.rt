@@ -4,9 +4,9 @@ ghost use Rattle.smpp_session.specs.Logins.{is_full};
 ghost use Rattle.smsc_server.specs.serving.KeptSeats.{may_sit as may_sit_of};
 ghost use Rattle.smsc_server.specs.serving.SessionLimits.{bound_at, bound_where, count_of, full_where, has_room as has_room_of, is_of as is_of_account, limit_of, may_be_bound, AreWithin};
 
-use crate::serving::connection::Side;
 use crate::serving::orders::SEATS;
 use smpp_session::FullAccounts;
+use smsc_arrivals::Side;
 use std::alloc::{AllocError, Global};
 use std::sync::atomic::{AtomicUsize, Ordering};
 use std::sync::{Mutex, Wait};

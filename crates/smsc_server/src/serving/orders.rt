@@ -1,6 +1,8 @@
 //! What an operator orders of a run.
 use smsc_loop::Order;
+use smsc_service::Cutoff;
 use std::alloc::{AllocError, Global};
+use std::sync::Arc;
 use std::sync::atomic::{AtomicBool, AtomicU8, Ordering};
 
 /// How many seats a server has, and so how many connections are open at most.
@@ -22,6 +24,8 @@ pub struct Orders {
     seats: Vec<AtomicU8>,
     stop: AtomicBool,
     cut: AtomicBool,
+    // Behind it the centre begins nothing.
+    cutoff: Arc<Cutoff>,
 }
 
 impl Orders {
@@ -35,6 +39,7 @@ impl Orders {
             seats,
             stop: AtomicBool::new(false),
             cut: AtomicBool::new(false),
+            cutoff: Arc::new(alloc, Cutoff::new())?,
         })
     }
 
@@ -46,6 +51,11 @@ impl Orders {
     /// The run ends at once: all connections end, and nothing more is sent on them.
     pub fn cut(&self) {
         self.cut.store(true, Ordering::SeqCst);
+    }
+
+    /// What keeps the centre from beginning anything, once the time of a run that is to end is nearly over.
+    pub(crate) fn cutoff(&self) -> &Arc<Cutoff> {
+        &self.cutoff
     }
 
     /// Whether the run is to end.

@@ -1,5 +1,5 @@
 //! A connection that is refused.
-use crate::serving::connection::Side;
+use smsc_arrivals::Side;
 use smsc_endpoint::{CONGESTION, NO_ROOM};
 use std::io::{Read, Write};
 use std::net::OpenStream;

@@ -1,31 +1,45 @@
 //! A run of the server.
 ghost use Rattle.std.specs.Thread.{IsSend};
-ghost use Rattle.std.specs.Prelude.{◌≡◌, List, IfOk, length};
+ghost use Rattle.std.specs.Prelude.{◌≡◌, ◌<◌, ℕ, List, [], IfOk, Option, Some, length, slice_get};
 ghost use Rattle.std.specs.Arc.{arc_value};
 ghost use Rattle.sms_hub.specs.Lasting.{Ran};
-ghost use Rattle.sms_keeper.specs.Keeping.{IsClosed};
-ghost use Rattle.sms_keeper.specs.Seating.{IsNewKeeper};
+ghost use Rattle.sms_centre_spec.specs.declared.jobs.job.Job.{Job as JobOf};
+ghost use Rattle.sms_centre_spec.specs.declared.jobs.reply.Reply.{Reply as ReplyOf};
+ghost use Rattle.sms_keeper.specs.History.{for_seat, work};
+ghost use Rattle.sms_keeper.specs.Keeping.{IsClosed, given_by, ran_by, seats_of};
+ghost use Rattle.sms_keeper.specs.Seating.{IsNewKeeper, IsUnchanged};
+ghost use Rattle.sms_seats.specs.declared.seat.Seat.{Seat as SeatOf};
+ghost use Rattle.sms_seats.specs.Seats.{put_by, taken_by};
 ghost use Rattle.sms_rows.specs.keep.StoreOutcome.{WasHonest};
 ghost use Rattle.smsc_service.specs.InService.{HasHonestStore, IsServedBy, store_in};
 ghost use Rattle.smsc_service.specs.Serving.{after, gives};
+ghost use Rattle.smsc_arrivals.specs.Sharing.{of};
+ghost use Rattle.smsc_arrivals.specs.Ways.{made_by, settled_at};
+ghost use Rattle.smsc_arrivals.specs.declared.arrival.Arrival.{Arrival as ArrivalOf};
+ghost use Rattle.smsc_arrivals.specs.declared.doors.Doors.{Doors as DoorsOf};
+ghost use Rattle.smsc_arrivals.specs.declared.sharing.ends.Giver.{Giver as GiverOf};
 ghost use Rattle.smsc_server.specs.serving.Connections.{Admitted, admits};
-ghost use Rattle.smsc_server.specs.serving.SeatThreads.{AreAt, HaveAdmitted};
+ghost use Rattle.smsc_server.specs.serving.Entering.{Came, HasSameSeats, HaveEntered, doors_of};
+ghost use Rattle.smsc_server.specs.serving.SeatThreads.{AreAt, AreWays, HaveAdmitted, HaveStarted};
 ghost use Rattle.smsc_server.specs.serving.Serving.{IsOneHistory, IsServed};
+ghost use Rattle.smsc_server.specs.serving.Sittings.{SeatDid};
 
 use crate::serving::connection::Ports;
+use crate::serving::entrance::{Entrance, EntranceThread};
 use crate::serving::fault::ServeFault;
 use crate::serving::observer::{Event, Observer};
 use crate::serving::orders::SEATS;
-use crate::serving::seat_thread::{give_up, settle_all};
-use crate::serving::server::{Given, SLOTS, Server, Shared};
+use crate::serving::poller::Poller;
+use crate::serving::seat_thread::{SeatThread, give_up, settle_all, take_back_all};
+use crate::serving::server::{Given, SLOTS, Server, Shared, start_entrance};
 use sms_centre_spec::jobs::{Job, Reply};
 use sms_hub::{Hub, Minder, keep_terms};
-use sms_keeper::{Clock, Gate, Keeper, Machine};
+use sms_keeper::{Clock, Gate, Keeper, Machine, Seat};
+use smsc_arrivals::{Door, Doors};
 use smsc_service::{CentreStore, serve_with};
 use std::alloc::Global;
 use std::io::{Read, Write};
-use std::net::{OpenListener, OpenStream};
-use std::os::fd::AsRawFd;
+use std::net::OpenStream;
 use std::sync::Wait;
 use std::thread::Threads;
 use std::time::Clock as SystemClock;
@@ -62,6 +76,35 @@ fn run_keeper<R: Wait, M: Machine<Job, Reply>, G: Gate, C: Clock, T: Observer>(
     Ok(())
 }
 
+// Takes all seats back, and what was given to none. Gives the listeners.
+fn close_all<
+    R: Threads + Wait,
+    S: OpenStream + Read + Write + Drop + Send + 'static,
+    L: Door<Stream = S> + Drop,
+>(
+    rt: &R,
+    alloc: Global,
+    keeper: &mut Keeper<Job, Reply>,
+    entrance: Entrance<L, S>,
+    threads: Vec<SeatThread<S>>,
+) -> Doors<L>
+    requires seats { AreAt keeper.old threads.items }
+    requires closed { IsClosed keeper.old }
+    requires count { (length threads.items ≡ 32) × (seats_of keeper.old ≡ 32) }
+    requires ways { AreWays entrance.giver threads.items × (made_by entrance.giver ≡ 32) × (settled_at entrance.giver ≡ []) }
+    ensures keeper { IsUnchanged keeper.old keeper.new }
+    ensures did { (start : DoorsOf L) → HaveEntered L.came start entrance → (arrivals : List (ℕ × ArrivalOf S)) × Came L.came start result arrivals
+        × ((admitted : Admitted) → HaveAdmitted admitted threads.items → (n : ℕ) → n < 32
+        → SeatDid S.remaining S.contents admitted (for_seat n (work (ran_by keeper.old))) (given_by keeper.old n) (of n arrivals)) }
+{
+    let Entrance { doors, giver, .. } = entrance;
+    let mut giver = giver;
+    settle_all(rt, alloc, keeper, &mut giver, threads);
+    take_back_all(rt, &mut giver);
+    drop(giver);
+    doors
+}
+
 // Runs the keeper, tells the threads that it has ended, and takes their seats back.
 fn run_started<
     R: Threads + Wait,
@@ -69,6 +112,7 @@ fn run_started<
     G: Gate,
     C: Clock,
     S: OpenStream + Read + Write + Drop + Send + 'static,
+    L: Door<Stream = S> + Drop + Send + 'static,
     T: Observer + Drop,
 >(
     rt: &R,
@@ -79,12 +123,16 @@ fn run_started<
     shared: &Shared<T>,
     keeper: Keeper<Job, Reply>,
     server: Server<S>,
-) -> Result<(), ServeFault>
+    entrance: EntranceThread<L, S>,
+) -> Result<Doors<L>, ServeFault>
     requires seats { AreAt keeper server.seats.items }
     requires count { length server.seats.items ≡ 32 }
+    requires ways { AreWays entrance.promise.entrance.value.giver server.seats.items }
+    requires made { (made_by entrance.promise.entrance.value.giver ≡ 32) × (settled_at entrance.promise.entrance.value.giver ≡ []) }
     requires new { IsNewKeeper 32 keeper }
-    ensures history { IfOk result (λ _. (admitted : Admitted) → HaveAdmitted admitted server.seats.items
-        → IsOneHistory S.remaining S.contents admitted (C.reads clock.now)
+    ensures history { IfOk result (λ doors_then. (admitted : Admitted) (doors : DoorsOf L) → HaveAdmitted admitted server.seats.items
+        → HaveEntered L.came doors entrance.promise.entrance.value
+        → IsOneHistory S.remaining S.contents admitted (C.reads clock.now) L.came doors doors_then
         M.gives M.after (M.is_honest machine.new) (M.represents machine.old) (M.represents machine.new)) }
     ensures before { M.is_honest machine.new → M.is_honest machine.old }
 {
@@ -98,18 +146,46 @@ fn run_started<
         &*shared.observer,
         &mut keeper,
     );
-    let threads = server.end(rt, &shared.board);
+    shared.board.end();
+    let entrance = entrance.join(rt);
+    let threads = server.end(rt);
     match ended {
         Ok(()) => {
             keeper.know_others();
-            settle_all(rt, alloc, &mut keeper, threads);
-            Ok(())
+            Ok(close_all(rt, alloc, &mut keeper, entrance, threads))
         }
         Err(fault) => {
+            drop(entrance);
             give_up(rt, threads);
             Err(fault)
         }
     }
+}
+
+// Starts all threads of a run.
+fn start_all<
+    R: Threads + Wait + SystemClock + Copy + Send + 'static,
+    S: OpenStream + Read + Write + Drop + Send + 'static,
+    L: Door<Stream = S> + Drop + Send + 'static,
+    T: Observer + Drop + Send + Sync + 'static,
+>(
+    rt: R,
+    alloc: Global,
+    shared: &Shared<T>,
+    server: &mut Server<S>,
+    doors: Doors<L>,
+    poller: Poller,
+    seats: Vec<Seat<Job, Reply>>,
+) -> Result<EntranceThread<L, S>, ServeFault>
+    requires none { server.old.seats.items ≡ [] }
+    requires new { (n : ℕ) (s : SeatOf JobOf ReplyOf) → slice_get seats.items n ≡ Some s → (put_by s ≡ []) × (taken_by s ≡ []) }
+    ensures entrance { IfOk result (λ thread. HaveEntered L.came doors thread.promise.entrance.value) }
+    ensures seats { IfOk result (λ thread. (giver : GiverOf (Option (ArrivalOf S)))
+        × HaveStarted (admits (arc_value shared.now.accounts) (arc_value shared.now.access)) giver seats.items server.new.seats.items
+        × HasSameSeats giver thread.promise.entrance.value.giver) }
+{
+    let giver = server.start(rt, alloc, shared, seats)?;
+    start_entrance(rt, shared, doors, poller, giver)
 }
 
 /// Runs a machine for the connections of two ports, until as many were served as are given, or the run is ordered to end.
@@ -121,7 +197,7 @@ pub fn serve_machine<
     M: Machine<Job, Reply>,
     G: Gate,
     C: Clock,
-    L: OpenListener + AsRawFd + Drop + Send + 'static,
+    L: Door + Drop + Send + 'static,
     T: Observer + Drop + Send + Sync + 'static,
 >(
     rt: R,
@@ -131,23 +207,30 @@ pub fn serve_machine<
     clock: &C,
     ports: Ports<L>,
     given: &Given<T>,
-) -> Result<(), ServeFault>
+) -> Result<Doors<L>, ServeFault>
 where
     L::Stream: OpenStream + Read + Write + Send + 'static,
-    // What its connections asked was run, and is one history of the machine.
-    ensures history { IfOk result (λ _. IsOneHistory L.Stream.remaining L.Stream.contents
-        (admits (arc_value given.now.accounts) (arc_value given.now.access)) (C.reads clock.now)
+    // What its connections asked was run, and is one history of the machine. They are those that came at the ports.
+    ensures history { IfOk result (λ doors. IsOneHistory L.Stream.remaining L.Stream.contents
+        (admits (arc_value given.now.accounts) (arc_value given.now.access)) (C.reads clock.now) L.came (doors_of ports) doors
         M.gives M.after (M.is_honest machine.new) (M.represents machine.old) (M.represents machine.new)) }
     ensures before { M.is_honest machine.new → M.is_honest machine.old }
 {
     let (keeper, seats) = Hub::with_seats(alloc, SLOTS, SEATS)?;
-    let Ports { listeners, waker } = ports;
+    let Ports {
+        doors,
+        poller,
+        waker,
+    } = ports;
     let shared = Shared::of(alloc, given, waker)?;
     let mut server = Server::new(alloc);
-    match server.start(rt, alloc, &shared, listeners, seats) {
-        Ok(()) => run_started(&rt, alloc, machine, gate, clock, &shared, keeper, server),
+    match start_all(rt, alloc, &shared, &mut server, doors, poller, seats) {
+        Ok(entrance) => run_started(
+            &rt, alloc, machine, gate, clock, &shared, keeper, server, entrance,
+        ),
         Err(fault) => {
-            let threads = server.end(&rt, &shared.board);
+            shared.board.end();
+            let threads = server.end(&rt);
             give_up(&rt, threads);
             Err(fault)
         }
@@ -165,7 +248,7 @@ pub fn serve<
     K: CentreStore + Drop,
     G: Gate,
     C: Clock,
-    L: OpenListener + AsRawFd + Drop + Send + 'static,
+    L: Door + Drop + Send + 'static,
     T: Observer + Drop + Send + Sync + 'static,
 >(
     rt: R,
@@ -175,25 +258,26 @@ pub fn serve<
     clock: &C,
     ports: Ports<L>,
     given: &Given<T>,
-) -> Result<(), ServeFault>
+) -> Result<Doors<L>, ServeFault>
 where
     L::Stream: OpenStream + Read + Write + Send + 'static,
     // What its connections asked was run, and is one history of the centre's definition. It begins with the rows of the keep and nobody
-    // at any seat.
-    ensures served { IfOk result (λ _. IsServed L.Stream.remaining L.Stream.contents
-        (admits (arc_value given.now.accounts) (arc_value given.now.access)) (C.reads clock.now) K.state keep) }
+    // at any seat. The connections are those that came at the ports.
+    ensures served { IfOk result (λ doors. IsServed L.Stream.remaining L.Stream.contents
+        (admits (arc_value given.now.accounts) (arc_value given.now.access)) (C.reads clock.now) L.came (doors_of ports) doors K.state keep) }
 {
     let served = serve_with(
         alloc,
         keep,
         given.links.as_ref(),
+        given.orders.cutoff(),
         |service|
             requires listener { IsSend L.row }
             requires stream { IsSend L.Stream.row }
             requires observer { IsSend T.row }
-            ensures history { IfOk result (λ _. IsOneHistory L.Stream.remaining L.Stream.contents
+            ensures history { IfOk result (λ doors. IsOneHistory L.Stream.remaining L.Stream.contents
                 (admits (arc_value given.entry.now.accounts) (arc_value given.entry.now.access)) (C.reads clock.entry.now)
-                gives after (HasHonestStore K.state service.new) (IsServedBy K.state service.old) (IsServedBy K.state service.new)) }
+                L.came (doors_of ports) doors gives after (HasHonestStore K.state service.new) (IsServedBy K.state service.old) (IsServedBy K.state service.new)) }
             ensures before { WasHonest (K.state (store_in service.old)) (K.state (store_in service.new)) }
         { serve_machine(rt, alloc, service, gate, clock, ports, given) },
     );

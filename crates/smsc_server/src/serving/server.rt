@@ -1,32 +1,40 @@
 //! The threads of a run.
-ghost use Rattle.std.specs.Prelude.{◌≡◌, ◌∷◌, ◌++◌, ℕ, [], Some, IfOk, OnOk, slice_get};
+ghost use Rattle.std.specs.Prelude.{◌≡◌, ◌∷◌, ◌++◌, ◌+◌, ℕ, [], Some, IfOk, OnOk, slice_get};
 ghost use Rattle.std.specs.Arc.{arc_value};
 ghost use Rattle.sms_seats.specs.declared.seat.Seat.{Seat as SeatOf};
 ghost use Rattle.sms_seats.specs.Seats.{put_by, taken_by};
 ghost use Rattle.sms_centre_spec.specs.declared.jobs.job.Job.{Job as JobOf};
 ghost use Rattle.sms_centre_spec.specs.declared.jobs.reply.Reply.{Reply as ReplyOf};
 ghost use Rattle.smsc_server.specs.serving.Connections.{admits};
-ghost use Rattle.smsc_server.specs.serving.SeatThreads.{AreThreadsOf, HasOneMore};
+ghost use Rattle.smsc_arrivals.specs.Ways.{IsNewGiver, IsSameGiver, given_by, made_by, returned_to, settled_at, taken_by as items_taken};
+ghost use Rattle.smsc_arrivals.specs.declared.doors.Doors.{Doors as DoorsOf};
+ghost use Rattle.smsc_server.specs.serving.Entering.{HasSameSeats, HaveEntered};
+ghost use Rattle.smsc_server.specs.serving.SeatThreads.{HasOneMore, HaveStarted, IsThreadOf, SeatThread as ThreadOf, end_of};
 
-use crate::serving::accepting::Acceptor;
+use crate::serving::accepting::{Acceptor, accept_all};
 use crate::serving::board::Board;
-use crate::serving::connection::{Connection, Listeners};
 use crate::serving::endpoints::SeatContext;
+use crate::serving::entrance::{
+    ArrivalGiver, ArrivalTaker, Entrance, EntrancePromise, EntranceThread, PLACES,
+};
 use crate::serving::fault::ServeFault;
 use crate::serving::observer::Observer;
 use crate::serving::orders::{Orders, SEATS};
+use crate::serving::poller::Poller;
 use crate::serving::reading::{Reader, Reading};
 use crate::serving::seat_thread::{SeatThread, start_thread};
-use crossbeam_channel::{Receiver, Sender, bounded};
+use crossbeam_channel::{Sender, bounded};
 use mio::Waker;
 use smpp_session::Accounts;
 use sms_centre_spec::jobs::{Job, Reply};
 use sms_keeper::Seat;
+use smsc_arrivals::{Door, Doors, share};
 use smsc_endpoint::LinkAccess;
 use smsc_service::LinkBoard;
 use std::alloc::{AllocError, Global};
 use std::io::{Read, Write};
-use std::net::{OpenListener, OpenStream};
+use std::net::OpenStream;
+use std::snapshot::Snapshot;
 use std::sync::{Arc, Wait};
 use std::thread::{self, JoinHandle, Threads};
 use std::time::Clock;
@@ -87,7 +95,6 @@ impl<T: Observer + Drop> Shared<T> {
         &self,
         rt: R,
         alloc: Global,
-        connections: &Receiver<Connection<S>>,
         readings: Sender<Reading<S>>,
     ) -> Result<SeatContext<R, S, T>, AllocError>
         ensures { IfOk result (λ context. admits (arc_value context.accounts) (arc_value context.access)
@@ -100,17 +107,16 @@ impl<T: Observer + Drop> Shared<T> {
             access: Arc::try_clone(&self.access)?,
             observer: Arc::try_clone(&self.observer)?,
             board: Arc::try_clone(&self.board)?,
-            connections: connections.clone()?,
             readings,
         })
     }
 }
 
-/// The threads of a run: those of the seats, and the others.
+/// The threads of a run: those of the seats, and those that read for them.
 #[derive(Drop)]
-pub(crate) struct Server<S: Read + Write> {
+pub(crate) struct Server<S: Read + Write + Drop> {
     pub(crate) seats: Vec<SeatThread<S>>,
-    others: Vec<JoinHandle<()>>,
+    readers: Vec<JoinHandle<()>>,
 }
 
 // The reader of a seat, and the way to it.
@@ -131,7 +137,7 @@ impl<S: OpenStream + Read + Write + Drop + Send + 'static> Server<S> {
     {
         Server {
             seats: Vec::new(alloc),
-            others: Vec::new(alloc),
+            readers: Vec::new(alloc),
         }
     }
 
@@ -141,11 +147,11 @@ impl<S: OpenStream + Read + Write + Drop + Send + 'static> Server<S> {
     ) -> Result<(), ServeFault>
         ensures { self.new.seats.items ≡ self.old.seats.items }
     {
-        self.others.reserve(1)?;
+        self.readers.reserve(1)?;
         let rt = reader.rt;
         match thread::spawn(&rt, move || reader.read_all()) {
             Ok(thread) => {
-                self.others.push_reserved(thread);
+                self.readers.push_reserved(thread);
                 Ok(())
             }
             Err(_) => Err(ServeFault::NoThread),
@@ -155,12 +161,19 @@ impl<S: OpenStream + Read + Write + Drop + Send + 'static> Server<S> {
     fn start_endpoints<
         R: Threads + Wait + Clock + Copy + Send + 'static,
         T: Observer + Drop + Send + Sync + 'static,
-    >(&mut self, context: SeatContext<R, S, T>, seat: Seat<Job, Reply>) -> Result<(), ServeFault>
-        requires { (put_by seat ≡ []) × (taken_by seat ≡ []) }
-        ensures { OnOk result (HasOneMore (admits (arc_value context.accounts) (arc_value context.access)) seat self.old.seats.items self.new.seats.items) }
+    >(
+        &mut self,
+        context: SeatContext<R, S, T>,
+        seat: Seat<Job, Reply>,
+        taker: ArrivalTaker<S>,
+    ) -> Result<(), ServeFault>
+        requires seat { (put_by seat ≡ []) × (taken_by seat ≡ []) }
+        requires taker { items_taken taker ≡ [] }
+        ensures { OnOk result ((t : ThreadOf S) × (self.new.seats.items ≡ self.old.seats.items ++ t ∷ [])
+            × IsThreadOf (admits (arc_value context.accounts) (arc_value context.access)) seat t × (end_of t ≡ taker)) }
     {
         self.seats.reserve(1)?;
-        let thread = start_thread(context, seat)?;
+        let thread = start_thread(context, seat, taker)?;
         self.seats.push_reserved(thread);
         Ok(())
     }
@@ -174,16 +187,21 @@ impl<S: OpenStream + Read + Write + Drop + Send + 'static> Server<S> {
         rt: R,
         alloc: Global,
         shared: &Shared<T>,
-        connections: &Receiver<Connection<S>>,
+        giver: &mut ArrivalGiver<S>,
         seat: Seat<Job, Reply>,
     ) -> Result<(), ServeFault>
-        requires { (put_by seat ≡ []) × (taken_by seat ≡ []) }
-        ensures { OnOk result (HasOneMore (admits (arc_value shared.now.accounts) (arc_value shared.now.access)) seat self.old.seats.items self.new.seats.items) }
+        requires seat { (put_by seat ≡ []) × (taken_by seat ≡ []) }
+        requires giver { returned_to giver.old ≡ [] }
+        ensures more { OnOk result (HasOneMore (admits (arc_value shared.now.accounts) (arc_value shared.now.access)) giver.new (made_by giver.old) seat
+            self.old.seats.items self.new.seats.items) }
+        ensures giver { OnOk result (IsSameGiver giver.old giver.new × (made_by giver.new ≡ made_by giver.old + 1) × (given_by giver.new ≡ given_by giver.old)
+            × (settled_at giver.new ≡ settled_at giver.old) × (returned_to giver.new ≡ [])) }
     {
         let (sender, reader) = open_reader(alloc, rt, &seat)?;
-        let context = shared.context(rt, alloc, connections, sender)?;
+        let context = shared.context(rt, alloc, sender)?;
+        let taker = giver.next_seat()?;
         self.start_reader(reader)?;
-        self.start_endpoints(context, seat)
+        self.start_endpoints(context, seat, taker)
     }
 
     // Starts the threads of all seats. Once one could not be had the others are let go.
@@ -195,86 +213,108 @@ impl<S: OpenStream + Read + Write + Drop + Send + 'static> Server<S> {
         rt: R,
         alloc: Global,
         shared: &Shared<T>,
-        connections: &Receiver<Connection<S>>,
+        giver: &mut ArrivalGiver<S>,
         seats: Vec<Seat<Job, Reply>>,
     ) -> Result<(), ServeFault>
         requires none { self.old.seats.items ≡ [] }
+        requires giver { IsNewGiver giver.old }
         requires new { (n : ℕ) (s : SeatOf JobOf ReplyOf) → slice_get seats.items n ≡ Some s → (put_by s ≡ []) × (taken_by s ≡ []) }
-        ensures { OnOk result (AreThreadsOf (admits (arc_value shared.now.accounts) (arc_value shared.now.access)) seats.items self.new.seats.items) }
+        ensures { OnOk result (HaveStarted (admits (arc_value shared.now.accounts) (arc_value shared.now.access)) giver.new seats.items self.new.seats.items) }
     {
         let mut started = Ok(());
         for seat in seats {
             if started.is_ok() {
-                started = self.start_seat(rt, alloc, shared, connections, seat);
+                started = self.start_seat(rt, alloc, shared, giver, seat);
             }
         }
         started
     }
 
-    // Starts the thread that takes connections.
-    fn start_acceptor<
-        R: Threads + Wait + Clock + Copy + Send + 'static,
-        L: OpenListener<Stream = S> + Drop + Send + 'static,
-        T: Observer + Drop + Send + Sync + 'static,
-    >(&mut self, acceptor: Acceptor<R, L, T>) -> Result<(), ServeFault>
-        ensures { self.new.seats.items ≡ self.old.seats.items }
-    {
-        self.others.reserve(1)?;
-        let rt = acceptor.rt;
-        let mut acceptor = acceptor;
-        match thread::spawn(&rt, move || acceptor.accept_all()) {
-            Ok(thread) => {
-                self.others.push_reserved(thread);
-                Ok(())
-            }
-            Err(_) => Err(ServeFault::NoThread),
-        }
-    }
-
-    /// Starts all threads of a run.
+    /// Starts the threads of all seats, and gives where connections are given to them.
     pub(crate) fn start<
         R: Threads + Wait + Clock + Copy + Send + 'static,
-        L: OpenListener<Stream = S> + Drop + Send + 'static,
         T: Observer + Drop + Send + Sync + 'static,
     >(
         &mut self,
         rt: R,
         alloc: Global,
         shared: &Shared<T>,
-        listeners: Listeners<L>,
         seats: Vec<Seat<Job, Reply>>,
-    ) -> Result<(), ServeFault>
+    ) -> Result<ArrivalGiver<S>, ServeFault>
         requires none { self.old.seats.items ≡ [] }
         requires new { (n : ℕ) (s : SeatOf JobOf ReplyOf) → slice_get seats.items n ≡ Some s → (put_by s ≡ []) × (taken_by s ≡ []) }
-        ensures { OnOk result (AreThreadsOf (admits (arc_value shared.now.accounts) (arc_value shared.now.access)) seats.items self.new.seats.items) }
+        ensures { IfOk result (λ giver. HaveStarted (admits (arc_value shared.now.accounts) (arc_value shared.now.access)) giver seats.items self.new.seats.items) }
     {
-        let Ok((sender, receiver)) = bounded::<Connection<S>, _>(alloc, SEATS) else {
-            return Err(ServeFault::NoMemory);
-        };
+        let mut giver = share(alloc, PLACES)?;
         shared.board.open(&rt);
-        self.start_seats(rt, alloc, shared, &receiver, seats)?;
-        let board = Arc::try_clone(&shared.board)?;
-        let observer = Arc::try_clone(&shared.observer)?;
-        self.start_acceptor(Acceptor {
-            rt,
-            listeners,
-            sender,
-            board,
-            observer,
-            told: 0,
-            sessions: shared.sessions,
-        })
+        self.start_seats(rt, alloc, shared, &mut giver, seats)?;
+        Ok(giver)
     }
 
-    /// Tells the threads that the run has ended, and waits for those that have no seat. Gives the others.
-    pub(crate) fn end<R: Threads>(self, rt: &R, board: &Board) -> Vec<SeatThread<S>>
+    /// Waits for the threads that read. Gives those of the seats.
+    pub(crate) fn end<R: Threads>(self, rt: &R) -> Vec<SeatThread<S>>
         ensures { result ≡ self.seats }
     {
-        let Server { seats, others } = self;
-        board.end();
-        for thread in others {
+        let Server { seats, readers } = self;
+        for thread in readers {
             thread.join(rt);
         }
         seats
     }
+}
+
+// Starts the thread that takes connections.
+fn start_acceptor<
+    R: Threads + Wait + Clock + Copy + Send + 'static,
+    S: Drop + Send + 'static,
+    L: Door<Stream = S> + Drop + Send + 'static,
+    T: Observer + Drop + Send + Sync + 'static,
+>(acceptor: Acceptor<R, L, S, T>) -> Result<EntranceThread<L, S>, ServeFault>
+    ensures { IfOk result (λ thread. thread.promise.entrance.value ≡ acceptor.entrance) }
+{
+    let rt = acceptor.rt;
+    let promise = EntrancePromise {
+        entrance: Snapshot::of(&acceptor.entrance),
+    };
+    let started = thread::spawn_with(
+        &rt,
+        promise,
+        move || -> Entrance<L, S>
+            ensures entered { (start : DoorsOf L) → HaveEntered L.came start acceptor.entrance → HaveEntered L.came start result }
+            ensures seats { HasSameSeats acceptor.entrance.giver result.giver }
+        { accept_all(acceptor) },
+    );
+    match started {
+        Ok(thread) => Ok(thread),
+        Err(_) => Err(ServeFault::NoThread),
+    }
+}
+
+/// Starts the thread that takes connections, and gives them to the seats.
+pub(crate) fn start_entrance<
+    R: Threads + Wait + Clock + Copy + Send + 'static,
+    S: Drop + Send + 'static,
+    L: Door<Stream = S> + Drop + Send + 'static,
+    T: Observer + Drop + Send + Sync + 'static,
+>(
+    rt: R,
+    shared: &Shared<T>,
+    doors: Doors<L>,
+    poller: Poller,
+    giver: ArrivalGiver<S>,
+) -> Result<EntranceThread<L, S>, ServeFault>
+    requires { given_by giver ≡ [] }
+    ensures { IfOk result (λ thread. HaveEntered L.came doors thread.promise.entrance.value × HasSameSeats giver thread.promise.entrance.value.giver) }
+{
+    let board = Arc::try_clone(&shared.board)?;
+    let observer = Arc::try_clone(&shared.observer)?;
+    start_acceptor(Acceptor {
+        rt,
+        entrance: Entrance::new(doors, giver),
+        poller,
+        board,
+        observer,
+        told: 0,
+        sessions: shared.sessions,
+    })
 }

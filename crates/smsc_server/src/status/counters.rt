@@ -1,5 +1,6 @@
 //! What the threads of a run count. Each adds to numbers that it shares with nobody who waits, so that a look holds up nobody.
 use crate::serving::{Event, SEATS};
+use crate::status::accounts::{AccountCounts, AccountTotals};
 use crate::status::refusals::{RefusalTable, Refusals};
 use sms_base::FinalState;
 use smsc_loop::{Activity, Note};
@@ -35,6 +36,7 @@ pub struct Counters {
     commits: Vec<AtomicU64>,
     micros: AtomicU64,
     refused: AtomicU64,
+    accounts: AccountTotals,
     submits_refused: RefusalTable,
     binds_refused: RefusalTable,
 }
@@ -84,12 +86,13 @@ impl Counters {
             commits: commit_counters(alloc)?,
             micros: zero(),
             refused: zero(),
+            accounts: AccountTotals::new(alloc)?,
             submits_refused: RefusalTable::new(alloc)?,
             binds_refused: RefusalTable::new(alloc)?,
         })
     }
 
-    /// Counts a message that was accepted, or that ended, and a submit_sm or a bind that was refused.
+    /// Counts a message that was accepted, or that ended, a submit_sm or a bind that was refused, and what a session did.
     pub fn count(&self, event: &Event) {
         match event {
             Event::Accepted(_, _) => one_more(&self.accepted),
@@ -101,6 +104,10 @@ impl Counters {
             Event::Endpoint(_, _, Note::BindRefused(status, _)) => {
                 self.binds_refused.count(None, *status)
             }
+            Event::Endpoint(seat, _, Note::Bound(account, _)) => self
+                .accounts
+                .bind(*seat, *account),
+            Event::Endpoint(seat, _, Note::Ended(_, counts)) => self.accounts.leave(*seat, counts),
             Event::Endpoint(_, _, _)
             | Event::Unknown(_, _, _)
             | Event::SeatsFull(_)
@@ -122,6 +129,7 @@ impl Counters {
                 .window
                 .store(activity.window as u64, Ordering::SeqCst);
         }
+        self.accounts.watch(seat, &activity.counts);
     }
 
     /// Counts a commit that took so many millionths of a second.
@@ -179,6 +187,11 @@ impl Counters {
             micros: now(&self.micros),
             refused: now(&self.refused),
         }
+    }
+
+    /// What the sessions of each account did so far.
+    pub fn accounts(&self, alloc: Global) -> Result<Vec<AccountCounts>, AllocError> {
+        self.accounts.all(alloc)
     }
 
     /// The submit_sm that were refused so far, by the account and the status.

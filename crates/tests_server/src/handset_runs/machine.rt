@@ -10,6 +10,7 @@ use sms_handset::{Handset, Rows, Setup};
 use sms_store_memory::handset::MemoryKeep;
 use smsc_server::link_run::Clock;
 use std::alloc::Global;
+use std::sync::atomic::{AtomicU64, Ordering};
 use std::test::Fail;
 
 // 2024-02-29 23:59:58.
@@ -20,9 +21,43 @@ const START: u64 = 1_709_251_198;
 pub(crate) struct Still(Moment);
 
 impl Clock for Still {
+    ghost use Rattle.std.specs.Prelude.{◌≡◌};
+
+    ghost reads = { λ c m. m ≡ c.0 };
+
     fn now(&self) -> Moment {
         self.0
     }
+}
+
+/// A clock that shows a later moment each time, by so many seconds.
+#[derive(Drop)]
+pub(crate) struct Moving {
+    start: Moment,
+    seconds: u64,
+    asked: AtomicU64,
+}
+
+impl Clock for Moving {
+    ghost use Rattle.std.specs.Prelude.{◌≤◌};
+
+    ghost reads = { λ c m. c.start ≤ m };
+
+    fn now(&self) -> Moment {
+        // The clause speaks of its range.
+        let _range = self.start.seconds();
+        let times = self.asked.fetch_add(1, Ordering::SeqCst);
+        self.start.plus(times.saturating_mul(self.seconds))
+    }
+}
+
+/// A clock that begins at the start.
+pub(crate) fn moving_clock(seconds: u64) -> Result<Moving, Fail> {
+    Ok(Moving {
+        start: Moment::from_seconds(START)?,
+        seconds,
+        asked: AtomicU64::new(0),
+    })
 }
 
 /// A clock that always shows the start.

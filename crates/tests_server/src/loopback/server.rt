@@ -72,8 +72,8 @@ fn is_over(ended: &Result<(), ServeFault>, came: Result<(), Fail>) -> Result<(),
     holds(ended.is_ok(), "the run ends with its connections")
 }
 
-// A run for so many connections: app1 may bind with the password secret.
-fn given(alloc: Global, sessions: u32) -> Result<Given<Silent>, Fail> {
+// A run for so many connections: app1 may bind with the password secret. It may have so many sessions at once as the limits say.
+fn given(alloc: Global, sessions: u32, limits: Vec<u8>) -> Result<Given<Silent>, Fail> {
     let accounts = logins(alloc)?;
     let orders = orders(alloc)?;
     Ok(Given {
@@ -83,11 +83,11 @@ fn given(alloc: Global, sessions: u32) -> Result<Given<Silent>, Fail> {
         orders,
         links: None,
         sessions: Some(sessions),
-        limits: Vec::new(alloc),
+        limits,
     })
 }
 
-/// Serves so many connections over the store, whatever that is, to the clients that come.
+/// Serves so many connections over the store, whatever that is, to the clients that come. An account may have a session at each seat.
 pub(crate) fn serves<
     R: Net<Listener = TcpListener, Stream = TcpStream>
         + Threads
@@ -103,8 +103,35 @@ pub(crate) fn serves<
 >(rt: R, alloc: Global, store: K, gate: &G, sessions: u32, come: C) -> Result<(), Fail>
     requires { C.IsAlwaysCallable come }
 {
+    serves_within(rt, alloc, store, gate, sessions, Vec::new(alloc), come)
+}
+
+/// So too, but the account at each place may have so many sessions at once.
+pub(crate) fn serves_within<
+    R: Net<Listener = TcpListener, Stream = TcpStream>
+        + Threads
+        + Wait
+        + Clock
+        + Copy
+        + Send
+        + Sync
+        + 'static,
+    K: CentreStore + Drop + Send,
+    G: Gate + Sync,
+    C: FnOnce(Loopback) -> Result<(), Fail>,
+>(
+    rt: R,
+    alloc: Global,
+    store: K,
+    gate: &G,
+    sessions: u32,
+    limits: Vec<u8>,
+    come: C,
+) -> Result<(), Fail>
+    requires { C.IsAlwaysCallable come }
+{
     let clock = clock()?;
-    let run = given(alloc, sessions)?;
+    let run = given(alloc, sessions, limits)?;
     let (ended, came) = loopback_pair(rt, alloc, store, gate, &clock, &run, come)?;
     is_over(&ended, came)
 }

@@ -2,7 +2,8 @@
 use crate::programs::words::with;
 use crate::rows::holds;
 use smsc_cli::words::{
-    AccountWords, FileFault, ServerWords, WordsFault, add_lines, server_words, why_no_server_words,
+    AccountWords, FileFault, LogDetail, ServerWords, WordsFault, add_lines, server_words,
+    why_no_server_words,
 };
 use std::alloc::Global;
 use std::test::Fail;
@@ -66,7 +67,7 @@ fn is_written(words: &ServerWords<'_>) -> bool {
                 && !run.is_ahead
                 && !run.begins_anew
                 && !run.accepts_loss
-                && !run.logs_messages
+                && run.log == LogDetail::Runs
                 && is_account(accounts.as_slice())
         }
         _ => false,
@@ -383,7 +384,7 @@ fn is_whole(words: &ServerWords<'_>) -> bool {
                 && run.is_ahead
                 && run.accepts_loss
                 && !run.begins_anew
-                && run.logs_messages
+                && run.log == LogDetail::Messages
                 && run.sessions.is_none()
         }
         _ => false,
@@ -440,6 +441,53 @@ fn server_words_are_judged(rt: HostRuntime) -> Result<(), Fail> {
     Ok(())
 }
 
+const ACCESS: &[&str] = &[
+    "smscd", "--store", "c", "--smpp", "1", "--links", "2", "--centre", "1", "--log", "access",
+];
+
+fn is_of_ends(words: &ServerWords<'_>) -> bool {
+    match words {
+        ServerWords::Run(run, _) => run.log == LogDetail::Access,
+        _ => false,
+    }
+}
+
+#[test]
+fn the_log_may_have_the_ends_of_messages_alone(rt: HostRuntime) -> Result<(), Fail> {
+    let words = server_words(rt.alloc(), ACCESS)?;
+    holds(is_of_ends(&words), "the log's word")
+}
+
+const LOOK: &[&str] = &["smscd", "show", "--store", "c"];
+
+const STUCK: &[&str] = &[
+    "smscd",
+    "show",
+    "--stuck",
+    "--store",
+    "c",
+    "--to",
+    "447700900456",
+];
+
+fn is_by_handset(words: &ServerWords<'_>) -> bool {
+    match words {
+        ServerWords::Show { by_handset, .. } => *by_handset,
+        _ => false,
+    }
+}
+
+fn shows_by_handset(alloc: Global, words: &[&str]) -> Result<bool, Fail> {
+    let words = server_words(alloc, words)?;
+    Ok(is_by_handset(&words))
+}
+
+#[test]
+fn a_look_may_be_at_what_waits(rt: HostRuntime) -> Result<(), Fail> {
+    holds(shows_by_handset(rt.alloc(), STUCK)?, "by handset")?;
+    holds(!shows_by_handset(rt.alloc(), LOOK)?, "messages")
+}
+
 // What is said of words that ask for nothing.
 const WHY: &[(&[&str], &str)] = &[
     (
@@ -457,7 +505,7 @@ const WHY: &[(&[&str], &str)] = &[
             "smscd", "--store", "c", "--smpp", "1", "--links", "2", "--centre", "1", "--log",
             "texts",
         ],
-        "error: invalid value 'texts' for '--log': messages is wanted\n",
+        "error: invalid value 'texts' for '--log': messages or access is wanted\n",
     ),
     (
         &[

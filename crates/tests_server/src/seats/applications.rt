@@ -172,7 +172,8 @@ const STAYS_BOUND: &[Turn] = &[
 
 const SUBMITS: Turn = Turn::Does(Act::Comes(&SUBMIT));
 
-// Eight requests are with the keeper, and the ninth goes to it once one is answered.
+// Eight requests are with the keeper, and the ninth goes to it once one is answered. Its octets are read while fewer than eight have no
+// answer.
 const HAS_EIGHT: &[Turn] = &[
     SUBMITS,
     SUBMITS,
@@ -181,23 +182,27 @@ const HAS_EIGHT: &[Turn] = &[
     SUBMITS,
     SUBMITS,
     SUBMITS,
-    SUBMITS,
-    SUBMITS,
-    Turn::Shows(Refinement::Asks(Request::Submission)),
-    Turn::Shows(Refinement::Asks(Request::Submission)),
-    Turn::Shows(Refinement::Asks(Request::Submission)),
-    Turn::Shows(Refinement::Asks(Request::Submission)),
-    Turn::Shows(Refinement::Asks(Request::Submission)),
-    Turn::Shows(Refinement::Asks(Request::Submission)),
-    Turn::Shows(Refinement::Asks(Request::Submission)),
     Turn::Shows(Refinement::IsFull(false)),
-    Turn::Shows(Refinement::Asks(Request::Submission)),
+    SUBMITS,
     Turn::Shows(Refinement::IsFull(true)),
-    Turn::Shows(Refinement::AsksNoMore),
-    Turn::Does(Act::Hears(ExpectedReply::Accepted(1))),
-    Turn::Shows(Refinement::IsFull(false)),
+    SUBMITS,
+    Turn::Shows(Refinement::Asks(Request::Submission)),
+    Turn::Shows(Refinement::Asks(Request::Submission)),
+    Turn::Shows(Refinement::Asks(Request::Submission)),
+    Turn::Shows(Refinement::Asks(Request::Submission)),
+    Turn::Shows(Refinement::Asks(Request::Submission)),
+    Turn::Shows(Refinement::Asks(Request::Submission)),
+    Turn::Shows(Refinement::Asks(Request::Submission)),
     Turn::Shows(Refinement::Asks(Request::Submission)),
     Turn::Shows(Refinement::AsksNoMore),
+    Turn::Shows(Refinement::Awaits(9)),
+    Turn::Does(Act::Hears(ExpectedReply::Accepted(1))),
+    Turn::Shows(Refinement::IsFull(true)),
+    Turn::Shows(Refinement::Asks(Request::Submission)),
+    Turn::Shows(Refinement::AsksNoMore),
+    Turn::Does(Act::Hears(ExpectedReply::Accepted(2))),
+    Turn::Shows(Refinement::IsFull(false)),
+    Turn::Shows(Refinement::Awaits(7)),
 ];
 
 const IS_OWED: &[Turn] = &[

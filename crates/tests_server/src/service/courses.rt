@@ -163,6 +163,36 @@ const BODY_REFUSED: &[Turn] = &[
     Turn::Tick(1, DONE, &[To(5, ExpectedReply::Frame(DELIVER))]),
 ];
 
+// It is too late: the store takes no commit, and is asked for none. A submission fails, the handset's acknowledgement and the end of its link
+// are as lost on their way, and a second link is turned away all the same.
+const TOO_LATE: &[Turn] = &[
+    Turn::Job(3, Request::Bound, DONE, &[]),
+    Turn::Job(5, Request::Rises, DONE, &[]),
+    Turn::Job(
+        3,
+        Request::Submits,
+        DONE,
+        &[
+            To(3, ExpectedReply::Accepted(1)),
+            To(5, ExpectedReply::Frame(DELIVER)),
+        ],
+    ),
+    Turn::Job(5, Request::Sends(CP_ACK), DONE, &[]),
+    Turn::IsTooLate,
+    Turn::Commits(0),
+    Turn::Job(
+        3,
+        Request::Submits,
+        Fate::NoMemory,
+        &[To(3, ExpectedReply::Failed)],
+    ),
+    Turn::Job(5, Request::Sends(RP_ACK), Fate::NoMemory, &[]),
+    Turn::Job(5, Request::Falls, Fate::NoMemory, &[]),
+    Turn::Job(6, Request::Rises, DONE, &[To(6, ExpectedReply::Taken)]),
+    Turn::Job(3, Request::Unbound, Fate::NoMemory, &[]),
+    Turn::Tick(1, Fate::NoMemory, &[]),
+];
+
 const COURSES: &[Course] = &[
     ("a submission has its answer and its receipt", RECEIPT),
     ("a receipt waits for its account", RECEIPT_WAITS),
@@ -176,6 +206,7 @@ const COURSES: &[Course] = &[
         ACKNOWLEDGEMENT_REFUSED,
     ),
     ("a part whose body is refused goes out later", BODY_REFUSED),
+    ("where it is too late nothing is begun", TOO_LATE),
 ];
 
 #[test]

@@ -7,9 +7,9 @@ use sms_centre_spec::CentreAnswer;
 use sms_centre_spec::jobs::{Job, Reply};
 use sms_hub::{ManyRun, Run, many_sessions, two_sessions};
 use sms_keeper::{Item, Machine, Stimulus};
-use smsc_service::serve_with;
+use smsc_service::{Cutoff, serve_with};
 use std::alloc::Global;
-use std::sync::Wait;
+use std::sync::{Arc, Wait};
 use std::test::Fail;
 use std::thread::Threads;
 
@@ -162,17 +162,26 @@ fn serves_many<R: Threads + Wait + Copy + Send + 'static>(
     count: usize,
 ) -> Result<(), Fail> {
     let store = keep(alloc)?;
+    let cutoff = Arc::new(alloc, Cutoff::new())?;
     serve_with(
         alloc,
         store,
         None,
+        &cutoff,
         |service| runs_many(rt, alloc, service, count),
     )?
 }
 
 fn serves_two<R: Threads + Wait + Copy + Send + 'static>(rt: R, alloc: Global) -> Result<(), Fail> {
     let store = keep(alloc)?;
-    serve_with(alloc, store, None, |service| runs_two(rt, alloc, service))?
+    let cutoff = Arc::new(alloc, Cutoff::new())?;
+    serve_with(
+        alloc,
+        store,
+        None,
+        &cutoff,
+        |service| runs_two(rt, alloc, service),
+    )?
 }
 
 #[test]

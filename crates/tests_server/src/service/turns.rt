@@ -7,8 +7,9 @@ use crate::service::store::{Limits, Store};
 use crate::service::telling::{To, is_step};
 use sms_centre_spec::jobs::Job;
 use sms_keeper::{Fate, Machine, Stimulus};
-use smsc_service::{Service, serve_with};
+use smsc_service::{Cutoff, Service, serve_with};
 use std::alloc::Global;
+use std::sync::Arc;
 use std::test::Fail;
 
 /// A turn of a course.
@@ -24,6 +25,8 @@ pub(crate) enum Turn {
     Bodies(u32),
     /// The service starts again with the rows of its store.
     Reopens,
+    /// From now on it is too late to begin anything.
+    IsTooLate,
 }
 
 /// A course: its name, and its turns.
@@ -43,6 +46,7 @@ fn take_turn(
     alloc: Global,
     service: &mut Service<Store<'_>>,
     limits: &Limits,
+    cutoff: &Cutoff,
     turn: &Turn,
 ) -> Result<bool, Fail> {
     match turn {
@@ -60,6 +64,10 @@ fn take_turn(
             Ok(true)
         }
         Turn::Reopens => Ok(service.reopen().is_ok()),
+        Turn::IsTooLate => {
+            cutoff.pass();
+            Ok(true)
+        }
     }
 }
 
@@ -67,11 +75,12 @@ fn go(
     alloc: Global,
     service: &mut Service<Store<'_>>,
     limits: &Limits,
+    cutoff: &Cutoff,
     course: &Course,
 ) -> Result<(), Fail> {
     let (name, turns) = course;
     for (at, turn) in turns.iter().enumerate() {
-        turn_holds(take_turn(alloc, service, limits, turn)?, name, at)?;
+        turn_holds(take_turn(alloc, service, limits, cutoff, turn)?, name, at)?;
     }
     Ok(())
 }
@@ -80,7 +89,8 @@ fn go(
 pub(crate) fn plays(alloc: Global, course: &Course) -> Result<(), Fail> {
     let limits = Limits::none();
     let store = Store::new(keep(alloc)?, &limits);
-    serve_with(alloc, store, None, |service| {
-        go(alloc, service, &limits, course)
+    let cutoff = Arc::new(alloc, Cutoff::new())?;
+    serve_with(alloc, store, None, &cutoff, |service| {
+        go(alloc, service, &limits, &cutoff, course)
     })?
 }

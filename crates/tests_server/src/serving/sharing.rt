@@ -9,7 +9,9 @@ use crate::serving::table::{
     ANSWERS, LastReply, REQUESTS, Room, Side, Table, keeps, make_room, make_room_for, run,
 };
 use crate::serving::wire::Script;
+use sms_base::Octets;
 use sms_base::lending::{lend, put};
+use sms_centre_spec::jobs::Job;
 use smsc_endpoint::Esme;
 use smsc_loop::{Found, OpenSeat, Wire, serve};
 use std::alloc::Global;
@@ -205,4 +207,32 @@ fn a_full_queue_loses_no_job(rt: HostRuntime) -> Result<(), Fail> {
         shares_one_slot(&rt, rt.alloc())?;
     }
     Ok(())
+}
+
+// ---- turns
+
+// A request that asks nothing.
+fn request(alloc: Global) -> Job {
+    Job::Query {
+        account: 0,
+        pdu: Octets::new(alloc),
+    }
+}
+
+// Nobody answers it: a second request of the seat is handed back, one of another seat is put, and so is a job that has no answer.
+fn waits_its_turn<R: Wait>(rt: &R, alloc: Global) -> Result<(), Fail> {
+    let mut room = make_room(alloc)?;
+    let first = room.first.put(rt, request(alloc));
+    holds(first.is_ok(), "the first request is put")?;
+    let second = room.first.put(rt, request(alloc));
+    holds(second.is_err(), "the second one waits for its turn")?;
+    let other = room.second.put(rt, request(alloc));
+    holds(other.is_ok(), "another seat has its own turn")?;
+    let end = room.first.put(rt, Job::Unbound);
+    holds(end.is_ok(), "a job without an answer is put")
+}
+
+#[test]
+fn a_seat_puts_one_request_at_a_time(rt: HostRuntime) -> Result<(), Fail> {
+    waits_its_turn(&rt, rt.alloc())
 }

@@ -2,8 +2,9 @@
 use crate::rows::holds;
 use sms_base::{Moment, Octets};
 use smsc_status::{
-    CommitFigures, MessageCounts, MessageFigures, RefusedBinds, RefusedSubmits, Resource,
-    SessionKind, SessionLine, StatusView, StoreFigures, Wanted, response_to,
+    AccountLine, CommitFigures, MessageCounts, MessageFigures, RefusedBinds, RefusedDeliveries,
+    RefusedSubmits, Resource, SessionKind, SessionLine, StatusView, StoreFigures, Wanted,
+    response_to,
 };
 use std::alloc::Global;
 use std::test::Fail;
@@ -38,6 +39,16 @@ fn session(alloc: Global) -> Result<SessionLine, Fail> {
     })
 }
 
+// What all sessions of that account did, also those that have ended.
+fn account_line(alloc: Global) -> Result<AccountLine, Fail> {
+    let account = account(alloc)?;
+    Ok(AccountLine {
+        account,
+        submits: 19,
+        receipts: 17,
+    })
+}
+
 // Three requests of the same account, each refused with RMSGQFUL (SMPP v3.4 5.1.3).
 fn refused(alloc: Global) -> Result<RefusedSubmits, Fail> {
     let account = account(alloc)?;
@@ -51,6 +62,13 @@ fn refused(alloc: Global) -> Result<RefusedSubmits, Fail> {
 const BINDS: &[RefusedBinds] = &[RefusedBinds {
     reason: "wrong_password",
     count: 2,
+}];
+
+// A full memory (3GPP TS 24.011 8.2.5.4).
+const DELIVERIES: &[RefusedDeliveries] = &[RefusedDeliveries {
+    cause: 22,
+    reason: "memory capacity exceeded",
+    count: 6,
 }];
 
 fn no_messages() -> (MessageFigures, MessageCounts) {
@@ -73,6 +91,7 @@ fn no_messages() -> (MessageFigures, MessageCounts) {
 
 fn view_of<'a>(
     sessions: &'a [SessionLine],
+    accounts: &'a [AccountLine],
     refused_submits: &'a [RefusedSubmits],
     moment: Moment,
 ) -> StatusView<'a> {
@@ -86,8 +105,10 @@ fn view_of<'a>(
         counts,
         sessions,
         links: &[],
+        accounts,
         refused_submits,
         refused_binds: BINDS,
+        refused_deliveries: DELIVERIES,
         samples: &[],
         events: &[],
         lost_events: 0,
@@ -112,7 +133,13 @@ fn responded(alloc: Global, wanted: Wanted) -> Result<Octets, Fail> {
     let moment = moment()?;
     let sessions = vec![in alloc; session(alloc)?]?;
     let refused = vec![in alloc; refused(alloc)?]?;
-    let view = view_of(sessions.as_slice(), refused.as_slice(), moment);
+    let accounts = vec![in alloc; account_line(alloc)?]?;
+    let view = view_of(
+        sessions.as_slice(),
+        accounts.as_slice(),
+        refused.as_slice(),
+        moment,
+    );
     response(alloc, wanted, &view)
 }
 
@@ -144,10 +171,53 @@ const RESPONSES: &[Row] = &[
     (PAGE, "<td><b>", false, b"", "no markup of a name"),
     (
         PAGE,
-        "<b>5</b><span>UNDELIV</span>",
+        "<b class=\"bad\">5</b><span>UNDELIV</span>",
+        true,
+        b"",
+        "a bad figure stands out",
+    ),
+    (
+        PAGE,
+        "<b>2</b><span>DELIVRD</span>",
         true,
         b"",
         "messages in a state",
+    ),
+    (
+        PAGE,
+        "<b>0</b><span>commits refused</span>",
+        true,
+        b"",
+        "no bad figure",
+    ),
+    (PAGE, "<b>31</b><span>free of 32</span>", true, b"", "seats"),
+    (
+        PAGE,
+        "<tr><td>&lt;b&gt;&amp;&quot;\\?x</td><td class=\"n\">19</td><td class=\"n\">17</td></tr>\n",
+        true,
+        b"",
+        "an account in the page",
+    ),
+    (
+        METRICS,
+        "\nsmsc_account_submits_total{account=\"<b>&\\\"\\\\?x\"} 19\n",
+        true,
+        b"",
+        "submits of an account",
+    ),
+    (
+        METRICS,
+        "\nsmsc_account_receipts_total{account=\"<b>&\\\"\\\\?x\"} 17\n",
+        true,
+        b"",
+        "receipts of an account",
+    ),
+    (
+        JSON,
+        "\"accounts\":[{\"account\":\"<b>&\\\"\\\\?x\",\"submits\":19,\"receipts\":17}],\"refused_submits\":[",
+        true,
+        b"",
+        "an account in the JSON",
     ),
     (
         METRICS,
@@ -221,10 +291,31 @@ const RESPONSES: &[Row] = &[
     ),
     (
         JSON,
-        "\"refused_binds\":[{\"reason\":\"wrong_password\",\"count\":2}],\"store\":{\"octets\":4096,",
+        "\"refused_binds\":[{\"reason\":\"wrong_password\",\"count\":2}],\"refused_deliveries\":[",
         true,
         b"",
         "refused binds in the JSON",
+    ),
+    (
+        PAGE,
+        "<tr><td>delivery</td><td></td><td>RP cause 22, memory capacity exceeded</td><td class=\"n\">6</td></tr>\n",
+        true,
+        b"",
+        "refused deliveries in the page",
+    ),
+    (
+        METRICS,
+        "\nsmsc_deliver_attempts_failed_total{cause=\"22\"} 6\n",
+        true,
+        b"",
+        "refused deliveries in the metrics",
+    ),
+    (
+        JSON,
+        "\"refused_deliveries\":[{\"cause\":22,\"reason\":\"memory capacity exceeded\",\"count\":6}],\"store\":{\"octets\":4096,",
+        true,
+        b"",
+        "refused deliveries in the JSON",
     ),
     (
         Wanted::NotFound(false),

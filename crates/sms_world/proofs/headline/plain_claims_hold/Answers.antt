@@ -5,8 +5,9 @@ use Rattle.sms_world.proofs.headline.PlainJoined.{joined_pieces_are}
 use Rattle.sms_world.proofs.headline.PlainNamed.{named_is}
 use Rattle.sms_world.proofs.headline.PlainReports.{reports_is}
 use Rattle.sms_world.proofs.headline.PlainRequests.{cancels_are, queries_are}
+use Rattle.sms_world.proofs.headline.PlainSent.{sent_lines_are}
 use Rattle.sms_world.proofs.headline.PlainStays.{each_stays_is}
-use Rattle.sms_world.proofs.headline.PlainWhole.{plain_is}
+use Rattle.sms_world.proofs.headline.PlainWhole.{plain_is, plain_report_is}
 use Rattle.sms_world.proofs.headline.plain_claims_hold.Goals as goal
 
 pub returns : goal.returns
@@ -29,5 +30,7 @@ returns c = record {
   told = told_lines_are;
   accepted = accepted_lines_are;
   joined = joined_pieces_are;
-  but_sent = plain_is;
+  sent = sent_lines_are;
+  whole = plain_is;
+  report = plain_report_is;
 }

@@ -2,8 +2,11 @@ use Rattle.std.proofs.Common.{true, false, refl, sym, subst}
 use Rattle.smsc_loop.specs.Phases.{behind}
 use Rattle.smsc_loop.specs.Calls.{Put, PutBack}
 use Rattle.sms_centre_spec.specs.declared.jobs.job.Job.{Job}
-use Rattle.smsc_loop.proofs.Joins.{did_seat, did_same, did_refused, unchanged}
+use Rattle.smsc_loop.proofs.Joins.{did_none, did_seat, did_same, did_refused, unchanged}
 use Rattle.smsc_loop.proofs.putting.put_next.Goals as goal
+
+pub returns-then-not-has_turn : goal.returns-then-not-has_turn
+returns-then-not-has_turn g c = λ p a w l. did_none g.G.Endpoint.does _ p a w _
 
 pub returns-in_default : goal.returns-in_default
 returns-in_default g c = λ p a w l. did_same g.G.Endpoint.does _ _ p a w _ c.in_default.ensures.handed

@@ -7,8 +7,8 @@ use Rattle.smsc_loop.proofs.serving.attend.Goals as goal
 pub returns-then-is_some-clause-did : goal.returns-then-is_some-clause-did
 returns-then-is_some-clause-did g c = did_none g.G.Endpoint.does _ _ _ _ _
 
-pub returns-then-not-is_full-clause-did : goal.returns-then-not-is_full-clause-did
-returns-then-not-is_full-clause-did g c = did_none g.G.Endpoint.does _ _ _ _ _
+pub returns-then-has_turn-clause-did : goal.returns-then-has_turn-clause-did
+returns-then-has_turn-clause-did g c = did_none g.G.Endpoint.does _ _ _ _ _
 
 pub returns-in_err-end-clause-did : goal.returns-in_err-end-clause-did
 returns-in_err-end-clause-did g c = did_refused g.G.Endpoint.does _ c.from_residual.result c.from_residual.ensures.1 _ _ Serves _ _ _ (c.in_err-end.ensures.did _)
@@ -31,5 +31,5 @@ returns-else-eq-clause-stays g c = c.in_ok-end.ensures.stays
 pub returns-then-is_some-clause-stays : goal.returns-then-is_some-clause-stays
 returns-then-is_some-clause-stays g c = inl refl
 
-pub returns-then-not-is_full-clause-stays : goal.returns-then-not-is_full-clause-stays
-returns-then-not-is_full-clause-stays g c = inl refl
+pub returns-then-has_turn-clause-stays : goal.returns-then-has_turn-clause-stays
+returns-then-has_turn-clause-stays g c = inl refl

@@ -2,5 +2,5 @@ use Rattle.smsc_server.proofs.serving.Stretched.{stretched}
 use Rattle.smsc_server.proofs.connection_laws.each_connection_has_its_own_replies.Goals as goal
 
 pub returns : goal.returns
-returns g c = λ admitted seat before behind items h did.
+returns g c = λ admitted seat before behind items took h did.
     stretched g.S.Read.remaining g.S.Write.contents admitted seat did.connections before items behind did.untaken h did.in_turn did.jobs did.replies

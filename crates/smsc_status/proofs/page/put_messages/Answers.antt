@@ -1,6 +1,6 @@
 use Rattle.std.proofs.lemmas.Result.{on_ok_weaker}
 use Rattle.std.specs.Prelude.{codes, decimal}
-use Rattle.smsc_status.specs.Page.{messages_tiles, tile, tiles_begin, tiles_end}
+use Rattle.smsc_status.specs.Page.{graded_tile, messages_tiles, tile, tiles_begin, tiles_end}
 use Rattle.smsc_status.proofs.Chains.{chain7}
 use Rattle.smsc_status.proofs.page.put_messages.Goals as goal
 
@@ -11,8 +11,8 @@ returns c =
     on_ok_weaker c.end_tiles.result
     (λ e. chain7 c.args.out.now
     (tiles_begin (codes "Messages")) (tile (decimal m.enroute) (codes "ENROUTE")) (tile (decimal m.delivered) (codes "DELIVRD"))
-    (tile (decimal m.expired) (codes "EXPIRED")) (tile (decimal m.deleted) (codes "DELETED")) (tile (decimal m.undeliverable) (codes "UNDELIV"))
+    (graded_tile m.expired (codes "EXPIRED")) (tile (decimal m.deleted) (codes "DELETED")) (graded_tile m.undeliverable (codes "UNDELIV"))
     tiles_end
-    c.in_ok-begin_tiles.ensures c.in_ok-put_tile.ensures c.in_ok-put_tile-2.ensures c.in_ok-put_tile-3.ensures c.in_ok-put_tile-4.ensures
-    c.in_ok-put_tile-5.ensures e)
+    c.in_ok-begin_tiles.ensures c.in_ok-put_tile.ensures c.in_ok-put_tile-2.ensures c.in_ok-put_graded_tile.ensures c.in_ok-put_tile-3.ensures
+    c.in_ok-put_graded_tile-2.ensures e)
     c.end_tiles.ensures

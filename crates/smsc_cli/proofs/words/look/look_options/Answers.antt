@@ -11,6 +11,7 @@ returns-clause-options c = let o = c.options_of.ensures in record {
   to = value_found look_command _ _ _ (codes "to") refl c.in_ok-command.ensures c.in_ok-matches.ensures.matches o.to;
   account = value_found look_command _ _ _ (codes "account") refl c.in_ok-command.ensures c.in_ok-matches.ensures.matches o.account;
   state = value_found look_command _ _ _ (codes "state") refl c.in_ok-command.ensures c.in_ok-matches.ensures.matches o.state;
+  stuck = value_found look_command _ _ _ (codes "stuck") refl c.in_ok-command.ensures c.in_ok-matches.ensures.matches o.stuck;
   last = value_found look_command _ _ _ (codes "last") refl c.in_ok-command.ensures c.in_ok-matches.ensures.matches o.last;
 }
 

@@ -2,10 +2,12 @@ use Rattle.std.proofs.Common.{◌≡◌, ◌++◌, List, map, drop}
 use Rattle.sms_handset.specs.declared.event.HandsetEvent.{HandsetEvent}
 use Rattle.smsc_server.specs.link_run.Asking.{event_of}
 use Rattle.smsc_server.specs.link_run.Run.{Meets}
+use Rattle.smsc_server.specs.link_run.Turns.{AreTimed}
 use Rattle.sms_handset.specs.machine.InMachine.{core_in}
 use Rattle.smsc_server.proofs.link_run.run.act_all.Given as goal
 
 abbrev pub invariant-loop-asked : goal.invariant-loop-asked
 invariant-loop-asked g l =
-    (done : List HandsetEvent) × ((done ++ map event_of (drop l.asked-index l.acts) ≡ map event_of l.acts)
-    × Meets done (core_in l.fn.machine) (core_in l.machine) (g.W.Write.contents l.fn.link) (g.W.Write.contents l.link))
+    (done : List HandsetEvent) × (timed : List HandsetEvent) × ((done ++ map event_of (drop l.asked-index l.acts) ≡ map event_of l.acts)
+    × AreTimed (g.C.Clock.reads l.clock) done timed
+    × Meets timed (core_in l.fn.machine) (core_in l.machine) (g.W.Write.contents l.fn.link) (g.W.Write.contents l.link))

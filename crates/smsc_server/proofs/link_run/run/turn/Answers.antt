@@ -1,4 +1,4 @@
-use Rattle.std.proofs.Common.{[], map, sym, ◌∙◌}
+use Rattle.std.proofs.Common.{[], ◌∷◌, map, sym, ◌∙◌}
 use Rattle.sms_handset.specs.declared.event.HandsetEvent.TheVariants.{Tick}
 use Rattle.smsc_server.specs.link_run.Run.{received}
 use Rattle.smsc_server.proofs.link_run.Courses.{meets_join, meets_one}
@@ -8,12 +8,28 @@ pub returns-then-connected : goal.returns-then-connected
 returns-then-connected g c =
     let ticked = c.in_ok-tick.ensures in
     let read = c.in_ok-connected.ensures in
-    let met = c.in_ok-left.ensures in
-    (met.0, read.0, (read.1.0, sym read.1.1 ∙ met.1.0, meets_join [] (map received met.0) _ _ _ _ _ _ (meets_one (Tick c.args.now) _ _ _ _ ticked.0 ticked.1.0 ticked.1.1) met.1.1))
+    let met = c.in_ok-left.ensures in (
+      met.0,
+      read.0,
+      (
+        read.1.0,
+        read.1.1,
+        sym read.1.2 ∙ met.1.0,
+        meets_join (Tick c.args.now ∷ []) (map received met.0) _ _ _ _ _ _ (meets_one (Tick c.args.now) _ _ _ _ ticked.0 ticked.1.0 ticked.1.1) met.1.1,
+      ),
+    )
 
 pub returns-else-connected : goal.returns-else-connected
 returns-else-connected g c =
     let ticked = c.in_ok-tick.ensures in
     let read = c.in_ok-connected.ensures in
-    let met = c.in_ok-left.ensures in
-    (met.0, read.0, (read.1.0, sym read.1.1 ∙ met.1.0, meets_join [] (map received met.0) _ _ _ _ _ _ (meets_one (Tick c.args.now) _ _ _ _ ticked.0 ticked.1.0 ticked.1.1) met.1.1))
+    let met = c.in_ok-left.ensures in (
+      met.0,
+      read.0,
+      (
+        read.1.0,
+        read.1.1,
+        sym read.1.2 ∙ met.1.0,
+        meets_join (Tick c.args.now ∷ []) (map received met.0) _ _ _ _ _ _ (meets_one (Tick c.args.now) _ _ _ _ ticked.0 ticked.1.0 ticked.1.1) met.1.1,
+      ),
+    )

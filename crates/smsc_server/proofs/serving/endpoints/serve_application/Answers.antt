@@ -1,12 +1,11 @@
 use Rattle.std.proofs.Common.{ap, ◌∙◌}
 use Rattle.smsc_endpoint.specs.EsmeView.{opened as opened_session}
-use Rattle.smsc_server.specs.declared.serving.connection.Side.TheVariants.{Application}
 use Rattle.smsc_server.proofs.serving.Visits.{session_sat, turned_away}
 use Rattle.smsc_server.proofs.serving.endpoints.serve_application.Goals as goal
 
 pub returns-in_default : goal.returns-in_default
-returns-in_default g c = λ stream reader opened access. turned_away g.S.Read.remaining g.S.Write.contents _ Application _
+returns-in_default g c = λ stream reader opened access peer. turned_away g.S.Read.remaining g.S.Write.contents _ _ _
 
 pub returns : goal.returns
-returns g c = λ stream reader opened access.
-    session_sat g.S.Read.remaining g.S.Write.contents c.args.seat.now.seat c.serve.new.seat.seat stream reader c.args.wire.now c.serve.new.wire opened _ _ _ (c.new-endpoint.ensures ∙ ap opened_session c.in-Ok.ensures) c.serve.ensures
+returns g c = λ stream reader opened access peer.
+    session_sat g.S.Read.remaining g.S.Write.contents c.args.seat.now.seat c.serve.new.seat.seat stream reader c.args.wire.now c.serve.new.wire opened _ peer _ _ (c.new-endpoint.ensures ∙ ap opened_session c.in-Ok.ensures) c.serve.ensures

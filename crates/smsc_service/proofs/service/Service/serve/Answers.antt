@@ -1,4 +1,4 @@
-use Rattle.std.proofs.Common.{subst, sym}
+use Rattle.std.proofs.Common.{refl, subst, sym}
 use Rattle.sms_keeper.specs.declared.machine.Fate.TheVariants.{Done}
 use Rattle.smsc_service.specs.declared.asking.SeatRequest.{SeatRequest}
 use Rattle.smsc_service.specs.declared.asking.SeatRequest.TheVariants.{Nothing, Taken}
@@ -8,8 +8,8 @@ use Rattle.smsc_service.proofs.service.Service.serve.Goals as goal
 
 pub returns-in-Event-clause-gives : goal.returns-in-Event-clause-gives
 returns-in-Event-clause-gives g c = λ s honest serving.
-    subst (λ (a : SeatRequest). Serves (g.K.Keep.state c.happen.new.self.machine.keep).holds (g.K.Keep.state c.happen.new.self.machine.keep).is_closed c.happen.new.self.machine.centre c.happen.new.self.seat_map a s c.args.stimulus.now c.happen.result.fate c.happen.result.to_history)
-    (sym c.in-Event.is) (c.happen.ensures.gives s honest serving)
+    subst (λ (a : SeatRequest). Serves (g.K.Keep.state c.begin.new.self.machine.keep).holds (g.K.Keep.state c.begin.new.self.machine.keep).is_closed c.begin.new.self.machine.centre c.begin.new.self.seat_map a s c.args.stimulus.now c.begin.result.fate c.begin.result.to_history)
+    (sym c.in-Event.is) (c.begin.ensures.gives s honest serving)
 
 pub returns-in-Nothing-clause-gives : goal.returns-in-Nothing-clause-gives
 returns-in-Nothing-clause-gives g c = λ s honest serving.
@@ -26,10 +26,19 @@ returns-in-Taken-clause-gives g c = λ s honest serving.
     c.turned_away.ensures.fate (c.turned_away.ensures.history, serving))
 
 pub returns-in-Event-clause-refused : goal.returns-in-Event-clause-refused
-returns-in-Event-clause-refused g c = λ s honest serving e. c.happen.ensures.refused s honest serving e
+returns-in-Event-clause-refused g c = λ s honest serving e. c.begin.ensures.refused s honest serving e
 
 pub returns-in-Nothing-clause-refused : goal.returns-in-Nothing-clause-refused
 returns-in-Nothing-clause-refused g c = λ s honest serving e. was_done _ _ c.unmade.ensures.fate e
 
 pub returns-in-Taken-clause-refused : goal.returns-in-Taken-clause-refused
 returns-in-Taken-clause-refused g c = λ s honest serving e. was_done _ _ c.turned_away.ensures.fate e
+
+pub returns-in-Event-clause-late : goal.returns-in-Event-clause-late
+returns-in-Event-clause-late g c = λ e. (c.begin.ensures.late e).1
+
+pub returns-in-Nothing-clause-late : goal.returns-in-Nothing-clause-late
+returns-in-Nothing-clause-late g c = λ e. refl
+
+pub returns-in-Taken-clause-late : goal.returns-in-Taken-clause-late
+returns-in-Taken-clause-late g c = λ e. refl

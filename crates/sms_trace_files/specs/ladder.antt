@@ -1,0 +1,4 @@
+pub mod Arrows
+pub mod Lines
+pub mod Names
+pub mod Text

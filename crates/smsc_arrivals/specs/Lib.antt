@@ -1,0 +1,3 @@
+pub mod Arriving
+pub mod Sharing
+pub mod Ways

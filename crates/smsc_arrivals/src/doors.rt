@@ -1,0 +1,63 @@
+//! The two listeners of a server.
+ghost use Rattle.std.specs.Prelude.{MatchOption};
+ghost use Rattle.smsc_arrivals.specs.Arriving.{HasCome, HaveNotCome};
+
+use crate::arrival::{Arrival, Side};
+use std::net::{SocketAddr, TcpListener, TcpStream};
+
+/// A listener, which gives the connections that wait there.
+pub trait Door {
+    ghost use Rattle.std.specs.Prelude.{◌≡◌, List, Option, MatchOption};
+    ghost use Rattle.std.specs.declared.net.socket_addr.SocketAddr.{SocketAddr as PeerOf};
+    ghost use Rattle.smsc_arrivals.specs.Arriving.{Adds};
+
+    /// A connection.
+    type Stream: Drop;
+
+    /// The connections that it gave so far, each with the address of its other side, in order, where it states them.
+    ghost came: { Self → Option (List (Self.Stream × PeerOf)) };
+
+    /// Takes the next connection that waits there, if there is one.
+    fn accept(&mut self) -> Option<(Self::Stream, SocketAddr)>
+        ensures { MatchOption result
+            (came self.new ≡ came self.old)
+            (λ entered. Adds (came self.old) (came self.new) entered) };
+}
+
+/// It states none.
+impl Door for TcpListener {
+    type Stream = TcpStream;
+
+    ghost use Rattle.std.specs.Prelude.{None};
+
+    ghost came = { λ l. None };
+
+    fn accept(&mut self) -> Option<(TcpStream, SocketAddr)> {
+        (*self).accept().ok()
+    }
+}
+
+/// The listener for applications and the one for handsets.
+#[derive(Drop)]
+pub struct Doors<L> {
+    /// For applications.
+    pub applications: L,
+    /// For handsets.
+    pub links: L,
+}
+
+impl<L: Door> Doors<L> {
+    /// Takes the next connection that waits at that side, if there is one.
+    pub fn accept(&mut self, side: Side) -> Option<Arrival<L::Stream>>
+        ensures { MatchOption result
+            (HaveNotCome L.came self.old self.new)
+            (λ arrival. HasCome L.came self.old self.new arrival) }
+    {
+        let accepted = match side {
+            Side::Application => self.applications.accept(),
+            Side::Handset => self.links.accept(),
+        };
+        let (stream, peer) = accepted?;
+        Some(Arrival { stream, side, peer })
+    }
+}

@@ -1,0 +1,343 @@
+-- A run of the centre keeps its promises.
+use Rattle.std.proofs.Common.{◌≡◌, ◌≤◌, ◌||◌, ◌⊎◌, inl, inr, ⊎_elim, ℕ, Bool, true, false, true≢false, not, List, [], ◌∷◌, ◌++◌, length, slice_get, Option, Some, None, if◌then◌else◌, refl, sym, ap, subst, ◌∙◌, bytes_eq}
+use Rattle.std.proofs.lemmas.Bool.{both_ways, cases_Bool, cond-false, cond-true, cond_both}
+use Rattle.std.proofs.lemmas.Slice.Eq.{bytes_eq-Decides}
+use Rattle.sms_centre_rows.specs.waiting.SoundAllocations.{IsNumber}
+use Rattle.sms_base.specs.Among.{Among}
+use Rattle.sms_base.specs.declared.final_state.FinalState.{FinalState}
+use Rattle.sms_centre_rows.specs.declared.messages.message.MessageRow.{MessageRow}
+use Rattle.sms_centre_rows.specs.declared.reports.delivery.Delivery.{Delivery}
+use Rattle.sms_centre_rows.specs.declared.waiting.handset_link.Sent.{Sent}
+use Rattle.sms_centre_rows.specs.messages.Messages.{message_at}
+use Rattle.sms_centre_rows.specs.reports.Receipts.{Session, session_key}
+use Rattle.sms_centre_spec.specs.CentreEvent.{happened}
+use Rattle.sms_centre_spec.specs.Draft.{core_of, messages_in}
+use Rattle.sms_centre_spec.specs.Finals.{final_of}
+use Rattle.sms_centre_spec.specs.Keeping.{Keeps}
+use Rattle.sms_centre_spec.specs.SoundCore.{AreDifferent, IsEvent, IsSession, IsSoundCore}
+use Rattle.sms_centre_spec.specs.SoundRows.{IsSound}
+use Rattle.sms_centre_spec.specs.declared.answer.CentreAnswer.{CentreAnswer}
+use Rattle.sms_centre_spec.specs.declared.answer.CentreAnswer.TheVariants.{Refused as RefusedBy, Submitted}
+use Rattle.smpp_pdu.specs.declared.status.CommandStatus.{CommandStatus}
+use Rattle.smpp_pdu.specs.declared.status.CommandStatus.TheVariants.{ESME_RSYSERR}
+use Rattle.sms_centre_spec.specs.declared.event.CentreEvent.{CentreEvent}
+use Rattle.sms_centre_spec.specs.declared.jobs.job.Job.{Job}
+use Rattle.sms_centre_spec.specs.declared.jobs.job.Job.TheVariants.{Submit}
+use Rattle.sms_centre_spec.specs.declared.jobs.reply.Reply.{Reply}
+use Rattle.sms_centre_spec.specs.declared.jobs.reply.Reply.TheVariants.{Answer, Receipt, Frame as FrameOut, Taken as TakenOut}
+use Rattle.sms_centre_spec.specs.declared.rows.Rows.{Rows}
+use Rattle.sms_centre_spec.specs.jobs.Requests.{is_request}
+use Rattle.sms_centre_spec.proofs.EventLaws.{keeps_rows, stays_sound}
+use Rattle.sms_centre_spec.proofs.Keeping.{keeps_same, keeps_then}
+use Rattle.sms_centre_spec.proofs.SoundBegins.{recovered_sound}
+use Rattle.sms_intake.specs.declared.submission.CentreAccount.{CentreAccount}
+use Rattle.sms_keeper.specs.declared.machine.Fate.{Fate}
+use Rattle.sms_keeper.specs.declared.machine.Fate.TheVariants.{Done, NoMemory, Refused}
+use Rattle.sms_keeper.specs.declared.machine.Item.{Item}
+use Rattle.sms_keeper.specs.declared.machine.Stimulus.{Stimulus}
+use Rattle.sms_keeper.specs.declared.machine.Stimulus.TheVariants.{Job as JobOf, Tick}
+use Rattle.sms_keeper.specs.declared.outs.Out.{Out}
+use Rattle.sms_keeper.specs.History.{IsHistory}
+use Rattle.sms_receipt.specs.declared.final_message.Final.{Final}
+use Rattle.sms_rows.specs.table.Table.{Rises}
+use Rattle.sms_rows.proofs.table.Tables.{among_put, rises_put}
+use Rattle.smsc_service.specs.Asking.{IfEvent, asked_by}
+use Rattle.smsc_service.specs.BoundSession.{AreNumbers, handsets_from, handsets_of, is_among, sessions_from, sessions_of, with_number, with_session}
+use Rattle.smsc_service.specs.Numbers.{is_number}
+use Rattle.smsc_service.specs.Replies.{answer_for, answer_out, end_in, end_of, ended, failed, failed_by, frame_out, frame_outs, receipt_out, receipt_outs, replies_at, risen_by, seat_for, taken_by}
+use Rattle.smsc_service.specs.Seats.{Seats, nobody}
+use Rattle.smsc_service.specs.Serving.{Serving, after, after_for, followed_by, gives, gives_for, outs_for, refusal_for, restarted, unless_refused}
+use Rattle.smsc_service.specs.declared.asking.SeatRequest.{SeatRequest}
+use Rattle.smsc_service.specs.declared.asking.SeatRequest.TheVariants.{Event, Nothing, Taken}
+use Rattle.smsc_service.specs.declared.seat_map.BoundSession.{BoundSession}
+use Rattle.smsc_service.specs.declared.seat_map.LinkSeat.{LinkSeat}
+use Rattle.smsc_server.specs.RunPromises.{AreAsked, IsAsked, IsReported, KeepsPromises, receipt_for}
+use Rattle.smsc_server.proofs.RunEvents.{AreShort, asked_is, number_of, seats_short}
+
+-- ---- a centre that starts again
+
+among_snoc : (n : List ℕ) (ns : List (List ℕ)) (m : List ℕ) → Among n (ns ++ m ∷ []) → Among n ns ⊎ (n ≡ m)
+among_snoc n [] m (inl e) = inr e
+among_snoc n [] m (inr x) = absurd x
+among_snoc n (k ∷ ns) m (inl e) = inl (inl e)
+among_snoc n (k ∷ ns) m (inr x) = ⊎_elim (λ h. inl (inr h)) (λ e. inr e) (among_snoc n ns m x)
+
+numbers_snoc : (ns : List (List ℕ)) (m : List ℕ) → AreNumbers ns → IsNumber m → AreNumbers (ns ++ m ∷ [])
+numbers_snoc ns m h k n there = ⊎_elim (λ x. h n x) (λ is. subst IsNumber (sym is) k) (among_snoc n ns m there)
+
+apart_snoc : (ns : List (List ℕ)) (m : List ℕ) → AreDifferent ns → ¬ Among m ns → AreDifferent (ns ++ m ∷ [])
+apart_snoc [] m d new = ((λ x. x), tt)
+apart_snoc (k ∷ ns) m d new =
+    ((λ x. ⊎_elim (λ h. d.0 h) (λ e. new (inl (sym e))) (among_snoc k ns m x)), apart_snoc ns m d.1 (λ x. new (inr x)))
+
+-- what is not found among them is not there
+not_among : (n : List ℕ) (ns : List (List ℕ)) → is_among n ns ≡ false → Among n ns → ⊥
+not_among n [] e there = there
+not_among n (k ∷ ns) e there = ⊎_elim
+    (λ (t : bytes_eq k n ≡ true). let y : true ≡ false = sym (cond-true (bytes_eq k n) true (is_among n ns) t) ∙ e in absurd cc)
+    (λ (t : bytes_eq k n ≡ false). ⊎_elim
+    (λ (q : n ≡ k). both_ways (bytes_eq k n) t ((bytes_eq-Decides k n).1 (sym q)))
+    (λ (q : Among n ns). not_among n ns (sym (cond-false (bytes_eq k n) true (is_among n ns) t) ∙ e) q)
+    there)
+    (cases_Bool (bytes_eq k n))
+
+or_false : (a b : Bool) → (a || b) ≡ false → (a ≡ false) × (b ≡ false)
+or_false true b e = absurd (true≢false e)
+or_false false b e = (refl, e)
+
+not_false : (a : Bool) → not a ≡ false → a ≡ true
+not_false true e = refl
+not_false false e = absurd (true≢false e)
+
+abbrev AreApart : List (List ℕ) → Type 0
+AreApart numbers = AreNumbers numbers × AreDifferent numbers
+
+number_apart : (number : List ℕ) (numbers : List (List ℕ)) → length number ≤ 20 → AreApart numbers → AreApart (with_number number numbers)
+number_apart number numbers few h =
+    cond_both (not (is_number number) || is_among number numbers) numbers (numbers ++ number ∷ []) AreApart (λ t. h)
+    (λ t. let p = or_false (not (is_number number)) (is_among number numbers) t in (
+      numbers_snoc numbers number h.0 (number_of number few (not_false (is_number number) p.0)),
+      apart_snoc numbers number h.1 (not_among number numbers p.1),
+    ))
+
+handsets_apart : (links : List LinkSeat) (numbers : List (List ℕ)) → AreShort links → AreApart numbers → AreApart (handsets_from numbers links)
+handsets_apart [] numbers short h = h
+handsets_apart (l ∷ links) numbers short h =
+    handsets_apart links (with_number l.handset numbers) (λ x there. short x (inr there)) (number_apart l.handset numbers (short l (inl refl)) h)
+
+record AreFresh (sessions : List Session) : Type 0 where
+  pub rises : Rises session_key sessions
+  pub new : (s : Session) → Among s sessions → s.unanswered ≡ []
+
+session_fresh : (o : Option CentreAccount) (b : BoundSession) (sessions : List Session) → AreFresh sessions → AreFresh (with_session o b sessions)
+session_fresh None b sessions h = h
+session_fresh (Some account) b sessions h =
+    let x : Session = record { number = b.seat; account = account.name; receives = b.receives; unanswered = [] } in record {
+      rises = rises_put session_key x sessions h.rises;
+      new = λ s there. ⊎_elim (λ (here : s ≡ x). ap (λ (y : Session). y.unanswered) here) (λ old. h.new s old.0) (among_put session_key s x sessions there);
+    }
+
+sessions_fresh : (accounts : List CentreAccount) (sittings : List BoundSession) (sessions : List Session) → AreFresh sessions → AreFresh (sessions_from accounts sessions sittings)
+sessions_fresh accounts [] sessions h = h
+sessions_fresh accounts (b ∷ sittings) sessions h =
+    sessions_fresh accounts sittings (with_session (slice_get accounts b.account) b sessions) (session_fresh (slice_get accounts b.account) b sessions h)
+
+restart_sound : (rows : Rows) (seats : Seats) → IsSound rows → AreShort seats.links → IsSoundCore (restarted rows seats).core
+restart_sound rows seats sound short =
+    let apart = handsets_apart seats.links [] short ((λ n there. absurd there), tt) in
+    let fresh = sessions_fresh rows.setup.accounts seats.sittings [] (record { rises = tt; new = λ s there. absurd there }) in
+    recovered_sound rows (handsets_of seats.links) (sessions_of rows.setup.accounts seats.sittings) sound apart.0 apart.1 fresh.rises
+    (λ s there. record { unanswered = λ id among. absurd (subst (λ (l : List ℕ). Among id l) (fresh.new s there) among) })
+
+-- ---- one item
+
+record IsGood (s : Serving) : Type 0 where
+  pub core : IsSoundCore s.core
+  pub short : AreShort s.seats.links
+
+abbrev Stays : Serving → Serving → Type 0
+Stays s t = IsGood t × Keeps s.core.rows t.core.rows
+
+request_stays : (a : SeatRequest) (fate : Fate) (s : Serving) (stimulus : Stimulus Job) → IsGood s → IsAsked stimulus → IfEvent IsEvent a → Stays s (after_for a fate s stimulus)
+request_stays (Event event) Done s stimulus good is e = (
+  record { core = stays_sound event s.core good.core e; short = seats_short stimulus s.seats is good.short },
+  keeps_rows event s.core good.core e,
+)
+request_stays (Event event) NoMemory s stimulus good is e = (good, keeps_same s.core.rows)
+request_stays (Event event) Refused s stimulus good is e =
+    let short = seats_short stimulus s.seats is good.short in
+    (record { core = restart_sound s.core.rows (followed_by stimulus s.seats) good.core.rows short; short = short }, keeps_same s.core.rows)
+request_stays Nothing fate s stimulus good is e = (good, keeps_same s.core.rows)
+request_stays Taken fate s stimulus good is e = (good, keeps_same s.core.rows)
+
+item_stays : (s : Serving) (e : Item Job Reply) → IsGood s → IsAsked e.stimulus → Stays s (after s e.stimulus e.fate)
+item_stays s e good is = request_stays (asked_by s.seats e.stimulus) e.fate s e.stimulus good is (asked_is s.seats e.stimulus is good.short)
+
+-- ---- a run
+
+run_stays : (items : List (Item Job Reply)) (s t : Serving) → IsGood s → AreAsked items → IsHistory gives after s items t → Stays s t
+run_stays [] s t good are h = subst (λ (x : Serving). Stays s x) (sym h) (good, keeps_same s.core.rows)
+run_stays (e ∷ items) s t good are h =
+    let first = item_stays s e good are.0 in
+    let rest = run_stays items (after s e.stimulus e.fate) t first.0 are.1 h.1 in
+    (rest.0, keeps_then s.core.rows (after s e.stimulus e.fate).core.rows t.core.rows first.1 rest.1)
+
+asked_parts : (one other : List (Item Job Reply)) → AreAsked (one ++ other) → AreAsked one × AreAsked other
+asked_parts [] other h = (tt, h)
+asked_parts (e ∷ one) other h = let p = asked_parts one other h.1 in ((h.0, p.0), p.1)
+
+-- what stands behind some items
+behind : (one other : List (Item Job Reply)) (s m t : Serving) → IsHistory gives after s one m → IsHistory gives after s (one ++ other) t → IsHistory gives after m other t
+behind [] other s m t h k = subst (λ (x : Serving). IsHistory gives after x other t) (sym h) k
+behind (e ∷ one) other s m t h k = behind one other (after s e.stimulus e.fate) m t h.1 k.1
+
+between : (one other : List (Item Job Reply)) (s t : Serving) → IsHistory gives after s (one ++ other) t → (m : Serving) × IsHistory gives after s one m × IsHistory gives after m other t
+between [] other s t h = (s, refl, h)
+between (e ∷ one) other s t h = let m = between one other (after s e.stimulus e.fate) t h.1 in (m.0, (h.0, m.1), m.2)
+
+-- ---- receipts
+
+among_parts : {A : Type 0} (x : A) (xs ys : List A) → Among x (xs ++ ys) → Among x xs ⊎ Among x ys
+among_parts x [] ys there = inr there
+among_parts x (z ∷ zs) ys (inl e) = inl (inl e)
+among_parts x (z ∷ zs) ys (inr there) = ⊎_elim (λ (h : Among x zs). inl (inr h)) (λ (h : Among x ys). inr h) (among_parts x zs ys there)
+
+module _ (seat : ℕ) (end : Final) where
+  no_answer : (asker : ℕ) (o : Option CentreAnswer) → Among (receipt_for seat end) (answer_out asker o) → ⊥
+  no_answer asker None there = there
+  no_answer asker (Some answer) (inl e) = let k : Receipt end ≡ Answer answer = ap (λ (o : Out Reply). o.out) e in absurd cc
+  no_answer asker (Some answer) (inr there) = there
+
+  no_frame : (o : Option ℕ) (octets : List ℕ) → Among (receipt_for seat end) (frame_out o octets) → ⊥
+  no_frame None octets there = there
+  no_frame (Some at) octets (inl e) = let k : Receipt end ≡ FrameOut octets = ap (λ (o : Out Reply). o.out) e in absurd cc
+  no_frame (Some at) octets (inr there) = there
+
+  no_frames : (risen : Option (List ℕ)) (asker : ℕ) (links : List LinkSeat) (frames : List Sent) → Among (receipt_for seat end) (frame_outs risen asker links frames) → ⊥
+  no_frames risen asker links [] there = there
+  no_frames risen asker links (f ∷ fs) there =
+      let to : Option ℕ = seat_for risen asker links f.handset in
+      ⊎_elim (λ h. no_frame to f.frame.octets h) (λ h. no_frames risen asker links fs h)
+      (among_parts (receipt_for seat end) (frame_out to f.frame.octets) (frame_outs risen asker links fs) there)
+
+  no_failure : (b : Bool) (asker : ℕ) (status : CommandStatus) → Among (receipt_for seat end) (if b then answer_for asker (RefusedBy status) ∷ [] else []) → ⊥
+  no_failure true asker status (inl e) = let k : Receipt end ≡ Answer (RefusedBy status) = ap (λ (o : Out Reply). o.out) e in absurd cc
+  no_failure true asker status (inr there) = there
+  no_failure false asker status there = there
+
+  none_failed : (stimulus : Stimulus Job) → Among (receipt_for seat end) (failed_by stimulus) → ⊥
+  none_failed (JobOf asker job) there = no_failure (is_request job) asker ESME_RSYSERR there
+  none_failed (Tick now) there = there
+
+  none_taken : (stimulus : Stimulus Job) → Among (receipt_for seat end) (taken_by stimulus) → ⊥
+  none_taken (JobOf asker job) (inl e) = let k : Receipt end ≡ TakenOut = ap (λ (o : Out Reply). o.out) e in absurd cc
+  none_taken (JobOf asker job) (inr there) = there
+  none_taken (Tick now) there = there
+
+  -- a message of these rows ended so
+  abbrev IsOf : List MessageRow → Type 0
+  IsOf messages = (id : ℕ) × (row : MessageRow) × (message_at id messages ≡ Some row) × (row.state ≡ Some end.state) × (end ≡ final_of end.state end.done row)
+
+  done_is : (m : MessageRow) (state : FinalState) (done : Option ℕ) → ended m state done ≡ Some end → (state ≡ end.state) × (end ≡ final_of end.state end.done m)
+  done_is m state None e = absurd cc
+  done_is m state (Some done) e =
+      let same : final_of state done m ≡ end = cc in
+      (ap (λ (f : Final). f.state) same, sym same ∙ ap (λ (f : Final). final_of f.state f.done m) same)
+
+  state_is : (m : MessageRow) (o : Option FinalState) → m.state ≡ o → end_in m o ≡ Some end → (m.state ≡ Some end.state) × (end ≡ final_of end.state end.done m)
+  state_is m None is e = absurd cc
+  state_is m (Some state) is e = let d = done_is m state m.done e in (is ∙ ap (λ (s : FinalState). Some s) d.0, d.1)
+
+  row_is : (messages : List MessageRow) (id : ℕ) (o : Option MessageRow) → message_at id messages ≡ o → end_of o ≡ Some end → IsOf messages
+  row_is messages id None is e = absurd cc
+  row_is messages id (Some m) is e = let s = state_is m m.state refl e in (id, m, is, s.0, s.1)
+
+  receipt_is : (messages : List MessageRow) (session id : ℕ) (o : Option Final) → end_of (message_at id messages) ≡ o → Among (receipt_for seat end) (receipt_out session o) → IsOf messages
+  receipt_is messages session id None is there = absurd there
+  receipt_is messages session id (Some other) is (inl e) =
+      let k : Receipt end ≡ Receipt other = ap (λ (o : Out Reply). o.out) e in
+      let same : other ≡ end = cc in
+      row_is messages id (message_at id messages) refl (is ∙ ap (λ (f : Final). Some f) same)
+  receipt_is messages session id (Some other) is (inr there) = absurd there
+
+  receipts_are : (messages : List MessageRow) (ds : List Delivery) → Among (receipt_for seat end) (receipt_outs messages ds) → IsOf messages
+  receipts_are messages [] there = absurd there
+  receipts_are messages (d ∷ ds) there =
+      ⊎_elim (λ h. receipt_is messages d.session d.id (end_of (message_at d.id messages)) refl h) (λ h. receipts_are messages ds h)
+      (among_parts (receipt_for seat end) (receipt_out d.session (end_of (message_at d.id messages))) (receipt_outs messages ds) there)
+
+  replied_is : (risen : Option (List ℕ)) (asker : ℕ) (links : List LinkSeat) (o : Option CentreAnswer) (frames : List Sent) (messages : List MessageRow) (ds : List Delivery)
+      → Among (receipt_for seat end) (replies_at risen asker links o frames messages ds) → IsOf messages
+  replied_is risen asker links o frames messages ds there =
+      let first : List (Out Reply) = answer_out asker o in
+      let second : List (Out Reply) = frame_outs risen asker links frames in
+      ⊎_elim
+      (λ h. absurd (⊎_elim (λ k. no_answer asker o k) (λ k. no_frames risen asker links frames k) (among_parts (receipt_for seat end) first second h)))
+      (λ h. receipts_are messages ds h)
+      (among_parts (receipt_for seat end) (first ++ second) (receipt_outs messages ds) there)
+
+  module _ (s : Serving) where
+    request_is : (a : SeatRequest) (fate : Fate) (stimulus : Stimulus Job) → Among (receipt_for seat end) (gives_for a fate s stimulus)
+        → IsOf (after_for a fate s stimulus).core.rows.messages
+    request_is (Event event) Done (JobOf asker job) there =
+        let d = happened event s.core in
+        replied_is (risen_by (JobOf asker job)) asker s.seats.links d.answer d.links.frames (messages_in d.store) d.bindings.deliveries there
+    request_is (Event event) Done (Tick now) there =
+        let d = happened event s.core in
+        replied_is None 0 s.seats.links d.answer d.links.frames (messages_in d.store) d.bindings.deliveries there
+    request_is (Event event) NoMemory stimulus there = absurd (none_failed stimulus there)
+    request_is (Event event) Refused stimulus there = absurd (none_failed stimulus there)
+    request_is Nothing fate stimulus there = absurd (none_failed stimulus there)
+    request_is Taken fate stimulus there = absurd (none_taken stimulus there)
+
+    outs_are : (a : SeatRequest) (fate : Fate) (refusal : Option CommandStatus) (stimulus : Stimulus Job)
+        → Among (receipt_for seat end) (unless_refused fate refusal stimulus (gives_for a fate s stimulus)) → IsOf (after_for a fate s stimulus).core.rows.messages
+    outs_are a Done refusal stimulus there = request_is a Done stimulus there
+    outs_are a Refused refusal stimulus there = request_is a Refused stimulus there
+    outs_are a NoMemory None stimulus there = request_is a NoMemory stimulus there
+    outs_are a NoMemory (Some status) (JobOf asker job) there = absurd (no_failure true asker status there)
+    outs_are a NoMemory (Some status) (Tick now) there = absurd there
+
+    pub given_is : (stimulus : Stimulus Job) (fate : Fate) → Among (receipt_for seat end) (gives s stimulus fate) → IsOf (after s stimulus fate).core.rows.messages
+    given_is stimulus fate there = outs_are (asked_by s.seats stimulus) fate (refusal_for (asked_by s.seats stimulus) s.core) stimulus there
+
+-- ---- together
+
+-- a row that had ended is the same at the end
+reported_still : (rows : Rows) (last : Serving) (end : Final) → Keeps rows last.core.rows → IsOf 0 end rows.messages → IsReported last end
+reported_still rows last end keeps h =
+    let x = keeps.messages h.0 h.1 h.2 in
+    let same = x.1.1.final end.state h.3 in
+    (h.0, x.0, x.1.0, subst (λ (m : MessageRow). m.state ≡ Some end.state) (sym same) h.3, subst (λ (m : MessageRow). end ≡ final_of end.state end.done m) (sym same) h.4)
+
+-- the law that an answer names a message of the rows behind it
+abbrev AnswersStand : Type 0
+AnswersStand =
+    (s : Serving) (seat account asked id : ℕ) (pdu : List ℕ) (fate : Fate) → Among (answer_for asked (Submitted id)) (gives s (JobOf seat (Submit account pdu)) fate)
+    → (asked ≡ seat) × ((row : MessageRow) × (message_at id (after s (JobOf seat (Submit account pdu)) fate).core.rows.messages ≡ Some row))
+
+module _ (stand : AnswersStand) (rows : Rows) (items : List (Item Job Reply)) (last : Serving) (sound : IsSound rows) (are : AreAsked items)
+    (run : IsHistory gives after (restarted rows nobody) items last) where
+  first_good : IsGood (restarted rows nobody)
+  first_good = record { core = restart_sound rows nobody sound (λ l there. absurd there); short = λ l there. absurd there }
+
+  -- what stands between the beginning and the items behind
+  part : (one other : List (Item Job Reply)) → items ≡ one ++ other → (s : Serving) → IsHistory gives after (restarted rows nobody) one s
+      → IsGood s × Keeps s.core.rows last.core.rows
+  part one other e s h =
+      let parts = asked_parts one other (subst AreAsked e are) in
+      let good = (run_stays one (restarted rows nobody) s first_good parts.0 h).0 in
+      let left = behind one other (restarted rows nobody) s last h (subst (λ (l : List (Item Job Reply)). IsHistory gives after (restarted rows nobody) l last) e run) in
+      (good, (run_stays other s last good parts.1 left).1)
+
+  -- the step of an item, and what is kept behind it
+  step : (one other : List (Item Job Reply)) (e : Item Job Reply) → items ≡ one ++ e ∷ other
+      → (s : Serving) × (e.outs ≡ gives s e.stimulus e.fate) × Keeps (after s e.stimulus e.fate).core.rows last.core.rows
+  step one other e is =
+      let parts = asked_parts one (e ∷ other) (subst AreAsked is are) in
+      let m = between one (e ∷ other) (restarted rows nobody) last (subst (λ (l : List (Item Job Reply)). IsHistory gives after (restarted rows nobody) l last) is run) in
+      let good = (part one (e ∷ other) is m.0 m.1).0 in
+      let next = item_stays m.0 e good parts.1.0 in
+      (m.0, m.2.0, (run_stays other (after m.0 e.stimulus e.fate) last next.0 parts.1.1 m.2.1).1)
+
+  submitted : (one other : List (Item Job Reply)) (e : Item Job Reply) (seat account asked id : ℕ) (pdu : List ℕ) → items ≡ one ++ e ∷ other
+      → e.stimulus ≡ JobOf seat (Submit account pdu) → Among (answer_for asked (Submitted id)) e.outs
+      → (asked ≡ seat) × ((row : MessageRow) × (message_at id last.core.rows.messages ≡ Some row))
+  submitted one other e seat account asked id pdu is stimulus there =
+      let s = step one other e is in
+      let told = stand s.0 seat account asked id pdu e.fate
+      (subst (λ (x : Stimulus Job). Among (answer_for asked (Submitted id)) (gives s.0 x e.fate)) stimulus (subst (λ (l : List (Out Reply)). Among (answer_for asked (Submitted id)) l) s.1 there)) in
+      let keeps = subst (λ (x : Stimulus Job). Keeps (after s.0 x e.fate).core.rows last.core.rows) stimulus s.2 in
+      let x = keeps.messages id told.1.0 told.1.1 in
+      (told.0, (x.0, x.1.0))
+
+  pub run_keeps : KeepsPromises (restarted rows nobody) items last
+  run_keeps = record {
+    sound = λ one other s e h. (part one other e s h).0.core;
+    kept = λ one other s e h. (part one other e s h).1;
+    confirmed = submitted;
+    receipts = λ one other e seat end is there.
+        let s = step one other e is in
+        reported_still (after s.0 e.stimulus e.fate).core.rows last end s.2
+        (given_is seat end s.0 e.stimulus e.fate (subst (λ (l : List (Out Reply)). Among (receipt_for seat end) l) s.1 there));
+  }

@@ -1,0 +1,6 @@
+use Rattle.std.proofs.Common.{◌≡◌, ◌++◌, drop}
+use Rattle.smsc_status.specs.Metrics.{account_receipts}
+use Rattle.smsc_status.proofs.metrics.put_account_receipts.Given as goal
+
+abbrev pub invariant-loop-line : goal.invariant-loop-line
+invariant-loop-line l = l.out ++ account_receipts l.name (drop l.line-index l.accounts) ≡ l.fn.out ++ account_receipts l.name l.accounts
