@@ -1,6 +1,7 @@
 /* Loaded before the C library (LD_PRELOAD), so that a program meets a fault of its machine while a file is there:
  *   FAULT_AHEAD       the clock of the day is ten days ahead (clock_gettime of CLOCK_REALTIME);
  *   FAULT_FULL        the disk is full (pwrite gives ENOSPC);
+ *   FAULT_REFUSED     what is written inside a file is refused, and new files are taken (pwrite gives EPERM);
  *   FAULT_READ_ONLY   the file system can't be written (open for writing and pwrite give EROFS);
  *   FAULT_LOST        a store's disk is lost (statx of a path that ends in .store or -wal gives EIO);
  *   FAULT_UNLOGGED    standard error takes nothing (write to it gives ENOSPC);
@@ -45,6 +46,10 @@ ssize_t pwrite(int file, const void *octets, size_t count, off_t at)
 {
 	if (is_so("FAULT_FULL")) {
 		errno = ENOSPC;
+		return -1;
+	}
+	if (is_so("FAULT_REFUSED")) {
+		errno = EPERM;
 		return -1;
 	}
 	if (is_so("FAULT_READ_ONLY")) {

@@ -174,8 +174,8 @@ def read_limit(octets, form, now):
     return min(read_time(octets), plus(now, 63 * WEEK))
 
 
-def handset_submission(sender, tpdu, now):
-    """The submission of a handset's TPDU, or the first refusal. Its user data passes octet for octet."""
+def handset_submission(sender, tpdu, now, accounts):
+    """The submission of a handset's TPDU, or the first refusal. Its user data passes octet for octet. No account is sent a text."""
     try:
         octets = Octets(tpdu)
         first = octets.one()
@@ -195,6 +195,8 @@ def handset_submission(sender, tpdu, now):
     handset = as_handset(destination)
     if handset is None:
         raise HandsetRefused(21, 0xC3)
+    if any(address[2] == handset for _, address in accounts):
+        raise HandsetRefused(21, 0xC4)
     if limit <= now:
         raise HandsetRefused(21, 0xFF)
     return Submission(
@@ -454,7 +456,7 @@ class Centre:
             account = self.account_of(report)
             receiving = [session for session in self.sessions if session['account'] == account and session['receives']]
             if receiving:
-                session = min(receiving, key=lambda session: session['number'])
+                session = min(receiving, key=lambda session: (len(session['unanswered']), session['number']))
                 if len(session['unanswered']) < 10:
                     session['unanswered'].append(report['id'])
                     self.deliveries.append((session['number'], report['id']))
@@ -620,7 +622,7 @@ class Centre:
 
     def submitted(self, handset, reference, tpdu, tag):
         try:
-            submission = handset_submission(handset, tpdu, self.now)
+            submission = handset_submission(handset, tpdu, self.now, self.accounts)
             if submission.rejects and self.is_duplicate(handset, submission):
                 raise HandsetRefused(21, 0xC5)
             if self.is_taken(submission):

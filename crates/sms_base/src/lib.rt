@@ -24,7 +24,6 @@
 //! - `octets`: owned and borrowed octets
 //! - `originator`: who submitted a message
 //! - `priority`: how urgent a message is, 0 to 3
-//! - `reference`: the reference of a transfer, 0 to 255 (3GPP TS 24.011 8.2.3)
 //! - `semi_octet`: digits as semi-octets (3GPP TS 23.040 9.1.2.3)
 //! - `smpp_time`: the times of SMPP (SMPP v3.4 7.1.1)
 //! - `type_of_number`: the type of number of an address (3GPP TS 23.040 9.1.2.5)
@@ -49,7 +48,6 @@ mod moment;
 mod octets;
 mod originator;
 mod priority;
-mod reference;
 mod semi_octet;
 mod smpp_time;
 mod type_of_number;
@@ -71,7 +69,6 @@ pub use moment::{Moment, MomentError};
 pub use octets::{OctetView, Octets};
 pub use originator::Originator;
 pub use priority::Priority;
-pub use reference::Reference;
 pub use semi_octet::{digit_of, semi_octet_of};
 pub use smpp_time::SmppTimeError;
 pub use type_of_number::TypeOfNumber;

@@ -5,7 +5,7 @@ ghost use Rattle.sms_centre_rows.specs.waiting.SoundAllocations.{IsNumber};
 ghost use Rattle.sms_centre_spec.specs.declared.event.CentreEvent.{CentreEvent as CentreEventOf};
 ghost use Rattle.sms_centre_spec.specs.CentreEvent.{happened, moment_of, recovered, started};
 ghost use Rattle.sms_centre_spec.specs.Draft.{Core, core_of};
-ghost use Rattle.sms_centre_spec.specs.Requests.{octets_refusal};
+ghost use Rattle.sms_centre_spec.specs.Requests.{cancel_refusal, octets_refusal, query_refusal};
 ghost use Rattle.sms_centre_spec.specs.SoundCore.{AreDifferent, HasNumber, IsEvent};
 ghost use Rattle.sms_centre_spec.specs.SoundRows.{IsSetup};
 ghost use Rattle.sms_centre.specs.Planning.{DefinedOutcome, Fits};
@@ -27,9 +27,9 @@ use crate::adopting::put_in;
 use crate::finishing::plan_of;
 use crate::plan::Plan;
 use crate::plans::Outputs;
-use crate::refusing::submit_refusal;
+use crate::refusing::{cancel_refusal, query_refusal, submit_refusal};
 use crate::state::{CentreState, RecoverError};
-use smpp_pdu::{CommandStatus, Message as SubmitSm};
+use smpp_pdu::{CancelSm, CommandStatus, Message as SubmitSm, QuerySm};
 use sms_base::lending::put;
 use sms_base::{Digits, Listed, MessageId, Moment, Octets};
 use sms_centre_queue::queue::LinkFigures;
@@ -201,6 +201,20 @@ impl Centre {
         ensures { (c : Core) → Represents c self.now → result ≡ octets_refusal account message.now c }
     {
         submit_refusal(&self.centre_state, account, message)
+    }
+
+    /// The same of a query_sm.
+    pub fn query_refusal(&self, account: u8, query: &QuerySm<'_>) -> Option<CommandStatus>
+        ensures { (c : Core) → Represents c self.now → result ≡ query_refusal account query.now c }
+    {
+        query_refusal(&self.centre_state, account, query)
+    }
+
+    /// The same of a cancel_sm.
+    pub fn cancel_refusal(&self, account: u8, cancel: &CancelSm<'_>) -> Option<CommandStatus>
+        ensures { (c : Core) → Represents c self.now → result ≡ cancel_refusal account cancel.now c }
+    {
+        cancel_refusal(&self.centre_state, account, cancel)
     }
 
     /// Puts the plan of an event into the centre, without taking memory, and gives what leaves.

@@ -29,8 +29,8 @@ impl<'a> CentreDraft<'a> {
         self.reports.first_old(first, self.moment)
     }
 
-    /// Sends the receipts that are due, the oldest first, each in the first session that receives for its account, if
-    /// that has room.
+    /// Sends the receipts that are due, the oldest first, each in the session that receives for its account and has the fewest
+    /// unanswered, if that has room.
     pub fn send(&mut self) -> Result<(), AllocError>
         ensures { (d : Draft) → Represents d self.old → OnOk result (Represents (send_of d) self.new) }
     {

@@ -17,6 +17,7 @@ ghost use Rattle.sms_centre_draft.specs.CentreDraft.{Represents};
 use crate::centre_draft::CentreDraft;
 use sms_base::{Digits, MessageId, Moment};
 use sms_centre_rows::waiting::{Progress, QueuedPart};
+use sms_intake::CentreAccount;
 use std::alloc::AllocError;
 
 // It is tried at that moment.
@@ -36,6 +37,13 @@ impl<'a> CentreDraft<'a> {
         ensures { (d : Draft) → Represents d self.now → result ≡ d.store.moment }
     {
         self.moment
+    }
+
+    /// The accounts of the centre.
+    pub fn accounts(&self) -> &[CentreAccount]
+        ensures { (d : Draft) → Represents d self.now → result.now ≡ d.store.setup.accounts }
+    {
+        self.setup.accounts.as_slice()
     }
 
     // The part, which waits, is due now.

@@ -15,8 +15,8 @@ use sms_centre_rows::messages::MessageRow;
 use sms_intake::CentreAccount;
 use std::alloc::AllocError;
 
-// The number that the octets are as an application writes it.
-fn id_of(octets: &[u8]) -> Option<MessageId>
+/// The number that the octets are as an application writes it.
+pub(crate) fn id_of(octets: &[u8]) -> Option<MessageId>
     ensures { result ≡ id_in octets.now }
 {
     let read = MessageId::read(octets);

@@ -23,6 +23,7 @@
 //! - `sources`: the source and the destination that an application names
 //! - `submitting`: submit_sm (SMPP v3.4 4.4)
 //! - `ticks`: a tick
+//! - `unfit`: a query_sm or a cancel_sm that its octets refuse
 //! - `units`: a unit of a handset that opens a transaction
 //! - `walks`: walks over the handsets that a tick concerns
 #![tactic(auto)]
@@ -41,6 +42,7 @@ mod single;
 mod sources;
 mod submitting;
 mod ticks;
+mod unfit;
 mod units;
 mod walks;
 
@@ -51,4 +53,5 @@ pub use lines::lower;
 pub use questions::{cancel, query};
 pub use submitting::{SubmitOutcome, submit, submit_refused};
 pub use ticks::tick;
+pub use unfit::{refusal_of_cancel, refusal_of_query};
 pub use units::FrameOutcome;

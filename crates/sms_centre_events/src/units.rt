@@ -118,7 +118,8 @@ fn data_received(
         → IfOk result (LeadsTo (data_received_of handset reference tag tpdu.now d) handset tag d draft.new) }
 {
     let now = draft.now();
-    let read = from_submit(draft.alloc(), handset, now, tpdu);
+    let accounts = draft.accounts();
+    let read = from_submit(draft.alloc(), accounts, handset, now, tpdu);
     match read {
         Ok(submission) => submit_received(
             draft,

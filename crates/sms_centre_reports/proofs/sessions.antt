@@ -1,3 +1,4 @@
 mod AllSent
+mod Candidates
 mod Earliest
 pub mod Ending

@@ -22,11 +22,12 @@ use Rattle.sms_centre_rows.specs.declared.reports.delivery.Delivery.{Delivery}
 use Rattle.sms_centre_rows.specs.declared.reports.report.ReportKind.{ReportKind}
 use Rattle.sms_centre_rows.specs.declared.reports.report.ReportKind.TheVariants.{Receipt, Status, Unsent}
 use Rattle.sms_centre_rows.specs.declared.reports.report.ReportRow.{ReportRow}
-use Rattle.sms_centre_rows.specs.reports.Receipts.{Bindings, Session, is_account, is_unanswered, send as send_one, send_all, send_in, send_to, session_for, waits, window}
+use Rattle.sms_centre_rows.specs.reports.Receipts.{Bindings, Session, is_unanswered, receives_for, send as send_one, send_all, send_in, send_to, session_for, waits, window}
 use Rattle.sms_centre_rows.specs.reports.Reports.{is_open_receipt, is_open_status, is_receipt, is_status, report_of, status_reference}
 use Rattle.sms_centre_rows.specs.reports.Waiting.{report_load, report_wait, reports_to}
 use Rattle.sms_centre_rows.proofs.reports.AllWaiting.{part_waits_at, report_waits_at}
 use Rattle.sms_centre_rows.proofs.reports.FewWaiting.{all_few}
+use Rattle.sms_centre_rows.proofs.reports.Serving.{fewest_found}
 use Rattle.sms_centre_rows.specs.declared.waiting.handset.HandsetRow.{HandsetRow}
 use Rattle.sms_centre_rows.specs.declared.waiting.handset_link.HandsetLink.{HandsetLink}
 use Rattle.sms_centre_rows.specs.declared.waiting.queued_part.QueuedPart.{QueuedPart}
@@ -174,10 +175,7 @@ all_offered s (h ∷ hs) links k are a =
 
 session_there : (o : Option MessageRow) (s : Session) (ss : List Session) → session_for o ss ≡ Some s → Among s ss
 session_there None s ss e = absurd cc
-session_there (Some m) s [] e = absurd cc
-session_there (Some m) s (x ∷ xs) e =
-    cond_both (x.receives && is_account x.account m.originator) (Some x) (session_for (Some m) xs) (λ o. o ≡ Some s → Among s (x ∷ xs))
-    (λ t f. let same : s ≡ x = cc in inl same) (λ t f. inr (session_there (Some m) s xs f)) e
+session_there (Some m) s ss e = (fewest_found (receives_for m) s ss e).0
 
 among_end : {A : Type 0} (n id : A) (ns : List A) → Among n (ns ++ id ∷ []) → Among n ns ⊎ (n ≡ id)
 among_end n id [] among = ⊎_elim (λ (e : n ≡ id). inr e) (λ (b : ⊥). absurd b) among

@@ -107,7 +107,7 @@ module _ (rows : Rows) where
       (put_sound rows (emptied (line_of h e.links.lines)) e.links s.0 (record { handset = l.handset; side = l.side; under_way = l.under_way; answered = l.answered }), s.1)
 
   unit_sides : (h : List ℕ) (tag : Holder) (unit : List ℕ) (u : Result Rp RelayFault) (d : Draft) → IsNumber h → Sides rows d → Sides rows (unit_received h tag unit u d)
-  unit_sides h tag unit (Ok (DataUnit r z t)) d is k = submission_sides h r tag (from_read h d.store.moment (tpdu_up_at InData t)) d is k
+  unit_sides h tag unit (Ok (DataUnit r z t)) d is k = submission_sides h r tag (from_read d.store.setup.accounts h d.store.moment (tpdu_up_at InData t)) d is k
   unit_sides h tag unit (Ok (AckUnit r t)) d is k = k
   unit_sides h tag unit (Ok (ErrorUnit r z t)) d is k = k
   unit_sides h tag unit (Ok (Smma r)) d is k = memory_sides h r tag d is k

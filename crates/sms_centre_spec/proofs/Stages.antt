@@ -220,7 +220,7 @@ module _ (P : Store → Type 0) (c : Closed P) where
       (λ t. k) (λ t. submit_accepted_keeps h n tag (accept u d.store) d k (accept_keeps u d.store k)))
 
   pub unit_received_keeps : (h : List ℕ) (tag : Holder) (unit : List ℕ) (u : Result Rp RelayFault) (d : Draft) → P d.store → P (unit_received h tag unit u d).store
-  unit_received_keeps h tag unit (Ok (DataUnit r z t)) d k = submission_from_keeps h r tag (from_read h d.store.moment (tpdu_up_at InData t)) d k
+  unit_received_keeps h tag unit (Ok (DataUnit r z t)) d k = submission_from_keeps h r tag (from_read d.store.setup.accounts h d.store.moment (tpdu_up_at InData t)) d k
   unit_received_keeps h tag unit (Ok (AckUnit r t)) d k = k
   unit_received_keeps h tag unit (Ok (ErrorUnit r z t)) d k = k
   unit_received_keeps h tag unit (Ok (Smma r)) d k = due_now_keeps h d.store k

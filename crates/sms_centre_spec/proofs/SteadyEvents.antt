@@ -185,19 +185,19 @@ module _ (P : Store → Type 0) (c : IsStill P) where
         (λ t. cond_both (is_reference_taken u d.store) (refuse h n tag ReferenceTaken d) (submit_accepted h n tag (accept u d.store) d) (λ (e : Draft). Q e.store)
         (λ t. also d.store k) (λ t. submit_accepted_steady h n tag (accept u d.store) d k (enters u d.store k (g u refl))))
 
-    unit_received_steady : (h : List ℕ) (tag : Holder) (unit : List ℕ) (u : Result Rp RelayFault) (d : Draft) → P d.store → UnitGives h d.store.moment u → Q (unit_received h tag unit u d).store
-    unit_received_steady h tag unit (Ok (DataUnit r z t)) d k g = submission_from_steady h r tag (from_read h d.store.moment (tpdu_up_at InData t)) d k g
+    unit_received_steady : (h : List ℕ) (tag : Holder) (unit : List ℕ) (u : Result Rp RelayFault) (d : Draft) → P d.store → UnitGives d.store.setup.accounts h d.store.moment u → Q (unit_received h tag unit u d).store
+    unit_received_steady h tag unit (Ok (DataUnit r z t)) d k g = submission_from_steady h r tag (from_read d.store.setup.accounts h d.store.moment (tpdu_up_at InData t)) d k g
     unit_received_steady h tag unit (Ok (AckUnit r t)) d k g = also d.store k
     unit_received_steady h tag unit (Ok (ErrorUnit r z t)) d k g = also d.store k
     unit_received_steady h tag unit (Ok (Smma r)) d k g = also (due_now h d.store) (due_now_steady P c h d.store k)
     unit_received_steady h tag unit (Err f) d k g = also d.store k
 
-    went_up_steady : (h : List ℕ) (tag : Holder) (u : Option Upward) (d : Draft) → P d.store → UpGives h d.store.moment u → Q (went_up h tag u d).store
+    went_up_steady : (h : List ℕ) (tag : Holder) (u : Option Upward) (d : Draft) → P d.store → UpGives d.store.setup.accounts h d.store.moment u → Q (went_up h tag u d).store
     went_up_steady h tag None d k g = also d.store k
     went_up_steady h tag (Some (Opened unit)) d k g = unit_received_steady h tag unit (up_at unit) d k g
     went_up_steady h tag (Some (Ended transfer ending)) d k g = also (conclude h transfer ending d).store (conclude_steady h transfer ending d k)
 
-    frame_taken_steady : (octets : List ℕ) (tag : Holder) (l : HandsetLink) (d : Draft) → P d.store → UpGives l.handset d.store.moment (taken octets l.link).out.up → Q (frame_taken octets tag l d).store
+    frame_taken_steady : (octets : List ℕ) (tag : Holder) (l : HandsetLink) (d : Draft) → P d.store → UpGives d.store.setup.accounts l.handset d.store.moment (taken octets l.link).out.up → Q (frame_taken octets tag l d).store
     frame_taken_steady octets tag l d k g = went_up_steady l.handset tag (taken octets l.link).out.up (on_links (turn_line l (taken octets l.link) d.links) d) k g
 
     -- ---- requests

@@ -28,10 +28,11 @@ use Rattle.sms_tpdu.proofs.Carriers.{up_takes}
 use Rattle.sms_centre_rows.specs.declared.waiting.handset_link.HandsetLink.{HandsetLink}
 use Rattle.sms_centre_rows.specs.waiting.SoundAllocations.{IsNumber}
 use Rattle.sms_intake.specs.declared.refusal.SubmitRefusal.{SubmitRefusal}
-use Rattle.sms_intake.specs.declared.refusal.SubmitRefusal.TheVariants.{NoHandset, PastLimit}
+use Rattle.sms_intake.specs.declared.refusal.SubmitRefusal.TheVariants.{NoHandset, OfAccount, PastLimit}
 use Rattle.sms_intake.specs.declared.submission.SinglePart.{SinglePart}
 use Rattle.sms_intake.specs.declared.submission.Submission.{Submission}
-use Rattle.sms_intake.specs.HandsetIntake.{from_read, from_submit, is_past, submission_of}
+use Rattle.sms_intake.specs.HandsetIntake.{from_read, from_submit, is_of_account, is_past, submission_of}
+use Rattle.sms_intake.specs.declared.submission.CentreAccount.{CentreAccount}
 use Rattle.sms_base.specs.HandsetNumber.{is_decimal, names_handset}
 use Rattle.sms_centre_spec.specs.Consistent.{IsBody, IsSubmission}
 use Rattle.sms_centre_spec.specs.Submitted.{UnitGives, UpGives}
@@ -58,11 +59,12 @@ named_number a is named =
 
 -- ---- a SUBMIT
 
-submit_fits : (from : List ℕ) (now : ℕ) (s : SubmitOf) (octets : List ℕ) (u : Submission) → IsNumber from → IsSubmit octets s → from_submit from now s ≡ Ok u → IsSubmission u
+submit_fits : (accounts : List CentreAccount) (from : List ℕ) (now : ℕ) (s : SubmitOf) (octets : List ℕ) (u : Submission) → IsNumber from → IsSubmit octets s → from_submit accounts from now s ≡ Ok u → IsSubmission u
 unfolding from_submit
-submit_fits from now s octets u is submit e =
+submit_fits accounts from now s octets u is submit e =
     let a = bind_ok (only_if (names_handset s.destination_address) NoHandset) _ u e in
-    let b = bind_ok (only_if (not (is_past now s.validity_period)) PastLimit) _ u a.2 in
+    let c = bind_ok (only_if (not (is_of_account s.destination_address.digits accounts)) OfAccount) _ u a.2 in
+    let b = bind_ok (only_if (not (is_past now s.validity_period)) PastLimit) _ u c.2 in
     let named = passes (names_handset s.destination_address) NoHandset a.0 a.1 in
     let same : submission_of from now s ≡ u = ok_is {E = SubmitRefusal} (submission_of from now s) u b.2 in
     let fits : IsSubmission (submission_of from now s) = record {
@@ -79,25 +81,25 @@ submit_fits from now s octets u is submit e =
     } in
     subst (λ (x : Submission). IsSubmission x) same fits
 
-pub tpdu_fits : (from : List ℕ) (now : ℕ) (tpdu : List ℕ) (r : Result Up TpduFault) (u : Submission) → IsNumber from → AreOctets tpdu → tpdu_up_at InData tpdu ≡ r → from_read from now r ≡ Ok u → IsSubmission u
-tpdu_fits from now tpdu (Ok (Submit s)) u is are e f = submit_fits from now s tpdu u is (up_takes InData tpdu (Submit s) are e) f
-tpdu_fits from now tpdu (Ok (DeliverReport r)) u is are e f = absurd cc
-tpdu_fits from now tpdu (Err fault) u is are e f = absurd cc
+pub tpdu_fits : (accounts : List CentreAccount) (from : List ℕ) (now : ℕ) (tpdu : List ℕ) (r : Result Up TpduFault) (u : Submission) → IsNumber from → AreOctets tpdu → tpdu_up_at InData tpdu ≡ r → from_read accounts from now r ≡ Ok u → IsSubmission u
+tpdu_fits accounts from now tpdu (Ok (Submit s)) u is are e f = submit_fits accounts from now s tpdu u is (up_takes InData tpdu (Submit s) are e) f
+tpdu_fits accounts from now tpdu (Ok (DeliverReport r)) u is are e f = absurd cc
+tpdu_fits accounts from now tpdu (Err fault) u is are e f = absurd cc
 
 -- ---- what goes up from a link
 
-unit_fits : (from : List ℕ) (now : ℕ) (unit : List ℕ) (r : Result Rp RelayFault) → IsNumber from → AreOctets unit → up_at unit ≡ r → UnitGives from now r
-unit_fits from now unit (Ok (DataUnit reference centre tpdu)) is are e =
-    λ u f. tpdu_fits from now tpdu (tpdu_up_at InData tpdu) u is (tpdu_octets unit tpdu centre reference are e) refl f
-unit_fits from now unit (Ok (AckUnit reference tpdu)) is are e = tt
-unit_fits from now unit (Ok (ErrorUnit reference cause tpdu)) is are e = tt
-unit_fits from now unit (Ok (Smma reference)) is are e = tt
-unit_fits from now unit (Err fault) is are e = tt
+unit_fits : (accounts : List CentreAccount) (from : List ℕ) (now : ℕ) (unit : List ℕ) (r : Result Rp RelayFault) → IsNumber from → AreOctets unit → up_at unit ≡ r → UnitGives accounts from now r
+unit_fits accounts from now unit (Ok (DataUnit reference centre tpdu)) is are e =
+    λ u f. tpdu_fits accounts from now tpdu (tpdu_up_at InData tpdu) u is (tpdu_octets unit tpdu centre reference are e) refl f
+unit_fits accounts from now unit (Ok (AckUnit reference tpdu)) is are e = tt
+unit_fits accounts from now unit (Ok (ErrorUnit reference cause tpdu)) is are e = tt
+unit_fits accounts from now unit (Ok (Smma reference)) is are e = tt
+unit_fits accounts from now unit (Err fault) is are e = tt
 
-up_fits : (from : List ℕ) (now : ℕ) (o : Option Upward) → IsNumber from → ((unit : List ℕ) → o ≡ Some (Opened unit) → AreOctets unit) → UpGives from now o
-up_fits from now None is are = tt
-up_fits from now (Some (Opened unit)) is are = unit_fits from now unit (up_at unit) is (are unit refl) refl
-up_fits from now (Some (Ended transfer ending)) is are = tt
+up_fits : (accounts : List CentreAccount) (from : List ℕ) (now : ℕ) (o : Option Upward) → IsNumber from → ((unit : List ℕ) → o ≡ Some (Opened unit) → AreOctets unit) → UpGives accounts from now o
+up_fits accounts from now None is are = tt
+up_fits accounts from now (Some (Opened unit)) is are = unit_fits accounts from now unit (up_at unit) is (are unit refl) refl
+up_fits accounts from now (Some (Ended transfer ending)) is are = tt
 
-pub frame_fits : (l : HandsetLink) (now : ℕ) (frame : List ℕ) → IsNumber l.handset → AreOctets frame → UpGives l.handset now (taken frame l.link).out.up
-frame_fits l now frame is are = up_fits l.handset now (taken frame l.link).out.up is (λ unit e. opened_octets l.link unit frame are e)
+pub frame_fits : (accounts : List CentreAccount) (l : HandsetLink) (now : ℕ) (frame : List ℕ) → IsNumber l.handset → AreOctets frame → UpGives accounts l.handset now (taken frame l.link).out.up
+frame_fits accounts l now frame is are = up_fits accounts l.handset now (taken frame l.link).out.up is (λ unit e. opened_octets l.link unit frame are e)

@@ -107,7 +107,7 @@ submit_received handset reference tag (Ok s) d =
 
 abbrev pub data_received : List ℕ → ℕ → Holder → List ℕ → Draft → Draft
 data_received handset reference tag tpdu d =
-    submit_received handset reference tag (from_read handset d.store.moment (tpdu_up_at InData tpdu)) d
+    submit_received handset reference tag (from_read d.store.setup.accounts handset d.store.moment (tpdu_up_at InData tpdu)) d
 
 -- ---- RP-SMMA (3GPP TS 24.011 7.3.2): the handset has memory, and all that waits for it is due now
 

@@ -1,5 +1,5 @@
 -- What applications ask for: submit_sm, query_sm and cancel_sm (SMPP v3.4 4.4, 4.8, 4.9). Each has one answer.
-use Rattle.std.specs.Prelude.{ℕ, zero, suc, ◌&&◌, ◌||◌, List, [], ◌∷◌, Bool, false, if◌then◌else◌, Option, Some, None, Result, Ok, Err}
+use Rattle.std.specs.Prelude.{ℕ, zero, suc, ◌&&◌, ◌||◌, not, List, [], ◌∷◌, Bool, true, false, if◌then◌else◌, Option, Some, None, Result, Ok, Err}
 use Rattle.sms_base.specs.declared.address.Address.{Address}
 use Rattle.sms_base.specs.HandsetNumber.{names_handset}
 use Rattle.std.specs.Str.{bytes_eq}
@@ -123,3 +123,36 @@ cancel_by (Some account) c d =
 
 abbrev pub cancel : ℕ → CancelSm → Draft → Draft
 cancel place c d = cancel_by (account_at place d.store.setup.accounts) c d
+
+-- ---- a query_sm or a cancel_sm that its octets refuse, whatever the rows are
+
+-- no message has such a number or such a source
+abbrev pub names_none : Option ℕ → Option Address → Bool
+names_none None source = true
+names_none (Some id) None = true
+names_none (Some id) (Some source) = false
+
+abbrev pub query_refused : Option CentreAccount → QuerySm → Option CommandStatus
+query_refused None q = None
+query_refused (Some account) q =
+    if names_none (id_in q.message_id) (source_in account.address q.source) then Some ESME_RINVMSGID else None
+
+abbrev pub query_refusal : ℕ → QuerySm → Core → Option CommandStatus
+query_refusal place q c = query_refused (account_at place c.rows.setup.accounts) q
+
+abbrev pub is_no_handset : Option Address → Bool
+is_no_handset None = true
+is_no_handset (Some a) = not (names_handset a)
+
+-- a destination is given, and it is no handset's
+abbrev pub names_nobody : SmeAddress → Bool
+names_nobody destination = not (is_empty destination.addr) && is_no_handset (address_in destination)
+
+abbrev pub cancel_refused : Option CentreAccount → CancelSm → Option CommandStatus
+cancel_refused None c = None
+cancel_refused (Some account) c =
+    if is_empty c.message_id then Some ESME_RCANCELFAIL
+    else (if names_none (id_in c.message_id) (source_in account.address c.source) || names_nobody c.destination then Some ESME_RINVMSGID else None)
+
+abbrev pub cancel_refusal : ℕ → CancelSm → Core → Option CommandStatus
+cancel_refusal place x c = cancel_refused (account_at place c.rows.setup.accounts) x

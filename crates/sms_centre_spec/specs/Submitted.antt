@@ -23,19 +23,19 @@ use Rattle.sms_centre_spec.specs.Requests.{account_at}
 use Rattle.sms_intake.specs.SmppIntake.{from_pdu}
 use Rattle.sms_centre_spec.specs.Consistent.{IsSubmission}
 
--- what a unit submits
-abbrev pub UnitGives : List ℕ → ℕ → Result Rp RelayFault → Type 0
-UnitGives handset moment (Ok (DataUnit reference centre tpdu)) = (u : Submission) → from_read handset moment (tpdu_up_at InData tpdu) ≡ Ok u → IsSubmission u
-UnitGives handset moment (Ok (AckUnit reference tpdu)) = Unit {0}
-UnitGives handset moment (Ok (ErrorUnit reference cause tpdu)) = Unit {0}
-UnitGives handset moment (Ok (Smma reference)) = Unit {0}
-UnitGives handset moment (Err fault) = Unit {0}
+-- what a unit submits to a centre with these accounts
+abbrev pub UnitGives : List CentreAccount → List ℕ → ℕ → Result Rp RelayFault → Type 0
+UnitGives accounts handset moment (Ok (DataUnit reference centre tpdu)) = (u : Submission) → from_read accounts handset moment (tpdu_up_at InData tpdu) ≡ Ok u → IsSubmission u
+UnitGives accounts handset moment (Ok (AckUnit reference tpdu)) = Unit {0}
+UnitGives accounts handset moment (Ok (ErrorUnit reference cause tpdu)) = Unit {0}
+UnitGives accounts handset moment (Ok (Smma reference)) = Unit {0}
+UnitGives accounts handset moment (Err fault) = Unit {0}
 
 -- and of what a link passes up
-abbrev pub UpGives : List ℕ → ℕ → Option Upward → Type 0
-UpGives handset moment None = Unit {0}
-UpGives handset moment (Some (Opened unit)) = UnitGives handset moment (up_at unit)
-UpGives handset moment (Some (Ended transfer ending)) = Unit {0}
+abbrev pub UpGives : List CentreAccount → List ℕ → ℕ → Option Upward → Type 0
+UpGives accounts handset moment None = Unit {0}
+UpGives accounts handset moment (Some (Opened unit)) = UnitGives accounts handset moment (up_at unit)
+UpGives accounts handset moment (Some (Ended transfer ending)) = Unit {0}
 
 -- the same of what an account submits
 abbrev pub AccountGives : Option CentreAccount → ℕ → Message → Type 0
@@ -50,7 +50,7 @@ Gives (Cancel account q) c = Unit {0}
 Gives (Bound session account receives) c = Unit {0}
 Gives (Unbound session) c = Unit {0}
 Gives (DeliverAnswered session id b) c = Unit {0}
-Gives (Frame handset octets tag) c = let l : HandsetLink = line_of handset c.lines in UpGives l.handset c.moment (taken octets l.link).out.up
+Gives (Frame handset octets tag) c = let l : HandsetLink = line_of handset c.lines in UpGives c.rows.setup.accounts l.handset c.moment (taken octets l.link).out.up
 Gives (LinkUp handset) c = Unit {0}
 Gives (LinkDown handset) c = Unit {0}
 Gives (Tick now) c = IsMoment now

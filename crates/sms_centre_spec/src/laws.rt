@@ -16,7 +16,9 @@ ghost use Rattle.sms_centre_rows.specs.waiting.References.{handset_of};
 ghost use Rattle.sms_centre_rows.specs.waiting.SoundAllocations.{IsNumber};
 ghost use Rattle.sms_centre_rows.specs.declared.waiting.handset_link.Sent.{Sent};
 ghost use Rattle.sms_centre_rows.specs.declared.waiting.progress.Progress.{Progress};
+ghost use Rattle.smpp_pdu.specs.declared.cancel.CancelSm.{CancelSm};
 ghost use Rattle.smpp_pdu.specs.declared.message.Message.{Message};
+ghost use Rattle.smpp_pdu.specs.declared.query.QuerySm.{QuerySm};
 ghost use Rattle.smpp_pdu.specs.declared.status.CommandStatus.{CommandStatus};
 ghost use Rattle.sms_centre_spec.specs.declared.answer.CentreAnswer.TheVariants.{Submitted};
 ghost use Rattle.sms_centre_spec.specs.declared.event.CentreEvent.{CentreEvent};
@@ -24,7 +26,7 @@ ghost use Rattle.sms_centre_spec.specs.declared.event.CentreEvent.TheVariants.{S
 ghost use Rattle.sms_centre_spec.specs.declared.rows.Rows.{Rows};
 ghost use Rattle.sms_centre_spec.specs.declared.setup.Setup.{Setup};
 ghost use Rattle.sms_centre_spec.specs.CentreEvent.{happened, recovered, started};
-ghost use Rattle.sms_centre_spec.specs.Requests.{octets_refusal, refused, submit};
+ghost use Rattle.sms_centre_spec.specs.Requests.{cancel, cancel_refusal, octets_refusal, query, query_refusal, refused, submit};
 ghost use Rattle.sms_centre_spec.specs.Draft.{Core, Store, core_of, draft_of, handsets_in, messages_in, parts_in, reports_in, with_given, with_message, with_part, with_part_at, with_priority, with_report_at, with_reports};
 ghost use Rattle.sms_centre_spec.specs.Held.{SoundHeld};
 ghost use Rattle.sms_centre_spec.specs.Keeping.{Keeps};
@@ -113,6 +115,14 @@ pub fn references_stay_apart()
         → SoundHeld (with_report_at r progress s) }
     ensures ended { (s : Store) (m : MessageRow) (state : FinalState) (moment : ℕ) → SoundHeld s → message_at m.id (messages_in s) ≡ Some m
         → SoundHeld (with_message (ended state moment m) s) }
+{}
+
+/// A query_sm or a cancel_sm that its octets refuse is refused with that status, and changes nothing.
+pub fn octets_refuse_a_question()
+    ensures query { (account : ℕ) (asked : QuerySm) (c : Core) (status : CommandStatus) → query_refusal account asked c ≡ Some status
+        → query account asked (draft_of c) ≡ refused status (draft_of c) }
+    ensures cancel { (account : ℕ) (asked : CancelSm) (c : Core) (status : CommandStatus) → cancel_refusal account asked c ≡ Some status
+        → cancel account asked (draft_of c) ≡ refused status (draft_of c) }
 {}
 
 /// A submit_sm that its octets refuse is refused with that status, and changes nothing.

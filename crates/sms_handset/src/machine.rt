@@ -114,6 +114,7 @@ impl<K: Keep<Rows = Rows, Changes = Changes> + Drop> HandsetMachine<K> {
     pub fn load(&mut self) -> Result<Rows, KeepError>
         ensures outcome { (rows : RowsOf)
             → StoreOutcome (λ found. found ≡ rows) rows rows (K.state (keep_in self.old)) (K.state (keep_in self.new)) result }
+        ensures back { (rows : RowsOf) → IfHeld rows (K.state (keep_in self.old)) (K.state (keep_in self.new)) (result ≢ Err NotThisStore) }
         ensures named { IfErr result (λ error. error ≢ OldVersion) }
         ensures before { WasHonest (K.state (keep_in self.old)) (K.state (keep_in self.new)) }
         ensures same { handset_in self.new ≡ handset_in self.old }

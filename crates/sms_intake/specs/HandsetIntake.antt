@@ -1,5 +1,6 @@
 -- A SUBMIT from a handset (3GPP TS 23.040 9.2.2.2): the checks that need no rows, in order, and the submission.
-use Rattle.std.specs.Prelude.{◌≡◌, ℕ, nat_le, not, List, Bool, true, false, Result, Ok, Err}
+use Rattle.std.specs.Prelude.{◌≡◌, ℕ, ◌||◌, nat_le, not, List, [], ◌∷◌, Bool, true, false, Result, Ok, Err}
+use Rattle.std.specs.Str.{bytes_eq}
 use Rattle.sms_base.specs.HandsetNumber.{names_handset, own_address}
 use Rattle.sms_base.specs.Reading.{◌>>=◌, only_if}
 use Rattle.sms_base.specs.declared.originator.Originator.TheVariants.{Handset}
@@ -16,7 +17,8 @@ use Rattle.sms_tpdu.specs.ValidityTable.{valid_until}
 use Rattle.sms_intake.specs.declared.refusal.SubmitError.{SubmitError}
 use Rattle.sms_intake.specs.declared.refusal.SubmitError.TheVariants.{Refused, NoMemory}
 use Rattle.sms_intake.specs.declared.refusal.SubmitRefusal.{SubmitRefusal}
-use Rattle.sms_intake.specs.declared.refusal.SubmitRefusal.TheVariants.{WrongType, NoHandset, PastLimit}
+use Rattle.sms_intake.specs.declared.refusal.SubmitRefusal.TheVariants.{WrongType, NoHandset, OfAccount, PastLimit}
+use Rattle.sms_intake.specs.declared.submission.CentreAccount.{CentreAccount}
 use Rattle.sms_intake.specs.declared.submission.Submission.{Submission}
 use Rattle.sms_intake.specs.declared.submission.Text.TheVariants.{Single}
 use Rattle.sms_intake.specs.Refusals.{unread}
@@ -54,18 +56,24 @@ submission_of from now s = record {
   });
 }
 
--- the destination is a handset, then the limit isn't past
-unfoldable pub from_submit : List ℕ → ℕ → SubmitOf → Result Submission SubmitRefusal
-from_submit from now s = do
+-- an account has these digits for its address
+abbrev pub is_of_account : List ℕ → List CentreAccount → Bool
+is_of_account digits [] = false
+is_of_account digits (account ∷ accounts) = bytes_eq account.address.digits digits || is_of_account digits accounts
+
+-- the destination is a handset, then it is no account's, then the limit isn't past
+unfoldable pub from_submit : List CentreAccount → List ℕ → ℕ → SubmitOf → Result Submission SubmitRefusal
+from_submit accounts from now s = do
   handset ← only_if (names_handset s.destination_address) NoHandset
+  alone ← only_if (not (is_of_account s.destination_address.digits accounts)) OfAccount
   kept ← only_if (not (is_past now s.validity_period)) PastLimit
   Ok (submission_of from now s)
 
 -- of what was read of RP-DATA, which has no DELIVER-REPORT
-abbrev pub from_read : List ℕ → ℕ → Result Up TpduFault → Result Submission SubmitRefusal
-from_read from now (Ok (Submit s)) = from_submit from now s
-from_read from now (Ok (DeliverReport r)) = Err WrongType
-from_read from now (Err fault) = Err (unread fault)
+abbrev pub from_read : List CentreAccount → List ℕ → ℕ → Result Up TpduFault → Result Submission SubmitRefusal
+from_read accounts from now (Ok (Submit s)) = from_submit accounts from now s
+from_read accounts from now (Ok (DeliverReport r)) = Err WrongType
+from_read accounts from now (Err fault) = Err (unread fault)
 
 -- The answer is the wanted one. Want of memory is reported only of what is accepted.
 abbrev pub Answers : Result Submission SubmitError → Result Submission SubmitRefusal → Type 0

@@ -2,11 +2,11 @@
 use Rattle.sms_relay.specs.declared.cause.RpCause.{RpCause}
 use Rattle.sms_relay.specs.declared.cause.RpCause.TheVariants.{ShortMessageTransferRejected, Congestion, InvalidMandatoryInformation, MessageTypeNonExistent}
 use Rattle.sms_tpdu.specs.declared.codes.FailureCause.{FailureCause}
-use Rattle.sms_tpdu.specs.declared.codes.FailureCause.TheVariants.{ServiceCentreBusy, InvalidSmeAddress, DuplicateShortMessage, ValidityPeriodFormatNotSupported, UnspecifiedErrorCause}
+use Rattle.sms_tpdu.specs.declared.codes.FailureCause.TheVariants.{ServiceCentreBusy, InvalidSmeAddress, DestinationBarred, DuplicateShortMessage, ValidityPeriodFormatNotSupported, UnspecifiedErrorCause}
 use Rattle.sms_tpdu.specs.declared.fault.TpduFault.{TpduFault}
 use Rattle.sms_tpdu.specs.declared.fault.TpduFault.TheVariants.{Truncated, TrailingOctets, BadAddress, BadTime, UserDataTooLong, UnsupportedType, UnsupportedValidity, SpareBits, BadHeader}
 use Rattle.sms_intake.specs.declared.refusal.SubmitRefusal.{SubmitRefusal}
-use Rattle.sms_intake.specs.declared.refusal.SubmitRefusal.TheVariants.{WrongType, WrongValidityFormat, Unreadable, NoHandset, PastLimit, Duplicate, ReferenceTaken, Congested}
+use Rattle.sms_intake.specs.declared.refusal.SubmitRefusal.TheVariants.{WrongType, WrongValidityFormat, Unreadable, NoHandset, OfAccount, PastLimit, Duplicate, ReferenceTaken, Congested}
 
 abbrev pub unread : TpduFault → SubmitRefusal
 unread UnsupportedType = WrongType
@@ -25,17 +25,19 @@ cause_of WrongType = MessageTypeNonExistent
 cause_of WrongValidityFormat = ShortMessageTransferRejected
 cause_of Unreadable = InvalidMandatoryInformation
 cause_of NoHandset = ShortMessageTransferRejected
+cause_of OfAccount = ShortMessageTransferRejected
 cause_of PastLimit = ShortMessageTransferRejected
 cause_of Duplicate = ShortMessageTransferRejected
 cause_of ReferenceTaken = ShortMessageTransferRejected
 cause_of Congested = Congestion
 
--- TP-FCS: FF, C6, C3, C5, or C0
+-- TP-FCS: FF, C6, C3, C4, C5, or C0
 abbrev pub failure_of : SubmitRefusal → FailureCause
 failure_of WrongType = UnspecifiedErrorCause
 failure_of WrongValidityFormat = ValidityPeriodFormatNotSupported
 failure_of Unreadable = UnspecifiedErrorCause
 failure_of NoHandset = InvalidSmeAddress
+failure_of OfAccount = DestinationBarred
 failure_of PastLimit = UnspecifiedErrorCause
 failure_of Duplicate = DuplicateShortMessage
 failure_of ReferenceTaken = UnspecifiedErrorCause

@@ -3,10 +3,10 @@ ghost use Rattle.std.specs.Prelude.{◌≡◌, IfOk, Err};
 ghost use Rattle.sms_alphabet.specs.Concatenation.{header_key};
 ghost use Rattle.sms_tpdu.specs.TpduReading.{up_at};
 ghost use Rattle.sms_tpdu.specs.declared.carrier.Carrier.TheVariants.{InData};
-ghost use Rattle.sms_intake.specs.HandsetIntake.{Answers, from_read, from_submit, is_past, submission_of, wish_of};
+ghost use Rattle.sms_intake.specs.HandsetIntake.{Answers, from_read, from_submit, is_of_account, is_past, submission_of, wish_of};
 
 use crate::refusal::{SubmitError, SubmitRefusal};
-use crate::submission::{SinglePart, Submission, Text};
+use crate::submission::{CentreAccount, SinglePart, Submission, Text};
 use sms_base::{Address, Digits, Moment, Octets, Originator, Priority, Wish};
 use sms_concat::{ConcatKey, Header, concat_info};
 use sms_tpdu::{Carrier, Submit, Up, ValidityPeriod, read_up, validity};
@@ -78,17 +78,33 @@ fn submission_of(
     })
 }
 
+// Whether an account has these digits for its address.
+fn is_of_account(digits: &Digits, accounts: &[CentreAccount]) -> bool
+    ensures { result ≡ is_of_account digits.now accounts.now }
+{
+    for account in accounts {
+        if account.address.digits.as_slice() == digits.as_slice() {
+            return true;
+        }
+    }
+    false
+}
+
 #[tactic(auto, unfolding(crate::specs::HandsetIntake::from_submit))]
 fn accepted(
     alloc: Global,
+    accounts: &[CentreAccount],
     from: Digits,
     now: Moment,
     submit: &Submit<'_>,
 ) -> Result<Submission, SubmitError>
-    ensures { Answers result (from_submit from now submit.now) }
+    ensures { Answers result (from_submit accounts.now from now submit.now) }
 {
     if !submit.destination_address.names_handset() {
         return Err(SubmitError::Refused(SubmitRefusal::NoHandset));
+    }
+    if is_of_account(&submit.destination_address.digits, accounts) {
+        return Err(SubmitError::Refused(SubmitRefusal::OfAccount));
     }
     if is_past(now, submit.validity_period) {
         return Err(SubmitError::Refused(SubmitRefusal::PastLimit));
@@ -98,19 +114,20 @@ fn accepted(
 }
 
 /// The submission of what a handset with these digits sent in RP-DATA, or the first refusal. Refused are a TPDU that is
-/// unreadable or no SUBMIT, a destination that is no handset, and a limit that is past.
+/// unreadable or no SUBMIT, a destination that is no handset, one that is an account's number, and a limit that is past.
 ///
 /// Takes memory once, for the user data of what is accepted.
 pub fn from_submit(
     alloc: Global,
+    accounts: &[CentreAccount],
     from: Digits,
     now: Moment,
     tpdu: &[u8],
 ) -> Result<Submission, SubmitError>
-    ensures { Answers result (from_read from now (up_at InData tpdu.now)) }
+    ensures { Answers result (from_read accounts.now from now (up_at InData tpdu.now)) }
 {
     match read_up(tpdu, Carrier::InData) {
-        Ok(Up::Submit(submit)) => accepted(alloc, from, now, &submit),
+        Ok(Up::Submit(submit)) => accepted(alloc, accounts, from, now, &submit),
         Ok(Up::DeliverReport(_)) => Err(SubmitError::Refused(SubmitRefusal::WrongType)),
         Err(fault) => Err(SubmitError::Refused(SubmitRefusal::of_fault(fault))),
     }

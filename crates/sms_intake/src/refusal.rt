@@ -25,6 +25,9 @@ pub enum SubmitRefusal {
     /// The destination is no handset.
     #[error("the destination is no handset")]
     NoHandset,
+    /// The destination is the number of an account: no text of a handset is sent to an application.
+    #[error("the destination is an account's number")]
+    OfAccount,
     /// The validity period is over.
     #[error("the validity period is over")]
     PastLimit,
@@ -70,6 +73,7 @@ impl SubmitRefusal {
         match self {
             SubmitRefusal::WrongValidityFormat => FailureCause::ValidityPeriodFormatNotSupported,
             SubmitRefusal::NoHandset => FailureCause::InvalidSmeAddress,
+            SubmitRefusal::OfAccount => FailureCause::DestinationBarred,
             SubmitRefusal::Duplicate => FailureCause::DuplicateShortMessage,
             SubmitRefusal::Congested => FailureCause::ServiceCentreBusy,
             _ => FailureCause::UnspecifiedErrorCause,

@@ -4,7 +4,7 @@
 //! also gives the octets of one row, so that a core needs not hold them. A refused call leaves the rows unchanged, or
 //! closes the keep. A stop inside a call leaves the rows from before it or from after it. By `Refusals` contracts see
 //! how many calls a keep refused, and which read.
-ghost use Rattle.std.specs.Prelude.{◌≡◌, ◌≢◌, ◌⊎◌, ⊤, IfErr};
+ghost use Rattle.std.specs.Prelude.{◌≡◌, ◌≢◌, ◌⊎◌, ⊤, Err, IfErr};
 ghost use Rattle.sms_rows.specs.keep.KeepState.{KeepState};
 ghost use Rattle.sms_rows.specs.keep.StoreOutcome.{IfHeld, IsCounted, StoreOutcome, WasHonest};
 ghost use Rattle.sms_rows.specs.declared.keep.error.KeepError.TheVariants.{NotThisStore, OldVersion};
@@ -52,6 +52,7 @@ pub trait Keep {
     fn load(&mut self) -> Result<Self::Rows, KeepError>
         ensures outcome { (rows : Self.Rows) → StoreOutcome (λ found. found ≡ rows) rows rows (state self.old) (state self.new) result }
         ensures stop { (rows : Self.Rows) → IfHeld rows (state self.old) (state self.new) ((left : Self.Rows) → may_leave self.new left → left ≡ rows) }
+        ensures back { (rows : Self.Rows) → IfHeld rows (state self.old) (state self.new) (result ≢ Err NotThisStore) }
         ensures named { IfErr result (λ error. error ≢ OldVersion) }
         ensures before { WasHonest (state self.old) (state self.new) }
         ensures counted { IsCounted (state self.old) (state self.new) result };

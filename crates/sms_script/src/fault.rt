@@ -6,9 +6,10 @@ use std::alloc::AllocError;
 use thiserror::Error;
 
 /// What is wrong with a line.
-#[derive(Clone, Copy, Debug, PartialEq, Eq)]
+#[derive(Clone, Copy, Debug, PartialEq, Eq, Error)]
 pub enum LineFault {
     /// The line says nothing that is known.
+    #[error("bad line")]
     BadLine,
 }
 

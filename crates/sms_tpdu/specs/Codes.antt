@@ -1,7 +1,7 @@
 -- The numbers of the failure causes and of the statuses that this centre gives.
 use Rattle.std.specs.Prelude.{ℕ}
 use Rattle.sms_tpdu.specs.declared.codes.FailureCause.{FailureCause}
-use Rattle.sms_tpdu.specs.declared.codes.FailureCause.TheVariants.{ServiceCentreBusy, ServiceCentreSystemFailure, InvalidSmeAddress, DuplicateShortMessage, ValidityPeriodFormatNotSupported, MemoryCapacityExceeded, UnspecifiedErrorCause}
+use Rattle.sms_tpdu.specs.declared.codes.FailureCause.TheVariants.{ServiceCentreBusy, ServiceCentreSystemFailure, InvalidSmeAddress, DestinationBarred, DuplicateShortMessage, ValidityPeriodFormatNotSupported, MemoryCapacityExceeded, UnspecifiedErrorCause}
 use Rattle.sms_tpdu.specs.declared.codes.Status.{Status}
 use Rattle.sms_tpdu.specs.declared.codes.Status.TheVariants.{Received, RemoteProcedureError, ValidityPeriodExpired, DeletedByServiceCentre}
 
@@ -10,6 +10,7 @@ abbrev pub cause_octet : FailureCause → ℕ
 cause_octet ServiceCentreBusy = 192
 cause_octet ServiceCentreSystemFailure = 194
 cause_octet InvalidSmeAddress = 195
+cause_octet DestinationBarred = 196
 cause_octet DuplicateShortMessage = 197
 cause_octet ValidityPeriodFormatNotSupported = 198
 cause_octet MemoryCapacityExceeded = 211

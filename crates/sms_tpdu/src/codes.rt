@@ -8,6 +8,8 @@ pub enum FailureCause {
     ServiceCentreBusy,
     ServiceCentreSystemFailure,
     InvalidSmeAddress,
+    /// The destination takes no short message of this kind.
+    DestinationBarred,
     /// The short message was rejected as a duplicate.
     DuplicateShortMessage,
     ValidityPeriodFormatNotSupported,
@@ -25,6 +27,7 @@ impl FailureCause {
             FailureCause::ServiceCentreBusy => 0xC0,
             FailureCause::ServiceCentreSystemFailure => 0xC2,
             FailureCause::InvalidSmeAddress => 0xC3,
+            FailureCause::DestinationBarred => 0xC4,
             FailureCause::DuplicateShortMessage => 0xC5,
             FailureCause::ValidityPeriodFormatNotSupported => 0xC6,
             FailureCause::MemoryCapacityExceeded => 0xD3,

@@ -5,7 +5,7 @@ use Rattle.sms_centre_spec.specs.CentreEvent.{happened, recovered}
 use Rattle.sms_centre_spec.specs.Draft.{Core, core_of}
 use Rattle.sms_centre_spec.specs.declared.event.CentreEvent.{CentreEvent}
 use Rattle.sms_centre_spec.specs.declared.event.CentreEvent.TheVariants.{Submit, Query, Cancel, Bound, Unbound, DeliverAnswered, Frame, LinkUp, LinkDown, Tick as TickOf}
-use Rattle.sms_centre_spec.specs.Requests.{octets_refusal}
+use Rattle.sms_centre_spec.specs.Requests.{cancel_refusal, octets_refusal, query_refusal}
 use Rattle.sms_centre_spec.specs.declared.rows.Rows.{Rows}
 use Rattle.sms_centre_spec.specs.declared.jobs.job.Job.{Job}
 use Rattle.sms_centre_spec.specs.declared.jobs.reply.Reply.{Reply}
@@ -50,11 +50,11 @@ gives_for (Event event) Refused s stimulus = failed_by stimulus
 gives_for Nothing fate s stimulus = failed_by stimulus
 gives_for Taken fate s stimulus = taken_by stimulus
 
--- the status with which its octets refuse the submission that is asked for
+-- the status with which its octets refuse the request
 abbrev pub refusal_of : CentreEvent → Core → Option CommandStatus
 refusal_of (Submit account message) c = octets_refusal account message c
-refusal_of (Query account query) c = None
-refusal_of (Cancel account cancel) c = None
+refusal_of (Query account query) c = query_refusal account query c
+refusal_of (Cancel account cancel) c = cancel_refusal account cancel c
 refusal_of (Bound session account receives) c = None
 refusal_of (Unbound session) c = None
 refusal_of (DeliverAnswered session id is_accepted) c = None
@@ -68,7 +68,7 @@ refusal_for (Event event) c = refusal_of event c
 refusal_for Nothing c = None
 refusal_for Taken c = None
 
--- Without memory a submit_sm is still refused as its octets refuse it; every other request has failed.
+-- Without memory a request is still refused as its octets refuse it; every other one has failed.
 abbrev pub short_of : Option CommandStatus → Stimulus Job → List (Out Reply) → List (Out Reply)
 short_of None stimulus outs = outs
 short_of (Some status) stimulus outs = refused_by status stimulus

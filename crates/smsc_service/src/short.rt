@@ -12,7 +12,7 @@ use sms_centre::{Centre, CentreAnswer, CentreEvent};
 use sms_centre_spec::jobs::{Job, Reply};
 use sms_keeper::{Fate, Out, Outs, Step, Stimulus};
 
-// The status with which its octets refuse the submission that is asked for.
+// The status with which its octets refuse the request.
 fn refusal_for(centre: &Centre, asked: &SeatRequest<'_>) -> Option<CommandStatus>
     ensures { (c : Core) → Represents c centre.now → result ≡ refusal_for_of asked.now c }
 {
@@ -27,9 +27,9 @@ fn refusal_of(centre: &Centre, event: &CentreEvent<'_>) -> Option<CommandStatus>
 {
     match event {
         CentreEvent::Submit { account, message } => centre.submit_refusal(*account, message),
-        CentreEvent::Query { .. }
-        | CentreEvent::Cancel { .. }
-        | CentreEvent::Bound { .. }
+        CentreEvent::Query { account, query } => centre.query_refusal(*account, query),
+        CentreEvent::Cancel { account, cancel } => centre.cancel_refusal(*account, cancel),
+        CentreEvent::Bound { .. }
         | CentreEvent::Unbound { .. }
         | CentreEvent::DeliverAnswered { .. }
         | CentreEvent::Frame { .. }

@@ -334,6 +334,7 @@ impl From<KeepError> for RunFault {
             KeepError::OldVersion => RunFault::OldVersion,
             KeepError::NotThisStore => RunFault::NotThisStore,
             KeepError::NoMemory => RunFault::NoMemory,
+            KeepError::Full => RunFault::Store(StoreFault::Full),
             KeepError::Disk | KeepError::Interrupted | KeepError::Closed => {
                 RunFault::Store(StoreFault::Other)
             }

@@ -4,6 +4,7 @@ use crate::logging::Log;
 use crate::watching::Guard;
 use crossbeam_channel::{Receiver, Sender, bounded};
 use sms_centre_spec::{Changes, Rows};
+use sms_rows::keep::KeepError;
 use smsc_cli::words::LogDetail;
 use smsc_loop::{Activity, Note};
 use smsc_server::status::Counters;
@@ -148,15 +149,15 @@ impl<R: Wait + Copy + Clock> Observer for Watchers<R> {
         self.began.store(micros(&self.rt), Ordering::SeqCst);
     }
 
-    fn end_commit(&self, is_done: bool) {
+    fn end_commit(&self, refused: Option<KeepError>) {
         let took = micros(&self.rt).saturating_sub(self.began.load(Ordering::SeqCst));
         self.took.store(took, Ordering::SeqCst);
         self.guard.look();
-        if !is_done {
-            self.guard.look_after_refusal();
+        if let Some(error) = refused {
+            self.guard.look_after_refusal(error);
         }
         if let Some(feed) = &self.feed {
-            feed.end_commit(is_done, took);
+            feed.end_commit(refused.is_none(), took);
         }
     }
 

@@ -1,6 +1,7 @@
 //! Whether the store's files are still those that were opened, on a disk that is there.
 use crate::run_fault::{RunFault, lost_fault};
-use crate::store_files::{StorePaths, look_at, probe_disk};
+use crate::store_files::{StorePaths, is_full, look_at, probe_disk};
+use sms_rows::keep::KeepError;
 use sms_store_files::{FilesLook, OpenedFiles, are_still};
 use smsc_server::Orders;
 use std::io::{self, ErrorKind};
@@ -21,13 +22,25 @@ const NO_MEMORY: i32 = 12;
 const INPUT_OUTPUT: i32 = 5;
 
 // By these a disk refuses what is written since it is lost or cut off: EIO, ENXIO, ENODEV, EROFS, EBADFD, ENOTCONN, ETIMEDOUT, EHOSTDOWN,
-// EHOSTUNREACH, ESTALE. A full one is waited for.
+// EHOSTUNREACH, ESTALE.
 const LOSSES: &[i32] = &[5, 6, 19, 30, 77, 107, 110, 112, 113, 116];
 
 fn number_of(error: &io::Error) -> i32 {
     match error.kind() {
         ErrorKind::OutOfMemory => NO_MEMORY,
         _ => error.raw_os_error().unwrap_or(INPUT_OUTPUT),
+    }
+}
+
+// By what a disk is lost that refused a commit so, and then some octets more so. A full one is waited for.
+fn loss_of(refused: KeepError, probed: io::Result<()>) -> Option<io::Error> {
+    match probed {
+        Err(error) if is_full(&error) => None,
+        Err(error) if LOSSES.contains(&number_of(&error)) => Some(error),
+        Ok(()) | Err(_) => match refused {
+            KeepError::Disk => Some(io::Error::from_raw_os_error(INPUT_OUTPUT)),
+            _ => None,
+        },
     }
 }
 
@@ -92,12 +105,11 @@ impl Guard {
         }
     }
 
-    /// Looks, after a commit that was refused, whether the disk is lost: then all connections end too. A disk that is cut off may refuse
-    /// what is written, and still say where the files are.
-    pub fn look_after_refusal(&self) {
-        match probe_disk(&self.host, self.paths.log.as_str()) {
-            Err(error) if LOSSES.contains(&number_of(&error)) => self.lose(&error),
-            Ok(()) | Err(_) => (),
+    /// Judges the refusal of a commit. Where the disk is not full, and refused what was written or refuses some octets more, it is lost:
+    /// then all connections end too. A disk that is cut off may still say where the files are, and take other files.
+    pub fn look_after_refusal(&self, refused: KeepError) {
+        if let Some(error) = loss_of(refused, probe_disk(&self.host, self.paths.log.as_str())) {
+            self.lose(&error);
         }
     }
 

@@ -1,10 +1,10 @@
 //! Submissions and refusals.
 use crate::rows::{are, holds};
 use smpp_pdu::CommandStatus;
-use sms_base::{Address, Moment, Originator, Wish};
+use sms_base::{Address, Moment, Octets, Originator, Wish};
 use sms_intake::{
-    SmppError, Submission, SubmitError, SubmitRefusal, accepting_report, content_of, due_of,
-    from_submit, limit_of, refusing_report, wish_of,
+    CentreAccount, SmppError, Submission, SubmitError, SubmitRefusal, accepting_report, content_of,
+    due_of, from_submit, limit_of, refusing_report, wish_of,
 };
 use std::alloc::Global;
 use std::test::Fail;
@@ -18,16 +18,24 @@ const HELLO: &[u8] = b"\x01\x00\x0C\x91\x44\x77\x00\x09\x40\x65\x00\x00\x05\xE8\
 // The front of a SUBMIT of 160 septets.
 const LONG_FRONT: &[u8] = b"\x01\x00\x0C\x91\x44\x77\x00\x09\x40\x65\x00\x00\xA0";
 
-// What a handset sent.
-fn submitted(alloc: Global, tpdu: &[u8]) -> Result<Result<Submission, SubmitError>, Fail> {
+// What a handset sent to a centre with these accounts.
+fn submitted(
+    alloc: Global,
+    accounts: &[CentreAccount],
+    tpdu: &[u8],
+) -> Result<Result<Submission, SubmitError>, Fail> {
     let from = Address::new(1, 1, "447700900123")?.digits;
     let now = Moment::from_seconds(NOW)?;
-    Ok(from_submit(alloc, from, now, tpdu))
+    Ok(from_submit(alloc, accounts, from, now, tpdu))
 }
 
 // Why it is refused.
-fn refusal_of(alloc: Global, tpdu: &[u8]) -> Result<Option<SubmitRefusal>, Fail> {
-    match submitted(alloc, tpdu)? {
+fn refusal_of(
+    alloc: Global,
+    accounts: &[CentreAccount],
+    tpdu: &[u8],
+) -> Result<Option<SubmitRefusal>, Fail> {
+    match submitted(alloc, accounts, tpdu)? {
         Ok(_) => Ok(None),
         Err(SubmitError::Refused(refusal)) => Ok(Some(refusal)),
         Err(SubmitError::NoMemory) => Err(Fail::new("out of memory")),
@@ -50,7 +58,7 @@ fn is_hello(submission: &Submission, from: &Address, to: &Address) -> bool {
 fn accepts_hello(alloc: Global) -> Result<bool, Fail> {
     let from = Address::new(1, 1, "447700900123")?;
     let to = Address::new(1, 1, "447700900456")?;
-    match submitted(alloc, HELLO)? {
+    match submitted(alloc, &[], HELLO)? {
         Ok(submission) => Ok(is_hello(&submission, &from, &to)),
         Err(_) => Ok(false),
     }
@@ -90,34 +98,77 @@ fn submits_are_accepted_and_refused(rt: HostRuntime) -> Result<(), Fail> {
     holds(accepts_hello(rt.alloc())?, "hello")?;
     let tpdu = longest_submit(rt.alloc())?;
     holds(
-        refusal_of(rt.alloc(), tpdu.as_slice())?.is_none(),
+        refusal_of(rt.alloc(), &[], tpdu.as_slice())?.is_none(),
         "160 septets",
     )?;
     for (tpdu, refusal) in REFUSED {
-        holds(refusal_of(rt.alloc(), tpdu)? == Some(*refusal), "a refusal")?;
+        holds(
+            refusal_of(rt.alloc(), &[], tpdu)? == Some(*refusal),
+            "a refusal",
+        )?;
     }
     Ok(())
+}
+
+// An account of that number.
+fn account(alloc: Global, digits: &str) -> Result<CentreAccount, Fail> {
+    Ok(CentreAccount {
+        name: Octets::copy_of(alloc, b"bank")?,
+        address: Address::new(1, 1, digits)?,
+    })
+}
+
+// `hello` with a limit that is past, 29 February 2024 at 23:59:57.
+const LATE_HELLO: &[u8] =
+    b"\x19\x00\x0C\x91\x44\x77\x00\x09\x40\x65\x00\x00\x42\x20\x92\x32\x95\x75\x00\x05\xE8\x32\x9B\xFD\x06";
+
+#[test]
+fn a_text_for_an_account_is_refused(rt: HostRuntime) -> Result<(), Fail> {
+    let mut accounts = Vec::new(rt.alloc());
+    accounts.push(account(rt.alloc(), "447700900001")?)?;
+    holds(
+        refusal_of(rt.alloc(), accounts.as_slice(), HELLO)?.is_none(),
+        "another number",
+    )?;
+    holds(
+        refusal_of(rt.alloc(), accounts.as_slice(), LATE_HELLO)? == Some(SubmitRefusal::PastLimit),
+        "a limit that is past",
+    )?;
+    accounts.push(account(rt.alloc(), "447700900456")?)?;
+    holds(
+        refusal_of(rt.alloc(), accounts.as_slice(), LATE_HELLO)? == Some(SubmitRefusal::OfAccount),
+        "the second account's number, before the limit",
+    )
 }
 
 const ACCEPTING: &[u8] = b"\x01\x00\x42\x20\x92\x32\x95\x85\x00";
 
 const REFUSING: &[u8] = b"\x01\xC6\x00\x42\x20\x92\x32\x95\x85\x00";
 
+const BARRED: &[u8] = b"\x01\xC4\x00\x42\x20\x92\x32\x95\x85\x00";
+
 fn accepts_so(alloc: Global) -> Result<bool, Fail> {
     let report = accepting_report(alloc, Moment::from_seconds(NOW)?)?;
     Ok(are(report.as_slice(), ACCEPTING))
 }
 
-fn refuses_so(alloc: Global) -> Result<bool, Fail> {
-    let now = Moment::from_seconds(NOW)?;
-    let report = refusing_report(alloc, SubmitRefusal::WrongValidityFormat, now)?;
-    Ok(are(report.as_slice(), REFUSING))
+fn refuses_so(alloc: Global, refusal: SubmitRefusal, wanted: &[u8]) -> Result<bool, Fail> {
+    let report = refusing_report(alloc, refusal, Moment::from_seconds(NOW)?)?;
+    Ok(are(report.as_slice(), wanted))
 }
 
 #[test]
 fn reports_have_their_octets(rt: HostRuntime) -> Result<(), Fail> {
     holds(accepts_so(rt.alloc())?, "a report that accepts")?;
-    holds(refuses_so(rt.alloc())?, "a report that refuses")
+    let format = SubmitRefusal::WrongValidityFormat;
+    holds(
+        refuses_so(rt.alloc(), format, REFUSING)?,
+        "a report that refuses",
+    )?;
+    holds(
+        refuses_so(rt.alloc(), SubmitRefusal::OfAccount, BARRED)?,
+        "a report that bars",
+    )
 }
 
 // The limit of a validity period, in seconds from now on; none where it is refused for it.

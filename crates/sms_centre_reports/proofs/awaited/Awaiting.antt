@@ -12,11 +12,12 @@ use Rattle.sms_centre_rows.specs.declared.messages.message.MessageRow.{MessageRo
 use Rattle.sms_centre_rows.specs.messages.Messages.{message_at}
 use Rattle.sms_centre_rows.specs.messages.SplitReferences.{is_among}
 use Rattle.sms_centre_rows.specs.declared.reports.report.ReportRow.{ReportRow}
-use Rattle.sms_centre_rows.specs.reports.Receipts.{Bindings, Session, all_tried, answered_in, is_account, is_put_off, is_unanswered, put_session, receipt_ended, receipt_tried, receipts_due, send, send_all, send_in, send_to, session_for, session_key, waits, window, without_id}
+use Rattle.sms_centre_rows.specs.reports.Receipts.{Bindings, Session, all_tried, answered_in, is_account, is_put_off, is_unanswered, put_session, receipt_ended, receipt_tried, receipts_due, receives_for, send, send_all, send_in, send_to, session_for, session_key, waits, window, without_id}
 use Rattle.sms_centre_rows.specs.reports.Reports.{amend_report, is_open_receipt, is_receipt, report_key, report_of, reports_of}
 use Rattle.sms_centre_rows.specs.reports.Waiting.{Alone}
 use Rattle.sms_centre_rows.proofs.reports.AllWaiting.{report_found}
 use Rattle.sms_centre_rows.proofs.reports.ReportRows.{amended_other}
+use Rattle.sms_centre_rows.proofs.reports.Serving.{fewest_found}
 use Rattle.sms_centre_reports.specs.open_reports.Awaited.{IsAwaited}
 use Rattle.sms_centre_reports.specs.open_reports.Entries.{account_in, account_of}
 use Rattle.sms_centre_reports.proofs.open_reports.Keeping.{alone_found}
@@ -76,23 +77,15 @@ not_so false e = refl
 
 -- ---- the session that serves
 
-one_session : (a b : Session) → Some a ≡ Some b → a ≡ b
-one_session a b e = cc
-
 named : (name : List ℕ) (o : Originator) → is_account name o ≡ true → account_of o ≡ Some name
 named name (Application a) e = ap (λ (n : List ℕ). Some n) ((bytes_eq-Decides a name).0 e)
 named name (Handset n) e = absurd cc
 
 serves : (o : Option MessageRow) (s : Session) (ss : List Session) → session_for o ss ≡ Some s → Among s ss × (account_in o ≡ Some s.account)
 serves None s ss e = absurd cc
-serves (Some m) s [] e = absurd cc
-serves (Some m) s (x ∷ ss) e = ⊎_elim
-    (λ (t : (x.receives && is_account x.account m.originator) ≡ true).
-    let same : x ≡ s = one_session x s (sym (cond-true (x.receives && is_account x.account m.originator) (Some x) (session_for (Some m) ss) t) ∙ e) in
-    (inl (sym same), named x.account m.originator (and_parts x.receives (is_account x.account m.originator) t).1 ∙ ap (λ (y : Session). Some y.account) same))
-    (λ (t : (x.receives && is_account x.account m.originator) ≡ false).
-    let f = serves (Some m) s ss (sym (cond-false (x.receives && is_account x.account m.originator) (Some x) (session_for (Some m) ss) t) ∙ e) in (inr f.0, f.1))
-    (cases_Bool (x.receives && is_account x.account m.originator))
+serves (Some m) s ss e =
+    let f = fewest_found (receives_for m) s ss e in
+    (f.0, named s.account m.originator (and_parts s.receives (is_account s.account m.originator) f.1).1)
 
 -- ---- nothing was sent
 

@@ -59,7 +59,7 @@ submission_from_bindings h n tag (Ok u) d =
     (λ t. refl) (λ t. submit_accepted_bindings h n tag (accept u d.store) d))
 
 unit_received_bindings : (h : List ℕ) (tag : Holder) (unit : List ℕ) (u : Result Rp RelayFault) (d : Draft) → (unit_received h tag unit u d).bindings ≡ d.bindings
-unit_received_bindings h tag unit (Ok (DataUnit r z t)) d = submission_from_bindings h r tag (from_read h d.store.moment (tpdu_up_at InData t)) d
+unit_received_bindings h tag unit (Ok (DataUnit r z t)) d = submission_from_bindings h r tag (from_read d.store.setup.accounts h d.store.moment (tpdu_up_at InData t)) d
 unit_received_bindings h tag unit (Ok (AckUnit r t)) d = refl
 unit_received_bindings h tag unit (Ok (ErrorUnit r z t)) d = refl
 unit_received_bindings h tag unit (Ok (Smma r)) d = refl

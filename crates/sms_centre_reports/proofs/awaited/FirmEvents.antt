@@ -76,8 +76,8 @@ module _ (P : Store → Type 0) (c : IsFirm P) where
       (λ t. cond_both (is_reference_taken u d.store) (refuse h n tag ReferenceTaken d) (submit_accepted h n tag (accept u d.store) d) (λ (e : Draft). P e.store)
       (λ t. k) (λ t. submit_accepted_firm h n tag (accept u d.store) d k (c.accepted u d.store k (g u refl))))
 
-  unit_received_firm : (h : List ℕ) (tag : Holder) (unit : List ℕ) (u : Result Rp RelayFault) (d : Draft) → P d.store → UnitGives h d.store.moment u → P (unit_received h tag unit u d).store
-  unit_received_firm h tag unit (Ok (DataUnit r z t)) d k g = submission_from_firm h r tag (from_read h d.store.moment (tpdu_up_at InData t)) d k g
+  unit_received_firm : (h : List ℕ) (tag : Holder) (unit : List ℕ) (u : Result Rp RelayFault) (d : Draft) → P d.store → UnitGives d.store.setup.accounts h d.store.moment u → P (unit_received h tag unit u d).store
+  unit_received_firm h tag unit (Ok (DataUnit r z t)) d k g = submission_from_firm h r tag (from_read d.store.setup.accounts h d.store.moment (tpdu_up_at InData t)) d k g
   unit_received_firm h tag unit (Ok (AckUnit r t)) d k g = k
   unit_received_firm h tag unit (Ok (ErrorUnit r z t)) d k g = k
   unit_received_firm h tag unit (Ok (Smma r)) d k g = due_now_firm P c h d.store k
@@ -85,12 +85,12 @@ module _ (P : Store → Type 0) (c : IsFirm P) where
 
   -- ---- links
 
-  went_up_firm : (h : List ℕ) (tag : Holder) (u : Option Upward) (d : Draft) → P d.store → UpGives h d.store.moment u → P (went_up h tag u d).store
+  went_up_firm : (h : List ℕ) (tag : Holder) (u : Option Upward) (d : Draft) → P d.store → UpGives d.store.setup.accounts h d.store.moment u → P (went_up h tag u d).store
   went_up_firm h tag None d k g = k
   went_up_firm h tag (Some (Opened unit)) d k g = unit_received_firm h tag unit (up_at unit) d k g
   went_up_firm h tag (Some (Ended transfer ending)) d k g = conclude_firm h transfer ending d k
 
-  frame_taken_firm : (octets : List ℕ) (tag : Holder) (l : HandsetLink) (d : Draft) → P d.store → UpGives l.handset d.store.moment (taken octets l.link).out.up → P (frame_taken octets tag l d).store
+  frame_taken_firm : (octets : List ℕ) (tag : Holder) (l : HandsetLink) (d : Draft) → P d.store → UpGives d.store.setup.accounts l.handset d.store.moment (taken octets l.link).out.up → P (frame_taken octets tag l d).store
   frame_taken_firm octets tag l d k g = went_up_firm l.handset tag (taken octets l.link).out.up (on_links (turn_line l (taken octets l.link) d.links) d) k g
 
   raise_firm : (h : List ℕ) (d : Draft) → P d.store → P (raise h d).store

@@ -15,12 +15,13 @@ use Rattle.sms_base.specs.declared.originator.Originator.{Originator}
 use Rattle.sms_base.specs.declared.originator.Originator.TheVariants.{Application, Handset}
 use Rattle.sms_centre_rows.specs.messages.Messages.{message_at}
 use Rattle.sms_centre_rows.specs.declared.reports.report.ReportRow.{ReportRow}
-use Rattle.sms_centre_rows.specs.reports.Receipts.{Bindings, Session, is_account, is_unanswered, send_all, send_in, session_for, session_key, waits, window}
+use Rattle.sms_centre_rows.specs.reports.Receipts.{Bindings, Session, is_account, is_unanswered, receives_for, send_all, send_in, session_for, session_key, waits, window}
 use Rattle.sms_centre_rows.specs.reports.Reports.{is_open_receipt, report_key}
+use Rattle.sms_centre_rows.proofs.reports.Serving.{fewest_found, fewest_none, fewest_same}
 use Rattle.sms_centre_reports.specs.declared.open_reports.entry.ReceiptEntry.{ReceiptEntry}
 use Rattle.sms_centre_reports.specs.open_reports.Entries.{account_in, account_of, is_named, receipt_due, receipt_entry, receipt_key}
 use Rattle.sms_centre_reports.specs.open_reports.OpenReports.{OpenReportsOf, Represents, receipts_at}
-use Rattle.sms_centre_reports.specs.open_reports.Serving.{Next, earlier, is_ready, is_session, next_among, next_from, next_in, serving}
+use Rattle.sms_centre_reports.specs.open_reports.Serving.{Next, earlier, is_ready, is_session, next_among, next_from, next_in, receives_as, serving}
 use Rattle.sms_centre_reports.specs.open_reports.DueReceipts.{sending_session, with_room}
 use Rattle.sms_centre_reports.proofs.open_reports.Keeping.{kept_where, receipt_place}
 use Rattle.sms_centre_reports.proofs.open_reports.Walking.{walk_ends, walk_on}
@@ -187,27 +188,18 @@ no_account (Handset n) account e = refl
 
 session_serving : (o : Option MessageRow) (name : List ℕ) (ss : List Session) → account_in o ≡ Some name → session_for o ss ≡ serving name ss
 session_serving None name ss e = absurd cc
-session_serving (Some m) name [] e = refl
-session_serving (Some m) name (s ∷ ss) e =
-    ap (λ (t : Bool). if s.receives && t then Some s else session_for (Some m) ss) (same_account m.originator name s.account e)
-    ∙ ap (λ (o : Option Session). if s.receives && bytes_eq name s.account then Some s else o) (session_serving (Some m) name ss e)
+session_serving (Some m) name ss e =
+    fewest_same (receives_for m) (receives_as name) (λ s. ap (λ (t : Bool). s.receives && t) (same_account m.originator name s.account e)) ss
 
 session_none : (o : Option MessageRow) (ss : List Session) → account_in o ≡ None → session_for o ss ≡ None
 session_none None ss e = refl
-session_none (Some m) [] e = refl
-session_none (Some m) (s ∷ ss) e =
-    cond-false (s.receives && is_account s.account m.originator) (Some s) (session_for (Some m) ss) (ap (λ (t : Bool). s.receives && t) (no_account m.originator s.account e) ∙ and_false s.receives)
-    ∙ session_none (Some m) ss e
+session_none (Some m) ss e =
+    fewest_none (receives_for m) (λ s. ap (λ (t : Bool). s.receives && t) (no_account m.originator s.account e) ∙ and_false s.receives) ss
 
 serving_found : (name : List ℕ) (s : Session) (ss : List Session) → serving name ss ≡ Some s → Among s ss × (name ≡ s.account)
-serving_found name s [] e = absurd cc
-serving_found name s (x ∷ ss) e = ⊎_elim
-    (λ (t : (x.receives && bytes_eq name x.account) ≡ true).
-    let same : x ≡ s = one_of x s (sym (cond-true (x.receives && bytes_eq name x.account) (Some x) (serving name ss) t) ∙ e) in
-    (inl (sym same), subst (λ (y : Session). name ≡ y.account) same ((bytes_eq-Decides name x.account).0 (and_parts x.receives (bytes_eq name x.account) t).1)))
-    (λ (t : (x.receives && bytes_eq name x.account) ≡ false).
-    let f = serving_found name s ss (sym (cond-false (x.receives && bytes_eq name x.account) (Some x) (serving name ss) t) ∙ e) in (inr f.0, f.1))
-    (cases_Bool (x.receives && bytes_eq name x.account))
+serving_found name s ss e =
+    let f = fewest_found (receives_as name) s ss e in
+    (f.0, (bytes_eq-Decides name s.account).0 (and_parts s.receives (bytes_eq name s.account) f.1).1)
 
 -- ---- what goes
 

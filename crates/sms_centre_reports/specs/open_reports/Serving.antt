@@ -2,15 +2,17 @@
 use Rattle.std.specs.Prelude.{ℕ, ◌==◌, ◌&&◌, nat_le, nat_lt, not, length, List, [], ◌∷◌, Bool, false, if◌then◌else◌, Option, Some, None}
 use Rattle.std.specs.Str.{bytes_eq}
 use Rattle.sms_rows.specs.index.First.{first_such, is_past_from}
-use Rattle.sms_centre_rows.specs.reports.Receipts.{Session, is_unanswered, window}
+use Rattle.sms_centre_rows.specs.reports.Receipts.{Session, fewest_unanswered, is_unanswered, window}
 use Rattle.sms_centre_reports.specs.declared.open_reports.entry.ReceiptEntry.{ReceiptEntry}
 use Rattle.sms_centre_reports.specs.open_reports.Entries.{receipt_due, receipt_key}
 use Rattle.sms_centre_reports.specs.open_reports.OpenReports.{AccountOf, receipts_at}
 
--- the first session that receives for the account
+abbrev pub receives_as : List ℕ → Session → Bool
+receives_as name s = s.receives && bytes_eq name s.account
+
+-- the session that receives for the account and has the fewest unanswered
 abbrev pub serving : List ℕ → List Session → Option Session
-serving name [] = None
-serving name (s ∷ ss) = if s.receives && bytes_eq name s.account then Some s else serving name ss
+serving name ss = fewest_unanswered (receives_as name) ss
 
 -- from that place on, due, and not sent yet
 abbrev pub is_ready : ℕ → ℕ → List Session → ReceiptEntry → Bool
@@ -20,7 +22,7 @@ abbrev pub is_session : Session → Option Session → Bool
 is_session s None = false
 is_session s (Some t) = t.number == s.number
 
--- the next that is sent in the session: it is the first of its account, and has room
+-- the next that is sent in the session: it serves its account, and has room
 abbrev pub next_in : ℕ → ℕ → List Session → List AccountOf → Session → Option ReceiptEntry
 next_in first moment sessions accounts s =
     if is_session s (serving s.account sessions) && nat_lt (length s.unanswered) window

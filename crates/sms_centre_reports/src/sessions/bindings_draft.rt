@@ -55,7 +55,7 @@ impl BindingsDraft {
         self.sessions.find(Key::of(u64::from(number)))
     }
 
-    /// The number of the first session that receives for the account.
+    /// The number of the session that receives for the account and has the fewest unanswered.
     pub fn serving(&self, account: &[u8]) -> Option<u32>
         ensures { result ≡ option_map (λ s. s.number) (serving account.now self.now.sessions) }
     {

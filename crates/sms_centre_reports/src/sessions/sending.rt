@@ -31,8 +31,8 @@ pub(crate) struct ReceiptToSend {
 }
 
 impl BindingsDraft {
-    /// Sends the receipts that are due, the oldest first, each in the first session that receives for its account, if
-    /// that has room. It costs what it sends, and a look at each session.
+    /// Sends the receipts that are due, the oldest first, each in the session that receives for its account and has the
+    /// fewest unanswered, if that has room. It costs what it sends, and for each of them a look at each two sessions.
     pub fn send(&mut self, reports: &OpenReportsDraft, now: Moment) -> Result<(), AllocError>
         ensures { (messages : List MessageRowOf) (t : Revised ReportRowOf) → DraftRepresents messages reports.now t
             → OnOk result (self.new ≡ send_all now messages (reports_of t) self.old) }
@@ -112,7 +112,7 @@ impl BindingsDraft {
         }
     }
 
-    // Whether it is the first session that receives for its account.
+    // Whether it is the session that receives for its account and has the fewest unanswered.
     fn serves(&self, seat: &ReceiptSession) -> bool
         ensures { result ≡ is_session seat.now (serving seat.now.account self.now.sessions) }
     {

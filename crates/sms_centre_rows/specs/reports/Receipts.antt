@@ -1,6 +1,5 @@
--- Receipts to applications: the oldest first, in the lowest numbered session of the account that receives, at most ten that are
--- unanswered in a session. One that was refused, or whose session ended, is sent again at the next bind of its account or after a
--- minute.
+-- Receipts to applications: the oldest first, in the session of the account that receives and has the fewest unanswered, at most ten
+-- in a session. One that was refused, or whose session ended, is sent again at the next bind of its account or after a minute.
 use Rattle.std.specs.Prelude.{ℕ, ◌≤◌, ◌==◌, ◌&&◌, ◌||◌, not, nat_le, nat_lt, length, List, [], ◌∷◌, ◌++◌, Bool, false, if◌then◌else◌, Option, Some, None}
 use Rattle.std.specs.Str.{bytes_eq}
 use Rattle.sms_base.specs.Among.{Among}
@@ -57,11 +56,24 @@ waits moment r sessions = is_open_receipt r && (nat_le r.progress.due moment && 
 
 -- ---- sending
 
--- the first session that receives for the account of the message
+-- it receives for the account of the message
+abbrev pub receives_for : MessageRow → Session → Bool
+receives_for m s = s.receives && is_account s.account m.originator
+
+-- of two sessions the one with fewer unanswered; of equal ones the first
+abbrev pub fewer_unanswered : Session → Option Session → Session
+fewer_unanswered s None = s
+fewer_unanswered s (Some t) = if nat_le (length s.unanswered) (length t.unanswered) then s else t
+
+-- of the sessions that pass a test the one with the fewest unanswered; of equal ones the first
+abbrev pub fewest_unanswered : (Session → Bool) → List Session → Option Session
+fewest_unanswered test [] = None
+fewest_unanswered test (s ∷ ss) = if test s then Some (fewer_unanswered s (fewest_unanswered test ss)) else fewest_unanswered test ss
+
+-- the session in which the receipt of the message is sent
 abbrev pub session_for : Option MessageRow → List Session → Option Session
 session_for None ss = None
-session_for (Some m) [] = None
-session_for (Some m) (s ∷ ss) = if s.receives && is_account s.account m.originator then Some s else session_for (Some m) ss
+session_for (Some m) ss = fewest_unanswered (receives_for m) ss
 
 -- SMPP v3.4 2.9: how many requests may be unanswered in a session
 abbrev pub window : ℕ
@@ -73,7 +85,7 @@ send_in id s bindings = record {
   deliveries = bindings.deliveries ++ record { session = s.number; id = id } ∷ [];
 }
 
--- a session whose window is full holds it up
+-- where the fewest fill a window, the window of each session of the account is full: it waits
 abbrev pub send_to : ℕ → Option Session → Bindings → Bindings
 send_to id None bindings = bindings
 send_to id (Some s) bindings = if nat_lt (length s.unanswered) window then send_in id s bindings else bindings

@@ -1,12 +1,13 @@
 //! Laws of what waits for a handset, over their definitions alone: how it changes with a part, a report and a message.
-ghost use Rattle.std.specs.Prelude.{◌≡◌, ◌<◌, ℕ, List, Some, None};
+ghost use Rattle.std.specs.Prelude.{◌≡◌, ◌<◌, ◌≤◌, ℕ, List, Some, None, length, true};
+ghost use Rattle.sms_base.specs.Among.{Among};
 ghost use Rattle.sms_base.specs.declared.final_state.FinalState.{FinalState};
 ghost use Rattle.sms_centre_rows.specs.messages.Messages.{ended, message_at, message_key, part_at, part_key, part_reaching, priority_key};
 ghost use Rattle.sms_centre_rows.specs.messages.OpenParts.{Numbered, part_wait};
 ghost use Rattle.sms_centre_rows.specs.declared.messages.message.MessageRow.{MessageRow};
 ghost use Rattle.sms_centre_rows.specs.declared.messages.part.PartRow.{PartRow};
 ghost use Rattle.sms_centre_rows.specs.declared.messages.priority.PriorityRow.{PriorityRow};
-ghost use Rattle.sms_centre_rows.specs.reports.Receipts.{AreWindowed, Bindings, send_all};
+ghost use Rattle.sms_centre_rows.specs.reports.Receipts.{AreWindowed, Bindings, Session, receives_for, send, send_all, send_in, waits, window};
 ghost use Rattle.sms_centre_rows.specs.reports.Reports.{report_key, report_of, report_reaching};
 ghost use Rattle.sms_centre_rows.specs.reports.Waiting.{Alone, IsNew, report_wait, waiting_as, waiting_for};
 ghost use Rattle.sms_centre_rows.specs.declared.reports.report.ReportRow.{ReportRow};
@@ -70,4 +71,14 @@ pub fn a_new_message_leaves_what_waits()
 pub fn windows_are_never_passed()
     ensures { (moment : ℕ) (messages : List MessageRow) (reports : List ReportRow) (bindings : Bindings) → AreWindowed bindings
         → AreWindowed (send_all moment messages reports bindings) }
+{}
+
+/// A receipt that waits is sent while one session of its account that receives has room, whatever is unanswered in the others. No
+/// such session has fewer unanswered than the one in which it is sent.
+pub fn a_slow_session_holds_up_no_other()
+    ensures { (moment : ℕ) (messages : List MessageRow) (r : ReportRow) (m : MessageRow) (s : Session) (bindings : Bindings)
+        → waits moment r bindings.sessions ≡ true → message_at r.id messages ≡ Some m → Among s bindings.sessions → receives_for m s ≡ true
+        → length s.unanswered < window
+        → (t : Session) × ((Among t bindings.sessions × (receives_for m t ≡ true)) × ((length t.unanswered ≤ length s.unanswered)
+        × (send moment messages r bindings ≡ send_in r.id t bindings))) }
 {}

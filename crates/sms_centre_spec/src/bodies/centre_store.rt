@@ -1,8 +1,8 @@
 //! The store of a centre.
-ghost use Rattle.std.specs.Prelude.{◌≡◌, ◌≢◌, IfErr, OnOk};
-ghost use Rattle.sms_rows.specs.declared.keep.error.KeepError.TheVariants.{OldVersion};
+ghost use Rattle.std.specs.Prelude.{◌≡◌, ◌≢◌, Err, IfErr, OnOk};
+ghost use Rattle.sms_rows.specs.declared.keep.error.KeepError.TheVariants.{NotThisStore, OldVersion};
 ghost use Rattle.sms_centre_spec.specs.declared.rows.Rows.{Rows as RowsOf};
-ghost use Rattle.sms_rows.specs.keep.StoreOutcome.{IsCounted, StoreOutcome, WasHonest};
+ghost use Rattle.sms_rows.specs.keep.StoreOutcome.{IfHeld, IsCounted, StoreOutcome, WasHonest};
 ghost use Rattle.sms_centre_spec.specs.bodies.Storing.{GivesBodies, IfClosed, MakesTheChanges};
 
 use crate::{Changes, Rows};
@@ -14,6 +14,7 @@ pub trait CentreStore: BodyKeep<Rows = Rows, Changes = Changes> {
     fn gather(&mut self) -> Result<Rows, KeepError>
         ensures outcome { (rows : RowsOf) → StoreOutcome (λ found. found ≡ rows) rows rows (Self.state self.old) (Self.state self.new) result }
         ensures closed { IfClosed (Self.state self.old) (Self.state self.new) (OnOk result ⊥) }
+        ensures back { (rows : RowsOf) → IfHeld rows (Self.state self.old) (Self.state self.new) (result ≢ Err NotThisStore) }
         ensures named { IfErr result (λ error. error ≢ OldVersion) }
         ensures before { WasHonest (Self.state self.old) (Self.state self.new) }
         ensures counted { IsCounted (Self.state self.old) (Self.state self.new) result };

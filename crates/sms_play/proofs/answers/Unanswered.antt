@@ -42,7 +42,7 @@ arrived_leaves h n tag (Ok u) d =
     (λ t. cond_both (is_reference_taken u d.store) (refuse h n tag ReferenceTaken d) (submit_accepted h n tag (accept u d.store) d) (λ (e : Draft). Leaves e d) (λ b. refl) (λ b. submit_leaves h n tag (accept u d.store) d))
 
 unit_leaves : (h : List ℕ) (tag : Holder) (unit : List ℕ) (r : Result Rp RelayFault) (d : Draft) → Leaves (unit_received h tag unit r d) d
-unit_leaves h tag unit (Ok (DataUnit n centre tpdu)) d = arrived_leaves h n tag (from_read h d.store.moment (tpdu_up_at InData tpdu)) d
+unit_leaves h tag unit (Ok (DataUnit n centre tpdu)) d = arrived_leaves h n tag (from_read d.store.setup.accounts h d.store.moment (tpdu_up_at InData tpdu)) d
 unit_leaves h tag unit (Ok (AckUnit n tpdu)) d = refl
 unit_leaves h tag unit (Ok (ErrorUnit n cause tpdu)) d = refl
 unit_leaves h tag unit (Ok (Smma n)) d = refl

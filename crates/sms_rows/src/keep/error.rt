@@ -13,9 +13,12 @@ pub enum KeepError {
     /// It is no store of this kind, or one of a later version.
     #[error("this is no such store")]
     NotThisStore,
-    /// The disk failed, or refused.
+    /// The disk failed, or refused for another reason than that it is full.
     #[error("the store's disk failed")]
     Disk,
+    /// The disk, or the file, takes no further octets. A later call may find room.
+    #[error("the store's disk is full")]
+    Full,
     /// No memory was left, or a value is too big for the store.
     #[error("out of memory")]
     NoMemory,
@@ -28,7 +31,7 @@ pub enum KeepError {
 }
 
 impl KeepError {
-    /// The code of the refusal in reports, K1 to K6.
+    /// The code of the refusal in reports, K1 to K7.
     pub fn code(self) -> &'static str
         ensures { result.now ≡ keep_code self }
     {
@@ -39,6 +42,7 @@ impl KeepError {
             KeepError::NoMemory => "K4",
             KeepError::Interrupted => "K5",
             KeepError::Closed => "K6",
+            KeepError::Full => "K7",
         }
     }
 }

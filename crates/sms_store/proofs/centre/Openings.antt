@@ -5,7 +5,7 @@ use Rattle.sqlite.specs.Schema.{Schema}
 use Rattle.sqlite.specs.Effect.{Database}
 use Rattle.sqlite.specs.State.{State, Shows}
 use Rattle.sms_rows.specs.declared.keep.error.KeepError.{KeepError}
-use Rattle.sms_rows.specs.declared.keep.error.KeepError.TheVariants.{OldVersion, NotThisStore, Disk, NoMemory, Interrupted, Closed}
+use Rattle.sms_rows.specs.declared.keep.error.KeepError.TheVariants.{OldVersion, NotThisStore, Disk, Full, NoMemory, Interrupted, Closed}
 use Rattle.sms_store_sql.specs.listing.Listing.{ListOf}
 use Rattle.sms_store_sql.specs.listing.Transaction.{IsOpenStore}
 use Rattle.sms_store_sql.specs.declared.listing.meta.StoreKind.TheVariants.{Centre}
@@ -53,6 +53,7 @@ pub refused_said : (schema : Schema) (l : ListOf Meta) (version : ℕ) (db : Dat
 refused_said schema l version db OldVersion says = says
 refused_said schema l version db NotThisStore says = says
 refused_said schema l version db Disk says = tt
+refused_said schema l version db Full says = tt
 refused_said schema l version db NoMemory says = tt
 refused_said schema l version db Interrupted says = tt
 refused_said schema l version db Closed says = tt
@@ -62,6 +63,7 @@ pub refused_otherwise : (schema : Schema) (l : ListOf Meta) (version : ℕ) (db 
 refused_otherwise schema l version db OldVersion other = absurd (other.0 refl)
 refused_otherwise schema l version db NotThisStore other = absurd (other.1 refl)
 refused_otherwise schema l version db Disk other = tt
+refused_otherwise schema l version db Full other = tt
 refused_otherwise schema l version db NoMemory other = tt
 refused_otherwise schema l version db Interrupted other = tt
 refused_otherwise schema l version db Closed other = tt
@@ -70,6 +72,7 @@ pub refused_now_otherwise : (db : Database) (error : KeepError) → IsOfNoStore 
 refused_now_otherwise db OldVersion other = absurd (other.0 refl)
 refused_now_otherwise db NotThisStore other = absurd (other.1 refl)
 refused_now_otherwise db Disk other = tt
+refused_now_otherwise db Full other = tt
 refused_now_otherwise db NoMemory other = tt
 refused_now_otherwise db Interrupted other = tt
 refused_now_otherwise db Closed other = tt
@@ -78,6 +81,7 @@ pub refused_now : (db : Database) (error : KeepError) → Refused centre_schema 
 refused_now db OldVersion h = h
 refused_now db NotThisStore h = inr h
 refused_now db Disk h = tt
+refused_now db Full h = tt
 refused_now db NoMemory h = tt
 refused_now db Interrupted h = tt
 refused_now db Closed h = tt
@@ -89,6 +93,7 @@ refuses_now least db NotThisStore other h = elim h [
   | inr says ↦ inr (inl says)
 ]
 refuses_now least db Disk other h = tt
+refuses_now least db Full other h = tt
 refuses_now least db NoMemory other h = tt
 refuses_now least db Interrupted other h = tt
 refuses_now least db Closed other h = tt
@@ -98,6 +103,7 @@ pub refuses_first : (db : Database) (error : KeepError) → Refused first_schema
 refuses_first db OldVersion h = inr h
 refuses_first db NotThisStore h = inr (inr h)
 refuses_first db Disk h = tt
+refuses_first db Full h = tt
 refuses_first db NoMemory h = tt
 refuses_first db Interrupted h = tt
 refuses_first db Closed h = tt
@@ -144,6 +150,7 @@ pub refuses_first_now : (db : Database) (error : KeepError) → Refused first_sc
 refuses_first_now db OldVersion h = inr h
 refuses_first_now db NotThisStore h = inr (inr (record { tables = h.tables; said = λ said held. other_judged said (h.said said held) }))
 refuses_first_now db Disk h = tt
+refuses_first_now db Full h = tt
 refuses_first_now db NoMemory h = tt
 refuses_first_now db Interrupted h = tt
 refuses_first_now db Closed h = tt

@@ -4,7 +4,7 @@ use Rattle.sqlite.specs.Schema.{Schema}
 use Rattle.sqlite.specs.Effect.{Database}
 use Rattle.sqlite.specs.State.{State, Shows}
 use Rattle.sms_rows.specs.declared.keep.error.KeepError.{KeepError}
-use Rattle.sms_rows.specs.declared.keep.error.KeepError.TheVariants.{OldVersion, NotThisStore, Disk, NoMemory, Interrupted, Closed}
+use Rattle.sms_rows.specs.declared.keep.error.KeepError.TheVariants.{OldVersion, NotThisStore, Disk, Full, NoMemory, Interrupted, Closed}
 use Rattle.sms_store_sql.specs.listing.Transaction.{IsOpenStore}
 use Rattle.sms_store_sql.specs.schema.Blank.{no_tables}
 use Rattle.sms_store_tables.specs.handset.HandsetSchema.{handset_schema, schema_is}
@@ -40,6 +40,7 @@ pub refuses_said : (db : Database) (error : KeepError) → Says (Err error) db �
 refuses_said db OldVersion says = says
 refuses_said db NotThisStore says = inr says
 refuses_said db Disk says = tt
+refuses_said db Full says = tt
 refuses_said db NoMemory says = tt
 refuses_said db Interrupted says = tt
 refuses_said db Closed says = tt
@@ -49,6 +50,7 @@ pub refuses_otherwise : (db : Database) (error : KeepError) → IsOfNoStore erro
 refuses_otherwise db OldVersion other = absurd (other.0 refl)
 refuses_otherwise db NotThisStore other = absurd (other.1 refl)
 refuses_otherwise db Disk other = tt
+refuses_otherwise db Full other = tt
 refuses_otherwise db NoMemory other = tt
 refuses_otherwise db Interrupted other = tt
 refuses_otherwise db Closed other = tt

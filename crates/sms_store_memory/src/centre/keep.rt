@@ -1,5 +1,5 @@
 //! The keep in memory.
-ghost use Rattle.std.specs.Prelude.{◌≡◌, ◌≢◌, ◌⊎◌, ⊤, IfErr, IfOk, OnOk};
+ghost use Rattle.std.specs.Prelude.{◌≡◌, ◌≢◌, ◌⊎◌, ⊤, Err, IfErr, IfOk, OnOk};
 ghost use Rattle.sms_rows.specs.declared.keep.error.KeepError.TheVariants.{NoMemory, NotThisStore, OldVersion};
 ghost use Rattle.sms_rows.specs.keep.StoreOutcome.{IfHeld, IsCounted, StoreOutcome, WasHonest};
 ghost use Rattle.sms_centre_spec.specs.declared.rows.Rows.{Rows as RowsOf};
@@ -220,6 +220,7 @@ impl Keep for MemoryKeep {
     fn load(&mut self) -> Result<Rows, KeepError>
         ensures outcome { (rows : RowsOf) → StoreOutcome (λ found. found ≡ rows) rows rows (state_of self.old) (state_of self.new) result }
         ensures stop { (rows : RowsOf) → IfHeld rows (state_of self.old) (state_of self.new) ((left : RowsOf) → rows_in self.new ≡ left → left ≡ rows) }
+        ensures back { (rows : RowsOf) → IfHeld rows (state_of self.old) (state_of self.new) (result ≢ Err NotThisStore) }
         ensures memory { IfErr result (λ error. error ≡ NoMemory) }
         ensures named { IfErr result (λ error. error ≢ OldVersion) }
         ensures before { WasHonest (state_of self.old) (state_of self.new) }

@@ -6,7 +6,7 @@ use Rattle.sqlite.specs.State.{State, HasCleanDisk, Shows, Survives}
 use Rattle.sqlite.specs.Schema.{Schema}
 use Rattle.sqlite.specs.Tree.{Trees}
 use Rattle.sms_rows.specs.declared.keep.error.KeepError.{KeepError}
-use Rattle.sms_rows.specs.declared.keep.error.KeepError.TheVariants.{OldVersion, NotThisStore, Disk, NoMemory, Interrupted, Closed}
+use Rattle.sms_rows.specs.declared.keep.error.KeepError.TheVariants.{OldVersion, NotThisStore, Disk, Full, NoMemory, Interrupted, Closed}
 use Rattle.sms_store_sql.specs.declared.listing.closing.Health.{Health}
 use Rattle.sms_store_sql.specs.declared.listing.closing.Health.TheVariants.{InDoubt}
 use Rattle.sms_store_sql.specs.listing.Closing.{AreOf, IsAsItWas, IsShut, LeavesEither, Rested, Rests, health_after}
@@ -96,6 +96,7 @@ pub shut_after : (e : KeepError) (s : State) → s.is_open ≡ false → IsShut 
 shut_after OldVersion s shut = shut
 shut_after NotThisStore s shut = shut
 shut_after Disk s shut = shut
+shut_after Full s shut = shut
 shut_after NoMemory s shut = shut
 shut_after Interrupted s shut = shut
 shut_after Closed s shut = tt

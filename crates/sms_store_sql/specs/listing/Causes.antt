@@ -4,7 +4,7 @@ use Rattle.sqlite.specs.declared.error.Error.{Error}
 use Rattle.sqlite.specs.declared.error.Error.TheVariants.{SqliteFailure, QueryReturnedNoRows, InvalidColumnIndex, InvalidColumnType, IntegralValueOutOfRange, Utf8Error}
 use Rattle.sqlite.specs.declared.error.ErrorCode.TheVariants as code
 use Rattle.sms_rows.specs.declared.keep.error.KeepError.{KeepError}
-use Rattle.sms_rows.specs.declared.keep.error.KeepError.TheVariants.{Disk, NoMemory, Interrupted, Closed, NotThisStore, OldVersion}
+use Rattle.sms_rows.specs.declared.keep.error.KeepError.TheVariants.{Disk, Full, NoMemory, Interrupted, Closed, NotThisStore, OldVersion}
 
 -- of a statement that writes
 abbrev pub write_cause : Error → KeepError
@@ -12,6 +12,7 @@ write_cause (SqliteFailure code.OutOfMemory) = NoMemory
 write_cause (SqliteFailure code.TooBig) = NoMemory
 write_cause (SqliteFailure code.OperationInterrupted) = Interrupted
 write_cause (SqliteFailure code.Closed) = Closed
+write_cause (SqliteFailure code.DiskFull) = Full
 write_cause _ = Disk
 
 -- of one that reads: columns not those of a row, or no row where there is always one, mean that it is no such store

@@ -15,6 +15,7 @@ pub fn write_cause_of(error: Error) -> KeepError
         Error::SqliteFailure(ErrorCode::OutOfMemory | ErrorCode::TooBig) => KeepError::NoMemory,
         Error::SqliteFailure(ErrorCode::OperationInterrupted) => KeepError::Interrupted,
         Error::SqliteFailure(ErrorCode::Closed) => KeepError::Closed,
+        Error::SqliteFailure(ErrorCode::DiskFull) => KeepError::Full,
         _ => KeepError::Disk,
     }
 }

@@ -38,6 +38,7 @@ impl Health {
             KeepError::OldVersion
             | KeepError::NotThisStore
             | KeepError::Disk
+            | KeepError::Full
             | KeepError::NoMemory
             | KeepError::Interrupted => Health::InDoubt,
         };

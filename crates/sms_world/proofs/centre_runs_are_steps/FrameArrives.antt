@@ -111,7 +111,7 @@ module _ (number : ℕ) (tag : Holder) (d : Draft) (w : World) (sound : SoundSto
   -- ---- data of a handset
 
   abbrev ReportsStep : Step → Type 0
-  ReportsStep z = UpGives line.handset d.store.moment (heard z line.link).out.up → Begins number d.store.moment (frame_reported tag line z d) w
+  ReportsStep z = UpGives d.store.setup.accounts line.handset d.store.moment (heard z line.link).out.up → Begins number d.store.moment (frame_reported tag line z d) w
 
   module _ (frame : List ℕ) (t : Transaction) (unit : List ℕ) (low : t.identifier < 7) where
     module _ (r : ℕ) (tpdu : List ℕ) (told : IsUnitUp Data r tpdu (up_at unit)) (sent : Among (Carried (data_up line.handset number r tpdu tag)) w.bag) where
@@ -139,13 +139,13 @@ module _ (number : ℕ) (tag : Holder) (d : Draft) (w : World) (sound : SoundSto
       was : WasHanded number w (data_up line.handset number r tpdu tag)
       was = (sent, refl)
 
-      unit_law : UnitGives line.handset m (up_at unit) → Answers number m w (unit_received line.handset tag unit (up_at unit) (hears line opening_step d)) acked
+      unit_law : UnitGives d.store.setup.accounts line.handset m (up_at unit) → Answers number m w (unit_received line.handset tag unit (up_at unit) (hears line opening_step d)) acked
       unit_law gives =
           let e : Draft = hears line opening_step d in
           ⊎_elim
           (λ (x : (centre : List ℕ) × (up_at unit ≡ Ok (DataUnit r centre tpdu))).
           subst (λ (y : Result Rp RelayFault). Answers number m w (unit_received line.handset tag unit y e) acked) (sym x.1)
-          (data_law line.handset r tag tpdu number w e acked sound heard_refines opening awaits was (inr sent) (subst (λ (y : Result Rp RelayFault). UnitGives line.handset m y) x.1 gives)))
+          (data_law line.handset r tag tpdu number w e acked sound heard_refines opening awaits was (inr sent) (subst (λ (y : Result Rp RelayFault). UnitGives d.store.setup.accounts line.handset m y) x.1 gives)))
           (λ (x : (up_at unit ≡ Ok (Smma r)) × (tpdu ≡ [])).
           subst (λ (y : Result Rp RelayFault). Answers number m w (unit_received line.handset tag unit y e) acked) (sym x.0)
           (memory_law line.handset r tag tpdu number w e acked sound heard_refines opening awaits was (inr sent) x.1))

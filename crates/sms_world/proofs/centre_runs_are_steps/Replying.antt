@@ -25,7 +25,7 @@ use Rattle.sms_relay.specs.declared.frame.Rp.TheVariants.{AckUnit, ErrorUnit}
 use Rattle.sms_intake.specs.Refusals.{cause_of}
 use Rattle.sms_intake.specs.SubmitReports.{accepting_report, refusing_report}
 use Rattle.sms_intake.specs.declared.refusal.SubmitRefusal.{SubmitRefusal}
-use Rattle.sms_intake.specs.declared.refusal.SubmitRefusal.TheVariants.{WrongType, WrongValidityFormat, Unreadable, NoHandset, PastLimit, Duplicate, ReferenceTaken, Congested}
+use Rattle.sms_intake.specs.declared.refusal.SubmitRefusal.TheVariants.{WrongType, WrongValidityFormat, Unreadable, NoHandset, OfAccount, PastLimit, Duplicate, ReferenceTaken, Congested}
 use Rattle.sms_centre_rows.specs.waiting.Links.{line_of, turn_line, turned}
 use Rattle.sms_centre_rows.specs.declared.waiting.handset_link.HandsetLink.{HandsetLink}
 use Rattle.sms_centre_rows.specs.declared.waiting.handset_link.Sent.{Sent as SentRow}
@@ -109,6 +109,7 @@ refusal_cause WrongType = tt
 refusal_cause WrongValidityFormat = tt
 refusal_cause Unreadable = tt
 refusal_cause NoHandset = tt
+refusal_cause OfAccount = tt
 refusal_cause PastLimit = tt
 refusal_cause Duplicate = tt
 refusal_cause ReferenceTaken = tt

@@ -9,14 +9,15 @@ use Rattle.sms_base.specs.Reading.{only_if}
 use Rattle.sms_base.specs.declared.carried.Kind.TheVariants.{Ack, Data, Error}
 use Rattle.sms_base.specs.declared.holder.Holder.{Holder}
 use Rattle.sms_control.specs.declared.link_state.Opened.{Opened}
-use Rattle.sms_intake.specs.HandsetIntake.{from_read, from_submit, is_past, submission_of}
+use Rattle.sms_intake.specs.HandsetIntake.{from_read, from_submit, is_of_account, is_past, submission_of}
 use Rattle.sms_intake.specs.PartBodies.{bodies_under}
 use Rattle.sms_intake.specs.Refusals.{cause_of, unread}
 use Rattle.sms_intake.specs.SubmitReports.{accepting_report, refusing_report}
 use Rattle.sms_intake.specs.declared.refusal.SubmitRefusal.{SubmitRefusal}
-use Rattle.sms_intake.specs.declared.refusal.SubmitRefusal.TheVariants.{Congested, Duplicate, NoHandset, PastLimit, ReferenceTaken, WrongType}
+use Rattle.sms_intake.specs.declared.refusal.SubmitRefusal.TheVariants.{Congested, Duplicate, NoHandset, OfAccount, PastLimit, ReferenceTaken, WrongType}
 use Rattle.sms_intake.specs.declared.submission.SinglePart.{SinglePart}
 use Rattle.sms_intake.specs.declared.submission.Submission.{Submission as SubmissionRow}
+use Rattle.sms_intake.specs.declared.submission.CentreAccount.{CentreAccount}
 use Rattle.sms_centre_rows.specs.declared.messages.message.MessageRow.{MessageRow}
 use Rattle.sms_relay.specs.RelayGrammar.{ack_down, error_down}
 use Rattle.sms_tpdu.specs.TpduReading.{up_at as tpdu_up_at}
@@ -53,17 +54,21 @@ abbrev pub data_up : List ℕ → ℕ → ℕ → List ℕ → Holder → Frame
 data_up h number r tpdu tag = record { number = number; handset = h; line = Up; kind = Data; reference = r; tpdu = tpdu; tag = tag }
 
 -- what is made of a SUBMIT that passes all checks
-made_of : (from : List ℕ) (now : ℕ) (x : SubmitOf) (u : SubmissionRow) → from_submit from now x ≡ Ok u → submission_of from now x ≡ u
+made_of : (accounts : List CentreAccount) (from : List ℕ) (now : ℕ) (x : SubmitOf) (u : SubmissionRow) → from_submit accounts from now x ≡ Ok u → submission_of from now x ≡ u
 unfolding from_submit
-made_of from now x u e =
+made_of accounts from now x u e =
     let a = bind_ok (only_if (names_handset x.destination_address) NoHandset) _ u e in
-    let b = bind_ok (only_if (not (is_past now x.validity_period)) PastLimit) _ u a.2 in
+    let c = bind_ok (only_if (not (is_of_account x.destination_address.digits accounts)) OfAccount) _ u a.2 in
+    let b = bind_ok (only_if (not (is_past now x.validity_period)) PastLimit) _ u c.2 in
     ok_is {E = SubmitRefusal} (submission_of from now x) u b.2
 
 module _ (h : List ℕ) (r : ℕ) (tag : Holder) (tpdu : List ℕ) (number : ℕ) (b : World) (d : Draft) (w : World) (sound : SoundStore d.store) (s : CentreRefines b d w)
     (o : Opened) (awaits : Awaits (line_of h d.links.lines).link.links o) (was : WasHanded number b (data_up h number r tpdu tag)) (sent : Among (Carried_frame (data_up h number r tpdu tag)) w.bag) where
   abbrev m : ℕ
   m = d.store.moment
+
+  abbrev accounts : List CentreAccount
+  accounts = d.store.setup.accounts
 
   abbrev u : Frame
   u = data_up h number r tpdu tag
@@ -136,18 +141,18 @@ module _ (h : List ℕ) (r : ℕ) (tag : Holder) (tpdu : List ℕ) (number : ℕ
           (λ q. refuses ReferenceTaken)
           (λ q. takes whole (accept made d.store) asked taken))
 
-    submit_is_reached : (y : Result SubmissionRow SubmitRefusal) → from_submit h m x ≡ y → ((z : SubmissionRow) → y ≡ Ok z → IsSubmission z) → Answers number m b (submit_received h r tag y d) w
+    submit_is_reached : (y : Result SubmissionRow SubmitRefusal) → from_submit accounts h m x ≡ y → ((z : SubmissionRow) → y ≡ Ok z → IsSubmission z) → Answers number m b (submit_received h r tag y d) w
     submit_is_reached (Err refusal) e gives = refuses refusal
     submit_is_reached (Ok z) e gives =
-        let same : made ≡ z = made_of h m x z e in
+        let same : made ≡ z = made_of accounts h m x z e in
         subst (λ (y : SubmissionRow). Answers number m b (submit_received h r tag (Ok y) d) w) same (made_is_reached (subst (λ (y : SubmissionRow). IsSubmission y) (sym same) (gives z refl)))
 
-  read_is_reached : (y : Result UpTpdu TpduFault) → tpdu_up_at InData tpdu ≡ y → ((z : SubmissionRow) → from_read h m y ≡ Ok z → IsSubmission z) → Answers number m b (submit_received h r tag (from_read h m y) d) w
-  read_is_reached (Ok (SubmitTpdu x)) e gives = submit_is_reached x e (from_submit h m x) refl gives
+  read_is_reached : (y : Result UpTpdu TpduFault) → tpdu_up_at InData tpdu ≡ y → ((z : SubmissionRow) → from_read accounts h m y ≡ Ok z → IsSubmission z) → Answers number m b (submit_received h r tag (from_read accounts h m y) d) w
+  read_is_reached (Ok (SubmitTpdu x)) e gives = submit_is_reached x e (from_submit accounts h m x) refl gives
   read_is_reached (Ok (DeliverReport x)) e gives = refuses WrongType
   read_is_reached (Err fault) e gives = refuses (unread fault)
 
-  pub data_law : ((z : SubmissionRow) → from_read h m (tpdu_up_at InData tpdu) ≡ Ok z → IsSubmission z) → Answers number m b (data_received h r tag tpdu d) w
+  pub data_law : ((z : SubmissionRow) → from_read accounts h m (tpdu_up_at InData tpdu) ≡ Ok z → IsSubmission z) → Answers number m b (data_received h r tag tpdu d) w
   data_law gives = read_is_reached (tpdu_up_at InData tpdu) refl gives
 
   -- ---- RP-SMMA

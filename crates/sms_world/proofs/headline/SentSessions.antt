@@ -35,9 +35,10 @@ use Rattle.sms_centre_rows.specs.declared.waiting.handset.HandsetRow.{HandsetRow
 use Rattle.sms_centre_rows.specs.declared.waiting.handset_link.HandsetLink.{HandsetLink}
 use Rattle.sms_centre_rows.specs.messages.Messages.{is_pending, message_at}
 use Rattle.sms_centre_rows.specs.messages.SplitReferences.{is_among}
-use Rattle.sms_centre_rows.specs.reports.Receipts.{Bindings, Session, is_account, send as send_one, send_all, send_in, send_to, session_for, session_key, waits, window, answered_in, without_id}
+use Rattle.sms_centre_rows.specs.reports.Receipts.{Bindings, Session, is_account, receives_for, send as send_one, send_all, send_in, send_to, session_for, session_key, waits, window, answered_in, without_id}
 use Rattle.sms_centre_rows.specs.waiting.Links.{line_at, line_of, lowered, put_line, turn_line}
 use Rattle.sms_centre_rows.specs.waiting.References.{handset_at}
+use Rattle.sms_centre_rows.proofs.reports.Serving.{fewest_found}
 use Rattle.sms_centre_spec.specs.CentreEvent.{aged, at_moment, fire_at, fire_line, fire_mentioned, fire_others, fired, follow, frame_taken, happened, is_mentioned, lost, lower, raise, raise_all, raised, tag_of, timed_out, went_up}
 use Rattle.sms_centre_spec.specs.Draft.{Core, Draft, Store, answer_with, draft_of, handsets_in, in_store, messages_in, on_links, reports_in, rows_of}
 use Rattle.sms_centre_spec.specs.Ends.{end}
@@ -79,18 +80,10 @@ record IsChosen (m : MessageRow) (s : Session) (ss : List Session) : Type 0 wher
   account : is_account s.account m.originator ≡ true
 
 chosen : (m : MessageRow) (s : Session) (ss : List Session) → session_for (Some m) ss ≡ Some s → IsChosen m s ss
-chosen m s [] e = absurd cc
-chosen m s (x ∷ xs) e =
-    cond_both (x.receives && is_account x.account m.originator) (Some x) (session_for (Some m) xs) (λ (o : Option Session). o ≡ Some s → IsChosen m s (x ∷ xs))
-    (λ t f.
-    let same : x ≡ s = same_session x s f in
-    let both = and_parts x.receives (is_account x.account m.originator) t in
-    record {
-      among = inl (sym same);
-      receives = ap (λ (z : Session). z.receives) (sym same) ∙ both.0;
-      account = ap (λ (z : Session). is_account z.account m.originator) (sym same) ∙ both.1;
-    })
-    (λ t f. let k = chosen m s xs f in record { among = inr k.among; receives = k.receives; account = k.account }) e
+chosen m s ss e =
+    let f = fewest_found (receives_for m) s ss e in
+    let both = and_parts s.receives (is_account s.account m.originator) f.1 in
+    record { among = f.0; receives = both.0; account = both.1 }
 
 among_end : (x y : Delivery) (xs : List Delivery) → Among x (xs ++ y ∷ []) → Among x xs ⊎ (x ≡ y)
 among_end x y [] i = ⊎_elim (λ (e : x ≡ y). inr e) (λ (none : ⊥). absurd none) i
@@ -180,7 +173,7 @@ submission_from_waits h n tag (Ok u) d k =
     (λ t. k) (λ t. submit_accepted_waits h n tag (accept u d.store) d k))
 
 unit_received_waits : (h : List ℕ) (tag : Holder) (unit : List ℕ) (u : Result Rp RelayFault) (d : Draft) → Waits d → Waits (unit_received h tag unit u d)
-unit_received_waits h tag unit (Ok (DataUnit r z t)) d k = submission_from_waits h r tag (from_read h d.store.moment (tpdu_up_at InData t)) d k
+unit_received_waits h tag unit (Ok (DataUnit r z t)) d k = submission_from_waits h r tag (from_read d.store.setup.accounts h d.store.moment (tpdu_up_at InData t)) d k
 unit_received_waits h tag unit (Ok (AckUnit r t)) d k = k
 unit_received_waits h tag unit (Ok (ErrorUnit r z t)) d k = k
 unit_received_waits h tag unit (Ok (Smma r)) d k = k

@@ -40,12 +40,13 @@ use Rattle.sms_tpdu.specs.TpduReading.{up_at as tpdu_up_at}
 use Rattle.sms_base.specs.HandsetNumber.{names_handset, own_address}
 use Rattle.sms_base.specs.Reading.{only_if}
 use Rattle.sms_base.proofs.Steps.{bind_ok, ok_is}
-use Rattle.sms_intake.specs.HandsetIntake.{from_read, from_submit, is_past, submission_of, wish_of}
+use Rattle.sms_intake.specs.HandsetIntake.{from_read, from_submit, is_of_account, is_past, submission_of, wish_of}
 use Rattle.sms_intake.specs.PartBodies.{bodies_under, is_long}
 use Rattle.sms_intake.specs.declared.refusal.SubmitRefusal.{SubmitRefusal}
-use Rattle.sms_intake.specs.declared.refusal.SubmitRefusal.TheVariants.{Duplicate, NoHandset, PastLimit, ReferenceTaken}
+use Rattle.sms_intake.specs.declared.refusal.SubmitRefusal.TheVariants.{Duplicate, NoHandset, OfAccount, PastLimit, ReferenceTaken}
 use Rattle.sms_intake.specs.declared.submission.SinglePart.{SinglePart}
 use Rattle.sms_intake.specs.declared.submission.Submission.{Submission}
+use Rattle.sms_intake.specs.declared.submission.CentreAccount.{CentreAccount}
 use Rattle.sms_centre_rows.specs.declared.messages.message.MessageRow.{MessageRow}
 use Rattle.sms_centre_rows.specs.declared.messages.part.PartRow.{PartRow}
 use Rattle.sms_centre_rows.specs.declared.waiting.handset.HandsetRow.{HandsetRow}
@@ -88,18 +89,19 @@ IsFor Says u = (id now : ℕ) (split : Option ℕ) → Says (message_of id now s
 abbrev ok_submission : Submission → Result Submission SubmitRefusal
 ok_submission u = Ok u
 
-submit_up : (tpdu from : List ℕ) (now : ℕ) (s : SubmitOf) (x : Submission) → tpdu_up_at InData tpdu ≡ Ok (Submit s) → from_submit from now s ≡ ok_submission x → IsFor (IsAsked tpdu) x
+submit_up : (accounts : List CentreAccount) (tpdu from : List ℕ) (now : ℕ) (s : SubmitOf) (x : Submission) → tpdu_up_at InData tpdu ≡ Ok (Submit s) → from_submit accounts from now s ≡ ok_submission x → IsFor (IsAsked tpdu) x
 unfolding from_submit
-submit_up tpdu from now s x reads e id moment split =
+submit_up accounts tpdu from now s x reads e id moment split =
     let a = bind_ok (only_if (names_handset s.destination_address) NoHandset) _ x e in
-    let b = bind_ok (only_if (not (is_past now s.validity_period)) PastLimit) _ x a.2 in
+    let c = bind_ok (only_if (not (is_of_account s.destination_address.digits accounts)) OfAccount) _ x a.2 in
+    let b = bind_ok (only_if (not (is_past now s.validity_period)) PastLimit) _ x c.2 in
     let same : submission_of from now s ≡ x = ok_is {E = SubmitRefusal} (submission_of from now s) x b.2 in
     subst (λ (z : Submission). IsAsked tpdu (message_of id moment split z)) same (record { submit = s; reads = reads; originator = refl; address = refl; wish = refl })
 
-read_up : (tpdu from : List ℕ) (now : ℕ) (r : Result Up TpduFault) (x : Submission) → tpdu_up_at InData tpdu ≡ r → from_read from now r ≡ ok_submission x → IsFor (IsAsked tpdu) x
-read_up tpdu from now (Ok (Submit s)) x reads e = submit_up tpdu from now s x reads e
-read_up tpdu from now (Ok (DeliverReport r)) x reads e = absurd cc
-read_up tpdu from now (Err fault) x reads e = absurd cc
+read_up : (accounts : List CentreAccount) (tpdu from : List ℕ) (now : ℕ) (r : Result Up TpduFault) (x : Submission) → tpdu_up_at InData tpdu ≡ r → from_read accounts from now r ≡ ok_submission x → IsFor (IsAsked tpdu) x
+read_up accounts tpdu from now (Ok (Submit s)) x reads e = submit_up accounts tpdu from now s x reads e
+read_up accounts tpdu from now (Ok (DeliverReport r)) x reads e = absurd cc
+read_up accounts tpdu from now (Err fault) x reads e = absurd cc
 
 -- that is said of each message that was not in 'base'
 abbrev AreNew : (MessageRow → Type 0) → Rows → Store → Type 0
@@ -208,16 +210,16 @@ module _ (Says : MessageRow → Type 0) (base : Rows) where
       (λ t. old_ones d.store k.1) (λ t. accepted_new h n tag (accept u d.store) d k (accept_new u d.store k.1 (up u refl))))
 
   -- what a unit that opens a transaction carries
-  unit_new : (h : List ℕ) (tag : Holder) (unit : List ℕ) (u : Result Rp RelayFault) (d : Draft) → ((n now : ℕ) (x : Submission) → from_read h now (tpdu_up_at InData (unit_tpdu u)) ≡ ok_submission x → IsFor Says x) → Since d.store
+  unit_new : (h : List ℕ) (tag : Holder) (unit : List ℕ) (u : Result Rp RelayFault) (d : Draft) → ((accounts : List CentreAccount) (n now : ℕ) (x : Submission) → from_read accounts h now (tpdu_up_at InData (unit_tpdu u)) ≡ ok_submission x → IsFor Says x) → Since d.store
       → AreNew Says base (unit_received h tag unit u d).store
-  unit_new h tag unit (Ok (DataUnit r z t)) d up k = received_new h r tag (from_read h d.store.moment (tpdu_up_at InData t)) d k (λ x e. up r d.store.moment x e)
+  unit_new h tag unit (Ok (DataUnit r z t)) d up k = received_new h r tag (from_read d.store.setup.accounts h d.store.moment (tpdu_up_at InData t)) d k (λ x e. up d.store.setup.accounts r d.store.moment x e)
   unit_new h tag unit (Ok (AckUnit r t)) d up k = old_ones d.store k.1
   unit_new h tag unit (Ok (ErrorUnit r z t)) d up k = old_ones d.store k.1
   unit_new h tag unit (Ok (Smma r)) d up k = old_ones (due_now h d.store) (due_now_steady Since still h d.store k).1
   unit_new h tag unit (Err f) d up k = old_ones d.store k.1
 
   up_new : (h : List ℕ) (tag : Holder) (u : Option Upward) (d : Draft)
-      → ((unit : List ℕ) → u ≡ Some (Opened unit) → (n now : ℕ) (x : Submission) → from_read h now (tpdu_up_at InData (unit_tpdu (up_at unit))) ≡ ok_submission x → IsFor Says x) → Since d.store
+      → ((unit : List ℕ) → u ≡ Some (Opened unit) → (accounts : List CentreAccount) (n now : ℕ) (x : Submission) → from_read accounts h now (tpdu_up_at InData (unit_tpdu (up_at unit))) ≡ ok_submission x → IsFor Says x) → Since d.store
       → AreNew Says base (went_up h tag u d).store
   up_new h tag None d up k = old_ones d.store k.1
   up_new h tag (Some (Opened unit)) d up k = unit_new h tag unit (up_at unit) d (up unit refl) k
@@ -292,7 +294,7 @@ frame_brings handset octets tag c s =
     let l : HandsetLink = line_of handset c.lines in
     let tpdu : List ℕ = frame_tpdu (cp_at octets) in
     up_new (IsAsked tpdu) c.rows l.handset (tag_of tag) (taken octets l.link).out.up (on_links (turn_line l (taken octets l.link) (draft_of c).links) (draft_of c))
-    (λ unit opens n now x e.
+    (λ unit opens accounts n now x e.
     let same : tpdu ≡ unit_tpdu (up_at unit) = step_opens l.link.side l.link.under_way unit octets l.link.links opens in
-    read_up tpdu l.handset now (tpdu_up_at InData tpdu) x refl (ap (λ (t : List ℕ). from_read l.handset now (tpdu_up_at InData t)) same ∙ e))
+    read_up accounts tpdu l.handset now (tpdu_up_at InData tpdu) x refl (ap (λ (t : List ℕ). from_read accounts l.handset now (tpdu_up_at InData t)) same ∙ e))
     (begins c s, begins_old c s)

@@ -160,7 +160,7 @@ module _ (k : ℕ) where
       (λ q. taken_stays h n tag (accept u d.store) d e (accept_stays u d.store e)))
 
   unit_stays : (h : List ℕ) (tag : Holder) (unit : List ℕ) (u : Result Rp RelayFault) (d : Draft) → AtDraft d → AtDraft (unit_received h tag unit u d)
-  unit_stays h tag unit (Ok (DataUnit r z t)) d e = submission_stays h r tag (from_read h d.store.moment (tpdu_up_at InData t)) d e
+  unit_stays h tag unit (Ok (DataUnit r z t)) d e = submission_stays h r tag (from_read d.store.setup.accounts h d.store.moment (tpdu_up_at InData t)) d e
   unit_stays h tag unit (Ok (AckUnit r t)) d e = e
   unit_stays h tag unit (Ok (ErrorUnit r z t)) d e = e
   unit_stays h tag unit (Ok (Smma r)) d e = all_due_stays (waiting_in h d.store) d.store e

@@ -9,6 +9,7 @@ ghost use Rattle.smsc_cli.specs.declared.words.fault.WordsFault.TheVariants.{Bad
 use crate::words::account::{AccountWords, account_of};
 use crate::words::fault::WordsFault;
 use std::alloc::Global;
+use thiserror::Error;
 
 /// How many accounts there may be.
 const MOST_ACCOUNTS: usize = 32;
@@ -96,11 +97,13 @@ pub(crate) fn bare<'a>(line: &'a str) -> &'a str
 }
 
 /// Why the lines of a file are no accounts, or no secrets.
-#[derive(Clone, Copy, Debug, PartialEq, Eq)]
+#[derive(Clone, Copy, Debug, PartialEq, Eq, Error)]
 pub enum FileFault {
     /// The line of this number, from 1, is no account or no secret, or one too many, or has a name or number that is there.
+    #[error("line {0}: bad line")]
     BadLine(usize),
     /// There was no memory.
+    #[error("out of memory")]
     NoMemory,
 }
 

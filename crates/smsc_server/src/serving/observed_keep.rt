@@ -43,9 +43,13 @@ fn begin_commit<T: Observer>(observer: Option<&T>) {
     }
 }
 
-fn end_commit<T: Observer>(observer: Option<&T>, is_done: bool) {
+fn end_commit<T: Observer>(observer: Option<&T>, committed: &Result<(), KeepError>) {
+    let refused = match committed {
+        Ok(()) => None,
+        Err(error) => Some(*error),
+    };
     if let Some(observer) = observer {
-        observer.end_commit(is_done);
+        observer.end_commit(refused);
     }
 }
 
@@ -63,7 +67,7 @@ impl<'a, K: CentreStore, T: Observer> Keep for ObservedKeep<'a, K, T> {
     fn commit(&mut self, changes: &Changes) -> Result<(), KeepError> {
         begin_commit(self.observer);
         let committed = self.keep.commit(changes);
-        end_commit(self.observer, committed.is_ok());
+        end_commit(self.observer, &committed);
         if committed.is_ok() {
             report_all(self.observer, changes);
         }

@@ -2,6 +2,7 @@
 use crate::serving::occupancy::Seated;
 use sms_base::{Digits, FinalState, MessageId};
 use sms_centre_spec::Changes;
+use sms_rows::keep::KeepError;
 use smsc_arrivals::Side;
 use smsc_loop::{Activity, LeaveReason, Note};
 use std::net::SocketAddr;
@@ -38,8 +39,8 @@ pub trait Observer {
     /// A commit begins.
     fn begin_commit(&self) {}
 
-    /// The commit ended, and says whether it was made.
-    fn end_commit(&self, _is_done: bool) {}
+    /// The commit ended. Where it was refused, it says why.
+    fn end_commit(&self, _refused: Option<KeepError>) {}
 
     /// Takes what the commit changed, once it was made.
     fn committed(&self, _changes: &Changes) {}

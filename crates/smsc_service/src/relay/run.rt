@@ -30,11 +30,13 @@ pub enum RunError {
 }
 
 // What is wrong with an input.
-#[derive(Clone, Copy, Debug, PartialEq, Eq)]
+#[derive(Clone, Copy, Debug, PartialEq, Eq, Error)]
 enum LineFault {
     // The line of that number, from 1, is no line of hexadecimal digits or one too many.
+    #[error("line {0}: bad line")]
     BadLine(u64),
     // There was no memory for what is sent.
+    #[error("out of memory")]
     NoMemory,
 }
 

@@ -205,7 +205,7 @@ module _ (centre : Address) (from : List ℕ) (now : ℕ) (unit : List ℕ) (tag
 
   data_as : (reference : ℕ) (tpdu : List ℕ) (q : Result Up TpduFault) → IsNumber from → IsMoment now → AreOctets tpdu → tpdu_up_at InData tpdu ≡ q
       → (r : Relayed) × MatchResult q (RelaysTpdu centre (own_address from) now reference r) (λ fault. IsRefused now reference (refusal_of fault) r)
-      × Sends from r (submit_received from reference tag (from_read from now q) (start (others_for from (destination_in q))))
+      × Sends from r (submit_received from reference tag (from_read [] from now q) (start (others_for from (destination_in q))))
   unfolding from_submit
   data_as reference tpdu (Ok (Submit s)) number moment are e =
       judged_as reference s (names_handset s.destination_address) (is_past now s.validity_period) tpdu number moment (up_takes InData tpdu (Submit s) are e)
