@@ -11,12 +11,22 @@ ghost use Rattle.sms_centre.specs.state.CentreState.{Represents};
 use crate::plan::Plan;
 use crate::plans::Outputs;
 use crate::state::CentreState;
+use sms_base::Listed;
 use sms_centre_reports::awaited::laws::every_event_keeps_what_is_awaited;
+use sms_centre_rows::messages::MessageRow;
+use sms_centre_spec::Changes;
+use sms_rows::table::Change;
 
-/// Puts the plan into what the centre keeps, without taking memory, and gives what leaves.
-pub(crate) fn put_in(centre_state: &mut CentreState, planned: Plan) -> Outputs
+/// Puts the plan into what the centre keeps, without taking memory. It gives the changes back, with these in the place of those of
+/// messages, which it uses up, and what leaves.
+pub(crate) fn put_in(
+    centre_state: &mut CentreState,
+    planned: Plan,
+    kept: Listed<Change<MessageRow>>,
+) -> (Changes, Outputs)
     requires { Fits centre_state.old planned }
-    ensures outputs { result ≡ planned.plan.outputs }
+    ensures changes { result.0 ≡ record planned.plan.changes { messages = kept } }
+    ensures outputs { result.1 ≡ planned.plan.outputs }
     ensures setup { centre_state.new.setup ≡ centre_state.old.setup }
     ensures centre_state { (event : CentreEventOf) (c : Core) → Represents c centre_state.old → IsEvent event → IsOutcome (happened event c) planned.plan
         → Represents (core_of (happened event c)) centre_state.new }
@@ -25,6 +35,7 @@ pub(crate) fn put_in(centre_state: &mut CentreState, planned: Plan) -> Outputs
     let Plan { plan, log } = planned;
     centre_state.log.adopt(log, plan.changes.reports.as_slice());
     plan.adopt(
+        kept,
         &mut centre_state.moment,
         &mut centre_state.messages,
         &mut centre_state.reference_index,

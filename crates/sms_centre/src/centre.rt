@@ -32,10 +32,11 @@ use crate::state::{CentreState, RecoverError};
 use smpp_pdu::{CancelSm, CommandStatus, Message as SubmitSm, QuerySm};
 use sms_base::lending::put;
 use sms_base::{Digits, Listed, MessageId, Moment, Octets};
+use sms_centre_messages::message_index::copy_of_changes;
 use sms_centre_queue::queue::LinkFigures;
 use sms_centre_reports::sessions::ReceiptSession;
 use sms_centre_rows::messages::MessageRow as Message;
-use sms_centre_spec::{CentreEvent, PlanError, Rows};
+use sms_centre_spec::{CentreEvent, Changes, PlanError, Rows};
 use sms_rows::keep::BodyKeep;
 use sms_rows::table::Table;
 use sms_script::report::{ReceiptRow, ReportedMessage};
@@ -224,7 +225,32 @@ impl Centre {
         ensures centre_state { (event : CentreEventOf) (c : Core) → Represents c self.old → IsEvent event → IsOutcome (happened event c) planned.plan
             → Represents (core_of (happened event c)) self.new }
     {
-        put_in(&mut self.centre_state, planned)
+        let kept = Listed::new(self.alloc);
+        let (changes, outputs) = put_in(&mut self.centre_state, planned, kept);
+        drop(changes);
+        outputs
+    }
+
+    /// Puts the plan of an event into the centre before its changes are committed. It gives these, which its caller is to commit, and
+    /// what leaves then.
+    ///
+    /// # Errors
+    /// A growth was refused: the centre stays unchanged.
+    pub fn adopt_uncommitted(&mut self, planned: Plan) -> Result<(Changes, Outputs), AllocError>
+        requires { Fits self.old planned }
+        ensures changes { IfOk result (λ r. r.0 ≡ planned.plan.changes) }
+        ensures outputs { IfOk result (λ r. r.1 ≡ planned.plan.outputs) }
+        ensures centre_state { (event : CentreEventOf) (c : Core) → Represents c self.old → IsEvent event → IsOutcome (happened event c) planned.plan
+            → OnOk result (Represents (core_of (happened event c)) self.new) }
+        ensures same { OnErr result (self.new ≡ self.old) }
+    {
+        match copy_of_changes(self.alloc, planned.changes().messages.as_slice()) {
+            Ok(kept) => Ok(put_in(&mut self.centre_state, planned, kept)),
+            Err(error) => {
+                drop(planned);
+                Err(error)
+            }
+        }
     }
 
     /// The message of that number, in memory of its own.

@@ -19,6 +19,7 @@ mod parts_draft;
 mod recover;
 mod summary;
 
+pub use copying::copy_of_changes;
 pub use draft::{MessageIndexDraft, MessageIndexPlan};
 pub use index::{MessageIndex, MessageIndexReserve};
 pub use message_entry::{MessageEntry, OriginatorEntry};

@@ -10,6 +10,6 @@ mod indexes;
 #[cfg(test)]
 mod interning;
 #[cfg(test)]
-mod names;
+pub(crate) mod names;
 #[cfg(test)]
 mod queue;

@@ -1,5 +1,6 @@
 //! Tests of the crates below the centre core, over their public calls.
 //!
+//! - `groups`: what the events of a group changed
 //! - `indexes`: what a centre keeps in memory beside its rows
 //! - `intake`: submissions and refusals
 //! - `receipts`: receipts and status reports
@@ -9,6 +10,8 @@
 //! - `world`: scripts and reports
 #![tactic(auto)]
 
+#[cfg(test)]
+mod groups;
 pub mod indexes;
 #[cfg(test)]
 mod intake;

@@ -10,27 +10,32 @@ ghost use Rattle.sms_centre.specs.plans.EventOutcome.{FitsIn, IsOutcome};
 ghost use Rattle.sms_centre_draft.specs.Beginning.{IsCentre};
 
 use crate::plans::event_outcome::{EventOutcome, NextState, Outputs};
-use sms_base::Moment;
+use sms_base::{Listed, Moment};
 use sms_centre_messages::message_index::MessageIndex;
 use sms_centre_messages::references::ReferenceIndex;
 use sms_centre_queue::queues::DeliveryQueues;
 use sms_centre_reports::open_reports::OpenReports;
 use sms_centre_reports::sessions::ReceiptSession;
-use sms_rows::table::Table;
+use sms_centre_rows::messages::MessageRow;
+use sms_centre_spec::Changes;
+use sms_rows::table::{Change, Table};
 
 impl EventOutcome {
-    /// Puts it into what the centre keeps, without taking memory, and gives what leaves.
+    /// Puts it into what the centre keeps, without taking memory. It gives the changes back, with these in the place of those of
+    /// messages, which it uses up, and what leaves.
     pub fn adopt(
         self,
+        kept: Listed<Change<MessageRow>>,
         moment: &mut Moment,
         messages: &mut MessageIndex,
         reference_index: &mut ReferenceIndex,
         queues: &mut DeliveryQueues,
         reports: &mut OpenReports,
         sessions: &mut Table<ReceiptSession>,
-    ) -> Outputs
+    ) -> (Changes, Outputs)
         requires fits { FitsIn messages.old reference_index.old self }
-        ensures outputs { result ≡ self.outputs }
+        ensures changes { result.0 ≡ record self.changes { messages = kept } }
+        ensures outputs { result.1 ≡ self.outputs }
         ensures centre { (event : CentreEventOf) (c : Core) (setup : SetupOf) → IsEvent event → IsOutcome (happened event c) self
             → IsCentre c setup moment.old messages.old queues.old reports.old sessions.old.rows
             → IsCentre (core_of (happened event c)) setup moment.new messages.new queues.new reports.new sessions.new.rows }
@@ -52,16 +57,28 @@ impl EventOutcome {
             reports: known,
             sessions: seated,
         } = next_state;
-        reference_index.adopt(
-            claimed,
-            changes.messages.as_slice(),
-            changes.parts.as_slice(),
-        );
-        messages.adopt(reserve, changes.messages);
+        let Changes {
+            messages: put,
+            parts,
+            references,
+            handsets,
+            reports: reported,
+            priorities,
+        } = changes;
+        reference_index.adopt(claimed, put.as_slice(), parts.as_slice());
+        messages.adopt(reserve, put);
         queues.adopt(settled);
         *moment = now;
         *reports = known;
         *sessions = seated;
-        outputs
+        let changes = Changes {
+            messages: kept,
+            parts,
+            references,
+            handsets,
+            reports: reported,
+            priorities,
+        };
+        (changes, outputs)
     }
 }

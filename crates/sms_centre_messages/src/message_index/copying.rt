@@ -1,8 +1,8 @@
 //! Copies of rows.
-ghost use Rattle.std.specs.Prelude.{◌≡◌, IfOk};
+ghost use Rattle.std.specs.Prelude.{◌≡◌, ◌∷◌, [], ◌++◌, IfOk, OnOk};
 ghost use Rattle.sms_rows.specs.table.Table.{change_row};
 
-use sms_base::{Octets, Originator};
+use sms_base::{Listed, Octets, Originator};
 use sms_centre_rows::messages::MessageRow;
 use sms_rows::table::Change;
 use std::alloc::{AllocError, Global};
@@ -57,4 +57,35 @@ pub(crate) fn copy_left_by(
         }
         Change::Remove(_) => Ok(None),
     }
+}
+
+// Puts a copy of the change at the end.
+fn add_copy(
+    alloc: Global,
+    change: &Change<MessageRow>,
+    copies: &mut Listed<Change<MessageRow>>,
+) -> Result<(), AllocError>
+    ensures { OnOk result (copies.new ≡ copies.old ++ change.now ∷ []) }
+{
+    match change {
+        Change::Put(row) => {
+            let copy = copy_of(alloc, row)?;
+            copies.push(Change::Put(copy))
+        }
+        Change::Remove(key) => copies.push(Change::Remove(*key)),
+    }
+}
+
+/// The changes of messages, in memory of their own. No TPDU is in them.
+pub fn copy_of_changes(
+    alloc: Global,
+    changes: &[Change<MessageRow>],
+) -> Result<Listed<Change<MessageRow>>, AllocError>
+    ensures { IfOk result (λ copies. copies ≡ changes.now) }
+{
+    let mut copies = Listed::new(alloc);
+    for change in changes {
+        add_copy(alloc, change, &mut copies)?;
+    }
+    Ok(copies)
 }

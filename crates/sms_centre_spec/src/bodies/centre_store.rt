@@ -6,10 +6,10 @@ ghost use Rattle.sms_rows.specs.keep.StoreOutcome.{IfHeld, IsCounted, StoreOutco
 ghost use Rattle.sms_centre_spec.specs.bodies.Storing.{GivesBodies, IfClosed, MakesTheChanges};
 
 use crate::{Changes, Rows};
-use sms_rows::keep::{BodyKeep, KeepError};
+use sms_rows::keep::{BodyKeep, Keep, KeepError};
 
 /// A keep of a centre's rows, which can be asked for them once more after a refused commit.
-pub trait CentreStore: BodyKeep<Rows = Rows, Changes = Changes> {
+pub trait CentreStore: Keep<Rows = Rows, Changes = Changes> + BodyKeep {
     /// The rows after all commits. A keep that was closed refuses.
     fn gather(&mut self) -> Result<Rows, KeepError>
         ensures outcome { (rows : RowsOf) → StoreOutcome (λ found. found ≡ rows) rows rows (Self.state self.old) (Self.state self.new) result }

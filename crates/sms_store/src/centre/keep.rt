@@ -12,7 +12,7 @@ ghost use Rattle.sms_store.specs.centre.Stopping.{LeavesBeforeOrAfter, LeavesRow
 use crate::centre::all::All;
 use crate::centre::commit::Commit;
 use sms_centre_spec::{Changes, Rows, Setup};
-use sms_rows::keep::{Keep, KeepError, Refusals};
+use sms_rows::keep::{Keep, KeepError, Refusals, RowStore};
 use sms_store_sql::listing::{Health, look_or_close, transact_or_close};
 use sqlite::{Alter, Connection};
 use std::alloc::Global;
@@ -44,14 +44,16 @@ impl<S: Alter> CentreKeep<S> {
     }
 }
 
-impl<S: Alter> Keep for CentreKeep<S> {
+impl<S: Alter> RowStore for CentreKeep<S> {
     type Rows = Rows;
 
+    ghost state = { λ keep. state_of S.Store keep };
+}
+
+impl<S: Alter> Keep for CentreKeep<S> {
     type Changes = Changes;
 
     ghost after = { λ changes rows. rows_after changes rows };
-
-    ghost state = { λ keep. state_of S.Store keep };
 
     ghost may_leave = { λ keep left. MayLeave (IsStoreWith (setup_in keep)) (state_in S.Store keep) left };
 

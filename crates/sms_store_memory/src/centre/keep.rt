@@ -16,7 +16,7 @@ use sms_centre_rows::reports::ReportRow;
 use sms_centre_rows::waiting::{HandsetRow, ReferenceRow};
 use sms_centre_spec::octets::copy_of_setup;
 use sms_centre_spec::{Changes, Rows, Setup};
-use sms_rows::keep::{Keep, KeepError, Refusals};
+use sms_rows::keep::{Keep, KeepError, Refusals, RowStore};
 use sms_rows::table::Table;
 use std::alloc::{AllocError, Global};
 
@@ -185,14 +185,16 @@ impl MemoryKeep {
     }
 }
 
-impl Keep for MemoryKeep {
+impl RowStore for MemoryKeep {
     type Rows = Rows;
 
+    ghost state = { λ keep. state_of keep };
+}
+
+impl Keep for MemoryKeep {
     type Changes = Changes;
 
     ghost after = { λ changes rows. rows_after changes rows };
-
-    ghost state = { λ keep. state_of keep };
 
     ghost may_leave = { λ keep left. rows_in keep ≡ left };
 

@@ -14,7 +14,7 @@ use crate::preparing::{copy_rows, make_room};
 use sms_handset::{Changes, Counters, Rows, Setup};
 use sms_handset_rows::inbox::{DiscardedGroup, Entry, LastAccepted};
 use sms_handset_rows::outbox::OutEntry;
-use sms_rows::keep::{Keep, KeepError, Refusals};
+use sms_rows::keep::{Keep, KeepError, Refusals, RowStore};
 use sms_rows::table::Table;
 use std::alloc::{AllocError, Global};
 
@@ -133,14 +133,16 @@ impl MemoryKeep {
     }
 }
 
-impl Keep for MemoryKeep {
+impl RowStore for MemoryKeep {
     type Rows = Rows;
 
+    ghost state = { λ keep. state_of keep };
+}
+
+impl Keep for MemoryKeep {
     type Changes = Changes;
 
     ghost after = { λ changes rows. rows_after (changes_in changes) rows };
-
-    ghost state = { λ keep. state_of keep };
 
     ghost may_leave = { λ keep left. rows_in keep ≡ left };
 

@@ -4,7 +4,7 @@ use sms_base::Octets;
 use sms_centre_rows::messages::MessageRow;
 use sms_centre_spec::bodies::CentreStore;
 use sms_centre_spec::{Changes, Rows};
-use sms_rows::keep::{BodyKeep, Keep, KeepError};
+use sms_rows::keep::{BodyKeep, Keep, KeepError, RowStore};
 use sms_rows::table::{Change, Key};
 
 /// A keep that reports each commit, each message which a commit accepts, and each which it ends. It is as honest as the keep in it, and holds the
@@ -53,14 +53,16 @@ fn end_commit<T: Observer>(observer: Option<&T>, committed: &Result<(), KeepErro
     }
 }
 
-impl<'a, K: CentreStore, T: Observer> Keep for ObservedKeep<'a, K, T> {
+impl<'a, K: CentreStore, T: Observer> RowStore for ObservedKeep<'a, K, T> {
     type Rows = Rows;
 
+    ghost state = { λ observed. K.state observed.keep };
+}
+
+impl<'a, K: CentreStore, T: Observer> Keep for ObservedKeep<'a, K, T> {
     type Changes = Changes;
 
     ghost after = { K.after };
-
-    ghost state = { λ observed. K.state observed.keep };
 
     ghost may_leave = { λ observed left. K.may_leave observed.keep left };
 

@@ -11,7 +11,7 @@ use crate::stopping::{Image, Made, RowsAround, StopError, Trial, refusal_at_stop
 use sms_base::OctetView;
 use sms_base::lending::lend;
 use sms_handset::{Changes, Handset, HandsetEvent, Rows, Setup};
-use sms_rows::keep::{Keep, KeepError, Refusals};
+use sms_rows::keep::{Keep, KeepError, Refusals, RowStore};
 use sms_store::{HandsetKeep, HandsetMemoryKeep};
 use sqlite::{Alter, Connection};
 use std::alloc::Global;
@@ -162,14 +162,16 @@ impl<'a> StoppingKeep<'a> {
 }
 
 /// It promises nothing: what it finds wrong is a refused commit.
-impl<'a> Keep for StoppingKeep<'a> {
+impl<'a> RowStore for StoppingKeep<'a> {
     type Rows = Rows;
 
+    ghost state = { λ keep. record { is_honest = ⊥; holds = λ rows. ⊥; is_closed = ⊥; refusals = keep.refusals } };
+}
+
+impl<'a> Keep for StoppingKeep<'a> {
     type Changes = Changes;
 
     ghost after = { λ changes rows. rows_after (changes_in changes) rows };
-
-    ghost state = { λ keep. record { is_honest = ⊥; holds = λ rows. ⊥; is_closed = ⊥; refusals = keep.refusals } };
 
     ghost may_leave = { λ keep left. ⊥ };
 

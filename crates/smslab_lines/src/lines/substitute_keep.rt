@@ -3,7 +3,7 @@ ghost use Rattle.std.specs.Prelude.{None};
 
 use sms_base::Octets;
 use sms_centre_spec::{Changes, Rows};
-use sms_rows::keep::{BodyKeep, Keep, KeepError, Refusals};
+use sms_rows::keep::{BodyKeep, Keep, KeepError, Refusals, RowStore};
 use sms_rows::table::Key;
 use std::alloc::Global;
 
@@ -33,14 +33,16 @@ impl SubstituteKeep {
     }
 }
 
-impl Keep for SubstituteKeep {
+impl RowStore for SubstituteKeep {
     type Rows = Rows;
 
+    ghost state = { λ keep. record { is_honest = ⊥; holds = λ rows. ⊥; is_closed = ⊥; refusals = keep.refusals } };
+}
+
+impl Keep for SubstituteKeep {
     type Changes = Changes;
 
     ghost after = { λ changes rows. rows };
-
-    ghost state = { λ keep. record { is_honest = ⊥; holds = λ rows. ⊥; is_closed = ⊥; refusals = keep.refusals } };
 
     ghost may_leave = { λ keep left. ⊥ };
 

@@ -8,7 +8,7 @@ ghost use Rattle.sms_rows.specs.keep.Refusing.{Counts, CountsRead};
 
 use sms_base::Octets;
 use sms_centre_spec::{Changes, Rows};
-use sms_rows::keep::{BodyKeep, Keep, KeepError, Refusals};
+use sms_rows::keep::{BodyKeep, Keep, KeepError, Refusals, RowStore};
 use sms_rows::table::Key;
 use sms_store_memory::centre::MemoryKeep;
 use smsc_service::CentreStore;
@@ -86,14 +86,16 @@ fn count_read<T>(refusals: &mut Refusals, key: Key, answer: &Result<T, KeepError
     }
 }
 
-impl Keep for Store<'_> {
+impl RowStore for Store<'_> {
     type Rows = Rows;
 
+    ghost state = { λ store. record { is_honest = ⊤; holds = λ rows. rows_in store.keep ≡ rows; is_closed = ⊥; refusals = store.refusals } };
+}
+
+impl Keep for Store<'_> {
     type Changes = Changes;
 
     ghost after = { λ changes rows. rows_after changes rows };
-
-    ghost state = { λ store. record { is_honest = ⊤; holds = λ rows. rows_in store.keep ≡ rows; is_closed = ⊥; refusals = store.refusals } };
 
     ghost may_leave = { λ store left. rows_in store.keep ≡ left };
 

@@ -11,5 +11,5 @@ returns-in-Ok-clause-outcome g c = λ d rows represents can honest holds. c.in-O
 
 pub returns-in-Err-clause-outcome : goal.returns-in-Err-clause-outcome
 returns-in-Err-clause-outcome g c = λ d rows represents can honest holds.
-    subst (λ (s : PlanStop). Stops (Represents (follow d) c.follow.new.draft) (λ (n : ℕ). ⊥) (follow d).links.read ((g.B.Keep.state c.follow.new.bodies).holds rows) (g.B.Keep.state c.follow.new.bodies).is_closed (g.B.Keep.state c.args.bodies.now).refusals (g.B.Keep.state c.follow.new.bodies).refusals (Err s)) (sym c.stop_of.ensures)
-    (goes_stops (Represents (follow d) c.follow.new.draft) (λ (n : ℕ). ⊥) (follow d).links.read ((g.B.Keep.state c.follow.new.bodies).holds rows) (g.B.Keep.state c.follow.new.bodies).is_closed (g.B.Keep.state c.args.bodies.now).refusals (g.B.Keep.state c.follow.new.bodies).refusals c.in-Err.error (c.in-Err.ensures.outcome d rows represents can honest holds))
+    subst (λ (s : PlanStop). Stops (Represents (follow d) c.follow.new.draft) (λ (n : ℕ). ⊥) (follow d).links.read ((g.B.RowStore.state c.follow.new.bodies).holds rows) (g.B.RowStore.state c.follow.new.bodies).is_closed (g.B.RowStore.state c.args.bodies.now).refusals (g.B.RowStore.state c.follow.new.bodies).refusals (Err s)) (sym c.stop_of.ensures)
+    (goes_stops (Represents (follow d) c.follow.new.draft) (λ (n : ℕ). ⊥) (follow d).links.read ((g.B.RowStore.state c.follow.new.bodies).holds rows) (g.B.RowStore.state c.follow.new.bodies).is_closed (g.B.RowStore.state c.args.bodies.now).refusals (g.B.RowStore.state c.follow.new.bodies).refusals c.in-Err.error (c.in-Err.ensures.outcome d rows represents can honest holds))

@@ -11,10 +11,10 @@ pub returns-in-Ok-clause-outcome : goal.returns-in-Ok-clause-outcome
 returns-in-Ok-clause-outcome g c = λ core rows represents can honest holds.
     let d = congested c.args.event.now c.args.reference core in
     let goes = c.in-Ok.ensures.outcome core rows represents can honest holds in
-    goes_on (λ (p : PlanOf). IsOutcome (follow d) p.plan) (follow d).links.read ((g.B.Keep.state c.run_anew.new.bodies).holds rows) (g.B.Keep.state c.run_anew.new.bodies).is_closed (g.B.Keep.state c.args.bodies.now).refusals (g.B.Keep.state c.run_anew.new.bodies).refusals c.plan.result (c.plan.ensures.plan (follow d) goes.0) goes.1.0 goes.1.1
+    goes_on (λ (p : PlanOf). IsOutcome (follow d) p.plan) (follow d).links.read ((g.B.RowStore.state c.run_anew.new.bodies).holds rows) (g.B.RowStore.state c.run_anew.new.bodies).is_closed (g.B.RowStore.state c.args.bodies.now).refusals (g.B.RowStore.state c.run_anew.new.bodies).refusals c.plan.result (c.plan.ensures.plan (follow d) goes.0) goes.1.0 goes.1.1
 
 pub returns-in-Err-clause-outcome : goal.returns-in-Err-clause-outcome
 returns-in-Err-clause-outcome g c = λ core rows represents can honest holds.
     let d = congested c.args.event.now c.args.reference core in
-    goes_off (λ (u : Unit {0}). Represents (follow d) c.run_anew.new.draft) (λ (p : PlanOf). IsOutcome (follow d) p.plan) (follow d).links.read (follow d).links.read ((g.B.Keep.state c.run_anew.new.bodies).holds rows) (g.B.Keep.state c.run_anew.new.bodies).is_closed
-    (g.B.Keep.state c.args.bodies.now).refusals (g.B.Keep.state c.args.bodies.now).refusals (g.B.Keep.state c.run_anew.new.bodies).refusals c.in-Err.error (inr refl) (λ k a. a) (c.in-Err.ensures.outcome core rows represents can honest holds)
+    goes_off (λ (u : Unit {0}). Represents (follow d) c.run_anew.new.draft) (λ (p : PlanOf). IsOutcome (follow d) p.plan) (follow d).links.read (follow d).links.read ((g.B.RowStore.state c.run_anew.new.bodies).holds rows) (g.B.RowStore.state c.run_anew.new.bodies).is_closed
+    (g.B.RowStore.state c.args.bodies.now).refusals (g.B.RowStore.state c.args.bodies.now).refusals (g.B.RowStore.state c.run_anew.new.bodies).refusals c.in-Err.error (inr refl) (λ k a. a) (c.in-Err.ensures.outcome core rows represents can honest holds)

@@ -12,12 +12,12 @@ pub returns-in-Ok-clause-outcome : goal.returns-in-Ok-clause-outcome
 returns-in-Ok-clause-outcome g c = λ core rows represents centre_state can honest holds.
     let d = acted c.args.event.now core in
     let goes = c.in-Ok.ensures.outcome core rows represents centre_state can honest holds in
-    goes_on (λ (p : PlanOf). IsOutcome (follow d) p.plan) (follow d).links.read ((g.B.Keep.state c.run.new.bodies).holds rows) (g.B.Keep.state c.run.new.bodies).is_closed (g.B.Keep.state c.args.bodies.now).refusals (g.B.Keep.state c.run.new.bodies).refusals c.plan.result (c.plan.ensures.plan (follow d) goes.0) goes.1.0 goes.1.1
+    goes_on (λ (p : PlanOf). IsOutcome (follow d) p.plan) (follow d).links.read ((g.B.RowStore.state c.run.new.bodies).holds rows) (g.B.RowStore.state c.run.new.bodies).is_closed (g.B.RowStore.state c.args.bodies.now).refusals (g.B.RowStore.state c.run.new.bodies).refusals c.plan.result (c.plan.ensures.plan (follow d) goes.0) goes.1.0 goes.1.1
 
 pub returns-in-Err-clause-outcome : goal.returns-in-Err-clause-outcome
 returns-in-Err-clause-outcome g c = λ core rows represents centre_state can honest holds.
     let d = acted c.args.event.now core in
     let back = c.stopped.ensures.before honest in
-    c.stopped.ensures.outcome core rows (g.B.Keep.state c.args.bodies.now).refusals centre_state can
-    (stops_alike (Represents (follow d) c.run.new.draft) (Unit {0}) (λ (n : ℕ). d ≡ congested c.args.event.now n core) (λ (n : ℕ). d ≡ congested c.args.event.now n core) (follow d).links.read ((g.B.Keep.state c.run.new.bodies).holds rows) (g.B.Keep.state c.run.new.bodies).is_closed (g.B.Keep.state c.args.bodies.now).refusals (g.B.Keep.state c.run.new.bodies).refusals (Err c.in-Err.stop) (λ x. tt) (λ n x. x)
+    c.stopped.ensures.outcome core rows (g.B.RowStore.state c.args.bodies.now).refusals centre_state can
+    (stops_alike (Represents (follow d) c.run.new.draft) (Unit {0}) (λ (n : ℕ). d ≡ congested c.args.event.now n core) (λ (n : ℕ). d ≡ congested c.args.event.now n core) (follow d).links.read ((g.B.RowStore.state c.run.new.bodies).holds rows) (g.B.RowStore.state c.run.new.bodies).is_closed (g.B.RowStore.state c.args.bodies.now).refusals (g.B.RowStore.state c.run.new.bodies).refusals (Err c.in-Err.stop) (λ x. tt) (λ n x. x)
     (c.in-Err.ensures.outcome core rows represents centre_state can back holds)) honest

@@ -13,7 +13,7 @@ pub returns-clause-outcome : goal.returns-clause-outcome
 returns-clause-outcome g c = λ core rows centre_state stores honest holds.
     let event = c.args.event.now in
     let was : Represents core c.self.inside.centre_state = subst (λ (s : CentreStateOf). Represents core s) (sym c.self.view_is) centre_state in
-    subst (λ (d : Draft). SucceedsOrRefuses (λ p. IsOutcome d p.plan) d.links.read ((g.B.Keep.state c.plan_of.new.bodies).holds rows) (g.B.Keep.state c.plan_of.new.bodies).is_closed (g.B.Keep.state c.args.bodies.now).refusals (g.B.Keep.state c.plan_of.new.bodies).refusals c.plan_of.result)
+    subst (λ (d : Draft). SucceedsOrRefuses (λ p. IsOutcome d p.plan) d.links.read ((g.B.RowStore.state c.plan_of.new.bodies).holds rows) (g.B.RowStore.state c.plan_of.new.bodies).is_closed (g.B.RowStore.state c.args.bodies.now).refusals (g.B.RowStore.state c.plan_of.new.bodies).refusals c.plan_of.result)
     (sym (acts_then_follows event core))
     (c.plan_of.ensures.outcome core rows was
     (subst (λ (o : List ℕ). CanOffer g.B.BodyKeep.body_of rows o (acted event core).store) (sym c.as_slice.ensures)
@@ -21,5 +21,5 @@ returns-clause-outcome g c = λ core rows centre_state stores honest holds.
 
 pub returns-clause-definition : goal.returns-clause-definition
 returns-clause-definition g c = λ core rows centre_state stores honest holds none.
-    plans_event c.args.event.now core ((g.B.Keep.state c.plan_of.new.bodies).holds rows) (g.B.Keep.state c.plan_of.new.bodies).is_closed (g.B.Keep.state c.args.bodies.now).refusals (g.B.Keep.state c.plan_of.new.bodies).refusals c.plan_of.result
+    plans_event c.args.event.now core ((g.B.RowStore.state c.plan_of.new.bodies).holds rows) (g.B.RowStore.state c.plan_of.new.bodies).is_closed (g.B.RowStore.state c.args.bodies.now).refusals (g.B.RowStore.state c.plan_of.new.bodies).refusals c.plan_of.result
     (returns-clause-outcome g c core rows centre_state stores honest holds) none

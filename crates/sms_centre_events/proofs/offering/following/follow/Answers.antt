@@ -10,4 +10,4 @@ returns-in-Ok-clause-outcome g c = λ d rows represents can honest holds. c.offe
 pub returns-in-Err-clause-outcome : goal.returns-in-Err-clause-outcome
 returns-in-Err-clause-outcome g c = λ d rows represents can honest holds.
     short_off (λ (u : Unit {0}). Represents (send d) c.send_receipts.new.draft) (λ (u : Unit {0}). Represents (follow d) c.send_receipts.new.draft) (follow d).links.read
-    ((g.B.Keep.state c.args.bodies.now).holds rows) (g.B.Keep.state c.args.bodies.now).is_closed (g.B.Keep.state c.args.bodies.now).refusals c.in-Err.error (c.in-Err.ensures d represents) holds
+    ((g.B.RowStore.state c.args.bodies.now).holds rows) (g.B.RowStore.state c.args.bodies.now).is_closed (g.B.RowStore.state c.args.bodies.now).refusals c.in-Err.error (c.in-Err.ensures d represents) holds

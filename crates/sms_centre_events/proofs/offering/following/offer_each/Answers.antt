@@ -19,10 +19,10 @@ loop-stop-preserved g c = (
       let i = c.loop-stop.stop-index in
       let left = c.loop-stop.invariant.1 d rows represents digits can (c.in-Ok.ensures.before honest) holds in
       let split = drop_one c.args.stops.now i c.stop-item.result (omega (arith, c.loop-stop-test.true)) c.stop-item.is in
-      let goes = c.in-Ok.ensures.outcome left.draft rows left.represents (first_digits d c.args.stops.now (drop i c.args.stops.now) c.stop-item.result (drop (i + 1) c.args.stops.now) ((g.B.Keep.state c.loop-stop.bodies).holds rows) (g.B.Keep.state c.args.bodies.now).refusals (g.B.Keep.state c.loop-stop.bodies).refusals c.loop-stop.draft split left)
+      let goes = c.in-Ok.ensures.outcome left.draft rows left.represents (first_digits d c.args.stops.now (drop i c.args.stops.now) c.stop-item.result (drop (i + 1) c.args.stops.now) ((g.B.RowStore.state c.loop-stop.bodies).holds rows) (g.B.RowStore.state c.args.bodies.now).refusals (g.B.RowStore.state c.loop-stop.bodies).refusals c.loop-stop.draft split left)
       (subst (λ (s : Store). CanOffer g.B.BodyKeep.body_of rows c.args.centre.now s) (sym left.same) can) honest left.holds in
-      left_next d c.args.stops.now (drop i c.args.stops.now) c.stop-item.result (drop (i + 1) c.args.stops.now) ((g.B.Keep.state c.loop-stop.bodies).holds rows) ((g.B.Keep.state c.offer_at.new.bodies).holds rows)
-      (g.B.Keep.state c.args.bodies.now).refusals (g.B.Keep.state c.loop-stop.bodies).refusals (g.B.Keep.state c.offer_at.new.bodies).refusals c.loop-stop.draft c.offer_at.new.draft split left goes.0 goes.1.0 goes.1.1,
+      left_next d c.args.stops.now (drop i c.args.stops.now) c.stop-item.result (drop (i + 1) c.args.stops.now) ((g.B.RowStore.state c.loop-stop.bodies).holds rows) ((g.B.RowStore.state c.offer_at.new.bodies).holds rows)
+      (g.B.RowStore.state c.args.bodies.now).refusals (g.B.RowStore.state c.loop-stop.bodies).refusals (g.B.RowStore.state c.offer_at.new.bodies).refusals c.loop-stop.draft c.offer_at.new.draft split left goes.0 goes.1.0 goes.1.1,
 )
 
 pub returns-in-Err-clause-outcome : goal.returns-in-Err-clause-outcome
@@ -30,8 +30,8 @@ returns-in-Err-clause-outcome g c = λ d rows represents digits can honest holds
     let i = c.loop-stop.stop-index in
     let left = c.loop-stop.invariant.1 d rows represents digits can (c.in-Err.ensures.before honest) holds in
     let split = drop_one c.args.stops.now i c.stop-item.result (omega (arith, c.loop-stop-test.true)) c.stop-item.is in
-    let own = first_digits d c.args.stops.now (drop i c.args.stops.now) c.stop-item.result (drop (i + 1) c.args.stops.now) ((g.B.Keep.state c.loop-stop.bodies).holds rows) (g.B.Keep.state c.args.bodies.now).refusals (g.B.Keep.state c.loop-stop.bodies).refusals c.loop-stop.draft split left in
+    let own = first_digits d c.args.stops.now (drop i c.args.stops.now) c.stop-item.result (drop (i + 1) c.args.stops.now) ((g.B.RowStore.state c.loop-stop.bodies).holds rows) (g.B.RowStore.state c.args.bodies.now).refusals (g.B.RowStore.state c.loop-stop.bodies).refusals c.loop-stop.draft split left in
     let goes = c.in-Err.ensures.outcome left.draft rows left.represents own (subst (λ (s : Store). CanOffer g.B.BodyKeep.body_of rows c.args.centre.now s) (sym left.same) can) honest left.holds in
     goes_off (λ (u : Unit {0}). Represents (offer_at c.stop-item.result.number left.draft) c.offer_at.new.draft) (λ (u : Unit {0}). Represents (walk offer_at c.args.stops.now d) c.offer_at.new.draft)
-    (offer_at c.stop-item.result.number left.draft).links.read (walk offer_at c.args.stops.now d).links.read ((g.B.Keep.state c.offer_at.new.bodies).holds rows) (g.B.Keep.state c.offer_at.new.bodies).is_closed (g.B.Keep.state c.args.bodies.now).refusals (g.B.Keep.state c.loop-stop.bodies).refusals (g.B.Keep.state c.offer_at.new.bodies).refusals c.in-Err.error left.none
-    (λ k a. reads_last d c.args.stops.now (drop i c.args.stops.now) c.stop-item.result (drop (i + 1) c.args.stops.now) ((g.B.Keep.state c.loop-stop.bodies).holds rows) (g.B.Keep.state c.args.bodies.now).refusals (g.B.Keep.state c.loop-stop.bodies).refusals c.loop-stop.draft k split left a) goes
+    (offer_at c.stop-item.result.number left.draft).links.read (walk offer_at c.args.stops.now d).links.read ((g.B.RowStore.state c.offer_at.new.bodies).holds rows) (g.B.RowStore.state c.offer_at.new.bodies).is_closed (g.B.RowStore.state c.args.bodies.now).refusals (g.B.RowStore.state c.loop-stop.bodies).refusals (g.B.RowStore.state c.offer_at.new.bodies).refusals c.in-Err.error left.none
+    (λ k a. reads_last d c.args.stops.now (drop i c.args.stops.now) c.stop-item.result (drop (i + 1) c.args.stops.now) ((g.B.RowStore.state c.loop-stop.bodies).holds rows) (g.B.RowStore.state c.args.bodies.now).refusals (g.B.RowStore.state c.loop-stop.bodies).refusals c.loop-stop.draft k split left a) goes

@@ -8,7 +8,7 @@ use Rattle.sms_centre_events.proofs.offering.following.offer_each.Given as goal
 
 abbrev pub invariant-loop-stop : goal.invariant-loop-stop
 invariant-loop-stop g l =
-    WasHonest (g.B.Keep.state l.initial.bodies) (g.B.Keep.state l.bodies)
+    WasHonest (g.B.RowStore.state l.initial.bodies) (g.B.RowStore.state l.bodies)
     × ((d : Draft) (rows : _) → Represents d l.initial.draft → AreDigits l.stops → CanOffer g.B.BodyKeep.body_of rows l.centre d.store
-    → IfHeld rows (g.B.Keep.state l.initial.bodies) (g.B.Keep.state l.bodies)
-    (IsLeft d l.stops (drop l.stop-index l.stops) ((g.B.Keep.state l.bodies).holds rows) (g.B.Keep.state l.initial.bodies).refusals (g.B.Keep.state l.bodies).refusals l.draft))
+    → IfHeld rows (g.B.RowStore.state l.initial.bodies) (g.B.RowStore.state l.bodies)
+    (IsLeft d l.stops (drop l.stop-index l.stops) ((g.B.RowStore.state l.bodies).holds rows) (g.B.RowStore.state l.initial.bodies).refusals (g.B.RowStore.state l.bodies).refusals l.draft))

@@ -18,7 +18,7 @@ returns-in-Ok-clause-outcome g c = λ d rows represents can among honest holds.
     let is = centre_is s.setup.centre can.sound.setup.centre in
     let unit : data_down l.reference c.args.centre.now (with_more_messages c.has_more-more.result c.in-Ok.tpdu) ≡ unit_of l c.has_more-more.result s =
     ap (λ (o : List ℕ). data_down l.reference o (with_more_messages c.has_more-more.result c.in-Ok.tpdu)) can.centre_is ∙ ap (λ (o : List ℕ). data_down l.reference (relay_address s.setup.centre) (with_more_messages c.has_more-more.result o)) t.0 in
-    goes_on (λ (u : Unit {0}). Represents (offer_next c.args.handset (Some l) d) c.send.new.draft) (read_of l s d.links).read ((g.B.Keep.state c.tpdu.new.bodies).holds rows) (g.B.Keep.state c.tpdu.new.bodies).is_closed (g.B.Keep.state c.args.bodies.now).refusals (g.B.Keep.state c.tpdu.new.bodies).refusals c.send.result
+    goes_on (λ (u : Unit {0}). Represents (offer_next c.args.handset (Some l) d) c.send.new.draft) (read_of l s d.links).read ((g.B.RowStore.state c.tpdu.new.bodies).holds rows) (g.B.RowStore.state c.tpdu.new.bodies).is_closed (g.B.RowStore.state c.args.bodies.now).refusals (g.B.RowStore.state c.tpdu.new.bodies).refusals c.send.result
     (unless_alike (λ (u : Unit {0}). Represents (offer_in c.args.handset (data_down l.reference c.args.centre.now (with_more_messages c.has_more-more.result c.in-Ok.tpdu)) l d) c.send.new.draft)
     (λ (u : Unit {0}). Represents (offer_next c.args.handset (Some l) d) c.send.new.draft) c.send.result
     (λ u shown. subst (λ (o : List ℕ). Represents (offer_in c.args.handset o l d) c.send.new.draft) (unit ∙ ap (λ (b : Bool). unit_of l b s) (c.has_more-more.ensures d represents)) shown)
@@ -29,5 +29,5 @@ returns-in-Ok-clause-outcome g c = λ d rows represents can among honest holds.
 pub returns-in-Err-clause-outcome : goal.returns-in-Err-clause-outcome
 returns-in-Err-clause-outcome g c = λ d rows represents can among honest holds.
     goes_off (λ octets. octets ≡ tpdu_of c.args.load.now d.store) (λ (u : Unit {0}). Represents (offer_next c.args.handset (Some c.args.load.now) d) c.args.draft.now) (read_of c.args.load.now d.store d.links).read (read_of c.args.load.now d.store d.links).read
-    ((g.B.Keep.state c.tpdu.new.bodies).holds rows) (g.B.Keep.state c.tpdu.new.bodies).is_closed (g.B.Keep.state c.args.bodies.now).refusals (g.B.Keep.state c.args.bodies.now).refusals (g.B.Keep.state c.tpdu.new.bodies).refusals c.in-Err.error (inr refl) (λ k a. a)
+    ((g.B.RowStore.state c.tpdu.new.bodies).holds rows) (g.B.RowStore.state c.tpdu.new.bodies).is_closed (g.B.RowStore.state c.args.bodies.now).refusals (g.B.RowStore.state c.args.bodies.now).refusals (g.B.RowStore.state c.tpdu.new.bodies).refusals c.in-Err.error (inr refl) (λ k a. a)
     (c.in-Err.ensures.outcome d rows c.args.centre.now c.args.handset represents among can honest holds)

@@ -10,7 +10,7 @@ use Rattle.sms_centre_events.proofs.offering.offers.offer_to.Goals as goal
 pub returns-in-Some-clause-outcome : goal.returns-in-Some-clause-outcome
 returns-in-Some-clause-outcome g c = λ d rows represents can honest holds.
     let next = c.in-Some.ensures d represents in
-    subst (λ (x : Draft). SucceedsOrRefuses (λ (u : Unit {0}). Represents x c.offer_load.new.draft) x.links.read ((g.B.Keep.state c.offer_load.new.bodies).holds rows) (g.B.Keep.state c.offer_load.new.bodies).is_closed (g.B.Keep.state c.args.bodies.now).refusals (g.B.Keep.state c.offer_load.new.bodies).refusals c.offer_load.result)
+    subst (λ (x : Draft). SucceedsOrRefuses (λ (u : Unit {0}). Represents x c.offer_load.new.draft) x.links.read ((g.B.RowStore.state c.offer_load.new.bodies).holds rows) (g.B.RowStore.state c.offer_load.new.bodies).is_closed (g.B.RowStore.state c.args.bodies.now).refusals (g.B.RowStore.state c.offer_load.new.bodies).refusals c.offer_load.result)
     (sym (offer_is_next c.args.handset d ∙ ap (λ (o : Option QueuedPart). offer_next c.args.handset o d) (sym next)))
     (c.offer_load.ensures.outcome d rows represents can (next_among c.args.handset c.in-Some.load d (sym next)) honest holds)
 

@@ -6,6 +6,6 @@ returns-in-Ok g c =
     let given = c.in-Ok.ensures.given in
     let called = given.4 in
     record {
-      served = served_if g.L.Stream.Read.remaining g.L.Stream.Write.contents _ _ g.L.Door.came _ g.K.Keep.state c.args.keep given.0 called.shown.now called.left.now c.in-Ok.ended
+      served = served_if g.L.Stream.Read.remaining g.L.Stream.Write.contents _ _ g.L.Door.came _ g.K.RowStore.state c.args.keep given.0 called.shown.now called.left.now c.in-Ok.ended
           given.2 given.3 called.shows called.met.0 called.met.1;
     }

@@ -9,7 +9,7 @@ use Rattle.smsc_service.proofs.machine.CentreMachine.carry_out.Goals as goal
 pub returns-in-Ok-clause-outcome : goal.returns-in-Ok-clause-outcome
 returns-in-Ok-clause-outcome g c = λ event core is centre_state plans honest holds. (
   c.adopt.ensures.centre_state event core centre_state is plans,
-  subst (λ (r : Rows). (g.K.Keep.state c.commit.new.keep).holds r)
+  subst (λ (r : Rows). (g.K.RowStore.state c.commit.new.keep).holds r)
       (ap (λ (x : Changes). rows_after x core.rows) c.changes.ensures ∙ rows_then event core c.args.planned.plan plans)
       (c.in-Ok.ensures.outcome core.rows honest holds).1,
 )
@@ -19,7 +19,7 @@ returns-in-Err-clause-outcome g c = λ event core is centre_state plans honest h
 
 pub returns-in-Ok-clause-rows : goal.returns-in-Ok-clause-rows
 returns-in-Ok-clause-rows g c = λ rows honest holds.
-    (tt, subst (λ (x : Changes). (g.K.Keep.state c.commit.new.keep).holds (rows_after x rows)) c.changes.ensures (c.in-Ok.ensures.outcome rows honest holds).1)
+    (tt, subst (λ (x : Changes). (g.K.RowStore.state c.commit.new.keep).holds (rows_after x rows)) c.changes.ensures (c.in-Ok.ensures.outcome rows honest holds).1)
 
 pub returns-in-Err-clause-rows : goal.returns-in-Err-clause-rows
 returns-in-Err-clause-rows g c = λ rows honest holds. c.in-Err.ensures.outcome rows honest holds

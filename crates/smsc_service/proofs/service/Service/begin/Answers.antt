@@ -4,7 +4,7 @@ use Rattle.smsc_service.proofs.service.Service.begin.Goals as goal
 
 pub returns-then-is_late-clause-gives : goal.returns-then-is_late-clause-gives
 returns-then-is_late-clause-gives g c = λ s honest serving.
-    is_undone (g.K.Keep.state c.args.self.now.machine.keep).holds (g.K.Keep.state c.args.self.now.machine.keep).is_closed c.args.self.now.machine.centre c.args.self.now.seat_map s c.args.stimulus.now c.args.event.now c.unmade.result.fate _
+    is_undone (g.K.RowStore.state c.args.self.now.machine.keep).holds (g.K.RowStore.state c.args.self.now.machine.keep).is_closed c.args.self.now.machine.centre c.args.self.now.seat_map s c.args.stimulus.now c.args.event.now c.unmade.result.fate _
     c.unmade.ensures.fate c.unmade.ensures.history serving
 
 pub returns-then-is_late-clause-refused : goal.returns-then-is_late-clause-refused

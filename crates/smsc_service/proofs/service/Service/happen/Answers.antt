@@ -8,7 +8,7 @@ returns-in-Ok-clause-gives g c = λ s honest serving.
 
 pub returns-in-Err-clause-gives : goal.returns-in-Err-clause-gives
 returns-in-Err-clause-gives g c = λ s honest serving.
-    is_undone (g.K.Keep.state c.args.self.now.machine.keep).holds (g.K.Keep.state c.args.self.now.machine.keep).is_closed c.args.self.now.machine.centre c.make_room.new.self s c.args.stimulus.now c.args.event.now c.unmade.result.fate _
+    is_undone (g.K.RowStore.state c.args.self.now.machine.keep).holds (g.K.RowStore.state c.args.self.now.machine.keep).is_closed c.args.self.now.machine.centre c.make_room.new.self s c.args.stimulus.now c.args.event.now c.unmade.result.fate _
     c.unmade.ensures.fate c.unmade.ensures.history (record { rows = serving.rows; centre = serving.centre; seats = c.make_room.ensures.seats ∙ serving.seats })
 
 pub returns-in-Ok-clause-refused : goal.returns-in-Ok-clause-refused

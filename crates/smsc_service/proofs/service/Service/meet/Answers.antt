@@ -15,8 +15,8 @@ returns-in-Ok-clause-gives g c = λ s honest serving.
 pub returns-in-Err-clause-gives : goal.returns-in-Err-clause-gives
 returns-in-Err-clause-gives g c = λ s honest serving.
     let centre_state = subst (λ (x : CentreStateOf). Represents s.core x) (sym c.plan.ensures.same) serving.centre in
-    gave_up (g.K.Keep.state c.plan.new.self.keep).holds (g.K.Keep.state c.plan.new.self.keep).is_closed c.plan.new.self.centre c.give_up.new.seat_map s c.args.stimulus.now c.args.event.now c.give_up.result.fate c.give_up.result.to_history
-    (g.K.Keep.state c.args.self.now.machine.keep).refusals (g.K.Keep.state c.plan.new.self.keep).refusals c.in-Err.error (seats_in c.args.self.now.seat_map) (followed_by c.args.stimulus.now (seats_in c.args.self.now.seat_map)) c.give_up.ensures.seat_map serving.seats (ap (λ (x : Seats). followed_by c.args.stimulus.now x) serving.seats)
+    gave_up (g.K.RowStore.state c.plan.new.self.keep).holds (g.K.RowStore.state c.plan.new.self.keep).is_closed c.plan.new.self.centre c.give_up.new.seat_map s c.args.stimulus.now c.args.event.now c.give_up.result.fate c.give_up.result.to_history
+    (g.K.RowStore.state c.args.self.now.machine.keep).refusals (g.K.RowStore.state c.plan.new.self.keep).refusals c.in-Err.error (seats_in c.args.self.now.seat_map) (followed_by c.args.stimulus.now (seats_in c.args.self.now.seat_map)) c.give_up.ensures.seat_map serving.seats (ap (λ (x : Seats). followed_by c.args.stimulus.now x) serving.seats)
     c.give_up.ensures.history centre_state (c.in-Err.ensures.outcome s.core serving.centre honest serving.rows)
 
 pub returns-in-Ok-clause-refused : goal.returns-in-Ok-clause-refused
@@ -26,5 +26,5 @@ returns-in-Ok-clause-refused g c = λ s honest serving e.
 
 pub returns-in-Err-clause-refused : goal.returns-in-Err-clause-refused
 returns-in-Err-clause-refused g c = λ s honest serving e.
-    was_refused (g.K.Keep.state c.plan.new.self.keep).holds (g.K.Keep.state c.plan.new.self.keep).is_closed (g.K.Keep.state c.args.self.now.machine.keep).refusals (g.K.Keep.state c.plan.new.self.keep).refusals s c.args.event.now c.in-Err.error _ _ _ _
+    was_refused (g.K.RowStore.state c.plan.new.self.keep).holds (g.K.RowStore.state c.plan.new.self.keep).is_closed (g.K.RowStore.state c.args.self.now.machine.keep).refusals (g.K.RowStore.state c.plan.new.self.keep).refusals s c.args.event.now c.in-Err.error _ _ _ _
     c.give_up.ensures.seat_map (c.in-Err.ensures.outcome s.core serving.centre honest serving.rows) e

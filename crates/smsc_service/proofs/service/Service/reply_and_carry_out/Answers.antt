@@ -7,7 +7,7 @@ returns-in-Ok-clause-gives g c = λ event s is plan honest serving.
 
 pub returns-in-Err-clause-gives : goal.returns-in-Err-clause-gives
 returns-in-Err-clause-gives g c = λ event s is plan honest serving.
-    is_undone (g.K.Keep.state c.args.self.now.machine.keep).holds (g.K.Keep.state c.args.self.now.machine.keep).is_closed c.args.self.now.machine.centre c.args.self.now.seat_map s c.args.stimulus.now event c.unmade.result.fate _
+    is_undone (g.K.RowStore.state c.args.self.now.machine.keep).holds (g.K.RowStore.state c.args.self.now.machine.keep).is_closed c.args.self.now.machine.centre c.args.self.now.seat_map s c.args.stimulus.now event c.unmade.result.fate _
     c.unmade.ensures.fate c.unmade.ensures.history serving
 
 pub returns-in-Ok-clause-refused : goal.returns-in-Ok-clause-refused

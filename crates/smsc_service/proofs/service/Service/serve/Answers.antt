@@ -8,21 +8,21 @@ use Rattle.smsc_service.proofs.service.Service.serve.Goals as goal
 
 pub returns-in-Event-clause-gives : goal.returns-in-Event-clause-gives
 returns-in-Event-clause-gives g c = λ s honest serving.
-    subst (λ (a : SeatRequest). Serves (g.K.Keep.state c.begin.new.self.machine.keep).holds (g.K.Keep.state c.begin.new.self.machine.keep).is_closed c.begin.new.self.machine.centre c.begin.new.self.seat_map a s c.args.stimulus.now c.begin.result.fate c.begin.result.to_history)
+    subst (λ (a : SeatRequest). Serves (g.K.RowStore.state c.begin.new.self.machine.keep).holds (g.K.RowStore.state c.begin.new.self.machine.keep).is_closed c.begin.new.self.machine.centre c.begin.new.self.seat_map a s c.args.stimulus.now c.begin.result.fate c.begin.result.to_history)
     (sym c.in-Event.is) (c.begin.ensures.gives s honest serving)
 
 pub returns-in-Nothing-clause-gives : goal.returns-in-Nothing-clause-gives
 returns-in-Nothing-clause-gives g c = λ s honest serving.
-    subst (λ (a : SeatRequest). Serves (g.K.Keep.state c.args.self.now.machine.keep).holds (g.K.Keep.state c.args.self.now.machine.keep).is_closed c.args.self.now.machine.centre c.args.self.now.seat_map a s c.args.stimulus.now c.unmade.result.fate c.unmade.result.to_history)
+    subst (λ (a : SeatRequest). Serves (g.K.RowStore.state c.args.self.now.machine.keep).holds (g.K.RowStore.state c.args.self.now.machine.keep).is_closed c.args.self.now.machine.centre c.args.self.now.seat_map a s c.args.stimulus.now c.unmade.result.fate c.unmade.result.to_history)
     (sym c.in-Nothing.is)
-    (with_fate (g.K.Keep.state c.args.self.now.machine.keep).holds (g.K.Keep.state c.args.self.now.machine.keep).is_closed c.args.self.now.machine.centre c.args.self.now.seat_map s c.args.stimulus.now Nothing c.unmade.result.fate Done c.unmade.result.to_history
+    (with_fate (g.K.RowStore.state c.args.self.now.machine.keep).holds (g.K.RowStore.state c.args.self.now.machine.keep).is_closed c.args.self.now.machine.centre c.args.self.now.seat_map s c.args.stimulus.now Nothing c.unmade.result.fate Done c.unmade.result.to_history
     c.unmade.ensures.fate (c.unmade.ensures.history, serving))
 
 pub returns-in-Taken-clause-gives : goal.returns-in-Taken-clause-gives
 returns-in-Taken-clause-gives g c = λ s honest serving.
-    subst (λ (a : SeatRequest). Serves (g.K.Keep.state c.args.self.now.machine.keep).holds (g.K.Keep.state c.args.self.now.machine.keep).is_closed c.args.self.now.machine.centre c.args.self.now.seat_map a s c.args.stimulus.now c.turned_away.result.fate c.turned_away.result.to_history)
+    subst (λ (a : SeatRequest). Serves (g.K.RowStore.state c.args.self.now.machine.keep).holds (g.K.RowStore.state c.args.self.now.machine.keep).is_closed c.args.self.now.machine.centre c.args.self.now.seat_map a s c.args.stimulus.now c.turned_away.result.fate c.turned_away.result.to_history)
     (sym c.in-Taken.is)
-    (with_fate (g.K.Keep.state c.args.self.now.machine.keep).holds (g.K.Keep.state c.args.self.now.machine.keep).is_closed c.args.self.now.machine.centre c.args.self.now.seat_map s c.args.stimulus.now Taken c.turned_away.result.fate Done c.turned_away.result.to_history
+    (with_fate (g.K.RowStore.state c.args.self.now.machine.keep).holds (g.K.RowStore.state c.args.self.now.machine.keep).is_closed c.args.self.now.machine.centre c.args.self.now.seat_map s c.args.stimulus.now Taken c.turned_away.result.fate Done c.turned_away.result.to_history
     c.turned_away.ensures.fate (c.turned_away.ensures.history, serving))
 
 pub returns-in-Event-clause-refused : goal.returns-in-Event-clause-refused

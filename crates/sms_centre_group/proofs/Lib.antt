@@ -1,0 +1,4 @@
+pub mod Joining
+pub mod PutLast
+pub mod Reading
+pub mod StoredBodies

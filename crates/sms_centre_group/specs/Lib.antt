@@ -1,0 +1,4 @@
+pub mod Grouping
+pub mod HeldRoom
+pub mod Joined
+pub mod Newest
