@@ -4,5 +4,6 @@ pub mod PastOnes
 pub mod Places
 pub mod PutPlaces
 pub mod Recovering
+pub mod Removals
 pub mod Settles
 pub mod Representing

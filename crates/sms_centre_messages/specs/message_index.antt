@@ -3,5 +3,6 @@ pub mod Expiring
 pub mod MessageIndex
 pub mod Newest
 pub mod Puts
+pub mod Removing
 pub mod Settling
 pub mod Summaries

@@ -6,6 +6,7 @@ mod Moves
 pub mod Noting
 mod PutOff
 mod Rebuilding
+mod Removals
 pub mod ReceiptsMoved
 pub mod Serving
 pub mod Walking

@@ -24,3 +24,4 @@ pub mod bodies
 pub mod jobs
 pub mod octets
 pub mod conditions
+pub mod forgetting

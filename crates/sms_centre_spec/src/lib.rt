@@ -11,6 +11,7 @@
 //! - `bodies`: what a centre wants of the store of its rows
 //! - `conditions`: tests of a setup, of moments and of originators, and laws of all tests of rows
 //! - `event`: the events of a centre
+//! - `forgetting`: laws of messages that leave the rows once they ended and were reported
 //! - `jobs`: the jobs that seats put, and the replies that they get
 //! - `laws`: laws of the centre's events
 //! - `numbers`: where the numbers of a run's messages begin
@@ -25,6 +26,7 @@ mod answer;
 pub mod bodies;
 pub mod conditions;
 mod event;
+pub mod forgetting;
 pub mod jobs;
 pub mod laws;
 pub mod numbers;

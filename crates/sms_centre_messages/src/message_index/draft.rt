@@ -2,10 +2,11 @@
 ghost use Rattle.std.specs.Prelude.{◌≡◌, [], ℕ, List, Some, OnOk, IfOk, length, option_copied};
 ghost use Rattle.sms_centre_messages.specs.message_index.MessageIndex.{Fits, Represents, DraftRepresents, found_part, opened};
 ghost use Rattle.sms_centre_messages.specs.message_index.Puts.{tpdu_put};
+ghost use Rattle.sms_centre_messages.specs.message_index.Removing.{remove_message, remove_part, remove_priority};
 ghost use Rattle.sms_centre_messages.specs.message_index.Settling.{IsSettled};
 ghost use Rattle.sms_rows.specs.table.Keys.{pair_key};
 ghost use Rattle.sms_centre_rows.specs.messages.Messages.{Messages, all_done, amend_part, message_at, messages_of, part_at, parts_of, put_message, put_part, put_priority};
-ghost use Rattle.sms_centre_rows.specs.messages.PartEntries.{Few, part_entry};
+ghost use Rattle.sms_centre_rows.specs.messages.PartEntries.{Few, entry_key, part_entry};
 ghost use Rattle.sms_centre_rows.specs.declared.messages.message.MessageRow.{MessageRow as MessageRowOf};
 ghost use Rattle.sms_centre_rows.specs.declared.messages.part.PartRow.{PartRow as PartRowOf};
 ghost use Rattle.sms_centre_rows.specs.declared.messages.priority.PriorityRow.{PriorityRow as PriorityRowOf};
@@ -17,7 +18,7 @@ use crate::message_index::parts_draft::PartsDraft;
 use sms_base::{Listed, MessageId};
 use sms_centre_rows::messages::{MessageRow, PartEntry, PartRow, PriorityRow};
 use sms_centre_rows::waiting::{Progress, Revision};
-use sms_rows::table::{Change, Key};
+use sms_rows::table::{Change, Key, Row};
 use std::alloc::{AllocError, Global};
 use std::marker::Model;
 
@@ -134,6 +135,30 @@ impl<'a> MessageIndexDraft<'a> {
             → OnOk result (DraftRepresents self.new (amend_part row progress.now m)) }
     {
         self.parts.amend(entry, progress)?;
+        Ok(())
+    }
+
+    /// Takes out the message of that number.
+    pub fn remove_message(&mut self, id: MessageId) -> Result<(), AllocError>
+        ensures { (m : Messages) → DraftRepresents self.old m → OnOk result (DraftRepresents self.new (remove_message id m)) }
+    {
+        self.messages.push(Change::Remove(Key::of(id.number())))?;
+        Ok(())
+    }
+
+    /// Takes out the priority of that message.
+    pub fn remove_priority(&mut self, id: MessageId) -> Result<(), AllocError>
+        ensures { (m : Messages) → DraftRepresents self.old m → OnOk result (DraftRepresents self.new (remove_priority id m)) }
+    {
+        self.priorities.push(Change::Remove(Key::of(id.number())))?;
+        Ok(())
+    }
+
+    /// Takes out the part.
+    pub fn remove_part(&mut self, entry: &PartEntry) -> Result<(), AllocError>
+        ensures { (m : Messages) → DraftRepresents self.old m → OnOk result (DraftRepresents self.new (remove_part (entry_key entry.now) m)) }
+    {
+        self.parts.remove(entry.key())?;
         Ok(())
     }
 

@@ -2,7 +2,7 @@
 ghost use Rattle.std.specs.Prelude.{◌≡◌, [], ◌∷◌, ◌++◌, OnOk, option_copied};
 ghost use Rattle.std.specs.Option.{option_map};
 ghost use Rattle.sms_centre_messages.specs.message_index.Puts.{newest_put, put_at as put_at_of, tpdu_of};
-ghost use Rattle.sms_centre_rows.specs.declared.waiting.revision.Revision.TheVariants.{Amend, Put};
+ghost use Rattle.sms_centre_rows.specs.declared.waiting.revision.Revision.TheVariants.{Amend, Put, Remove};
 
 use indexmap::IndexMap;
 use sms_centre_rows::messages::PartRow;
@@ -62,6 +62,15 @@ impl PartChanges {
         self.changes.reserve(1)?;
         self.changes
             .push_reserved(Revision::Amend { key, progress });
+        Ok(())
+    }
+
+    // The part of that key is taken out.
+    pub(crate) fn remove(&mut self, key: Key) -> Result<(), AllocError>
+        ensures { OnOk result (self.new ≡ self.old ++ Remove key ∷ []) }
+    {
+        self.changes.reserve(1)?;
+        self.changes.push_reserved(Revision::Remove(key));
         Ok(())
     }
 

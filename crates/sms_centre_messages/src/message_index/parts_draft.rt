@@ -2,6 +2,7 @@
 ghost use Rattle.std.specs.Prelude.{◌≡◌, [], OnOk, IfOk, option_copied};
 ghost use Rattle.std.specs.Option.{option_map};
 ghost use Rattle.sms_centre_messages.specs.message_index.Puts.{newest_put, tpdu_of};
+ghost use Rattle.sms_centre_messages.specs.message_index.Removing.{removing};
 ghost use Rattle.sms_centre_rows.specs.messages.PartEntries.{amending, done_to, entry_key, is_done_entry, putting, rows_now};
 ghost use Rattle.sms_rows.specs.table.Keys.{pair_key};
 ghost use Rattle.sms_rows.specs.table.TableDraft.{FitsIn};
@@ -102,6 +103,15 @@ impl<'a> PartsDraft<'a> {
         let key = entry.key();
         self.entries.push(Change::Put(reached))?;
         self.changes.amend(key, *progress)?;
+        Ok(())
+    }
+
+    // The part of that key is taken out.
+    pub(crate) fn remove(&mut self, key: Key) -> Result<(), AllocError>
+        ensures { OnOk result (self.new ≡ removing key self.old) }
+    {
+        self.entries.push(Change::Remove(key))?;
+        self.changes.remove(key)?;
         Ok(())
     }
 

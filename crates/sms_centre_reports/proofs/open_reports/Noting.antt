@@ -71,6 +71,10 @@ pub noted_far : (made : List MadeEntry) (changes news : List (Revision ReportRow
     → (id : ℕ) → IsNotedAs (row_at made_key id made) id (changes ++ Amend n q ∷ []) (Amend n q ∷ news)
 noted_far made changes news n q noted id = still_noted (row_at made_key id made) id (Amend n q) changes news (Amend n q ∷ news) refl (noted id)
 
+pub noted_gone : (made : List MadeEntry) (changes news : List (Revision ReportRow)) (n : ℕ) → ((id : ℕ) → IsNotedAs (row_at made_key id made) id changes news)
+    → (id : ℕ) → IsNotedAs (row_at made_key id made) id (changes ++ Remove n ∷ []) (Remove n ∷ news)
+noted_gone made changes news n noted id = still_noted (row_at made_key id made) id (Remove n) changes news (Remove n ∷ news) refl (noted id)
+
 -- ---- they stay
 
 pub stay_put : (news : List (Revision ReportRow)) (before after : List ReportRow) (r : ReportRow) → Became before after r → ((id : ℕ) → Stays (made_in id news) (report_of id before))

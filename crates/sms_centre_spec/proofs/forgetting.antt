@@ -1,0 +1,22 @@
+pub mod Kept
+mod Looks
+mod Splits
+mod Sound
+mod Going
+mod Moves
+mod Follow
+mod Answers
+mod Submits
+mod Ended
+mod Ticks
+mod Frames
+mod Sessions
+mod Binds
+mod Everywhere
+mod Behind
+mod Runs
+mod Latest
+mod BarsStand
+mod Begins
+mod Removed
+mod Now

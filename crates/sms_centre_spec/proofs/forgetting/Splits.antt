@@ -1,0 +1,206 @@
+-- The next number and the next reference to split under are the same without the messages that go.
+use Rattle.std.proofs.Common.{◌≡◌, ℕ, ◌+◌, ◌<◌, List, [], ◌∷◌, ◌++◌, Bool, true, false, Option, Some, None, refl, sym, ◌∙◌, ap, subst, inl, inr, ⊎_elim, arith, eq-eqb}
+use Rattle.std.specs.Prelude.{◌⊎◌, ◌==◌, ◌&&◌, not, is_some, if◌then◌else◌}
+use Rattle.std.specs.Str.{bytes_eq}
+use Rattle.std.proofs.lemmas.Bool.{and_from, and_parts, and_right, cases_Bool, cond-true, cond-false, eqb-true}
+use Rattle.std.proofs.lemmas.Slice.Eq.{bytes_eq-Decides}
+use Rattle.sms_base.specs.Among.{Among}
+use Rattle.sms_base.specs.AddressKind.{type_number}
+use Rattle.sms_base.specs.declared.address.Address.{Address}
+use Rattle.sms_rows.specs.table.Table.{AllAbove, Rises}
+use Rattle.sms_centre_rows.specs.declared.messages.message.MessageRow.{MessageRow}
+use Rattle.sms_centre_rows.specs.declared.messages.part.PartRow.{PartRow}
+use Rattle.sms_centre_rows.specs.messages.Messages.{id_after, message_at, message_key}
+use Rattle.sms_centre_rows.specs.messages.SplitReferences.{held_splits, is_between, is_delivered, is_same_address, last_split, next_among, next_split, optional, or_later, own_splits, own_wide, unless_split, wide_in}
+use Rattle.sms_centre_rows.specs.declared.reports.report.ReportRow.{ReportRow}
+use Rattle.sms_centre_rows.specs.reports.Reports.{place_after}
+use Rattle.sms_centre_spec.specs.forgetting.Forgetting.{IsLaterSplit, kept, part_id, report_id}
+use Rattle.sms_centre_spec.proofs.forgetting.Kept.{kept_gone, kept_here}
+use Rattle.sms_centre_spec.proofs.forgetting.Looks.{message_stays}
+
+-- ---- numbers
+
+abbrev Below : (ℕ → Bool) → ℕ → List MessageRow → Type 0
+Below goes next ms = (m : MessageRow) → Among m ms → goes m.id ≡ true → m.id + 1 < next
+
+pub next_id_same : (goes : ℕ → Bool) (n : ℕ) (ms : List MessageRow) → Below goes (id_after n ms) ms → id_after n (kept message_key goes ms) ≡ id_after n ms
+next_id_same goes n [] below = refl
+next_id_same goes n (m ∷ []) below = ⊎_elim
+    (λ (t : goes m.id ≡ true). absurd (let l : m.id + 1 < m.id + 1 = below m (inl refl) t in omega (arith, l)))
+    (λ (t : goes m.id ≡ false). ap (λ (l : List MessageRow). id_after n l) (kept_here message_key goes m [] t))
+    (cases_Bool (goes m.id))
+next_id_same goes n (m ∷ x ∷ xs) below = ⊎_elim
+    (λ (t : goes m.id ≡ true). ap (λ (l : List MessageRow). id_after n l) (kept_gone message_key goes m (x ∷ xs) t) ∙ next_id_same goes n (x ∷ xs) (λ y a. below y (inr a)))
+    (λ (t : goes m.id ≡ false).
+    ap (λ (l : List MessageRow). id_after n l) (kept_here message_key goes m (x ∷ xs) t) ∙ next_id_same goes (m.id + 1) (x ∷ xs) (λ y a. below y (inr a)))
+    (cases_Bool (goes m.id))
+
+abbrev Before : (ℕ → Bool) → ℕ → List ReportRow → Type 0
+Before goes next rs = (r : ReportRow) → Among r rs → goes r.id ≡ true → r.place + 1 < next
+
+pub next_place_same : (goes : ℕ → Bool) (n : ℕ) (rs : List ReportRow) → Before goes (place_after n rs) rs → place_after n (kept report_id goes rs) ≡ place_after n rs
+next_place_same goes n [] below = refl
+next_place_same goes n (m ∷ []) below = ⊎_elim
+    (λ (t : goes m.id ≡ true). absurd (let l : m.place + 1 < m.place + 1 = below m (inl refl) t in omega (arith, l)))
+    (λ (t : goes m.id ≡ false). ap (λ (l : List ReportRow). place_after n l) (kept_here report_id goes m [] t))
+    (cases_Bool (goes m.id))
+next_place_same goes n (m ∷ x ∷ xs) below = ⊎_elim
+    (λ (t : goes m.id ≡ true). ap (λ (l : List ReportRow). place_after n l) (kept_gone report_id goes m (x ∷ xs) t) ∙ next_place_same goes n (x ∷ xs) (λ y a. below y (inr a)))
+    (λ (t : goes m.id ≡ false).
+    ap (λ (l : List ReportRow). place_after n l) (kept_here report_id goes m (x ∷ xs) t) ∙ next_place_same goes (m.place + 1) (x ∷ xs) (λ y a. below y (inr a)))
+    (cases_Bool (goes m.id))
+
+-- ---- what bars a reference
+
+abbrev Free : (ℕ → Bool) → List MessageRow → Type 0
+Free goes ms = (m : MessageRow) → Among m ms → goes m.id ≡ true → (m.split_reference ≡ None) ⊎ (is_delivered m.state ≡ true)
+
+pub held_same : (goes : ℕ → Bool) (source : Address) (h : List ℕ) (ms : List MessageRow) → Free goes ms → held_splits source h (kept message_key goes ms) ≡ held_splits source h ms
+held_same goes source h [] free = refl
+held_same goes source h (m ∷ ms) free =
+    let few : List ℕ = held_splits source h (kept message_key goes ms) in
+    let all : List ℕ = held_splits source h ms in
+    let holds : Bool = is_between source h m && not (is_delivered m.state) in
+    let rest : few ≡ all = held_same goes source h ms (λ x a. free x (inr a)) in
+    ⊎_elim
+    (λ (t : goes m.id ≡ true). ap (λ (l : List MessageRow). held_splits source h l) (kept_gone message_key goes m ms t) ∙ rest ∙ sym (⊎_elim
+    (λ (e : m.split_reference ≡ None). ap (λ (o : Option ℕ). if holds then optional o all else all) e ∙ alike holds all)
+    (λ (e : is_delivered m.state ≡ true).
+    cond-false holds (optional m.split_reference all) all (and_right (is_between source h m) (not (is_delivered m.state)) (ap not e)))
+    (free m (inl refl) t)))
+    (λ (t : goes m.id ≡ false).
+    ap (λ (l : List MessageRow). held_splits source h l) (kept_here message_key goes m ms t)
+    ∙ ap (λ (l : List ℕ). if holds then optional m.split_reference l else l) rest)
+    (cases_Bool (goes m.id))
+  where
+    alike : (b : Bool) (l : List ℕ) → (if b then l else l) ≡ l
+    alike true l = refl
+    alike false l = refl
+
+abbrev Own : (ℕ → Bool) → List MessageRow → List PartRow → Type 0
+Own goes ms ps = (p : PartRow) (m : MessageRow) → Among p ps → goes p.id ≡ true → message_at p.id ms ≡ Some m → unless_split m.split_reference (wide_in p.key) ≡ None
+
+gone_wide : (source : Address) (h : List ℕ) (p : PartRow) (ms : List MessageRow) → ((m : MessageRow) → message_at p.id ms ≡ Some m → unless_split m.split_reference (wide_in p.key) ≡ None)
+    → own_wide source h p (message_at p.id ms) ≡ None
+gone_wide source h p ms none = of (message_at p.id ms) refl
+  where
+    alike : (b : Bool) (o : Option ℕ) → o ≡ None → (if b then o else None) ≡ None
+    alike true o e = e
+    alike false o e = refl
+
+    of : (o : Option MessageRow) → message_at p.id ms ≡ o → own_wide source h p o ≡ None
+    of None e = refl
+    of (Some m) e = alike (is_between source h m) (unless_split m.split_reference (wide_in p.key)) (none m e)
+
+pub own_same : (goes : ℕ → Bool) (source : Address) (h : List ℕ) (ms : List MessageRow) (ps : List PartRow) → Own goes ms ps
+    → own_splits source h (kept message_key goes ms) (kept part_id goes ps) ≡ own_splits source h ms ps
+own_same goes source h ms [] own = refl
+own_same goes source h ms (p ∷ ps) own =
+    let ks : List MessageRow = kept message_key goes ms in
+    let few : List ℕ = own_splits source h ks (kept part_id goes ps) in
+    let all : List ℕ = own_splits source h ms ps in
+    let rest : few ≡ all = own_same goes source h ms ps (λ x m a. own x m (inr a)) in
+    ⊎_elim
+    (λ (t : goes p.id ≡ true).
+    ap (λ (l : List PartRow). own_splits source h ks l) (kept_gone part_id goes p ps t) ∙ rest
+    ∙ sym (ap (λ (o : Option ℕ). optional o all) (gone_wide source h p ms (λ m e. own p m (inl refl) t e))))
+    (λ (t : goes p.id ≡ false).
+    ap (λ (l : List PartRow). own_splits source h ks l) (kept_here part_id goes p ps t)
+    ∙ ap (λ (o : Option MessageRow). optional (own_wide source h p o) few) (message_stays goes p.id ms t)
+    ∙ ap (λ (l : List ℕ). optional (own_wide source h p (message_at p.id ms)) l) rest)
+    (cases_Bool (goes p.id))
+
+-- ---- the last one that was split
+
+same_address : (a b c : Address) → is_same_address b a ≡ true → is_same_address a c ≡ true → is_same_address b c ≡ true
+same_address a b c e f =
+    let p = and_parts (type_number b.ton == type_number a.ton) ((b.npi == a.npi) && bytes_eq b.digits a.digits) e in
+    let q = and_parts (b.npi == a.npi) (bytes_eq b.digits a.digits) p.1 in
+    let r = and_parts (type_number a.ton == type_number c.ton) ((a.npi == c.npi) && bytes_eq a.digits c.digits) f in
+    let s = and_parts (a.npi == c.npi) (bytes_eq a.digits c.digits) r.1 in
+    and_from (type_number b.ton == type_number c.ton) ((b.npi == c.npi) && bytes_eq b.digits c.digits)
+    (eq-eqb (type_number b.ton) (type_number c.ton) (eqb-true (type_number b.ton) (type_number a.ton) p.0 ∙ eqb-true (type_number a.ton) (type_number c.ton) r.0))
+    (and_from (b.npi == c.npi) (bytes_eq b.digits c.digits) (eq-eqb b.npi c.npi (eqb-true b.npi a.npi q.0 ∙ eqb-true a.npi c.npi s.0))
+    ((bytes_eq-Decides b.digits c.digits).1 ((bytes_eq-Decides b.digits a.digits).0 q.1 ∙ (bytes_eq-Decides a.digits c.digits).0 s.1)))
+
+-- who is between the same as one is between what that one is between
+pub between_too : (source : Address) (h : List ℕ) (m w : MessageRow) → is_between source h m ≡ true → is_between m.source m.handset w ≡ true → is_between source h w ≡ true
+between_too source h m w e f =
+    let p = and_parts (is_same_address m.source source) (bytes_eq m.handset h) e in
+    let q = and_parts (is_same_address w.source m.source) (bytes_eq w.handset m.handset) f in
+    and_from (is_same_address w.source source) (bytes_eq w.handset h) (same_address m.source w.source source q.0 p.0)
+    ((bytes_eq-Decides w.handset h).1 ((bytes_eq-Decides w.handset m.handset).0 q.1 ∙ (bytes_eq-Decides m.handset h).0 p.1))
+
+-- whatever was split before one that follows is not the last
+split_later : (source : Address) (h : List ℕ) (w : MessageRow) (ms : List MessageRow) (a b : Option ℕ) → Among w ms → is_between source h w ≡ true → is_some w.split_reference ≡ true
+    → last_split source h a ms ≡ last_split source h b ms
+split_later source h w [] a b among e f = absurd among
+split_later source h w (x ∷ xs) a b among e f = ⊎_elim
+    (λ (q : w ≡ x).
+    ap (λ (o : Option ℕ). last_split source h o xs) (first a x (sym q) ∙ sym (first b x (sym q))))
+    (λ (c : Among w xs).
+    split_later source h w xs (if is_between source h x then or_later a x.split_reference else a) (if is_between source h x then or_later b x.split_reference else b) c e f)
+    among
+  where
+    given : (o : Option ℕ) (c : Option ℕ) → is_some o ≡ true → or_later c o ≡ o
+    given None c t = let bad : false ≡ true = t in absurd cc
+    given (Some n) c t = refl
+
+    first : (c : Option ℕ) (x : MessageRow) → x ≡ w → (if is_between source h x then or_later c x.split_reference else c) ≡ w.split_reference
+    first c x q =
+        ap (λ (y : MessageRow). if is_between source h y then or_later c y.split_reference else c) q
+        ∙ cond-true (is_between source h w) (or_later c w.split_reference) c e ∙ given w.split_reference c f
+
+abbrev Later : (ℕ → Bool) → List MessageRow → Type 0
+Later goes ms = (m : MessageRow) (n : ℕ) → Among m ms → goes m.id ≡ true → m.split_reference ≡ Some n → (w : MessageRow) × (Among w ms × IsLaterSplit m w)
+
+-- a later one is behind
+behind : (m w : MessageRow) (ms : List MessageRow) → m.id < w.id → Among w (m ∷ ms) → Among w ms
+behind m w ms l among = ⊎_elim (λ (e : w ≡ m). let same : w.id ≡ m.id = ap (λ (x : MessageRow). x.id) e in absurd (omega (arith, l, same))) (λ (a : Among w ms). a) among
+
+pub above : (n : ℕ) (x : MessageRow) (ms : List MessageRow) → AllAbove message_key n ms → Among x ms → n < x.id
+above n x [] h a = absurd a
+above n x (m ∷ ms) h a = ⊎_elim (λ (e : x ≡ m). subst (λ (y : MessageRow). n < y.id) (sym e) h.0) (λ (b : Among x ms). above n x ms h.1 b) a
+
+later_tail : (goes : ℕ → Bool) (m : MessageRow) (ms : List MessageRow) → Rises message_key (m ∷ ms) → Later goes (m ∷ ms) → Later goes ms
+later_tail goes m ms rises later x n a g e =
+    let f = later x n (inr a) g e in
+    let low : m.id < x.id = above m.id x ms rises.0 a in
+    let high : x.id < f.0.id = f.1.1.0 in
+    (f.0, (behind m f.0 ms (omega (arith, low, high)) f.1.0, f.1.1))
+
+pub last_same : (goes : ℕ → Bool) (source : Address) (h : List ℕ) (last : Option ℕ) (ms : List MessageRow) → Rises message_key ms → Later goes ms
+    → last_split source h last (kept message_key goes ms) ≡ last_split source h last ms
+last_same goes source h last [] rises later = refl
+last_same goes source h last (m ∷ ms) rises later = ⊎_elim
+    (λ (t : goes m.id ≡ true).
+    ap (λ (l : List MessageRow). last_split source h last l) (kept_gone message_key goes m ms t) ∙ last_same goes source h last ms rises.1 (later_tail goes m ms rises later) ∙ passed t m.split_reference refl)
+    (λ (t : goes m.id ≡ false).
+    ap (λ (l : List MessageRow). last_split source h last l) (kept_here message_key goes m ms t)
+    ∙ last_same goes source h (if is_between source h m then or_later last m.split_reference else last) ms rises.1 (later_tail goes m ms rises later))
+    (cases_Bool (goes m.id))
+  where
+    alike : (b : Bool) → (if b then last else last) ≡ last
+    alike true = refl
+    alike false = refl
+
+    after : Option ℕ → Option ℕ
+    after o = if is_between source h m then or_later last o else last
+
+    passed : goes m.id ≡ true → (o : Option ℕ) → m.split_reference ≡ o → last_split source h last ms ≡ last_split source h (after m.split_reference) ms
+    passed t None e = ap (λ (o : Option ℕ). last_split source h o ms) (sym (ap (λ (o : Option ℕ). if is_between source h m then or_later last o else last) e ∙ alike (is_between source h m)))
+    passed t (Some n) e = ⊎_elim
+        (λ (b : is_between source h m ≡ true).
+        let f = later m n (inl refl) t e in
+        split_later source h f.0 ms last (after m.split_reference) (behind m f.0 ms f.1.1.0 f.1.0) (between_too source h m f.0 b f.1.1.1.0) f.1.1.1.1)
+        (λ (b : is_between source h m ≡ false). ap (λ (o : Option ℕ). last_split source h o ms) (sym (cond-false (is_between source h m) (or_later last m.split_reference) last b)))
+        (cases_Bool (is_between source h m))
+
+pub next_split_same : (goes : ℕ → Bool) (source : Address) (h : List ℕ) (ms : List MessageRow) (ps : List PartRow) → Rises message_key ms → Free goes ms → Own goes ms ps → Later goes ms
+    → next_split source h (kept message_key goes ms) (kept part_id goes ps) ≡ next_split source h ms ps
+next_split_same goes source h ms ps rises free own later =
+    let ks : List MessageRow = kept message_key goes ms in
+    let js : List PartRow = kept part_id goes ps in
+    ap (λ (o : Option ℕ). next_among o (held_splits source h ks ++ own_splits source h ks js)) (last_same goes source h None ms rises later)
+    ∙ ap (λ (l : List ℕ). next_among (last_split source h None ms) (l ++ own_splits source h ks js)) (held_same goes source h ms free)
+    ∙ ap (λ (l : List ℕ). next_among (last_split source h None ms) (held_splits source h ms ++ l)) (own_same goes source h ms ps own)

@@ -1,0 +1,15 @@
+use Rattle.std.proofs.Common.{refl}
+use Rattle.sms_centre_spec.proofs.forgetting.Removed.{forget_commits, forget_handsets, forget_messages, forget_priorities, forget_references}
+use Rattle.sms_centre_spec.proofs.forgetting.what_is_forgotten_is_committed.Goals as goal
+
+pub returns : goal.returns
+returns c = record {
+  adopted = forget_commits;
+  messages = forget_messages;
+  priorities = forget_priorities;
+  references = forget_references;
+  handsets = forget_handsets;
+  frames = λ before most c. refl;
+  deliveries = λ before most c. refl;
+  answer = λ before most c. refl;
+}

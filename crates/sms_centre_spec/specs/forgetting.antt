@@ -1,0 +1,4 @@
+pub mod Forgetting
+pub mod Bars
+pub mod Forgot
+pub mod Forget

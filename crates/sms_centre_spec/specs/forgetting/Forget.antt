@@ -1,0 +1,102 @@
+-- Forgetting as stages of an event, with its changes: the oldest so many messages that may go leave, each with its report, its parts
+-- and its priority. Nothing is due by it, so nothing follows it.
+use Rattle.std.specs.Prelude.{ℕ, zero, suc, ◌==◌, ◌&&◌, ◌||◌, not, List, [], ◌∷◌, Bool, false, Option, Some, None}
+use Rattle.sms_base.specs.declared.carried.Carried.{Carried}
+use Rattle.sms_base.specs.declared.holder.Holder.{Holder}
+use Rattle.sms_base.specs.declared.holder.Holder.TheVariants.{Part, Report, Entry, Memory}
+use Rattle.sms_rows.specs.table.Since.{take_out}
+use Rattle.sms_centre_rows.specs.declared.messages.message.MessageRow.{MessageRow}
+use Rattle.sms_centre_rows.specs.declared.messages.part.PartRow.{PartRow}
+use Rattle.sms_centre_rows.specs.messages.Messages.{Messages, part_at, part_key, parts_of}
+use Rattle.sms_centre_rows.specs.messages.SplitReferences.{is_among}
+use Rattle.sms_centre_rows.specs.declared.reports.report.ReportRow.{ReportRow}
+use Rattle.sms_centre_rows.specs.reports.Receipts.{is_unanswered}
+use Rattle.sms_centre_rows.specs.reports.Reports.{report_key, report_of, reports_of}
+use Rattle.sms_centre_rows.specs.declared.waiting.handset_link.HandsetLink.{HandsetLink}
+use Rattle.sms_centre_rows.specs.declared.waiting.revision.Revision.TheVariants.{Remove}
+use Rattle.sms_centre_rows.specs.waiting.Revisions.{Revised}
+use Rattle.sms_centre_spec.specs.Draft.{Core, Draft, Store, draft_of, in_store, store_of}
+use Rattle.sms_centre_spec.specs.forgetting.Forgetting.{going, goes_bare}
+
+-- ---- which messages may go now: neither is a receipt of one unanswered, nor is anything of it under way
+
+abbrev pub is_part_of : ℕ → Option PartRow → Bool
+is_part_of id None = false
+is_part_of id (Some p) = p.id == id
+
+abbrev pub is_held_for : ℕ → List PartRow → Holder → Bool
+is_held_for id parts (Part n number) = (n == id) || is_part_of id (part_at n number parts)
+is_held_for id parts (Report n) = n == id
+is_held_for id parts (Entry n) = false
+is_held_for id parts (Memory n) = false
+
+abbrev pub is_carried : ℕ → List PartRow → Option Carried → Bool
+is_carried id parts None = false
+is_carried id parts (Some transfer) = is_held_for id parts transfer.tag
+
+abbrev pub is_on_way : ℕ → List PartRow → List HandsetLink → Bool
+is_on_way id parts [] = false
+is_on_way id parts (l ∷ ls) = is_carried id parts l.link.under_way || is_on_way id parts ls
+
+abbrev pub may_go_now : ℕ → Core → MessageRow → Bool
+may_go_now before c m =
+    goes_bare before c.rows m && (not (is_unanswered m.id c.sessions) && not (is_on_way m.id c.rows.parts c.lines))
+
+abbrev pub going_now : ℕ → ℕ → Core → List ℕ
+going_now before most c = going (may_go_now before c) most c.rows.messages
+
+abbrev pub is_going_now : ℕ → ℕ → Core → ℕ → Bool
+is_going_now before most c id = is_among id (going_now before most c)
+
+-- ---- moves of messages, and of reports: one change of one list each
+
+abbrev pub remove_in : {A : Type 0} → ℕ → Revised A → Revised A
+remove_in n t = record { base = t.base; news = Remove n ∷ t.news }
+
+abbrev pub without_message : ℕ → Messages → Messages
+without_message id m = record m { messages = take_out id m.messages }
+
+abbrev pub without_priority : ℕ → Messages → Messages
+without_priority id m = record m { priorities = take_out id m.priorities }
+
+abbrev pub without_part : ℕ → Messages → Messages
+without_part key m = record m { parts = remove_in key m.parts }
+
+-- ---- a message with its parts and its priority
+
+abbrev pub part_gone : Option PartRow → Messages → Messages
+part_gone None m = m
+part_gone (Some p) m = without_part (part_key p) m
+
+abbrev pub part_out : ℕ → ℕ → Messages → Messages
+part_out id number m = part_gone (part_at id number (parts_of m)) m
+
+-- those with numbers up to that, the lowest first
+unfoldable pub parts_out : ℕ → ℕ → Messages → Messages
+parts_out id zero m = m
+parts_out id (suc n) m = part_out id (suc n) (parts_out id n m)
+
+-- a message has at most 20 parts
+abbrev pub message_out : ℕ → Messages → Messages
+message_out id m = without_message id (without_priority id (parts_out id 20 m))
+
+-- ---- its report
+
+abbrev pub report_gone : Option ReportRow → Revised ReportRow → Revised ReportRow
+report_gone None t = t
+report_gone (Some r) t = remove_in (report_key r) t
+
+abbrev pub report_out : ℕ → Revised ReportRow → Revised ReportRow
+report_out id t = report_gone (report_of id (reports_of t)) t
+
+-- ---- the event
+
+abbrev pub message_gone : ℕ → Store → Store
+message_gone id s = record s { messages = message_out id s.messages; reports = report_out id s.reports }
+
+abbrev pub messages_gone : List ℕ → Store → Store
+messages_gone [] s = s
+messages_gone (id ∷ ids) s = messages_gone ids (message_gone id s)
+
+abbrev pub forget : ℕ → ℕ → Core → Draft
+forget before most c = in_store (messages_gone (going_now before most c) (store_of c.rows c.moment)) (draft_of c)

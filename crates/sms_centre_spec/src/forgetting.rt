@@ -1,0 +1,143 @@
+//! Laws of forgetting, over definitions alone: messages that ended long ago and were reported leave the rows.
+//!
+//! No event of `CentreEvent` forgets yet. These laws say what such an event takes out, and that nobody can tell but who asks
+//! for what went. Rows keep no bars yet either, so a message that bars a reference stays (`bars_reference`).
+ghost use Rattle.std.specs.Prelude.{◌≡◌, ◌≤◌, ◌++◌, ℕ, List, [], map, Bool, Option, None, false, true, length};
+ghost use Rattle.sms_base.specs.Among.{Among};
+ghost use Rattle.sms_base.specs.declared.address.Address.{Address};
+ghost use Rattle.sms_rows.specs.declared.table.change.Change.TheVariants.{Remove};
+ghost use Rattle.sms_rows.specs.table.Table.{Rises};
+ghost use Rattle.sms_centre_rows.specs.declared.messages.message.MessageRow.{MessageRow};
+ghost use Rattle.sms_centre_rows.specs.declared.messages.part.PartRow.{PartRow};
+ghost use Rattle.sms_centre_rows.specs.declared.messages.priority.PriorityRow.{PriorityRow};
+ghost use Rattle.sms_centre_rows.specs.declared.waiting.handset.HandsetRow.{HandsetRow};
+ghost use Rattle.sms_centre_rows.specs.messages.Messages.{message_at};
+ghost use Rattle.sms_centre_rows.specs.messages.SplitReferences.{held_splits, next_split};
+ghost use Rattle.sms_centre_rows.specs.reports.Receipts.{Bindings, Session, send_all, session_key};
+ghost use Rattle.sms_centre_rows.specs.reports.Reports.{next_place, report_of};
+ghost use Rattle.sms_centre_rows.specs.waiting.SoundAllocations.{IsNumber};
+ghost use Rattle.sms_centre_spec.specs.CentreEvent.{happened, moment_of, recovered};
+ghost use Rattle.sms_centre_spec.specs.Draft.{Core, changes_in, core_of, store_of};
+ghost use Rattle.sms_centre_spec.specs.MessageNumbers.{next_number};
+ghost use Rattle.sms_centre_spec.specs.Planning.{adopted, outcome_of};
+ghost use Rattle.sms_centre_spec.specs.SoundCore.{AreDifferent, IsEvent, IsSession, IsSoundCore};
+ghost use Rattle.sms_centre_spec.specs.SoundRows.{IsSound, all_for};
+ghost use Rattle.sms_centre_spec.specs.Submitting.{reference_for};
+ghost use Rattle.sms_centre_spec.specs.declared.event.CentreEvent.{CentreEvent};
+ghost use Rattle.sms_centre_spec.specs.declared.rows.Rows.{Rows};
+ghost use Rattle.sms_centre_spec.specs.forgetting.Bars.{Bar, bars_left, is_taken_beside, next_beside};
+ghost use Rattle.sms_centre_spec.specs.forgetting.Forget.{forget, going_now, is_going_now, may_go_now};
+ghost use Rattle.sms_centre_spec.specs.forgetting.Forgetting.{AreBare, AreNoLater, MayGo, going, goes_bare, is_going, last_submitted, rows_without};
+ghost use Rattle.sms_centre_spec.specs.forgetting.Forgot.{AreAway, AsksOther, CanForget, Forgot, InStep, Same, core_without};
+
+/// Sound rows are sound without the messages that may go.
+pub fn what_stays_is_sound()
+    ensures { (goes : ℕ → Bool) (rows : Rows) → IsSound rows → MayGo goes rows → IsSound (rows_without goes rows) }
+{}
+
+/// What waits for each handset is the same without the messages that go, and so are the receipts that are sent.
+pub fn what_waits_is_unchanged()
+    ensures parts { (goes : ℕ → Bool) (rows : Rows) (number : List ℕ) → MayGo goes rows → all_for number (rows_without goes rows) ≡ all_for number rows }
+    ensures receipts { (goes : ℕ → Bool) (rows : Rows) (moment : ℕ) (bindings : Bindings) → MayGo goes rows
+        → send_all moment (rows_without goes rows).messages (rows_without goes rows).reports bindings ≡ send_all moment rows.messages rows.reports bindings }
+{}
+
+/// So are the next number of a message, the next place of a report and the next reference of a handset. The moment at
+/// which a centre recovers is never later, and the same where no moment that goes is later than ones that stay. Where
+/// none of them bars a reference, the next one to split under is the same, and so are those that are taken.
+pub fn what_is_next_is_unchanged()
+    ensures number { (goes : ℕ → Bool) (rows : Rows) → MayGo goes rows → next_number (rows_without goes rows) ≡ next_number rows }
+    ensures place { (goes : ℕ → Bool) (rows : Rows) → MayGo goes rows → next_place (rows_without goes rows).reports ≡ next_place rows.reports }
+    ensures reference { (goes : ℕ → Bool) (rows : Rows) (moment : ℕ) (handset : HandsetRow) → MayGo goes rows
+        → reference_for handset (store_of (rows_without goes rows) moment) ≡ reference_for handset (store_of rows moment) }
+    ensures never_later { (goes : ℕ → Bool) (rows : Rows) → moment_of (rows_without goes rows) ≤ moment_of rows }
+    ensures moment { (goes : ℕ → Bool) (rows : Rows) → MayGo goes rows → AreNoLater goes rows → moment_of (rows_without goes rows) ≡ moment_of rows }
+    ensures split { (goes : ℕ → Bool) (rows : Rows) (source : Address) (handset : List ℕ) → IsSound rows → MayGo goes rows → AreBare goes rows
+        → next_split source handset (rows_without goes rows).messages (rows_without goes rows).parts ≡ next_split source handset rows.messages rows.parts }
+    ensures held { (goes : ℕ → Bool) (rows : Rows) (source : Address) (handset : List ℕ) → AreBare goes rows
+        → held_splits source handset (rows_without goes rows).messages ≡ held_splits source handset rows.messages }
+{}
+
+/// The bars that messages leave stand for them, whether they bar a reference or not. Beside them the next reference to
+/// split under is the same, and the same references are taken.
+pub fn bars_stand_for_what_went()
+    ensures split { (goes : ℕ → Bool) (rows : Rows) (bars : List Bar) (source : Address) (handset : List ℕ) → IsSound rows → MayGo goes rows
+        → next_beside (bars ++ bars_left goes rows) source handset (rows_without goes rows).messages (rows_without goes rows).parts
+        ≡ next_beside bars source handset rows.messages rows.parts }
+    ensures taken { (goes : ℕ → Bool) (rows : Rows) (bars : List Bar) (source : Address) (handset : List ℕ) (own : Option ℕ) → IsSound rows
+        → is_taken_beside (bars ++ bars_left goes rows) source handset own (rows_without goes rows).messages
+        ≡ is_taken_beside bars source handset own rows.messages }
+{}
+
+/// Those that are forgotten are messages that may go, and no more than so many.
+pub fn what_is_forgotten_may_go()
+    ensures may { (before most : ℕ) (rows : Rows) → IsSound rows → MayGo (is_going before most rows) rows }
+    ensures submitted { (before most : ℕ) (rows : Rows) (m : MessageRow) → IsSound rows → Among m rows.messages → is_going before most rows m.id ≡ true
+        → m.submitted ≤ last_submitted 0 rows.messages }
+    ensures bare { (before most : ℕ) (rows : Rows) → IsSound rows → AreBare (is_going before most rows) rows }
+    ensures each { (before most : ℕ) (rows : Rows) (m : MessageRow) → IsSound rows → Among m rows.messages → is_going before most rows m.id ≡ true
+        → goes_bare before rows m ≡ true }
+    ensures few { (before most : ℕ) (rows : Rows) → length (going (goes_bare before rows) most rows.messages) ≤ most }
+{}
+
+/// Nothing else goes.
+pub fn only_what_may_go_goes()
+    ensures message { (goes : ℕ → Bool) (rows : Rows) (id : ℕ) → goes id ≡ false
+        → message_at id (rows_without goes rows).messages ≡ message_at id rows.messages }
+    ensures report { (goes : ℕ → Bool) (rows : Rows) (id : ℕ) → goes id ≡ false
+        → report_of id (rows_without goes rows).reports ≡ report_of id rows.reports }
+    ensures part { (goes : ℕ → Bool) (rows : Rows) (p : PartRow) → Among p rows.parts → goes p.id ≡ false → Among p (rows_without goes rows).parts }
+    ensures priority { (goes : ℕ → Bool) (rows : Rows) (p : PriorityRow) → Among p rows.priorities → goes p.id ≡ false
+        → Among p (rows_without goes rows).priorities }
+{}
+
+/// Every event does the same without the messages that go, but a query_sm or cancel_sm of one of them. It has the same
+/// frames, receipts, answer and changes. Behind it is the same centre without those messages.
+pub fn forgetting_is_invisible()
+    ensures { (goes : ℕ → Bool) (event : CentreEvent) (c : Core) → IsSound c.rows → CanForget goes c → AsksOther goes event
+        → Same goes (happened event (core_without goes c)) (happened event c) }
+{}
+
+/// A centre without messages that may go keeps in step with the one that has them, whatever happens but a query_sm or
+/// cancel_sm of one of them. It sends the same frames and receipts, and answers the same. It is still the other one
+/// without those messages.
+pub fn it_keeps_in_step()
+    ensures { (goes : ℕ → Bool) (event : CentreEvent) (small large : Core) → Forgot goes small large → IsEvent event → AsksOther goes event
+        → InStep goes (happened event small) (happened event large) }
+{}
+
+/// A sound centre without messages that may go is sound, and begins in step, where none of them is under way on a link.
+/// So does one that recovers with the rows without them, beside one that recovers with all.
+pub fn it_begins_in_step()
+    ensures there { (goes : ℕ → Bool) (c : Core) → IsSoundCore c → CanForget goes c → AreAway goes c → Forgot goes (core_without goes c) c }
+    ensures recovered { (goes : ℕ → Bool) (rows : Rows) (handsets : List (List ℕ)) (sessions : List Session) → IsSound rows
+        → ((number : List ℕ) → Among number handsets → IsNumber number) → AreDifferent handsets
+        → Rises session_key sessions → ((session : Session) → Among session sessions → IsSession rows session)
+        → AreNoLater goes rows → CanForget goes (recovered rows handsets sessions)
+        → Forgot goes (recovered (rows_without goes rows) handsets sessions) (recovered rows handsets sessions) }
+{}
+
+/// To forget takes out the messages that may go now, and changes nothing else of the centre. What it takes out was
+/// reported, is neither unanswered nor under way, and the centre is in step with the one that keeps it.
+pub fn a_centre_forgets_what_may_go()
+    ensures left { (before most : ℕ) (c : Core) → IsSound c.rows → core_of (forget before most c) ≡ core_without (is_going_now before most c) c }
+    ensures in_step { (before most : ℕ) (c : Core) → IsSoundCore c → Forgot (is_going_now before most c) (core_of (forget before most c)) c }
+    ensures each { (before most : ℕ) (c : Core) (m : MessageRow) → IsSoundCore c → Among m c.rows.messages → is_going_now before most c m.id ≡ true
+        → may_go_now before c m ≡ true }
+    ensures few { (before most : ℕ) (c : Core) → length (going_now before most c) ≤ most }
+{}
+
+/// It commits what it takes out: of messages and of priorities one removal each, and nothing of handsets or references.
+/// It sends nothing and answers nobody.
+pub fn what_is_forgotten_is_committed()
+    ensures adopted { (before most : ℕ) (c : Core) → adopted (outcome_of (forget before most c)) c ≡ core_of (forget before most c) }
+    ensures messages { (before most : ℕ) (c : Core)
+        → (changes_in (forget before most c).store).messages ≡ map (λ (id : ℕ). Remove id) (going_now before most c) }
+    ensures priorities { (before most : ℕ) (c : Core)
+        → (changes_in (forget before most c).store).priorities ≡ map (λ (id : ℕ). Remove id) (going_now before most c) }
+    ensures references { (before most : ℕ) (c : Core) → (changes_in (forget before most c).store).references ≡ [] }
+    ensures handsets { (before most : ℕ) (c : Core) → (changes_in (forget before most c).store).handsets ≡ [] }
+    ensures frames { (before most : ℕ) (c : Core) → (forget before most c).links.frames ≡ [] }
+    ensures deliveries { (before most : ℕ) (c : Core) → (forget before most c).bindings.deliveries ≡ [] }
+    ensures answer { (before most : ℕ) (c : Core) → (forget before most c).answer ≡ None }
+{}
