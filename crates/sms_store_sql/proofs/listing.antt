@@ -7,6 +7,7 @@ pub mod Keeping
 pub mod ConnectedCalls
 pub mod Making
 pub mod MetaRead
+pub mod News
 pub mod Once
 pub mod OneRow
 pub mod Perms

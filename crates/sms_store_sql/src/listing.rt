@@ -22,7 +22,7 @@ mod transaction;
 pub use cause::{load_cause_of, write_cause_of};
 pub use closing::{Health, look_or_close, transact_or_close};
 pub use finding::{FoundRow, find};
-pub use inside::{change, put, remove, run, run_counted, write};
+pub use inside::{add, change, put, remove, run, run_counted, write};
 pub use judging::judge;
 pub use list::StoredRow;
 pub use loading::{load, load_columns};

@@ -1,6 +1,6 @@
 //! One text that changes how far a row is, and leaves its TPDU alone.
 //!
-//! The rows of such a list give that text (`AmendedRow`). An event puts a row, removes one, or changes only how far it
+//! The rows of such a list give that text (`AmendedRow`). An event adds a row, removes one, or changes only how far it
 //! is. In the last case the row's TPDU is neither read nor written. `amend`, `revise` and `write_revisions` are proved
 //! here once for every list, in the words of `sms_store_sql::listing`.
 ghost use Rattle.std.specs.Prelude.{◌≡◌, ◌++◌, ℕ, List, OnOk};
@@ -15,7 +15,7 @@ ghost use Rattle.sms_centre_rows.specs.declared.waiting.progress.Progress.{Progr
 
 use sms_centre_rows::waiting::{Progress, Revision};
 use sms_rows::table::Key;
-use sms_store_sql::listing::{StoredRow, put, remove};
+use sms_store_sql::listing::{StoredRow, add, remove};
 use sqlite::{Alter, Error, Transaction};
 use std::alloc::Global;
 
@@ -75,7 +75,7 @@ pub fn revise<K, T: Drop + AmendedRow<K>, S: Alter>(
     ensures survives { Spares S.Store tx.old.conn.now tx.new.conn.now }
 {
     match revision {
-        Revision::Put(row) => put::<K, T, S>(alloc, tx, row),
+        Revision::Put(row) => add::<K, T, S>(alloc, tx, row),
         Revision::Amend { key, progress } => amend::<K, T, S>(tx, *key, *progress),
         Revision::Remove(key) => remove::<K, T, S>(tx, *key),
     }

@@ -1,6 +1,6 @@
 -- What a handset counts: one row, at place 1.
-use Rattle.std.specs.Prelude.{◌≡◌, ℕ, ◌==◌, ℤ, false, [], ◌∷◌, codes, refl}
-use Rattle.std.specs.List.{list_all}
+use Rattle.std.specs.Prelude.{◌≡◌, ℕ, ◌==◌, ℤ, false, [], ◌∷◌, codes, refl, true}
+use Rattle.std.specs.List.{list_all, list_any}
 use Rattle.sqlite.specs.declared.types.Value.TheVariants.{Null, Int}
 use Rattle.sqlite_value.specs.Order.{column}
 use Rattle.sqlite.specs.Term.{holds, col}
@@ -9,9 +9,11 @@ use Rattle.sqlite.specs.Command.TheVariants.{Insert, Update, Delete, Select}
 use Rattle.sqlite.specs.Listing.{understood, reads_listing}
 use Rattle.sqlite.proofs.Callers.{IsPlain, command_of}
 use Rattle.sqlite_rules.specs.Cast.{cast_row}
+use Rattle.sqlite_value.specs.Keys.{plain}
+use Rattle.sqlite_schema.specs.Rules.{agree}
 use Rattle.sqlite_tied.specs.Compute.{everything}
 use Rattle.sms_store_sql.specs.listing.Columns.{IsOctet, IsShort, IsWord, number, number_in, flag, flag_in}
-use Rattle.sms_store_sql.specs.listing.Listing.{TableOf, ListOf, IsList, table_of, rowids_where, rows_where, given_from, whole_table, row_of, columns_of, equals}
+use Rattle.sms_store_sql.specs.listing.Listing.{TableOf, ListOf, IsList, table_of, rowids_where, rows_where, given_from, whole_table, row_of, columns_of, equals, is_key_index}
 use Rattle.sms_store_sql.proofs.listing.Columns.{one_found, cast_int, cast_row_same, cast_flag, flag_back}
 use Rattle.sms_store_tables.specs.handset.HandsetSchema.{handset_schema, count_columns}
 use Rattle.sms_store.specs.handset.Types.{Counters, CountersRow}
@@ -119,6 +121,15 @@ reads_back x fits =
           };
     }
 
+guarded : list_any (λ i. is_key_index (table_of count_table) count_table.key i) handset_schema.indexes ≡ true
+unfolding everything
+guarded = refl
+
+agrees : (x : CountersRow) (id new : ℤ) (y : CountersRow) → agree plain count_table.key (Int id ∷ count_list.columns y) count_table.key (Int new ∷ count_list.columns x)
+    ≡ list_all (holds (count_list.columns x ∷ (Int id ∷ count_list.columns y) ∷ [])) count_table.tests
+unfolding everything
+agrees x id new y = refl
+
 pub count_is_list : IsList count_list
 count_is_list = record {
   there = refl;
@@ -138,6 +149,8 @@ count_is_list = record {
   stays = stays;
   finds = finds;
   meets = meets;
+  guarded = guarded;
+  agrees = agrees;
   sets = λ x id y. refl;
   reads_back = reads_back;
 }

@@ -1,6 +1,6 @@
 -- A list of two columns whose key is both: what a list owes, in a few lines. It also shows that `IsList` can be met.
 use Rattle.std.proofs.Common.{◌≡◌, ℕ, ℤ, pos, ◌<◌, ◌/◌, ◌%◌, true, false, ◌&&◌, ◌==◌, [], ◌∷◌, codes, refl, ap, ap₂, ◌∙◌}
-use Rattle.std.specs.List.{list_all}
+use Rattle.std.specs.List.{list_all, list_any}
 use Rattle.sqlite.specs.declared.types.Value.TheVariants.{Null, Int}
 use Rattle.sqlite_value.specs.Order.{column}
 use Rattle.sqlite.specs.Schema.{Schema}
@@ -12,10 +12,12 @@ use Rattle.sqlite.specs.Listing.{understood, reads_listing}
 use Rattle.sqlite.proofs.Callers.{IsPlain, command_of}
 use Rattle.sqlite_catalog.specs.Listing.{automatic}
 use Rattle.sqlite_rules.specs.Cast.{cast_row}
+use Rattle.sqlite_value.specs.Keys.{plain}
+use Rattle.sqlite_schema.specs.Rules.{agree}
 use Rattle.sqlite_tied.specs.Compute.{everything}
 use Rattle.sms_rows.specs.table.Keys.{pair_key}
 use Rattle.sms_store_sql.specs.listing.Columns.{number_in}
-use Rattle.sms_store_sql.specs.listing.Listing.{given, keyed_table, TableOf, ListOf, IsList, table_of, rowids_where, rows_where, whole_table, row_of, given_from, columns_of, equals}
+use Rattle.sms_store_sql.specs.listing.Listing.{given, keyed_table, TableOf, ListOf, IsList, table_of, rowids_where, rows_where, whole_table, row_of, given_from, columns_of, equals, is_key_index}
 use Rattle.sms_store_sql.proofs.listing.Columns.{same_number, cast_null, cast_int, and_true, pair_found, pairs_agree}
 
 record Part : Type 0 where
@@ -84,6 +86,15 @@ meets : (x : Part) (id : ℤ) (y : Part) → x.number < 256 → y.number < 256 �
 meets x id y small few =
     ap₂ (λ a b. a && (b && true)) (same_number y.message x.message) (same_number y.number x.number) ∙ ap (λ b. (y.message == x.message) && b) (and_true _) ∙ pairs_agree y.message y.number x.message x.number few small
 
+guarded : list_any (λ i. is_key_index (table_of part_table) part_table.key i) part_schema.indexes ≡ true
+unfolding everything
+guarded = refl
+
+agrees : (x : Part) (id new : ℤ) (y : Part) → agree plain part_table.key (Int id ∷ parts.columns y) part_table.key (Int new ∷ parts.columns x)
+    ≡ list_all (holds (parts.columns x ∷ (Int id ∷ parts.columns y) ∷ [])) part_table.tests
+unfolding everything
+agrees x id new y = refl
+
 pub parts_are_listed : IsList parts
 parts_are_listed = record {
   there = refl;
@@ -103,6 +114,8 @@ parts_are_listed = record {
   stays = stays;
   finds = finds;
   meets = meets;
+  guarded = guarded;
+  agrees = agrees;
   sets = λ x id y. refl;
   reads_back = λ x fits. refl;
 }

@@ -1,5 +1,8 @@
 -- What each statement on a list does.
-use Rattle.std.proofs.Common.{◌≡◌, ◌≢◌, ◌⊎◌, inl, inr, ℕ, ℤ, None, [], ◌∷◌, Ok, Err, Result, sym, ap, subst, ◌∙◌, append-nil, length, List}
+use Rattle.std.proofs.Common.{◌≡◌, ◌≢◌, ◌⊎◌, inl, inr, ℕ, zero, suc, ℤ, true, Some, None, slice_get, [], ◌∷◌, Ok, Err, Result, sym, ap, subst, ◌∙◌, append-nil, length, List}
+use Rattle.std.specs.List.{AllByRecursion}
+use Rattle.sqlite_schema.specs.declared.schema.Constraint.TheVariants.{ForeignKey, Unique}
+use Rattle.sqlite_schema.specs.Rules.{passes as passes_rule}
 use Rattle.sqlite.specs.declared.types.Value.TheVariants.{Null, Int}
 use Rattle.sqlite.specs.Order.{Row}
 use Rattle.sqlite.specs.Tree.{Trees}
@@ -23,6 +26,9 @@ use Rattle.sms_store_sql.specs.listing.Inside.{Ran, Alters}
 use Rattle.sms_store_sql.proofs.listing.Perms.{all_mapped}
 use Rattle.sms_store_sql.proofs.listing.Trees.{passes, left_is, holds_left, holds_more}
 
+not_foreign : Unique ≢ ForeignKey
+not_foreign e = absurd cc
+
 -- a part that gave a value did not stop on the way
 pub went : {B E R : Type 0} {b : B} {Stops : E → Type 0} → ((stop : E) × Stops stop × (Ok b ≡ Err stop)) ⊎ R → R
 went (inl stopped) = absurd (let e = stopped.2 in cc)
@@ -31,11 +37,24 @@ went (inr on) = on
 pub same_value : {B E : Type 0} {a b : B} → ◌≡◌ {A = Result B E} (Ok a) (Ok b) → a ≡ b
 same_value e = cc
 
--- what an insertion does, where no row has the key
+-- each row of the table passes the rule that keys are unique
+abbrev pub AreUnique : {X : Type 0} → ListOf X → Trees → Type 0
+AreUnique l db = AllByRecursion (λ (r : Row). passes_rule Unique l.table.schema db (table_of l.table) r ≡ true) (db l.table.tree)
+
+-- what holds of all holds of the one at a place
+all_at : {X : Type 0} (P : X → Type 0) (xs : List X) (n : ℕ) (x : X) → AllByRecursion P xs → slice_get xs n ≡ Some x → P x
+all_at P [] n x all e = absurd cc
+all_at P (y ∷ ys) zero x all e = let same : y ≡ x = cc in subst P same all.0
+all_at P (y ∷ ys) (suc n) x all e = all_at P ys n x all.1 e
+
+-- what an insertion does
 pub record Adds {X : Type 0} (l : ListOf X) (x : X) (old new : State) : Type 0 where
   pub schema : old.now.schema ≡ l.table.schema → new.now.schema ≡ l.table.schema
   pub changed : old.now.schema ≡ l.table.schema → (xs : List X) → Represents l (old.now.trees l.table.tree) xs → Rises l.key (insert l.key x xs) → Represents l (new.now.trees l.table.tree) (insert l.key x xs)
   pub others : old.now.schema ≡ l.table.schema → (tree : ℕ) → tree ≢ l.table.tree → IsNoIndex l.table.schema tree → new.now.trees tree ≡ old.now.trees tree
+  -- the row is in the table, and each row passes the rule that keys are unique
+  pub rows : old.now.schema ≡ l.table.schema → new.now.trees l.table.tree ≡ put_row (Int (next_rowid (old.now.trees l.table.tree)) ∷ l.columns x) (old.now.trees l.table.tree)
+  pub unique : old.now.schema ≡ l.table.schema → AreUnique l new.now.trees
 
 module _ {X : Type 0} (l : ListOf X) (is : IsList l) (old new : State) where
   pub deletes : (n : ℕ) → Ran l.table.delete (l.key_columns n) old new → Alters l (without l.key n) old new
@@ -70,11 +89,17 @@ module _ {X : Type 0} (l : ListOf X) (is : IsList l) (old new : State) where
           )
 
   pub inserts : (x : X) → l.Fits x → Ran l.table.insert (l.columns x) old new → Adds l x old new
-  inserts x fits h = record { schema = λ has. (done has).0; changed = λ has. (done has).1; others = λ has. (done has).2 }
+  inserts x fits h = record {
+    schema = λ has. (done has).0;
+    changed = λ has xs held rises. holds_more l _ xs held x _ fits rises (done has).1;
+    others = λ has. (done has).2;
+    rows = λ has. (done has).1;
+    unique = λ has. (done has).3;
+  }
     where
       done : old.now.schema ≡ l.table.schema → (new.now.schema ≡ l.table.schema)
-          × ((xs : List X) → Represents l (old.now.trees l.table.tree) xs → Rises l.key (insert l.key x xs) → Represents l (new.now.trees l.table.tree) (insert l.key x xs))
-          × ((tree : ℕ) → tree ≢ l.table.tree → IsNoIndex l.table.schema tree → new.now.trees tree ≡ old.now.trees tree)
+          × (new.now.trees l.table.tree ≡ put_row (Int (next_rowid (old.now.trees l.table.tree)) ∷ l.columns x) (old.now.trees l.table.tree))
+          × ((tree : ℕ) → tree ≢ l.table.tree → IsNoIndex l.table.schema tree → new.now.trees tree ≡ old.now.trees tree) × AreUnique l new.now.trees
       done has =
           let t = l.table in
           let params = l.columns x in
@@ -97,6 +122,7 @@ module _ {X : Type 0} (l : ListOf X) (is : IsList l) (old new : State) where
           let edit : edited db (edit_of db (table_of t) [] Chosen 0 given.0) ≡ put_row (Int (next_rowid (db t.tree)) ∷ l.columns x) (db t.tree) =
           ap (λ rows. edited db (edit_of db (table_of t) [] Chosen 0 rows)) sources ∙ ap made (is.stays x) in (
             ap (λ (d : Database). d.schema) now,
-            λ xs held rises. holds_more l _ xs held x _ fits rises (ap (λ (a : Trees). a t.tree) whole ∙ step.rows ∙ edit),
+            ap (λ (a : Trees). a t.tree) whole ∙ step.rows ∙ edit,
             λ tree other free. ap (λ (a : Trees). a tree) whole ∙ step.others tree other free,
+            subst (λ (a : Trees). AreUnique l a) (sym whole) (all_at _ t.schema.tables t.place (table_of t) (step.fits.rules Unique not_foreign) is.there),
           )

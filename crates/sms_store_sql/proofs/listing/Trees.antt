@@ -98,19 +98,28 @@ module _ {X : Type 0} (l : ListOf X) (old : List Row) (xs : List X) (held : Repr
         fit = subst (AllByRecursion l.Fits) (sym left) (all_without l.key l.Fits n _ held.fit);
       }
 
+  -- the row is behind the others, under a rowid of its own
+  pub stored_more : (x : X) (rows : List Row) → rows ≡ put_row (Int (next_rowid old) ∷ l.columns x) old
+      → rows ≡ map (with_rowid l.columns) (held.entries ++ (next_key (λ (e : ℤ × X). e.0) held.entries, x) ∷ [])
+  stored_more x rows is =
+      let id = λ (e : ℤ × X). e.0 in
+      let new : ℤ × X = (next_key id held.entries, x) in
+      let next : next_rowid old ≡ next_key id held.entries = ap next_rowid held.stored ∙ next_from l.columns held.entries (pos 1) in
+      let last = insert_last held.entries new (below_next held.entries held.keyed) in
+      is ∙ ap (λ n. put_row (Int n ∷ l.columns x) old) next ∙ ap (put_row (with_rowid l.columns new)) held.stored
+      ∙ puts-map id (with_rowid l.columns) (λ e. refl) (new ∷ []) held.entries ∙ ap (map (with_rowid l.columns)) last
+
   pub holds_more : (x : X) (rows : List Row) → l.Fits x → Rises l.key (insert l.key x xs) → rows ≡ put_row (Int (next_rowid old) ∷ l.columns x) old → Represents l rows (insert l.key x xs)
   holds_more x rows fits rises is =
       let id = λ (e : ℤ × X). e.0 in
       let value = λ (e : ℤ × X). e.1 in
       let new : ℤ × X = (next_key id held.entries, x) in
-      let next : next_rowid old ≡ next_key id held.entries = ap next_rowid held.stored ∙ next_from l.columns held.entries (pos 1) in
       let last = insert_last held.entries new (below_next held.entries held.keyed) in
       let values : map value (held.entries ++ new ∷ []) ≡ map value held.entries ++ x ∷ [] = map_end value held.entries new in
       record {
         entries = held.entries ++ new ∷ [];
         keyed = subst (IsKeyedBy id) last (IsKeyedBy-insert_by id held.entries new held.keyed);
-        stored = is ∙ ap (λ n. put_row (Int n ∷ l.columns x) old) next ∙ ap (put_row (with_rowid l.columns new)) held.stored
-            ∙ puts-map id (with_rowid l.columns) (λ e. refl) (new ∷ []) held.entries ∙ ap (map (with_rowid l.columns)) last;
+        stored = stored_more x rows is;
         listed = subst (λ ys. IsPermutation ys (insert l.key x xs)) (sym values) (permuted_more l.key x _ xs held.listed);
         rises = rises;
         fit = subst (AllByRecursion l.Fits) (sym values) (all_end l.Fits x _ held.fit fits);

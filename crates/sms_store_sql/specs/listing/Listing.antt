@@ -1,6 +1,7 @@
 -- A list of rows as a table of a database. Each row of the list is one row of the table, under a rowid of its own.
-use Rattle.std.specs.Prelude.{◌≡◌, ℕ, zero, suc, ◌+◌, ◌==◌, ◌/◌, ℤ, pos, negsuc, true, false, List, [], ◌∷◌, map, length, slice_get, Some, None, IsPermutation}
-use Rattle.std.specs.List.{list_all, AllByRecursion}
+use Rattle.std.specs.Prelude.{◌≡◌, ℕ, zero, suc, ◌+◌, ◌==◌, ◌/◌, ◌&&◌, Bool, ℤ, pos, negsuc, true, false, List, [], ◌∷◌, map, length, slice_get, Some, None, IsPermutation}
+use Rattle.std.specs.List.{list_all, list_any, AllByRecursion}
+use Rattle.std.specs.Str.{bytes_eq}
 use Rattle.sqlite.specs.Collation.TheVariants.{Binary}
 use Rattle.sqlite.specs.declared.types.Value.TheVariants.{Null, Int}
 use Rattle.sqlite.specs.Order.{Row}
@@ -20,6 +21,8 @@ use Rattle.sqlite_sql.specs.declared.ops.CompareOp.TheVariants.{Eq}
 use Rattle.sqlite_sql.specs.Term.{eval_all}
 use Rattle.sqlite.specs.Effect.{value_rows}
 use Rattle.sqlite_schema.specs.declared.schema.Column.{Column}
+use Rattle.sqlite_schema.specs.declared.schema.Index.{Index}
+use Rattle.sqlite_schema.specs.Rules.{agree, guards}
 use Rattle.sqlite_rules.specs.Action.{works}
 use Rattle.sqlite_rules.specs.Cast.{cast_row}
 use Rattle.sqlite_value.specs.Keys.{plain}
@@ -144,6 +147,10 @@ pub record Represents {X : Type 0} (l : ListOf X) (rows : List Row) (xs : List X
 abbrev pub AreColumnsOf : {X : Type 0} → ListOf X → List Row → List Row → Type 0
 AreColumnsOf {X} l stored shown = (xs : List X) → Represents l stored xs → (ps : List X) × (shown ≡ map l.columns ps) × IsPermutation xs ps
 
+-- the index allows no two rows of the table that agree in these columns
+abbrev pub is_key_index : Table → List ℕ → Index → Bool
+is_key_index table key i = guards i table && ((i.order.digits == 0) && bytes_eq i.columns key)
+
 -- What makes the texts those of the list. Those before the ones on rows hold by computation.
 pub record IsList {X : Type 0} (l : ListOf X) : Type 0 where
   pub there : slice_get l.table.schema.tables l.table.place ≡ Some (table_of l.table)
@@ -175,6 +182,10 @@ pub record IsList {X : Type 0} (l : ListOf X) : Type 0 where
   pub meets : (x : X) (id : ℤ) (y : X) → l.Fits x → l.Fits y → list_all (holds (l.columns x ∷ (Int id ∷ l.columns y) ∷ [])) l.table.tests ≡ (l.key y == l.key x)
   -- which then has the columns of the one
   pub sets : (x : X) (id : ℤ) (y : X) → eval_all l.table.sets (l.columns x ∷ (Int id ∷ l.columns y) ∷ []) ≡ l.columns x
+  -- no two rows have the columns of one key, by an index of the table, and these are the columns that find a row
+  pub guarded : list_any (λ i. is_key_index (table_of l.table) l.table.key i) l.table.schema.indexes ≡ true
+  pub agrees : (x : X) (id new : ℤ) (y : X) → agree plain l.table.key (Int id ∷ l.columns y) l.table.key (Int new ∷ l.columns x)
+      ≡ list_all (holds (l.columns x ∷ (Int id ∷ l.columns y) ∷ [])) l.table.tests
   -- a row is read back from its columns
   pub reads_back : (x : X) → l.Fits x → l.reads (l.columns x) ≡ x
 

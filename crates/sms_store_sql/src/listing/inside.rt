@@ -73,6 +73,21 @@ pub fn put<K, T: Drop + StoredRow<K>, S: Alter>(
     Ok(())
 }
 
+/// Adds a row whose key is new, by one statement. Where a row of its key is there, it is refused.
+pub fn add<K, T: Drop + StoredRow<K>, S: Alter>(
+    alloc: Global,
+    tx: &mut Transaction<'_, S>,
+    row: &T,
+) -> Result<(), Error>
+    ensures same_reference { tx.new.conn.ghost_name ≡ tx.old.conn.ghost_name }
+    ensures done { MakesStep S.Store tx.old.conn.now tx.new.conn.now (Alters T.list (put_row T.list.key row.now)) result }
+    ensures uncommitted { Keeps S.Store tx.old.conn.now tx.new.conn.now }
+    ensures survives { Spares S.Store tx.old.conn.now tx.new.conn.now }
+{
+    row.write(alloc, tx, T::insert_text())?;
+    Ok(())
+}
+
 /// Makes the change.
 pub fn change<K, T: Drop + StoredRow<K>, S: Alter>(
     alloc: Global,
@@ -85,7 +100,13 @@ pub fn change<K, T: Drop + StoredRow<K>, S: Alter>(
     ensures survives { Spares S.Store tx.old.conn.now tx.new.conn.now }
 {
     match change {
-        Change::Put(row) => put::<K, T, S>(alloc, tx, row),
+        Change::Put(row) => {
+            if row.is_first() {
+                add::<K, T, S>(alloc, tx, row)
+            } else {
+                put::<K, T, S>(alloc, tx, row)
+            }
+        }
         Change::Remove(key) => remove::<K, T, S>(tx, *key),
     }
 }

@@ -42,6 +42,12 @@ pub trait StoredRow<K>: Row {
         ensures survives { Spares S.Store tx.old.conn.now tx.new.conn.now }
         ensures fits { IfOk result (λ _. list.Fits self.now) };
 
+    /// Whether a change puts such a row once, when no row has its key yet. Then it is added by one statement, and not looked
+    /// for before. What is put is put, or the change is refused, whatever the answer.
+    fn is_first(&self) -> bool {
+        false
+    }
+
     /// The text that reads all rows.
     fn select() -> &'static str
         ensures { result.now ≡ list.table.select };

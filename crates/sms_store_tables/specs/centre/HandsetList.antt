@@ -1,6 +1,6 @@
 -- The handsets that were given a reference, in the order of first mention.
-use Rattle.std.specs.Prelude.{◌≡◌, ℕ, ◌==◌, ℤ, false, [], ◌∷◌, codes, encode_utf8_all, refl}
-use Rattle.std.specs.List.{list_all}
+use Rattle.std.specs.Prelude.{◌≡◌, ℕ, ◌==◌, ℤ, false, [], ◌∷◌, codes, encode_utf8_all, refl, true}
+use Rattle.std.specs.List.{list_all, list_any}
 use Rattle.sqlite.specs.declared.types.Value.TheVariants.{Null, Int, Text}
 use Rattle.sqlite_value.specs.Order.{column}
 use Rattle.sqlite.specs.Term.{holds, col}
@@ -9,10 +9,12 @@ use Rattle.sqlite.specs.Command.TheVariants.{Insert, Update, Delete, Select}
 use Rattle.sqlite.specs.Listing.{understood, reads_listing}
 use Rattle.sqlite.proofs.Callers.{IsPlain, command_of}
 use Rattle.sqlite_rules.specs.Cast.{cast_row}
+use Rattle.sqlite_value.specs.Keys.{plain}
+use Rattle.sqlite_schema.specs.Rules.{agree}
 use Rattle.sqlite_tied.specs.Compute.{everything}
 use Rattle.sms_store_sql.specs.listing.Addresses.{AreFew}
 use Rattle.sms_store_sql.specs.listing.Columns.{IsOctet, IsWord, number, number_in, characters_in}
-use Rattle.sms_store_sql.specs.listing.Listing.{TableOf, ListOf, IsList, table_of, rowids_where, rows_where, given_from, whole_table, row_of, columns_of, equals}
+use Rattle.sms_store_sql.specs.listing.Listing.{TableOf, ListOf, IsList, table_of, rowids_where, rows_where, given_from, whole_table, row_of, columns_of, equals, is_key_index}
 use Rattle.sms_store_sql.proofs.listing.Columns.{one_found, cast_int, cast_row_same, characters_back}
 use Rattle.sms_store_tables.specs.centre.CentreSchema.{centre_schema, handset_columns}
 use Rattle.sms_store_tables.specs.centre.Types.{HandsetRow}
@@ -92,6 +94,15 @@ meets x id y fits suits = finds (handset_list.key x) id y suits
 reads_back : (x : HandsetRow) → handset_list.Fits x → handset_list.reads (handset_list.columns x) ≡ x
 reads_back x fits = let d = characters_back x.number fits.number.are in λ i. record { place = x.place; number = d i; last_reference = x.last_reference }
 
+guarded : list_any (λ i. is_key_index (table_of handset_table) handset_table.key i) centre_schema.indexes ≡ true
+unfolding everything
+guarded = refl
+
+agrees : (x : HandsetRow) (id new : ℤ) (y : HandsetRow) → agree plain handset_table.key (Int id ∷ handset_list.columns y) handset_table.key (Int new ∷ handset_list.columns x)
+    ≡ list_all (holds (handset_list.columns x ∷ (Int id ∷ handset_list.columns y) ∷ [])) handset_table.tests
+unfolding everything
+agrees x id new y = refl
+
 pub handset_is_list : IsList handset_list
 handset_is_list = record {
   there = refl;
@@ -111,6 +122,8 @@ handset_is_list = record {
   stays = stays;
   finds = finds;
   meets = meets;
+  guarded = guarded;
+  agrees = agrees;
   sets = λ x id y. refl;
   reads_back = reads_back;
 }

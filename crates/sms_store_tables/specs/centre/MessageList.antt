@@ -1,6 +1,6 @@
 -- The messages that were accepted. An application's message has an account, a handset's has its TP-MR.
-use Rattle.std.specs.Prelude.{◌≡◌, ℕ, ◌==◌, ℤ, false, IfSome, [], ◌∷◌, codes, encode_utf8_all, refl}
-use Rattle.std.specs.List.{list_all}
+use Rattle.std.specs.Prelude.{◌≡◌, ℕ, ◌==◌, ℤ, false, IfSome, [], ◌∷◌, codes, encode_utf8_all, refl, true}
+use Rattle.std.specs.List.{list_all, list_any}
 use Rattle.sqlite.specs.declared.types.Value.TheVariants.{Null, Int, Text}
 use Rattle.sqlite_value.specs.Order.{column}
 use Rattle.sqlite.specs.Term.{holds, col}
@@ -9,11 +9,13 @@ use Rattle.sqlite.specs.Command.TheVariants.{Insert, Update, Delete, Select}
 use Rattle.sqlite.specs.Listing.{understood, reads_listing}
 use Rattle.sqlite.proofs.Callers.{IsPlain, command_of}
 use Rattle.sqlite_rules.specs.Cast.{cast_row}
+use Rattle.sqlite_value.specs.Keys.{plain}
+use Rattle.sqlite_schema.specs.Rules.{agree}
 use Rattle.sqlite_tied.specs.Compute.{everything}
 use Rattle.sms_base.specs.MessageId.{IsMessageId}
 use Rattle.sms_base.specs.TimeStamp.{IsMoment}
 use Rattle.sms_store_sql.specs.listing.Columns.{IsOctet, IsShort, number, number_in, text_in, characters_in, if_given, or_none}
-use Rattle.sms_store_sql.specs.listing.Listing.{TableOf, ListOf, IsList, table_of, rowids_where, rows_where, given_from, whole_table, row_of, columns_of, equals}
+use Rattle.sms_store_sql.specs.listing.Listing.{TableOf, ListOf, IsList, table_of, rowids_where, rows_where, given_from, whole_table, row_of, columns_of, equals, is_key_index}
 use Rattle.sms_store_sql.proofs.listing.Columns.{one_found, cast_int, cast_row_same, cast_optional, characters_back, given_back}
 use Rattle.sms_store_tables.specs.centre.CentreSchema.{centre_schema, message_columns}
 use Rattle.sms_store_tables.specs.centre.Types.{MessageRow}
@@ -156,6 +158,15 @@ reads_back x fits =
       done = done i;
     }
 
+guarded : list_any (λ i. is_key_index (table_of message_table) message_table.key i) centre_schema.indexes ≡ true
+unfolding everything
+guarded = refl
+
+agrees : (x : MessageRow) (id new : ℤ) (y : MessageRow) → agree plain message_table.key (Int id ∷ message_list.columns y) message_table.key (Int new ∷ message_list.columns x)
+    ≡ list_all (holds (message_list.columns x ∷ (Int id ∷ message_list.columns y) ∷ [])) message_table.tests
+unfolding everything
+agrees x id new y = refl
+
 pub message_is_list : IsList message_list
 message_is_list = record {
   there = refl;
@@ -175,6 +186,8 @@ message_is_list = record {
   stays = stays;
   finds = finds;
   meets = meets;
+  guarded = guarded;
+  agrees = agrees;
   sets = λ x id y. refl;
   reads_back = reads_back;
 }

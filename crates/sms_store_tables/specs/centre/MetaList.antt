@@ -1,6 +1,6 @@
 -- What kind of store it is, and of which version.
-use Rattle.std.specs.Prelude.{◌≡◌, ℕ, ◌==◌, ℤ, false, [], ◌∷◌, codes, refl}
-use Rattle.std.specs.List.{list_all}
+use Rattle.std.specs.Prelude.{◌≡◌, ℕ, ◌==◌, ℤ, false, [], ◌∷◌, codes, refl, true}
+use Rattle.std.specs.List.{list_all, list_any}
 use Rattle.sqlite.specs.declared.types.Value.TheVariants.{Null, Int, Text}
 use Rattle.sqlite_value.specs.Order.{column}
 use Rattle.sqlite.specs.Term.{holds, col}
@@ -9,9 +9,11 @@ use Rattle.sqlite.specs.Command.TheVariants.{Insert, Update, Delete, Select}
 use Rattle.sqlite.specs.Listing.{understood, reads_listing}
 use Rattle.sqlite.proofs.Callers.{IsPlain, command_of}
 use Rattle.sqlite_rules.specs.Cast.{cast_row}
+use Rattle.sqlite_value.specs.Keys.{plain}
+use Rattle.sqlite_schema.specs.Rules.{agree}
 use Rattle.sqlite_tied.specs.Compute.{everything}
 use Rattle.sms_store_sql.specs.listing.Columns.{IsWord, number, number_in, text_in}
-use Rattle.sms_store_sql.specs.listing.Listing.{TableOf, ListOf, IsList, table_of, rowids_where, rows_where, given_from, whole_table, row_of, columns_of, equals}
+use Rattle.sms_store_sql.specs.listing.Listing.{TableOf, ListOf, IsList, table_of, rowids_where, rows_where, given_from, whole_table, row_of, columns_of, equals, is_key_index}
 use Rattle.sms_store_sql.proofs.listing.Columns.{one_found, cast_int, cast_row_same}
 use Rattle.sms_store_tables.specs.centre.CentreSchema.{centre_schema, meta_columns}
 use Rattle.sms_store_tables.specs.centre.Types.{Meta}
@@ -86,6 +88,15 @@ meets x id y fits suits = finds (meta_list.key x) id y suits
 reads_back : (x : Meta) → meta_list.Fits x → meta_list.reads (meta_list.columns x) ≡ x
 reads_back x fits = let k = kind_back x.kind in λ i. record { version = x.version; kind = k i }
 
+guarded : list_any (λ i. is_key_index (table_of meta_table) meta_table.key i) centre_schema.indexes ≡ true
+unfolding everything
+guarded = refl
+
+agrees : (x : Meta) (id new : ℤ) (y : Meta) → agree plain meta_table.key (Int id ∷ meta_list.columns y) meta_table.key (Int new ∷ meta_list.columns x)
+    ≡ list_all (holds (meta_list.columns x ∷ (Int id ∷ meta_list.columns y) ∷ [])) meta_table.tests
+unfolding everything
+agrees x id new y = refl
+
 pub meta_is_list : IsList meta_list
 meta_is_list = record {
   there = refl;
@@ -105,6 +116,8 @@ meta_is_list = record {
   stays = stays;
   finds = finds;
   meets = meets;
+  guarded = guarded;
+  agrees = agrees;
   sets = λ x id y. refl;
   reads_back = reads_back;
 }

@@ -1,7 +1,7 @@
 -- The parts of messages.
 use Rattle.std.specs.Prelude.{◌≡◌, ℕ, ◌++◌, ◌/◌, ◌%◌, ◌==◌, ◌&&◌, ℤ, true, false, List, [], ◌∷◌, codes, IfSome, refl}
 use Rattle.std.proofs.Common.{ap, ap₂, ◌∙◌}
-use Rattle.std.specs.List.{list_all}
+use Rattle.std.specs.List.{list_all, list_any}
 use Rattle.sqlite.specs.declared.types.Value.TheVariants.{Null, Int, Blob}
 use Rattle.sqlite_value.specs.Order.{column}
 use Rattle.sqlite.specs.Term.{Term, col, holds}
@@ -10,11 +10,13 @@ use Rattle.sqlite.specs.Command.TheVariants.{Insert, Update, Delete, Select}
 use Rattle.sqlite.specs.Listing.{understood, reads_listing}
 use Rattle.sqlite.proofs.Callers.{IsPlain, command_of}
 use Rattle.sqlite_rules.specs.Cast.{cast_row}
+use Rattle.sqlite_value.specs.Keys.{plain}
+use Rattle.sqlite_schema.specs.Rules.{agree}
 use Rattle.sqlite_tied.specs.Compute.{everything}
 use Rattle.sms_base.specs.MessageId.{IsMessageId}
 use Rattle.sms_store_sql.specs.listing.Columns.{IsOctet, number, number_in, octets_in, flag, or_none}
 use Rattle.sms_store_sql.specs.listing.Finding.{FindsOne}
-use Rattle.sms_store_sql.specs.listing.Listing.{rows_where, TableOf, ListOf, IsList, table_of, rowids_where, whole_table, row_of, given_from, columns_of, equals}
+use Rattle.sms_store_sql.specs.listing.Listing.{rows_where, TableOf, ListOf, IsList, table_of, rowids_where, whole_table, row_of, given_from, columns_of, equals, is_key_index}
 use Rattle.sms_store_sql.proofs.listing.Columns.{same_number, pair_found, pairs_agree, and_true, cast_int, cast_row_same, cast_flag, cast_optional}
 use Rattle.sms_store_tables.specs.centre.CentreSchema.{centre_schema, part_columns}
 use Rattle.sms_store_tables.specs.centre.Types.{PartRow, ConcatKey, Progress}
@@ -138,6 +140,15 @@ reads_back x fits =
     let p = progress_back x.progress in
     λ i. record { id = x.id; number = x.number; reference = x.reference; tpdu = x.tpdu; key = k i; progress = p i }
 
+guarded : list_any (λ i. is_key_index (table_of part_table) part_table.key i) centre_schema.indexes ≡ true
+unfolding everything
+guarded = refl
+
+agrees : (x : PartRow) (id new : ℤ) (y : PartRow) → agree plain part_table.key (Int id ∷ part_list.columns y) part_table.key (Int new ∷ part_list.columns x)
+    ≡ list_all (holds (part_list.columns x ∷ (Int id ∷ part_list.columns y) ∷ [])) part_table.tests
+unfolding everything
+agrees x id new y = refl
+
 pub part_is_list : IsList part_list
 part_is_list = record {
   there = refl;
@@ -157,6 +168,8 @@ part_is_list = record {
   stays = stays;
   finds = finds;
   meets = meets;
+  guarded = guarded;
+  agrees = agrees;
   sets = λ x id y. refl;
   reads_back = reads_back;
 }

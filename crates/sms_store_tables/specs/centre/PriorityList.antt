@@ -1,6 +1,6 @@
 -- The priorities of messages.
-use Rattle.std.specs.Prelude.{◌≡◌, ℕ, ◌==◌, ℤ, false, [], ◌∷◌, codes, refl}
-use Rattle.std.specs.List.{list_all}
+use Rattle.std.specs.Prelude.{◌≡◌, ℕ, ◌==◌, ℤ, false, [], ◌∷◌, codes, refl, true}
+use Rattle.std.specs.List.{list_all, list_any}
 use Rattle.sqlite.specs.declared.types.Value.TheVariants.{Null, Int}
 use Rattle.sqlite_value.specs.Order.{column}
 use Rattle.sqlite.specs.Term.{holds, col}
@@ -9,10 +9,12 @@ use Rattle.sqlite.specs.Command.TheVariants.{Insert, Update, Delete, Select}
 use Rattle.sqlite.specs.Listing.{understood, reads_listing}
 use Rattle.sqlite.proofs.Callers.{IsPlain, command_of}
 use Rattle.sqlite_rules.specs.Cast.{cast_row}
+use Rattle.sqlite_value.specs.Keys.{plain}
+use Rattle.sqlite_schema.specs.Rules.{agree}
 use Rattle.sqlite_tied.specs.Compute.{everything}
 use Rattle.sms_base.specs.MessageId.{IsMessageId}
 use Rattle.sms_store_sql.specs.listing.Columns.{IsOctet, number, number_in}
-use Rattle.sms_store_sql.specs.listing.Listing.{TableOf, ListOf, IsList, table_of, rowids_where, rows_where, given_from, whole_table, row_of, columns_of, equals}
+use Rattle.sms_store_sql.specs.listing.Listing.{TableOf, ListOf, IsList, table_of, rowids_where, rows_where, given_from, whole_table, row_of, columns_of, equals, is_key_index}
 use Rattle.sms_store_sql.proofs.listing.Columns.{one_found, cast_int, cast_row_same}
 use Rattle.sms_store_tables.specs.centre.CentreSchema.{centre_schema, priority_columns}
 use Rattle.sms_store_tables.specs.centre.Types.{PriorityRow}
@@ -92,6 +94,15 @@ meets x id y fits suits = finds (priority_list.key x) id y suits
 reads_back : (x : PriorityRow) → priority_list.Fits x → priority_list.reads (priority_list.columns x) ≡ x
 reads_back x fits = refl
 
+guarded : list_any (λ i. is_key_index (table_of priority_table) priority_table.key i) centre_schema.indexes ≡ true
+unfolding everything
+guarded = refl
+
+agrees : (x : PriorityRow) (id new : ℤ) (y : PriorityRow) → agree plain priority_table.key (Int id ∷ priority_list.columns y) priority_table.key (Int new ∷ priority_list.columns x)
+    ≡ list_all (holds (priority_list.columns x ∷ (Int id ∷ priority_list.columns y) ∷ [])) priority_table.tests
+unfolding everything
+agrees x id new y = refl
+
 pub priority_is_list : IsList priority_list
 priority_is_list = record {
   there = refl;
@@ -111,6 +122,8 @@ priority_is_list = record {
   stays = stays;
   finds = finds;
   meets = meets;
+  guarded = guarded;
+  agrees = agrees;
   sets = λ x id y. refl;
   reads_back = reads_back;
 }

@@ -1,7 +1,7 @@
 -- The references that were given.
 use Rattle.std.specs.Prelude.{◌≡◌, ℕ, ◌/◌, ◌%◌, ◌==◌, ◌&&◌, ℤ, true, false, [], ◌∷◌, codes, refl}
 use Rattle.std.proofs.Common.{ap, ap₂, ◌∙◌}
-use Rattle.std.specs.List.{list_all}
+use Rattle.std.specs.List.{list_all, list_any}
 use Rattle.sqlite.specs.declared.types.Value.TheVariants.{Null, Int}
 use Rattle.sqlite_value.specs.Order.{column}
 use Rattle.sqlite.specs.Term.{holds, col}
@@ -10,10 +10,12 @@ use Rattle.sqlite.specs.Command.TheVariants.{Insert, Update, Delete, Select}
 use Rattle.sqlite.specs.Listing.{understood, reads_listing}
 use Rattle.sqlite.proofs.Callers.{IsPlain, command_of}
 use Rattle.sqlite_rules.specs.Cast.{cast_row}
+use Rattle.sqlite_value.specs.Keys.{plain}
+use Rattle.sqlite_schema.specs.Rules.{agree}
 use Rattle.sqlite_tied.specs.Compute.{everything}
 use Rattle.sms_base.specs.TimeStamp.{IsMoment}
 use Rattle.sms_store_sql.specs.listing.Columns.{IsOctet, IsWord, number, number_in}
-use Rattle.sms_store_sql.specs.listing.Listing.{TableOf, ListOf, IsList, table_of, rowids_where, rows_where, given_from, whole_table, row_of, columns_of, equals}
+use Rattle.sms_store_sql.specs.listing.Listing.{TableOf, ListOf, IsList, table_of, rowids_where, rows_where, given_from, whole_table, row_of, columns_of, equals, is_key_index}
 use Rattle.sms_store_sql.proofs.listing.Columns.{same_number, pair_found, pairs_agree, and_true, cast_int, cast_row_same}
 use Rattle.sms_store_tables.specs.centre.CentreSchema.{centre_schema, reference_columns}
 use Rattle.sms_store_tables.specs.centre.Types.{ReferenceRow}
@@ -100,6 +102,15 @@ meets x id y fits suits =
 reads_back : (x : ReferenceRow) → reference_list.Fits x → reference_list.reads (reference_list.columns x) ≡ x
 reads_back x fits = refl
 
+guarded : list_any (λ i. is_key_index (table_of reference_table) reference_table.key i) centre_schema.indexes ≡ true
+unfolding everything
+guarded = refl
+
+agrees : (x : ReferenceRow) (id new : ℤ) (y : ReferenceRow) → agree plain reference_table.key (Int id ∷ reference_list.columns y) reference_table.key (Int new ∷ reference_list.columns x)
+    ≡ list_all (holds (reference_list.columns x ∷ (Int id ∷ reference_list.columns y) ∷ [])) reference_table.tests
+unfolding everything
+agrees x id new y = refl
+
 pub reference_is_list : IsList reference_list
 reference_is_list = record {
   there = refl;
@@ -119,6 +130,8 @@ reference_is_list = record {
   stays = stays;
   finds = finds;
   meets = meets;
+  guarded = guarded;
+  agrees = agrees;
   sets = λ x id y. refl;
   reads_back = reads_back;
 }

@@ -1,6 +1,6 @@
 -- Receipts and status reports, in the order in which they were made.
-use Rattle.std.specs.Prelude.{◌≡◌, ℕ, ◌++◌, ◌==◌, ℤ, false, List, [], ◌∷◌, codes, refl}
-use Rattle.std.specs.List.{list_all}
+use Rattle.std.specs.Prelude.{◌≡◌, ℕ, ◌++◌, ◌==◌, ℤ, false, List, [], ◌∷◌, codes, refl, true}
+use Rattle.std.specs.List.{list_all, list_any}
 use Rattle.sqlite.specs.declared.types.Value.TheVariants.{Null, Int, Text}
 use Rattle.sqlite_value.specs.Order.{column}
 use Rattle.sqlite.specs.Term.{Term, col, holds}
@@ -9,13 +9,15 @@ use Rattle.sqlite.specs.Command.TheVariants.{Insert, Update, Delete, Select}
 use Rattle.sqlite.specs.Listing.{understood, reads_listing}
 use Rattle.sqlite.proofs.Callers.{IsPlain, command_of}
 use Rattle.sqlite_rules.specs.Cast.{cast_row}
+use Rattle.sqlite_value.specs.Keys.{plain}
+use Rattle.sqlite_schema.specs.Rules.{agree}
 use Rattle.sqlite_tied.specs.Compute.{everything}
 use Rattle.sms_base.specs.MessageId.{IsMessageId}
 use Rattle.sms_base.specs.TimeStamp.{IsMoment}
 use Rattle.sms_store_sql.specs.listing.Columns.{number, number_in, text_in, flag}
 use Rattle.sms_store_sql.specs.listing.Finding.{FindsOne}
 use Rattle.sms_store_sql.specs.listing.Seeking.{SeeksBy}
-use Rattle.sms_store_sql.specs.listing.Listing.{rows_where, TableOf, ListOf, IsList, table_of, rowids_where, whole_table, row_of, given_from, columns_of, equals}
+use Rattle.sms_store_sql.specs.listing.Listing.{rows_where, TableOf, ListOf, IsList, table_of, rowids_where, whole_table, row_of, given_from, columns_of, equals, is_key_index}
 use Rattle.sms_store_sql.proofs.listing.Columns.{one_found, cast_int, cast_row_same, cast_flag}
 use Rattle.sms_store_tables.specs.centre.CentreSchema.{centre_schema, report_columns}
 use Rattle.sms_store_tables.specs.centre.Types.{ReportRow, Progress}
@@ -113,6 +115,15 @@ reads_back x fits =
     let p = progress_back x.progress in
     λ i. record { place = x.place; id = x.id; kind = k i; made = x.made; progress = p i }
 
+guarded : list_any (λ i. is_key_index (table_of report_table) report_table.key i) centre_schema.indexes ≡ true
+unfolding everything
+guarded = refl
+
+agrees : (x : ReportRow) (id new : ℤ) (y : ReportRow) → agree plain report_table.key (Int id ∷ report_list.columns y) report_table.key (Int new ∷ report_list.columns x)
+    ≡ list_all (holds (report_list.columns x ∷ (Int id ∷ report_list.columns y) ∷ [])) report_table.tests
+unfolding everything
+agrees x id new y = refl
+
 pub report_is_list : IsList report_list
 report_is_list = record {
   there = refl;
@@ -132,6 +143,8 @@ report_is_list = record {
   stays = stays;
   finds = finds;
   meets = meets;
+  guarded = guarded;
+  agrees = agrees;
   sets = λ x id y. refl;
   reads_back = reads_back;
 }

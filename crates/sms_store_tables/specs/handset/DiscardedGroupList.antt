@@ -1,6 +1,6 @@
 -- The groups that the owner discarded.
-use Rattle.std.specs.Prelude.{◌≡◌, ℕ, ◌==◌, ℤ, false, [], ◌∷◌, codes, encode_utf8_all, refl}
-use Rattle.std.specs.List.{list_all}
+use Rattle.std.specs.Prelude.{◌≡◌, ℕ, ◌==◌, ℤ, false, [], ◌∷◌, codes, encode_utf8_all, refl, true}
+use Rattle.std.specs.List.{list_all, list_any}
 use Rattle.sqlite.specs.declared.types.Value.TheVariants.{Null, Int, Text, Blob}
 use Rattle.sqlite_value.specs.Order.{column}
 use Rattle.sqlite.specs.Term.{holds, col}
@@ -9,9 +9,11 @@ use Rattle.sqlite.specs.Command.TheVariants.{Insert, Update, Delete, Select}
 use Rattle.sqlite.specs.Listing.{understood, reads_listing}
 use Rattle.sqlite.proofs.Callers.{IsPlain, command_of}
 use Rattle.sqlite_rules.specs.Cast.{cast_row}
+use Rattle.sqlite_value.specs.Keys.{plain}
+use Rattle.sqlite_schema.specs.Rules.{agree}
 use Rattle.sqlite_tied.specs.Compute.{everything}
 use Rattle.sms_store_sql.specs.listing.Columns.{IsWord, number, number_in, octets_in}
-use Rattle.sms_store_sql.specs.listing.Listing.{TableOf, ListOf, IsList, table_of, rowids_where, rows_where, given_from, whole_table, row_of, columns_of, equals}
+use Rattle.sms_store_sql.specs.listing.Listing.{TableOf, ListOf, IsList, table_of, rowids_where, rows_where, given_from, whole_table, row_of, columns_of, equals, is_key_index}
 use Rattle.sms_store_sql.proofs.listing.Columns.{one_found, cast_int, cast_row_same}
 use Rattle.sms_store_tables.specs.handset.HandsetSchema.{handset_schema, mark_columns}
 use Rattle.sms_store_tables.specs.handset.Types.{DiscardedGroup}
@@ -99,6 +101,15 @@ meets x id y fits suits = finds (mark_list.key x) id y suits
 reads_back : (x : DiscardedGroup) → mark_list.Fits x → mark_list.reads (mark_list.columns x) ≡ x
 reads_back x fits = let g = group_back x.group fits.group.source.digits.are in λ i. record { number = x.number; group = g i; seen = x.seen }
 
+guarded : list_any (λ i. is_key_index (table_of mark_table) mark_table.key i) handset_schema.indexes ≡ true
+unfolding everything
+guarded = refl
+
+agrees : (x : DiscardedGroup) (id new : ℤ) (y : DiscardedGroup) → agree plain mark_table.key (Int id ∷ mark_list.columns y) mark_table.key (Int new ∷ mark_list.columns x)
+    ≡ list_all (holds (mark_list.columns x ∷ (Int id ∷ mark_list.columns y) ∷ [])) mark_table.tests
+unfolding everything
+agrees x id new y = refl
+
 pub mark_is_list : IsList mark_list
 mark_is_list = record {
   there = refl;
@@ -118,6 +129,8 @@ mark_is_list = record {
   stays = stays;
   finds = finds;
   meets = meets;
+  guarded = guarded;
+  agrees = agrees;
   sets = λ x id y. refl;
   reads_back = reads_back;
 }

@@ -1,8 +1,8 @@
 -- The inbox. What a row does not have is NULL. That is of a single entry all but its octets, of a part how its content is coded, of a
 -- joined one its group.
-use Rattle.std.specs.Prelude.{◌≡◌, ℕ, ◌==◌, ℤ, false, ⊤, List, [], ◌∷◌, codes, encode_utf8_all, refl}
+use Rattle.std.specs.Prelude.{◌≡◌, ℕ, ◌==◌, ℤ, false, ⊤, List, [], ◌∷◌, codes, encode_utf8_all, refl, true}
 use Rattle.std.proofs.Common.{ap}
-use Rattle.std.specs.List.{list_all}
+use Rattle.std.specs.List.{list_all, list_any}
 use Rattle.sqlite.specs.declared.types.Value.TheVariants.{Null, Int, Text, Blob}
 use Rattle.sqlite.specs.Order.{Row}
 use Rattle.sqlite_value.specs.Order.{column}
@@ -14,13 +14,15 @@ use Rattle.sqlite.proofs.Callers.{IsPlain, command_of}
 use Rattle.sqlite_rules.specs.Cast.{cast_row}
 use Rattle.sqlite.specs.Effect.{value_rows}
 use Rattle.sqlite_sql.specs.Term.{eval_all}
+use Rattle.sqlite_value.specs.Keys.{plain}
+use Rattle.sqlite_schema.specs.Rules.{agree}
 use Rattle.sqlite_tied.specs.Compute.{everything}
 use Rattle.sms_store_sql.specs.listing.Columns.{IsOctet, IsWord, number, number_in, octets_in, text_in}
-use Rattle.sms_store_sql.specs.listing.Listing.{TableOf, ListOf, IsList, table_of, rowids_where, rows_where, given_from, whole_table, row_of, columns_of, equals}
+use Rattle.sms_store_sql.specs.listing.Listing.{TableOf, ListOf, IsList, table_of, rowids_where, rows_where, given_from, whole_table, row_of, columns_of, equals, is_key_index}
 use Rattle.sms_store_sql.proofs.listing.Columns.{one_found, cast_null, cast_int, cast_row_same}
 use Rattle.sms_store_tables.specs.handset.HandsetSchema.{handset_schema, entry_columns}
 use Rattle.sms_store_tables.specs.handset.Types.{Entry, Group, Message, Content}
-use Rattle.std.specs.Prelude.{if◌then◌else◌, drop}
+use Rattle.std.specs.Prelude.{if◌then◌else◌, drop, true, refl}
 use Rattle.sms_base.specs.AddressKind.{type_number}
 use Rattle.sms_store_sql.specs.listing.Columns.{is_word}
 use Rattle.sms_store_sql.specs.listing.Addresses.{IsStoredAddress, address_in}
@@ -180,6 +182,15 @@ sets number slots (Single tpdu) id found = refl
 sets number slots (Part g n tpdu) id found = refl
 sets number slots (Joined source content) id found = refl
 
+guarded : list_any (λ i. is_key_index (table_of entry_table) entry_table.key i) handset_schema.indexes ≡ true
+unfolding everything
+guarded = refl
+
+agrees : (x : Entry) (id new : ℤ) (y : Entry) → agree plain entry_table.key (Int id ∷ entry_list.columns y) entry_table.key (Int new ∷ entry_list.columns x)
+    ≡ list_all (holds (entry_list.columns x ∷ (Int id ∷ entry_list.columns y) ∷ [])) entry_table.tests
+unfolding everything
+agrees x id new y = refl
+
 pub entry_is_list : IsList entry_list
 entry_is_list = record {
   there = refl;
@@ -199,6 +210,8 @@ entry_is_list = record {
   stays = stays;
   finds = finds;
   meets = meets;
+  guarded = guarded;
+  agrees = agrees;
   sets = λ x id y. sets x.number x.slots x.message id (row_columns y);
   reads_back = reads_back;
 }

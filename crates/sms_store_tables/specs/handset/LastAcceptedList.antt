@@ -1,6 +1,6 @@
 -- What was accepted last under each reference.
-use Rattle.std.specs.Prelude.{◌≡◌, ℕ, ◌==◌, ℤ, false, [], ◌∷◌, codes, refl}
-use Rattle.std.specs.List.{list_all}
+use Rattle.std.specs.Prelude.{◌≡◌, ℕ, ◌==◌, ℤ, false, [], ◌∷◌, codes, refl, true}
+use Rattle.std.specs.List.{list_all, list_any}
 use Rattle.sqlite.specs.declared.types.Value.TheVariants.{Null, Int, Blob}
 use Rattle.sqlite_value.specs.Order.{column}
 use Rattle.sqlite.specs.Term.{holds, col}
@@ -9,9 +9,11 @@ use Rattle.sqlite.specs.Command.TheVariants.{Insert, Update, Delete, Select}
 use Rattle.sqlite.specs.Listing.{understood, reads_listing}
 use Rattle.sqlite.proofs.Callers.{IsPlain, command_of}
 use Rattle.sqlite_rules.specs.Cast.{cast_row}
+use Rattle.sqlite_value.specs.Keys.{plain}
+use Rattle.sqlite_schema.specs.Rules.{agree}
 use Rattle.sqlite_tied.specs.Compute.{everything}
 use Rattle.sms_store_sql.specs.listing.Columns.{IsOctet, number, number_in, octets_in}
-use Rattle.sms_store_sql.specs.listing.Listing.{TableOf, ListOf, IsList, table_of, rowids_where, rows_where, given_from, whole_table, row_of, columns_of, equals}
+use Rattle.sms_store_sql.specs.listing.Listing.{TableOf, ListOf, IsList, table_of, rowids_where, rows_where, given_from, whole_table, row_of, columns_of, equals, is_key_index}
 use Rattle.sms_store_sql.proofs.listing.Columns.{one_found, cast_int, cast_row_same}
 use Rattle.sms_store_tables.specs.handset.HandsetSchema.{handset_schema, last_columns}
 use Rattle.sms_store_tables.specs.handset.Types.{LastAccepted}
@@ -85,6 +87,15 @@ meets x id y fits suits = finds (last_list.key x) id y suits
 reads_back : (x : LastAccepted) → last_list.Fits x → last_list.reads (last_list.columns x) ≡ x
 reads_back x fits = refl
 
+guarded : list_any (λ i. is_key_index (table_of last_table) last_table.key i) handset_schema.indexes ≡ true
+unfolding everything
+guarded = refl
+
+agrees : (x : LastAccepted) (id new : ℤ) (y : LastAccepted) → agree plain last_table.key (Int id ∷ last_list.columns y) last_table.key (Int new ∷ last_list.columns x)
+    ≡ list_all (holds (last_list.columns x ∷ (Int id ∷ last_list.columns y) ∷ [])) last_table.tests
+unfolding everything
+agrees x id new y = refl
+
 pub last_is_list : IsList last_list
 last_is_list = record {
   there = refl;
@@ -104,6 +115,8 @@ last_is_list = record {
   stays = stays;
   finds = finds;
   meets = meets;
+  guarded = guarded;
+  agrees = agrees;
   sets = λ x id y. refl;
   reads_back = reads_back;
 }

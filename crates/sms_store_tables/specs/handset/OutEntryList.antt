@@ -1,6 +1,6 @@
 -- The outbox.
-use Rattle.std.specs.Prelude.{◌≡◌, ℕ, ◌<◌, ◌≤◌, ◌==◌, ℤ, false, IfSome, length, [], ◌∷◌, codes, encode_utf8_all, refl}
-use Rattle.std.specs.List.{list_all}
+use Rattle.std.specs.Prelude.{◌≡◌, ℕ, ◌<◌, ◌≤◌, ◌==◌, ℤ, false, IfSome, length, [], ◌∷◌, codes, encode_utf8_all, refl, true}
+use Rattle.std.specs.List.{list_all, list_any}
 use Rattle.sqlite.specs.declared.types.Value.TheVariants.{Null, Int, Text, Blob}
 use Rattle.sqlite_value.specs.Order.{column}
 use Rattle.sqlite.specs.Term.{holds, col}
@@ -9,10 +9,12 @@ use Rattle.sqlite.specs.Command.TheVariants.{Insert, Update, Delete, Select}
 use Rattle.sqlite.specs.Listing.{understood, reads_listing}
 use Rattle.sqlite.proofs.Callers.{IsPlain, command_of}
 use Rattle.sqlite_rules.specs.Cast.{cast_row}
+use Rattle.sqlite_value.specs.Keys.{plain}
+use Rattle.sqlite_schema.specs.Rules.{agree}
 use Rattle.sqlite_tied.specs.Compute.{everything}
 use Rattle.sms_base.specs.TimeStamp.{IsMoment}
 use Rattle.sms_store_sql.specs.listing.Columns.{IsOctet, IsWord, number, number_in, octets_in, text_in, if_given, flag, flag_in, or_none}
-use Rattle.sms_store_sql.specs.listing.Listing.{TableOf, ListOf, IsList, table_of, rowids_where, rows_where, given_from, whole_table, row_of, columns_of, equals}
+use Rattle.sms_store_sql.specs.listing.Listing.{TableOf, ListOf, IsList, table_of, rowids_where, rows_where, given_from, whole_table, row_of, columns_of, equals, is_key_index}
 use Rattle.sms_store_sql.proofs.listing.Columns.{one_found, cast_int, cast_row_same, cast_flag, cast_optional, flag_back, given_back}
 use Rattle.sms_store_tables.specs.handset.HandsetSchema.{handset_schema, out_columns}
 use Rattle.sms_store_tables.specs.handset.Types.{OutEntry}
@@ -148,6 +150,15 @@ reads_back x fits =
       status = status i;
     }
 
+guarded : list_any (λ i. is_key_index (table_of out_table) out_table.key i) handset_schema.indexes ≡ true
+unfolding everything
+guarded = refl
+
+agrees : (x : OutEntry) (id new : ℤ) (y : OutEntry) → agree plain out_table.key (Int id ∷ out_list.columns y) out_table.key (Int new ∷ out_list.columns x)
+    ≡ list_all (holds (out_list.columns x ∷ (Int id ∷ out_list.columns y) ∷ [])) out_table.tests
+unfolding everything
+agrees x id new y = refl
+
 pub out_is_list : IsList out_list
 out_is_list = record {
   there = refl;
@@ -167,6 +178,8 @@ out_is_list = record {
   stays = stays;
   finds = finds;
   meets = meets;
+  guarded = guarded;
+  agrees = agrees;
   sets = λ x id y. refl;
   reads_back = reads_back;
 }

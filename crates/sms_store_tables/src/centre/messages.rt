@@ -67,6 +67,11 @@ impl StoredRow<CentreStore> for MessageRow {
         )
     }
 
+    // A message is put once while it is pending, and again as it ends.
+    fn is_first(&self) -> bool {
+        self.state.is_none()
+    }
+
     fn select() -> &'static str {
         "SELECT id, account, message_reference, source_ton, source_npi, source, handset, data_coding_scheme, protocol_identifier, wish, submitted, expires, split_reference, state, done FROM message"
     }

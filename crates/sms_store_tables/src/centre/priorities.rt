@@ -41,6 +41,11 @@ impl StoredRow<CentreStore> for PriorityRow {
         run_counted(tx, text, params![&id, u32::from(self.priority)])
     }
 
+    // It is put with its message.
+    fn is_first(&self) -> bool {
+        true
+    }
+
     fn select() -> &'static str {
         "SELECT message, priority FROM priority"
     }
