@@ -1,1 +1,1 @@
-mod Together
+pub mod Together

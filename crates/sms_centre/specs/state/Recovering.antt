@@ -2,6 +2,7 @@
 use Rattle.std.specs.Prelude.{◌≡◌, ℕ, List, [], Bool, Option, Some, None, codes}
 use Rattle.sms_base.specs.Among.{Among}
 use Rattle.sms_centre_rows.specs.reports.Receipts.{Session}
+use Rattle.sms_centre_recovery.specs.soundness.RowsOf.{IsSoundAlone}
 use Rattle.sms_centre_recovery.specs.starting.Starting.{lines_of}
 use Rattle.sms_centre_spec.specs.declared.rows.Rows.{Rows}
 use Rattle.sms_centre_spec.specs.CentreEvent.{moment_of}
@@ -18,10 +19,10 @@ begun are_up rows handsets sessions = record { rows = rows; moment = moment_of r
 abbrev pub AreNew : List Session → Type 0
 AreNew sessions = (s : Session) → Among s sessions → s.unanswered ≡ []
 
--- No centre can recover from the rows. Where memory was refused, they may not have been judged to the end.
+-- No centre can recover from the rows. Where memory was refused, all of them was judged that is judged without memory.
 abbrev pub RefusesRows : RecoverError → Rows → Type 0
 RefusesRows BadRows rows = ¬ IsSound rows
-RefusesRows NoMemory rows = Unit {0}
+RefusesRows NoMemory rows = IsSoundAlone rows
 
 abbrev pub recover_code : RecoverError → Option (List ℕ)
 recover_code BadRows = Some (codes "E1")

@@ -22,8 +22,8 @@ use std::alloc::{AllocError, Global};
 
 impl CentreState {
     /// The centre that starts again with these rows, if it can: `BadRows` only where they are not sound, and no centre
-    /// of such rows. Want of memory may be reported before all of them is judged. Links to these handsets are up at its
-    /// first tick. These sessions are bound, in which nothing was sent yet.
+    /// of such rows. Want of memory is reported only once all is judged that is judged without memory. Links to these
+    /// handsets are up at its first tick. These sessions are bound, in which nothing was sent yet.
     pub fn recover(
         alloc: Global,
         rows: Rows,

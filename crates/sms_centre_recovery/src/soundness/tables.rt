@@ -1,5 +1,5 @@
 //! The rows of a centre as tables, and whether they are sound.
-ghost use Rattle.std.specs.Prelude.{◌≡◌, ◌↔◌, true, IfNone, IfOk, IfSome};
+ghost use Rattle.std.specs.Prelude.{◌≡◌, ◌↔◌, true, IfNone, IfOk, OnErr, IfSome};
 ghost use Rattle.sms_centre_spec.specs.SoundRows.{IsSetup, IsSound};
 ghost use Rattle.sms_centre_recovery.specs.soundness.RowsOf.{KeysRise, IsSoundAlone, rows_of};
 
@@ -108,9 +108,10 @@ impl RowTables {
     }
 
     /// Whether the rows are sound. It takes time linear in them, up to a logarithm. What can be judged without memory
-    /// is judged first.
+    /// is judged first: want of memory is reported only of rows that are sound so far.
     pub fn is_sound(&self, alloc: Global) -> Result<bool, AllocError>
-        ensures { IfOk result (λ b. (b ≡ true) ↔ IsSound (rows_of self.now)) }
+        ensures sound { IfOk result (λ b. (b ≡ true) ↔ IsSound (rows_of self.now)) }
+        ensures alone { OnErr result (IsSoundAlone (rows_of self.now)) }
     {
         if !self.is_sound_alone() {
             return Ok(false);

@@ -94,7 +94,7 @@ module _ (goes : ℕ → Bool) where
 
   unit_alike : (h : List ℕ) (tag : Holder) (unit : List ℕ) (u : Result Rp RelayFault) (d : Draft) → Stays goes d.store → Nexts goes d.store
       → Alike goes (unit_received h tag unit u (draft_without goes d)) (unit_received h tag unit u d)
-  unit_alike h tag unit (Ok (DataUnit r centre tpdu)) d k n = submitted_alike h r tag (from_read h d.store.moment (tpdu_up_at InData tpdu)) d k n
+  unit_alike h tag unit (Ok (DataUnit r centre tpdu)) d k n = submitted_alike h r tag (from_read d.store.setup.accounts h d.store.moment (tpdu_up_at InData tpdu)) d k n
   unit_alike h tag unit (Ok (AckUnit r tpdu)) d k n = (refl, k)
   unit_alike h tag unit (Ok (ErrorUnit r cause tpdu)) d k n = (refl, k)
   unit_alike h tag unit (Ok (Smma r)) d k n = memory_alike h (reply h Ack r tag (ack_down r None) d) k
