@@ -300,30 +300,27 @@ fn not_left(fault: RunFault) -> RunFault {
     }
 }
 
-// The connection that the run had writes what its log holds into FILE. Then the log is cut to its head, and FILE's mark says that no run
+// The connection that the run had writes what its log holds into FILE, and cuts the log to its head. Then FILE's mark says that no run
 // has it open.
 fn left_whole(
     rt: &HostRuntime,
     path: &str,
     keep: CentreKeep<FileStore<File>>,
-    seed: u64,
 ) -> Result<(), RunFault> {
-    let files = close_keep(rt, path, keep)?;
-    let mut files = write_back(rt.alloc(), files, seed).map_err(run_fault)?;
+    let mut files = close_keep(rt, path, keep)?;
     let ended = closed(&mut files);
     drop(files);
     ended.map_err(run_fault)
 }
 
-// Leaves the store by the keep that the run had: nobody else had the files open meanwhile.
+// Leaves the store by the keep that the run had: nobody else has had the files open meanwhile.
 fn leave_whole(
     rt: &HostRuntime,
     found: &FoundStore,
     keep: CentreKeep<FileStore<File>>,
-    seed: u64,
 ) -> Result<(), RunFault> {
     match look_again(rt, found) {
-        Ok(()) => left_whole(rt, found.paths.file.as_str(), keep, seed).map_err(not_left),
+        Ok(()) => left_whole(rt, found.paths.file.as_str(), keep).map_err(not_left),
         Err(fault) => {
             drop(keep);
             Err(fault)
@@ -360,10 +357,7 @@ pub fn leave_after(
     ended: Result<CentreKeep<FileStore<File>>, RunFault>,
 ) -> Result<(), RunFault> {
     match ended {
-        Ok(keep) => {
-            let seed = seed_of(rt)?;
-            leave_whole(rt, found, keep, seed)
-        }
+        Ok(keep) => leave_whole(rt, found, keep),
         Err(fault) => {
             if !is_of_store(&fault) {
                 let _ = leave(rt, found);
