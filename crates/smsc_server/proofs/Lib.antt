@@ -1,7 +1,9 @@
 pub mod AnswersAmongReplies
+pub mod BoundSessions
 pub mod HeardEnds
 pub mod LinkWritten
 pub mod PartsWritten
+pub mod ReceiptsGo
 pub mod RequestsArrive
 pub mod RunEvents
 pub mod RunKept

@@ -5,3 +5,5 @@ pub mod Refusals
 pub mod WhatIsRead
 pub mod WhatALinkReads
 pub mod RunPromises
+pub mod Exchanges
+pub mod ReceiptsGiven
