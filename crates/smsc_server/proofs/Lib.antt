@@ -1,5 +1,6 @@
 pub mod AnswersAmongReplies
 pub mod BoundSessions
+pub mod CentresAnswers
 pub mod HeardEnds
 pub mod LinkWritten
 pub mod PartsWritten

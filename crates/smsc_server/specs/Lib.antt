@@ -7,3 +7,4 @@ pub mod WhatALinkReads
 pub mod RunPromises
 pub mod Exchanges
 pub mod ReceiptsGiven
+pub mod CentresAnswers

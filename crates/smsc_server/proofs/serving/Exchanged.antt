@@ -27,7 +27,7 @@ map_join : {A B : Type 0} (f : A → B) (a b : List A) → map f (a ++ b) ≡ ma
 map_join f [] b = refl
 map_join f (x ∷ a) b = ap (λ (l : List _). f x ∷ l) (map_join f a b)
 
-requests_join : (a b : List Job) → requests_among (a ++ b) ≡ requests_among a ++ requests_among b
+pub requests_join : (a b : List Job) → requests_among (a ++ b) ≡ requests_among a ++ requests_among b
 requests_join [] b = refl
 requests_join (job ∷ a) b = by_kind (is_request job) (requests_join a b)
   where
