@@ -1,6 +1,7 @@
 pub mod AnswersAmongReplies
 pub mod BoundSessions
 pub mod CentresAnswers
+pub mod FramesGo
 pub mod HeardEnds
 pub mod LinkWritten
 pub mod PartsWritten

@@ -8,3 +8,4 @@ pub mod RunPromises
 pub mod Exchanges
 pub mod ReceiptsGiven
 pub mod CentresAnswers
+pub mod FramesGiven
