@@ -35,7 +35,7 @@ use Rattle.smsc_endpoint.specs.EsmeRuns.{At, TellFull, Take, Hear, Say, WasSent,
 use Rattle.smsc_endpoint.specs.EsmeTurns.{EsmeTurns, HasTurns, IsInTurn, IsThrottledAnswer, answer_in, answers_heard, back_by, begun, heard_in, if_request, turned, turned_all, was_back}
 use Rattle.smsc_endpoint.specs.EsmeView.{EsmeView, opened}
 use Rattle.smsc_endpoint.specs.LoopCourses.{call_of, calls_of}
-use Rattle.smsc_endpoint.specs.Outbox.{requests_among as count_among}
+use Rattle.smsc_endpoint.specs.Outbox.{requests_among as count_among, with_next}
 use Rattle.smsc_endpoint.specs.Refusing.{enquire_link, no_room}
 use Rattle.smsc_endpoint.proofs.EsmeRuns.{all_zero, begins as begins_progress, heard_if, one_call}
 use Rattle.smsc_endpoint.proofs.EsmeTurns.{begins as begins_turns, turns_hold}
@@ -59,12 +59,22 @@ abbrev falses : List Bool → ℕ
 falses [] = 0
 falses (b ∷ bs) = if b then falses bs else suc (falses bs)
 
+-- lists of the same length
+suc_same : (m n : ℕ) → suc m ≡ suc n → m ≡ n
+suc_same m n e = omega (arith, e)
+
+zero_suc : (n : ℕ) → 0 ≡ suc n → ⊥
+zero_suc n e = omega (arith, e)
+
+suc_zero : (n : ℕ) → suc n ≡ 0 → ⊥
+suc_zero n e = omega (arith, e)
+
 unmarked_join : {A : Type 0} (bs cs : List Bool) (xs ys : List A) → length bs ≡ length xs → unmarked (bs ++ cs) (xs ++ ys) ≡ unmarked bs xs ++ unmarked cs ys
 unmarked_join [] cs [] ys e = refl
-unmarked_join [] cs (x ∷ xs) ys e = absurd (omega (arith, e))
-unmarked_join (b ∷ bs) cs [] ys e = absurd (omega (arith, e))
-unmarked_join (true ∷ bs) cs (x ∷ xs) ys e = unmarked_join bs cs xs ys (omega (arith, e))
-unmarked_join (false ∷ bs) cs (x ∷ xs) ys e = ap (λ (l : List _). x ∷ l) (unmarked_join bs cs xs ys (omega (arith, e)))
+unmarked_join [] cs (x ∷ xs) ys e = absurd (zero_suc (length xs) e)
+unmarked_join (b ∷ bs) cs [] ys e = absurd (suc_zero (length bs) e)
+unmarked_join (true ∷ bs) cs (x ∷ xs) ys e = unmarked_join bs cs xs ys (suc_same (length bs) (length xs) e)
+unmarked_join {A} (false ∷ bs) cs (x ∷ xs) ys e = ap (λ (l : List A). x ∷ l) (unmarked_join bs cs xs ys (suc_same (length bs) (length xs) e))
 
 falses_join : (bs cs : List Bool) → falses (bs ++ cs) ≡ falses bs + falses cs
 falses_join [] cs = sym (zero-add (falses cs))
@@ -181,27 +191,30 @@ session_has (FrameJob octets ∷ jobs) h = (h.0, session_has jobs h.1)
 
 requests_are : (jobs : List Job) → requests_in (requests_among jobs) ≡ requests_in jobs
 requests_are [] = refl
-requests_are (job ∷ jobs) = by_kind (is_request job) refl
+requests_are (job ∷ jobs) = by_kind (is_request job) refl (requests_are jobs)
   where
-    by_kind : (is : Bool) → is_request job ≡ is → requests_in (if is then job ∷ requests_among jobs else requests_among jobs) ≡ request_in job ++ requests_in jobs
-    by_kind true e = ap (λ (l : List PendingRequest). request_in job ++ l) (requests_are jobs)
-    by_kind false e = requests_are jobs ∙ ap (λ (l : List PendingRequest). l ++ requests_in jobs) (sym (none_in job e))
+    by_kind : (is : Bool) → is_request job ≡ is → requests_in (requests_among jobs) ≡ requests_in jobs
+        → requests_in (if is then job ∷ requests_among jobs else requests_among jobs) ≡ request_in job ++ requests_in jobs
+    by_kind true e rest = ap (λ (l : List PendingRequest). request_in job ++ l) rest
+    by_kind false e rest = rest ∙ ap (λ (l : List PendingRequest). l ++ requests_in jobs) (sym (none_in job e))
 
 each_one : (jobs : List Job) → AllByRecursion HasOne jobs → AllByRecursion IsOne (requests_among jobs)
 each_one [] h = tt
-each_one (job ∷ jobs) h = by_kind (is_request job) refl
+each_one (job ∷ jobs) h = by_kind (is_request job) refl (each_one jobs h.1)
   where
-    by_kind : (is : Bool) → is_request job ≡ is → AllByRecursion IsOne (if is then job ∷ requests_among jobs else requests_among jobs)
-    by_kind true e = (h.0 e, each_one jobs h.1)
-    by_kind false e = each_one jobs h.1
+    by_kind : (is : Bool) → is_request job ≡ is → AllByRecursion IsOne (requests_among jobs)
+        → AllByRecursion IsOne (if is then job ∷ requests_among jobs else requests_among jobs)
+    by_kind true e rest = (h.0 e, rest)
+    by_kind false e rest = rest
 
 counted_is : (jobs : List Job) → AllByRecursion HasOne jobs → length (requests_in jobs) ≡ count_among jobs
 counted_is [] h = refl
-counted_is (job ∷ jobs) h = by_kind (is_request job) refl
+counted_is (job ∷ jobs) h = by_kind (is_request job) refl (counted_is jobs h.1)
   where
-    by_kind : (is : Bool) → is_request job ≡ is → length (request_in job ++ requests_in jobs) ≡ (if is then suc (count_among jobs) else count_among jobs)
-    by_kind true e = ap (λ (l : List PendingRequest). length (l ++ requests_in jobs)) (h.0 e).1 ∙ ap suc (counted_is jobs h.1)
-    by_kind false e = ap (λ (l : List PendingRequest). length (l ++ requests_in jobs)) (none_in job e) ∙ counted_is jobs h.1
+    by_kind : (is : Bool) → is_request job ≡ is → length (requests_in jobs) ≡ count_among jobs
+        → length (request_in job ++ requests_in jobs) ≡ (if is then suc (count_among jobs) else count_among jobs)
+    by_kind true e rest = ap (λ (l : List PendingRequest). length (l ++ requests_in jobs)) (h.0 e).1 ∙ ap suc rest
+    by_kind false e rest = ap (λ (l : List PendingRequest). length (l ++ requests_in jobs)) (none_in job e) ∙ rest
 
 unmarked_ones : (bs : List Bool) (jobs : List Job) → AllByRecursion IsOne jobs → AllByRecursion IsOne (unmarked bs jobs)
 unmarked_ones [] jobs h = tt
@@ -209,16 +222,18 @@ unmarked_ones (b ∷ bs) [] h = tt
 unmarked_ones (true ∷ bs) (job ∷ jobs) h = unmarked_ones bs jobs h.1
 unmarked_ones (false ∷ bs) (job ∷ jobs) h = (h.0, unmarked_ones bs jobs h.1)
 
+first_in : (b : Bool) (bs : List Bool) (job : Job) (jobs : List Job) (request : PendingRequest) → request_in job ≡ request ∷ []
+    → requests_in (unmarked bs jobs) ≡ unmarked bs (requests_in jobs)
+    → requests_in (if b then unmarked bs jobs else job ∷ unmarked bs jobs) ≡ (if b then unmarked bs (requests_in jobs) else request ∷ unmarked bs (requests_in jobs))
+first_in true bs job jobs request e rest = rest
+first_in false bs job jobs request e rest =
+    ap (λ (l : List PendingRequest). l ++ requests_in (unmarked bs jobs)) e ∙ ap (λ (l : List PendingRequest). request ∷ l) rest
+
 unmarked_in : (bs : List Bool) (jobs : List Job) → AllByRecursion IsOne jobs → requests_in (unmarked bs jobs) ≡ unmarked bs (requests_in jobs)
 unmarked_in [] jobs h = refl
 unmarked_in (b ∷ bs) [] h = refl
 unmarked_in (b ∷ bs) (job ∷ jobs) h =
-    by_mark b ∙ ap (λ (l : List PendingRequest). unmarked (b ∷ bs) (l ++ requests_in jobs)) (sym h.0.1)
-  where
-    by_mark : (b : Bool) → requests_in (if b then unmarked bs jobs else job ∷ unmarked bs jobs) ≡ unmarked (b ∷ bs) (h.0.0 ∷ requests_in jobs)
-    by_mark true = unmarked_in bs jobs h.1
-    by_mark false =
-        ap (λ (l : List PendingRequest). l ++ requests_in (unmarked bs jobs)) h.0.1 ∙ ap (λ (l : List PendingRequest). h.0.0 ∷ l) (unmarked_in bs jobs h.1)
+    first_in b bs job jobs h.0.0 h.0.1 (unmarked_in bs jobs h.1) ∙ ap (λ (l : List PendingRequest). unmarked (b ∷ bs) (l ++ requests_in jobs)) (sym h.0.1)
 
 -- ---- those that were not handed back
 
@@ -228,88 +243,100 @@ kept (request ∷ requests) = if was_back request then kept requests else reques
 
 kept_join : (a b : List PendingRequest) → kept (a ++ b) ≡ kept a ++ kept b
 kept_join [] b = refl
-kept_join (request ∷ a) b = by_mark (was_back request)
+kept_join (request ∷ a) b = by_mark (was_back request) (kept_join a b)
   where
-    by_mark : (is : Bool) → (if is then kept (a ++ b) else request ∷ kept (a ++ b)) ≡ (if is then kept a else request ∷ kept a) ++ kept b
-    by_mark true = kept_join a b
-    by_mark false = ap (λ (l : List PendingRequest). request ∷ l) (kept_join a b)
+    by_mark : (is : Bool) → kept (a ++ b) ≡ kept a ++ kept b
+        → (if is then kept (a ++ b) else request ∷ kept (a ++ b)) ≡ (if is then kept a else request ∷ kept a) ++ kept b
+    by_mark true rest = rest
+    by_mark false rest = ap (λ (l : List PendingRequest). request ∷ l) rest
 
 kept_is : (requests : List PendingRequest) → unmarked (map was_back requests) (map fresh requests) ≡ kept requests
 kept_is [] = refl
-kept_is (request ∷ requests) = by_mark (was_back request) refl
+kept_is (request ∷ requests) = by_mark (was_back request) refl (kept_is requests)
   where
-    by_mark : (is : Bool) → was_back request ≡ is
+    by_mark : (is : Bool) → was_back request ≡ is → unmarked (map was_back requests) (map fresh requests) ≡ kept requests
         → (if is then unmarked (map was_back requests) (map fresh requests) else fresh request ∷ unmarked (map was_back requests) (map fresh requests))
         ≡ (if is then kept requests else request ∷ kept requests)
-    by_mark true e = kept_is requests
-    by_mark false e =
-        ap (λ (l : List PendingRequest). fresh request ∷ l) (kept_is requests)
-        ∙ ap (λ (b : Bool). record request { is_throttled = b } ∷ kept requests) (sym e)
+    by_mark true e rest = rest
+    by_mark false e rest =
+        ap (λ (l : List PendingRequest). fresh request ∷ l) rest ∙ ap (λ (b : Bool). record request { is_throttled = b } ∷ kept requests) (sym e)
 
 not_back_asked : (answers : List Answered) → map request_of (not_back answers) ≡ kept (map request_of answers)
 not_back_asked [] = refl
-not_back_asked (answered ∷ answers) = by_mark (was_back answered.0)
+not_back_asked (answered ∷ answers) = by_mark (was_back answered.0) (not_back_asked answers)
   where
-    by_mark : (is : Bool) → map request_of (if is then not_back answers else answered ∷ not_back answers)
+    by_mark : (is : Bool) → map request_of (not_back answers) ≡ kept (map request_of answers)
+        → map request_of (if is then not_back answers else answered ∷ not_back answers)
         ≡ (if is then kept (map request_of answers) else answered.0 ∷ kept (map request_of answers))
-    by_mark true = not_back_asked answers
-    by_mark false = ap (λ (l : List PendingRequest). answered.0 ∷ l) (not_back_asked answers)
+    by_mark true rest = rest
+    by_mark false rest = ap (λ (l : List PendingRequest). answered.0 ∷ l) rest
 
 abbrev answer_of : Answered → CentreAnswer
 answer_of answered = answered.1
 
 not_back_heard : (answers : List Answered) → map answer_of (not_back answers) ≡ answers_heard answers
 not_back_heard [] = refl
-not_back_heard (answered ∷ answers) = by_mark (was_back answered.0)
+not_back_heard (answered ∷ answers) = by_mark (was_back answered.0) (not_back_heard answers)
   where
-    by_mark : (is : Bool) → map answer_of (if is then not_back answers else answered ∷ not_back answers)
+    by_mark : (is : Bool) → map answer_of (not_back answers) ≡ answers_heard answers
+        → map answer_of (if is then not_back answers else answered ∷ not_back answers)
         ≡ (if is then answers_heard answers else answered.1 ∷ answers_heard answers)
-    by_mark true = not_back_heard answers
-    by_mark false = ap (λ (l : List CentreAnswer). answered.1 ∷ l) (not_back_heard answers)
+    by_mark true rest = rest
+    by_mark false rest = ap (λ (l : List CentreAnswer). answered.1 ∷ l) rest
 
 falses_kept : (requests : List PendingRequest) → falses (map was_back requests) ≡ length (kept requests)
 falses_kept [] = refl
-falses_kept (request ∷ requests) = by_mark (was_back request)
+falses_kept (request ∷ requests) = by_mark (was_back request) (falses_kept requests)
   where
-    by_mark : (is : Bool) → (if is then falses (map was_back requests) else suc (falses (map was_back requests)))
+    by_mark : (is : Bool) → falses (map was_back requests) ≡ length (kept requests)
+        → (if is then falses (map was_back requests) else suc (falses (map was_back requests)))
         ≡ length (if is then kept requests else request ∷ kept requests)
-    by_mark true = falses_kept requests
-    by_mark false = ap suc (falses_kept requests)
+    by_mark true rest = rest
+    by_mark false rest = ap suc rest
 
 -- ---- lists of one beginning
 
+abbrev head_or : {A : Type 0} → A → List A → A
+head_or d [] = d
+head_or d (x ∷ l) = x
+
+abbrev tail_of : {A : Type 0} → List A → List A
+tail_of [] = []
+tail_of (x ∷ l) = l
+
 same_front : {A : Type 0} (a b x y : List A) → length a ≡ length b → a ++ x ≡ b ++ y → a ≡ b
 same_front [] [] x y n e = refl
-same_front [] (j ∷ b) x y n e = absurd (omega (arith, n))
-same_front (i ∷ a) [] x y n e = absurd (omega (arith, n))
-same_front (i ∷ a) (j ∷ b) x y n e =
-    let first : i ≡ j = cc in
-    let rest : a ++ x ≡ b ++ y = cc in
-    ap (λ (l : List _). l) (ap (λ (k : _). k ∷ a) first ∙ ap (λ (l : List _). j ∷ l) (same_front a b x y (omega (arith, n)) rest))
+same_front [] (j ∷ b) x y n e = absurd (zero_suc (length b) n)
+same_front (i ∷ a) [] x y n e = absurd (suc_zero (length a) n)
+same_front {A} (i ∷ a) (j ∷ b) x y n e =
+    ap (λ (k : A). k ∷ a) (ap (head_or i) e) ∙ ap (λ (l : List A). j ∷ l) (same_front a b x y (suc_same (length a) (length b) n) (ap tail_of e))
 
 front_of_same : {A : Type 0} (a b x y : List A) → a ++ x ≡ b ++ y → length x ≡ length y → a ≡ b
-front_of_same a b x y e n =
-    let whole : length a + length x ≡ length b + length y = sym (length-append a x) ∙ (ap (λ (l : List _). length l) e ∙ length-append b y) in
+front_of_same {A} a b x y e n =
+    let whole : length a + length x ≡ length b + length y = sym (length-append a x) ∙ (ap (λ (l : List A). length l) e ∙ length-append b y) in
     same_front a b x y (omega (arith, whole, n)) e
 
 -- ---- each answer that was heard, to the request that it answers
+
+no_answers : (answer : CentreAnswer) (answers : List CentreAnswer) → [] ≡ answer ∷ answers → ⊥
+no_answers answer answers e = cc
+
+no_requests : (request : PendingRequest) (requests : List PendingRequest) → [] ≡ request ∷ requests → ⊥
+no_requests request requests e = cc
 
 matched : (answers : List Answered) (xs : List Exchange) (jobs more : List Job) (rest : List PendingRequest) (others : List CentreAnswer)
     → map asked_in xs ≡ jobs ++ more → AllByRecursion IsOne jobs → requests_in jobs ≡ map request_of answers ++ rest → map answered_in xs ≡ map answer_of answers ++ others
     → (later : List Answered) × (answers_to xs ≡ answers ++ later)
 matched [] xs jobs more rest others p ones q r = (answers_to xs, refl)
-matched (k ∷ answers) [] jobs more rest others p ones q r = absurd cc
-matched (k ∷ answers) (x ∷ xs) [] more rest others p ones q r = absurd cc
+matched (k ∷ answers) [] jobs more rest others p ones q r = absurd (no_answers k.1 (map answer_of answers ++ others) r)
+matched (k ∷ answers) (x ∷ xs) [] more rest others p ones q r = absurd (no_requests k.0 (map request_of answers ++ rest) q)
 matched (k ∷ answers) (x ∷ xs) (job ∷ jobs) more rest others p ones q r =
-    let own : x.job ≡ job = cc in
-    let jobs_so : map asked_in xs ≡ jobs ++ more = cc in
     let all : ones.0.0 ∷ requests_in jobs ≡ k.0 ∷ (map request_of answers ++ rest) =
     ap (λ (l : List PendingRequest). l ++ requests_in jobs) (sym ones.0.1) ∙ q in
-    let first : ones.0.0 ≡ k.0 = cc in
-    let requests_so : requests_in jobs ≡ map request_of answers ++ rest = cc in
-    let answer : x.answer ≡ k.1 = cc in
-    let answers_so : map answered_in xs ≡ map answer_of answers ++ others = cc in
-    let h = matched answers xs jobs more rest others jobs_so ones.1 requests_so answers_so in
+    let own : x.job ≡ job = ap (head_or x.job) p in
+    let first : ones.0.0 ≡ k.0 = ap (head_or k.0) all in
+    let answer : x.answer ≡ k.1 = ap (head_or x.answer) r in
+    let h = matched answers xs jobs more rest others (ap tail_of p) ones.1 (ap tail_of all) (ap tail_of r) in
     let asked : request_in x.job ≡ k.0 ∷ [] = ap request_in own ∙ (ones.0.1 ∙ ap (λ (r : PendingRequest). r ∷ []) first) in (
       h.0,
       ap (λ (l : List PendingRequest). map (answered_with x.answer) l ++ answers_to xs) asked
@@ -330,28 +357,34 @@ record Along (accounts : List Account) (t : EsmeTurns) (puts : List Job) (awaite
 fails : (o : Phase) → o ≡ Fails → o ≡ Serves → ⊥
 fails o p e = let never : Fails ≡ Serves = sym p ∙ e in absurd cc
 
+both_long : (answers : List Answered) → length (map request_of answers) ≡ length (map answer_of answers)
+both_long [] = refl
+both_long (answered ∷ answers) = ap suc (both_long answers)
+
 -- an answer that is due is one to a request that the keeper has
+due_by : (t : EsmeTurns) (h : HasTurns t) (awaited : ℕ) → falses t.back ≡ length t.heard + awaited → 0 < awaited → (handed : List PendingRequest) → h.handed ≡ handed
+    → count_among t.progress.esme.outbox.jobs < length t.progress.esme.waiting
+due_by t h awaited count due [] e =
+    let asked = map request_of t.progress.answers in
+    let marks : map was_back asked ≡ t.back =
+    ap (map was_back) (sym (append-nil asked) ∙ ap (λ (l : List PendingRequest). asked ++ l) (sym e)) ∙ h.marks in
+    let number : falses t.back ≡ length t.heard =
+    ap falses (sym marks) ∙ (falses_kept asked ∙ (ap (λ (l : List PendingRequest). length l) (sym (not_back_asked t.progress.answers))
+    ∙ (both_long (not_back t.progress.answers) ∙ ap (λ (l : List CentreAnswer). length l) (not_back_heard t.progress.answers ∙ h.heard)))) in
+    absurd (none_due (falses t.back) (length t.heard) awaited count number due)
+  where
+    none_due : (n m k : ℕ) → n ≡ m + k → n ≡ m → 0 < k → ⊥
+    none_due n m k e f d = omega (arith, e, f, d)
+due_by t h awaited count due (one ∷ others) e =
+    more (length t.progress.esme.waiting) (length others) (length h.queued) (count_among t.progress.esme.outbox.jobs)
+    (ap (λ (l : List PendingRequest). length l) (h.split ∙ ap (λ (l : List PendingRequest). l ++ h.queued) e) ∙ length-append (one ∷ others) h.queued) h.count
+  where
+    more : (w n q c : ℕ) → w ≡ suc n + q → q ≡ c → c < w
+    more w n q c e f = omega (arith, e, f)
+
 due_in_turn : (t : EsmeTurns) (h : HasTurns t) (awaited : ℕ) → falses t.back ≡ length t.heard + awaited → 0 < awaited
     → count_among t.progress.esme.outbox.jobs < length t.progress.esme.waiting
-due_in_turn t h awaited count due = by_handed h.handed refl
-  where
-    by_handed : (handed : List PendingRequest) → h.handed ≡ handed → count_among t.progress.esme.outbox.jobs < length t.progress.esme.waiting
-    by_handed [] e =
-        let asked = map request_of t.progress.answers in
-        let marks : map was_back asked ≡ t.back =
-        ap (map was_back) (sym (append-nil asked) ∙ ap (λ (l : List PendingRequest). asked ++ l) (sym e)) ∙ h.marks in
-        let number : falses t.back ≡ length t.heard =
-        ap falses (sym marks) ∙ (falses_kept asked ∙ (ap (λ (l : List PendingRequest). length l) (sym (not_back_asked t.progress.answers))
-        ∙ (same_length (not_back t.progress.answers) ∙ ap (λ (l : List CentreAnswer). length l) (not_back_heard t.progress.answers ∙ h.heard)))) in
-        absurd (omega (arith, count, number, due))
-      where
-        same_length : (answers : List Answered) → length (map request_of answers) ≡ length (map answer_of answers)
-        same_length [] = refl
-        same_length (answered ∷ answers) = ap suc (same_length answers)
-    by_handed (one ∷ others) e =
-        let whole : length t.progress.esme.waiting ≡ suc (length others) + length h.queued =
-        ap (λ (l : List PendingRequest). length l) (h.split ∙ ap (λ (l : List PendingRequest). l ++ h.queued) e) ∙ length-append (one ∷ others) h.queued in
-        let queued = h.count in omega (arith, whole, queued)
+due_in_turn t h awaited count due = due_by t h awaited count due h.handed refl
 
 module _ (accounts : List Account) (t : EsmeTurns) (puts : List Job) (awaited : ℕ) (answers : List CentreAnswer) (h : Along accounts t puts awaited answers) where
   abbrev Lasts : EsmeCall → Type 0
@@ -382,10 +415,7 @@ module _ (accounts : List Account) (t : EsmeTurns) (puts : List Job) (awaited : 
         progress = one_call accounts (Hear (Answer answer)) t.progress h.progress some;
         same = ap (λ (l : List Bool). length l) back_so ∙ h.same;
         puts_so = ap (λ (l : List Bool). unmarked l (requests_among t.progress.left)) back_so ∙ h.puts_so;
-        count =
-            let one = length-append t.heard (answer ∷ []) in
-            let old = h.count in
-            ap falses back_so ∙ one_less (falses t.back) (length t.heard) (length (t.heard ++ answer ∷ [])) old one;
+        count = ap falses back_so ∙ one_less (falses t.back) (length t.heard) (length (t.heard ++ answer ∷ [])) h.count (length-append t.heard (answer ∷ []));
         heard_so = ap (λ (l : List CentreAnswer). l ++ answer ∷ []) h.heard_so;
       }
     where
@@ -426,14 +456,17 @@ module _ (accounts : List Account) (t : EsmeTurns) (puts : List Job) (awaited : 
         puts_by false true = refl
         puts_by false false = refl
 
+        plus_zero : (n m : ℕ) → n ≡ m + awaited → n + 0 ≡ m + awaited
+        plus_zero n m f = omega (arith, f)
+
+        plus_one : (n m : ℕ) → n ≡ m + awaited → n + 1 ≡ m + suc awaited
+        plus_one n m f = omega (arith, f)
+
         count_by : (is back : Bool) → is_request job ≡ is → (n m : ℕ) → n ≡ m + awaited → n + falses (if is then back ∷ [] else []) ≡ m + (if back then awaited else awaited_with job awaited)
-        count_by true true e n m f = f
-        count_by false true e n m f = f
-        count_by true false e n m f = more n m f ∙ ap (λ (b : Bool). m + (if b then suc awaited else awaited)) (sym e)
-          where
-            more : (n m : ℕ) → n ≡ m + awaited → n + 1 ≡ m + suc awaited
-            more n m f = omega (arith, f)
-        count_by false false e n m f = f ∙ ap (λ (b : Bool). m + (if b then suc awaited else awaited)) (sym e)
+        count_by true true e n m f = plus_zero n m f
+        count_by false true e n m f = plus_zero n m f
+        count_by true false e n m f = plus_one n m f ∙ ap (λ (b : Bool). m + (if b then suc awaited else awaited)) (sym e)
+        count_by false false e n m f = plus_zero n m f ∙ ap (λ (b : Bool). m + (if b then suc awaited else awaited)) (sym e)
 
 -- ---- a call of the loop
 
@@ -506,14 +539,17 @@ module _ (accounts : List Account) (t : EsmeTurns) (puts : List Job) (awaited : 
       (ap requests_among left ∙ requests_join t.progress.left (job ∷ []))
       (ap (λ (q : Option Job × EsmeView). if_request false q.0) (sym l)))
 
+  back_if : (job : Job) (d : EsmeView) (is : Bool) → is_request job ≡ is
+      → handed_back job d ≡ (if is then (false, request_back d) else (true, record d { outbox = with_next job d.outbox }))
+  back_if job d is e = ap (λ (b : Bool). if b then (false, request_back d) else (true, record d { outbox = with_next job d.outbox })) e
+
   back_left : (job : Job) (d : EsmeView) (is : Bool) → is_request job ≡ is
       → requests_among (taken_back job d (handed_back job d) t.progress).left ≡ requests_among t.progress.left ++ (if is then job ∷ [] else [])
   back_left job d true e =
-      let is : handed_back job d ≡ (false, request_back d) = ap (λ (b : Bool). if b then (false, request_back d) else _) e in
-      ap (λ (q : Bool × EsmeView). requests_among (taken_back job d q t.progress).left) is
+      ap (λ (q : Bool × EsmeView). requests_among (taken_back job d q t.progress).left) (back_if job d true e)
       ∙ (requests_join t.progress.left (job ∷ []) ∙ ap (λ (b : Bool). requests_among t.progress.left ++ (if b then job ∷ [] else [])) e)
   back_left job d false e =
-      ap (λ (b : Bool). requests_among (taken_back job d (if b then (false, request_back d) else _) t.progress).left) e ∙ sym (append-nil (requests_among t.progress.left))
+      ap (λ (q : Bool × EsmeView). requests_among (taken_back job d q t.progress).left) (back_if job d false e) ∙ sym (append-nil (requests_among t.progress.left))
 
   back_then : (job : Job) (d : EsmeView) → (Some job, d) ≡ handed_out t.progress.esme → (called_once t.progress HandOutAndBack).esme.wrong_binds ≢ 0
       → Along accounts (turned t HandOutAndBack) (puts ++ []) awaited (answers ++ [])
@@ -656,6 +692,10 @@ along_all accounts (call ∷ calls) t puts awaited answers w h r in_turn some =
 
 -- ---- what it leads to
 
+fresh_long : (requests : List PendingRequest) → length (map fresh requests) ≡ length requests
+fresh_long [] = refl
+fresh_long (request ∷ requests) = ap suc (fresh_long requests)
+
 module _ (accounts : List Account) (t : EsmeTurns) (puts : List Job) (awaited : ℕ) (answers : List CentreAnswer) (h : Along accounts t puts awaited answers) where
   abbrev left : List Job
   left = t.progress.left
@@ -679,12 +719,8 @@ module _ (accounts : List Account) (t : EsmeTurns) (puts : List Job) (awaited : 
       sym (in_join left queue) ∙ (sym (session_is (left ++ queue)) ∙ (ap requests_in h.progress.jobs ∙ (from_is None t.progress.actions
       ∙ (sym h.progress.requests ∙ (ap (map fresh) waits ∙ map-append fresh answered_so queued))))) in
       let number : length (requests_in queue) ≡ length (map fresh queued) =
-      counted_is queue (all_behind HasOne left queue all_have) ∙ (sym h.turns.count ∙ sym (same_length queued)) in
+      counted_is queue (all_behind HasOne left queue all_have) ∙ (sym h.turns.count ∙ sym (fresh_long queued)) in
       front_of_same (requests_in left) (map fresh answered_so) (requests_in queue) (map fresh queued) whole number
-    where
-      same_length : (requests : List PendingRequest) → length (map fresh requests) ≡ length requests
-      same_length [] = refl
-      same_length (request ∷ requests) = ap suc (same_length requests)
 
   ones : AllByRecursion IsOne (requests_among left)
   ones = each_one left (all_first HasOne left queue all_have)
@@ -712,27 +748,27 @@ module _ (accounts : List Account) (t : EsmeTurns) (puts : List Job) (awaited : 
 start_along : (accounts : List Account) → Along accounts (begun accounts) [] 0 []
 start_along accounts = record { turns = begins_turns accounts; progress = begins_progress accounts; same = refl; puts_so = refl; count = refl; heard_so = refl }
 
+turn_with : (call : Call) (calls : List Call) (awaited : ℕ) → IsCallDue call awaited → AreInTurn (awaited_behind call awaited) calls → AreInTurn awaited (call ∷ calls)
+turn_with (Timed now went) calls awaited d k = k
+turn_with (Told full) calls awaited d k = k
+turn_with (Took octets went) calls awaited d k = k
+turn_with (Heard reply went) calls awaited d k = (d, k)
+turn_with (GaveUp went) calls awaited d k = k
+turn_with (AskedLink went) calls awaited d k = k
+turn_with (AskedToLeave asked went) calls awaited d k = k
+turn_with (Noted said) calls awaited d k = k
+turn_with (Sent octets) calls awaited d k = k
+turn_with (Put job) calls awaited d k = k
+turn_with (PutBack job again went) calls awaited d k = k
+turn_with (Left last) calls awaited d k = k
+turn_with (PutLast job) calls awaited d k = k
+turn_with (PutOwn job) calls awaited d k = k
+turn_with (Dropped reply) calls awaited d k = (d, k)
+
 first_turn : (one other : List Call) (awaited : ℕ) → AreInTurn awaited (one ++ other) → AreInTurn awaited one
 first_turn [] other awaited h = tt
 first_turn (call ∷ one) other awaited h =
     let x = turn_first call (one ++ other) awaited h in turn_with call one awaited x.0 (first_turn one other (awaited_behind call awaited) x.1)
-  where
-    turn_with : (call : Call) (calls : List Call) (awaited : ℕ) → IsCallDue call awaited → AreInTurn (awaited_behind call awaited) calls → AreInTurn awaited (call ∷ calls)
-    turn_with (Timed now went) calls awaited d k = k
-    turn_with (Told full) calls awaited d k = k
-    turn_with (Took octets went) calls awaited d k = k
-    turn_with (Heard reply went) calls awaited d k = (d, k)
-    turn_with (GaveUp went) calls awaited d k = k
-    turn_with (AskedLink went) calls awaited d k = k
-    turn_with (AskedToLeave asked went) calls awaited d k = k
-    turn_with (Noted said) calls awaited d k = k
-    turn_with (Sent octets) calls awaited d k = k
-    turn_with (Put job) calls awaited d k = k
-    turn_with (PutBack job again went) calls awaited d k = k
-    turn_with (Left last) calls awaited d k = k
-    turn_with (PutLast job) calls awaited d k = k
-    turn_with (PutOwn job) calls awaited d k = k
-    turn_with (Dropped reply) calls awaited d k = (d, k)
 
 module _ (accounts : List Account) (calls : List Call) (xs : List Exchange) (h : WasServed (opened accounts) calls) (for : AreFor calls xs) (in_turn : AreInTurn 0 calls) where
   served_answers : (course_of accounts h.one).esme.wrong_binds ≢ 0 → HasCentresAnswers xs (answers_in (parts_all (started accounts) (calls_of h.one)))

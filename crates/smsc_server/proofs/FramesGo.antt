@@ -80,7 +80,7 @@ module _ (n : ℕ) (octets : List ℕ) where
 
   -- a frame that was sent, to the seat of its handset
   abbrev IsSent : Option (List ℕ) → ℕ → List LinkSeat → List Sent → Type 0
-  IsSent risen from links frames = (f : Sent) × (Among f frames × (f.frame.octets ≡ octets) × (seat_for risen from links f.handset ≡ Some n))
+  IsSent risen from links frames = (f : Sent) × Among f frames × (f.frame.octets ≡ octets) × (seat_for risen from links f.handset ≡ Some n)
 
   one_frame : (o : Option ℕ) (own : List ℕ) → Among (frame_for n octets) (frame_out o own) → (own ≡ octets) × (o ≡ Some n)
   one_frame None own there = absurd there
@@ -94,7 +94,7 @@ module _ (n : ℕ) (octets : List ℕ) where
   a_frame risen from links (f ∷ fs) there =
       ⊎_elim
       (λ h. let one = one_frame (seat_for risen from links f.handset) f.frame.octets h in (f, inl refl, one.0, one.1))
-      (λ h. let x = a_frame risen from links fs h in (x.0, inr x.1.0, x.1.1, x.1.2))
+      (λ h. let x = a_frame risen from links fs h in (x.0, inr x.1, x.2, x.3))
       (among_parts (frame_for n octets) (frame_out (seat_for risen from links f.handset) f.frame.octets) (frame_outs risen from links fs) there)
 
   replied : (risen : Option (List ℕ)) (from : ℕ) (links : List LinkSeat) (o : Option CentreAnswer) (frames : List Sent) (messages : List MessageRow) (ds : List Delivery)
@@ -110,7 +110,8 @@ module _ (n : ℕ) (octets : List ℕ) where
   module _ (s : Serving) where
     abbrev WasSent : Stimulus Job → Type 0
     WasSent stimulus =
-        (event : CentreEvent) × ((asked_by s.seats stimulus ≡ Event event) × IsSent (risen_by stimulus) (asker stimulus) s.seats.links (happened event s.core).links.frames)
+        (event : CentreEvent) × (asked_by s.seats stimulus ≡ Event event)
+        × IsSent (risen_by stimulus) (asker stimulus) s.seats.links (happened event s.core).links.frames
 
     request_sent : (stimulus : Stimulus Job) (a : SeatRequest) (fate : Fate) (refusal : Option CommandStatus) → asked_by s.seats stimulus ≡ a
         → Among (frame_for n octets) (unless_refused fate refusal stimulus (gives_for a fate s stimulus)) → WasSent stimulus
@@ -201,15 +202,18 @@ record AreLinked (items : List (Item Job Reply)) (links : List LinkSeat) : Type 
   keys : Rises link_key links
   each : (l : LinkSeat) → Among l links → (nat_lt l.seat 32 ≡ true) × (is_number l.handset ≡ true) × IsLinked l.seat l.handset items
 
-same_job : (n m : ℕ) (job other : Job) → JobOf n job ≡ JobOf m other → (n ≡ m) × (job ≡ other)
-same_job n m job other e = (let a : n ≡ m = cc in a, let b : job ≡ other = cc in b)
+same_seat : (n m : ℕ) (job other : Job) → JobOf n job ≡ JobOf m other → n ≡ m
+same_seat n m job other e = cc
 
-no_down : (job : Job) → Type 0
-no_down LinkDown = ⊥
-no_down job = ⊤
+same_job : (n m : ℕ) (job other : Job) → JobOf n job ≡ JobOf m other → job ≡ other
+same_job n m job other e = cc
 
-no_down_so : (job : Job) → no_down job → job ≡ LinkDown → ⊥
-no_down_so job h e = subst (λ (j : Job). no_down j) e h
+abbrev NoDown : Job → Type 0
+NoDown LinkDown = ⊥
+NoDown job = ⊤
+
+no_down_so : (job : Job) → NoDown job → job ≡ LinkDown → ⊥
+no_down_so job h e = subst (λ (j : Job). NoDown j) e h
 
 event_none : (event : CentreEvent) (a : SeatRequest) → a ≡ Event event → a ≡ Nothing → ⊥
 event_none event a e f = let k : Event event ≡ Nothing = sym e ∙ f in absurd cc
@@ -224,8 +228,8 @@ module _ (s : Serving) (items : List (Item Job Reply)) (e : Item Job Reply) (h :
 
   module _ (seat : ℕ) (job : Job) (is : e.stimulus ≡ JobOf seat job) where
     -- a job that takes no link down
-    other_stays : no_down job → (l : LinkSeat) → Among l s.seats.links → e.stimulus ≡ JobOf l.seat LinkDown → e.fate ≡ NoMemory
-    other_stays none l i down = absurd (no_down_so job none (same_job seat l.seat job LinkDown (sym is ∙ down)).1)
+    other_stays : NoDown job → (l : LinkSeat) → Among l s.seats.links → e.stimulus ≡ JobOf l.seat LinkDown → e.fate ≡ NoMemory
+    other_stays none l i down = absurd (no_down_so job none (same_job seat l.seat job LinkDown (sym is ∙ down)))
 
     -- a link that is there is taken down by an event
     asks_event : (l : LinkSeat) → Among l s.seats.links → l.seat ≡ seat → asked s.seats seat LinkDown ≡ Event (LinkDownOf l.handset)
@@ -256,7 +260,7 @@ module _ (s : Serving) (items : List (Item Job Reply)) (e : Item Job Reply) (h :
     each = λ l i.
         let old = among_without link_key l seat s.seats.links i in
         let x = h.each l old.0 in
-        (x.0, x.1, linked_more l.seat l.handset items e x.2 (λ down. absurd (old.1 (sym (same_job seat l.seat LinkDown LinkDown (sym is ∙ down)).0))));
+        (x.0, x.1, linked_more l.seat l.handset items e x.2 (λ down. absurd (old.1 (sym (same_seat seat l.seat LinkDown LinkDown (sym is ∙ down))))));
   }
   job_follows seat (Bound account receives) is few number = all_stay (other_stays seat (Bound account receives) is tt)
   job_follows seat Unbound is few number = all_stay (other_stays seat Unbound is tt)
@@ -335,17 +339,17 @@ module _ (rows : Rows) (items : List (Item Job Reply)) (last : Serving) (run : I
       let m = between one (e ∷ other) (restarted rows nobody) last (subst (λ (l : List (Item Job Reply)). IsHistory gives after (restarted rows nobody) l last) is run) in
       let links = run_links [] one (restarted rows nobody) m.0 none_linked m.1 in
       let sent = was_sent seat octets m.0 e.stimulus e.fate (subst (λ (l : List (Out Reply)). Among (frame_for seat octets) l) m.2.0 there) in
-      let f = sent.1.1.0 in record {
+      let f = sent.2.0 in record {
         handset = f.handset;
         linked = ⊎_elim (λ (up : e.stimulus ≡ JobOf seat (LinkUp f.handset)). inr up)
             (λ (at : IsAt f.handset seat m.0.seats.links). inl (at_seat seat f.handset one m.0.seats.links links at))
-            (named e.stimulus m.0.seats.links f.handset seat sent.1.1.1.2);
+            (named e.stimulus m.0.seats.links f.handset seat sent.2.3);
         moment = m.0;
         history = m.1;
         event = sent.0;
-        event_so = sent.1.0;
+        event_so = sent.1;
         sent = f;
-        is_sent = sent.1.1.1.0;
+        is_sent = sent.2.1;
         handset_so = refl;
-        octets_so = sent.1.1.1.1;
+        octets_so = sent.2.2;
       }

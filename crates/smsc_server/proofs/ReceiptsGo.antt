@@ -117,26 +117,27 @@ at_seat bound seat job = cond-true (seat == seat) (bound_by job (bound seat)) (b
 abbrev IsSame : Seats → ℕ → Job → Type 0
 IsSame seats seat job = BindsNobody (asked seats seat job) × ((o : Option Binding) → bound_by job o ≡ o) × ((followed seat job seats).sittings ≡ seats.sittings)
 
-data Kind (seats : Seats) (seat : ℕ) : Job → Type 0 where
-  Binds : (account : ℕ) (receives : Bool) → Kind seats seat (Bound account receives)
-  Unbinds : Kind seats seat Unbound
-  Same : (job : Job) → IsSame seats seat job → Kind seats seat job
+-- any but bind and unbind
+abbrev IsOther : Job → Type 0
+IsOther (Bound account receives) = ⊥
+IsOther Unbound = ⊥
+IsOther job = Unit {0}
 
-kind : (seats : Seats) (seat : ℕ) (job : Job) → Kind seats seat job
-kind seats seat (Bound account receives) = Binds account receives
-kind seats seat Unbound = Unbinds
-kind seats seat (Submit account pdu) = Same (Submit account pdu) (read_binds (submission account) (submission_binds account) (pdu_at pdu), (λ o. refl), refl)
-kind seats seat (Query account pdu) = Same (Query account pdu) (read_binds (question account) (question_binds account) (pdu_at pdu), (λ o. refl), refl)
-kind seats seat (Cancel account pdu) = Same (Cancel account pdu) (read_binds (withdrawal account) (withdrawal_binds account) (pdu_at pdu), (λ o. refl), refl)
-kind seats seat (DeliverAnswered id is_accepted) = Same (DeliverAnswered id is_accepted) (refl, (λ o. refl), refl)
-kind seats seat (LinkUp handset) = Same (LinkUp handset) (
+other : (seats : Seats) (seat : ℕ) (job : Job) → IsOther job → IsSame seats seat job
+other seats seat (Bound account receives) h = absurd h
+other seats seat Unbound h = absurd h
+other seats seat (Submit account pdu) h = (read_binds (submission account) (submission_binds account) (pdu_at pdu), (λ o. refl), refl)
+other seats seat (Query account pdu) h = (read_binds (question account) (question_binds account) (pdu_at pdu), (λ o. refl), refl)
+other seats seat (Cancel account pdu) h = (read_binds (withdrawal account) (withdrawal_binds account) (pdu_at pdu), (λ o. refl), refl)
+other seats seat (DeliverAnswered id is_accepted) h = (refl, (λ o. refl), refl)
+other seats seat (LinkUp handset) h = (
   cond_both (is_number handset) (link_for (seat_of handset seats.links) handset) Nothing (λ (a : SeatRequest). BindsNobody a)
       (λ t. link_binds (seat_of handset seats.links) handset) (λ t. tt),
   (λ o. refl),
   refl,
 )
-kind seats seat LinkDown = Same LinkDown (handset_binds (λ (handset : List ℕ). LinkDownOf handset) (λ handset. refl) (handset_at seat seats.links), (λ o. refl), refl)
-kind seats seat (Frame octets) = Same (Frame octets) (handset_binds (λ (handset : List ℕ). FrameOf handset octets None) (λ handset. refl) (handset_at seat seats.links), (λ o. refl), refl)
+other seats seat LinkDown h = (handset_binds (λ (handset : List ℕ). LinkDownOf handset) (λ handset. refl) (handset_at seat seats.links), (λ o. refl), refl)
+other seats seat (Frame octets) h = (handset_binds (λ (handset : List ℕ). FrameOf handset octets None) (λ handset. refl) (handset_at seat seats.links), (λ o. refl), refl)
 
 same_moved : (bound : ℕ → Option Binding) (seats : Seats) (seat k : ℕ) (job : Job) → IsSame seats seat job → moved bound (JobOf seat job) k ≡ bound k
 same_moved bound seats seat k job h = ap (λ (o : Option Binding). if k == seat then o else bound k) (h.1 (bound k)) ∙ both_same (k == seat) (bound k)
@@ -156,8 +157,8 @@ module _ (accounts : List CentreAccount) where
   -- said of a session, by who is bound at each seat
   abbrev OfBound : (ℕ → Option Binding) → ℕ → List ℕ → Bool → Type 0
   OfBound bound k name receives =
-      (nat_lt k 32 ≡ true)
-      × ((place : ℕ) × ((account : CentreAccount) × ((bound k ≡ Some (place, receives)) × (slice_get accounts place ≡ Some account) × (account.name ≡ name))))
+      (nat_lt k 32 ≡ true) × (place : ℕ) × (account : CentreAccount)
+      × (bound k ≡ Some (place, receives)) × (slice_get accounts place ≡ Some account) × (account.name ≡ name)
 
   abbrev AreBound : (ℕ → Option Binding) → List BoundSession → Type 0
   AreBound bound sittings = (b : BoundSession) → Among b sittings → (nat_lt b.seat 32 ≡ true) × (bound b.seat ≡ Some (b.account, b.receives))
@@ -168,7 +169,7 @@ module _ (accounts : List CentreAccount) where
     pub setup : s.core.rows.setup.accounts ≡ accounts
 
   of_same : (bound behind : ℕ → Option Binding) (k : ℕ) (name : List ℕ) (receives : Bool) → behind k ≡ bound k → OfBound bound k name receives → OfBound behind k name receives
-  of_same bound behind k name receives e h = (h.0, h.1.0, h.1.1.0, e ∙ h.1.1.1.0, h.1.1.1.1, h.1.1.1.2)
+  of_same bound behind k name receives e h = (h.0, h.1, h.2, e ∙ h.3, h.4, h.5)
 
   fits_same : (bound behind : ℕ → Option Binding) (s : Serving) → ((k : ℕ) → nat_lt k 32 ≡ true → behind k ≡ bound k) → Fits bound s → Fits behind s
   fits_same bound behind s e h = record {
@@ -205,20 +206,23 @@ module _ (accounts : List CentreAccount) where
   -- ---- one item
 
   module _ (bound : ℕ → Option Binding) (s : Serving) (fits : Fits bound s) where
+    same_sits : (seat : ℕ) (job : Job) → IsSame s.seats seat job → AreBound (moved bound (JobOf seat job)) (followed seat job s.seats).sittings
+    same_sits seat job h b i =
+        let y = fits.sittings b (subst (λ (l : List BoundSession). Among b l) h.2 i) in (y.0, same_moved bound s.seats seat b.seat job h ∙ y.1)
+
     -- who sits where behind a job
-    job_sits : (seat : ℕ) (job : Job) → nat_lt seat 32 ≡ true → Kind s.seats seat job → AreBound (moved bound (JobOf seat job)) (followed seat job s.seats).sittings
-    job_sits seat (Bound account receives) few (Binds account receives) b i =
+    job_sits : (seat : ℕ) (job : Job) → nat_lt seat 32 ≡ true → AreBound (moved bound (JobOf seat job)) (followed seat job s.seats).sittings
+    job_sits seat (Bound account receives) few b i =
         let new : BoundSession = record { seat = seat; account = account; receives = receives } in
         ⊎_elim
         (λ (e : b ≡ new). subst (λ (x : BoundSession). (nat_lt x.seat 32 ≡ true) × (moved bound (JobOf seat (Bound account receives)) x.seat ≡ Some (x.account, x.receives))) (sym e)
         (few, at_seat bound seat (Bound account receives)))
         (λ old. let y = fits.sittings b old.0 in (y.0, elsewhere bound seat b.seat (Bound account receives) old.1 ∙ y.1))
         (among_put bound_session_key b new s.seats.sittings i)
-    job_sits seat Unbound few Unbinds b i =
+    job_sits seat Unbound few b i =
         let old = among_without bound_session_key b seat s.seats.sittings i in
         let y = fits.sittings b old.0 in (y.0, elsewhere bound seat b.seat Unbound old.1 ∙ y.1)
-    job_sits seat job few (Same job h) b i =
-        let y = fits.sittings b (subst (λ (l : List BoundSession). Among b l) h.2 i) in (y.0, same_moved bound s.seats seat b.seat job h ∙ y.1)
+    job_sits seat job few b i = same_sits seat job (other s.seats seat job tt) b i
 
     far_seat : (seat k : ℕ) → nat_lt seat 32 ≡ false → nat_lt k 32 ≡ true → k ≡ seat → ⊥
     far_seat seat k far few e = true≢false (sym few ∙ (ap (λ (m : ℕ). nat_lt m 32) e ∙ far))
@@ -230,7 +234,7 @@ module _ (accounts : List CentreAccount) where
     sits (Tick now) = fits.sittings
     sits (JobOf seat job) =
         cond_both (nat_lt seat 32) (followed seat job s.seats) s.seats (λ (x : Seats). AreBound (moved bound (JobOf seat job)) x.sittings)
-        (λ t. job_sits seat job t (kind s.seats seat job))
+        (λ t. job_sits seat job t)
         (λ t b i. let y = fits.sittings b i in (y.0, far_moved seat job t b.seat y.0 ∙ y.1))
 
     -- ---- what an event leads to
@@ -238,8 +242,13 @@ module _ (accounts : List CentreAccount) where
     abbrev Leads : Stimulus Job → CentreEvent → Type 0
     Leads stimulus event = Becomes event s.core.rows.setup.accounts (OfBound bound) (OfBound (moved bound stimulus))
 
-    job_leads : (seat : ℕ) (job : Job) (event : CentreEvent) → nat_lt seat 32 ≡ true → Kind s.seats seat job → asked s.seats seat job ≡ Event event → Leads (JobOf seat job) event
-    job_leads seat (Bound account receives) event few (Binds account receives) e =
+    same_leads : (seat : ℕ) (job : Job) (event : CentreEvent) → IsSame s.seats seat job → asked s.seats seat job ≡ Event event → Leads (JobOf seat job) event
+    same_leads seat job event h e =
+        becomes_same s.core.rows.setup.accounts (OfBound bound) (OfBound (moved bound (JobOf seat job))) event (subst (λ (a : SeatRequest). BindsNobody a) e h.0)
+        (λ k name is x. of_same bound (moved bound (JobOf seat job)) k name is (same_moved bound s.seats seat k job h) x)
+
+    job_leads : (seat : ℕ) (job : Job) (event : CentreEvent) → nat_lt seat 32 ≡ true → asked s.seats seat job ≡ Event event → Leads (JobOf seat job) event
+    job_leads seat (Bound account receives) event few e =
         subst (λ (x : CentreEvent). Leads (JobOf seat (Bound account receives)) x) (event_same (BoundOf seat account receives) event e) (
           (λ k name is ne h. of_same bound (moved bound (JobOf seat (Bound account receives))) k name is (elsewhere bound seat k (Bound account receives) ne) h),
           (λ own at. (
@@ -251,18 +260,16 @@ module _ (accounts : List CentreAccount) where
             refl,
           )),
         )
-    job_leads seat Unbound event few Unbinds e =
+    job_leads seat Unbound event few e =
         subst (λ (x : CentreEvent). Leads (JobOf seat Unbound) x) (event_same (UnboundOf seat) event e)
         (λ k name is ne h. of_same bound (moved bound (JobOf seat Unbound)) k name is (elsewhere bound seat k Unbound ne) h)
-    job_leads seat job event few (Same job h) e =
-        becomes_same s.core.rows.setup.accounts (OfBound bound) (OfBound (moved bound (JobOf seat job))) event (subst (λ (a : SeatRequest). BindsNobody a) e h.0)
-        (λ k name is x. of_same bound (moved bound (JobOf seat job)) k name is (same_moved bound s.seats seat k job h) x)
+    job_leads seat job event few e = same_leads seat job event (other s.seats seat job tt) e
 
     leads : (stimulus : Stimulus Job) (event : CentreEvent) → asked_by s.seats stimulus ≡ Event event → Leads stimulus event
     leads (Tick now) event e =
         subst (λ (x : CentreEvent). Leads (Tick now) x) (event_same (TickOf now) event e) (λ k name is h. h)
     leads (JobOf seat job) event e = ⊎_elim
-        (λ (t : nat_lt seat 32 ≡ true). job_leads seat job event t (kind s.seats seat job) (sym (cond-true (nat_lt seat 32) (asked s.seats seat job) Nothing t) ∙ e))
+        (λ (t : nat_lt seat 32 ≡ true). job_leads seat job event t (sym (cond-true (nat_lt seat 32) (asked s.seats seat job) Nothing t) ∙ e))
         (λ (t : nat_lt seat 32 ≡ false). absurd (no_event event (sym (cond-false (nat_lt seat 32) (asked s.seats seat job) Nothing t) ∙ e)))
         (cases_Bool (nat_lt seat 32))
 
@@ -277,15 +284,15 @@ module _ (accounts : List CentreAccount) where
     AsksNone Nothing = Unit {0}
     AsksNone Taken = Unit {0}
 
-    job_unmoved : (seat : ℕ) (job : Job) → Kind s.seats seat job → AsksNone (asked s.seats seat job) → (k : ℕ) → moved bound (JobOf seat job) k ≡ bound k
-    job_unmoved seat (Bound account receives) (Binds account receives) none k = absurd none
-    job_unmoved seat Unbound Unbinds none k = absurd none
-    job_unmoved seat job (Same job h) none k = same_moved bound s.seats seat k job h
+    job_unmoved : (seat : ℕ) (job : Job) → AsksNone (asked s.seats seat job) → (k : ℕ) → moved bound (JobOf seat job) k ≡ bound k
+    job_unmoved seat (Bound account receives) none k = absurd none
+    job_unmoved seat Unbound none k = absurd none
+    job_unmoved seat job none k = same_moved bound s.seats seat k job (other s.seats seat job tt)
 
     unmoved : (stimulus : Stimulus Job) → AsksNone (asked_by s.seats stimulus) → (k : ℕ) → nat_lt k 32 ≡ true → moved bound stimulus k ≡ bound k
     unmoved (Tick now) none k few = absurd none
     unmoved (JobOf seat job) none k few = ⊎_elim
-        (λ (t : nat_lt seat 32 ≡ true). job_unmoved seat job (kind s.seats seat job) (subst AsksNone (cond-true (nat_lt seat 32) (asked s.seats seat job) Nothing t) none) k)
+        (λ (t : nat_lt seat 32 ≡ true). job_unmoved seat job (subst AsksNone (cond-true (nat_lt seat 32) (asked s.seats seat job) Nothing t) none) k)
         (λ (t : nat_lt seat 32 ≡ false). far_moved seat job t k few)
         (cases_Bool (nat_lt seat 32))
 
@@ -323,7 +330,7 @@ module _ (accounts : List CentreAccount) where
 
 -- the delivery that it is
 abbrev IsDelivery : ℕ → Final → List MessageRow → List Delivery → Type 0
-IsDelivery seat end messages ds = (d : Delivery) × (Among d ds × (seat ≡ d.session) × (end_of (message_at d.id messages) ≡ Some end))
+IsDelivery seat end messages ds = (d : Delivery) × Among d ds × (seat ≡ d.session) × (end_of (message_at d.id messages) ≡ Some end)
 
 module _ (seat : ℕ) (end : Final) where
   one_delivery : (messages : List MessageRow) (session id : ℕ) (o : Option Final) → end_of (message_at id messages) ≡ o → Among (receipt_for seat end) (receipt_out session o)
@@ -339,7 +346,7 @@ module _ (seat : ℕ) (end : Final) where
   a_delivery messages (d ∷ ds) there =
       ⊎_elim
       (λ h. let one = one_delivery messages d.session d.id (end_of (message_at d.id messages)) refl h in (d, inl refl, one.0, one.1))
-      (λ h. let x = a_delivery messages ds h in (x.0, inr x.1.0, x.1.1, x.1.2))
+      (λ h. let x = a_delivery messages ds h in (x.0, inr x.1, x.2, x.3))
       (among_parts (receipt_for seat end) (receipt_out d.session (end_of (message_at d.id messages))) (receipt_outs messages ds) there)
 
   replied_delivery : (risen : Option (List ℕ)) (from : ℕ) (s : Serving) (event : CentreEvent)
@@ -360,8 +367,8 @@ module _ (seat : ℕ) (end : Final) where
     -- an event was done, and made the delivery
     abbrev WasSent : Stimulus Job → Fate → Type 0
     WasSent stimulus fate =
-        (event : CentreEvent) × ((asked_by s.seats stimulus ≡ Event event) × (fate ≡ Done)
-        × IsDelivery seat end (messages_in (happened event s.core).store) (happened event s.core).bindings.deliveries)
+        (event : CentreEvent) × (asked_by s.seats stimulus ≡ Event event) × (fate ≡ Done)
+        × IsDelivery seat end (messages_in (happened event s.core).store) (happened event s.core).bindings.deliveries
 
     request_sent : (stimulus : Stimulus Job) (a : SeatRequest) (fate : Fate) (refusal : Option CommandStatus) → asked_by s.seats stimulus ≡ a
         → Among (receipt_for seat end) (unless_refused fate refusal stimulus (gives_for a fate s stimulus)) → WasSent stimulus fate
@@ -404,27 +411,27 @@ module _ (accounts : List CentreAccount) (bound : ℕ → Option Binding) (s las
       → IsOfAccount accounts last (bound_behind seat (bound seat) stimulus fate) end
   goes_to_account stimulus fate sent keeps =
       let event = sent.0 in
-      let asks = sent.1.0 in
-      let done = sent.1.1 in
-      let delivery = sent.1.2.0 in
+      let asks = sent.1 in
+      let done = sent.2 in
+      let delivery = sent.3.0 in
       let messages = messages_in (happened event s.core).store in
       let kept : Keeps (core_of (happened event s.core)).rows last.core.rows =
       subst (λ (a : SeatRequest). Keeps (after_for a Done s stimulus).core.rows last.core.rows) asks
       (subst (λ (f : Fate). Keeps (after s stimulus f).core.rows last.core.rows) done keeps) in
       let sends = event_sends accounts bound s fits sound stimulus event asks in
-      let g = sends.each delivery sent.1.2.1.0 in
+      let g = sends.each delivery sent.3.1 in
       let h = sends.held g.session g.bound in
       let m = g.message in
-      let own : end.id ≡ delivery.id = numbered m delivery.id messages g.there (ap end_of (sym g.there) ∙ sent.1.2.1.2) in
+      let own : end.id ≡ delivery.id = numbered m delivery.id messages g.there (ap end_of (sym g.there) ∙ sent.3.3) in
       let x = kept.messages delivery.id m g.there in record {
-        place = h.1.0;
+        place = h.1;
         bound_so = ap (λ (f : Fate). bound_behind seat (bound seat) stimulus f) done
-            ∙ (ap (λ (k : ℕ). moved bound stimulus k) (sent.1.2.1.1 ∙ sym g.number) ∙ (h.1.1.1.0 ∙ ap (λ (b : Bool). Some (h.1.0, b)) g.receives));
-        account = h.1.1.0;
-        account_so = h.1.1.1.1;
+            ∙ (ap (λ (k : ℕ). moved bound stimulus k) (sent.3.2 ∙ sym g.number) ∙ (h.3 ∙ ap (λ (b : Bool). Some (h.1, b)) g.receives));
+        account = h.2;
+        account_so = h.4;
         row = x.0;
         row_so = ap (λ (k : ℕ). message_at k last.core.rows.messages) own ∙ x.1.0;
-        submitted = ap (λ (name : List ℕ). is_account name x.0.originator) h.1.1.1.2 ∙ (ap (λ (o : Originator). is_account g.session.account o) x.1.1.originator ∙ g.account);
+        submitted = ap (λ (name : List ℕ). is_account name x.0.originator) h.5 ∙ (ap (λ (o : Originator). is_account g.session.account o) x.1.1.originator ∙ g.account);
       }
 
 module _ (rows : Rows) (items : List (Item Job Reply)) (last : Serving) (sound : IsSound rows) (are : AreAsked items)

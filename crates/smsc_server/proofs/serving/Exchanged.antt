@@ -1,6 +1,7 @@
 -- Each request of a seat has one answer of the centre, and a connection takes the answers to its own.
 use Rattle.std.proofs.Common.{◌≡◌, ◌==◌, ◌+◌, ◌∙◌, ℕ, zero, suc, Bool, true, false, List, [], ◌∷◌, ◌++◌, length, map, Option, if◌then◌else◌, refl, sym, ap, subst, append_assoc, zero-add, arith}
 use Rattle.std.specs.Prelude.{⊤}
+use Rattle.std.proofs.lemmas.List.{map-append}
 use Rattle.sms_centre_spec.specs.declared.answer.CentreAnswer.{CentreAnswer}
 use Rattle.sms_centre_spec.specs.declared.jobs.job.Job.{Job}
 use Rattle.sms_centre_spec.specs.declared.jobs.reply.Reply.{Reply}
@@ -22,10 +23,6 @@ use Rattle.smsc_server.proofs.serving.OneAnswer.{one_given, one_if, requests_of}
 use Rattle.smsc_server.proofs.serving.Stretched.{jobs_first}
 
 -- ---- lists
-
-map_join : {A B : Type 0} (f : A → B) (a b : List A) → map f (a ++ b) ≡ map f a ++ map f b
-map_join f [] b = refl
-map_join f (x ∷ a) b = ap (λ (l : List _). f x ∷ l) (map_join f a b)
 
 pub requests_join : (a b : List Job) → requests_among (a ++ b) ≡ requests_among a ++ requests_among b
 requests_join [] b = refl
@@ -50,9 +47,15 @@ answers_count (Receipt end ∷ l) = answers_count l
 answers_count (Frame octets ∷ l) = answers_count l
 answers_count (Taken ∷ l) = answers_count l
 
+suc_zero : (n : ℕ) → suc n ≡ 0 → ⊥
+suc_zero n e = omega (arith, e)
+
+zero_one : 0 ≡ 1 → ⊥
+zero_one e = omega (arith, e)
+
 none_there : {A : Type 0} (l : List A) → length l ≡ 0 → l ≡ []
 none_there [] e = refl
-none_there (x ∷ l) e = absurd cc
+none_there (x ∷ l) e = absurd (suc_zero (length l) e)
 
 -- ---- one item
 
@@ -61,7 +64,7 @@ record IsExchangedAt (n : ℕ) (stimulus : Stimulus Job) (answers : List CentreA
   pub answered : map answered_in (exchanges_at n stimulus answers) ≡ answers
 
 one_asked : (job : Job) (answers : List CentreAnswer) → length answers ≡ 1 → map asked_in (map (exchange job) answers) ≡ job ∷ []
-one_asked job [] e = absurd cc
+one_asked job [] e = absurd (zero_one e)
 one_asked job (answer ∷ []) e = refl
 one_asked job (answer ∷ next ∷ answers) e = absurd (omega (arith, e))
 
@@ -104,7 +107,7 @@ module _ (n : ℕ) where
   pub all_asked : (s : Serving) (items : List (Item Job Reply)) → map asked_in (exchanges n s items) ≡ requests_among (jobs_of n items)
   all_asked s [] = refl
   all_asked s (e ∷ items) =
-      map_join asked_in (exchanges_at n e.stimulus (given s e)) (exchanges n (after s e.stimulus e.fate) items)
+      map-append asked_in (exchanges_at n e.stimulus (given s e)) (exchanges n (after s e.stimulus e.fate) items)
       ∙ (ap (λ (l : List Job). l ++ map asked_in (exchanges n (after s e.stimulus e.fate) items)) (exchanged_at n e.stimulus (given s e) (given_count s e)).asked
       ∙ (ap (λ (l : List Job). requests_among (for_seat n (asked_by e.stimulus)) ++ l) (all_asked (after s e.stimulus e.fate) items)
       ∙ (sym (requests_join (for_seat n (asked_by e.stimulus)) (jobs_of n items)) ∙ ap requests_among (sym (jobs_first n e items)))))
@@ -113,7 +116,7 @@ module _ (n : ℕ) where
       → map answered_in (exchanges n s items) ≡ answers_among (replies_in n items)
   all_answered s [] t h = refl
   all_answered s (e ∷ items) t h =
-      map_join answered_in (exchanges_at n e.stimulus (given s e)) (exchanges n (after s e.stimulus e.fate) items)
+      map-append answered_in (exchanges_at n e.stimulus (given s e)) (exchanges n (after s e.stimulus e.fate) items)
       ∙ (ap (λ (l : List CentreAnswer). l ++ map answered_in (exchanges n (after s e.stimulus e.fate) items)) (exchanged_at n e.stimulus (given s e) (given_count s e)).answered
       ∙ (ap (λ (l : List CentreAnswer). given s e ++ l) (all_answered (after s e.stimulus e.fate) items t h.1)
       ∙ (ap (λ (l : List (Out Reply)). answers_among (outs_to n l) ++ answers_among (replies_in n items)) (sym h.0)
@@ -122,9 +125,9 @@ module _ (n : ℕ) where
 -- ---- the connections of a seat
 
 parted : (one other : List (Item Job Reply)) (s t : Serving) → IsHistory gives after s (one ++ other) t
-    → (m : Serving) × (IsHistory gives after s one m × IsHistory gives after m other t)
+    → (m : Serving) × IsHistory gives after s one m × IsHistory gives after m other t
 parted [] other s t h = (s, refl, h)
-parted (e ∷ one) other s t h = let p = parted one other (after s e.stimulus e.fate) t h.1 in (p.0, (h.0, p.1.0), p.1.1)
+parted (e ∷ one) other s t h = let p = parted one other (after s e.stimulus e.fate) t h.1 in (p.0, (h.0, p.1), p.2)
 
 module _ {S : Type 0} (remaining contents : S → Option (List ℕ)) (admitted : Admitted) (n : ℕ) where
   own_exchanged : (s : Serving) (items : List (Item Job Reply)) (t : Serving) (calls : List Call) → IsHistory gives after s items t → IsStretch n calls items
@@ -152,7 +155,7 @@ module _ {S : Type 0} (remaining contents : S → Option (List ℕ)) (admitted :
         k.1,
         p.0,
         k.2,
-        p.1.0,
-        own_exchanged s k.0 p.0 (calls_of remaining contents admitted c) p.1.0 k.3,
-        exchanged (next ∷ cs) p.0 k.1 t p.1.1 k.4,
+        p.1,
+        own_exchanged s k.0 p.0 (calls_of remaining contents admitted c) p.1 k.3,
+        exchanged (next ∷ cs) p.0 k.1 t p.2 k.4,
       )
