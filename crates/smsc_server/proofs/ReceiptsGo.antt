@@ -273,7 +273,7 @@ module _ (accounts : List CentreAccount) where
         (λ (t : nat_lt seat 32 ≡ false). absurd (no_event event (sym (cond-false (nat_lt seat 32) (asked s.seats seat job) Nothing t) ∙ e)))
         (cases_Bool (nat_lt seat 32))
 
-    pub event_sends : IsSoundCore s.core → (stimulus : Stimulus Job) (event : CentreEvent) → asked_by s.seats stimulus ≡ Event event
+    event_sends : IsSoundCore s.core → (stimulus : Stimulus Job) (event : CentreEvent) → asked_by s.seats stimulus ≡ Event event
         → Sends (messages_in (happened event s.core).store) (OfBound (moved bound stimulus)) (happened event s.core).bindings
     event_sends sound stimulus event e = sends_of (OfBound bound) (OfBound (moved bound stimulus)) s.core sound fits.sessions event (leads stimulus event e)
 

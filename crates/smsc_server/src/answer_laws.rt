@@ -71,9 +71,9 @@ pub fn what_an_application_reads()
         → (served : Did EsmeDoes s t) → (left : Did EsmeDoes t u) → IsRead accounts (served.calls ++ left.calls) }
 {}
 
-/// The same of the answers: each request that was answered and not handed back has the answer that the centre gave to it, under its own
-/// number, in the order in which the seat put them. Who was handed back is answered ESME_RTHROTTLED. So it is where no answer is heard before
-/// its request was put.
+/// The same of the answers, where no answer is heard before its request was put. Those that were answered, but those that were handed back, are the
+/// first that the seat put. Each has the answer that the centre gave to it, under its own number. One that was handed back is answered
+/// ESME_RTHROTTLED.
 pub fn an_application_reads_answers_to_its_own_requests()
     ensures { (accounts : List Account) (s t u : Standing EsmeView) → s.view ≡ opened accounts → s.phase ≡ Serves
         → (served : Did EsmeDoes s t) → (left : Did EsmeDoes t u) → (exchanges : List Exchange) → AreFor (served.calls ++ left.calls) exchanges

@@ -23,9 +23,8 @@ pub fn each_connection_has_its_own_replies<S: Read + Write>()
         → HaveStretches S.remaining S.contents admitted seat did.connections items }
 {}
 
-/// Each request that a connection put has one answer: that which the centre's definition gives to it at its place in the history. The answers
-/// that the connection heard or dropped are those to its own requests, one by one and in order, and no others. Only the last connection of a
-/// seat may have left some.
+/// Each request that a connection put has one answer: the centre's definition gives it at that place of the history. The answers that the
+/// connection heard or dropped are those to its own requests, in order, and no others. Only the last connection of a seat may have left some.
 pub fn each_request_has_the_centres_answer<S: Read + Write>()
     ensures { (admitted : Admitted) (seat : ℕ) (before behind : Serving) (items : List (Item Job Reply)) (took : List (Arrival S))
         → IsHistory gives after before items behind

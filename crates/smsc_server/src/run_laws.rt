@@ -31,15 +31,15 @@ pub fn a_run_keeps_its_promises()
     an_answer_names_a_message();
 }
 
-/// Each receipt that a seat gets in such a run is for the account that is bound there, in a session that receives: the account that submitted the
-/// message. Who is bound at a seat is told by the jobs of that seat alone, but for those for which the centre had no memory.
+/// Each receipt that a seat gets in such a run is of a message of the account that is bound there, in a session that receives. The jobs of that seat
+/// alone tell who is bound, but for those for which the centre had no memory.
 pub fn receipts_go_to_their_accounts()
     ensures { (rows : Rows) (items : List (Item Job Reply)) (last : Serving) → IsSound rows → AreAsked items
         → IsHistory gives after (restarted rows nobody) items last → GoToAccounts rows items last }
 {}
 
-/// Each frame that a seat gets goes to the handset whose link is at the seat: a job of the seat named it, and the link was not taken down since,
-/// but for want of memory. The frame is one that the centre's definition sends to that handset at that place of the history.
+/// Each frame that a seat gets goes to the handset whose link is at the seat. A job of the seat named it, and the link was not taken down since, but
+/// for want of memory. The centre's definition sends that frame to that handset at that place of the history.
 pub fn frames_go_to_their_handsets()
     ensures { (rows : Rows) (items : List (Item Job Reply)) (last : Serving)
         → IsHistory gives after (restarted rows nobody) items last → GoToHandsets (restarted rows nobody) items }
