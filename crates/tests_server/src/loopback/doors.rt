@@ -164,9 +164,15 @@ fn run(rt: HostRuntime, alloc: Global, taken: &Given<Sums>) -> Result<Doors<List
 
 // It gave the connections of these numbers, in order.
 fn gave(listed: &Listed, numbers: &[u16]) -> bool {
-    listed.gave.len() == numbers.len()
-        && listed.gave.iter().zip(numbers.iter()).all(|(one, number)| *one
-            == (Numbered(u32::from(*number)), address(*number)))
+    if listed.gave.len() != numbers.len() {
+        return false;
+    }
+    for (one, number) in listed.gave.iter().zip(numbers) {
+        if one.0 != Numbered(u32::from(*number)) || one.1 != address(*number) {
+            return false;
+        }
+    }
+    true
 }
 
 #[test]
