@@ -3,6 +3,7 @@ pub mod Entered
 pub mod Limits
 pub mod OneAnswer
 pub mod Ran
+pub mod RateLaws
 pub mod Sat
 pub mod ShareLists
 pub mod Served

@@ -14,8 +14,8 @@ use crate::smpp::exchanges::{
 use crate::smpp::limits::message;
 use smpp_pdu::{CommandStatus, MessageResp, QuerySmResp};
 use smpp_session::{
-    Account, Accounts, Action, Actions, Answer, Call, DeliverFault, FullAccounts, Request, Session,
-    SessionState, run,
+    Account, Accounts, Action, Actions, Answer, Call, DeliverFault, FullAccounts, Password, Request,
+    Session, SessionState, run,
 };
 use sms_base::{OctetView, Octets};
 use std::alloc::Global;
@@ -25,7 +25,7 @@ use std::thread;
 
 pub(crate) fn account(alloc: Global) -> Result<Account, Fail> {
     let name = Octets::copy_of(alloc, b"app1")?;
-    let password = Octets::copy_of(alloc, b"secret")?;
+    let password = Password::Plain(Octets::copy_of(alloc, b"secret")?);
     Ok(Account { name, password })
 }
 
