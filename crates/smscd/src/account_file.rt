@@ -1,6 +1,7 @@
 //! The accounts of a run, from its words and from their file.
 //!
-//! A file whose name ends in `.toml` has a table `[[account]]` for each account, any other a line.
+//! A file whose name ends in `.toml`, or that has a line `[[account]]`, has a table for each account, any other a line. No line of
+//! an account is `[[account]]`, since that has no colon.
 use crate::link_secrets::access_of;
 use crate::run_fault::RunFault;
 use crate::setup::RunAccounts;
@@ -136,9 +137,13 @@ fn reading_fault(error: io::Error) -> RunFault {
     }
 }
 
+fn is_toml(path: &str, file: &str) -> bool {
+    path.ends_with(".toml") || file.lines().any(|line| line.trim() == "[[account]]")
+}
+
 fn add_file(host: &HostRuntime, path: &str, book: &mut RunAccounts) -> Result<(), RunFault> {
     let file = fs::read_to_string(host, path).map_err(reading_fault)?;
-    if path.ends_with(".toml") {
+    if is_toml(path, file.as_str()) {
         add_toml(host.alloc(), file.as_str(), book)
     } else {
         add_text(host.alloc(), file.as_str(), book)

@@ -178,7 +178,7 @@ pub const USAGE: &str =
     \u{20}  --links PORT      handsets link here\n\
     \u{20}  --centre NUMBER   the centre's own number, 1 to 20 digits\n\
     \u{20}  --accounts FILE   accounts, one a line, each as ACCOUNT: NAME:PASSWORD:NUMBER[:SESSIONS]\n\
-    \u{20}                    (SESSIONS at once: 1 to 32, else 4); tables [[account]] where it ends in .toml\n\
+    \u{20}                    (SESSIONS at once: 1 to 32, else 4); or tables [[account]] in TOML\n\
     \u{20}  --accounts-open   every user may read that file\n\
     \u{20}  --link-secrets FILE\n\
     \u{20}                    secrets of handsets, one a line: NUMBER:SECRET\n\

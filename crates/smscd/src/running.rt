@@ -25,12 +25,12 @@ use smsc_endpoint::LinkAccess;
 use smsc_server::{Given, ObservedKeep, Orders, Ports, Rate, ServeFault, serve};
 use smsc_service::{CentreStore, LinkBoard, Setup};
 use std::alloc::{AllocError, Global};
+use std::io;
 use std::net::TcpListener;
 use std::sync::atomic::{AtomicBool, Ordering};
 use std::sync::{Arc, Wait};
 use std::thread::{self, JoinHandle, Threads};
 use std::time::Clock;
-use std::io;
 
 // So many seconds the rows may be ahead of the clock.
 const MOST_AHEAD: u64 = 600;
