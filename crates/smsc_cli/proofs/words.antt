@@ -10,4 +10,5 @@ pub mod Parties
 pub mod Places
 pub mod Refusals
 pub mod SecretLines
+pub mod TableTexts
 pub mod Served
