@@ -10,5 +10,5 @@ pub mod Parties
 pub mod Places
 pub mod Refusals
 pub mod SecretLines
-pub mod TableTexts
 pub mod Served
+pub mod TableTexts

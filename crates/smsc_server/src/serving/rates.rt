@@ -75,21 +75,29 @@ impl Rate {
     }
 }
 
-// Whether a request of the account at that place is put at the moment.
-fn admit_at(rates: &mut Vec<Option<Rate>>, place: usize, now: u64) -> bool
-    ensures said { result ≡ admitted_of (slice_get rates.old.items place) now }
-    ensures rates { rates.new.items ≡ rates_after (slice_get rates.old.items place) place now rates.old.items }
-{
-    match rates.get_mut(place) {
-        Some(Some(rate)) => rate.admit(now),
-        Some(None) | None => true,
+// The rates of the accounts at their places.
+#[derive(Drop)]
+struct AccountRates {
+    rates: Vec<Option<Rate>>,
+}
+
+impl AccountRates {
+    // Whether a request of the account at that place is put at the moment.
+    fn admit(&mut self, place: usize, now: u64) -> bool
+        ensures said { result ≡ admitted_of (slice_get self.old.rates.items place) now }
+        ensures rates { self.new.rates.items ≡ rates_after (slice_get self.old.rates.items place) place now self.old.rates.items }
+    {
+        match self.rates.get_mut(place) {
+            Some(Some(rate)) => rate.admit(now),
+            Some(None) | None => true,
+        }
     }
 }
 
-/// The rates of the accounts at their places.
+/// The rates of the accounts of a run.
 #[derive(Drop)]
 pub(crate) struct Rates {
-    accounts: Mutex<Vec<Option<Rate>>>,
+    accounts: Mutex<AccountRates>,
 }
 
 // The account of a request.
@@ -104,9 +112,9 @@ fn account_of(request: &Job) -> Option<u8> {
 
 impl Rates {
     /// These rates; an account without one puts as many as it likes.
-    pub(crate) fn new(accounts: Vec<Option<Rate>>) -> Rates {
+    pub(crate) fn new(rates: Vec<Option<Rate>>) -> Rates {
         Rates {
-            accounts: Mutex::new(accounts),
+            accounts: Mutex::new(AccountRates { rates }),
         }
     }
 
@@ -117,7 +125,7 @@ impl Rates {
         };
         let mut accounts = self.accounts.lock(rt);
         let now = milliseconds(rt);
-        admit_at(&mut accounts, usize::from(account), now)
+        accounts.admit(usize::from(account), now)
     }
 }
 
