@@ -33,7 +33,7 @@ pub no_room_for : (value : Data) (b : TableAccount) (old seen : List TableAccoun
     → AddsNoValue value old
 no_room_for value b old seen has same lacks found t a s room =
     let yes : has ≡ true = found
-        (subst (λ (accounts : List TableAccount). HasRoomFor b.name.now accounts) (sym same) (subst (λ (x : List ℕ). HasRoomFor x old) (same_name value a b s t) room)) in
+    (subst (λ (accounts : List TableAccount). HasRoomFor b.name.now accounts) (sym same) (subst (λ (x : List ℕ). HasRoomFor x old) (same_name value a b s t) room)) in
     absurd (true≢false (sym yes ∙ lacks))
 
 -- ---- several
