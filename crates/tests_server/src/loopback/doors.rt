@@ -120,7 +120,7 @@ impl Observer for Sums {
     }
 }
 
-fn listed(rt: &HostRuntime, alloc: Global, left: u16) -> io::Result<Listed> {
+fn opened(rt: &HostRuntime, alloc: Global, left: u16) -> io::Result<Listed> {
     let port = TcpListener::bind(rt, (Ipv4Addr::LOCALHOST, 0))?;
     Ok(Listed {
         port,
@@ -149,8 +149,8 @@ fn given(alloc: Global, sessions: u32) -> Result<Given<Sums>, Fail> {
 
 // Two applications and three handsets come.
 fn run(rt: HostRuntime, alloc: Global, taken: &Given<Sums>) -> Result<Doors<Listed>, Fail> {
-    let applications = listed(&rt, alloc, 2)?;
-    let links = listed(&rt, alloc, 3)?;
+    let applications = opened(&rt, alloc, 2)?;
+    let links = opened(&rt, alloc, 3)?;
     let ports = Ports::of(&rt, alloc, applications, links)?;
     let clock = clock()?;
     match serve(rt, alloc, keep(alloc)?, &Open, &clock, ports, taken) {
