@@ -144,6 +144,7 @@ fn given(alloc: Global, sessions: u32) -> Result<Given<Sums>, Fail> {
         links: None,
         sessions: Some(sessions),
         limits: Vec::new(alloc),
+        rates: Vec::new(alloc),
     })
 }
 
@@ -154,8 +155,8 @@ fn run(rt: HostRuntime, alloc: Global, taken: &Given<Sums>) -> Result<Doors<List
     let ports = Ports::of(&rt, alloc, applications, links)?;
     let clock = clock()?;
     match serve(rt, alloc, keep(alloc)?, &Open, &clock, ports, taken) {
-        Ok((doors, keep)) => {
-            drop(keep);
+        Ok((doors, store)) => {
+            drop(store);
             Ok(doors)
         }
         Err(_) => Err(Fail::new("the run ends with its connections")),
