@@ -170,7 +170,12 @@ fn paths_of<'a>(asked: &ServerWords<'a>) -> Paths<'a> {
             secrets: "",
             control: *control,
         },
-        ServerWords::Password => no_paths(),
+        ServerWords::Password => Paths {
+            store: "",
+            accounts: "",
+            secrets: "",
+            control: "",
+        },
     }
 }
 
