@@ -10,6 +10,7 @@ use sms_handset::machine::HandsetMachine;
 use sms_store_memory::handset::MemoryKeep;
 use smsc_cli::handset_table::handset_table;
 use smsc_server::{Loopback, ObservedKeep};
+use smsc_service::CentreStore;
 use std::alloc::Global;
 use std::net::{Net, TcpListener, TcpStream};
 use std::sync::Wait;
@@ -61,6 +62,7 @@ fn is_shown(alloc: Global, machine: &HandsetMachine<MemoryKeep>) -> Result<(), F
     holds(table.as_slice() == SHOWN, "hello is in the inbox once")
 }
 
+// Over any store, whose commits are observed.
 fn serves_observed<
     R: Net<Listener = TcpListener, Stream = TcpStream>
         + Threads
@@ -70,14 +72,16 @@ fn serves_observed<
         + Send
         + Sync
         + 'static,
+    K: CentreStore + Drop + Send,
 >(
     rt: R,
     alloc: Global,
     machine: &mut HandsetMachine<MemoryKeep>,
+    keep: K,
     observer: &Counting,
 ) -> Result<(), Fail> {
     let store = ObservedKeep {
-        keep: keep(alloc)?,
+        keep,
         observer: Some(observer),
     };
     serves(rt, alloc, store, &Open, 2, |at: Loopback| {
@@ -96,7 +100,7 @@ fn serves_one<
         + 'static,
 >(rt: R, alloc: Global, machine: &mut HandsetMachine<MemoryKeep>) -> Result<(), Fail> {
     let counting = Counting::new();
-    serves_observed(rt, alloc, machine, &counting)?;
+    serves_observed(rt, alloc, machine, keep(alloc)?, &counting)?;
     is_shown(alloc, machine)?;
     holds(
         counting.counts() == (1, 1),
