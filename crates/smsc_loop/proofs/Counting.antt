@@ -11,7 +11,7 @@ abbrev counted_in : Bool → ℕ → ℕ
 counted_in b n = if b then suc n else n
 
 -- one job more is one request more, if it has an answer
-requests_next : (put : List (Option Job)) (job : Job) → requests_in (put ++ Some job ∷ []) ≡ counted_in (is_request job) (requests_in put)
+pub requests_next : (put : List (Option Job)) (job : Job) → requests_in (put ++ Some job ∷ []) ≡ counted_in (is_request job) (requests_in put)
 requests_next [] job = refl
 requests_next (None ∷ put) job = requests_next put job
 requests_next (Some first ∷ put) job =

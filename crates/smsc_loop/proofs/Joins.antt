@@ -122,12 +122,12 @@ jobs_put_join (Refused reply ∷ one) other = jobs_put_join one other
 
 -- ---- which answers are due
 
-due_at : (put put_then : List (Option Job)) (taken taken_then : List Reply) (calls : List Call) → put ≡ put_then → taken ≡ taken_then
+pub due_at : (put put_then : List (Option Job)) (taken taken_then : List Reply) (calls : List Call) → put ≡ put_then → taken ≡ taken_then
     → AreDue put taken calls → AreDue put_then taken_then calls
 due_at put put_then taken taken_then calls e f h =
     subst (λ (l : List Reply). AreDue put_then l calls) f (subst (λ (l : List (Option Job)). AreDue l taken calls) e h)
 
-due_join : (put : List (Option Job)) (taken : List Reply) (one other : List Call) → AreDue put taken one
+pub due_join : (put : List (Option Job)) (taken : List Reply) (one other : List Call) → AreDue put taken one
     → AreDue (put ++ jobs_put one) (taken ++ replies_taken one) other → AreDue put taken (one ++ other)
 due_join put taken [] other h k = due_at (put ++ []) put (taken ++ []) taken other (append-nil put) (append-nil taken) k
 due_join put taken (call ∷ one) other h k = (
