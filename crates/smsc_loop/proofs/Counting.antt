@@ -77,8 +77,8 @@ one_more true r h a w e = omega arith
 one_more false r h a w e = e
 
 one_less : (r h a w : ℕ) → r + h ≡ a + w → r + (if w == 0 then suc h else h) ≡ suc a + (w - 1)
-one_less r h a zero e = omega arith
-one_less r h a (suc w) e = omega arith
+one_less r h a zero e = let now : r + suc h ≡ suc a + 0 = omega arith in now
+one_less r h a (suc w) e = let now : r + h ≡ suc a + w = omega arith in now
 
 module _ (put put_then : List (Option Job)) (taken taken_then : List Reply) (awaited ahead : ℕ)
     (counted : requests_in put + ahead ≡ answers_in taken + awaited) where

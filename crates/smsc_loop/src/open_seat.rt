@@ -1,5 +1,5 @@
 //! A seat that has not closed.
-ghost use Rattle.std.specs.Prelude.{◌≡◌, ◌≤◌, ◌⊎◌, [], ◌∷◌, ◌++◌, ◌+◌, Some, None, true, false, IfSome, MatchOption, MatchResult};
+ghost use Rattle.std.specs.Prelude.{◌≡◌, ◌≤◌, ◌<◌, ◌⊎◌, [], ◌∷◌, ◌++◌, ◌+◌, Some, None, true, false, IfSome, MatchOption, MatchResult};
 ghost use Rattle.sms_seats.specs.Jobs.{has_end};
 ghost use Rattle.sms_seats.specs.Seats.{IsSameSeat, number_of, put_by, taken_by};
 ghost use Rattle.smsc_loop.specs.Emptying.{Drops};

@@ -5,25 +5,26 @@ use Rattle.sms_centre_spec.specs.declared.jobs.reply.Reply.{Reply}
 use Rattle.sms_keeper.specs.declared.machine.Item.{Item}
 use Rattle.sms_seats.specs.Seats.{put_by, taken_by}
 use Rattle.smsc_loop.specs.Calls.{Call, replies_taken}
-use Rattle.smsc_loop.specs.Courses.{Did, Standing}
+use Rattle.smsc_loop.specs.Courses.{Did, Standing, standing}
 use Rattle.smsc_loop.specs.Owing.{IsCleared, answers_in, requests_in}
 use Rattle.smsc_loop.specs.Phases.{Serves}
 use Rattle.smsc_endpoint.specs.declared.link_access.LinkAccess.{LinkAccess}
+use Rattle.smsc_endpoint.specs.EsmeView.{opened as opened_session}
 use Rattle.smsc_endpoint.specs.LinkDoes.{LinkDoes}
-use Rattle.smsc_endpoint.specs.LinkView.{LinkView, opened}
+use Rattle.smsc_endpoint.specs.LinkView.{LinkView, opened as opened_link}
 use Rattle.smsc_service.specs.Serving.{Serving}
 use Rattle.smsc_server.specs.CentresAnswers.{AreFor}
 use Rattle.smsc_server.specs.Exchanges.{AreExchanged, AreLastExchanged, Exchange, HaveExchanges, answers_among, exchanges}
 use Rattle.smsc_server.specs.RunReads.{HaveRead, ReadsOwn}
 use Rattle.smsc_server.specs.WhatALinkReads.{IsLinkRead}
-use Rattle.smsc_server.specs.serving.Connections.{Admitted, Connection, Session, Link, TurnedAway, calls_of}
+use Rattle.smsc_server.specs.serving.Connections.{Admitted, Connection, Session, Link, TurnedAway, calls_of, remaining_on, written_on}
 use Rattle.smsc_server.specs.serving.Sittings.{AllSatDown, InTurn, SatDown}
 use Rattle.smsc_server.proofs.CentresAnswers.{reads_answers}
 
 -- what a handset reads, of any link
 abbrev pub ReadLinks : Type 0
 ReadLinks =
-    (access : LinkAccess) (s t u : Standing LinkView) → s.view ≡ opened access → s.phase ≡ Serves
+    (access : LinkAccess) (s t u : Standing LinkView) → s.view ≡ opened_link access → s.phase ≡ Serves
     → (served : Did LinkDoes s t) → (left : Did LinkDoes t u) → IsLinkRead access (served.calls ++ left.calls)
 
 for_own : (n : ℕ) (s : Serving) (calls : List Call) (items : List (Item Job Reply)) → AreExchanged n s calls items → AreFor calls (exchanges n s items)
@@ -41,8 +42,17 @@ module _ {S : Type 0} (remaining contents : S → Option (List ℕ)) (admitted :
       → SatDown remaining contents admitted put taken c → (own : List Exchange) → AreFor (calls_of remaining contents admitted c) own
       → ReadsOwn remaining contents admitted c own
   own_read (Session visit) put taken cleared down own for =
-      reads_answers admitted.accounts _ _ _ refl refl (ap requests_in down.0 ∙ (cleared.0 ∙ sym (ap answers_in down.1))) visit.served.served visit.served.left own for
-  own_read (Link visit) put taken cleared down own for = links admitted.access _ _ _ refl refl visit.served.served visit.served.left
+      reads_answers admitted.accounts
+      (standing (opened_session admitted.accounts) Serves (remaining_on visit.wire) (written_on contents visit.wire) visit.seat)
+      (standing visit.served.last visit.served.last_phase (remaining_on visit.wire_then) (written_on contents visit.wire_then) visit.served.last_seat)
+      (standing visit.endpoint visit.served.phase (remaining_on visit.wire_then) (written_on contents visit.wire_then) visit.seat_then)
+      refl refl (ap requests_in down.0 ∙ (cleared.0 ∙ sym (ap answers_in down.1))) visit.served.served visit.served.left own for
+  own_read (Link visit) put taken cleared down own for =
+      links admitted.access
+      (standing (opened_link admitted.access) Serves (remaining_on visit.wire) (written_on contents visit.wire) visit.seat)
+      (standing visit.served.last visit.served.last_phase (remaining_on visit.wire_then) (written_on contents visit.wire_then) visit.served.last_seat)
+      (standing visit.endpoint visit.served.phase (remaining_on visit.wire_then) (written_on contents visit.wire_then) visit.seat_then)
+      refl refl visit.served.served visit.served.left
   own_read (TurnedAway arrival) put taken cleared down own for = tt
 
   pub have_read : (n : ℕ) (cs : List (Connection remaining contents admitted)) (put : List (Option Job)) (taken : List Reply) (s : Serving) (items : List (Item Job Reply))
