@@ -1,5 +1,6 @@
 -- How many answers a seat has still to get.
-use Rattle.std.proofs.Common.{◌≡◌, ◌≤◌, ◌==◌, ℕ, zero, suc, ◌+◌, ◌-◌, List, [], ◌∷◌, ◌++◌, Option, Some, None, Bool, true, false, if◌then◌else◌, nat_lt, refl, sym, ap, subst, ◌∙◌, true≢false, arith, le-ltb, lt-ltb}
+use Rattle.std.proofs.Common.{◌≡◌, ◌<◌, ◌≤◌, ◌==◌, ◌⊎◌, inl, inr, ℕ, zero, suc, ◌+◌, ◌-◌, List, [], ◌∷◌, ◌++◌, Option, Some, None, Bool, true, false, if◌then◌else◌, nat_lt, refl, sym, ap, subst, ◌∙◌, true≢false, arith}
+use Rattle.std.proofs.lemmas.Bool.{cases_lt, le-ltb, lt-ltb}
 use Rattle.sms_centre_spec.specs.declared.answer.CentreAnswer.{CentreAnswer}
 use Rattle.sms_centre_spec.specs.declared.jobs.job.Job.{Job}
 use Rattle.sms_centre_spec.specs.declared.jobs.reply.Reply.{Reply}
@@ -116,15 +117,14 @@ module _ (put put_then : List (Option Job)) (taken taken_then : List Reply) (awa
       let known = counted_among reply in
       omega arith
 
-  -- more answers than requests
-  pub ahead_is : nat_lt awaited ahead ≡ is_ahead put taken
-  ahead_is = less (requests_in put) ahead (answers_in taken) awaited counted
-    where
-      less : (r h a w : ℕ) → r + h ≡ a + w → nat_lt w h ≡ nat_lt r a
-      less zero h zero w e = le-ltb w h (omega arith) ∙ sym (le-ltb 0 0 (omega arith))
-      less zero h (suc a) w e = lt-ltb w h (omega arith) ∙ sym (lt-ltb 0 (suc a) (omega arith))
-      less (suc r) h zero w e = le-ltb w h (omega arith) ∙ sym (le-ltb (suc r) 0 (omega arith))
-      less (suc r) h (suc a) w e = less r h a w (omega arith)
+-- more answers than requests
+pub ahead_is : (put : List (Option Job)) (taken : List Reply) (awaited ahead : ℕ) → requests_in put + ahead ≡ answers_in taken + awaited
+    → nat_lt awaited ahead ≡ is_ahead put taken
+ahead_is put taken awaited ahead counted = less (requests_in put) ahead (answers_in taken) awaited counted (cases_lt (requests_in put) (answers_in taken))
+  where
+    less : (r h a w : ℕ) → r + h ≡ a + w → (r < a) ⊎ (a ≤ r) → nat_lt w h ≡ nat_lt r a
+    less r h a w e (inl l) = lt-ltb w h (omega (arith, e, l)) ∙ sym (lt-ltb r a l)
+    less r h a w e (inr l) = le-ltb w h (omega (arith, e, l)) ∙ sym (le-ltb r a l)
 
 -- ---- turns
 

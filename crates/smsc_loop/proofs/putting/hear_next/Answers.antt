@@ -5,8 +5,8 @@ use Rattle.smsc_loop.proofs.Counting.{due_as}
 use Rattle.smsc_loop.proofs.Joins.{did_seat, did_ask, did_refused, unchanged}
 use Rattle.smsc_loop.proofs.putting.hear_next.Goals as goal
 
-pub returns-then-is_ahead-in-Some : goal.returns-then-is_ahead-in-Some
-returns-then-is_ahead-in-Some g c = λ p a w l.
+pub returns-then-is_ahead : goal.returns-then-is_ahead
+returns-then-is_ahead g c = λ p a w l.
     did_seat g.G.Endpoint.does (Refused c.in-Some.reply) _ _ p (behind false p) a w _ _ refl refl refl (l, refl)
     c.in-Some.ensures.taken (unchanged _ _ c.take.ensures.put) c.take.ensures.seat
     (due_as _ _ _ _ c.in-Some.reply c.is_ahead.result true c.is_ahead.ensures c.take.ensures.put c.in-Some.ensures.taken c.if-is_ahead.true)

@@ -2,4 +2,4 @@ use Rattle.smsc_loop.proofs.Counting.{ahead_is}
 use Rattle.smsc_loop.proofs.open_seat.OpenSeat.is_ahead.Goals as goal
 
 pub returns : goal.returns
-returns g c = ahead_is _ _ _ _ c.self.now.counted
+returns c = ahead_is _ _ _ _ c.args.self.now.counted
