@@ -1,6 +1,6 @@
 -- How many answers a seat has still to get.
 use Rattle.std.proofs.Common.{◌≡◌, ◌<◌, ◌≤◌, ◌==◌, ◌⊎◌, inl, inr, ℕ, zero, suc, ◌+◌, ◌-◌, List, [], ◌∷◌, ◌++◌, Option, Some, None, Bool, true, false, if◌then◌else◌, nat_lt, refl, sym, ap, subst, ◌∙◌, true≢false, arith}
-use Rattle.std.proofs.lemmas.Bool.{cases_lt, le-ltb, lt-ltb}
+use Rattle.std.proofs.lemmas.Bool.{cases_lt, le-ltb, lt-ltb, ne_eqb}
 use Rattle.sms_centre_spec.specs.declared.answer.CentreAnswer.{CentreAnswer}
 use Rattle.sms_centre_spec.specs.declared.jobs.job.Job.{Job}
 use Rattle.sms_centre_spec.specs.declared.jobs.reply.Reply.{Reply}
@@ -79,7 +79,10 @@ one_more false r h a w e = e
 
 one_less : (r h a w : ℕ) → r + h ≡ a + w → r + (if w == 0 then suc h else h) ≡ suc a + (w - 1)
 one_less r h a zero e = let now : r + suc h ≡ suc a + 0 = omega arith in now
-one_less r h a (suc w) e = let now : r + h ≡ suc a + w = omega arith in now
+one_less r h a (suc w) e =
+    let some : (suc w == 0) ≡ false = ne_eqb (suc w) 0 (λ z. omega (arith, z)) in
+    let is : (if suc w == 0 then suc h else h) ≡ h = ap (λ (b : Bool). if b then suc h else h) some in
+    omega (arith, e, is)
 
 module _ (put put_then : List (Option Job)) (taken taken_then : List Reply) (awaited ahead : ℕ)
     (counted : requests_in put + ahead ≡ answers_in taken + awaited) where
