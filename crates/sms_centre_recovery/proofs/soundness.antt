@@ -1,1 +1,1 @@
-pub mod Together
+mod Together

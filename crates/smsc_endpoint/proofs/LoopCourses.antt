@@ -10,7 +10,7 @@ use Rattle.sms_centre_spec.specs.declared.jobs.job.Job.{Job}
 use Rattle.sms_centre_spec.specs.declared.jobs.reply.Reply.TheVariants.{Answer, Receipt, Frame, Taken}
 use Rattle.sms_receipt.specs.declared.final_message.Final.{Final}
 use Rattle.sms_receipt.specs.Receipts.{receipt_of}
-use Rattle.smsc_loop.specs.Calls.{Call, Timed, Told, Took, Heard, GaveUp, AskedLink, AskedToLeave, Noted, Sent, Put, PutBack, Left, PutLast, PutOwn, Dropped}
+use Rattle.smsc_loop.specs.Calls.{Call, Timed, Told, Took, Heard, GaveUp, AskedLink, AskedToLeave, Noted, Sent, Put, PutBack, Left, PutLast, PutOwn, Dropped, Refused}
 use Rattle.smsc_loop.specs.Calls.{octets_sent, octets_taken}
 use Rattle.smsc_loop.specs.declared.note.Note.{Note}
 use Rattle.smsc_loop.specs.Courses.{LeadsTo, Runs}
@@ -70,6 +70,7 @@ moves_away (Left last) p o m away e = let never : Leaves last ≡ Serves = sym m
 moves_away (PutLast job) p o m away e = let never : Ends ≡ Serves = sym m.1 ∙ e in absurd cc
 moves_away (PutOwn job) p o m away e = let never : Asks ≡ Serves = sym m.1 ∙ e in absurd cc
 moves_away (Dropped reply) p o m away e = away (sym m.1 ∙ e)
+moves_away (Refused reply) p o m away e = behind_goes false p away (sym m.1 ∙ e)
 
 stays_away : (calls : List Call) (v : EsmeView) (p : Phase) (w : EsmeView) → Runs EsmeDoes v p calls w Serves → (p ≡ Serves → ⊥) → ⊥
 stays_away [] v p w r away = away (sym r.1)
@@ -173,6 +174,7 @@ one_step (Left last) c u l o m e = let never : Leaves last ≡ Serves = sym m.1 
 one_step (PutLast job) c u l o m e = let never : Ends ≡ Serves = sym m.1 ∙ e in absurd cc
 one_step (PutOwn job) c u l o m e = let never : Asks ≡ Serves = sym m.1 ∙ e in absurd cc
 one_step (Dropped reply) c u l o m e = absurd m.0
+one_step (Refused reply) c u l o m e = absurd (fails o m.1 e)
 
 -- ---- calls one after the other
 

@@ -1,17 +1,18 @@
 -- How many answers a seat has still to get.
-use Rattle.std.proofs.Common.{◌≡◌, ◌≤◌, ◌==◌, ◌||◌, ℕ, zero, suc, ◌+◌, ◌-◌, List, [], ◌∷◌, ◌++◌, Option, Some, None, Bool, true, false, if◌then◌else◌, refl, sym, ap, subst, ◌∙◌, true≢false, arith}
+use Rattle.std.proofs.Common.{◌≡◌, ◌<◌, ◌≤◌, ◌==◌, ◌⊎◌, inl, inr, ℕ, zero, suc, ◌+◌, ◌-◌, List, [], ◌∷◌, ◌++◌, Option, Some, None, Bool, true, false, if◌then◌else◌, nat_lt, refl, sym, ap, subst, ◌∙◌, true≢false, arith}
+use Rattle.std.proofs.lemmas.Bool.{cases_lt, le-ltb, lt-ltb, ne_eqb}
 use Rattle.sms_centre_spec.specs.declared.answer.CentreAnswer.{CentreAnswer}
 use Rattle.sms_centre_spec.specs.declared.jobs.job.Job.{Job}
 use Rattle.sms_centre_spec.specs.declared.jobs.reply.Reply.{Reply}
 use Rattle.sms_centre_spec.specs.declared.jobs.reply.Reply.TheVariants.{Answer, Receipt, Frame, Taken}
 use Rattle.sms_centre_spec.specs.jobs.Requests.{is_request}
-use Rattle.smsc_loop.specs.Owing.{TakesTurns, answers_in, asks_nothing, awaited_after, awaited_with, ends_answered, ends_asked, is_answer, most_in_queue, others_after, requests_in}
+use Rattle.smsc_loop.specs.Owing.{TakesTurns, ahead_after, answers_in, asks_nothing, awaited_after, awaited_with, ends_answered, ends_asked, is_ahead, is_answer, most_in_queue, requests_in}
 
 abbrev counted_in : Bool → ℕ → ℕ
 counted_in b n = if b then suc n else n
 
 -- one job more is one request more, if it has an answer
-requests_next : (put : List (Option Job)) (job : Job) → requests_in (put ++ Some job ∷ []) ≡ counted_in (is_request job) (requests_in put)
+pub requests_next : (put : List (Option Job)) (job : Job) → requests_in (put ++ Some job ∷ []) ≡ counted_in (is_request job) (requests_in put)
 requests_next [] job = refl
 requests_next (None ∷ put) job = requests_next put job
 requests_next (Some first ∷ put) job =
@@ -72,71 +73,67 @@ answered_kept taken taken_then is known e so = ap ends_answered e ∙ known so
 
 -- ---- the count of a seat
 
-first_false : (a b : Bool) → (a || b) ≡ false → a ≡ false
-first_false false b e = refl
-first_false true b e = e
+one_more : (b : Bool) (r h a w : ℕ) → r + h ≡ a + w → counted_in b r + h ≡ a + counted_in b w
+one_more true r h a w e = omega arith
+one_more false r h a w e = e
 
-second_false : (a b : Bool) → (a || b) ≡ false → b ≡ false
-second_false false b e = e
-second_false true b e = absurd (true≢false e)
+one_less : (r h a w : ℕ) → r + h ≡ a + w → r + (if w == 0 then suc h else h) ≡ suc a + (w - 1)
+one_less r h a zero e = let now : r + suc h ≡ suc a + 0 = omega arith in now
+one_less r h a (suc w) e =
+    let some : (suc w == 0) ≡ false = ne_eqb (suc w) 0 (λ z. omega (arith, z)) in
+    let is : (if suc w == 0 then suc h else h) ≡ h = ap (λ (b : Bool). if b then suc h else h) some in
+    omega (arith, e, is)
 
-one_more : (b : Bool) (r a w : ℕ) → r ≡ a + w → counted_in b r ≡ a + counted_in b w
-one_more true r a w e = omega arith
-one_more false r a w e = e
-
-one_less : (r a w : ℕ) → r ≡ a + w → (w == 0) ≡ false → r ≡ suc a + (w - 1)
-one_less r a zero e f = absurd (true≢false f)
-one_less r a (suc w) e f = omega arith
-
-module _ (put put_then : List (Option Job)) (taken taken_then : List Reply) (awaited : ℕ) (others : Bool)
-    (counted : others ≡ false → requests_in put ≡ answers_in taken + awaited) where
+module _ (put put_then : List (Option Job)) (taken taken_then : List Reply) (awaited ahead : ℕ)
+    (counted : requests_in put + ahead ≡ answers_in taken + awaited) where
   -- a job is put
   pub counted_job : (job : Job) (left : ℕ) → left ≡ awaited_with job awaited → put_then ≡ put ++ Some job ∷ [] → taken_then ≡ taken
-      → others ≡ false → requests_in put_then ≡ answers_in taken_then + left
-  counted_job job left d e f none =
+      → requests_in put_then + ahead ≡ answers_in taken_then + left
+  counted_job job left d e f =
       let requests : requests_in put_then ≡ counted_in (is_request job) (requests_in put) = ap requests_in e ∙ requests_next put job in
       let answers : answers_in taken_then ≡ answers_in taken = ap answers_in f in
-      requests ∙ (one_more (is_request job) (requests_in put) (answers_in taken) awaited (counted none)
+      ap (λ (n : ℕ). n + ahead) requests ∙ (one_more (is_request job) (requests_in put) ahead (answers_in taken) awaited counted
       ∙ (ap (λ (n : ℕ). n + counted_in (is_request job) awaited) (sym answers) ∙ ap (λ (n : ℕ). answers_in taken_then + n) (sym d)))
 
-  -- a job is handed back
-  pub counted_same : put_then ≡ put → taken_then ≡ taken → others ≡ false → requests_in put_then ≡ answers_in taken_then + awaited
-  counted_same e f none = ap requests_in e ∙ (counted none ∙ ap (λ (n : ℕ). n + awaited) (sym (ap answers_in f)))
+  -- and the seat takes its turns
+  pub turns_job : (job : Job) (left : ℕ) → left ≡ awaited_with job awaited → put_then ≡ put ++ Some job ∷ [] → taken_then ≡ taken
+      → left ≤ most_in_queue → TakesTurns put_then taken_then
+  turns_job job left d e f few =
+      at_most (requests_in put_then) ahead (answers_in taken_then) left most_in_queue (counted_job job left d e f) few
+    where
+      at_most : (r h a w most : ℕ) → r + h ≡ a + w → w ≤ most → r ≤ a + most
+      at_most r h a w most e l = omega arith
 
-  counted_among : (reply : Reply) → others_after reply awaited others ≡ false
-      → requests_in put ≡ answers_in (taken ++ reply ∷ []) + awaited_after reply awaited
-  counted_among (Answer answer) e =
-      one_less (requests_in put) (answers_in taken) awaited (counted (first_false others (awaited == 0) e)) (second_false others (awaited == 0) e)
-      ∙ ap (λ (n : ℕ). n + (awaited - 1)) (sym (answers_more taken answer))
-  counted_among (Receipt end) e = counted e ∙ ap (λ (n : ℕ). n + awaited) (sym (answers_same taken (Receipt end) refl))
-  counted_among (Frame octets) e = counted e ∙ ap (λ (n : ℕ). n + awaited) (sym (answers_same taken (Frame octets) refl))
-  counted_among Taken e = counted e ∙ ap (λ (n : ℕ). n + awaited) (sym (answers_same taken Taken refl))
+  counted_among : (reply : Reply) → requests_in put + ahead_after reply awaited ahead ≡ answers_in (taken ++ reply ∷ []) + awaited_after reply awaited
+  counted_among (Answer answer) =
+      one_less (requests_in put) ahead (answers_in taken) awaited counted ∙ ap (λ (n : ℕ). n + (awaited - 1)) (sym (answers_more taken answer))
+  counted_among (Receipt end) = counted ∙ ap (λ (n : ℕ). n + awaited) (sym (answers_same taken (Receipt end) refl))
+  counted_among (Frame octets) = counted ∙ ap (λ (n : ℕ). n + awaited) (sym (answers_same taken (Frame octets) refl))
+  counted_among Taken = counted ∙ ap (λ (n : ℕ). n + awaited) (sym (answers_same taken Taken refl))
 
   -- a reply is taken
-  pub counted_reply : (reply : Reply) (left : ℕ) (more : Bool) → left ≡ awaited_after reply awaited → more ≡ others_after reply awaited others
-      → put_then ≡ put → taken_then ≡ taken ++ reply ∷ [] → more ≡ false → requests_in put_then ≡ answers_in taken_then + left
-  counted_reply reply left more d m e f none =
+  pub counted_reply : (reply : Reply) (left more : ℕ) → left ≡ awaited_after reply awaited → more ≡ ahead_after reply awaited ahead
+      → put_then ≡ put → taken_then ≡ taken ++ reply ∷ [] → requests_in put_then + more ≡ answers_in taken_then + left
+  counted_reply reply left more d m e f =
       let requests : requests_in put_then ≡ requests_in put = ap requests_in e in
       let answers : answers_in taken_then ≡ answers_in (taken ++ reply ∷ []) = ap answers_in f in
-      let known = counted_among reply (sym m ∙ none) in
+      let known = counted_among reply in
       omega arith
 
+-- more answers than requests
+pub ahead_is : (put : List (Option Job)) (taken : List Reply) (awaited ahead : ℕ) → requests_in put + ahead ≡ answers_in taken + awaited
+    → nat_lt awaited ahead ≡ is_ahead put taken
+ahead_is put taken awaited ahead counted = less (requests_in put) ahead (answers_in taken) awaited counted (cases_lt (requests_in put) (answers_in taken))
+  where
+    less : (r h a w : ℕ) → r + h ≡ a + w → (r < a) ⊎ (a ≤ r) → nat_lt w h ≡ nat_lt r a
+    less r h a w e (inl l) = lt-ltb w h (omega (arith, e, l)) ∙ sym (lt-ltb r a l)
+    less r h a w e (inr l) = le-ltb w h (omega (arith, e, l)) ∙ sym (le-ltb r a l)
+
 -- ---- turns
-
-one_more_at_most : (b : Bool) (r a w : ℕ) → r ≤ a + w → counted_in b r ≤ a + counted_in b w
-one_more_at_most true r a w h = omega arith
-one_more_at_most false r a w h = h
-
-one_fewer : (r a w : ℕ) → r ≤ a + w → r ≤ suc a + (w - 1)
-one_fewer r a zero h = omega arith
-one_fewer r a (suc w) h = omega arith
 
 fewer : (n most : ℕ) → n ≤ most → n - 1 ≤ most
 fewer zero most h = h
 fewer (suc n) most h = omega arith
-
-sum_at_most : (r a w most : ℕ) → r ≤ a + w → w ≤ most → r ≤ a + most
-sum_at_most r a w most h few = omega arith
 
 few_among : (reply : Reply) (awaited : ℕ) → awaited ≤ most_in_queue → awaited_after reply awaited ≤ most_in_queue
 few_among (Answer answer) awaited h = fewer awaited most_in_queue h
@@ -147,40 +144,9 @@ few_among Taken awaited h = h
 pub few_after : (reply : Reply) (awaited left : ℕ) → left ≡ awaited_after reply awaited → awaited ≤ most_in_queue → left ≤ most_in_queue
 few_after reply awaited left e h = subst (λ (n : ℕ). n ≤ most_in_queue) (sym e) (few_among reply awaited h)
 
-module _ (put put_then : List (Option Job)) (taken taken_then : List Reply) (awaited : ℕ)
-    (turn : requests_in put ≤ answers_in taken + awaited) where
-  -- a job is put
-  pub turn_job : (job : Job) (left : ℕ) → left ≡ awaited_with job awaited → put_then ≡ put ++ Some job ∷ [] → taken_then ≡ taken
-      → requests_in put_then ≤ answers_in taken_then + left
-  turn_job job left d e f =
-      let requests : requests_in put_then ≡ counted_in (is_request job) (requests_in put) = ap requests_in e ∙ requests_next put job in
-      let more = one_more_at_most (is_request job) (requests_in put) (answers_in taken) awaited turn in
-      subst (λ (n : ℕ). n ≤ answers_in taken_then + left) (sym requests)
-      (subst (λ (taken : List Reply). counted_in (is_request job) (requests_in put) ≤ answers_in taken + left) (sym f)
-      (subst (λ (n : ℕ). counted_in (is_request job) (requests_in put) ≤ answers_in taken + n) (sym d) more))
+-- ---- whether an answer is due
 
-  -- and the seat takes its turns
-  pub turns_job : (job : Job) (left : ℕ) → left ≡ awaited_with job awaited → put_then ≡ put ++ Some job ∷ [] → taken_then ≡ taken
-      → left ≤ most_in_queue → TakesTurns put_then taken_then
-  turns_job job left d e f few = sum_at_most (requests_in put_then) (answers_in taken_then) left most_in_queue (turn_job job left d e f) few
-
-  -- a job is handed back
-  pub turn_same : put_then ≡ put → taken_then ≡ taken → requests_in put_then ≤ answers_in taken_then + awaited
-  turn_same e f =
-      subst (λ (put : List (Option Job)). requests_in put ≤ answers_in taken_then + awaited) (sym e)
-      (subst (λ (taken : List Reply). requests_in put ≤ answers_in taken + awaited) (sym f) turn)
-
-  turn_among : (reply : Reply) → requests_in put ≤ answers_in (taken ++ reply ∷ []) + awaited_after reply awaited
-  turn_among (Answer answer) =
-      subst (λ (n : ℕ). requests_in put ≤ n + (awaited - 1)) (sym (answers_more taken answer)) (one_fewer (requests_in put) (answers_in taken) awaited turn)
-  turn_among (Receipt end) = subst (λ (n : ℕ). requests_in put ≤ n + awaited) (sym (answers_same taken (Receipt end) refl)) turn
-  turn_among (Frame octets) = subst (λ (n : ℕ). requests_in put ≤ n + awaited) (sym (answers_same taken (Frame octets) refl)) turn
-  turn_among Taken = subst (λ (n : ℕ). requests_in put ≤ n + awaited) (sym (answers_same taken Taken refl)) turn
-
-  -- a reply is taken
-  pub turn_reply : (reply : Reply) (left : ℕ) → left ≡ awaited_after reply awaited → put_then ≡ put → taken_then ≡ taken ++ reply ∷ []
-      → requests_in put_then ≤ answers_in taken_then + left
-  turn_reply reply left d e f =
-      subst (λ (put : List (Option Job)). requests_in put ≤ answers_in taken_then + left) (sym e)
-      (subst (λ (taken : List Reply). requests_in put ≤ answers_in taken + left) (sym f)
-      (subst (λ (n : ℕ). requests_in put ≤ answers_in (taken ++ reply ∷ []) + n) (sym d) (turn_among reply)))
+pub due_as : (put put_then : List (Option Job)) (taken taken_then : List Reply) (reply : Reply) (is known : Bool) → is ≡ is_ahead put_then taken_then
+    → put_then ≡ put → taken_then ≡ taken ++ reply ∷ [] → is ≡ known → is_ahead put (taken ++ reply ∷ []) ≡ known
+due_as put put_then taken taken_then reply is known d e f so =
+    ap (λ (l : List (Option Job)). is_ahead l (taken ++ reply ∷ [])) (sym e) ∙ (ap (λ (l : List Reply). is_ahead put_then l) (sym f) ∙ (sym d ∙ so))

@@ -8,7 +8,7 @@ use Rattle.sms_centre_spec.specs.declared.jobs.reply.Reply.{Reply}
 use Rattle.sms_seats.specs.declared.seat.Seat.{Seat}
 use Rattle.sms_seats.specs.Seats.{IsSameSeat, put_by, taken_by}
 use Rattle.smsc_loop.specs.Calls.{Call, PutLast, PutOwn, Dropped, octets_taken, octets_sent, replies_taken, jobs_put}
-use Rattle.smsc_loop.specs.Courses.{Did, Runs, standing}
+use Rattle.smsc_loop.specs.Courses.{AreDue, Did, Runs, standing}
 use Rattle.smsc_loop.specs.Emptying.{Drops, Emptied, OwnPut, due_of}
 use Rattle.smsc_loop.specs.Owing.{IsCleared}
 use Rattle.smsc_loop.specs.Phases.{Phase, Leaves, Ends, Asks, HasEnded, HasLeft, own_request}
@@ -35,6 +35,10 @@ none_put : (replies : List Reply) → jobs_put (drops replies) ≡ []
 none_put [] = refl
 none_put (reply ∷ replies) = none_put replies
 
+drops_due : (put : List (Option Job)) (taken : List Reply) (replies : List Reply) → AreDue put taken (drops replies)
+drops_due put taken [] = tt
+drops_due put taken (reply ∷ replies) = (tt, drops_due (put ++ []) (taken ++ reply ∷ []) replies)
+
 module _ {V : Type 0} (does : Call → V → V → Type 0) where
   drops_run : (v : V) (p : Phase) (replies : List Reply) → HasLeft p → Runs does v p (drops replies) v p
   drops_run v p [] h = (refl, refl)
@@ -59,6 +63,7 @@ module _ {V : Type 0} (does : Call → V → V → Type 0) where
       written_so = written_none;
       taken_so = taken_all;
       put_so = e ∙ (sym (append-nil (put_by s)) ∙ ap (λ (l : List (Option Job)). put_by s ++ l) (sym (none_put dropped)));
+      due_so = drops_due _ _ dropped;
       seat_so = same;
     }
 
@@ -70,6 +75,7 @@ module _ {V : Type 0} (does : Call → V → V → Type 0) where
       written_so = written_none;
       taken_so = taken_all;
       put_so = e ∙ ap (λ (l : List (Option Job)). put_by s ++ Some job ∷ l) (sym (none_put dropped));
+      due_so = (tt, drops_due _ _ dropped);
       seat_so = same;
     }
 
@@ -81,6 +87,7 @@ module _ {V : Type 0} (does : Call → V → V → Type 0) where
       written_so = written_none;
       taken_so = taken_all;
       put_so = e ∙ ap (λ (l : List (Option Job)). put_by s ++ Some own_request ∷ l) (sym (none_put dropped));
+      due_so = (tt, drops_due _ _ dropped);
       seat_so = same;
     }
 
@@ -93,6 +100,7 @@ module _ {V : Type 0} (does : Call → V → V → Type 0) where
       taken_so = taken_all;
       put_so = e ∙ (append_assoc (put_by s) (Some job ∷ []) (Some own_request ∷ [])
           ∙ ap (λ (l : List (Option Job)). put_by s ++ Some job ∷ Some own_request ∷ l) (sym (none_put dropped)));
+      due_so = (tt, (tt, drops_due _ _ dropped));
       seat_so = same;
     }
 

@@ -7,9 +7,9 @@ use Rattle.sms_centre_spec.specs.declared.jobs.job.Job.{Job}
 use Rattle.sms_centre_spec.specs.declared.jobs.reply.Reply.{Reply}
 use Rattle.sms_seats.specs.declared.seat.Seat.{Seat}
 use Rattle.sms_seats.specs.Seats.{IsSameSeat, put_by, taken_by}
-use Rattle.smsc_loop.specs.Calls.{Call, Timed, Told, Took, Heard, GaveUp, AskedLink, AskedToLeave, Noted, Sent, Put, PutBack, Left, PutLast, PutOwn, Dropped}
+use Rattle.smsc_loop.specs.Calls.{Call, Timed, Told, Took, Heard, GaveUp, AskedLink, AskedToLeave, Noted, Sent, Put, PutBack, Left, PutLast, PutOwn, Dropped, Refused}
 use Rattle.smsc_loop.specs.Calls.{octets_taken, octets_sent, replies_taken, jobs_put}
-use Rattle.smsc_loop.specs.Courses.{Did, LeadsTo, Runs, Standing, standing}
+use Rattle.smsc_loop.specs.Courses.{AreDue, Did, IsDue, LeadsTo, Runs, Standing, standing}
 use Rattle.smsc_loop.specs.Phases.{Phase, Leaves, Moves, behind}
 use Rattle.smsc_loop.proofs.Went.{not_ok}
 
@@ -61,6 +61,7 @@ octets_taken_join (Left last ∷ one) other = octets_taken_join one other
 octets_taken_join (PutLast job ∷ one) other = octets_taken_join one other
 octets_taken_join (PutOwn job ∷ one) other = octets_taken_join one other
 octets_taken_join (Dropped reply ∷ one) other = octets_taken_join one other
+octets_taken_join (Refused reply ∷ one) other = octets_taken_join one other
 
 octets_sent_join : (one other : List Call) → octets_sent (one ++ other) ≡ octets_sent one ++ octets_sent other
 octets_sent_join [] other = refl
@@ -79,6 +80,7 @@ octets_sent_join (Left last ∷ one) other = octets_sent_join one other
 octets_sent_join (PutLast job ∷ one) other = octets_sent_join one other
 octets_sent_join (PutOwn job ∷ one) other = octets_sent_join one other
 octets_sent_join (Dropped reply ∷ one) other = octets_sent_join one other
+octets_sent_join (Refused reply ∷ one) other = octets_sent_join one other
 
 replies_taken_join : (one other : List Call) → replies_taken (one ++ other) ≡ replies_taken one ++ replies_taken other
 replies_taken_join [] other = refl
@@ -97,6 +99,7 @@ replies_taken_join (Left last ∷ one) other = replies_taken_join one other
 replies_taken_join (PutLast job ∷ one) other = replies_taken_join one other
 replies_taken_join (PutOwn job ∷ one) other = replies_taken_join one other
 replies_taken_join (Dropped reply ∷ one) other = ap (λ (l : List Reply). reply ∷ l) (replies_taken_join one other)
+replies_taken_join (Refused reply ∷ one) other = ap (λ (l : List Reply). reply ∷ l) (replies_taken_join one other)
 
 jobs_put_join : (one other : List Call) → jobs_put (one ++ other) ≡ jobs_put one ++ jobs_put other
 jobs_put_join [] other = refl
@@ -115,6 +118,45 @@ jobs_put_join (Left last ∷ one) other = jobs_put_join one other
 jobs_put_join (PutLast job ∷ one) other = ap (λ (l : List (Option Job)). Some job ∷ l) (jobs_put_join one other)
 jobs_put_join (PutOwn job ∷ one) other = ap (λ (l : List (Option Job)). Some job ∷ l) (jobs_put_join one other)
 jobs_put_join (Dropped reply ∷ one) other = jobs_put_join one other
+jobs_put_join (Refused reply ∷ one) other = jobs_put_join one other
+
+-- ---- which answers are due
+
+pub due_at : (put put_then : List (Option Job)) (taken taken_then : List Reply) (calls : List Call) → put ≡ put_then → taken ≡ taken_then
+    → AreDue put taken calls → AreDue put_then taken_then calls
+due_at put put_then taken taken_then calls e f h =
+    subst (λ (l : List Reply). AreDue put_then l calls) f (subst (λ (l : List (Option Job)). AreDue l taken calls) e h)
+
+pub due_join : (put : List (Option Job)) (taken : List Reply) (one other : List Call) → AreDue put taken one
+    → AreDue (put ++ jobs_put one) (taken ++ replies_taken one) other → AreDue put taken (one ++ other)
+due_join put taken [] other h k = due_at (put ++ []) put (taken ++ []) taken other (append-nil put) (append-nil taken) k
+due_join put taken (call ∷ one) other h k = (
+  h.0,
+  due_join (put ++ jobs_put (call ∷ [])) (taken ++ replies_taken (call ∷ [])) one other h.1
+      (due_at _ _ _ _ other
+      (ap (λ (l : List (Option Job)). put ++ l) (jobs_put_join (call ∷ []) one) ∙ sym (append_assoc put (jobs_put (call ∷ [])) (jobs_put one)))
+      (ap (λ (l : List Reply). taken ++ l) (replies_taken_join (call ∷ []) one) ∙ sym (append_assoc taken (replies_taken (call ∷ [])) (replies_taken one)))
+      k),
+)
+
+-- a call by which the seat takes nothing
+due_without : (put : List (Option Job)) (taken : List Reply) (call : Call) → replies_taken (call ∷ []) ≡ [] → IsDue put taken call
+due_without put taken (Timed now went) e = tt
+due_without put taken (Told full) e = tt
+due_without put taken (Took octets went) e = tt
+due_without put taken (Heard reply went) e = absurd cc
+due_without put taken (GaveUp went) e = tt
+due_without put taken (AskedLink went) e = tt
+due_without put taken (AskedToLeave asked went) e = tt
+due_without put taken (Noted said) e = tt
+due_without put taken (Sent octets) e = tt
+due_without put taken (Put job) e = tt
+due_without put taken (PutBack job again went) e = tt
+due_without put taken (Left last) e = tt
+due_without put taken (PutLast job) e = tt
+due_without put taken (PutOwn job) e = tt
+due_without put taken (Dropped reply) e = tt
+due_without put taken (Refused reply) e = absurd cc
 
 module _ {V : Type 0} (does : Call → V → V → Type 0) where
   runs_join : (u v w : V) (n o p : Phase) (one other : List Call) → Runs does u n one v o → Runs does v o other w p → Runs does u n (one ++ other) w p
@@ -130,6 +172,7 @@ module _ {V : Type 0} (does : Call → V → V → Type 0) where
     written_so = Appends-nil w;
     taken_so = unchanged (taken_by s) _ refl;
     put_so = unchanged (put_by s) _ refl;
+    due_so = tt;
     seat_so = seat_same s;
   }
 
@@ -145,6 +188,7 @@ module _ {V : Type 0} (does : Call → V → V → Type 0) where
         (replies_taken_join p.calls q.calls);
     put_so = longer (put_by r.seat) (put_by s.seat) (put_by t.seat) (jobs_put p.calls) (jobs_put q.calls) _ p.put_so q.put_so
         (jobs_put_join p.calls q.calls);
+    due_so = due_join (put_by r.seat) (taken_by r.seat) p.calls q.calls p.due_so (due_at _ _ _ _ q.calls p.put_so p.taken_so q.due_so);
     seat_so = seat_trans r.seat s.seat t.seat p.seat_so q.seat_so;
   }
 
@@ -159,6 +203,7 @@ module _ {V : Type 0} (does : Call → V → V → Type 0) where
     written_so = subst (λ (l : List ℕ). Appends w w l) (sym f) (Appends-nil w);
     taken_so = unchanged (taken_by s) _ refl ∙ ap (λ (l : List Reply). taken_by s ++ l) (sym g);
     put_so = unchanged (put_by s) _ refl ∙ ap (λ (l : List (Option Job)). put_by s ++ l) (sym h);
+    due_so = (due_without (put_by s) (taken_by s) call g, tt);
     seat_so = seat_same s;
   }
 
@@ -173,6 +218,7 @@ module _ {V : Type 0} (does : Call → V → V → Type 0) where
     written_so = kept_bytes w x f;
     taken_so = unchanged (taken_by s) _ refl;
     put_so = unchanged (put_by s) _ refl;
+    due_so = (tt, tt);
     seat_so = seat_same s;
   }
 
@@ -187,6 +233,7 @@ module _ {V : Type 0} (does : Call → V → V → Type 0) where
     written_so = with_nil w x octets e;
     taken_so = unchanged (taken_by s) _ refl;
     put_so = unchanged (put_by s) _ refl;
+    due_so = (tt, tt);
     seat_so = seat_same s;
   }
 
@@ -209,6 +256,7 @@ module _ {V : Type 0} (does : Call → V → V → Type 0) where
     written_so = f;
     taken_so = unchanged (taken_by s) _ refl;
     put_so = unchanged (put_by s) _ refl;
+    due_so = tt;
     seat_so = seat_same s;
   }
 
@@ -217,14 +265,15 @@ module _ {V : Type 0} (does : Call → V → V → Type 0) where
       → octets_taken (call ∷ []) ≡ [] → octets_sent (call ∷ []) ≡ []
       → LeadsTo does call v u → Moves call p q
       → taken_by t ≡ taken_by s ++ replies_taken (call ∷ []) → put_by t ≡ put_by s ++ jobs_put (call ∷ []) → IsSameSeat s t
-      → Did does (standing v p a w s) (standing u q a w t)
-  did_seat call v u p q a w s t e f l m g h i = record {
+      → IsDue (put_by s) (taken_by s) call → Did does (standing v p a w s) (standing u q a w t)
+  did_seat call v u p q a w s t e f l m g h i due = record {
     calls = call ∷ [];
     runs = (u, q, l, m, (refl, refl));
     remaining_so = subst (λ (l : List ℕ). Consumes a a l) (sym e) (Consumes-nil a);
     written_so = subst (λ (l : List ℕ). Appends w w l) (sym f) (Appends-nil w);
     taken_so = g;
     put_so = h;
+    due_so = (due, tt);
     seat_so = i;
   }
 
@@ -238,6 +287,7 @@ module _ {V : Type 0} (does : Call → V → V → Type 0) where
     written_so = Appends-nil w;
     taken_so = unchanged (taken_by s) _ g;
     put_so = unchanged (put_by s) _ h;
+    due_so = tt;
     seat_so = i;
   }
 

@@ -36,6 +36,8 @@ pub data Call : Type 0 where
   PutOwn : Job → Call
   -- the loop takes a reply, which nobody gets
   Dropped : Reply → Call
+  -- The seat takes a reply, and has taken more answers by then than it put requests. Nobody gets the reply.
+  Refused : Reply → Call
 
 -- what is said of a call only where it went
 abbrev pub Goes : Bool → Type 0 → Type 0
@@ -59,6 +61,7 @@ abbrev pub replies_taken : List Call → List Reply
 replies_taken [] = []
 replies_taken (Heard reply went ∷ calls) = reply ∷ replies_taken calls
 replies_taken (Dropped reply ∷ calls) = reply ∷ replies_taken calls
+replies_taken (Refused reply ∷ calls) = reply ∷ replies_taken calls
 replies_taken (call ∷ calls) = replies_taken calls
 
 -- the jobs that the seat put, in order

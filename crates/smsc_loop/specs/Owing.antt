@@ -1,5 +1,5 @@
 -- What a seat still has to get.
-use Rattle.std.specs.Prelude.{◌≡◌, ◌≤◌, ◌==◌, ◌||◌, ℕ, suc, ◌+◌, ◌-◌, Bool, true, false, List, [], ◌∷◌, Option, Some, None, if◌then◌else◌}
+use Rattle.std.specs.Prelude.{◌≡◌, ◌≤◌, ◌==◌, ℕ, suc, ◌+◌, ◌-◌, Bool, true, false, List, [], ◌∷◌, Option, Some, None, if◌then◌else◌, nat_lt}
 use Rattle.sms_centre_spec.specs.declared.jobs.job.Job.{Job}
 use Rattle.sms_centre_spec.specs.declared.jobs.job.Job.TheVariants.{Query}
 use Rattle.sms_centre_spec.specs.declared.jobs.reply.Reply.{Reply}
@@ -36,10 +36,14 @@ abbrev pub awaited_after : Reply → ℕ → ℕ
 awaited_after (Answer answer) awaited = awaited - 1
 awaited_after reply awaited = awaited
 
--- an answer was taken without one to come, behind a reply
-abbrev pub others_after : Reply → ℕ → Bool → Bool
-others_after (Answer answer) awaited others = others || awaited == 0
-others_after reply awaited others = others
+-- and so many answers were taken without one to come
+abbrev pub ahead_after : Reply → ℕ → ℕ → ℕ
+ahead_after (Answer answer) awaited ahead = if awaited == 0 then suc ahead else ahead
+ahead_after reply awaited ahead = ahead
+
+-- More answers were taken than requests were put.
+abbrev pub is_ahead : List (Option Job) → List Reply → Bool
+is_ahead put taken = nat_lt (requests_in put) (answers_in taken)
 
 abbrev pub is_answer : Reply → Bool
 is_answer (Answer answer) = true

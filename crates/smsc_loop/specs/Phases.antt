@@ -2,12 +2,12 @@
 use Rattle.std.specs.Prelude.{◌≡◌, Bool, true, false, [], Option, Some, None, ⊤}
 use Rattle.sms_centre_spec.specs.declared.jobs.job.Job.{Job}
 use Rattle.sms_centre_spec.specs.declared.jobs.job.Job.TheVariants.{Query}
-use Rattle.smsc_loop.specs.Calls.{Call, Timed, Told, Took, Heard, GaveUp, AskedLink, AskedToLeave, Noted, Sent, Put, PutBack, Left, PutLast, PutOwn, Dropped}
+use Rattle.smsc_loop.specs.Calls.{Call, Timed, Told, Took, Heard, GaveUp, AskedLink, AskedToLeave, Noted, Sent, Put, PutBack, Left, PutLast, PutOwn, Dropped, Refused}
 
 pub data Phase : Type 0 where
   -- the connection is served
   Serves : Phase
-  -- A call was refused memory: the endpoint can but leave.
+  -- A call was refused memory, or an answer came that no request waits for: the endpoint can but leave.
   Fails : Phase
   -- The endpoint has left. This last job of it is still to be put.
   Leaves : Option Job → Phase
@@ -78,3 +78,4 @@ Moves (Left last) p q = IsHere p × (q ≡ Leaves last)
 Moves (PutLast job) p q = (p ≡ Leaves (Some job)) × (q ≡ Ends)
 Moves (PutOwn job) p q = HasEnded p × (q ≡ Asks) × (job ≡ own_request)
 Moves (Dropped reply) p q = HasLeft p × (q ≡ p)
+Moves (Refused reply) p q = Listens p × (q ≡ behind false p)

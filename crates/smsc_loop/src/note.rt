@@ -38,7 +38,7 @@ pub enum LeaveReason {
     Ordered,
     /// Its handset has a newer link.
     Replaced,
-    /// There was no memory.
+    /// There was no memory, or an answer came that no request waits for. The keeper gives no such answer.
     NoMemory,
 }
 

@@ -1,10 +1,11 @@
 //! A seat that has not closed.
-ghost use Rattle.std.specs.Prelude.{◌≡◌, ◌≤◌, ◌⊎◌, [], ◌∷◌, ◌++◌, ◌+◌, Some, None, true, false, IfSome, MatchOption, MatchResult};
+ghost use Rattle.std.specs.Prelude.{◌≡◌, ◌≤◌, ◌<◌, ◌⊎◌, [], ◌∷◌, ◌++◌, ◌+◌, Some, None, true, false, IfSome, MatchOption, MatchResult};
 ghost use Rattle.sms_seats.specs.Jobs.{has_end};
 ghost use Rattle.sms_seats.specs.Seats.{IsSameSeat, number_of, put_by, taken_by};
 ghost use Rattle.smsc_loop.specs.Emptying.{Drops};
 ghost use Rattle.smsc_loop.specs.Owing.{IsCleared, answers_in, asks_nothing as asks_nothing_of, awaited_after, awaited_with as awaited_with_of, ends_answered, ends_asked};
-ghost use Rattle.smsc_loop.specs.Owing.{TakesTurns, is_answer as is_answer_of, most_in_queue, others_after, requests_in};
+ghost use Rattle.smsc_loop.specs.Owing.{ahead_after, is_ahead as is_ahead_of};
+ghost use Rattle.smsc_loop.specs.Owing.{TakesTurns, is_answer as is_answer_of, most_in_queue, requests_in};
 
 use sms_centre_spec::jobs::{Job, Reply};
 use sms_seats::{Bell, Seat};
@@ -23,16 +24,15 @@ const MOST_IN_QUEUE: usize = 1;
 pub struct OpenSeat {
     pub seat: Seat<Job, Reply>,
     awaited: usize,
-    // It took an answer, though it had none to get.
-    has_others: bool,
+    // So many answers it took though it had none to get.
+    ahead: usize,
     // It put nothing yet, or a request last that asks nothing.
     is_asked: bool,
     // It took nothing yet, or an answer last.
     is_answered: bool,
     ghost open: { has_end (put_by seat) ≡ false },
     ghost few: { awaited ≤ most_in_queue },
-    ghost in_turn: { requests_in (put_by seat) ≤ answers_in (taken_by seat) + awaited },
-    ghost counted: { has_others ≡ false → requests_in (put_by seat) ≡ answers_in (taken_by seat) + awaited },
+    ghost counted: { requests_in (put_by seat) + ahead ≡ answers_in (taken_by seat) + awaited },
     ghost asked: { is_asked ≡ true → ends_asked (put_by seat) ≡ true },
     ghost answered: { is_answered ≡ true → ends_answered (taken_by seat) ≡ true },
 }
@@ -77,13 +77,14 @@ fn awaited_behind(reply: &Reply, awaited: usize) -> usize
     }
 }
 
-// Whether a seat took an answer without having one to get, behind the reply.
-fn has_others_behind(reply: &Reply, awaited: usize, has_others: bool) -> bool
-    ensures { result ≡ others_after reply.now awaited has_others }
+// How many answers a seat took without having one to get, behind the reply.
+fn ahead_behind(reply: &Reply, awaited: usize, ahead: usize) -> usize
+    requires { ahead < 18446744073709551615 }
+    ensures { result ≡ ahead_after reply.now awaited ahead }
 {
     match reply {
-        Reply::Answer(_) => has_others || awaited == 0,
-        _ => has_others,
+        Reply::Answer(_) if awaited == 0 => ahead + 1,
+        _ => ahead,
     }
 }
 
@@ -96,7 +97,7 @@ impl OpenSeat {
         OpenSeat {
             seat,
             awaited: 0,
-            has_others: false,
+            ahead: 0,
             is_asked: true,
             is_answered: true,
         }
@@ -141,18 +142,29 @@ impl OpenSeat {
             (taken_by self.new.seat ≡ taken_by self.old.seat)
             (λ reply. taken_by self.new.seat ≡ taken_by self.old.seat ++ reply ∷ []) }
     {
+        // Nobody counts to this number.
+        if self.ahead == usize::MAX {
+            return None;
+        }
         let reply = self.seat.take_answer(rt)?;
         self.is_answered = is_answer(&reply);
-        self.has_others = has_others_behind(&reply, self.awaited, self.has_others);
+        self.ahead = ahead_behind(&reply, self.awaited, self.ahead);
         self.awaited = awaited_behind(&reply, self.awaited);
         Some(reply)
+    }
+
+    /// Whether it took more answers than it put requests. The keeper answers requests alone, so that it never does.
+    pub(crate) fn is_ahead(&self) -> bool
+        ensures { result ≡ is_ahead_of (put_by self.now.seat) (taken_by self.now.seat) }
+    {
+        self.awaited < self.ahead
     }
 
     /// Whether each of its requests has its answer and no other was taken. The last job asks nothing, and nothing was taken behind its answer.
     pub fn is_cleared(&self) -> bool
         ensures { result ≡ true → IsCleared (put_by self.now.seat) (taken_by self.now.seat) }
     {
-        self.awaited == 0 && self.is_asked && self.is_answered && !self.has_others
+        self.awaited == 0 && self.is_asked && self.is_answered && self.ahead == 0
     }
 
     /// What wakes the seat, for whoever else than the keeper has something for it.
@@ -175,7 +187,7 @@ impl OpenSeat {
         let OpenSeat {
             mut seat,
             awaited: _,
-            has_others: _,
+            ahead: _,
             is_asked: _,
             is_answered: _,
         } = self;

@@ -11,7 +11,8 @@ use sms_centre_spec::jobs::{Job, Reply};
 use std::alloc::AllocError;
 use std::sync::Wait;
 
-// Takes the next reply of the seat, and says whether there was one.
+// Takes the next reply of the seat, and says whether there was one. An answer that no request waits for is not given to the endpoint, which
+// would send it as that to its next request. The endpoint can but leave then, as one that was refused memory.
 fn hear_next<R: Wait, G: Endpoint>(
     rt: &R,
     seat: &mut OpenSeat,
@@ -22,6 +23,10 @@ fn hear_next<R: Wait, G: Endpoint>(
 {
     match seat.take(rt) {
         Some(reply) => {
+            if seat.is_ahead() {
+                drop(reply);
+                return Err(AllocError);
+            }
             endpoint.take_reply(reply)?;
             Ok(true)
         }

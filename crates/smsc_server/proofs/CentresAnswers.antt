@@ -1,8 +1,8 @@
 -- The requests of an application have the centre's answers.
-use Rattle.std.proofs.Common.{◌≡◌, ◌≢◌, ◌<◌, ◌+◌, ◌-◌, ◌∙◌, ◌⊎◌, inl, inr, ⊎_elim, ℕ, zero, suc, Bool, true, false, true≢false, List, [], ◌∷◌, ◌++◌, length, length-append, map, Option, Some, None, if◌then◌else◌, refl, sym, ap, subst, append_assoc, append-nil, zero-add, arith}
+use Rattle.std.proofs.Common.{◌≡◌, ◌≢◌, ◌<◌, ◌+◌, ◌-◌, ◌∙◌, ◌⊎◌, inl, inr, ⊎_elim, ℕ, zero, suc, Bool, true, false, true≢false, List, [], ◌∷◌, ◌++◌, length, length-append, map, Option, Some, None, if◌then◌else◌, nat_lt, refl, sym, ap, subst, append_assoc, append-nil, zero-add, arith}
 use Rattle.std.specs.List.{AllByRecursion}
 use Rattle.std.specs.Prelude.{⊤}
-use Rattle.std.proofs.lemmas.Bool.{cases_Bool}
+use Rattle.std.proofs.lemmas.Bool.{cases_Bool, lt-ltb}
 use Rattle.std.proofs.lemmas.List.{map-append}
 use Rattle.smpp_pdu.specs.declared.header.Header.{Header}
 use Rattle.smpp_session.specs.declared.account.Account.{Account}
@@ -21,12 +21,15 @@ use Rattle.sms_centre_spec.specs.jobs.Requests.{is_request}
 use Rattle.sms_receipt.specs.declared.final_message.Final.{Final}
 use Rattle.sms_receipt.specs.Receipts.{receipt_of}
 use Rattle.sms_seats.specs.Jobs.{jobs_among}
-use Rattle.smsc_loop.specs.Calls.{Call, Timed, Told, Took, Heard, GaveUp, AskedLink, AskedToLeave, Noted, Sent, Put, PutBack, Left, PutLast, PutOwn, Dropped}
+use Rattle.smsc_loop.specs.Calls.{Call, Timed, Told, Took, Heard, GaveUp, AskedLink, AskedToLeave, Noted, Sent, Put, PutBack, Left, PutLast, PutOwn, Dropped, Refused}
 use Rattle.smsc_loop.specs.Calls.{jobs_put, octets_sent, replies_taken}
-use Rattle.smsc_loop.specs.Courses.{Did, LeadsTo, Runs, Standing}
-use Rattle.smsc_loop.specs.Owing.{awaited_after, awaited_with}
+use Rattle.sms_seats.specs.Seats.{put_by as put_at, taken_by as taken_at}
+use Rattle.smsc_loop.specs.Courses.{AreDue, Did, IsDue, LeadsTo, Runs, Standing}
+use Rattle.smsc_loop.specs.Owing.{answers_in as answers_got, awaited_after, awaited_with, is_ahead, requests_in as requests_put}
 use Rattle.smsc_loop.specs.Phases.{Phase, Serves, Fails, Leaves, Ends, Asks, Moves}
 use Rattle.smsc_loop.specs.declared.note.Note.{Note}
+use Rattle.smsc_loop.proofs.Counting.{answers_more, answers_same, requests_next}
+use Rattle.smsc_loop.proofs.Joins.{due_at, due_join}
 use Rattle.smsc_endpoint.specs.declared.pending.PendingRequest.{PendingRequest}
 use Rattle.smsc_endpoint.specs.EsmeCalls.{account_of, handed_back, handed_out, header_in, heard, is_sendable, pending, request_back}
 use Rattle.smsc_endpoint.specs.EsmeDoes.{EsmeDoes}
@@ -40,7 +43,7 @@ use Rattle.smsc_endpoint.specs.Refusing.{enquire_link, no_room}
 use Rattle.smsc_endpoint.proofs.EsmeRuns.{all_zero, begins as begins_progress, heard_if, one_call}
 use Rattle.smsc_endpoint.proofs.EsmeTurns.{begins as begins_turns, turns_hold}
 use Rattle.smsc_endpoint.proofs.LoopCourses.{is_serving, loop_course, moves_away}
-use Rattle.smsc_server.specs.CentresAnswers.{AreFor, AreInTurn, HasCentresAnswers, IsDue, ReadsAnswers, answered_with, answers_to, not_back, request_in}
+use Rattle.smsc_server.specs.CentresAnswers.{AreFor, HasCentresAnswers, ReadsAnswers, answered_with, answers_to, not_back, request_in}
 use Rattle.smsc_server.specs.Exchanges.{Exchange, answered_in, answers_among, asked_in, requests_among}
 use Rattle.smsc_server.specs.WhatIsRead.{answers_in, course_of, parts_all}
 use Rattle.smsc_server.proofs.PartsWritten.{WasServed, adds_all, reads, runs_both, was_served}
@@ -480,35 +483,87 @@ own_requests call = requests_among (jobs_among (jobs_put (call ∷ [])))
 abbrev own_answers : Call → List CentreAnswer
 own_answers call = answers_among (replies_taken (call ∷ []))
 
+-- so many answers are still to come behind a call of a connection that is served
 abbrev awaited_behind : Call → ℕ → ℕ
 awaited_behind (Put job) awaited = awaited_with job awaited
-awaited_behind (PutLast job) awaited = awaited_with job awaited
-awaited_behind (PutOwn job) awaited = awaited_with job awaited
 awaited_behind (Heard reply went) awaited = awaited_after reply awaited
-awaited_behind (Dropped reply) awaited = awaited_after reply awaited
 awaited_behind call awaited = awaited
 
+-- an answer is one to come
+abbrev IsAwaited : Reply → ℕ → Type 0
+IsAwaited (Answer answer) awaited = 0 < awaited
+IsAwaited reply awaited = ⊤
+
 abbrev IsCallDue : Call → ℕ → Type 0
-IsCallDue (Heard reply went) awaited = IsDue reply awaited
-IsCallDue (Dropped reply) awaited = IsDue reply awaited
+IsCallDue (Heard reply went) awaited = IsAwaited reply awaited
 IsCallDue call awaited = ⊤
 
-turn_first : (call : Call) (calls : List Call) (awaited : ℕ) → AreInTurn awaited (call ∷ calls) → IsCallDue call awaited × AreInTurn (awaited_behind call awaited) calls
-turn_first (Timed now went) calls awaited h = (tt, h)
-turn_first (Told full) calls awaited h = (tt, h)
-turn_first (Took octets went) calls awaited h = (tt, h)
-turn_first (Heard reply went) calls awaited h = h
-turn_first (GaveUp went) calls awaited h = (tt, h)
-turn_first (AskedLink went) calls awaited h = (tt, h)
-turn_first (AskedToLeave asked went) calls awaited h = (tt, h)
-turn_first (Noted said) calls awaited h = (tt, h)
-turn_first (Sent octets) calls awaited h = (tt, h)
-turn_first (Put job) calls awaited h = (tt, h)
-turn_first (PutBack job again went) calls awaited h = (tt, h)
-turn_first (Left last) calls awaited h = (tt, h)
-turn_first (PutLast job) calls awaited h = (tt, h)
-turn_first (PutOwn job) calls awaited h = (tt, h)
-turn_first (Dropped reply) calls awaited h = h
+-- so many requests of the seat have no answer yet
+module _ (put : List (Option Job)) (taken : List Reply) (awaited : ℕ) (count : requests_put put ≡ answers_got taken + awaited) where
+  reply_due : (reply : Reply) → is_ahead put (taken ++ reply ∷ []) ≡ false → IsAwaited reply awaited
+  reply_due (Answer answer) due = by_count awaited count
+    where
+      by_count : (n : ℕ) → requests_put put ≡ answers_got taken + n → 0 < n
+      by_count zero e =
+          let more : answers_got (taken ++ Answer answer ∷ []) ≡ suc (answers_got taken) = answers_more taken answer in
+          absurd (true≢false (sym (lt-ltb (requests_put put) (answers_got (taken ++ Answer answer ∷ [])) (omega (arith, e, more))) ∙ due))
+      by_count (suc n) e = omega arith
+  reply_due (Receipt end) due = tt
+  reply_due (Frame octets) due = tt
+  reply_due Taken due = tt
+
+  call_due : (call : Call) → IsDue put taken call → IsCallDue call awaited
+  call_due (Heard reply went) due = reply_due reply due
+  call_due call due = tt
+
+  -- none was put, and none taken
+  count_still : requests_put (put ++ []) ≡ answers_got (taken ++ []) + awaited
+  count_still =
+      ap requests_put (append-nil put) ∙ (count ∙ ap (λ (l : List Reply). answers_got l + awaited) (sym (append-nil taken)))
+
+  count_heard : (reply : Reply) → IsAwaited reply awaited → requests_put (put ++ []) ≡ answers_got (taken ++ reply ∷ []) + awaited_after reply awaited
+  count_heard (Answer answer) due =
+      ap requests_put (append-nil put)
+      ∙ (one_less (requests_put put) (answers_got taken) awaited count due ∙ ap (λ (n : ℕ). n + (awaited - 1)) (sym (answers_more taken answer)))
+    where
+      one_less : (r a w : ℕ) → r ≡ a + w → 0 < w → r ≡ suc a + (w - 1)
+      one_less r a zero e d = omega (arith, e, d)
+      one_less r a (suc w) e d = omega (arith, e, d)
+  count_heard (Receipt end) due =
+      ap requests_put (append-nil put) ∙ (count ∙ ap (λ (n : ℕ). n + awaited) (sym (answers_same taken (Receipt end) refl)))
+  count_heard (Frame octets) due =
+      ap requests_put (append-nil put) ∙ (count ∙ ap (λ (n : ℕ). n + awaited) (sym (answers_same taken (Frame octets) refl)))
+  count_heard Taken due =
+      ap requests_put (append-nil put) ∙ (count ∙ ap (λ (n : ℕ). n + awaited) (sym (answers_same taken Taken refl)))
+
+  count_put : (job : Job) → requests_put (put ++ Some job ∷ []) ≡ answers_got (taken ++ []) + awaited_with job awaited
+  count_put job =
+      requests_next put job
+      ∙ (one_more (is_request job) (requests_put put) (answers_got taken) count
+      ∙ ap (λ (l : List Reply). answers_got l + awaited_with job awaited) (sym (append-nil taken)))
+    where
+      one_more : (b : Bool) (r a : ℕ) → r ≡ a + awaited → (if b then suc r else r) ≡ a + (if b then suc awaited else awaited)
+      one_more true r a e = omega (arith, e)
+      one_more false r a e = e
+
+  count_then : (call : Call) → IsCallDue call awaited → (o : Phase) → Moves call Serves o → o ≡ Serves
+      → requests_put (put ++ jobs_put (call ∷ [])) ≡ answers_got (taken ++ replies_taken (call ∷ [])) + awaited_behind call awaited
+  count_then (Heard reply went) due o m e = count_heard reply due
+  count_then (Put job) due o m e = count_put job
+  count_then (PutLast job) due o m e = let never : Ends ≡ Serves = sym m.1 ∙ e in absurd cc
+  count_then (PutOwn job) due o m e = let never : Asks ≡ Serves = sym m.1 ∙ e in absurd cc
+  count_then (Dropped reply) due o m e = absurd m.0
+  count_then (Refused reply) due o m e = absurd (fails o m.1 e)
+  count_then (Timed now went) due o m e = count_still
+  count_then (Told full) due o m e = count_still
+  count_then (Took octets went) due o m e = count_still
+  count_then (GaveUp went) due o m e = count_still
+  count_then (AskedLink went) due o m e = count_still
+  count_then (AskedToLeave asked went) due o m e = count_still
+  count_then (Noted said) due o m e = count_still
+  count_then (Sent octets) due o m e = count_still
+  count_then (PutBack job again went) due o m e = count_still
+  count_then (Left last) due o m e = count_still
 
 module _ (accounts : List Account) (t : EsmeTurns) (puts : List Job) (awaited : ℕ) (answers : List CentreAnswer) (h : Along accounts t puts awaited answers) where
   abbrev Then : Call → Type 0
@@ -590,6 +645,7 @@ module _ (accounts : List Account) (t : EsmeTurns) (puts : List Job) (awaited : 
   step (PutLast job) u l o m e due some = let never : Ends ≡ Serves = sym m.1 ∙ e in absurd cc
   step (PutOwn job) u l o m e due some = let never : Asks ≡ Serves = sym m.1 ∙ e in absurd cc
   step (Dropped reply) u l o m e due some = absurd m.0
+  step (Refused reply) u l o m e due some = absurd (fails o m.1 e)
 
 -- the endpoint behind the call is that of the session's course
 esme_then : (call : Call) (c : EsmeProgress) (u : EsmeView) → LeadsTo EsmeDoes call c.esme u → (o : Phase) → Moves call Serves o → o ≡ Serves
@@ -627,6 +683,7 @@ esme_then (Left last) c u l o m e = let never : Leaves last ≡ Serves = sym m.1
 esme_then (PutLast job) c u l o m e = let never : Ends ≡ Serves = sym m.1 ∙ e in absurd cc
 esme_then (PutOwn job) c u l o m e = let never : Asks ≡ Serves = sym m.1 ∙ e in absurd cc
 esme_then (Dropped reply) c u l o m e = absurd m.0
+esme_then (Refused reply) c u l o m e = absurd (fails o m.1 e)
 
 -- ---- calls one after the other
 
@@ -662,24 +719,25 @@ abbrev EndsAlong : List Account → EsmeTurns → List Job → List CentreAnswer
 EndsAlong accounts t puts answers = (awaited : ℕ) × Along accounts t puts awaited answers
 
 along_all : (accounts : List Account) (calls : List Call) (t : EsmeTurns) (puts : List Job) (awaited : ℕ) (answers : List CentreAnswer) (w : EsmeView)
-    → Along accounts t puts awaited answers → Runs EsmeDoes t.progress.esme Serves calls w Serves → AreInTurn awaited calls
+    → Along accounts t puts awaited answers → Runs EsmeDoes t.progress.esme Serves calls w Serves
+    → (put : List (Option Job)) (taken : List Reply) → requests_put put ≡ answers_got taken + awaited → AreDue put taken calls
     → (called_all t.progress (calls_of calls)).esme.wrong_binds ≢ 0
     → EndsAlong accounts (turned_all t (calls_of calls)) (puts ++ requests_among (jobs_among (jobs_put calls))) (answers ++ answers_among (replies_taken calls))
-along_all accounts [] t puts awaited answers w h r in_turn some = (awaited, still accounts t puts awaited answers h t h)
-along_all accounts (call ∷ calls) t puts awaited answers w h r in_turn some =
+along_all accounts [] t puts awaited answers w h r put taken count due some = (awaited, still accounts t puts awaited answers h t h)
+along_all accounts (call ∷ calls) t puts awaited answers w h r put taken count due some =
     let o = r.1 in
     let serves = serves_on o calls r.0 w r.4 in
-    let turn = turn_first call calls awaited in_turn in
+    let now_due = call_due put taken awaited count call due.0 in
     let rest : (called_all (called_all t.progress (call_of call)) (calls_of calls)).esme.wrong_binds ≢ 0 =
     λ z. some (ap (λ (c : EsmeProgress). c.esme.wrong_binds) (called_append (call_of call) (calls_of calls) t.progress) ∙ z) in
     let now : (called_all t.progress (call_of call)).esme.wrong_binds ≢ 0 = λ z. rest (all_zero (calls_of calls) (called_all t.progress (call_of call)) z) in
     let next = turned_all t (call_of call) in
     let is = progress_is (call_of call) t in
     let esme : next.progress.esme ≡ r.0 = ap (λ (c : EsmeProgress). c.esme) is ∙ esme_then call t.progress r.0 r.2 o r.3 serves in
-    let own = step accounts t puts awaited answers h call r.0 r.2 o r.3 serves turn.0 now in
+    let own = step accounts t puts awaited answers h call r.0 r.2 o r.3 serves now_due now in
     let all = along_all accounts calls next (puts ++ own_requests call) (awaited_behind call awaited) (answers ++ own_answers call) w own
     (subst (λ (v : EsmeView). Runs EsmeDoes v Serves calls w Serves) (sym esme) (subst (λ (p : Phase). Runs EsmeDoes r.0 p calls w Serves) serves r.4))
-    turn.1
+    (put ++ jobs_put (call ∷ [])) (taken ++ replies_taken (call ∷ [])) (count_then put taken awaited count call now_due o r.3 serves) due.1
     (λ z. rest (ap (λ (c : EsmeProgress). (called_all c (calls_of calls)).esme.wrong_binds) (sym is) ∙ z)) in (
       all.0,
       subst (λ (u : EsmeTurns). Along accounts u (puts ++ requests_among (jobs_among (jobs_put (call ∷ calls)))) all.0 (answers ++ answers_among (replies_taken (call ∷ calls))))
@@ -748,36 +806,22 @@ module _ (accounts : List Account) (t : EsmeTurns) (puts : List Job) (awaited : 
 start_along : (accounts : List Account) → Along accounts (begun accounts) [] 0 []
 start_along accounts = record { turns = begins_turns accounts; progress = begins_progress accounts; same = refl; puts_so = refl; count = refl; heard_so = refl }
 
-turn_with : (call : Call) (calls : List Call) (awaited : ℕ) → IsCallDue call awaited → AreInTurn (awaited_behind call awaited) calls → AreInTurn awaited (call ∷ calls)
-turn_with (Timed now went) calls awaited d k = k
-turn_with (Told full) calls awaited d k = k
-turn_with (Took octets went) calls awaited d k = k
-turn_with (Heard reply went) calls awaited d k = (d, k)
-turn_with (GaveUp went) calls awaited d k = k
-turn_with (AskedLink went) calls awaited d k = k
-turn_with (AskedToLeave asked went) calls awaited d k = k
-turn_with (Noted said) calls awaited d k = k
-turn_with (Sent octets) calls awaited d k = k
-turn_with (Put job) calls awaited d k = k
-turn_with (PutBack job again went) calls awaited d k = k
-turn_with (Left last) calls awaited d k = k
-turn_with (PutLast job) calls awaited d k = k
-turn_with (PutOwn job) calls awaited d k = k
-turn_with (Dropped reply) calls awaited d k = (d, k)
+none_awaited : (r a : ℕ) → r ≡ a → r ≡ a + 0
+none_awaited r a e = omega (arith, e)
 
-first_turn : (one other : List Call) (awaited : ℕ) → AreInTurn awaited (one ++ other) → AreInTurn awaited one
-first_turn [] other awaited h = tt
-first_turn (call ∷ one) other awaited h =
-    let x = turn_first call (one ++ other) awaited h in turn_with call one awaited x.0 (first_turn one other (awaited_behind call awaited) x.1)
+due_first : (put : List (Option Job)) (taken : List Reply) (one other : List Call) → AreDue put taken (one ++ other) → AreDue put taken one
+due_first put taken [] other h = tt
+due_first put taken (call ∷ one) other h = (h.0, due_first (put ++ jobs_put (call ∷ [])) (taken ++ replies_taken (call ∷ [])) one other h.1)
 
-module _ (accounts : List Account) (calls : List Call) (xs : List Exchange) (h : WasServed (opened accounts) calls) (for : AreFor calls xs) (in_turn : AreInTurn 0 calls) where
+module _ (accounts : List Account) (calls : List Call) (xs : List Exchange) (h : WasServed (opened accounts) calls) (for : AreFor calls xs)
+    (put : List (Option Job)) (taken : List Reply) (count : requests_put put ≡ answers_got taken) (due : AreDue put taken calls) where
   served_answers : (course_of accounts h.one).esme.wrong_binds ≢ 0 → HasCentresAnswers xs (answers_in (parts_all (started accounts) (calls_of h.one)))
   served_answers some =
       let one = h.one in
       let other = h.other in
       let t = turned_all (begun accounts) (calls_of one) in
       let all = along_all accounts one (begun accounts) [] 0 [] h.last (start_along accounts) h.run
-      (first_turn one other 0 (subst (λ (l : List Call). AreInTurn 0 l) h.parts in_turn)) some in
+      put taken (none_awaited (requests_put put) (answers_got taken) count) (due_first put taken one other (subst (λ (l : List Call). AreDue put taken l) h.parts due)) some in
       let answers_so : t.progress.answers ≡ answers_in (parts_all (started accounts) (calls_of one)) =
       ap (λ (c : EsmeProgress). c.answers) (progress_is (calls_of one) (begun accounts)) ∙ (adds_all (calls_of one) (started accounts)).answers in
       let asked : map asked_in xs ≡ requests_among (jobs_among (jobs_put one)) ++ requests_among (jobs_among (jobs_put other)) =
@@ -796,11 +840,14 @@ module _ (accounts : List Account) (calls : List Call) (xs : List Exchange) (h :
       (h.one, h.other, h.parts, h.none, λ some. (reads accounts h.one h.last (loop_course accounts h.one h.last h.run) some, served_answers some))
 
 -- a connection that was served, and then left its seat
-pub reads_answers : (accounts : List Account) (s t u : Standing EsmeView) → s.view ≡ opened accounts → s.phase ≡ Serves → (served : Did EsmeDoes s t) (left : Did EsmeDoes t u)
-    → (xs : List Exchange) → AreFor (served.calls ++ left.calls) xs → AreInTurn 0 (served.calls ++ left.calls) → ReadsAnswers accounts (served.calls ++ left.calls) xs
-reads_answers accounts s t u v p served left xs for in_turn =
+pub reads_answers : (accounts : List Account) (s t u : Standing EsmeView) → s.view ≡ opened accounts → s.phase ≡ Serves
+    → requests_put (put_at s.seat) ≡ answers_got (taken_at s.seat) → (served : Did EsmeDoes s t) (left : Did EsmeDoes t u)
+    → (xs : List Exchange) → AreFor (served.calls ++ left.calls) xs → ReadsAnswers accounts (served.calls ++ left.calls) xs
+reads_answers accounts s t u v p count served left xs for =
     let whole = runs_both s.view t.view u.view s.phase t.phase u.phase served.calls left.calls served.runs left.runs in
+    let due = due_join (put_at s.seat) (taken_at s.seat) served.calls left.calls served.due_so (due_at _ _ _ _ left.calls served.put_so served.taken_so left.due_so) in
     read_answers accounts (served.calls ++ left.calls) xs
     (was_served (served.calls ++ left.calls) (opened accounts) u.view u.phase
     (subst (λ (e : EsmeView). Runs EsmeDoes e Serves (served.calls ++ left.calls) u.view u.phase) v
-    (subst (λ (q : Phase). Runs EsmeDoes s.view q (served.calls ++ left.calls) u.view u.phase) p whole))) for in_turn
+    (subst (λ (q : Phase). Runs EsmeDoes s.view q (served.calls ++ left.calls) u.view u.phase) p whole))) for
+    (put_at s.seat) (taken_at s.seat) count due

@@ -10,3 +10,4 @@ pub mod ReceiptsWritten
 pub mod RequestsArrive
 pub mod RunEvents
 pub mod RunKept
+pub mod RunReads

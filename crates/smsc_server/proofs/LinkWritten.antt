@@ -2,7 +2,7 @@
 use Rattle.std.proofs.Common.{◌≡◌, ◌⊎◌, inl, inr, ℕ, ◌≤◌, Bool, true, false, cond, leb, le-leb, min, arith, List, [], ◌∷◌, ◌++◌, length, length-take, take, Option, Some, None, refl, sym, ap, subst, ◌∙◌, append_assoc, append-nil}
 use Rattle.sms_centre_spec.specs.declared.jobs.job.Job.{Job}
 use Rattle.sms_centre_spec.specs.declared.jobs.reply.Reply.{Reply}
-use Rattle.smsc_loop.specs.Calls.{Call, Timed, Told, Took, Heard, GaveUp, AskedLink, AskedToLeave, Noted, Sent, Put, PutBack, Left, PutLast, PutOwn, Dropped, octets_sent, octets_taken, replies_taken}
+use Rattle.smsc_loop.specs.Calls.{Call, Timed, Told, Took, Heard, GaveUp, AskedLink, AskedToLeave, Noted, Sent, Put, PutBack, Left, PutLast, PutOwn, Dropped, Refused, octets_sent, octets_taken, replies_taken}
 use Rattle.smsc_loop.specs.Courses.{Did, LeadsTo, Runs, Standing}
 use Rattle.smsc_loop.specs.Phases.{Phase, Serves, Fails, Leaves, Ends, Asks, Moves}
 use Rattle.smsc_endpoint.specs.declared.link_access.LinkAccess.{LinkAccess}
@@ -42,6 +42,7 @@ taken_first call calls = refl
 heard_first : (call : Call) (calls : List Call) → frames_heard (replies_taken (call ∷ calls)) ≡ frames_heard (replies_taken (call ∷ [])) ++ frames_heard (replies_taken calls)
 heard_first (Heard reply went) calls = ap (λ (fs : List (List ℕ)). fs ++ frames_heard (replies_taken calls)) (sym (append-nil (given_by reply)))
 heard_first (Dropped reply) calls = ap (λ (fs : List (List ℕ)). fs ++ frames_heard (replies_taken calls)) (sym (append-nil (given_by reply)))
+heard_first (Refused reply) calls = ap (λ (fs : List (List ℕ)). fs ++ frames_heard (replies_taken calls)) (sym (append-nil (given_by reply)))
 heard_first call calls = refl
 
 more : {A : Type 0} (a b c first rest all : List A) → b ≡ a ++ first → c ≡ b ++ rest → all ≡ first ++ rest → c ≡ a ++ all
@@ -150,6 +151,7 @@ one_step (Left last) s m o l v e = let never : Leaves last ≡ Serves = sym v.1 
 one_step (PutLast job) s m o l v e = let never : Ends ≡ Serves = sym v.1 ∙ e in absurd cc
 one_step (PutOwn job) s m o l v e = let never : Asks ≡ Serves = sym v.1 ∙ e in absurd cc
 one_step (Dropped reply) s m o l v e = absurd v.0
+one_step (Refused reply) s m o l v e = absurd (fails o v.1 e)
 
 -- ---- calls one after the other
 

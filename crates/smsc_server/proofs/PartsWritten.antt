@@ -15,7 +15,7 @@ use Rattle.sms_centre_spec.specs.declared.jobs.reply.Reply.{Reply}
 use Rattle.sms_centre_spec.specs.declared.jobs.reply.Reply.TheVariants.{Answer, Receipt, Frame, Taken}
 use Rattle.sms_receipt.specs.declared.final_message.Final.{Final}
 use Rattle.sms_receipt.specs.Receipts.{receipt_of}
-use Rattle.smsc_loop.specs.Calls.{Call, Timed, Told, Took, Heard, GaveUp, AskedLink, AskedToLeave, Noted, Sent, Put, PutBack, Left, PutLast, PutOwn, Dropped, octets_sent}
+use Rattle.smsc_loop.specs.Calls.{Call, Timed, Told, Took, Heard, GaveUp, AskedLink, AskedToLeave, Noted, Sent, Put, PutBack, Left, PutLast, PutOwn, Dropped, Refused, octets_sent}
 use Rattle.smsc_loop.specs.Courses.{Did, Runs, Standing}
 use Rattle.smsc_loop.specs.Phases.{Phase, Serves, Moves}
 use Rattle.smsc_endpoint.specs.declared.pending.PendingRequest.{PendingRequest}
@@ -178,6 +178,7 @@ own_call (Left last) c = tt
 own_call (PutLast job) c = tt
 own_call (PutOwn job) c = tt
 own_call (Dropped reply) c = tt
+own_call (Refused reply) c = tt
 
 own_all : (calls : List Call) (c : EsmeProgress) → AllByRecursion IsOwn (parts_all c (calls_of calls))
 own_all [] c = tt

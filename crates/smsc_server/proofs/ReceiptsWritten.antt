@@ -6,7 +6,7 @@ use Rattle.sms_centre_spec.specs.declared.jobs.job.Job.{Job}
 use Rattle.sms_centre_spec.specs.declared.jobs.reply.Reply.{Reply}
 use Rattle.sms_centre_spec.specs.declared.jobs.reply.Reply.TheVariants.{Answer, Receipt, Frame, Taken}
 use Rattle.sms_receipt.specs.declared.final_message.Final.{Final}
-use Rattle.smsc_loop.specs.Calls.{Call, Timed, Told, Took, Heard, GaveUp, AskedLink, AskedToLeave, Noted, Sent, Put, PutBack, Left, PutLast, PutOwn, Dropped, replies_taken}
+use Rattle.smsc_loop.specs.Calls.{Call, Timed, Told, Took, Heard, GaveUp, AskedLink, AskedToLeave, Noted, Sent, Put, PutBack, Left, PutLast, PutOwn, Dropped, Refused, replies_taken}
 use Rattle.smsc_endpoint.specs.EsmeCalls.{handed_back, handed_out, is_sendable}
 use Rattle.smsc_endpoint.specs.EsmeRuns.{Answered, EsmeCall, EsmeProgress, answered_among, called_all, called_once, throttled_among}
 use Rattle.smsc_endpoint.specs.EsmeView.{EsmeView}
@@ -91,12 +91,14 @@ call_receipts (Left last) c end there = absurd there
 call_receipts (PutLast job) c end there = absurd there
 call_receipts (PutOwn job) c end there = absurd there
 call_receipts (Dropped reply) c end there = absurd there
+call_receipts (Refused reply) c end there = absurd there
 
 -- ---- calls one after the other
 
 taken_first : (call : Call) (calls : List Call) → replies_taken (call ∷ calls) ≡ replies_taken (call ∷ []) ++ replies_taken calls
 taken_first (Heard reply went) calls = refl
 taken_first (Dropped reply) calls = refl
+taken_first (Refused reply) calls = refl
 taken_first call calls = refl
 
 pub written_receipts : (calls : List Call) (c : EsmeProgress) (end : Final) → Among end (receipts_in (parts_all c (calls_of calls))) → Among (Receipt end) (replies_taken calls)

@@ -1,16 +1,13 @@
 -- Which answer of the centre each request of an application has.
-use Rattle.std.specs.Prelude.{◌≡◌, ◌≢◌, ◌<◌, ℕ, List, [], ◌∷◌, ◌++◌, map, ⊤, if◌then◌else◌}
+use Rattle.std.specs.Prelude.{◌≡◌, ◌≢◌, List, [], ◌∷◌, ◌++◌, map, if◌then◌else◌}
 use Rattle.std.specs.List.{AllByRecursion}
 use Rattle.smpp_session.specs.declared.account.Account.{Account}
 use Rattle.smpp_session.specs.declared.answer.Request.TheVariants.{Submit as SubmitRequest, Query as QueryRequest, Cancel as CancelRequest}
 use Rattle.sms_centre_spec.specs.declared.answer.CentreAnswer.{CentreAnswer}
 use Rattle.sms_centre_spec.specs.declared.jobs.job.Job.{Job}
 use Rattle.sms_centre_spec.specs.declared.jobs.job.Job.TheVariants.{Bound, Unbound, Submit, Query, Cancel, DeliverAnswered, LinkUp, LinkDown, Frame}
-use Rattle.sms_centre_spec.specs.declared.jobs.reply.Reply.{Reply}
-use Rattle.sms_centre_spec.specs.declared.jobs.reply.Reply.TheVariants.{Answer, Receipt, Frame as FrameReply, Taken}
 use Rattle.sms_seats.specs.Jobs.{jobs_among}
-use Rattle.smsc_loop.specs.Calls.{Call, Heard, Put, PutLast, PutOwn, Dropped, jobs_put, octets_sent, replies_taken}
-use Rattle.smsc_loop.specs.Owing.{awaited_after, awaited_with}
+use Rattle.smsc_loop.specs.Calls.{Call, jobs_put, octets_sent, replies_taken}
 use Rattle.smsc_endpoint.specs.declared.pending.PendingRequest.{PendingRequest}
 use Rattle.smsc_endpoint.specs.EsmeCalls.{header_in}
 use Rattle.smsc_endpoint.specs.EsmeRuns.{Answered, pending_with, started}
@@ -18,23 +15,6 @@ use Rattle.smsc_endpoint.specs.EsmeTurns.{IsThrottledAnswer, was_back}
 use Rattle.smsc_endpoint.specs.LoopCourses.{calls_of}
 use Rattle.smsc_server.specs.Exchanges.{Exchange, answered_in, answers_among, asked_in, requests_among}
 use Rattle.smsc_server.specs.WhatIsRead.{Reads, answers_in, course_of, parts_all}
-
--- ---- when an answer is heard
-
--- An answer comes where so many requests that were put have none.
-abbrev pub IsDue : Reply → ℕ → Type 0
-IsDue (Answer answer) awaited = 0 < awaited
-IsDue reply awaited = ⊤
-
--- No answer is taken before its request was put, where so many wait for theirs at first.
-abbrev pub AreInTurn : ℕ → List Call → Type 0
-AreInTurn awaited [] = ⊤
-AreInTurn awaited (Put job ∷ calls) = AreInTurn (awaited_with job awaited) calls
-AreInTurn awaited (PutLast job ∷ calls) = AreInTurn (awaited_with job awaited) calls
-AreInTurn awaited (PutOwn job ∷ calls) = AreInTurn (awaited_with job awaited) calls
-AreInTurn awaited (Heard reply went ∷ calls) = IsDue reply awaited × AreInTurn (awaited_after reply awaited) calls
-AreInTurn awaited (Dropped reply ∷ calls) = IsDue reply awaited × AreInTurn (awaited_after reply awaited) calls
-AreInTurn awaited (call ∷ calls) = AreInTurn awaited calls
 
 -- ---- the requests of an application and the answers of the centre
 

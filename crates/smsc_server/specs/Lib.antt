@@ -9,3 +9,4 @@ pub mod Exchanges
 pub mod ReceiptsGiven
 pub mod CentresAnswers
 pub mod FramesGiven
+pub mod RunReads

@@ -27,9 +27,11 @@ ghost use Rattle.smsc_endpoint.specs.EsmeView.{opened};
 ghost use Rattle.smsc_endpoint.specs.declared.link_access.LinkAccess.{LinkAccess as AccessOf};
 ghost use Rattle.smsc_endpoint.specs.LinkDoes.{LinkDoes};
 ghost use Rattle.smsc_endpoint.specs.LinkView.{LinkView, opened as opened_link};
+ghost use Rattle.sms_seats.specs.Seats.{put_by, taken_by};
 ghost use Rattle.smsc_loop.specs.Courses.{Did, Standing};
+ghost use Rattle.smsc_loop.specs.Owing.{answers_in, requests_in};
 ghost use Rattle.smsc_loop.specs.Phases.{Serves};
-ghost use Rattle.smsc_server.specs.CentresAnswers.{AreFor, AreInTurn, ReadsAnswers};
+ghost use Rattle.smsc_server.specs.CentresAnswers.{AreFor, ReadsAnswers};
 ghost use Rattle.smsc_server.specs.Exchanges.{Exchange};
 ghost use Rattle.smsc_server.specs.WhatALinkReads.{IsLinkRead};
 ghost use Rattle.smsc_server.specs.WhatIsRead.{IsRead};
@@ -71,13 +73,14 @@ pub fn what_an_application_reads()
         → (served : Did EsmeDoes s t) → (left : Did EsmeDoes t u) → IsRead accounts (served.calls ++ left.calls) }
 {}
 
-/// The same of the answers, where no answer is heard before its request was put. Those that were answered, but those that were handed back, are the
-/// first that the seat put. Each has the answer that the centre gave to it, under its own number. One that was handed back is answered
-/// ESME_RTHROTTLED.
+/// The same of the answers, where the seat had each answer to the connections before. The requests that were answered, but those that were handed
+/// back, are the first that the seat put. Each has the answer that the centre gave to it, under its own number. One that was handed back is
+/// answered ESME_RTHROTTLED.
 pub fn an_application_reads_answers_to_its_own_requests()
     ensures { (accounts : List Account) (s t u : Standing EsmeView) → s.view ≡ opened accounts → s.phase ≡ Serves
-        → (served : Did EsmeDoes s t) → (left : Did EsmeDoes t u) → (exchanges : List Exchange) → AreFor (served.calls ++ left.calls) exchanges
-        → AreInTurn 0 (served.calls ++ left.calls) → ReadsAnswers accounts (served.calls ++ left.calls) exchanges }
+        → requests_in (put_by s.seat) ≡ answers_in (taken_by s.seat) → (served : Did EsmeDoes s t) → (left : Did EsmeDoes t u)
+        → (exchanges : List Exchange) → AreFor (served.calls ++ left.calls) exchanges
+        → ReadsAnswers accounts (served.calls ++ left.calls) exchanges }
 {}
 
 /// What a handset reads on a link that was served and then left its seat. What was written are frames behind their lengths: those among the

@@ -7,10 +7,12 @@ ghost use Rattle.sms_keeper.specs.History.{IsHistory, answers_in, jobs_of};
 ghost use Rattle.smsc_service.specs.Serving.{Serving, after, gives};
 ghost use Rattle.smsc_arrivals.specs.declared.arrival.Arrival.{Arrival};
 ghost use Rattle.smsc_server.specs.Exchanges.{HaveExchanges};
+ghost use Rattle.smsc_server.specs.RunReads.{HaveRead};
 ghost use Rattle.smsc_server.specs.serving.Connections.{Admitted};
 ghost use Rattle.smsc_server.specs.serving.Sittings.{SeatDid};
 ghost use Rattle.smsc_server.specs.serving.Stretches.{HaveStretches};
 
+use crate::answer_laws::what_a_handset_reads;
 use std::io::{Read, Write};
 
 /// The history of a run falls into stretches, one for each connection of a seat. The jobs of the seat in a stretch are those that its
@@ -31,3 +33,15 @@ pub fn each_request_has_the_centres_answer<S: Read + Write>()
         → (did : SeatDid S.remaining S.contents admitted (jobs_of seat items) (answers_in seat items) took)
         → HaveExchanges S.remaining S.contents admitted seat before did.connections items }
 {}
+
+/// What each connection of a seat reads, in any run of the server. A session reads the centre's answers to its own requests: each that was not
+/// handed back once, in order and under its own number. Else it reads receipts and what the session table gives. A link reads the frames that the
+/// centre gave.
+pub fn each_connection_reads_the_centres_answers<S: Read + Write>()
+    ensures { (admitted : Admitted) (seat : ℕ) (before behind : Serving) (items : List (Item Job Reply)) (took : List (Arrival S))
+        → IsHistory gives after before items behind
+        → (did : SeatDid S.remaining S.contents admitted (jobs_of seat items) (answers_in seat items) took)
+        → HaveRead S.remaining S.contents admitted seat before did.connections items }
+{
+    what_a_handset_reads();
+}

@@ -35,9 +35,6 @@ alone_from rows setup times told messages one two out s t d m a b o x =
     let x2 = and_parts told messages (sym b ∙ top.1) in
     record { setup = s.0 x1.0; times = t.0 x1.1; report_addresses = d.0 x2.0; sound = m.0 x2.1 }
 
-pub alone_of : (rows : Rows) → IsSound rows → IsSoundAlone rows
-alone_of rows sound = record { setup = sound.setup; times = sound.times; report_addresses = sound.report_addresses; sound = sound.messages }
-
 pub alone_to : (rows : Rows) (setup times told messages one two out : Bool) → IsTestOf setup (IsSetup rows.setup) → IsTestOf times (AreTimes rows.messages rows.references rows.reports)
     → IsTestOf told ((m : MessageRow) → Among m rows.messages → HasReportAddress m.originator m.source) → IsTestOf messages (SoundMessages rows.messages rows.parts rows.priorities)
     → one ≡ setup && times → two ≡ told && messages → out ≡ one && two → IsSound rows → out ≡ true

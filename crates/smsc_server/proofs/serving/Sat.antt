@@ -7,7 +7,7 @@ use Rattle.sms_seats.specs.declared.seat.Seat.{Seat}
 use Rattle.sms_seats.specs.Jobs.{has_end, jobs_among, of}
 use Rattle.sms_seats.specs.Seats.{IsSameSeat, number_of, put_by, taken_by}
 use Rattle.sms_keeper.specs.History.{for_seat, work}
-use Rattle.smsc_loop.specs.Calls.{Call, Timed, Told, Took, Heard, GaveUp, AskedLink, AskedToLeave, Noted, Sent, Put, PutBack, Left, PutLast, PutOwn, Dropped}
+use Rattle.smsc_loop.specs.Calls.{Call, Timed, Told, Took, Heard, GaveUp, AskedLink, AskedToLeave, Noted, Sent, Put, PutBack, Left, PutLast, PutOwn, Dropped, Refused}
 use Rattle.smsc_loop.specs.Calls.{jobs_put, replies_taken}
 use Rattle.smsc_loop.specs.Courses.{Did, Standing}
 use Rattle.smsc_loop.specs.Emptying.{Drops}
@@ -15,7 +15,7 @@ use Rattle.smsc_loop.specs.Owing.{IsCleared}
 use Rattle.smsc_loop.proofs.Joins.{seat_same, seat_trans}
 use Rattle.smsc_arrivals.specs.declared.arrival.Arrival.{Arrival}
 use Rattle.smsc_server.specs.serving.Connections.{Admitted, Connection, Session, Link, TurnedAway, HasSat, Sits, calls_of, came_as}
-use Rattle.smsc_server.specs.serving.Sittings.{HaveSat, InTurn, IsHandedBack, SeatDid, arrivals_of, jobs_by, replies_to}
+use Rattle.smsc_server.specs.serving.Sittings.{AllSatDown, HaveSat, InTurn, IsHandedBack, SatDown, SeatDid, arrivals_of, jobs_by, replies_to}
 
 -- what some calls did at a seat
 record DidAt (calls : List Call) (s t : Seat Job Reply) : Type 0 where
@@ -43,6 +43,7 @@ put_join (Left last ∷ a) b = put_join a b
 put_join (PutLast job ∷ a) b = ap (λ (l : List (Option Job)). Some job ∷ l) (put_join a b)
 put_join (PutOwn job ∷ a) b = ap (λ (l : List (Option Job)). Some job ∷ l) (put_join a b)
 put_join (Dropped reply ∷ a) b = put_join a b
+put_join (Refused reply ∷ a) b = put_join a b
 
 pub taken_join : (a b : List Call) → replies_taken (a ++ b) ≡ replies_taken a ++ replies_taken b
 taken_join [] b = refl
@@ -61,6 +62,7 @@ taken_join (Left last ∷ a) b = taken_join a b
 taken_join (PutLast job ∷ a) b = taken_join a b
 taken_join (PutOwn job ∷ a) b = taken_join a b
 taken_join (Dropped reply ∷ a) b = ap (λ (l : List Reply). reply ∷ l) (taken_join a b)
+taken_join (Refused reply ∷ a) b = ap (λ (l : List Reply). reply ∷ l) (taken_join a b)
 
 did_at : {V : Type 0} (does : Call → V → V → Type 0) (r s t : Standing V) (p : Did does r s) (q : Did does s t) → DidAt (p.calls ++ q.calls) r.seat t.seat
 did_at does r s t p q = record {
@@ -122,6 +124,30 @@ module _ {S : Type 0} (remaining contents : S → Option (List ℕ)) (admitted :
             (cleared _ _ _ _ (sym (append_assoc put (jobs_put x) (jobs_by remaining contents admitted cs))) (sym (append_assoc taken (replies_taken x) (replies_to remaining contents admitted cs))) e),
       )
 
+  sat_as : (put put_then : List (Option Job)) (taken taken_then : List Reply) (c : Connection remaining contents admitted) → put ≡ put_then → taken ≡ taken_then
+      → SatDown remaining contents admitted put taken c → SatDown remaining contents admitted put_then taken_then c
+  sat_as put put_then taken taken_then c e f h =
+      subst (λ (l : List Reply). SatDown remaining contents admitted put_then l c) f (subst (λ (l : List (Option Job)). SatDown remaining contents admitted l taken c) e h)
+
+  down_more : (put : List (Option Job)) (taken : List Reply) (cs : List (Connection remaining contents admitted)) (c : Connection remaining contents admitted)
+      → AllSatDown remaining contents admitted put taken cs
+      → SatDown remaining contents admitted (put ++ jobs_by remaining contents admitted cs) (taken ++ replies_to remaining contents admitted cs) c
+      → AllSatDown remaining contents admitted put taken (cs ++ c ∷ [])
+  down_more put taken [] c h e = (sat_as _ _ _ _ c (append-nil put) (append-nil taken) e, tt)
+  down_more put taken (first ∷ cs) c h e =
+      let x = calls_of remaining contents admitted first in (
+        h.0,
+        down_more (put ++ jobs_put x) (taken ++ replies_taken x) cs c h.1
+            (sat_as _ _ _ _ c (sym (append_assoc put (jobs_put x) (jobs_by remaining contents admitted cs))) (sym (append_assoc taken (replies_taken x) (replies_to remaining contents admitted cs))) e),
+      )
+
+  -- a connection sits down at the seat as it is
+  down_at : (s : Seat Job Reply) (c : Connection remaining contents admitted) (t : Seat Job Reply) → Sits remaining contents admitted s c t
+      → SatDown remaining contents admitted (put_by s) (taken_by s) c
+  down_at s (Session visit) t h = (ap put_by h.0, ap taken_by h.0)
+  down_at s (Link visit) t h = (ap put_by h.0, ap taken_by h.0)
+  down_at s (TurnedAway arrival) t h = tt
+
   arrivals_more : (cs : List (Connection remaining contents admitted)) (c : Connection remaining contents admitted)
       → arrivals_of remaining contents admitted (cs ++ c ∷ []) ≡ arrivals_of remaining contents admitted cs ++ came_as remaining contents admitted c ∷ []
   arrivals_more [] c = refl
@@ -130,6 +156,7 @@ module _ {S : Type 0} (remaining contents : S → Option (List ℕ)) (admitted :
   pub sat_none : (s : Seat Job Reply) (a : List (Arrival S)) → HaveSat remaining contents admitted s s a a
   sat_none s a = record {
     connections = [];
+    sat_down = tt;
     in_turn = tt;
     came = sym (append-nil a);
     put = sym (append-nil (put_by s));
@@ -146,6 +173,7 @@ module _ {S : Type 0} (remaining contents : S → Option (List ℕ)) (admitted :
   sat_more s t u a b d x h e f k =
       let c = k.0 in let did = sat_at t k.0 u k.2 in record {
         connections = h.connections ++ c ∷ [];
+        sat_down = down_more (put_by s) (taken_by s) h.connections c h.sat_down (sat_as _ _ _ _ c h.put h.taken (down_at t k.0 u k.2));
         in_turn = turn_more (put_by s) (taken_by s) h.connections c h.in_turn (cleared _ _ _ _ h.put h.taken e);
         came = f ∙ (ap (λ (l : List (Arrival S)). l ++ x ∷ []) h.came
             ∙ (append_assoc a (arrivals_of remaining contents admitted h.connections) (x ∷ [])
@@ -169,6 +197,8 @@ module _ {S : Type 0} (remaining contents : S → Option (List ℕ)) (admitted :
   handed_back s t r a b none nothing new h closed dropped = record {
     connections = h.connections;
     came = h.came ∙ ap (λ (l : List (Arrival S)). l ++ arrivals_of remaining contents admitted h.connections) new;
+    sat_down = subst (λ (l : List Reply). AllSatDown remaining contents admitted [] l h.connections) nothing
+        (subst (λ (l : List (Option Job)). AllSatDown remaining contents admitted l (taken_by s) h.connections) none h.sat_down);
     in_turn = subst (λ (l : List Reply). InTurn remaining contents admitted [] l h.connections) nothing
         (subst (λ (l : List (Option Job)). InTurn remaining contents admitted l (taken_by s) h.connections) none h.in_turn);
     put = closed_jobs (put_by t) (put_by r) closed
@@ -184,6 +214,7 @@ module _ {S : Type 0} (remaining contents : S → Option (List ℕ)) (admitted :
   seat_did n m r ran given took is h run taken closed = record {
     connections = h.connections;
     came = h.came;
+    sat_down = h.sat_down;
     in_turn = h.in_turn;
     jobs = ap (λ (k : ℕ). for_seat k (work ran)) (sym is) ∙ (run (ap (λ (k : ℕ). has_end (of k ran)) is ∙ closed) ∙ h.put);
     untaken = h.untaken ++ taken.0;
@@ -195,6 +226,7 @@ module _ {S : Type 0} (remaining contents : S → Option (List ℕ)) (admitted :
   did_same ran ran_then given given_then took took_then e f g h = record {
     connections = h.connections;
     came = g ∙ h.came;
+    sat_down = h.sat_down;
     in_turn = h.in_turn;
     jobs = e ∙ h.jobs;
     untaken = h.untaken;

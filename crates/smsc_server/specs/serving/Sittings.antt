@@ -8,7 +8,7 @@ use Rattle.sms_seats.specs.Seats.{IsSameSeat, put_by, taken_by}
 use Rattle.smsc_loop.specs.Calls.{jobs_put, replies_taken}
 use Rattle.smsc_loop.specs.Owing.{IsCleared}
 use Rattle.smsc_arrivals.specs.declared.arrival.Arrival.{Arrival}
-use Rattle.smsc_server.specs.serving.Connections.{Admitted, Connection, calls_of, came_as}
+use Rattle.smsc_server.specs.serving.Connections.{Admitted, Connection, Session, Link, TurnedAway, calls_of, came_as}
 
 module _ {S : Type 0} (remaining contents : S → Option (List ℕ)) (admitted : Admitted) where
   -- how they came, in order
@@ -26,7 +26,19 @@ module _ {S : Type 0} (remaining contents : S → Option (List ℕ)) (admitted :
   replies_to [] = []
   replies_to (c ∷ cs) = replies_taken (calls_of remaining contents admitted c) ++ replies_to cs
 
-  -- Each sat down at a seat that had put and taken what those before it did, and had each answer to them.
+  -- it sat down at a seat that had put and taken this
+  abbrev pub SatDown : List (Option Job) → List Reply → Connection remaining contents admitted → Type 0
+  SatDown put taken (Session visit) = (put_by visit.seat ≡ put) × (taken_by visit.seat ≡ taken)
+  SatDown put taken (Link visit) = (put_by visit.seat ≡ put) × (taken_by visit.seat ≡ taken)
+  SatDown put taken (TurnedAway arrival) = ⊤
+
+  -- Each sat down at a seat that had put and taken what those before it did.
+  abbrev pub AllSatDown : List (Option Job) → List Reply → List (Connection remaining contents admitted) → Type 0
+  AllSatDown put taken [] = ⊤
+  AllSatDown put taken (c ∷ cs) =
+      SatDown put taken c × AllSatDown (put ++ jobs_put (calls_of remaining contents admitted c)) (taken ++ replies_taken (calls_of remaining contents admitted c)) cs
+
+  -- Where each sat down, the seat had each answer to those before it.
   abbrev pub InTurn : List (Option Job) → List Reply → List (Connection remaining contents admitted) → Type 0
   InTurn put taken [] = ⊤
   InTurn put taken (c ∷ cs) =
@@ -35,6 +47,7 @@ module _ {S : Type 0} (remaining contents : S → Option (List ℕ)) (admitted :
   -- Between these two moments some connections sat at the seat: those that it took meanwhile, in the order in which it took them.
   pub record HaveSat (s t : Seat Job Reply) (took taken_then : List (Arrival S)) : Type 0 where
     pub connections : List (Connection remaining contents admitted)
+    pub sat_down : AllSatDown (put_by s) (taken_by s) connections
     pub in_turn : InTurn (put_by s) (taken_by s) connections
     pub came : taken_then ≡ took ++ arrivals_of connections
     pub put : put_by t ≡ put_by s ++ jobs_by connections
@@ -45,6 +58,7 @@ module _ {S : Type 0} (remaining contents : S → Option (List ℕ)) (admitted :
   pub record IsHandedBack (t : Seat Job Reply) (took : List (Arrival S)) : Type 0 where
     pub connections : List (Connection remaining contents admitted)
     pub came : took ≡ arrivals_of connections
+    pub sat_down : AllSatDown [] [] connections
     pub in_turn : InTurn [] [] connections
     pub put : jobs_among (put_by t) ≡ jobs_among (jobs_by connections)
     pub untaken : List Reply
@@ -55,6 +69,7 @@ module _ {S : Type 0} (remaining contents : S → Option (List ℕ)) (admitted :
   pub record SeatDid (ran : List Job) (given : List Reply) (took : List (Arrival S)) : Type 0 where
     pub connections : List (Connection remaining contents admitted)
     pub came : took ≡ arrivals_of connections
+    pub sat_down : AllSatDown [] [] connections
     pub in_turn : InTurn [] [] connections
     pub jobs : ran ≡ jobs_among (jobs_by connections)
     pub untaken : List Reply

@@ -1,5 +1,5 @@
 //! The run.
-ghost use Rattle.std.specs.Prelude.{◌≡◌, ◌≤◌, ◌∷◌, ◌++◌, [], ℕ, List, length, map, option_map, IfOk, OnOk};
+ghost use Rattle.std.specs.Prelude.{◌≡◌, ◌≤◌, ◌∷◌, ◌++◌, [], ℕ, List, length, map, option_map, false, IfOk, OnOk};
 ghost use Rattle.std.specs.Io.KnownBytes.{Consumes};
 ghost use Rattle.sms_link.specs.framing.Framing.{joined};
 ghost use Rattle.sms_handset.specs.machine.Stepping.{MakesTheChanges};
@@ -35,10 +35,11 @@ fn is_pause(error: &io::Error) -> bool {
     )
 }
 
-// Octets that arrived, or none where nothing arrived in time; whether the link is still open.
+// Octets that arrived, or none where nothing arrived in time; whether the link is still open. It counts as closed only where nothing arrived.
 fn receive<R: Read>(link: &mut R, buffer: &mut FrameBuffer) -> Result<bool, LinkStop>
-    ensures { OnOk result ((octets : List ℕ)
+    ensures octets { OnOk result ((octets : List ℕ)
         × ((length octets ≤ 4096) × Consumes (R.remaining link.old) (R.remaining link.new) octets × (buffer.new ≡ buffer.old ++ octets))) }
+    ensures closed { IfOk result (λ is_open. is_open ≡ false → buffer.new ≡ buffer.old) }
 {
     let mut room = [0; ROOM];
     match link.read(&mut room) {

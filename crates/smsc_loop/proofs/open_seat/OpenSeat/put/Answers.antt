@@ -1,4 +1,4 @@
-use Rattle.smsc_loop.proofs.Counting.{answered_kept, counted_job, last_job, turn_job, turn_same, turns_job}
+use Rattle.smsc_loop.proofs.Counting.{answered_kept, counted_job, last_job, turns_job}
 use Rattle.smsc_loop.proofs.open_seat.OpenSeat.put.Goals as goal
 
 pub invariant_of-self-2 : goal.invariant_of-self-2
@@ -6,11 +6,10 @@ invariant_of-self-2 g c = record {
   «open» = c.put.ensures.open;
   counted = counted_job _ _ _ _ _ _ c.args.self.now.counted c.args.job c.in-Some.awaited c.in-Some.ensures.0 c.in_ok-put.ensures.put c.put.ensures.taken;
   few = c.in-Some.ensures.1;
-  in_turn = turn_job _ _ _ _ _ c.args.self.now.in_turn c.args.job c.in-Some.awaited c.in-Some.ensures.0 c.in_ok-put.ensures.put c.put.ensures.taken;
   asked = last_job _ _ c.args.job c.asks_nothing-is_asked.result c.asks_nothing-is_asked.ensures c.in_ok-put.ensures.put;
   answered = answered_kept _ _ _ c.args.self.now.answered c.put.ensures.taken;
 }
 
 pub returns-clause-turn : goal.returns-clause-turn
 returns-clause-turn g c =
-    turns_job _ _ _ _ _ c.args.self.now.in_turn c.args.job c.in-Some.awaited c.in-Some.ensures.0 c.in_ok-put.ensures.put c.put.ensures.taken c.in-Some.ensures.1
+    turns_job _ _ _ _ _ _ c.args.self.now.counted c.args.job c.in-Some.awaited c.in-Some.ensures.0 c.in_ok-put.ensures.put c.put.ensures.taken c.in-Some.ensures.1

@@ -7,7 +7,7 @@ use Rattle.smsc_server.proofs.link_run.run.turn.Goals as goal
 pub returns-then-connected : goal.returns-then-connected
 returns-then-connected g c =
     let ticked = c.in_ok-tick.ensures in
-    let read = c.in_ok-connected.ensures in
+    let read = c.in_ok-connected.ensures.octets in
     let met = c.in_ok-left.ensures in (
       met.0,
       read.0,
@@ -22,7 +22,7 @@ returns-then-connected g c =
 pub returns-else-connected : goal.returns-else-connected
 returns-else-connected g c =
     let ticked = c.in_ok-tick.ensures in
-    let read = c.in_ok-connected.ensures in
+    let read = c.in_ok-connected.ensures.octets in
     let met = c.in_ok-left.ensures in (
       met.0,
       read.0,
