@@ -115,6 +115,7 @@ fn account(alloc: Global, digits: &str) -> Result<CentreAccount, Fail> {
     Ok(CentreAccount {
         name: Octets::copy_of(alloc, b"bank")?,
         address: Address::new(1, 1, digits)?,
+        sources: Listed::new(alloc),
     })
 }
 

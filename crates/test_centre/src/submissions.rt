@@ -90,6 +90,7 @@ fn submitted(alloc: Global, fields: &Fields<'_>) -> Result<Result<Submission, Sm
     let account = CentreAccount {
         name: Octets::copy_of(alloc, b"app1")?,
         address,
+        sources: Listed::new(alloc),
     };
     Ok(from_pdu(alloc, &account, now, &message_of(fields)))
 }
