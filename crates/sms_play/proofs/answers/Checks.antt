@@ -26,6 +26,7 @@ use Rattle.sms_tpdu.specs.ValidityTable.{later}
 use Rattle.sms_intake.specs.declared.submission.CentreAccount.{CentreAccount}
 use Rattle.sms_intake.specs.declared.submission.Text.TheVariants.{Single, Whole}
 use Rattle.sms_intake.specs.PartBodies.{body_behind}
+use Rattle.sms_intake.specs.AllowedSources.{permitted}
 use Rattle.sms_intake.specs.SmppIntake.{address_in, are_below, are_whole, before, class_at, content_at, due_in, from_pdu, front_in, handset_named, has_header, has_sar_lengths, has_too_much, headed_text, header_read, header_size, is_ascii, is_empty, judged_in, limit_in, limited, octets_at, plain_text, sar_key, septets_at, single_behind, source_in, splits, text_at, text_in, text_of, ucs2_at, whole_of}
 
 -- the result is not that refusal

@@ -1,5 +1,5 @@
 -- What a submit_sm of a script reads as, in the script's own words; and that what is read as a DELIVER was written so.
-use Rattle.std.proofs.Common.{◌≡◌, ℕ, zero, suc, ◌+◌, List, [], ◌∷◌, ◌++◌, Bool, true, false, refl, sym, ◌∙◌, ap, inl, inr, Option, Some, None, Result, Ok, Err}
+use Rattle.std.proofs.Common.{◌≡◌, ℕ, zero, suc, ◌+◌, List, [], ◌∷◌, ◌++◌, Bool, true, false, cond, refl, sym, ◌∙◌, ap, inl, inr, Option, Some, None, Result, Ok, Err}
 use Rattle.std.specs.Option.{ok_or}
 use Rattle.std.proofs.lemmas.Bool.{cond_both}
 use Rattle.sms_base.specs.Address.{address_of}
@@ -16,6 +16,7 @@ use Rattle.smpp_pdu.specs.declared.status.CommandStatus.{CommandStatus}
 use Rattle.smpp_pdu.specs.declared.status.CommandStatus.TheVariants.{ESME_RINVDSTADR, ESME_RINVESMCLASS, ESME_RINVPARLEN, ESME_RINVSRCADR, ESME_ROPTPARNOTALLWD}
 use Rattle.std.specs.Prelude.{◌/◌, ◌%◌, ◌==◌, not}
 use Rattle.sms_intake.specs.PartBodies.{deliver_octets, deliver_of, deliver_written, is_wish}
+use Rattle.sms_intake.specs.AllowedSources.{allows, permitted}
 use Rattle.sms_intake.specs.SmppIntake.{address_in, address_or_none, due_in, from_pdu, front_in, handset_named, has_sar_lengths, has_too_much, judged_in, limit_in, source_in, submission_for}
 use Rattle.sms_intake.specs.SmppText.{is_ascii, text_in, wish_in}
 use Rattle.sms_intake.specs.declared.smpp_front.Front.{Front}
