@@ -1,11 +1,14 @@
 //! What a run begins with.
 use smpp_session::{Account as Login, Password};
-use sms_base::{Listed, Moment, Octets};
-use smsc_cli::words::{AccountWords, PasswordWords, ServerRun, TableAccount};
+use sms_base::{Address, Digits, Listed, Moment, Octets};
+use smsc_cli::words::{
+    AccountWords, PasswordWords, ServerRun, SourceWords, TableAccount, source_of,
+};
 use smsc_endpoint::LinkAccess;
 use smsc_server::Rate;
-use smsc_service::{CentreAccount, Setup};
+use smsc_service::{AllowedSource, CentreAccount, Setup};
 use std::alloc::{AllocError, Global};
+use toml::Value;
 
 // How many accounts there may be.
 const MOST_ACCOUNTS: usize = 32;
@@ -53,10 +56,44 @@ fn name_of(alloc: Global, account: &TableAccount<'_>) -> Result<String, AllocErr
     Ok(name)
 }
 
+// The characters of an address of that kind; none where it is no address.
+fn digits_of(ton: u8, text: &str) -> Option<Digits> {
+    match Address::new(ton, 1, text) {
+        Ok(address) => Some(address.digits),
+        Err(_) => None,
+    }
+}
+
+fn source_in(words: SourceWords<'_>) -> Option<AllowedSource> {
+    match words {
+        SourceWords::Number(text) => Some(AllowedSource::Number(digits_of(1, text)?)),
+        SourceWords::Prefix(text) => Some(AllowedSource::Prefix(digits_of(1, text)?)),
+        SourceWords::Name(text) => Some(AllowedSource::Name(digits_of(5, text)?)),
+    }
+}
+
+fn source_at(value: &Value) -> Option<AllowedSource> {
+    source_in(source_of(value.as_str()?)?)
+}
+
+fn sources_of(
+    alloc: Global,
+    account: &TableAccount<'_>,
+) -> Result<Listed<AllowedSource>, AllocError> {
+    let mut sources = Vec::new(alloc);
+    for value in account.sources {
+        if let Some(source) = source_at(value) {
+            sources.push(source)?;
+        }
+    }
+    Ok(Listed::from_vec(sources))
+}
+
 fn account_of(alloc: Global, account: &TableAccount<'_>) -> Result<CentreAccount, AllocError> {
     Ok(CentreAccount {
         name: Octets::copy_of(alloc, account.name.as_bytes())?,
         address: account.address,
+        sources: sources_of(alloc, account)?,
     })
 }
 
@@ -69,6 +106,7 @@ fn unlimited<'a>(account: &AccountWords<'a>) -> TableAccount<'a> {
         sessions: account.sessions,
         rate: None,
         is_suspended: false,
+        sources: &[],
     }
 }
 

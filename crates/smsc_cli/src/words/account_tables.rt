@@ -1,10 +1,10 @@
 //! Accounts in TOML.
-ghost use Rattle.std.specs.Prelude.{◌≡◌, ◌≢◌, ◌↔◌, ◌+◌, ◌<◌, ◌^◌, ℕ, List, Bool, true, None, Option, codes, length, option_map, Err, IfNone, IfSome, OnErr, OnOk};
-ghost use Rattle.toml.specs.Data.{Items, as_array, get_member};
+ghost use Rattle.std.specs.Prelude.{◌≡◌, ◌≢◌, ◌↔◌, ◌+◌, ◌<◌, ◌^◌, ℕ, List, Bool, true, false, None, Some, Option, is_some, codes, length, option_map, Err, IfNone, IfSome, OnErr, OnOk};
+ghost use Rattle.toml.specs.Data.{Items, as_array, as_str, get_member, no_items};
 ghost use Rattle.toml.specs.View.{items_view, table_view, view};
-ghost use Rattle.smsc_cli.specs.words.AccountTables.{AddsNoValue, AddsValue, AddsValues, HasRoomFor, HasValues, IsNewName, IsSalt, IsUpTo, SaysPassword, SaysRate, SaysSessions, SaysSuspended};
+ghost use Rattle.smsc_cli.specs.words.AccountTables.{AddsNoValue, AddsValue, AddsValues, AreSources, HasRoomFor, HasValues, IsNewName, IsSalt, IsUpTo, SaysPassword, SaysRate, SaysSessions, SaysSources, SaysSuspended};
 ghost use Rattle.smsc_cli.specs.words.AccountTables.{SpellsDigest, SpellsName, SpellsPassword, SpellsSalt, SpellsTable, SpellsValue, StopsAtValue};
-ghost use Rattle.smsc_cli.specs.words.AccountTables.{are_account_keys, are_file_keys, is_account_key as is_account_key_of, is_file_key as is_file_key_of, is_limit_key as is_limit_key_of, is_password_key as is_password_key_of, text_at as text_in};
+ghost use Rattle.smsc_cli.specs.words.AccountTables.{are_account_keys, are_file_keys, ends_starred, is_name_text as is_name_text_of, is_source as is_source_of, unstarred as unstarred_of, is_account_key as is_account_key_of, is_file_key as is_file_key_of, is_limit_key as is_limit_key_of, is_password_key as is_password_key_of, text_at as text_in};
 ghost use Rattle.smsc_cli.specs.words.SimWords.{Gives, Spells, SpellsNumber};
 ghost use Rattle.smsc_cli.specs.declared.words.account_tables.PasswordWords.{PasswordWords as PasswordWordsOf};
 ghost use Rattle.smsc_cli.specs.declared.words.account_tables.TableAccount.{TableAccount as TableAccountOf};
@@ -14,6 +14,7 @@ ghost use Rattle.smsc_cli.specs.declared.words.fault.WordsFault.TheVariants.{Bad
 use crate::words::account::{USUAL_SESSIONS, name_in, password_in};
 use crate::words::fault::WordsFault;
 use crate::words::number::address_of;
+use crate::words::secrets::is_number_text;
 use hex::FromHex;
 use sms_base::Address;
 use thiserror::Error;
@@ -48,6 +49,19 @@ pub struct TableAccount<'a> {
     pub rate: Option<u32>,
     /// It may have no session for now.
     pub is_suspended: bool,
+    /// The sources that its messages may name beside its number, each a text that `source_of` knows; any where there are none.
+    pub sources: &'a [Value],
+}
+
+/// A source that an account may give, as it is written.
+#[derive(Clone, Copy, Debug, PartialEq, Eq)]
+pub enum SourceWords<'a> {
+    /// A number, by its digits.
+    Number(&'a str),
+    /// The numbers that begin with these digits: an asterisk is behind them.
+    Prefix(&'a str),
+    /// A name.
+    Name(&'a str),
 }
 
 // ---- keys
@@ -61,7 +75,7 @@ fn is_password_key(key: &str) -> bool
 fn is_limit_key(key: &str) -> bool
     ensures { result ≡ is_limit_key_of key.now }
 {
-    (key == "sessions" || key == "rate") || key == "suspended"
+    (key == "sessions" || key == "rate") || (key == "suspended" || key == "sources")
 }
 
 fn is_account_key(key: &str) -> bool
@@ -266,6 +280,84 @@ fn suspended_by(value: Option<&Value>) -> Option<bool>
     }
 }
 
+// ---- sources
+
+// The text before an asterisk at its end.
+fn unstarred<'a>(text: &'a str) -> Option<&'a str>
+    ensures found { IfSome result (λ front. (front.now ≡ unstarred_of text.entry.now) × (ends_starred text.entry.now ≡ true)) }
+    ensures none { IfNone result (ends_starred text.entry.now ≡ false) }
+{
+    text.strip_suffix('*')
+}
+
+fn is_name_text(text: &str) -> bool
+    ensures { result ≡ is_name_text_of text.now }
+{
+    Address::new(5, 0, text).is_ok()
+}
+
+/// The source that the text spells: a number of 1 to 20 digits, such digits and an asterisk, or a name.
+pub fn source_of<'a>(text: &'a str) -> Option<SourceWords<'a>>
+    ensures { is_some result ≡ is_source_of text.entry.now }
+{
+    if is_number_text(text) {
+        return Some(SourceWords::Number(text));
+    }
+    match unstarred(text) {
+        Some(digits) if is_number_text(digits) => Some(SourceWords::Prefix(digits)),
+        _ if is_name_text(text) => Some(SourceWords::Name(text)),
+        _ => None,
+    }
+}
+
+fn is_source(value: &Value) -> bool
+    ensures { (result ≡ true) ↔ ((text : List ℕ) × (as_str (view value.now) ≡ Some text) × (is_source_of text ≡ true)) }
+{
+    match value.as_str() {
+        Some(text) => source_of(text).is_some(),
+        None => false,
+    }
+}
+
+fn are_sources(values: &[Value]) -> bool
+    ensures { (result ≡ true) ↔ AreSources (items_view values.now) }
+{
+    match values.split_first() {
+        Some((first, others)) => is_source(first) && are_sources(others),
+        None => true,
+    }
+}
+
+fn some_sources(values: &[Value]) -> Option<&[Value]>
+    ensures found { IfSome result (λ sources. (sources.now ≡ values.entry.now) × (items_view values.entry.now ≢ no_items) × AreSources (items_view values.entry.now)) }
+    ensures none { IfNone result (¬ ((items_view values.entry.now ≢ no_items) × AreSources (items_view values.entry.now))) }
+{
+    if values.is_empty() || !are_sources(values) {
+        return None;
+    }
+    Some(values)
+}
+
+fn sources_in(value: &Value) -> Option<&[Value]>
+    ensures found { IfSome result (λ sources. SaysSources (Some (view value.entry.now)) (items_view sources.now)) }
+    ensures none { IfNone result ((sources : Items) → ¬ SaysSources (Some (view value.entry.now)) sources) }
+{
+    match array_in(value) {
+        Some(values) => some_sources(values),
+        None => None,
+    }
+}
+
+fn sources_by<'a>(value: Option<&'a Value>) -> Option<&'a [Value]>
+    ensures found { IfSome result (λ sources. SaysSources (option_map (λ v. view v.now) value.entry) (items_view sources.now)) }
+    ensures none { IfNone result ((sources : Items) → ¬ SaysSources (option_map (λ v. view v.now) value.entry) sources) }
+{
+    match value {
+        Some(value) => sources_in(value),
+        None => Some(&[]),
+    }
+}
+
 // ---- an account
 
 fn account_in<'a>(table: &'a Table) -> Option<TableAccount<'a>>
@@ -281,6 +373,7 @@ fn account_in<'a>(table: &'a Table) -> Option<TableAccount<'a>>
     let sessions = sessions_by(value_at(table, "sessions"))?;
     let rate = rate_by(value_at(table, "rate"))?;
     let is_suspended = suspended_by(value_at(table, "suspended"))?;
+    let sources = sources_by(value_at(table, "sources"))?;
     Some(TableAccount {
         name,
         password,
@@ -288,6 +381,7 @@ fn account_in<'a>(table: &'a Table) -> Option<TableAccount<'a>>
         sessions,
         rate,
         is_suspended,
+        sources,
     })
 }
 
