@@ -127,7 +127,7 @@ front_fits account m f is e =
     let lengths = bind_ok (only_if (has_sar_lengths m.tlvs) ESME_RINVPARLEN) _ f handset.2 in
     let alone = bind_ok (only_if (not (has_too_much m)) ESME_ROPTPARNOTALLWD) _ f lengths.2 in
     let from : IsAddress source.0 = source_address own m.source source.0 is
-        (permitted_address account (source_in own m.source) source.0 (some_of (permitted account (source_in own m.source)) source.0 source.1)) in
+    (permitted_address account (source_in own m.source) source.0 (some_of (permitted account (source_in own m.source)) source.0 source.1)) in
     let to : IsNumber handset.0 = named_handset (address_in m.destination) handset.0 (λ x g. entity_address m.destination x g) handset.1 in
     let same = ok_is {E = CommandStatus} _ f alone.2 in
     subst (λ (x : Front). IsAddress x.source × IsNumber x.handset) same (from, to)

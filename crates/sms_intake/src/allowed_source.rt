@@ -73,10 +73,7 @@ fn may_give(account: &CentreAccount, source: &Address) -> bool
 }
 
 /// The source, where there is one and the account may give it.
-pub(crate) fn permitted_source(
-    account: &CentreAccount,
-    source: Option<Address>,
-) -> Option<Address>
+pub(crate) fn permitted_source(account: &CentreAccount, source: Option<Address>) -> Option<Address>
     ensures { result ≡ permitted account.now source }
 {
     match source {

@@ -334,13 +334,19 @@ fn a_source_is_judged_in_its_turn(rt: HostRuntime) -> Result<(), Fail> {
     fields.destination = b"none";
     let refused = judged(rt.alloc(), allowed(rt.alloc())?, &message_of(&fields))?;
     holds(
-        matches!(refused, Err(SmppError::Refused(CommandStatus::ESME_RINVSRCADR))),
+        matches!(
+            refused,
+            Err(SmppError::Refused(CommandStatus::ESME_RINVSRCADR))
+        ),
         "the source first",
     )?;
     fields.esm_class = 4;
     let refused = judged(rt.alloc(), allowed(rt.alloc())?, &message_of(&fields))?;
     holds(
-        matches!(refused, Err(SmppError::Refused(CommandStatus::ESME_RINVESMCLASS))),
+        matches!(
+            refused,
+            Err(SmppError::Refused(CommandStatus::ESME_RINVESMCLASS))
+        ),
         "esm_class before it",
     )
 }

@@ -131,7 +131,7 @@ unfolding front_in
 front_other account m e =
     then_other (only_if (m.esm_class / 4 % 16 == 0) ESME_RINVESMCLASS) _ e (only_other (m.esm_class / 4 % 16 == 0) ESME_RINVESMCLASS (λ q. cc q))
     (λ kind e1. then_other (ok_or (permitted account (source_in account.address m.source)) ESME_RINVSRCADR) _ e1
-        (or_other (permitted account (source_in account.address m.source)) ESME_RINVSRCADR (λ q. cc q))
+    (or_other (permitted account (source_in account.address m.source)) ESME_RINVSRCADR (λ q. cc q))
     (λ source e2. then_other (handset_named (address_in m.destination)) _ e2 (named_other (address_in m.destination))
     (λ handset e3. then_other (only_if (has_sar_lengths m.tlvs) ESME_RINVPARLEN) _ e3 (only_other (has_sar_lengths m.tlvs) ESME_RINVPARLEN (λ q. cc q))
     (λ lengths e4. then_other (only_if (not (has_too_much m)) ESME_ROPTPARNOTALLWD) _ e4 (only_other (not (has_too_much m)) ESME_ROPTPARNOTALLWD (λ q. cc q))
