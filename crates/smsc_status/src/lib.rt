@@ -9,7 +9,6 @@
 //! - `figures`: the figures of a run
 //! - `json`: the figures in JSON
 //! - `laws`: laws of what is said of names
-//! - `markup`: text in a page
 //! - `metrics`: the figures in Prometheus' text format
 //! - `numbers`: numbers and moments in text
 //! - `page`: the page
@@ -28,7 +27,6 @@ mod commits;
 mod figures;
 mod json;
 pub mod laws;
-mod markup;
 mod metrics;
 mod numbers;
 mod page;
