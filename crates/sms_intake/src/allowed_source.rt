@@ -20,10 +20,12 @@ pub enum AllowedSource {
 fn begins_with(wanted: &[char], digits: &[char]) -> bool
     ensures { result ≡ begins_with_of wanted.now digits.now }
 {
-    match (wanted, digits) {
-        ([], _) => true,
-        ([_, ..], []) => false,
-        ([first, more @ ..], [digit, others @ ..]) => *first == *digit && begins_with(more, others),
+    match wanted {
+        [] => true,
+        [first, more @ ..] => match digits {
+            [] => false,
+            [digit, others @ ..] => *first == *digit && begins_with(more, others),
+        },
     }
 }
 
