@@ -163,25 +163,29 @@ fn serves_many<R: Threads + Wait + Copy + Send + 'static>(
 ) -> Result<(), Fail> {
     let store = keep(alloc)?;
     let cutoff = Arc::new(alloc, Cutoff::new())?;
-    serve_with(
+    let (went, store) = serve_with(
         alloc,
         store,
         None,
         &cutoff,
         |service| runs_many(rt, alloc, service, count),
-    )?
+    )?;
+    drop(store);
+    went
 }
 
 fn serves_two<R: Threads + Wait + Copy + Send + 'static>(rt: R, alloc: Global) -> Result<(), Fail> {
     let store = keep(alloc)?;
     let cutoff = Arc::new(alloc, Cutoff::new())?;
-    serve_with(
+    let (went, store) = serve_with(
         alloc,
         store,
         None,
         &cutoff,
         |service| runs_two(rt, alloc, service),
-    )?
+    )?;
+    drop(store);
+    went
 }
 
 #[test]
