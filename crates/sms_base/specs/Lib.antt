@@ -15,4 +15,3 @@ pub mod SmppTime
 pub mod TimeStamp
 pub mod UtcClock
 pub mod StampWriting
-pub mod Markup

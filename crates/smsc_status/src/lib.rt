@@ -9,6 +9,7 @@
 //! - `figures`: the figures of a run
 //! - `json`: the figures in JSON
 //! - `laws`: laws of what is said of names
+//! - `markup`: text in a page
 //! - `metrics`: the figures in Prometheus' text format
 //! - `numbers`: numbers and moments in text
 //! - `page`: the page
@@ -27,6 +28,7 @@ mod commits;
 mod figures;
 mod json;
 pub mod laws;
+mod markup;
 mod metrics;
 mod numbers;
 mod page;

@@ -3,7 +3,8 @@ ghost use Rattle.std.specs.Prelude.{◌≡◌, ◌++◌, OnOk};
 ghost use Rattle.smsc_status.specs.Quantiles.{limit_text, quantile_text};
 
 use crate::commits::Quantile;
-use crate::numbers::{put_milliseconds, put_number};
+use crate::markup::put_number;
+use crate::numbers::put_milliseconds;
 use sms_base::Octets;
 use std::alloc::AllocError;
 
