@@ -10,6 +10,7 @@ mod MemoryWanting
 mod MoreWaiting
 mod NextOfTwo
 mod OneMessage
+pub mod OrdersDone
 mod ReceiptWords
 mod RefusedByOctets
 mod ReferencesGiven

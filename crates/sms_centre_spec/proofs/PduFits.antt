@@ -29,7 +29,7 @@ use Rattle.sms_centre_rows.specs.declared.waiting.handset_link.HandsetLink.{Hand
 use Rattle.sms_centre_rows.specs.waiting.Links.{line_of}
 use Rattle.sms_centre_rows.specs.waiting.SoundAllocations.{IsNumber}
 use Rattle.sms_centre_spec.specs.declared.event.CentreEvent.{CentreEvent}
-use Rattle.sms_centre_spec.specs.declared.event.CentreEvent.TheVariants.{Submit, Query, Cancel, Bound, Unbound, DeliverAnswered, Frame, LinkUp, LinkDown, Tick}
+use Rattle.sms_centre_spec.specs.declared.event.CentreEvent.TheVariants.{Submit, Query, Cancel, Bound, Unbound, DeliverAnswered, Frame, LinkUp, LinkDown, Ordered, Tick}
 use Rattle.sms_intake.specs.AllowedSources.{allows, permitted}
 use Rattle.sms_intake.specs.declared.submission.CentreAccount.{CentreAccount}
 use Rattle.sms_intake.specs.declared.submission.SinglePart.{SinglePart}
@@ -175,6 +175,7 @@ has_number (DeliverAnswered session id b) is = tt
 has_number (Frame handset octets tag) is = is.0
 has_number (LinkUp handset) is = is
 has_number (LinkDown handset) is = is
+has_number (Ordered order id) is = tt
 has_number (Tick now) is = tt
 
 pub event_gives : (event : CentreEvent) (c : Core) → IsSoundCore c → IsEvent event → Gives event c
@@ -188,4 +189,5 @@ event_gives (Frame handset octets tag) c s is =
     let l : HandsetLink = line_of handset c.lines in frame_fits c.rows.setup.accounts l c.moment octets (subst (λ (n : List ℕ). IsNumber n) (sym (line_of_handset handset c.lines)) is.0) is.1
 event_gives (LinkUp handset) c s is = tt
 event_gives (LinkDown handset) c s is = tt
+event_gives (Ordered order id) c s is = tt
 event_gives (Tick now) c s is = is
