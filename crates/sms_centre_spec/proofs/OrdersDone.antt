@@ -23,7 +23,7 @@ use Rattle.sms_centre_spec.specs.declared.order.Order.TheVariants.{Retry, Delete
 use Rattle.sms_centre_spec.specs.CentreEvent.{follow, happened}
 use Rattle.sms_centre_spec.specs.Draft.{Core, Draft, Store, answer_with, draft_of, in_store, messages_in, parts_in, reports_in, waiting_in}
 use Rattle.sms_centre_spec.specs.Ends.{end}
-use Rattle.sms_centre_spec.specs.Orders.{message_due, ordered, parts_among, retried}
+use Rattle.sms_centre_spec.specs.Orders.{is_part_of, message_due, ordered, parts_among, retried}
 use Rattle.sms_centre_spec.specs.Receiving.{all_due, load_due, part_due, report_due}
 use Rattle.sms_centre_spec.specs.Requests.{cancelled, refused}
 
@@ -65,7 +65,7 @@ more_among false l x ls xs f a = inr (f a)
 
 pub among_parts : (id : ℕ) (l : QueuedPart) (ls : List QueuedPart) → Among l (parts_among id ls) → Among l ls
 among_parts id l [] a = a
-among_parts id l (x ∷ xs) a = more_among ((x.id == id) && not (x.number == 0)) l x (parts_among id xs) xs (λ b. among_parts id l xs b) a
+among_parts id l (x ∷ xs) a = more_among (is_part_of id x) l x (parts_among id xs) xs (λ b. among_parts id l xs b) a
 
 not_true : (b : Bool) → not b ≡ true → b ≡ false
 not_true true e = absurd cc
@@ -80,7 +80,7 @@ is_part false l x ls is f a = f a
 parts_are : (id : ℕ) (l : QueuedPart) (ls : List QueuedPart) → Among l (parts_among id ls) → (l.number == 0) ≡ false
 parts_are id l [] a = absurd a
 parts_are id l (x ∷ xs) a =
-    is_part ((x.id == id) && not (x.number == 0)) l x (parts_among id xs)
+    is_part (is_part_of id x) l x (parts_among id xs)
     (λ e. not_true (x.number == 0) (and_parts (x.id == id) (not (x.number == 0)) e).1) (λ b. parts_are id l xs b) a
 
 -- ---- due now: each of them, and nothing else

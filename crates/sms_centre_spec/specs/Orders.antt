@@ -1,5 +1,5 @@
 -- What an operator orders of a message, whoever sent it. Each order has one answer.
-use Rattle.std.specs.Prelude.{ℕ, ◌==◌, ◌&&◌, not, List, [], ◌∷◌, if◌then◌else◌, Option, Some, None}
+use Rattle.std.specs.Prelude.{ℕ, ◌==◌, ◌&&◌, not, List, filter, Bool, Option, Some, None}
 use Rattle.smpp_pdu.specs.declared.status.CommandStatus.TheVariants.{ESME_RINVMSGID}
 use Rattle.sms_centre_rows.specs.declared.messages.message.MessageRow.{MessageRow}
 use Rattle.sms_centre_rows.specs.declared.waiting.queued_part.QueuedPart.{QueuedPart}
@@ -13,10 +13,12 @@ use Rattle.sms_centre_spec.specs.Requests.{cancelled, refused}
 
 -- ---- due now: all of the message that waits for its handset
 
--- number 0 is a status report, which goes to the handset that sent the message
+-- a part of the message; number 0 is its status report, which goes to the handset that sent it
+abbrev pub is_part_of : ℕ → QueuedPart → Bool
+is_part_of id l = (l.id == id) && not (l.number == 0)
+
 abbrev pub parts_among : ℕ → List QueuedPart → List QueuedPart
-parts_among id [] = []
-parts_among id (l ∷ ls) = if (l.id == id) && not (l.number == 0) then l ∷ parts_among id ls else parts_among id ls
+parts_among id ls = filter (is_part_of id) ls
 
 abbrev pub message_due : MessageRow → Store → Store
 message_due m s = all_due (parts_among m.id (waiting_in m.handset s)) s
