@@ -50,7 +50,7 @@ use Rattle.sms_centre_spec.specs.declared.order.Order.TheVariants.{Retry, Delete
 use Rattle.sms_centre_spec.specs.Orders.{ordered, parts_among, retried}
 use Rattle.sms_centre_spec.specs.Sessions.{answered_by, bind, bound_as, due_for, unbind, unbound_from}
 use Rattle.sms_centre_spec.specs.CentreEvent.{tag_of, aged, at_moment, expired, fire_at, fire_line, fire_mentioned, fire_others, fired, frame_taken, happened, is_mentioned, lost, lower, raise, raise_all, raised, timed_out, went_up}
-use Rattle.sms_centre_spec.specs.Draft.{Core, Draft, Store, draft_of, handsets_in, messages_in, on_links, rows_of}
+use Rattle.sms_centre_spec.specs.Draft.{Core, Draft, Store, draft_of, handsets_in, messages_in, on_links, rows_of, waiting_in}
 use Rattle.sms_centre_spec.specs.MessageNumbers.{next_number}
 use Rattle.sms_centre_spec.specs.Consistent.{IsSubmission}
 use Rattle.sms_centre_spec.specs.Submitted.{AccountGives, Gives, UnitGives, UpGives}
