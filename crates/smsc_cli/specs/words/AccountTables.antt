@@ -11,6 +11,8 @@ use Rattle.smsc_cli.specs.words.Secrets.{is_number_text}
 use Rattle.smsc_cli.specs.words.SimWords.{Gives, SpellsNumber}
 use Rattle.smsc_cli.specs.declared.words.account_tables.PasswordWords.{PasswordWords}
 use Rattle.smsc_cli.specs.declared.words.account_tables.PasswordWords.TheVariants.{Plain, Salted}
+use Rattle.smsc_cli.specs.declared.words.account_tables.SourceWords.{SourceWords}
+use Rattle.smsc_cli.specs.declared.words.account_tables.SourceWords.TheVariants.{Number, Prefix, Name}
 use Rattle.smsc_cli.specs.declared.words.account_tables.TableAccount.{TableAccount}
 
 -- ---- keys
@@ -119,6 +121,12 @@ SaysSuspended (Some value) suspended = as_bool value ≡ Some suspended
 -- A source that an account may give: a number of 1 to 20 digits 0 to 9, such a number and an asterisk, or a name that an address may have.
 abbrev pub is_source : List ℕ → Bool
 is_source text = (is_number_text text || is_prefix text) || is_name_text text
+
+-- which of them it is
+abbrev pub SpellsSource : List ℕ → SourceWords → Type 0
+SpellsSource text (Number digits) = (digits.now ≡ text) × (is_number_text text ≡ true)
+SpellsSource text (Prefix digits) = (is_number_text text ≡ false) × (is_prefix text ≡ true) × (digits.now ≡ unstarred text)
+SpellsSource text (Name name) = (is_number_text text ≡ false) × (is_prefix text ≡ false) × (name.now ≡ text) × (is_name_text text ≡ true)
 
 abbrev pub AreSources : Items → Type 0
 AreSources no_items = ⊤

@@ -1,10 +1,11 @@
 //! Accounts in TOML.
-ghost use Rattle.std.specs.Prelude.{◌≡◌, ◌≢◌, ◌↔◌, ◌+◌, ◌<◌, ◌^◌, ℕ, List, Bool, true, false, None, Some, Option, is_some, codes, length, option_map, Err, IfNone, IfSome, OnErr, OnOk};
+ghost use Rattle.std.specs.Prelude.{◌≡◌, ◌≢◌, ◌↔◌, ◌+◌, ◌<◌, ◌^◌, ℕ, List, Bool, true, false, None, Some, Option, codes, length, option_map, Err, IfNone, IfSome, OnErr, OnOk};
 ghost use Rattle.toml.specs.Data.{Items, as_array, as_str, get_member, no_items};
 ghost use Rattle.toml.specs.View.{items_view, table_view, view};
 ghost use Rattle.smsc_cli.specs.words.AccountTables.{AddsNoValue, AddsValue, AddsValues, AreSources, HasRoomFor, HasValues, IsNewName, IsSalt, IsUpTo, SaysPassword, SaysRate, SaysSessions, SaysSources, SaysSuspended};
-ghost use Rattle.smsc_cli.specs.words.AccountTables.{SpellsDigest, SpellsName, SpellsPassword, SpellsSalt, SpellsTable, SpellsValue, StopsAtValue};
-ghost use Rattle.smsc_cli.specs.words.AccountTables.{are_account_keys, are_file_keys, ends_starred, is_name_text as is_name_text_of, is_source as is_source_of, unstarred as unstarred_of, is_account_key as is_account_key_of, is_file_key as is_file_key_of, is_limit_key as is_limit_key_of, is_password_key as is_password_key_of, text_at as text_in};
+ghost use Rattle.smsc_cli.specs.words.AccountTables.{SpellsDigest, SpellsName, SpellsPassword, SpellsSalt, SpellsSource, SpellsTable, SpellsValue, StopsAtValue};
+ghost use Rattle.smsc_cli.specs.words.AccountTables.{are_account_keys, are_file_keys, ends_starred, is_name_text as is_name_text_of, is_prefix, is_source as is_source_of, unstarred as unstarred_of, is_account_key as is_account_key_of, is_file_key as is_file_key_of, is_limit_key as is_limit_key_of, is_password_key as is_password_key_of, text_at as text_in};
+ghost use Rattle.smsc_cli.specs.words.Secrets.{is_number_text as is_number_of};
 ghost use Rattle.smsc_cli.specs.words.SimWords.{Gives, Spells, SpellsNumber};
 ghost use Rattle.smsc_cli.specs.declared.words.account_tables.PasswordWords.{PasswordWords as PasswordWordsOf};
 ghost use Rattle.smsc_cli.specs.declared.words.account_tables.TableAccount.{TableAccount as TableAccountOf};
@@ -296,17 +297,61 @@ fn is_name_text(text: &str) -> bool
     Address::new(5, 0, text).is_ok()
 }
 
+// The digits before an asterisk at the end.
+fn prefix_in<'a>(text: &'a str) -> Option<&'a str>
+    ensures found { IfSome result (λ digits. (digits.now ≡ unstarred_of text.entry.now) × (is_prefix text.entry.now ≡ true)) }
+    ensures none { IfNone result (is_prefix text.entry.now ≡ false) }
+{
+    let digits = unstarred(text)?;
+    if is_number_text(digits) {
+        return Some(digits);
+    }
+    None
+}
+
+// The source of a text that is neither a number nor the front of one.
+fn name_in_text<'a>(text: &'a str) -> Option<SourceWords<'a>>
+    requires number { is_number_of text.now ≡ false }
+    requires prefix { is_prefix text.now ≡ false }
+    ensures found { IfSome result (SpellsSource text.entry.now) }
+    ensures none { IfNone result (is_source_of text.entry.now ≡ false) }
+{
+    if is_name_text(text) {
+        return Some(SourceWords::Name(text));
+    }
+    None
+}
+
+// The source of a text that is no number.
+fn no_number<'a>(text: &'a str) -> Option<SourceWords<'a>>
+    requires number { is_number_of text.now ≡ false }
+    ensures found { IfSome result (SpellsSource text.entry.now) }
+    ensures none { IfNone result (is_source_of text.entry.now ≡ false) }
+{
+    match prefix_in(text) {
+        Some(digits) => Some(SourceWords::Prefix(digits)),
+        None => name_in_text(text),
+    }
+}
+
 /// The source that the text spells: a number of 1 to 20 digits, such digits and an asterisk, or a name.
 pub fn source_of<'a>(text: &'a str) -> Option<SourceWords<'a>>
-    ensures { is_some result ≡ is_source_of text.entry.now }
+    ensures found { IfSome result (SpellsSource text.entry.now) }
+    ensures none { IfNone result (is_source_of text.entry.now ≡ false) }
 {
     if is_number_text(text) {
         return Some(SourceWords::Number(text));
     }
-    match unstarred(text) {
-        Some(digits) if is_number_text(digits) => Some(SourceWords::Prefix(digits)),
-        _ if is_name_text(text) => Some(SourceWords::Name(text)),
-        _ => None,
+    no_number(text)
+}
+
+#[tactic(auto, using(crate::proofs::words::SourceTexts::spelled_source))]
+fn is_source_text(text: &str) -> bool
+    ensures { result ≡ is_source_of text.now }
+{
+    match source_of(text) {
+        Some(_source) => true,
+        None => false,
     }
 }
 
@@ -314,7 +359,7 @@ fn is_source(value: &Value) -> bool
     ensures { (result ≡ true) ↔ ((text : List ℕ) × (as_str (view value.now) ≡ Some text) × (is_source_of text ≡ true)) }
 {
     match value.as_str() {
-        Some(text) => source_of(text).is_some(),
+        Some(text) => is_source_text(text),
         None => false,
     }
 }
