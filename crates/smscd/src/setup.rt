@@ -5,7 +5,7 @@ use smsc_cli::words::{
     AccountWords, PasswordWords, ServerRun, SourceWords, TableAccount, source_of,
 };
 use smsc_endpoint::LinkAccess;
-use smsc_server::Rate;
+use smsc_server::Allowance;
 use smsc_service::{AllowedSource, CentreAccount, Setup};
 use std::alloc::{AllocError, Global};
 use toml::Value;
@@ -26,8 +26,11 @@ pub struct RunAccounts {
     pub access: LinkAccess,
     /// How many sessions each may have at once.
     pub limits: Vec<u8>,
-    /// How many requests each may put in a second.
-    pub rates: Vec<Option<Rate>>,
+    /// What else each may do, which a run takes over anew as it goes on.
+    pub allowed: Vec<Allowance>,
+    /// The text of their file, and how many are of words.
+    pub file: Option<String>,
+    pub of_words: usize,
 }
 
 fn password_of(alloc: Global, words: PasswordWords<'_>) -> Result<Password, AllocError> {
@@ -97,12 +100,11 @@ fn account_of(alloc: Global, account: &TableAccount<'_>) -> Result<CentreAccount
     })
 }
 
-// A suspended account may have no session.
-fn limit_of(account: &TableAccount<'_>) -> u8 {
-    if account.is_suspended {
-        0
-    } else {
-        account.sessions
+/// What the account may do, which a run takes over anew as it goes on.
+pub fn allowance_of(account: &TableAccount<'_>) -> Allowance {
+    Allowance {
+        is_suspended: account.is_suspended,
+        rate: account.rate,
     }
 }
 
@@ -115,7 +117,9 @@ impl RunAccounts {
             accounts: Vec::new(alloc),
             access,
             limits: Vec::new(alloc),
-            rates: Vec::new(alloc),
+            allowed: Vec::new(alloc),
+            file: None,
+            of_words: 0,
         }
     }
 
@@ -135,8 +139,8 @@ impl RunAccounts {
         self.logins.push(login_of(alloc, account)?)?;
         self.names.push(name_of(alloc, account)?)?;
         self.accounts.push(account_of(alloc, account)?)?;
-        self.limits.push(limit_of(account))?;
-        self.rates.push(account.rate.map(Rate::of))?;
+        self.limits.push(account.sessions)?;
+        self.allowed.push(allowance_of(account))?;
         Ok(true)
     }
 
