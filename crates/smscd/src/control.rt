@@ -185,10 +185,22 @@ impl Client {
         reloader: &Option<Reloader>,
     ) -> bool {
         let command = self.command();
-        if let (Some(Command::Reload), Some(reloader)) = (command, reloader) {
-            let _ = reload(orders, host.alloc(), reloader, &mut self.stream);
-            return false;
+        match reloader {
+            Some(reloader) if command == Some(Command::Reload) => {
+                let _ = reload(orders, host.alloc(), reloader, &mut self.stream);
+                false
+            }
+            _ => self.do_command(host, orders, command),
         }
+    }
+
+    // Does what is ordered of the run itself.
+    fn do_command(
+        &mut self,
+        host: &HostRuntime,
+        orders: &Orders,
+        command: Option<Command>,
+    ) -> bool {
         let answer = obey(host, orders, command);
         self.is_waiting = command == Some(Command::Stop);
         self.stream.write_all(answer).is_ok() && self.is_waiting

@@ -92,7 +92,7 @@ fn put_allowed(
 }
 
 impl Reloader {
-    /// For a run that began with these accounts; none where they have no file.
+    /// For a run whose file of accounts had that text as it began; none where it has no file.
     pub fn of(
         host: HostRuntime,
         run: &ServerRun<'_>,
@@ -100,19 +100,32 @@ impl Reloader {
         of_words: usize,
         allowances: &Arc<Allowances>,
     ) -> Result<Option<Reloader>, AllocError> {
-        let (Some(path), Some(begun)) = (run.accounts, file) else {
-            return Ok(None);
-        };
-        let mut own = String::new(host.alloc());
-        own.push_str(path)?;
-        Ok(Some(Reloader {
+        match file {
+            Some(begun) => {
+                let reloader = Reloader::new(host, run, begun, of_words, allowances)?;
+                Ok(Some(reloader))
+            }
+            None => Ok(None),
+        }
+    }
+
+    fn new(
+        host: HostRuntime,
+        run: &ServerRun<'_>,
+        begun: String,
+        of_words: usize,
+        allowances: &Arc<Allowances>,
+    ) -> Result<Reloader, AllocError> {
+        let mut path = String::new(host.alloc());
+        path.push_str(run.accounts.unwrap_or(""))?;
+        Ok(Reloader {
             host,
-            path: own,
+            path,
             begun,
             opens_accounts: run.opens_accounts,
             of_words,
             allowances: Arc::try_clone(allowances)?,
-        }))
+        })
     }
 
     /// The path of the file.
