@@ -60,7 +60,7 @@ ends_starred (c ∷ []) = c == 42
 ends_starred (c ∷ d ∷ ds) = ends_starred (d ∷ ds)
 
 -- digits and an asterisk
-unfoldable pub is_prefix : List ℕ → Bool
+abbrev pub is_prefix : List ℕ → Bool
 is_prefix text = ends_starred text && is_number_text (unstarred text)
 
 -- a name as the originator of a message has it (3GPP TS 23.040 9.1.2.5)

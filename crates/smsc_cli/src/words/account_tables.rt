@@ -1,5 +1,5 @@
 //! Accounts in TOML.
-ghost use Rattle.std.specs.Prelude.{◌≡◌, ◌≢◌, ◌↔◌, ◌+◌, ◌<◌, ◌^◌, ℕ, List, Bool, true, false, None, Some, Option, codes, length, option_map, Err, IfNone, IfSome, OnErr, OnOk};
+ghost use Rattle.std.specs.Prelude.{◌≡◌, ◌≢◌, ◌↔◌, ◌+◌, ◌<◌, ◌^◌, ℕ, List, Bool, true, false, None, Some, Option, codes, length, option_map, Err, IfNone, IfSome, MatchOption, OnErr, OnOk};
 ghost use Rattle.toml.specs.Data.{Items, as_array, as_str, get_member, no_items};
 ghost use Rattle.toml.specs.View.{items_view, table_view, view};
 ghost use Rattle.smsc_cli.specs.words.AccountTables.{AddsNoValue, AddsValue, AddsValues, AreSources, HasRoomFor, HasValues, IsNewName, IsSalt, IsUpTo, SaysPassword, SaysRate, SaysSessions, SaysSources, SaysSuspended};
@@ -285,10 +285,13 @@ fn suspended_by(value: Option<&Value>) -> Option<bool>
 
 // The text before an asterisk at its end.
 fn unstarred<'a>(text: &'a str) -> Option<&'a str>
-    ensures found { IfSome result (λ front. (front.now ≡ unstarred_of text.entry.now) × (ends_starred text.entry.now ≡ true)) }
-    ensures none { IfNone result (ends_starred text.entry.now ≡ false) }
+    ensures { MatchOption result (ends_starred text.entry.now ≡ false)
+        (λ front. (front.now ≡ unstarred_of text.entry.now) × (ends_starred text.entry.now ≡ true)) }
 {
-    text.strip_suffix('*')
+    match text.strip_suffix('*') {
+        Some(front) => Some(front),
+        None => None,
+    }
 }
 
 fn is_name_text(text: &str) -> bool
