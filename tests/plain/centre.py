@@ -288,6 +288,9 @@ class Centre:
     def query(self, account, id, source_type, source):
         message = self.owned(account, id, source_type, source)
         refuse_if(message is None, 'RINVMSGID')
+        self.tell_state(message)
+
+    def tell_state(self, message):
         self.answer = 'enroute' if message['state'] is None else f"{ENDINGS[message['state']]} at {message['done'] - START}"
 
     def cancel(self, account, id, source_type, source, to_type=1, to=''):
@@ -295,6 +298,23 @@ class Centre:
         message = self.owned(account, id, source_type, source)
         refuse_if(message is None, 'RINVMSGID')
         refuse_if(to and as_handset(as_address(to_type, to)) != message['handset'], 'RINVMSGID')
+        refuse_if(message['state'] is not None, 'RCANCELFAIL')
+        self.answer = 'cancelled'
+        self.end(message, 2)
+
+    def retry(self, id):
+        """An operator orders that what waits of a message is due now, whoever sent it."""
+        message = self.message(id)
+        refuse_if(message is None, 'RINVMSGID')
+        self.tell_state(message)
+        for part in self.parts:
+            if part['id'] == id and self.waits_part(part, message['handset']):
+                part['due'] = self.now
+
+    def delete(self, id):
+        """An operator orders that a message is not delivered any more, whoever sent it."""
+        message = self.message(id)
+        refuse_if(message is None, 'RINVMSGID')
         refuse_if(message['state'] is not None, 'RCANCELFAIL')
         self.answer = 'cancelled'
         self.end(message, 2)

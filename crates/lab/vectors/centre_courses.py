@@ -31,7 +31,7 @@ STOPPED = ('a lost answer is asked for again', 'a restarted centre offers again'
 # What is asked of a centre before it stops, and once it has started again. What `query` tells is of its answer and of all rows.
 ASKED = ('query id=1', 'query id=2', 'rows', 'table', 'receipts')
 # Lines of rows that are told again as courses.
-AGAIN = ('row', 'submit', 'query', 'cancel', 'bound', 'unbound', 'receipt', 'frame', 'link_up', 'link_down', 'tick', 'restart', 'repeat', 'start')
+AGAIN = ('row', 'submit', 'query', 'cancel', 'retry', 'delete', 'bound', 'unbound', 'receipt', 'frame', 'link_up', 'link_down', 'tick', 'restart', 'repeat', 'start')
 PAST, FUTURE = '42209232958500', '42301010000000'
 
 
@@ -133,6 +133,8 @@ class Play:
             number = fields['number'] if 'number' in fields else f"{int(fields['id']):010d}"
             destination = (int(fields.get('to_type', 1)), fields.get('to', '')) if kind == 'cancel' else ()
             centre.meet(centre.query if kind == 'query' else centre.cancel, account, number, *source, *destination)
+        elif kind in ('retry', 'delete'):
+            centre.meet(centre.retry if kind == 'retry' else centre.delete, int(fields['id']))
         elif kind == 'bound':
             centre.meet(centre.bound, session, account, 'sends' not in fields)
         elif kind == 'unbound':
@@ -362,6 +364,11 @@ class Course:
             (5, ''), (1, ' to=447700900123'), (1, ' to=447700900456'), (1, ' to_type=2 to=447700900789'), (1, ' to_type=5 to=Bank'))
         return f"{kind} account={self.dice.randrange(2)}{source}{destination if kind == 'cancel' else ''}{which}"
 
+    def order(self):
+        newest = [message['id'] for message in self.play.centre.messages[::-1]]
+        back = self.dice.randrange(16)
+        return f"{self.of((2, 'retry'), (1, 'delete'))} id={newest[back] if back < len(newest) else 77}"
+
     def bound(self):
         session = self.dice.randrange(4)
         return f'bound session={session} account={session % 2}' + (' sends=1' if self.one_in(4) else '')
@@ -463,7 +470,7 @@ class Course:
 
     def event(self):
         line = self.of(
-            (14, self.submit), (2, lambda: self.question('query')), (1, lambda: self.question('cancel')), (2, self.bound),
+            (14, self.submit), (2, lambda: self.question('query')), (1, lambda: self.question('cancel')), (1, self.order), (2, self.bound),
             (1, lambda: f'unbound session={self.dice.randrange(5)}'), (4, self.receipt), (24, self.frame),
             (4, lambda: f'link_up {self.handset()}'), (1, lambda: f'link_down {self.handset()}'), (6, self.tick), (1, self.restart))()
         self.lines.append(line)

@@ -3,11 +3,12 @@ use Rattle.std.specs.Prelude.{◌≡◌, ℕ, List}
 use Rattle.smpp_pdu.specs.declared.status.CommandStatus.TheVariants.{ESME_RMSGQFUL}
 use Rattle.sms_intake.specs.declared.refusal.SubmitRefusal.TheVariants.{Congested as NoneFree}
 use Rattle.sms_centre_spec.specs.declared.event.CentreEvent.{CentreEvent}
-use Rattle.sms_centre_spec.specs.declared.event.CentreEvent.TheVariants.{Submit, Query, Cancel, Bound, Unbound, DeliverAnswered, Frame, LinkUp, LinkDown, Tick}
+use Rattle.sms_centre_spec.specs.declared.event.CentreEvent.TheVariants.{Submit, Query, Cancel, Bound, Unbound, DeliverAnswered, Frame, LinkUp, LinkDown, Ordered, Tick}
 use Rattle.sms_link.specs.LinkTurn.{taken}
 use Rattle.sms_centre_rows.specs.waiting.Links.{line_of, turn_line}
 use Rattle.sms_centre_spec.specs.CentreEvent.{aged, at_moment, fired, frame_taken, lower, raise, raised, tag_of}
 use Rattle.sms_centre_spec.specs.Draft.{Core, Draft, draft_of, on_links}
+use Rattle.sms_centre_spec.specs.Orders.{ordered}
 use Rattle.sms_centre_spec.specs.Requests.{submit, query, cancel, refused}
 use Rattle.sms_centre_spec.specs.Receiving.{refuse}
 use Rattle.sms_centre.specs.declared.acting.EventEnd.{EventEnd}
@@ -25,6 +26,7 @@ acted (DeliverAnswered session id is_accepted) c = deliver_answered session id i
 acted (Frame handset octets tag) c = frame_taken octets (tag_of tag) (line_of handset c.lines) (draft_of c)
 acted (LinkUp handset) c = raise handset (draft_of c)
 acted (LinkDown handset) c = lower handset (draft_of c)
+acted (Ordered order id) c = ordered order id (draft_of c)
 acted (Tick now) c = raised (fired (aged (at_moment now (draft_of c))))
 
 -- a frame was heard on the handset's line, and led to nothing yet
@@ -45,6 +47,7 @@ congested (DeliverAnswered session id is_accepted) reference c = draft_of c
 congested (Frame handset octets tag) reference c = refuse handset reference (tag_of tag) NoneFree (heard handset octets c)
 congested (LinkUp handset) reference c = draft_of c
 congested (LinkDown handset) reference c = draft_of c
+congested (Ordered order id) reference c = draft_of c
 congested (Tick now) reference c = draft_of c
 
 -- The centre represents the draft in which the event acted; or that draft is the one in which the submission is refused.

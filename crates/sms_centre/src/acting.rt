@@ -7,7 +7,7 @@ ghost use Rattle.sms_centre_spec.specs.CentreEvent.{tag_of as tag_or_none};
 ghost use Rattle.sms_centre_spec.specs.Draft.{Core, draft_of};
 ghost use Rattle.sms_centre_spec.specs.SoundCore.{HasNumber, IsEvent};
 ghost use Rattle.sms_centre_spec.specs.SoundRows.{IsSetup};
-ghost use Rattle.sms_centre_spec.specs.declared.event.CentreEvent.TheVariants.{Submit, Query, Cancel, Bound, Unbound, DeliverAnswered, Frame, LinkUp, LinkDown, Tick};
+ghost use Rattle.sms_centre_spec.specs.declared.event.CentreEvent.TheVariants.{Submit, Query, Cancel, Bound, Unbound, DeliverAnswered, Frame, LinkUp, LinkDown, Ordered, Tick};
 ghost use Rattle.sms_centre.specs.Acting.{Acts, congested};
 ghost use Rattle.sms_centre.specs.state.CentreState.{Represents as StateRepresents};
 ghost use Rattle.sms_centre_draft.specs.CentreDraft.{Represents as DraftRepresents};
@@ -17,10 +17,10 @@ use smpp_pdu::{CancelSm, Message, QuerySm};
 use sms_base::{Digits, Holder, MessageId, Moment};
 use sms_centre_draft::CentreDraft;
 use sms_centre_events::{
-    FrameOutcome, SubmitOutcome, bind, cancel, frame_refused, frame_taken, lower, query, submit,
-    submit_refused, tick,
+    FrameOutcome, SubmitOutcome, bind, cancel, frame_refused, frame_taken, lower, order, query,
+    submit, submit_refused, tick,
 };
-use sms_centre_spec::CentreEvent;
+use sms_centre_spec::{CentreEvent, Order};
 use std::alloc::AllocError;
 
 /// How an event ended.
@@ -171,6 +171,19 @@ fn lowered(draft: &mut CentreDraft<'_>, handset: Digits) -> Result<EventEnd, All
     Ok(EventEnd::Done)
 }
 
+// ---- an operator
+
+fn ordered(
+    draft: &mut CentreDraft<'_>,
+    wanted: Order,
+    id: MessageId,
+) -> Result<EventEnd, AllocError>
+    ensures { (c : Core) → DraftRepresents (draft_of c) draft.old → IfOk result (Acts (Ordered wanted id) c draft.new) }
+{
+    order(draft, wanted, id)?;
+    Ok(EventEnd::Done)
+}
+
 // ---- time
 
 fn ticked(
@@ -223,6 +236,7 @@ pub(crate) fn act(
         } => frame_received(draft, centre_state, *handset, octets.as_slice(), *tag),
         CentreEvent::LinkUp { handset } => raised(draft, *handset),
         CentreEvent::LinkDown { handset } => lowered(draft, *handset),
+        CentreEvent::Ordered { order, id } => ordered(draft, *order, *id),
         CentreEvent::Tick(now) => ticked(draft, centre_state, *now),
     }
 }

@@ -9,14 +9,15 @@ ghost use Rattle.sms_centre_rows.specs.messages.Messages.{message_at};
 ghost use Rattle.sms_centre_rows.specs.declared.messages.message.MessageRow.{MessageRow};
 ghost use Rattle.sms_centre_rows.specs.declared.reports.delivery.Delivery.{Delivery};
 ghost use Rattle.sms_centre_rows.specs.declared.waiting.handset_link.Sent.{Sent};
-ghost use Rattle.sms_centre_spec.specs.CentreEvent.{answered, bound, cancel_received, frame_received, happened, link_down, link_up, query_received, submit_received, tag_of, ticked, unbound};
+ghost use Rattle.sms_centre_spec.specs.CentreEvent.{answered, bound, cancel_received, frame_received, happened, link_down, link_up, order_received, query_received, submit_received, tag_of, ticked, unbound};
 ghost use Rattle.sms_centre_spec.specs.Draft.{Core, rows_after};
 ghost use Rattle.sms_centre_spec.specs.Keeping.{Keeps};
 ghost use Rattle.sms_centre_spec.specs.SoundCore.{Brings, IsEvent, IsReceiptRow, IsSoundCore};
 ghost use Rattle.sms_centre_spec.specs.SoundRows.{IsSound};
 ghost use Rattle.sms_centre_spec.specs.declared.answer.CentreAnswer.TheVariants.{Submitted};
 ghost use Rattle.sms_centre_spec.specs.declared.event.CentreEvent.{CentreEvent};
-ghost use Rattle.sms_centre_spec.specs.declared.event.CentreEvent.TheVariants.{Submit, Query, Cancel, Bound, Unbound, DeliverAnswered, Frame, LinkUp, LinkDown, Tick};
+ghost use Rattle.sms_centre_spec.specs.declared.order.Order.{Order};
+ghost use Rattle.sms_centre_spec.specs.declared.event.CentreEvent.TheVariants.{Submit, Query, Cancel, Bound, Unbound, DeliverAnswered, Frame, LinkUp, LinkDown, Ordered, Tick};
 ghost use Rattle.sms_centre.specs.declared.plans.event_outcome.EventOutcome.{EventOutcome};
 ghost use Rattle.sms_centre.specs.plans.EventOutcome.{IsOutcome};
 
@@ -35,6 +36,7 @@ pub fn each_event_is_of_a_kind()
         → happened (Frame handset octets tag) c ≡ frame_received handset octets (tag_of tag) c }
     ensures link_up { (handset : List ℕ) (c : Core) → happened (LinkUp handset) c ≡ link_up handset c }
     ensures link_down { (handset : List ℕ) (c : Core) → happened (LinkDown handset) c ≡ link_down handset c }
+    ensures order { (order : Order) (id : ℕ) (c : Core) → happened (Ordered order id) c ≡ order_received order id c }
     ensures tick { (now : ℕ) (c : Core) → happened (Tick now) c ≡ ticked now c }
 {}
 

@@ -37,5 +37,5 @@ pub use lending::with_centre;
 pub use plan::Plan;
 pub use sms_centre_queue::queue::LinkFigures;
 pub use sms_centre_reports::sessions::ReceiptSession;
-pub use sms_centre_spec::{CentreAnswer, CentreEvent, Changes, PlanError, Rows, Setup};
+pub use sms_centre_spec::{CentreAnswer, CentreEvent, Changes, Order, PlanError, Rows, Setup};
 pub use sms_rows::keep::BodyKeep as Bodies;

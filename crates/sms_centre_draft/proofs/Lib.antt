@@ -4,6 +4,7 @@ pub mod DueNow
 pub mod Entering
 pub mod FoundOpen
 pub mod MovesWaiting
+pub mod NumbersThere
 pub mod OthersWaiting
 pub mod ReceiptsEnded
 pub mod ReportsStill

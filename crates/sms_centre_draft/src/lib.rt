@@ -12,6 +12,7 @@
 //! - `links`: links that are lost, and timers that fire
 //! - `moves`: one change of what the centre keeps, each
 //! - `numbers`: the numbers of handsets
+//! - `orders`: an operator's retry: all of a message that waits becomes due
 //! - `receiving`: everything that waits for a handset is due now (3GPP TS 24.011 7.3.2)
 //! - `rows`: rows that change
 //! - `sessions`: what sessions do with receipts
@@ -31,6 +32,7 @@ mod ends;
 mod links;
 mod moves;
 mod numbers;
+mod orders;
 mod queues;
 mod receiving;
 mod rows;

@@ -88,7 +88,7 @@ impl<'a> CentreDraft<'a> {
     }
 
     // All of them are due now.
-    fn all_due(&mut self, loads: &[QueuedPart]) -> Result<(), AllocError>
+    pub(crate) fn all_due(&mut self, loads: &[QueuedPart]) -> Result<(), AllocError>
         ensures { (d : Draft) → Represents d self.old → ((l : LoadOf) → Among l loads.now → IsOpenLoad l d.store)
             → OnOk result (Represents (in_store (all_due_of loads.now d.store) d) self.new) }
     {

@@ -18,6 +18,7 @@
 //! - `frames`: a frame of a handset (3GPP TS 24.011 6 and 8.2)
 //! - `lines`: transfers that end by the loss of the link, or by a timer
 //! - `offering`: what is offered to handsets and applications after an event
+//! - `orders`: what an operator orders of a message
 //! - `questions`: query_sm and cancel_sm (SMPP v3.4 4.8, 4.9)
 //! - `single`: a SUBMIT becomes a message of one part
 //! - `sources`: the source and the destination that an application names
@@ -37,6 +38,7 @@ mod finding;
 mod frames;
 mod lines;
 pub mod offering;
+mod orders;
 mod questions;
 mod single;
 mod sources;
@@ -50,6 +52,7 @@ pub use accounts::account_at;
 pub use binding::bind;
 pub use frames::{frame_refused, frame_taken};
 pub use lines::lower;
+pub use orders::order;
 pub use questions::{cancel, query};
 pub use submitting::{SubmitOutcome, submit, submit_refused};
 pub use ticks::tick;

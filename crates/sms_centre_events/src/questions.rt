@@ -96,8 +96,11 @@ fn cancelled(draft: &mut CentreDraft<'_>, message: &MessageRow) -> Result<(), Al
     Ok(())
 }
 
-// The message is deleted, if it is there and hasn't ended.
-fn cancel_found(draft: &mut CentreDraft<'_>, found: Option<MessageRow>) -> Result<(), AllocError>
+/// The message is deleted, if it is there and hasn't ended.
+pub(crate) fn cancel_found(
+    draft: &mut CentreDraft<'_>,
+    found: Option<MessageRow>,
+) -> Result<(), AllocError>
     ensures { (d : Draft) → Represents d draft.old → IsStored found d.store → OnOk result (Represents (cancelled_of found d) draft.new) }
 {
     match found {

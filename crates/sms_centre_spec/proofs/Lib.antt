@@ -10,6 +10,8 @@ mod MemoryWanting
 mod MoreWaiting
 mod NextOfTwo
 mod OneMessage
+mod OrderedByHand
+pub mod OrdersDone
 mod ReceiptWords
 mod RefusedByOctets
 mod ReferencesGiven
@@ -54,7 +56,7 @@ pub mod SteadyTimes
 pub mod SteadyEvents
 mod StatusReported
 mod SubmitsJudged
-mod TriedAgain
+pub mod TriedAgain
 mod UrgentFirst
 mod WindowFull
 mod Worked

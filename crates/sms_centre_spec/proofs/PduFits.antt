@@ -29,7 +29,8 @@ use Rattle.sms_centre_rows.specs.declared.waiting.handset_link.HandsetLink.{Hand
 use Rattle.sms_centre_rows.specs.waiting.Links.{line_of}
 use Rattle.sms_centre_rows.specs.waiting.SoundAllocations.{IsNumber}
 use Rattle.sms_centre_spec.specs.declared.event.CentreEvent.{CentreEvent}
-use Rattle.sms_centre_spec.specs.declared.event.CentreEvent.TheVariants.{Submit, Query, Cancel, Bound, Unbound, DeliverAnswered, Frame, LinkUp, LinkDown, Tick}
+use Rattle.sms_centre_spec.specs.declared.event.CentreEvent.TheVariants.{Submit, Query, Cancel, Bound, Unbound, DeliverAnswered, Frame, LinkUp, LinkDown, Ordered, Tick}
+use Rattle.sms_intake.specs.AllowedSources.{allows, permitted}
 use Rattle.sms_intake.specs.declared.submission.CentreAccount.{CentreAccount}
 use Rattle.sms_intake.specs.declared.submission.SinglePart.{SinglePart}
 use Rattle.sms_intake.specs.declared.submission.Submission.{Submission}
@@ -111,15 +112,22 @@ named_handset (Some a) h are e =
 
 -- ---- the submission
 
-front_fits : (own : Address) (m : Message) (f : Front) → IsAddress own → front_in own m ≡ Ok f → IsAddress f.source × IsNumber f.handset
+permitted_address : (account : CentreAccount) (o : Option Address) (x : Address) → permitted account o ≡ Some x → o ≡ Some x
+permitted_address account None x e = e
+permitted_address account (Some source) x e =
+    cond_both (allows account source) (Some source) None (λ o. o ≡ Some x → Some source ≡ Some x) (λ t f. f) (λ t f. absurd cc) e
+
+front_fits : (account : CentreAccount) (m : Message) (f : Front) → IsAddress account.address → front_in account m ≡ Ok f → IsAddress f.source × IsNumber f.handset
 unfolding front_in
-front_fits own m f is e =
+front_fits account m f is e =
+    let own = account.address in
     let a = bind_ok (only_if (m.esm_class / 4 % 16 == 0) ESME_RINVESMCLASS) _ f e in
-    let source = bind_ok (ok_or (source_in own m.source) ESME_RINVSRCADR) _ f a.2 in
+    let source = bind_ok (ok_or (permitted account (source_in own m.source)) ESME_RINVSRCADR) _ f a.2 in
     let handset = bind_ok (handset_named (address_in m.destination)) _ f source.2 in
     let lengths = bind_ok (only_if (has_sar_lengths m.tlvs) ESME_RINVPARLEN) _ f handset.2 in
     let alone = bind_ok (only_if (not (has_too_much m)) ESME_ROPTPARNOTALLWD) _ f lengths.2 in
-    let from : IsAddress source.0 = source_address own m.source source.0 is (some_of (source_in own m.source) source.0 source.1) in
+    let from : IsAddress source.0 = source_address own m.source source.0 is
+    (permitted_address account (source_in own m.source) source.0 (some_of (permitted account (source_in own m.source)) source.0 source.1)) in
     let to : IsNumber handset.0 = named_handset (address_in m.destination) handset.0 (λ x g. entity_address m.destination x g) handset.1 in
     let same = ok_is {E = CommandStatus} _ f alone.2 in
     subst (λ (x : Front). IsAddress x.source × IsNumber x.handset) same (from, to)
@@ -127,12 +135,12 @@ front_fits own m f is e =
 pdu_fits : (account : CentreAccount) (now : ℕ) (m : Message) (u : Submission) → IsAddress account.address → from_pdu account now m ≡ Ok u → IsSubmission u
 unfolding from_pdu judged_in
 pdu_fits account now m u is e =
-    let judged = bind_ok (judged_in account.address now m) _ u e in
-    let front = bind_ok (front_in account.address m) _ judged.0 judged.1 in
+    let judged = bind_ok (judged_in account now m) _ u e in
+    let front = bind_ok (front_in account m) _ judged.0 judged.1 in
     let text = bind_ok (text_in m) _ judged.0 front.2 in
     let limit = bind_ok (limit_in now m.validity_period) _ judged.0 text.2 in
     let due = bind_ok (due_in now limit.0 m.schedule_delivery_time) _ judged.0 limit.2 in
-    let entities = front_fits account.address m front.0 is front.1 in
+    let entities = front_fits account m front.0 is front.1 in
     let fits : FitsText text.0 = text_in_fits m text.0 text.1 in
     let same = ap (λ j. submission_for account m j) (ok_is {E = CommandStatus} _ judged.0 due.2) ∙ ok_is {E = CommandStatus} _ u judged.2 in
     subst (λ (x : Submission). IsSubmission x) same
@@ -167,6 +175,7 @@ has_number (DeliverAnswered session id b) is = tt
 has_number (Frame handset octets tag) is = is.0
 has_number (LinkUp handset) is = is
 has_number (LinkDown handset) is = is
+has_number (Ordered order id) is = tt
 has_number (Tick now) is = tt
 
 pub event_gives : (event : CentreEvent) (c : Core) → IsSoundCore c → IsEvent event → Gives event c
@@ -180,4 +189,5 @@ event_gives (Frame handset octets tag) c s is =
     let l : HandsetLink = line_of handset c.lines in frame_fits c.rows.setup.accounts l c.moment octets (subst (λ (n : List ℕ). IsNumber n) (sym (line_of_handset handset c.lines)) is.0) is.1
 event_gives (LinkUp handset) c s is = tt
 event_gives (LinkDown handset) c s is = tt
+event_gives (Ordered order id) c s is = tt
 event_gives (Tick now) c s is = is

@@ -13,11 +13,12 @@ use Rattle.sms_centre_rows.specs.reports.Reports.{is_receipt}
 use Rattle.sms_centre_rows.specs.declared.waiting.handset_link.HandsetLink.{HandsetLink}
 use Rattle.sms_centre_rows.specs.waiting.Links.{line_of}
 use Rattle.sms_centre_spec.specs.declared.event.CentreEvent.{CentreEvent}
-use Rattle.sms_centre_spec.specs.declared.event.CentreEvent.TheVariants.{Submit, Query, Cancel, Bound, Unbound, DeliverAnswered, Frame, LinkUp, LinkDown, Tick}
+use Rattle.sms_centre_spec.specs.declared.event.CentreEvent.TheVariants.{Submit, Query, Cancel, Bound, Unbound, DeliverAnswered, Frame, LinkUp, LinkDown, Ordered, Tick}
 use Rattle.sms_centre_spec.specs.declared.rows.Rows.{Rows}
 use Rattle.sms_centre_spec.specs.CentreEvent.{tag_of, aged, at_moment, fired, follow, frame_taken, happened, lower, raise, raised}
 use Rattle.sms_centre_spec.specs.Draft.{Core, Draft, core_of, draft_of, rows_of}
 use Rattle.sms_centre_spec.specs.Keeping.{Keeps}
+use Rattle.sms_centre_spec.specs.Orders.{ordered}
 use Rattle.sms_centre_spec.specs.Requests.{account_at, cancel, query, submit}
 use Rattle.sms_centre_spec.specs.Sessions.{bind, deliver_answered, unbind}
 use Rattle.sms_centre_spec.specs.SoundCore.{Brings, BringsKind, HasNumber, IsReceiptRow, IsSentFor, IsSoundCore, IsUnderWay}
@@ -27,7 +28,7 @@ use Rattle.sms_centre_spec.proofs.KeepingSteady.{SoundSince, since_steady}
 use Rattle.sms_centre_spec.proofs.SoundAccepted.{sound_still}
 use Rattle.sms_centre_spec.proofs.SoundLinks.{line_sound}
 use Rattle.sms_centre_spec.proofs.SoundOffers.{follow_sides}
-use Rattle.sms_centre_spec.proofs.SoundSides.{Sides, answered_sides, bind_sides, cancel_sides, frame_sides, lower_sides, query_sides, raise_sides, submit_sides, ticked_sides, unbind_sides}
+use Rattle.sms_centre_spec.proofs.SoundSides.{Sides, answered_sides, bind_sides, cancel_sides, frame_sides, lower_sides, ordered_sides, query_sides, raise_sides, submit_sides, ticked_sides, unbind_sides}
 use Rattle.sms_centre_spec.proofs.SoundStores.{SoundStore, rows_are_past, rows_are_sound, store_sound}
 use Rattle.sms_centre_spec.proofs.SteadyEvents.{steady_event}
 use Rattle.sms_centre_spec.proofs.SteadyTimes.{stand_all}
@@ -129,6 +130,9 @@ event_after (LinkUp handset) c s is g =
 event_after (LinkDown handset) c s is g =
     followed c (lower handset (draft_of c)) (steady_event (SoundSince c.rows) (since_steady c.rows) (LinkDown handset) c (begins c s) s.now g)
     (lower_sides c.rows handset (draft_of c) is (sides_begin c s))
+event_after (Ordered order id) c s is g =
+    followed c (ordered order id (draft_of c)) (steady_event (SoundSince c.rows) (since_steady c.rows) (Ordered order id) c (begins c s) s.now g)
+    (ordered_sides c.rows order id (draft_of c) (sides_begin c s))
 event_after (Tick now) c s is g =
     followed c (raised (fired (aged (at_moment now (draft_of c))))) (steady_event (SoundSince c.rows) (since_steady c.rows) (Tick now) c (begins c s) s.now g)
     (ticked_sides c.rows now (draft_of c) (sides_begin c s))

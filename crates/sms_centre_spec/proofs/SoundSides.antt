@@ -28,7 +28,7 @@ use Rattle.smpp_pdu.specs.declared.message.Message.{Message}
 use Rattle.smpp_pdu.specs.declared.query.QuerySm.{QuerySm}
 use Rattle.smpp_pdu.specs.declared.status.CommandStatus.{CommandStatus}
 use Rattle.sms_centre_rows.specs.declared.messages.message.MessageRow.{MessageRow}
-use Rattle.sms_centre_rows.specs.messages.Messages.{is_pending}
+use Rattle.sms_centre_rows.specs.messages.Messages.{is_pending, message_at}
 use Rattle.sms_centre_rows.specs.messages.SplitReferences.{is_among}
 use Rattle.sms_centre_rows.specs.reports.Receipts.{Session, session_key}
 use Rattle.sms_centre_rows.specs.declared.waiting.handset.HandsetRow.{HandsetRow}
@@ -50,6 +50,9 @@ use Rattle.sms_centre_spec.specs.Shares.{unless_too_much}
 use Rattle.sms_centre_spec.specs.Submitting.{accept, is_reference_taken}
 use Rattle.sms_centre_spec.specs.Transfers.{conclude, line_ended, verdict_on}
 use Rattle.sms_centre_spec.specs.Receiving.{is_duplicate, memory_available, refuse, reference_octet, reply, submit_accepted, submit_received as submission_from, unit_received}
+use Rattle.sms_centre_spec.specs.declared.order.Order.{Order}
+use Rattle.sms_centre_spec.specs.declared.order.Order.TheVariants.{Retry, Delete}
+use Rattle.sms_centre_spec.specs.Orders.{ordered, retried}
 use Rattle.sms_centre_spec.specs.Requests.{account_at, accepted, cancel_by, cancelled, message_numbered, own_message, queried, query_by, submission_received, submit_by, to_cancel}
 use Rattle.sms_centre_spec.specs.Sessions.{answered_by, bind, bound_as, session_of, unbind, unbound_from}
 use Rattle.sms_centre_spec.specs.CentreEvent.{aged, at_moment, fire_at, fire_mentioned, fire_others, fired, frame_taken, is_mentioned, lost, lower, raise, raise_all, raised, timed_out, went_up}
@@ -241,3 +244,11 @@ module _ (rows : Rows) where
   cancel_sides (Some a) q d k =
       let m : Option MessageRow = to_cancel a q (messages_in d.store) in
       cond_both (is_empty q.message_id) _ (cancelled m d) (λ (e : Draft). Sides rows e) (λ t. k) (λ t. cancelled_sides m d k)
+
+  retried_sides : (m : Option MessageRow) (d : Draft) → Sides rows d → Sides rows (retried m d)
+  retried_sides None d k = k
+  retried_sides (Some m) d k = k
+
+  pub ordered_sides : (order : Order) (id : ℕ) (d : Draft) → Sides rows d → Sides rows (ordered order id d)
+  ordered_sides Retry id d k = retried_sides (message_at id (messages_in d.store)) d k
+  ordered_sides Delete id d k = cancelled_sides (message_at id (messages_in d.store)) d k

@@ -44,7 +44,7 @@ use Rattle.sms_centre_rows.specs.waiting.References.{handset_at, handset_of}
 use Rattle.sms_centre_rows.specs.waiting.Revisions.{Revised}
 use Rattle.sms_centre_rows.specs.waiting.Trying.{due_at, later}
 use Rattle.sms_centre_spec.specs.declared.event.CentreEvent.{CentreEvent}
-use Rattle.sms_centre_spec.specs.declared.event.CentreEvent.TheVariants.{Submit, Query, Cancel, Bound, Unbound, DeliverAnswered, Frame, LinkUp, LinkDown, Tick}
+use Rattle.sms_centre_spec.specs.declared.event.CentreEvent.TheVariants.{Submit, Query, Cancel, Bound, Unbound, DeliverAnswered, Frame, LinkUp, LinkDown, Ordered, Tick}
 use Rattle.sms_intake.specs.declared.refusal.SubmitRefusal.{SubmitRefusal}
 use Rattle.sms_intake.specs.declared.refusal.SubmitRefusal.TheVariants.{Duplicate, ReferenceTaken}
 use Rattle.sms_intake.specs.declared.submission.CentreAccount.{CentreAccount}
@@ -62,6 +62,9 @@ use Rattle.sms_centre_spec.specs.Ends.{end, is_wished, report, report_to, status
 use Rattle.sms_centre_spec.specs.Transfers.{complete, conclude, holder_ended, part_ended, part_ended_at, part_ended_of, report_closed, report_ended, report_ended_at, verdict_on}
 use Rattle.sms_centre_spec.specs.Receiving.{all_due, due_now, is_duplicate, load_due, part_due, refuse, report_due, submit_accepted, submit_received as submission_from, unit_received}
 use Rattle.sms_centre_spec.specs.Requests.{account_at, accepted, cancel_by, cancelled, message_numbered, own_message, queried, query_by, submission_received, submit_by, to_cancel}
+use Rattle.sms_centre_spec.specs.declared.order.Order.{Order}
+use Rattle.sms_centre_spec.specs.declared.order.Order.TheVariants.{Retry, Delete}
+use Rattle.sms_centre_spec.specs.Orders.{ordered, parts_among, retried}
 use Rattle.sms_centre_spec.specs.Sessions.{answered_by, bind, bound_as, due_for, unbind, unbound_from}
 use Rattle.sms_centre_spec.specs.CentreEvent.{aged, at_moment, drop_all, expire_all, expired, fire_at, fire_line, fire_mentioned, fire_others, fired, frame_taken, happened, is_mentioned, lost, lower, raise, raise_all, raised, report_limit, tag_of, timed_out, went_up}
 use Rattle.sms_centre_spec.specs.Draft.{Core, Draft, Store, draft_of, handsets_in, messages_in, on_links, parts_in, reports_in, rows_of, waiting_in, with_given, with_message, with_part, with_part_at, with_priority, with_report_at, with_reports}
@@ -386,6 +389,14 @@ module _ (P : Store → Type 0) (c : Closed P) where
       let m : Option MessageRow = to_cancel a q (messages_in d.store) in
       cond_both (is_empty q.message_id) _ (cancelled m d) (λ (e : Draft). P e.store) (λ t. k) (λ t. cancelled_keeps m d k)
 
+  retried_keeps : (m : Option MessageRow) (d : Draft) → P d.store → P (retried m d).store
+  retried_keeps None d k = k
+  retried_keeps (Some m) d k = all_due_keeps (parts_among m.id (waiting_in m.handset d.store)) d.store k
+
+  ordered_keeps : (order : Order) (id : ℕ) (d : Draft) → P d.store → P (ordered order id d).store
+  ordered_keeps Retry id d k = retried_keeps (message_at id (messages_in d.store)) d k
+  ordered_keeps Delete id d k = cancelled_keeps (message_at id (messages_in d.store)) d k
+
   -- ---- every event
 
   pub happened_keeps : (event : CentreEvent) (core : Core) → P (draft_of core).store → P (happened event core).store
@@ -398,4 +409,5 @@ module _ (P : Store → Type 0) (c : Closed P) where
   happened_keeps (Frame handset octets tag) core k = frame_taken_keeps octets (tag_of tag) (line_of handset core.lines) (draft_of core) k
   happened_keeps (LinkUp handset) core k = raise_keeps handset (draft_of core) k
   happened_keeps (LinkDown handset) core k = lower_keeps handset (draft_of core) k
+  happened_keeps (Ordered order id) core k = ordered_keeps order id (draft_of core) k
   happened_keeps (Tick now) core k = ticked_keeps now (draft_of core) k

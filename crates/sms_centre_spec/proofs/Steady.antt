@@ -185,7 +185,7 @@ module _ (P : Store → Type 0) (c : IsStill P) where
       cond_both (l.number == 0) (report_due (report_of l.id (reports_in s)) s) (part_due (part_at l.id l.number (parts_in s)) s) P
       (λ t. report_due_steady l.id (report_of l.id (reports_in s)) s k refl) (λ t. part_due_steady (pair_key l.id l.number) (part_at l.id l.number (parts_in s)) s k refl)
 
-  all_due_steady : (ls : List QueuedPart) (s : Store) → P s → P (all_due ls s)
+  pub all_due_steady : (ls : List QueuedPart) (s : Store) → P s → P (all_due ls s)
   all_due_steady [] s k = k
   all_due_steady (l ∷ ls) s k = all_due_steady ls (load_due l s) (load_due_steady l s k)
 

@@ -33,7 +33,7 @@ use Rattle.sms_centre_rows.specs.waiting.Links.{line_at, line_of, lowered, put_l
 use Rattle.sms_centre_rows.specs.waiting.References.{handset_at}
 use Rattle.sms_intake.specs.HandsetIntake.{from_read}
 use Rattle.sms_centre_spec.specs.declared.event.CentreEvent.{CentreEvent}
-use Rattle.sms_centre_spec.specs.declared.event.CentreEvent.TheVariants.{Submit, Query, Cancel, Bound, Unbound, DeliverAnswered, Frame, LinkUp, LinkDown, Tick}
+use Rattle.sms_centre_spec.specs.declared.event.CentreEvent.TheVariants.{Submit, Query, Cancel, Bound, Unbound, DeliverAnswered, Frame, LinkUp, LinkDown, Ordered, Tick}
 use Rattle.sms_intake.specs.declared.refusal.SubmitRefusal.{SubmitRefusal}
 use Rattle.sms_intake.specs.declared.refusal.SubmitRefusal.TheVariants.{Duplicate, ReferenceTaken}
 use Rattle.sms_intake.specs.declared.submission.CentreAccount.{CentreAccount}
@@ -45,14 +45,17 @@ use Rattle.sms_centre_spec.specs.Submitting.{accept, is_reference_taken}
 use Rattle.sms_centre_spec.specs.Transfers.{conclude}
 use Rattle.sms_centre_spec.specs.Receiving.{due_now, is_duplicate, refuse, submit_accepted, submit_received as submission_from, unit_received}
 use Rattle.sms_centre_spec.specs.Requests.{accepted, account_at, cancel_by, cancelled, message_numbered, own_message, queried, query_by, submission_received, submit_by, to_cancel}
+use Rattle.sms_centre_spec.specs.declared.order.Order.{Order}
+use Rattle.sms_centre_spec.specs.declared.order.Order.TheVariants.{Retry, Delete}
+use Rattle.sms_centre_spec.specs.Orders.{ordered, parts_among, retried}
 use Rattle.sms_centre_spec.specs.Sessions.{answered_by, bind, bound_as, due_for, unbind, unbound_from}
 use Rattle.sms_centre_spec.specs.CentreEvent.{tag_of, aged, at_moment, expired, fire_at, fire_line, fire_mentioned, fire_others, fired, frame_taken, happened, is_mentioned, lost, lower, raise, raise_all, raised, timed_out, went_up}
-use Rattle.sms_centre_spec.specs.Draft.{Core, Draft, Store, draft_of, handsets_in, messages_in, on_links, rows_of}
+use Rattle.sms_centre_spec.specs.Draft.{Core, Draft, Store, draft_of, handsets_in, messages_in, on_links, rows_of, waiting_in}
 use Rattle.sms_centre_spec.specs.MessageNumbers.{next_number}
 use Rattle.sms_centre_spec.specs.Consistent.{IsSubmission}
 use Rattle.sms_centre_spec.specs.Submitted.{AccountGives, Gives, UnitGives, UpGives}
 use Rattle.sms_centre_spec.proofs.Stages.{IfThere, unless_kept}
-use Rattle.sms_centre_spec.proofs.Steady.{IsSteady, IsStill, concluded_steady, due_now_steady, still_of, to_cancel_there}
+use Rattle.sms_centre_spec.proofs.Steady.{IsSteady, IsStill, all_due_steady, concluded_steady, due_now_steady, message_own, still_of, to_cancel_there}
 use Rattle.sms_centre_spec.proofs.SteadyTimes.{all_tried_steady, answered_steady, dropped_steady, due_for_steady, expired_steady}
 
 module _ (P : Store → Type 0) (c : IsStill P) where
@@ -166,6 +169,16 @@ module _ (P : Store → Type 0) (c : IsStill P) where
       cond_both (is_empty q.message_id) _ (cancelled m d) (λ (e : Draft). P e.store) (λ t. k)
       (λ t. cancelled_steady m d k (λ x e. to_cancel_there a q d.store x e))
 
+  -- ---- orders
+
+  retried_steady : (o : Option MessageRow) (d : Draft) → P d.store → P (retried o d).store
+  retried_steady None d k = k
+  retried_steady (Some m) d k = all_due_steady P c (parts_among m.id (waiting_in m.handset d.store)) d.store k
+
+  ordered_steady : (order : Order) (id : ℕ) (d : Draft) → P d.store → P (ordered order id d).store
+  ordered_steady Retry id d k = retried_steady (message_at id (messages_in d.store)) d k
+  ordered_steady Delete id d k = cancelled_steady (message_at id (messages_in d.store)) d k (λ m e. message_own id m d.store e)
+
   -- ---- where a submission is accepted, at most once in an event
 
   module _ (Q : Store → Type 0) (enters : (u : Submission) (s : Store) → P s → IsSubmission u → IfThere Q (accept u s)) (also : (s : Store) → P s → Q s) where
@@ -230,6 +243,7 @@ module _ (P : Store → Type 0) (c : IsStill P) where
     event_leads (Frame handset octets tag) core k now g = frame_taken_steady octets (tag_of tag) (line_of handset core.lines) (draft_of core) k g
     event_leads (LinkUp handset) core k now g = also (happened (LinkUp handset) core).store (raise_steady handset (draft_of core) k)
     event_leads (LinkDown handset) core k now g = also (happened (LinkDown handset) core).store (lower_steady handset (draft_of core) k)
+    event_leads (Ordered order id) core k now g = also (happened (Ordered order id) core).store (ordered_steady order id (draft_of core) k)
     event_leads (Tick now) core k was g = also (happened (Tick now) core).store (ticked_steady now (draft_of core) k was g)
 
 pub steady_event : (P : Store → Type 0) → IsSteady P → (event : CentreEvent) (core : Core) → P (draft_of core).store → IsMoment core.moment → Gives event core → P (happened event core).store

@@ -49,7 +49,7 @@ abbrev pub handset_b : List ℕ
 handset_b = codes "447700900456"
 
 abbrev pub setup : Setup
-setup = record { centre = own_address centre_number; start = t0; first = 1; accounts = record { name = codes "app1"; address = own_address app1 } ∷ [] }
+setup = record { centre = own_address centre_number; start = t0; first = 1; accounts = record { name = codes "app1"; address = own_address app1; sources = [] } ∷ [] }
 
 abbrev pub no_rows : Rows
 no_rows = record { messages = []; parts = []; references = []; handsets = []; reports = []; priorities = []; setup = setup }

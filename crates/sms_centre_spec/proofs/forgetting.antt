@@ -11,6 +11,7 @@ mod Ended
 mod Ticks
 mod Frames
 mod Sessions
+mod Orders
 mod Binds
 mod Everywhere
 mod Behind

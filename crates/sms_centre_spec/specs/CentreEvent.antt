@@ -25,12 +25,14 @@ use Rattle.sms_centre_rows.specs.waiting.Links.{line_at, line_of, lowered, put_l
 use Rattle.sms_centre_rows.specs.waiting.References.{handset_at}
 use Rattle.sms_centre_rows.specs.waiting.Trying.{later}
 use Rattle.sms_centre_spec.specs.declared.event.CentreEvent.{CentreEvent}
-use Rattle.sms_centre_spec.specs.declared.event.CentreEvent.TheVariants.{Submit, Query, Cancel, Bound, Unbound, DeliverAnswered, Frame, LinkUp, LinkDown, Tick}
+use Rattle.sms_centre_spec.specs.declared.event.CentreEvent.TheVariants.{Submit, Query, Cancel, Bound, Unbound, DeliverAnswered, Frame, LinkUp, LinkDown, Ordered, Tick}
+use Rattle.sms_centre_spec.specs.declared.order.Order.{Order}
 use Rattle.sms_centre_spec.specs.declared.rows.Rows.{Rows}
 use Rattle.sms_centre_spec.specs.Ends.{end}
 use Rattle.sms_centre_spec.specs.Transfers.{conclude, report_closed}
 use Rattle.sms_centre_spec.specs.Receiving.{unit_received, due_now}
 use Rattle.sms_centre_spec.specs.Offering.{offer}
+use Rattle.sms_centre_spec.specs.Orders.{ordered}
 use Rattle.sms_centre_spec.specs.Requests.{submit, query, cancel}
 use Rattle.sms_centre_spec.specs.Sessions.{bind, unbind, deliver_answered, send}
 use Rattle.sms_centre_spec.specs.Draft.{Core, Draft, Store, draft_of, handsets_in, in_store, messages_in, on_links, reports_in}
@@ -180,6 +182,11 @@ unbound session c = follow (unbind session (draft_of c))
 abbrev pub answered : ℕ → ℕ → Bool → Core → Draft
 answered session id is_accepted c = follow (deliver_answered session id is_accepted (draft_of c))
 
+-- ---- what an operator orders
+
+abbrev pub order_received : Order → ℕ → Core → Draft
+order_received order id c = follow (ordered order id (draft_of c))
+
 -- ---- every event
 
 abbrev pub happened : CentreEvent → Core → Draft
@@ -192,6 +199,7 @@ happened (DeliverAnswered session id is_accepted) c = answered session id is_acc
 happened (Frame handset octets tag) c = frame_received handset octets (tag_of tag) c
 happened (LinkUp handset) c = link_up handset c
 happened (LinkDown handset) c = link_down handset c
+happened (Ordered order id) c = order_received order id c
 happened (Tick now) c = ticked now c
 
 -- ---- recovery

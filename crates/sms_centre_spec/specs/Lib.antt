@@ -10,6 +10,7 @@ pub mod Transfers
 pub mod Offering
 pub mod Receiving
 pub mod Requests
+pub mod Orders
 pub mod Sessions
 pub mod CentreEvent
 pub mod RunNumbers

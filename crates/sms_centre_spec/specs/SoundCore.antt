@@ -21,7 +21,7 @@ use Rattle.sms_centre_rows.specs.declared.waiting.handset_link.HandsetLink.{Hand
 use Rattle.sms_centre_rows.specs.waiting.Links.{line_at}
 use Rattle.sms_centre_rows.specs.waiting.SoundAllocations.{IsNumber}
 use Rattle.sms_centre_spec.specs.declared.event.CentreEvent.{CentreEvent}
-use Rattle.sms_centre_spec.specs.declared.event.CentreEvent.TheVariants.{Submit, Query, Cancel, Bound, Unbound, DeliverAnswered, Frame, LinkUp, LinkDown, Tick}
+use Rattle.sms_centre_spec.specs.declared.event.CentreEvent.TheVariants.{Submit, Query, Cancel, Bound, Unbound, DeliverAnswered, Frame, LinkUp, LinkDown, Ordered, Tick}
 use Rattle.sms_centre_spec.specs.declared.rows.Rows.{Rows}
 use Rattle.sms_centre_spec.specs.CentreEvent.{moment_of}
 use Rattle.sms_centre_spec.specs.Draft.{Core}
@@ -106,6 +106,7 @@ HasNumber (DeliverAnswered session id is_accepted) = Unit {0}
 HasNumber (Frame handset octets tag) = IsNumber handset
 HasNumber (LinkUp handset) = IsNumber handset
 HasNumber (LinkDown handset) = IsNumber handset
+HasNumber (Ordered order id) = Unit {0}
 HasNumber (Tick now) = Unit {0}
 
 -- so it has, octets are octets, and moments are of the years that time stamps write
@@ -119,6 +120,7 @@ IsEvent (DeliverAnswered session id is_accepted) = Unit {0}
 IsEvent (Frame handset octets tag) = IsNumber handset × AreOctets octets
 IsEvent (LinkUp handset) = IsNumber handset
 IsEvent (LinkDown handset) = IsNumber handset
+IsEvent (Ordered order id) = Unit {0}
 IsEvent (Tick now) = IsMoment now
 
 -- no two are the same

@@ -2,6 +2,7 @@
 ghost use Rattle.std.specs.Prelude.{◌≡◌, ◌<◌, ℕ, List, true, false, None, Some};
 ghost use Rattle.sms_base.specs.Among.{Among};
 ghost use Rattle.sms_base.specs.declared.final_state.FinalState.{FinalState};
+ghost use Rattle.sms_base.specs.declared.final_state.FinalState.TheVariants.{Deleted};
 ghost use Rattle.sms_centre_rows.specs.messages.Messages.{ended, is_pending, message_at, part_at, part_key};
 ghost use Rattle.sms_centre_rows.specs.declared.messages.message.MessageRow.{MessageRow};
 ghost use Rattle.sms_centre_rows.specs.declared.messages.part.PartRow.{PartRow};
@@ -16,18 +17,26 @@ ghost use Rattle.sms_centre_rows.specs.waiting.References.{handset_of};
 ghost use Rattle.sms_centre_rows.specs.waiting.SoundAllocations.{IsNumber};
 ghost use Rattle.sms_centre_rows.specs.declared.waiting.handset_link.Sent.{Sent};
 ghost use Rattle.sms_centre_rows.specs.declared.waiting.progress.Progress.{Progress};
+ghost use Rattle.sms_centre_rows.specs.declared.waiting.queued_part.QueuedPart.{QueuedPart};
+ghost use Rattle.sms_centre_rows.specs.waiting.Keys.{load_key};
+ghost use Rattle.sms_centre_rows.specs.waiting.Trying.{due_at};
 ghost use Rattle.smpp_pdu.specs.declared.cancel.CancelSm.{CancelSm};
 ghost use Rattle.smpp_pdu.specs.declared.message.Message.{Message};
 ghost use Rattle.smpp_pdu.specs.declared.query.QuerySm.{QuerySm};
 ghost use Rattle.smpp_pdu.specs.declared.status.CommandStatus.{CommandStatus};
-ghost use Rattle.sms_centre_spec.specs.declared.answer.CentreAnswer.TheVariants.{Submitted};
+ghost use Rattle.smpp_pdu.specs.declared.status.CommandStatus.TheVariants.{ESME_RCANCELFAIL, ESME_RINVMSGID};
+ghost use Rattle.sms_centre_spec.specs.declared.answer.CentreAnswer.TheVariants.{Cancelled, Queried, Refused, Submitted};
 ghost use Rattle.sms_centre_spec.specs.declared.event.CentreEvent.{CentreEvent};
-ghost use Rattle.sms_centre_spec.specs.declared.event.CentreEvent.TheVariants.{Submit};
+ghost use Rattle.sms_centre_spec.specs.declared.event.CentreEvent.TheVariants.{Ordered, Submit};
+ghost use Rattle.sms_centre_spec.specs.declared.order.Order.{Order};
+ghost use Rattle.sms_centre_spec.specs.declared.order.Order.TheVariants.{Delete, Retry};
 ghost use Rattle.sms_centre_spec.specs.declared.rows.Rows.{Rows};
 ghost use Rattle.sms_centre_spec.specs.declared.setup.Setup.{Setup};
 ghost use Rattle.sms_centre_spec.specs.CentreEvent.{happened, recovered, started};
 ghost use Rattle.sms_centre_spec.specs.Requests.{cancel, cancel_refusal, octets_refusal, query, query_refusal, refused, submit};
-ghost use Rattle.sms_centre_spec.specs.Draft.{Core, Store, core_of, draft_of, handsets_in, messages_in, parts_in, reports_in, with_given, with_message, with_part, with_part_at, with_priority, with_report_at, with_reports};
+ghost use Rattle.sms_centre_spec.specs.Ends.{end};
+ghost use Rattle.sms_centre_spec.specs.Orders.{message_due, parts_among};
+ghost use Rattle.sms_centre_spec.specs.Draft.{Core, Store, core_of, draft_of, handsets_in, messages_in, parts_in, reports_in, waiting_in, with_given, with_message, with_part, with_part_at, with_priority, with_report_at, with_reports};
 ghost use Rattle.sms_centre_spec.specs.Held.{SoundHeld};
 ghost use Rattle.sms_centre_spec.specs.Keeping.{Keeps};
 ghost use Rattle.sms_centre_spec.specs.MessageNumbers.{WasGiven, next_number};
@@ -88,6 +97,34 @@ pub fn no_number_is_given_twice()
         → (m : MessageRow) → Among m (core_of (happened event c)).rows.messages → message_at m.id c.rows.messages ≡ None → m.id ≡ next_number c.rows }
     ensures answered { (account : ℕ) (message : Message) (c : Core) (id : ℕ) → (happened (Submit account message) c).answer ≡ Some (Submitted id)
         → id ≡ next_number c.rows }
+{}
+
+/// An operator's order is of the message of that number, whoever sent it. A retry makes what waits of it due, and is
+/// answered with its state. An order to delete ends a pending message as deleted, and reports that as its sender wished.
+/// It is refused with ESME_RCANCELFAIL where the message has ended. Where there is none both are refused with
+/// ESME_RINVMSGID. A refused order changes no row.
+pub fn an_order_is_done_or_refused()
+    ensures retried { (id : ℕ) (c : Core) (m : MessageRow) → message_at id c.rows.messages ≡ Some m
+        → ((happened (Ordered Retry id) c).store ≡ message_due m (draft_of c).store)
+        × ((happened (Ordered Retry id) c).answer ≡ Some (Queried m.id m.state m.done)) }
+    ensures deleted { (id : ℕ) (c : Core) (m : MessageRow) → message_at id c.rows.messages ≡ Some m → is_pending m ≡ true
+        → ((happened (Ordered Delete id) c).store ≡ end Deleted m (draft_of c).store) × ((happened (Ordered Delete id) c).answer ≡ Some Cancelled) }
+    ensures too_late { (id : ℕ) (c : Core) (m : MessageRow) → message_at id c.rows.messages ≡ Some m → is_pending m ≡ false
+        → ((happened (Ordered Delete id) c).store ≡ (draft_of c).store) × ((happened (Ordered Delete id) c).answer ≡ Some (Refused ESME_RCANCELFAIL)) }
+    ensures of_none { (order : Order) (id : ℕ) (c : Core) → message_at id c.rows.messages ≡ None
+        → ((happened (Ordered order id) c).store ≡ (draft_of c).store) × ((happened (Ordered order id) c).answer ≡ Some (Refused ESME_RINVMSGID)) }
+{}
+
+/// What is due by a retry is each part of the message that waits for its handset. The part stays as it was but for that
+/// moment. No other part changes, no message and no report.
+pub fn a_retry_makes_its_message_due()
+    ensures parts { (m : MessageRow) (s : Store) (l : QueuedPart) (p : PartRow) → Among l (parts_among m.id (waiting_in m.handset s))
+        → part_at l.id l.number (parts_in s) ≡ Some p
+        → part_at l.id l.number (parts_in (message_due m s)) ≡ Some (record p { progress = due_at s.moment p.progress }) }
+    ensures others { (m : MessageRow) (s : Store) (key : ℕ) → ((l : QueuedPart) → Among l (parts_among m.id (waiting_in m.handset s)) → ¬ (load_key l ≡ key))
+        → row_at part_key key (parts_in (message_due m s)) ≡ row_at part_key key (parts_in s) }
+    ensures messages { (m : MessageRow) (s : Store) → messages_in (message_due m s) ≡ messages_in s }
+    ensures reports { (m : MessageRow) (s : Store) → reports_in (message_due m s) ≡ reports_in s }
 {}
 
 /// All that waits for a handset holds references that were given there, all different. It stays so once a message was

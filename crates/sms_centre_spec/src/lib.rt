@@ -16,6 +16,7 @@
 //! - `laws`: laws of the centre's events
 //! - `numbers`: where the numbers of a run's messages begin
 //! - `octets`: which octets rows have under a key
+//! - `order`: what an operator orders
 //! - `plan_error`: why nothing is planned
 //! - `rows`: what a centre stores, and what an event changes of it
 //! - `setup`: what a centre is given when it starts
@@ -31,6 +32,7 @@ pub mod jobs;
 pub mod laws;
 pub mod numbers;
 pub mod octets;
+mod order;
 mod plan_error;
 mod rows;
 mod setup;
@@ -38,6 +40,7 @@ mod verdict;
 
 pub use answer::CentreAnswer;
 pub use event::CentreEvent;
+pub use order::Order;
 pub use plan_error::PlanError;
 pub use rows::{Changes, Rows};
 pub use setup::Setup;

@@ -1,3 +1,4 @@
+pub mod AllowedSources
 pub mod Forms
 pub mod HandsetIntake
 pub mod PartBodies

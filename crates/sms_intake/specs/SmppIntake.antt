@@ -35,6 +35,7 @@ use Rattle.sms_tpdu.specs.Bits.{bit}
 use Rattle.sms_tpdu.specs.ValidityTable.{later}
 use Rattle.sms_intake.specs.declared.refusal.SmppError.{SmppError}
 use Rattle.sms_intake.specs.declared.refusal.SmppError.TheVariants.{Refused, NoMemory}
+use Rattle.sms_intake.specs.AllowedSources.{permitted}
 use Rattle.sms_intake.specs.declared.smpp_front.Front.{Front}
 use Rattle.sms_intake.specs.declared.smpp_intake.Judged.{Judged}
 use Rattle.sms_intake.specs.declared.submission.CentreAccount.{CentreAccount}
@@ -110,19 +111,19 @@ due_in now limit time = if is_empty time then Ok now else before limit (smpp_tim
 -- ---- the checks, in order
 
 -- what precedes the text: message type bits, source, destination, and which parameters are there together
-unfoldable pub front_in : Address → Message → Result Front CommandStatus
-front_in own m = do
+unfoldable pub front_in : CentreAccount → Message → Result Front CommandStatus
+front_in account m = do
   kind ← only_if (m.esm_class / 4 % 16 == 0) ESME_RINVESMCLASS
-  source ← ok_or (source_in own m.source) ESME_RINVSRCADR
+  source ← ok_or (permitted account (source_in account.address m.source)) ESME_RINVSRCADR
   handset ← handset_named (address_in m.destination)
   lengths ← only_if (has_sar_lengths m.tlvs) ESME_RINVPARLEN
   alone ← only_if (not (has_too_much m)) ESME_ROPTPARNOTALLWD
   Ok (record { source = source; handset = handset })
 
 -- then what it says, and its times
-unfoldable pub judged_in : Address → ℕ → Message → Result Judged CommandStatus
-judged_in own now m = do
-  front ← front_in own m
+unfoldable pub judged_in : CentreAccount → ℕ → Message → Result Judged CommandStatus
+judged_in account now m = do
+  front ← front_in account m
   text ← text_in m
   limit ← limit_in now m.validity_period
   due ← due_in now limit m.schedule_delivery_time
@@ -145,7 +146,7 @@ submission_for account m j = record {
 
 unfoldable pub from_pdu : CentreAccount → ℕ → Message → Result Submission CommandStatus
 from_pdu account now m = do
-  judged ← judged_in account.address now m
+  judged ← judged_in account now m
   Ok (submission_for account m judged)
 
 -- the status with which it is refused, if it is

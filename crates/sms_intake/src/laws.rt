@@ -15,6 +15,6 @@ pub fn a_written_deliver_is_the_list()
 
 /// What is judged before the text of a submit_sm refuses first.
 pub fn the_front_refuses_first()
-    ensures { (account : CentreAccount) (now : ℕ) (message : Message) (status : CommandStatus) → front_in account.address message ≡ Err status
+    ensures { (account : CentreAccount) (now : ℕ) (message : Message) (status : CommandStatus) → front_in account message ≡ Err status
         → from_pdu account now message ≡ Err status }
 {}

@@ -5,6 +5,7 @@
 //! refusal by `specs/SmppIntake.antt`. All is judged over borrowed octets, so want of memory is reported only of what
 //! is accepted. A submission has its content: one that the centre splits where it must, or one part.
 //!
+//! - `allowed_source`: the sources that an account may give
 //! - `content_form`: how octets spell a content
 //! - `content_view`: the content of a submit_sm, before any memory is taken
 //! - `deliver`: the DELIVER of a part
@@ -22,6 +23,7 @@
 //! - `text_view`: the text of a submit_sm, before any memory is taken
 #![tactic(auto)]
 
+mod allowed_source;
 mod content_form;
 mod content_view;
 mod deliver;
@@ -38,6 +40,7 @@ mod submission;
 mod submit_report;
 mod text_view;
 
+pub use allowed_source::AllowedSource;
 pub use content_view::content_of;
 pub use deliver::deliver_octets;
 pub use handset_intake::from_submit;

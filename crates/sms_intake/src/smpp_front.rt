@@ -2,7 +2,9 @@
 ghost use Rattle.std.specs.Prelude.{◌≡◌};
 ghost use Rattle.sms_intake.specs.SmppIntake.{front_in, has_length, has_sar, has_sar_lengths, has_too_much};
 
+use crate::allowed_source::permitted_source;
 use crate::smpp_address::{handset_in, source_in};
+use crate::submission::CentreAccount;
 use smpp_pdu::{CommandStatus, Message, Tlvs};
 use sms_base::{Address, Digits, OctetView};
 
@@ -50,17 +52,18 @@ fn has_too_much(message: &Message<'_>) -> bool
     (payload && !message.short_message.as_slice().is_empty()) || (has_sar(&message.tlvs) && header)
 }
 
-/// Source and handset of a submit_sm from an account with that address, or the first refusal before its text. In this
-/// order: esm_class with a message type, source, destination, lengths of the sar values. Then a payload beside a
-/// short_message, or sar values beside a header.
+/// Source and handset of a submit_sm from an account, or the first refusal before its text. In this order: esm_class with a
+/// message type, a source that is none or that the account may not give, destination, lengths of the sar values. Then a
+/// payload beside a short_message, or sar values beside a header.
 #[tactic(auto, unfolding(crate::specs::SmppIntake::front_in))]
-pub fn front_of(own: &Address, message: &Message<'_>) -> Result<Front, CommandStatus>
-    ensures { result ≡ front_in own.now message.now }
+pub fn front_of(account: &CentreAccount, message: &Message<'_>) -> Result<Front, CommandStatus>
+    ensures { result ≡ front_in account.now message.now }
 {
     if message.esm_class / 4 % 16 != 0 {
         return Err(CommandStatus::ESME_RINVESMCLASS);
     }
-    let source = source_in(own, &message.source).ok_or(CommandStatus::ESME_RINVSRCADR)?;
+    let source = source_in(&account.address, &message.source);
+    let source = permitted_source(account, source).ok_or(CommandStatus::ESME_RINVSRCADR)?;
     let handset = handset_in(&message.destination)?;
     if !has_sar_lengths(&message.tlvs) {
         return Err(CommandStatus::ESME_RINVPARLEN);

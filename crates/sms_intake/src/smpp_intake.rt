@@ -8,7 +8,7 @@ use crate::smpp_times::{due_of, limit_of, wish_of};
 use crate::submission::{CentreAccount, Submission};
 use crate::text_view::TextView;
 use smpp_pdu::{CommandStatus, Message};
-use sms_base::{Address, Moment, Octets, Originator, Priority};
+use sms_base::{Moment, Octets, Originator, Priority};
 use std::alloc::{AllocError, Global};
 
 /// What was judged of a submit_sm.
@@ -22,10 +22,14 @@ pub(crate) struct Judged<'a> {
 
 // All that is judged.
 #[tactic(auto, unfolding(crate::specs::SmppIntake::judged_in))]
-fn judge<'a>(own: &Address, now: Moment, message: &Message<'a>) -> Result<Judged<'a>, CommandStatus>
-    ensures { result ≡ judged_in own.now now message.now }
+fn judge<'a>(
+    account: &CentreAccount,
+    now: Moment,
+    message: &Message<'a>,
+) -> Result<Judged<'a>, CommandStatus>
+    ensures { result ≡ judged_in account.now now message.now }
 {
-    let front = front_of(own, message)?;
+    let front = front_of(account, message)?;
     let text = TextView::of(message)?;
     let limit = limit_of(message.validity_period.as_slice(), now)?;
     let due = due_of(message.schedule_delivery_time.as_slice(), now, limit)?;
@@ -81,7 +85,7 @@ pub fn from_pdu(
 ) -> Result<Submission, SmppError>
     ensures { Answered result (from_pdu account.now now message.now) }
 {
-    let judged = judge(&account.address, now, message)?;
+    let judged = judge(account, now, message)?;
     let submission = submission_for(alloc, account, message, &judged)?;
     Ok(submission)
 }
@@ -95,7 +99,7 @@ pub fn refusal_of(
 ) -> Option<CommandStatus>
     ensures { result ≡ refusal_in (from_pdu account.now now message.now) }
 {
-    match judge(&account.address, now, message) {
+    match judge(account, now, message) {
         Ok(_judged) => None,
         Err(status) => Some(status),
     }

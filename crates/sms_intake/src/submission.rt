@@ -1,5 +1,6 @@
 //! What is submitted.
-use sms_base::{Address, Digits, Moment, Octets, Originator, Priority, Wish};
+use crate::allowed_source::AllowedSource;
+use sms_base::{Address, Digits, Listed, Moment, Octets, Originator, Priority, Wish};
 use sms_concat::{ConcatKey, Content};
 
 /// An application's account.
@@ -9,6 +10,8 @@ pub struct CentreAccount {
     pub name: Octets,
     /// The source of messages that name none.
     pub address: Address,
+    /// The sources that its messages may name beside that; any where there are none.
+    pub sources: Listed<AllowedSource>,
 }
 
 /// What one part carries.

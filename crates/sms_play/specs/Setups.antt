@@ -56,7 +56,7 @@ can_be_played s =
 
 abbrev pub accounts_of : List AccountSetup → List CentreAccount
 accounts_of [] = []
-accounts_of (a ∷ others) = record { name = a.name; address = own_address a.number } ∷ accounts_of others
+accounts_of (a ∷ others) = record { name = a.name; address = own_address a.number; sources = [] } ∷ accounts_of others
 
 abbrev pub centre_setup : Setup → CentreSetup
 centre_setup s = record { centre = own_address s.centre; start = s.start; first = 1; accounts = accounts_of s.accounts }

@@ -3,10 +3,10 @@
 //! The centre **refines** the world (`specs/centres_refine_the_world/CentreRefinement.antt`) where its rows, and what its links may send
 //! again, can be looked up there and back. A new centre refines the empty world. One that starts again from its rows
 //! refines what they show. What handsets do keeps this. Some of its events are steps of the world by themselves. They
-//! are a question, a session that is bound or ends, an answer to a receipt, and a link that is up or down. Their steps
-//! are offers of what waits, which follow every event. A submission, a cancel and a tick are events of a script.
+//! are a question, a session that is bound or ends, an answer to a receipt, a link that is up or down, and an operator's
+//! retry. Their steps are offers of what waits, which follow every event. A submission, a cancel and a tick are events of a script.
 //! `crate::centre_runs_are_steps` has the frame.
-ghost use Rattle.sms_world.specs.centres_refine_the_world.CentreLaws.{AnsweredLaw, BackLaw, BoundLaw, CancelLaw, FirstLaw, HandsetLaw, LinkDownLaw, LinkUpLaw, NextLaw, NextReferenceLaw, NoReferenceLaw, PartFarLaw, QueryLaw, ReportFarLaw, SubmitLaw, TickLaw, UnboundLaw};
+ghost use Rattle.sms_world.specs.centres_refine_the_world.CentreLaws.{AnsweredLaw, BackLaw, BoundLaw, CancelLaw, DeleteLaw, FirstLaw, HandsetLaw, LinkDownLaw, LinkUpLaw, NextLaw, NextReferenceLaw, NoReferenceLaw, PartFarLaw, QueryLaw, ReportFarLaw, RetryLaw, SubmitLaw, TickLaw, UnboundLaw};
 
 /// The centre of a new store refines the empty world. One that has adopted an event refines the world that the event
 /// led to. One that stops, after a store call or between events, starts again with rows that refine the world.
@@ -34,12 +34,13 @@ pub fn references_are_those_of_the_world()
 {}
 
 /// Where a sound centre refines the world, some events are steps of the world, all of them offers of what waits for
-/// handsets. These are a question of an application, and a link that is up or down. The centre refines the world to
-/// which they lead.
+/// handsets. These are a question of an application, a link that is up or down, and an operator's retry. The centre
+/// refines the world to which they lead.
 pub fn quiet_events_are_offers()
     ensures query { QueryLaw }
     ensures up { LinkUpLaw }
     ensures down { LinkDownLaw }
+    ensures retry { RetryLaw }
 {}
 
 /// So are a session that is bound, one that ends and the answer to a receipt.
@@ -50,11 +51,12 @@ pub fn sessions_are_offers()
 {}
 
 /// Where a sound centre refines the world, an event that ends messages is an event of a script, by steps of the centre.
-/// The centre refines the world to which they lead. A cancel deletes the message; its report and the next offers
-/// follow. At a tick messages expire with their reports, and old status reports are dropped. Frames are sent again, and
+/// The centre refines the world to which they lead. A cancel, or an operator's order, deletes the message; its report and
+/// the next offers follow. At a tick messages expire with their reports, and old status reports are dropped. Frames are sent again, and
 /// what is due is offered.
 pub fn ends_are_events_of_scripts()
     ensures cancel { CancelLaw }
+    ensures delete { DeleteLaw }
     ensures tick { TickLaw }
 {}
 

@@ -11,4 +11,5 @@ pub mod Places
 pub mod Refusals
 pub mod SecretLines
 pub mod Served
+pub mod SourceTexts
 pub mod TableTexts

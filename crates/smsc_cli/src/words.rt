@@ -27,7 +27,9 @@ mod sim;
 
 pub use about::{About, VERSION, about_of};
 pub use account::{AccountWords, account_of};
-pub use account_tables::{PasswordWords, TableAccount, TableFault, add_tables};
+pub use account_tables::{
+    PasswordWords, SourceWords, TableAccount, TableFault, add_tables, source_of,
+};
 pub use accounts::{FileFault, add_lines};
 pub use address::own_address;
 pub use detail::LogDetail;

@@ -5,6 +5,7 @@
 //! orders and which handset has a link at which seat.
 //!
 //! - `accepting`: connections, accepted at both ports
+//! - `allowances`: what the accounts of a run may do for now
 //! - `board`: what the threads of a run share
 //! - `clock`: the time of a run
 //! - `connection`: the ports, and the wire of a connection that was accepted
@@ -26,6 +27,7 @@
 //! - `observer`: the observer of a run
 
 mod accepting;
+mod allowances;
 mod board;
 mod clock;
 mod connection;
@@ -46,6 +48,7 @@ mod run;
 mod seat_thread;
 mod server;
 
+pub use allowances::{Allowance, Allowances};
 pub use clock::{RunClock, milliseconds};
 pub use connection::Ports;
 pub(crate) use connection::is_later;

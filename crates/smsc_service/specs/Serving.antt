@@ -4,7 +4,7 @@ use Rattle.smpp_pdu.specs.declared.status.CommandStatus.{CommandStatus}
 use Rattle.sms_centre_spec.specs.CentreEvent.{happened, recovered}
 use Rattle.sms_centre_spec.specs.Draft.{Core, core_of}
 use Rattle.sms_centre_spec.specs.declared.event.CentreEvent.{CentreEvent}
-use Rattle.sms_centre_spec.specs.declared.event.CentreEvent.TheVariants.{Submit, Query, Cancel, Bound, Unbound, DeliverAnswered, Frame, LinkUp, LinkDown, Tick as TickOf}
+use Rattle.sms_centre_spec.specs.declared.event.CentreEvent.TheVariants.{Submit, Query, Cancel, Bound, Unbound, DeliverAnswered, Frame, LinkUp, LinkDown, Ordered, Tick as TickOf}
 use Rattle.sms_centre_spec.specs.Requests.{cancel_refusal, octets_refusal, query_refusal}
 use Rattle.sms_centre_spec.specs.declared.rows.Rows.{Rows}
 use Rattle.sms_centre_spec.specs.declared.jobs.job.Job.{Job}
@@ -61,6 +61,7 @@ refusal_of (DeliverAnswered session id is_accepted) c = None
 refusal_of (Frame handset octets tag) c = None
 refusal_of (LinkUp handset) c = None
 refusal_of (LinkDown handset) c = None
+refusal_of (Ordered order id) c = None
 refusal_of (TickOf now) c = None
 
 abbrev pub refusal_for : SeatRequest → Core → Option CommandStatus

@@ -75,6 +75,6 @@ pub use served::Served;
 pub use service::Service;
 pub use sms_centre::Setup;
 pub use sms_centre_spec::bodies::CentreStore;
-pub use sms_intake::CentreAccount;
+pub use sms_intake::{AllowedSource, CentreAccount};
 pub use start_error::StartError;
 pub use step_error::StepError;

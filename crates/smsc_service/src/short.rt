@@ -35,6 +35,7 @@ fn refusal_of(centre: &Centre, event: &CentreEvent<'_>) -> Option<CommandStatus>
         | CentreEvent::Frame { .. }
         | CentreEvent::LinkUp { .. }
         | CentreEvent::LinkDown { .. }
+        | CentreEvent::Ordered { .. }
         | CentreEvent::Tick(_) => None,
     }
 }

@@ -7,16 +7,17 @@ use crate::run_fault::RunFault;
 use crate::setup::RunAccounts;
 use crate::store_files::public_mode_at;
 use smsc_cli::words::{
-    AccountWords, FileFault, ServerRun, TableAccount, TableFault, add_lines, add_tables,
+    AccountWords, FileFault, PasswordWords, ServerRun, TableAccount, TableFault, add_lines,
+    add_tables,
 };
 use std::alloc::Global;
 use std::{fs, io};
 use toml::Table;
 
-// Refuses a file of accounts that every user may read or write, unless the words allow that.
-fn judge_file(host: &HostRuntime, run: &ServerRun<'_>, path: &str) -> Result<(), RunFault> {
+/// Refuses a file of accounts that every user may read or write, unless the words allow that.
+pub fn judge_file(host: &HostRuntime, path: &str, opens_accounts: bool) -> Result<(), RunFault> {
     match public_mode_at(host, path) {
-        Some(mode) if !run.opens_accounts => Err(RunFault::OpenToOthers(mode)),
+        Some(mode) if !opens_accounts => Err(RunFault::OpenToOthers(mode)),
         _ => Ok(()),
     }
 }
@@ -49,10 +50,29 @@ fn add_words(
     Ok(())
 }
 
-fn add_text(alloc: Global, file: &str, book: &mut RunAccounts) -> Result<(), RunFault> {
+// The accounts of a file of lines. They have no rate, and are not suspended.
+fn lines_in<'a>(alloc: Global, file: &'a str) -> Result<Vec<TableAccount<'a>>, RunFault> {
+    let mut words = Vec::new(alloc);
+    add_lines(&mut words, file).map_err(lines_fault)?;
     let mut accounts = Vec::new(alloc);
-    add_lines(&mut accounts, file).map_err(lines_fault)?;
-    add_words(alloc, accounts.as_slice(), book)
+    for account in words {
+        let AccountWords {
+            name,
+            password,
+            address,
+            sessions,
+        } = account;
+        accounts.push(TableAccount {
+            name,
+            password: PasswordWords::Plain(password),
+            address,
+            sessions,
+            rate: None,
+            is_suspended: false,
+            sources: &[],
+        })?;
+    }
+    Ok(accounts)
 }
 
 // ---- TOML
@@ -96,34 +116,16 @@ fn tables_fault(file: &str, fault: TableFault) -> RunFault {
     }
 }
 
-fn add_accounts(
-    alloc: Global,
-    accounts: &[TableAccount<'_>],
-    book: &mut RunAccounts,
-) -> Result<(), RunFault> {
-    for account in accounts {
-        added(book.add_table(alloc, account)?)?;
-    }
-    Ok(())
-}
-
-fn add_document(
+// The accounts of a file of tables.
+fn tables_in<'a>(
     alloc: Global,
     file: &str,
-    document: &Table,
-    book: &mut RunAccounts,
-) -> Result<(), RunFault> {
+    document: &'a Table,
+) -> Result<Vec<TableAccount<'a>>, RunFault> {
     let mut accounts = Vec::new(alloc);
     match add_tables(&mut accounts, document) {
-        Ok(()) => add_accounts(alloc, accounts.as_slice(), book),
+        Ok(()) => Ok(accounts),
         Err(fault) => Err(tables_fault(file, fault)),
-    }
-}
-
-fn add_toml(alloc: Global, file: &str, book: &mut RunAccounts) -> Result<(), RunFault> {
-    match toml::table_from_str(alloc, file) {
-        Ok(document) => add_document(alloc, file, &document, book),
-        Err(fault) => Err(toml_fault(file, &fault)),
     }
 }
 
@@ -141,13 +143,62 @@ fn is_toml(path: &str, file: &str) -> bool {
     path.ends_with(".toml") || file.lines().any(|line| line.trim() == "[[account]]")
 }
 
-fn add_file(host: &HostRuntime, path: &str, book: &mut RunAccounts) -> Result<(), RunFault> {
-    let file = fs::read_to_string(host, path).map_err(reading_fault)?;
-    if is_toml(path, file.as_str()) {
-        add_toml(host.alloc(), file.as_str(), book)
-    } else {
-        add_text(host.alloc(), file.as_str(), book)
+/// What the file spells as TOML: nothing where it has lines.
+pub fn document_of(alloc: Global, path: &str, file: &str) -> Result<Table, RunFault> {
+    let text = if is_toml(path, file) { file } else { "" };
+    match toml::table_from_str(alloc, text) {
+        Ok(document) => Ok(document),
+        Err(fault) => Err(toml_fault(file, &fault)),
     }
+}
+
+/// The accounts of the file, which spells that.
+pub fn accounts_in<'a>(
+    alloc: Global,
+    path: &str,
+    file: &'a str,
+    document: &'a Table,
+) -> Result<Vec<TableAccount<'a>>, RunFault> {
+    if is_toml(path, file) {
+        tables_in(alloc, file, document)
+    } else {
+        lines_in(alloc, file)
+    }
+}
+
+/// The line at which the account of this number stands, from 1.
+pub fn line_at(path: &str, file: &str, number: usize) -> usize {
+    if is_toml(path, file) {
+        line_of(file, number)
+    } else {
+        number
+    }
+}
+
+/// The text of the accounts' file.
+pub fn read_file(host: &HostRuntime, path: &str) -> Result<String, RunFault> {
+    fs::read_to_string(host, path).map_err(reading_fault)
+}
+
+fn add_accounts(
+    alloc: Global,
+    path: &str,
+    file: &str,
+    book: &mut RunAccounts,
+) -> Result<(), RunFault> {
+    let document = document_of(alloc, path, file)?;
+    let accounts = accounts_in(alloc, path, file, &document)?;
+    for account in accounts.iter() {
+        added(book.add_table(alloc, account)?)?;
+    }
+    Ok(())
+}
+
+fn add_file(host: &HostRuntime, path: &str, book: &mut RunAccounts) -> Result<(), RunFault> {
+    let file = read_file(host, path)?;
+    add_accounts(host.alloc(), path, file.as_str(), book)?;
+    book.file = Some(file);
+    Ok(())
 }
 
 /// Who may connect to the run: those accounts of its words, then those of its file, and links by their secrets.
@@ -159,8 +210,9 @@ pub fn book_of(
     let access = access_of(host, run.link_secrets)?;
     let mut book = RunAccounts::new(host.alloc(), access);
     add_words(host.alloc(), accounts, &mut book)?;
+    book.of_words = accounts.len();
     if let Some(path) = run.accounts {
-        judge_file(host, run, path)?;
+        judge_file(host, path, run.opens_accounts)?;
         add_file(host, path, &mut book)?;
     }
     Ok(book)

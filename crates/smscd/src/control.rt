@@ -2,6 +2,8 @@
 //!
 //! One thread reads all who are connected, in turns, so that nobody who says nothing holds up the others.
 use crate::readiness;
+use crate::reloading::Reloader;
+use crate::run_fault::{Paths, RunFault};
 use sms_base::Octets;
 use sms_base::lending::put;
 use smsc_server::Orders;
@@ -29,6 +31,12 @@ const MOST_TURNS: u32 = 40;
 // A line has so many octets at most.
 const MOST_OCTETS: usize = 64;
 
+// And an answer.
+const MOST_ANSWERED: usize = 1024;
+
+// The answer to an order that is done.
+const DONE: &[u8] = b"done\n";
+
 /// What can be ordered.
 #[derive(Clone, Copy, Debug, PartialEq, Eq)]
 pub enum Command {
@@ -36,6 +44,8 @@ pub enum Command {
     Stop,
     /// The connection at the seat of this number ends.
     End(u32),
+    /// The accounts' file is read again.
+    Reload,
 }
 
 // ---- the server's side
@@ -51,6 +61,7 @@ fn command_of(octets: &[u8]) -> Option<Command> {
     let text = std::str::from_utf8(octets).ok()?;
     match text.trim_end() {
         "stop" => Some(Command::Stop),
+        "reload" => Some(Command::Reload),
         line => {
             let number = line.strip_prefix("end ")?;
             let seat: u32 = number.parse().ok()?;
@@ -59,15 +70,41 @@ fn command_of(octets: &[u8]) -> Option<Command> {
     }
 }
 
+// Why the accounts' file changed nothing.
+fn reload_text(alloc: Global, path: &str, fault: &RunFault) -> Result<String, AllocError> {
+    fault.text(
+        alloc,
+        &Paths {
+            store: "",
+            accounts: path,
+            secrets: "",
+            control: "",
+        },
+    )
+}
+
+// Reads the accounts' file again, and says how that went.
+fn reload(orders: &Orders, alloc: Global, reloader: &Reloader, stream: &mut UnixStream) -> bool {
+    let Err(fault) = reloader.reload(orders) else {
+        return stream.write_all(DONE).is_ok();
+    };
+    match reload_text(alloc, reloader.path(), &fault) {
+        Ok(text) => stream.write_all(text.as_str().as_bytes()).is_ok(),
+        Err(_) => stream.write_all(b"smscd: out of memory\n").is_ok(),
+    }
+}
+
+// Does what is ordered of the run itself, and gives the answer.
 fn obey(host: &HostRuntime, orders: &Orders, command: Option<Command>) -> &'static [u8] {
     match command {
         Some(Command::Stop) => {
             orders.stop();
             readiness::tell(host, readiness::ENDS);
-            b"done\n"
+            DONE
         }
-        Some(Command::End(seat)) if orders.end(seat as usize) => b"done\n",
+        Some(Command::End(seat)) if orders.end(seat as usize) => DONE,
         Some(Command::End(_)) => b"nobody is at that seat\n",
+        Some(Command::Reload) => b"smscd: the run has no file of accounts\n",
         None => b"no such order\n",
     }
 }
@@ -135,12 +172,35 @@ impl Client {
         }
     }
 
+    // What the line orders.
+    fn command(&self) -> Option<Command> {
+        command_of(line_in(self.received.as_slice())?)
+    }
+
     // Does what the line orders. Only who ordered a stop stays.
-    fn do_line(&mut self, host: &HostRuntime, orders: &Orders) -> bool {
-        let command = match line_in(self.received.as_slice()) {
-            Some(line) => command_of(line),
-            None => None,
-        };
+    fn do_line(
+        &mut self,
+        host: &HostRuntime,
+        orders: &Orders,
+        reloader: &Option<Reloader>,
+    ) -> bool {
+        let command = self.command();
+        match reloader {
+            Some(reloader) if command == Some(Command::Reload) => {
+                let _ = reload(orders, host.alloc(), reloader, &mut self.stream);
+                false
+            }
+            _ => self.do_command(host, orders, command),
+        }
+    }
+
+    // Does what is ordered of the run itself.
+    fn do_command(
+        &mut self,
+        host: &HostRuntime,
+        orders: &Orders,
+        command: Option<Command>,
+    ) -> bool {
         let answer = obey(host, orders, command);
         self.is_waiting = command == Some(Command::Stop);
         self.stream.write_all(answer).is_ok() && self.is_waiting
@@ -152,10 +212,10 @@ impl Client {
     }
 
     // Attends it for a turn, and says whether it stays.
-    fn attend(&mut self, host: &HostRuntime, orders: &Orders) -> bool {
+    fn attend(&mut self, host: &HostRuntime, orders: &Orders, reloader: &Option<Reloader>) -> bool {
         match self.hear() {
             Heard::Left => false,
-            Heard::Line if !self.is_waiting => self.do_line(host, orders),
+            Heard::Line if !self.is_waiting => self.do_line(host, orders, reloader),
             Heard::Line | Heard::Nothing => self.is_waiting || self.has_time(),
         }
     }
@@ -181,6 +241,8 @@ pub struct Control {
     path: String,
     clients: Vec<Option<Client>>,
     orders: Arc<Orders>,
+    // Who reads the accounts' file again, where there is one.
+    reloader: Option<Reloader>,
     over: Arc<AtomicBool>,
 }
 
@@ -257,6 +319,7 @@ impl Control {
         host: HostRuntime,
         path: &str,
         orders: Arc<Orders>,
+        reloader: Option<Reloader>,
         over: Arc<AtomicBool>,
     ) -> io::Result<Control> {
         let clients = no_clients(host.alloc())?;
@@ -268,6 +331,7 @@ impl Control {
             path: own,
             clients,
             orders,
+            reloader,
             over,
         })
     }
@@ -309,7 +373,7 @@ impl Control {
         }
         if let Some(client) = self.clients[place].take() {
             let mut client = client;
-            if client.attend(&self.host, &self.orders) {
+            if client.attend(&self.host, &self.orders, &self.reloader) {
                 put(&mut self.clients[place], Some(client));
             }
         }
@@ -360,9 +424,9 @@ pub enum OrderFault {
     /// Nobody takes orders there.
     #[error("{0}")]
     Nobody(io::Error),
-    /// The server refused it.
-    #[error("nobody is at that seat")]
-    Refused,
+    /// The server refused it, and said this.
+    #[error("{0}")]
+    Refused(String),
     /// The run has not ended in time.
     #[error("the run has not ended")]
     NotEnded,
@@ -373,6 +437,7 @@ fn words_of(host: &HostRuntime, command: Command) -> Result<String, AllocError> 
     match command {
         Command::Stop => Ok(format!(in alloc; "stop\n")?),
         Command::End(seat) => Ok(format!(in alloc; "end {seat}\n")?),
+        Command::Reload => Ok(format!(in alloc; "reload\n")?),
     }
 }
 
@@ -381,13 +446,19 @@ fn tell(host: &HostRuntime, stream: &mut UnixStream, command: Command) -> io::Re
     stream.write_all(words.as_str().as_bytes())
 }
 
-fn is_done(stream: &mut UnixStream) -> io::Result<bool> {
-    let mut room = [0u8; 64];
+// What the server says, where that is not that the order is done.
+fn refusal_in(alloc: Global, stream: &mut UnixStream) -> io::Result<Option<String>> {
+    let mut room = [0u8; MOST_ANSWERED];
     let count = stream.read(&mut room)?;
     if count == 0 {
         return Err(io::Error::from(io::ErrorKind::UnexpectedEof));
     }
-    Ok(room[..count].starts_with(b"done"))
+    let answer = &room[..count];
+    if answer.starts_with(DONE) {
+        return Ok(None);
+    }
+    let text = std::str::from_utf8(answer).unwrap_or("smscd: the order was not done\n");
+    Ok(Some(owned(alloc, text)?))
 }
 
 // Waits until the server is gone.
@@ -406,12 +477,12 @@ fn ask(host: &HostRuntime, path: &str, command: Command, wait: u32) -> io::Resul
     Ok(stream)
 }
 
-fn take_answer(stream: UnixStream, waits: bool) -> Result<(), OrderFault> {
+fn take_answer(alloc: Global, stream: UnixStream, waits: bool) -> Result<(), OrderFault> {
     let mut stream = stream;
-    match is_done(&mut stream) {
-        Ok(true) if waits => wait_for_end(&mut stream),
-        Ok(true) => Ok(()),
-        Ok(false) => Err(OrderFault::Refused),
+    match refusal_in(alloc, &mut stream) {
+        Ok(None) if waits => wait_for_end(&mut stream),
+        Ok(None) => Ok(()),
+        Ok(Some(text)) => Err(OrderFault::Refused(text)),
         Err(error) if waits && is_later(&error) => Err(OrderFault::NotEnded),
         Err(error) => Err(OrderFault::Nobody(error)),
     }
@@ -426,7 +497,7 @@ pub fn order(
     wait: u32,
 ) -> Result<(), OrderFault> {
     match ask(host, path, command, wait) {
-        Ok(stream) => take_answer(stream, command == Command::Stop && wait > 0),
+        Ok(stream) => take_answer(host.alloc(), stream, command == Command::Stop && wait > 0),
         Err(error) => Err(OrderFault::Nobody(error)),
     }
 }

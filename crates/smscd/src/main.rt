@@ -16,6 +16,7 @@
 //! - `ports`: the ports of a run
 //! - `preparing`: how both files are made ready before a run, and left after it
 //! - `readiness`: what whoever started the server is told of it
+//! - `reloading`: the accounts' file, read again as the run goes on
 //! - `run_clock`: the time of a run
 //! - `run_fault`: why a run ended early
 //! - `running`: a run of the server
@@ -42,6 +43,7 @@ mod password;
 mod ports;
 mod preparing;
 mod readiness;
+mod reloading;
 mod run_clock;
 mod run_fault;
 mod running;
@@ -164,7 +166,9 @@ fn paths_of<'a>(asked: &ServerWords<'a>) -> Paths<'a> {
             secrets: "",
             control: "",
         },
-        ServerWords::Stop { control, .. } | ServerWords::End { control, .. } => Paths {
+        ServerWords::Stop { control, .. }
+        | ServerWords::End { control, .. }
+        | ServerWords::Reload { control } => Paths {
             store: "",
             accounts: "",
             secrets: "",
@@ -215,11 +219,19 @@ fn do_words<R: Threads + Wait + Clock + Copy + Send + Sync + 'static>(
 // So many seconds an order may take where the words don't say.
 const WAIT: u32 = 15;
 
+// Why the server did not do it. A reload has a reason of its own.
+fn refused(command: Command, text: String) -> RunFault {
+    match command {
+        Command::Reload => RunFault::NotDone(text),
+        Command::Stop | Command::End(_) => RunFault::Refused,
+    }
+}
+
 fn give(host: &HostRuntime, control: &str, command: Command, wait: u32) -> Result<(), RunFault> {
     match order(host, control, command, wait) {
         Ok(()) => Ok(()),
         Err(OrderFault::Nobody(error)) => Err(RunFault::Control(error)),
-        Err(OrderFault::Refused) => Err(RunFault::Refused),
+        Err(OrderFault::Refused(text)) => Err(refused(command, text)),
         Err(OrderFault::NotEnded) => Err(RunFault::NotEnded(wait)),
     }
 }
@@ -242,6 +254,7 @@ fn do_asked<R: Threads + Wait + Clock + Copy + Send + Sync + 'static>(
             give(&host, control, Command::Stop, wait)
         }
         ServerWords::End { control, seat } => { give(&host, control, Command::End(*seat), WAIT) }
+        ServerWords::Reload { control } => give(&host, control, Command::Reload, WAIT),
         ServerWords::Password => print_password(&host),
     }
 }

@@ -73,6 +73,18 @@ pub enum RunFault {
     /// This line of the accounts' file is no account.
     #[error("line {0} is no account")]
     AccountLine(usize),
+    /// The account at this line of the accounts' file is another than the run began with.
+    #[error("the account at line {0} is another than the run began with: a run takes over rate and suspended alone")]
+    OtherAccount(usize),
+    /// The run has no file of accounts.
+    #[error("the run has no file of accounts")]
+    NoFile,
+    /// The run has not begun, or is about to end.
+    #[error("the run takes no orders now")]
+    NoOrders,
+    /// The server did not do what was ordered: it says this.
+    #[error("{0}")]
+    NotDone(String),
     /// The accounts' file has other tables than accounts.
     #[error("they have another key than account, or that is no [[account]]")]
     NoTables,
@@ -169,6 +181,7 @@ pub const USAGE: &str =
     \u{20}      smscd save --store FILE --to FILE\n\
     \u{20}      smscd stop --control PATH [--wait SECONDS]\n\
     \u{20}      smscd end --control PATH SEAT\n\
+    \u{20}      smscd reload --control PATH\n\
     \u{20}      smscd password\n\
     \u{20}      smscd --help | --version\n\
     \n\
@@ -197,6 +210,7 @@ pub const USAGE: &str =
     orders:\n\
     \u{20}  stop              end in good order; waited for 15 seconds, or SECONDS\n\
     \u{20}  end SEAT          end the connection at that seat, 0 to 31\n\
+    \u{20}  reload            read the accounts' file again: rate and suspended\n\
     a password, read from standard input:\n\
     \u{20}  password          prints the salt and the hash of it for a table [[account]]\n\
     \n\
@@ -280,6 +294,7 @@ impl RunFault {
             | RunFault::NoWords
             | RunFault::Accounts
             | RunFault::AccountLine(_)
+            | RunFault::OtherAccount(_)
             | RunFault::NoTables
             | RunFault::OpenToOthers(_)
             | RunFault::NoPassword
@@ -301,6 +316,9 @@ impl RunFault {
             | RunFault::Port(_, _)
             | RunFault::Control(_)
             | RunFault::ControlTaken
+            | RunFault::NoFile
+            | RunFault::NoOrders
+            | RunFault::NotDone(_)
             | RunFault::Refused
             | RunFault::NotEnded(_)
             | RunFault::NoThread
@@ -314,9 +332,9 @@ impl RunFault {
     /// The lines on standard error.
     pub fn text(&self, alloc: Global, paths: &Paths<'_>) -> Result<String, AllocError> {
         match self {
-            RunFault::Words(text) => plain(alloc, text.as_str()),
+            RunFault::Words(text) | RunFault::NotDone(text) => plain(alloc, text.as_str()),
             RunFault::AccountLine(number) => line_text(alloc, *number, paths.accounts),
-            RunFault::NoTables | RunFault::OpenToOthers(_) => {
+            RunFault::NoTables | RunFault::OtherAccount(_) | RunFault::OpenToOthers(_) => {
                 accounts_text(alloc, paths.accounts, self)
             }
             RunFault::NoText => no_text(alloc, paths.accounts),

@@ -7,6 +7,7 @@ use crate::opening::{FoundStore, open_store};
 use crate::ports::{listen, ports_of};
 use crate::preparing::leave_after;
 use crate::readiness;
+use crate::reloading::Reloader;
 use crate::run_clock::{Clocks, RunClock};
 use crate::run_fault::RunFault;
 use crate::setup::{RunAccounts, setup_of};
@@ -22,7 +23,7 @@ use sms_keeper::Gate;
 use sms_store_files::{LogFinding, LogJudgement};
 use smsc_cli::words::{AccountWords, ServerRun};
 use smsc_endpoint::LinkAccess;
-use smsc_server::{Given, ObservedKeep, Orders, Ports, Rate, ServeFault, serve};
+use smsc_server::{Allowances, Given, ObservedKeep, Orders, Ports, ServeFault, serve};
 use smsc_service::{CentreStore, LinkBoard, Setup};
 use std::alloc::{AllocError, Global};
 use std::io;
@@ -85,9 +86,17 @@ fn serve_book<R: Threads + Wait + Clock + Copy + Send + Sync + 'static>(
         accounts,
         access,
         limits,
-        rates,
+        allowed,
+        file,
+        of_words,
     } = book;
-    let limits = Limits { limits, rates };
+    let allowances = Allowances::new(host.alloc(), limits.as_slice(), allowed.as_slice())?;
+    let allowances = Arc::new(host.alloc(), allowances)?;
+    let reloader = Reloader::of(host, run, file, of_words, &allowances)?;
+    let limits = Limits {
+        allowances,
+        reloader,
+    };
     let setup = setup_of(run, start, accounts);
     let names = Arc::new(host.alloc(), names)?;
     let (log, thread) = start_log(host, rt, &names)?;
@@ -104,11 +113,11 @@ fn end_log<R: Threads + Wait + Clock + Copy>(rt: &R, log: Arc<Log<R>>, thread: L
     thread.end(rt);
 }
 
-// How many sessions each account may have, and how many requests it may put in a second.
+// What the accounts may do, and who reads that again.
 #[derive(Drop)]
 struct Limits {
-    limits: Vec<u8>,
-    rates: Vec<Option<Rate>>,
+    allowances: Arc<Allowances>,
+    reloader: Option<Reloader>,
 }
 
 // What a run has beside its store.
@@ -156,6 +165,13 @@ struct StatusPart {
     names: Arc<Vec<String>>,
 }
 
+// What the threads beside the server are to have.
+#[derive(Drop)]
+struct Beside {
+    status: Option<StatusPart>,
+    reloader: Option<Reloader>,
+}
+
 // The observers of the run, and what the thread of the status page is to have.
 fn watchers_of<R: Wait + Copy>(
     rt: R,
@@ -192,7 +208,7 @@ fn given_of<R: Wait + Copy>(
     run: &ServerRun<'_>,
     parts: RunParts<R>,
     guard: Arc<Guard>,
-) -> Result<(Given<Watchers<R>>, Option<StatusPart>), AllocError> {
+) -> Result<(Given<Watchers<R>>, Beside), AllocError> {
     let alloc = host.alloc();
     let RunParts {
         logins,
@@ -202,12 +218,15 @@ fn given_of<R: Wait + Copy>(
         log,
         orders,
     } = parts;
-    let (watchers, part) = watchers_of(rt, alloc, run, log, names, guard)?;
-    let links = board_of(&part)?;
+    let (watchers, status) = watchers_of(rt, alloc, run, log, names, guard)?;
+    let links = board_of(&status)?;
     let accounts = Arc::new(alloc, logins)?;
     let access = Arc::new(alloc, access)?;
     let observer = Arc::new(alloc, watchers)?;
-    let Limits { limits, rates } = limits;
+    let Limits {
+        allowances,
+        reloader,
+    } = limits;
     Ok((
         Given {
             accounts,
@@ -216,10 +235,9 @@ fn given_of<R: Wait + Copy>(
             orders,
             links,
             sessions: run.sessions,
-            limits,
-            rates,
+            allowances,
         },
-        part,
+        Beside { status, reloader },
     ))
 }
 
@@ -315,8 +333,8 @@ fn serve_found<R: Threads + Wait + Clock + Copy + Send + Sync + 'static, K: Cent
     say_open_modes(&host, &*parts.log, &found.paths)?;
     say_open_files(&host, &*parts.log, run)?;
     let guard = guard_of(host, found, &parts.orders)?;
-    let (given, part) = given_of(host, rt, run, parts, guard)?;
-    serve_keep(host, rt, run, &given, part, keep, found, start)
+    let (given, beside) = given_of(host, rt, run, parts, guard)?;
+    serve_keep(host, rt, run, &given, beside, keep, found, start)
 }
 
 // The level at which a start says what its log held, and whether that ended cut.
@@ -447,14 +465,14 @@ fn serve_ports<R: Threads + Wait + Clock + Copy + Send + Sync + 'static, K: Cent
     rt: R,
     run: &ServerRun<'_>,
     given: &Given<Watchers<R>>,
-    part: Option<StatusPart>,
+    beside: Beside,
     keep: K,
     ports: Ports<TcpListener>,
     summary: &Summary,
     clock: &RunClock<R>,
 ) -> Result<K, RunFault> {
     let mut helpers = Helpers::new(host.alloc())?;
-    helpers.start_all(host, rt, run, given, part, summary, clock.start)?;
+    helpers.start_all(host, rt, run, given, beside, summary, clock.start)?;
     let ended = serve_open(rt, host.alloc(), given, keep, ports, clock);
     end_run(&rt, helpers, &*given.observer, ended)
 }
@@ -464,7 +482,7 @@ fn serve_keep<R: Threads + Wait + Clock + Copy + Send + Sync + 'static, K: Centr
     rt: R,
     run: &ServerRun<'_>,
     given: &Given<Watchers<R>>,
-    part: Option<StatusPart>,
+    beside: Beside,
     keep: K,
     found: &FoundStore,
     start: Moment,
@@ -473,7 +491,7 @@ fn serve_keep<R: Threads + Wait + Clock + Copy + Send + Sync + 'static, K: Centr
     let summary = look_at(host.alloc(), &*given.observer, &mut keep, found, start)?;
     let clock = clock_of(rt, summary.newest, run.is_ahead)?;
     let ports = open_ports(&host, run)?;
-    serve_ports(host, rt, run, given, part, keep, ports, &summary, &clock)
+    serve_ports(host, rt, run, given, beside, keep, ports, &summary, &clock)
 }
 
 fn ports_fault(error: io::Error) -> RunFault {
@@ -643,10 +661,11 @@ impl Helpers {
         host: HostRuntime,
         path: &str,
         orders: &Arc<Orders>,
+        reloader: Option<Reloader>,
     ) -> Result<Control, RunFault> {
         let orders = Arc::try_clone(orders)?;
         let over = Arc::try_clone(&self.over)?;
-        Control::open(host, path, orders, over).map_err(control_fault)
+        Control::open(host, path, orders, reloader, over).map_err(control_fault)
     }
 
     fn start_attending<R: Threads>(&mut self, rt: &R, control: Control) -> Result<(), RunFault> {
@@ -660,8 +679,9 @@ impl Helpers {
         rt: &R,
         path: &str,
         orders: &Arc<Orders>,
+        reloader: Option<Reloader>,
     ) -> Result<(), RunFault> {
-        let control = self.control_of(host, path, orders)?;
+        let control = self.control_of(host, path, orders, reloader)?;
         self.start_attending(rt, control)
     }
 
@@ -672,11 +692,12 @@ impl Helpers {
         run: &ServerRun<'_>,
         guard: &Arc<Guard>,
         orders: &Arc<Orders>,
+        reloader: Option<Reloader>,
     ) -> Result<(), RunFault> {
         let watch = self.watch_of(host, guard)?;
         self.start_watch(rt, watch)?;
         match run.control {
-            Some(path) => self.start_control(host, rt, path, orders),
+            Some(path) => self.start_control(host, rt, path, orders, reloader),
             None => Ok(()),
         }
     }
@@ -688,13 +709,14 @@ impl Helpers {
         rt: R,
         run: &ServerRun<'_>,
         given: &Given<Watchers<R>>,
-        part: Option<StatusPart>,
+        beside: Beside,
         summary: &Summary,
         start: Moment,
     ) -> Result<(), RunFault> {
         let guard = &given.observer.guard;
-        self.start_status(host, rt, run, part, &guard.paths, summary, start)?;
-        self.start(host, &rt, run, guard, &given.orders)?;
+        let Beside { status, reloader } = beside;
+        self.start_status(host, rt, run, status, &guard.paths, summary, start)?;
+        self.start(host, &rt, run, guard, &given.orders, reloader)?;
         say_listening(host.alloc(), run, &*given.observer.log)?;
         readiness::tell(&host, readiness::LISTENS);
         Ok(())

@@ -1,11 +1,14 @@
 //! What a run begins with.
 use smpp_session::{Account as Login, Password};
-use sms_base::{Listed, Moment, Octets};
-use smsc_cli::words::{AccountWords, PasswordWords, ServerRun, TableAccount};
+use sms_base::{Address, Digits, Listed, Moment, Octets};
+use smsc_cli::words::{
+    AccountWords, PasswordWords, ServerRun, SourceWords, TableAccount, source_of,
+};
 use smsc_endpoint::LinkAccess;
-use smsc_server::Rate;
-use smsc_service::{CentreAccount, Setup};
+use smsc_server::Allowance;
+use smsc_service::{AllowedSource, CentreAccount, Setup};
 use std::alloc::{AllocError, Global};
+use toml::Value;
 
 // How many accounts there may be.
 const MOST_ACCOUNTS: usize = 32;
@@ -23,8 +26,11 @@ pub struct RunAccounts {
     pub access: LinkAccess,
     /// How many sessions each may have at once.
     pub limits: Vec<u8>,
-    /// How many requests each may put in a second.
-    pub rates: Vec<Option<Rate>>,
+    /// What else each may do, which a run takes over anew as it goes on.
+    pub allowed: Vec<Allowance>,
+    /// The text of their file, and how many are of words.
+    pub file: Option<String>,
+    pub of_words: usize,
 }
 
 fn password_of(alloc: Global, words: PasswordWords<'_>) -> Result<Password, AllocError> {
@@ -53,19 +59,52 @@ fn name_of(alloc: Global, account: &TableAccount<'_>) -> Result<String, AllocErr
     Ok(name)
 }
 
+// The characters of an address of that kind; none where it is no address.
+fn digits_of(ton: u8, text: &str) -> Option<Digits> {
+    match Address::new(ton, 1, text) {
+        Ok(address) => Some(address.digits),
+        Err(_) => None,
+    }
+}
+
+fn source_in(words: SourceWords<'_>) -> Option<AllowedSource> {
+    match words {
+        SourceWords::Number(text) => Some(AllowedSource::Number(digits_of(1, text)?)),
+        SourceWords::Prefix(text) => Some(AllowedSource::Prefix(digits_of(1, text)?)),
+        SourceWords::Name(text) => Some(AllowedSource::Name(digits_of(5, text)?)),
+    }
+}
+
+fn source_at(value: &Value) -> Option<AllowedSource> {
+    source_in(source_of(value.as_str()?)?)
+}
+
+fn sources_of(
+    alloc: Global,
+    account: &TableAccount<'_>,
+) -> Result<Listed<AllowedSource>, AllocError> {
+    let mut sources = Vec::new(alloc);
+    for value in account.sources {
+        if let Some(source) = source_at(value) {
+            sources.push(source)?;
+        }
+    }
+    Ok(Listed::from_vec(sources))
+}
+
 fn account_of(alloc: Global, account: &TableAccount<'_>) -> Result<CentreAccount, AllocError> {
     Ok(CentreAccount {
         name: Octets::copy_of(alloc, account.name.as_bytes())?,
         address: account.address,
+        sources: sources_of(alloc, account)?,
     })
 }
 
-// A suspended account may have no session.
-fn limit_of(account: &TableAccount<'_>) -> u8 {
-    if account.is_suspended {
-        0
-    } else {
-        account.sessions
+/// What the account may do, which a run takes over anew as it goes on.
+pub fn allowance_of(account: &TableAccount<'_>) -> Allowance {
+    Allowance {
+        is_suspended: account.is_suspended,
+        rate: account.rate,
     }
 }
 
@@ -78,7 +117,9 @@ impl RunAccounts {
             accounts: Vec::new(alloc),
             access,
             limits: Vec::new(alloc),
-            rates: Vec::new(alloc),
+            allowed: Vec::new(alloc),
+            file: None,
+            of_words: 0,
         }
     }
 
@@ -98,8 +139,8 @@ impl RunAccounts {
         self.logins.push(login_of(alloc, account)?)?;
         self.names.push(name_of(alloc, account)?)?;
         self.accounts.push(account_of(alloc, account)?)?;
-        self.limits.push(limit_of(account))?;
-        self.rates.push(account.rate.map(Rate::of))?;
+        self.limits.push(account.sessions)?;
+        self.allowed.push(allowance_of(account))?;
         Ok(true)
     }
 
@@ -112,6 +153,7 @@ impl RunAccounts {
             sessions: account.sessions,
             rate: None,
             is_suspended: false,
+            sources: &[],
         };
         self.add_table(alloc, &table)
     }

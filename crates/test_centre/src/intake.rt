@@ -1,7 +1,7 @@
 //! Submissions and refusals.
 use crate::rows::{are, holds};
 use smpp_pdu::CommandStatus;
-use sms_base::{Address, Moment, Octets, Originator, Wish};
+use sms_base::{Address, Listed, Moment, Octets, Originator, Wish};
 use sms_intake::{
     CentreAccount, SmppError, Submission, SubmitError, SubmitRefusal, accepting_report, content_of,
     due_of, from_submit, limit_of, refusing_report, wish_of,
@@ -115,6 +115,7 @@ fn account(alloc: Global, digits: &str) -> Result<CentreAccount, Fail> {
     Ok(CentreAccount {
         name: Octets::copy_of(alloc, b"bank")?,
         address: Address::new(1, 1, digits)?,
+        sources: Listed::new(alloc),
     })
 }
 

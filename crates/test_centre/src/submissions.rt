@@ -1,8 +1,8 @@
 //! Submissions of applications: the refusals in order, and what is accepted.
 use crate::rows::{are, holds};
 use smpp_pdu::{CommandStatus, Message, SmeAddress, Tlvs};
-use sms_base::{Address, Moment, OctetView, Octets};
-use sms_intake::{CentreAccount, SmppError, Submission, Text, from_pdu};
+use sms_base::{Address, Listed, Moment, OctetView, Octets};
+use sms_intake::{AllowedSource, CentreAccount, SmppError, Submission, Text, from_pdu};
 use std::alloc::Global;
 use std::test::Fail;
 
@@ -83,15 +83,25 @@ fn message_of<'a>(fields: &Fields<'a>) -> Message<'a> {
     }
 }
 
-// What becomes of it at 2024-02-29 23:59:58, from the account 447700900001.
-fn submitted(alloc: Global, fields: &Fields<'_>) -> Result<Result<Submission, SmppError>, Fail> {
+// What becomes of a message at 2024-02-29 23:59:58, from the account 447700900001 that may give these sources.
+fn judged(
+    alloc: Global,
+    sources: Vec<AllowedSource>,
+    message: &Message<'_>,
+) -> Result<Result<Submission, SmppError>, Fail> {
     let address = Address::new(1, 1, "447700900001")?;
     let now = Moment::from_seconds(NOW)?;
     let account = CentreAccount {
         name: Octets::copy_of(alloc, b"app1")?,
         address,
+        sources: Listed::from_vec(sources),
     };
-    Ok(from_pdu(alloc, &account, now, &message_of(fields)))
+    Ok(from_pdu(alloc, &account, now, message))
+}
+
+// So too, from one that may give any source.
+fn submitted(alloc: Global, fields: &Fields<'_>) -> Result<Result<Submission, SmppError>, Fail> {
+    judged(alloc, Vec::new(alloc), &message_of(fields))
 }
 
 // The status with which it is refused, where it is.
@@ -267,4 +277,76 @@ fn headers_are_carried(rt: HostRuntime) -> Result<(), Fail> {
     )?;
     let submission = accepted(rt.alloc(), &sar(&[3]))?;
     holds(says(&submission, b"a"), "a text")
+}
+
+// The number 447700900002, those that begin with 4477001, and the name Bank.
+fn allowed(alloc: Global) -> Result<Vec<AllowedSource>, Fail> {
+    let number = AllowedSource::Number(Address::new(1, 1, "447700900002")?.digits);
+    let prefix = AllowedSource::Prefix(Address::new(1, 1, "4477001")?.digits);
+    let name = AllowedSource::Name(Address::new(5, 0, "Bank")?.digits);
+    Ok(vec![in alloc; number, prefix, name]?)
+}
+
+// A type of number, an address, and whether it is such a source.
+const SOURCES: &[(u8, &[u8], bool)] = &[
+    (1, b"", true),
+    (1, b"447700900001", true),
+    (1, b"447700900002", true),
+    (0, b"447700900002", true),
+    (1, b"4477009000021", false),
+    (1, b"44770090000", false),
+    (1, b"4477001", true),
+    (1, b"447700199999", true),
+    (1, b"447700", false),
+    (5, b"4477001", false),
+    (5, b"Bank", true),
+    (5, b"bank", false),
+    (5, b"Bank1", false),
+];
+
+fn is_so(alloc: Global, ton: u8, digits: &[u8], is_allowed: bool) -> Result<bool, Fail> {
+    let mut message = message_of(&hello());
+    message.source = SmeAddress {
+        ton,
+        npi: 1,
+        addr: OctetView::of(digits),
+    };
+    match judged(alloc, allowed(alloc)?, &message)? {
+        Ok(_) => Ok(is_allowed),
+        Err(SmppError::Refused(CommandStatus::ESME_RINVSRCADR)) => Ok(!is_allowed),
+        Err(_) => Ok(false),
+    }
+}
+
+#[test]
+fn a_source_that_is_not_allowed_is_refused(rt: HostRuntime) -> Result<(), Fail> {
+    for (ton, digits, is_allowed) in SOURCES {
+        holds(is_so(rt.alloc(), *ton, digits, *is_allowed)?, "a source")?;
+    }
+    Ok(())
+}
+
+// The source is judged behind esm_class and before the destination.
+#[test]
+fn a_source_is_judged_in_its_turn(rt: HostRuntime) -> Result<(), Fail> {
+    let mut fields = hello();
+    fields.source = b"447700900003";
+    fields.destination = b"none";
+    let refused = judged(rt.alloc(), allowed(rt.alloc())?, &message_of(&fields))?;
+    holds(
+        matches!(
+            refused,
+            Err(SmppError::Refused(CommandStatus::ESME_RINVSRCADR))
+        ),
+        "the source first",
+    )?;
+    fields.esm_class = 4;
+    let refused = judged(rt.alloc(), allowed(rt.alloc())?, &message_of(&fields))?;
+    holds(
+        matches!(
+            refused,
+            Err(SmppError::Refused(CommandStatus::ESME_RINVESMCLASS))
+        ),
+        "esm_class before it",
+    )
 }

@@ -10,7 +10,7 @@ use crate::lines::{
     read_number, session, value, word,
 };
 use sms_base::{Holder, OctetView};
-use sms_centre_spec::CentreEvent;
+use sms_centre_spec::{CentreEvent, Order};
 use std::alloc::Global;
 
 /// What a line says happens, with the octets that it needs.
@@ -64,6 +64,8 @@ impl<'a> Act<'a> {
             Kind::Submit => self.submission(),
             Kind::Query => self.query(),
             Kind::Cancel => self.cancel(),
+            Kind::Retry => self.ordered(Order::Retry),
+            Kind::Delete => self.ordered(Order::Delete),
             Kind::Bound => self.bound(),
             Kind::Unbound => self.unbound(),
             Kind::Receipt => self.receipt(),
@@ -108,6 +110,16 @@ impl<'a> Act<'a> {
         Ok(CentreEvent::Cancel {
             account: self.asked.account,
             cancel: cancel(&self.asked, self.number_text()),
+        })
+    }
+
+    // An operator orders it of the message.
+    fn ordered(&self, order: Order) -> Result<CentreEvent<'_>, Trouble>
+        ensures { IfOk result (λ event. HasNumber event) }
+    {
+        Ok(CentreEvent::Ordered {
+            order,
+            id: id_of(self.known.message)?,
         })
     }
 

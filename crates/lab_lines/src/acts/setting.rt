@@ -10,6 +10,7 @@ fn account(alloc: Global, name: &[u8], number: &str) -> Result<CentreAccount, Tr
     Ok(CentreAccount {
         name: Octets::copy_of(alloc, name)?,
         address,
+        sources: Listed::new(alloc),
     })
 }
 

@@ -14,11 +14,12 @@ use Rattle.sms_centre_reports.specs.open_reports.Entries.{account_in, account_of
 use Rattle.sms_centre_reports.specs.sessions.Answering.{bindings_answered, bindings_bound, bindings_unbound, reports_answered, reports_bound, reports_unbound}
 use Rattle.sms_centre_reports.specs.sessions.Awaited.{AreAwaited}
 use Rattle.sms_centre_spec.specs.declared.event.CentreEvent.{CentreEvent}
-use Rattle.sms_centre_spec.specs.declared.event.CentreEvent.TheVariants.{Submit, Query, Cancel, Bound, Unbound, DeliverAnswered, Frame, LinkUp, LinkDown, Tick}
+use Rattle.sms_centre_spec.specs.declared.event.CentreEvent.TheVariants.{Submit, Query, Cancel, Bound, Unbound, DeliverAnswered, Frame, LinkUp, LinkDown, Ordered, Tick}
 use Rattle.sms_centre_spec.specs.declared.rows.Rows.{Rows}
 use Rattle.sms_centre_spec.specs.CentreEvent.{aged, at_moment, fired, follow, frame_taken, happened, lower, raise, raised, tag_of}
 use Rattle.sms_centre_spec.specs.Draft.{Core, Draft, core_of, draft_of, messages_in, reports_in}
 use Rattle.sms_centre_spec.specs.Keeping.{Keeps}
+use Rattle.sms_centre_spec.specs.Orders.{ordered}
 use Rattle.sms_centre_spec.specs.Requests.{account_at, cancel, query, submit}
 use Rattle.sms_centre_spec.specs.Sessions.{bind, deliver_answered, unbind}
 use Rattle.sms_centre_spec.specs.SoundCore.{IsEvent, IsSoundCore}
@@ -29,7 +30,7 @@ use Rattle.sms_centre_reports.specs.awaited.Events.{IsNoAnswer}
 use Rattle.sms_centre_reports.specs.awaited.Moving.{moved_to}
 use Rattle.sms_centre_reports.proofs.awaited.AsDefined.{answered_as, bound_so, none_bound, unbound_as}
 use Rattle.sms_centre_reports.proofs.awaited.Awaiting.{all_sent, answers_keep, bind_keeps, ends_keep}
-use Rattle.sms_centre_reports.proofs.awaited.BindingsEvents.{cancel_by_bindings, frame_taken_bindings, lower_bindings, query_by_bindings, submit_by_bindings, ticked_bindings}
+use Rattle.sms_centre_reports.proofs.awaited.BindingsEvents.{cancel_by_bindings, frame_taken_bindings, lower_bindings, ordered_bindings, query_by_bindings, submit_by_bindings, ticked_bindings}
 use Rattle.sms_centre_reports.proofs.awaited.FirmEvents.{firm_event}
 use Rattle.sms_centre_reports.proofs.awaited.OpenStays.{OpenSince, Stay, open_firm, stay_same}
 
@@ -115,4 +116,5 @@ awaited_after (Frame handset octets tag) c s is k =
     left (Frame handset octets tag) c (frame_taken octets (tag_of tag) (line_of handset c.lines) (draft_of c)) s is tt (frame_taken_bindings octets (tag_of tag) (line_of handset c.lines) (draft_of c)) refl k
 awaited_after (LinkUp handset) c s is k = left (LinkUp handset) c (raise handset (draft_of c)) s is tt refl refl k
 awaited_after (LinkDown handset) c s is k = left (LinkDown handset) c (lower handset (draft_of c)) s is tt (lower_bindings handset (draft_of c)) refl k
+awaited_after (Ordered order id) c s is k = left (Ordered order id) c (ordered order id (draft_of c)) s is tt (ordered_bindings order id (draft_of c)) refl k
 awaited_after (Tick now) c s is k = left (Tick now) c (raised (fired (aged (at_moment now (draft_of c))))) s is tt (ticked_bindings now (draft_of c)) refl k

@@ -19,7 +19,7 @@ use Rattle.smpp_pdu.specs.declared.message.Message.{Message}
 use Rattle.smpp_pdu.specs.declared.query.QuerySm.{QuerySm}
 use Rattle.smpp_pdu.specs.declared.status.CommandStatus.{CommandStatus}
 use Rattle.sms_centre_rows.specs.declared.messages.message.MessageRow.{MessageRow}
-use Rattle.sms_centre_rows.specs.messages.Messages.{is_pending}
+use Rattle.sms_centre_rows.specs.messages.Messages.{is_pending, message_at}
 use Rattle.sms_centre_rows.specs.declared.waiting.handset.HandsetRow.{HandsetRow}
 use Rattle.sms_centre_rows.specs.declared.waiting.handset_link.HandsetLink.{HandsetLink}
 use Rattle.sms_centre_rows.specs.waiting.Links.{line_at, line_of, lowered, put_line, turn_line}
@@ -35,6 +35,9 @@ use Rattle.sms_centre_spec.specs.Shares.{unless_too_much}
 use Rattle.sms_centre_spec.specs.Submitting.{accept, is_reference_taken}
 use Rattle.sms_centre_spec.specs.Transfers.{conclude}
 use Rattle.sms_centre_spec.specs.Receiving.{is_duplicate, refuse, submit_accepted, submit_received as submission_from, unit_received}
+use Rattle.sms_centre_spec.specs.declared.order.Order.{Order}
+use Rattle.sms_centre_spec.specs.declared.order.Order.TheVariants.{Retry, Delete}
+use Rattle.sms_centre_spec.specs.Orders.{ordered, retried}
 use Rattle.sms_centre_spec.specs.Requests.{accepted, cancel_by, cancelled, message_numbered, own_message, queried, query_by, submission_received, submit_by, to_cancel}
 use Rattle.sms_centre_spec.specs.CentreEvent.{aged, at_moment, fire_at, fire_mentioned, fire_others, fired, frame_taken, is_mentioned, lost, lower, raise, raise_all, raised, timed_out, went_up}
 use Rattle.sms_centre_spec.specs.Draft.{Draft, Store, handsets_in, messages_in, on_links, rows_of}
@@ -156,3 +159,13 @@ cancel_by_bindings None q d = refl
 cancel_by_bindings (Some a) q d =
     let m : Option MessageRow = to_cancel a q (messages_in d.store) in
     cond_both (is_empty q.message_id) _ (cancelled m d) (λ (e : Draft). e.bindings ≡ d.bindings) (λ t. refl) (λ t. cancelled_bindings m d)
+
+-- ---- orders
+
+retried_bindings : (o : Option MessageRow) (d : Draft) → (retried o d).bindings ≡ d.bindings
+retried_bindings None d = refl
+retried_bindings (Some m) d = refl
+
+pub ordered_bindings : (order : Order) (id : ℕ) (d : Draft) → (ordered order id d).bindings ≡ d.bindings
+ordered_bindings Retry id d = retried_bindings (message_at id (messages_in d.store)) d
+ordered_bindings Delete id d = cancelled_bindings (message_at id (messages_in d.store)) d

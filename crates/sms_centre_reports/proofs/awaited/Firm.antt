@@ -130,7 +130,7 @@ module _ (P : Store → Type 0) (c : IsFirm P) where
       cond_both (l.number == 0) (report_due (report_of l.id (reports_in s)) s) (part_due (part_at l.id l.number (parts_in s)) s) P
       (λ t. report_due_firm l.id (report_of l.id (reports_in s)) s k refl) (λ t. part_due_firm (pair_key l.id l.number) (part_at l.id l.number (parts_in s)) s k refl)
 
-  all_due_firm : (ls : List QueuedPart) (s : Store) → P s → P (all_due ls s)
+  pub all_due_firm : (ls : List QueuedPart) (s : Store) → P s → P (all_due ls s)
   all_due_firm [] s k = k
   all_due_firm (l ∷ ls) s k = all_due_firm ls (load_due l s) (load_due_firm l s k)
 

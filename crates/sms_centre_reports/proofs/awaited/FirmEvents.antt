@@ -32,7 +32,7 @@ use Rattle.sms_centre_rows.specs.waiting.Links.{line_at, line_of, lowered, put_l
 use Rattle.sms_centre_rows.specs.waiting.References.{handset_at}
 use Rattle.sms_intake.specs.HandsetIntake.{from_read}
 use Rattle.sms_centre_spec.specs.declared.event.CentreEvent.{CentreEvent}
-use Rattle.sms_centre_spec.specs.declared.event.CentreEvent.TheVariants.{Submit, Query, Cancel, Bound, Unbound, DeliverAnswered, Frame, LinkUp, LinkDown, Tick}
+use Rattle.sms_centre_spec.specs.declared.event.CentreEvent.TheVariants.{Submit, Query, Cancel, Bound, Unbound, DeliverAnswered, Frame, LinkUp, LinkDown, Ordered, Tick}
 use Rattle.sms_intake.specs.declared.refusal.SubmitRefusal.{SubmitRefusal}
 use Rattle.sms_intake.specs.declared.refusal.SubmitRefusal.TheVariants.{Duplicate, ReferenceTaken}
 use Rattle.sms_intake.specs.declared.submission.CentreAccount.{CentreAccount}
@@ -43,17 +43,20 @@ use Rattle.sms_centre_spec.specs.Shares.{unless_too_much}
 use Rattle.sms_centre_spec.specs.Submitting.{accept, is_reference_taken}
 use Rattle.sms_centre_spec.specs.Transfers.{conclude}
 use Rattle.sms_centre_spec.specs.Receiving.{is_duplicate, refuse, submit_accepted, submit_received as submission_from, unit_received}
+use Rattle.sms_centre_spec.specs.declared.order.Order.{Order}
+use Rattle.sms_centre_spec.specs.declared.order.Order.TheVariants.{Retry, Delete}
+use Rattle.sms_centre_spec.specs.Orders.{ordered, parts_among, retried}
 use Rattle.sms_centre_spec.specs.Requests.{account_at, accepted, cancel_by, cancelled, message_numbered, own_message, queried, query_by, submission_received, submit_by, to_cancel}
 use Rattle.sms_centre_spec.specs.Sessions.{bind, bound_as, due_for, unbind, unbound_from}
 use Rattle.sms_centre_spec.specs.CentreEvent.{tag_of, aged, at_moment, expired, fire_at, fire_line, fire_mentioned, fire_others, fired, frame_taken, happened, is_mentioned, lost, lower, raise, raise_all, raised, timed_out, went_up}
-use Rattle.sms_centre_spec.specs.Draft.{Core, Draft, Store, draft_of, handsets_in, messages_in, on_links, rows_of}
+use Rattle.sms_centre_spec.specs.Draft.{Core, Draft, Store, draft_of, handsets_in, messages_in, on_links, rows_of, waiting_in}
 use Rattle.sms_centre_spec.specs.MessageNumbers.{next_number}
 use Rattle.sms_centre_spec.specs.Consistent.{IsSubmission}
 use Rattle.sms_centre_spec.specs.Submitted.{AccountGives, Gives, UnitGives, UpGives}
 use Rattle.sms_centre_spec.proofs.Stages.{IfThere, unless_kept}
-use Rattle.sms_centre_spec.proofs.Steady.{to_cancel_there}
+use Rattle.sms_centre_spec.proofs.Steady.{message_own, to_cancel_there}
 use Rattle.sms_centre_reports.specs.awaited.Events.{IsNoAnswer}
-use Rattle.sms_centre_reports.proofs.awaited.Firm.{IsFirm, concluded_firm, due_now_firm}
+use Rattle.sms_centre_reports.proofs.awaited.Firm.{IsFirm, all_due_firm, concluded_firm, due_now_firm}
 use Rattle.sms_centre_reports.proofs.awaited.FirmTimes.{all_tried_firm, dropped_firm, due_for_firm, expired_firm}
 
 module _ (P : Store → Type 0) (c : IsFirm P) where
@@ -209,6 +212,16 @@ module _ (P : Store → Type 0) (c : IsFirm P) where
       cond_both (is_empty q.message_id) _ (cancelled m d) (λ (e : Draft). P e.store) (λ t. k)
       (λ t. cancelled_firm m d k (λ x e. to_cancel_there a q d.store x e))
 
+  -- ---- orders
+
+  retried_firm : (o : Option MessageRow) (d : Draft) → P d.store → P (retried o d).store
+  retried_firm None d k = k
+  retried_firm (Some m) d k = all_due_firm P c (parts_among m.id (waiting_in m.handset d.store)) d.store k
+
+  ordered_firm : (order : Order) (id : ℕ) (d : Draft) → P d.store → P (ordered order id d).store
+  ordered_firm Retry id d k = retried_firm (message_at id (messages_in d.store)) d k
+  ordered_firm Delete id d k = cancelled_firm (message_at id (messages_in d.store)) d k (λ m e. message_own id m d.store e)
+
   -- ---- every event
 
   pub firm_event : (event : CentreEvent) (core : Core) → P (draft_of core).store → IsMoment core.moment → Gives event core → IsNoAnswer event → P (happened event core).store
@@ -221,4 +234,5 @@ module _ (P : Store → Type 0) (c : IsFirm P) where
   firm_event (Frame handset octets tag) core k now g n = frame_taken_firm octets (tag_of tag) (line_of handset core.lines) (draft_of core) k g
   firm_event (LinkUp handset) core k now g n = raise_firm handset (draft_of core) k
   firm_event (LinkDown handset) core k now g n = lower_firm handset (draft_of core) k
+  firm_event (Ordered order id) core k now g n = ordered_firm order id (draft_of core) k
   firm_event (Tick now) core k was g n = ticked_firm now (draft_of core) k was g

@@ -1,6 +1,6 @@
 -- Events that answer no receipt.
 use Rattle.sms_centre_spec.specs.declared.event.CentreEvent.{CentreEvent}
-use Rattle.sms_centre_spec.specs.declared.event.CentreEvent.TheVariants.{Submit, Query, Cancel, Bound, Unbound, DeliverAnswered, Frame, LinkUp, LinkDown, Tick}
+use Rattle.sms_centre_spec.specs.declared.event.CentreEvent.TheVariants.{Submit, Query, Cancel, Bound, Unbound, DeliverAnswered, Frame, LinkUp, LinkDown, Ordered, Tick}
 
 abbrev pub IsNoAnswer : CentreEvent → Type 0
 IsNoAnswer (Submit account m) = Unit {0}
@@ -12,4 +12,5 @@ IsNoAnswer (DeliverAnswered session id b) = ⊥
 IsNoAnswer (Frame handset octets tag) = Unit {0}
 IsNoAnswer (LinkUp handset) = Unit {0}
 IsNoAnswer (LinkDown handset) = Unit {0}
+IsNoAnswer (Ordered order id) = Unit {0}
 IsNoAnswer (Tick now) = Unit {0}

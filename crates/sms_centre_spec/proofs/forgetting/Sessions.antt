@@ -99,7 +99,7 @@ module _ (goes : ℕ → Bool) where
       let o : Option CentreAccount = account_at account c.rows.setup.accounts in
       followed goes (query_by o q (draft_without goes (draft_of c))) (query_by o q (draft_of c)) (query_alike o q (draft_of c) (base_stays goes c s can.may) f)
 
-  cancelled_alike : (o : Option MessageRow) (d : Draft) → Stays goes d.store → ((m : MessageRow) → o ≡ Some m → goes m.id ≡ false) → Alike goes (cancelled o (draft_without goes d)) (cancelled o d)
+  pub cancelled_alike : (o : Option MessageRow) (d : Draft) → Stays goes d.store → ((m : MessageRow) → o ≡ Some m → goes m.id ≡ false) → Alike goes (cancelled o (draft_without goes d)) (cancelled o d)
   cancelled_alike None d k f = (refl, k)
   cancelled_alike (Some m) d k f =
       let e : Draft = draft_without goes d in

@@ -27,12 +27,14 @@ use Rattle.sms_centre_spec.specs.declared.event.CentreEvent.TheVariants.{Tick}
 use Rattle.sms_centre_spec.specs.CentreEvent.{aged, at_moment, drop_all, dropped, expire_all, expired, fire_at, fire_line, fire_mentioned, fire_others, fired, happened, is_mentioned, raise, raise_all, raised, report_limit, timed_out}
 use Rattle.sms_centre_spec.specs.Draft.{Core, Draft, Store, draft_of, handsets_in, in_store, messages_in, on_links, parts_in, priorities_in, reports_in, waiting_in}
 use Rattle.sms_centre_spec.specs.Ends.{end}
+use Rattle.sms_centre_spec.specs.Orders.{message_due, parts_among}
 use Rattle.sms_centre_spec.specs.Receiving.{all_due, due_now, load_due, part_due, report_due}
 use Rattle.sms_centre_spec.specs.SoundRows.{IsSound}
 use Rattle.sms_centre_spec.specs.Transfers.{report_closed}
 use Rattle.sms_centre_spec.proofs.NextNumbers.{among_amended}
 use Rattle.sms_centre_spec.specs.forgetting.Forgetting.{kept, part_id, report_id}
 use Rattle.sms_centre_spec.specs.forgetting.Forgot.{CanForget, Same, Stays, core_without, draft_without, store_without}
+use Rattle.sms_centre_spec.proofs.OrdersDone.{among_parts}
 use Rattle.sms_centre_spec.proofs.forgetting.Answers.{Alike, followed}
 use Rattle.sms_centre_spec.proofs.forgetting.Ended.{Pair, conclude_alike, end_pair, pair_if, report_is}
 use Rattle.sms_centre_spec.proofs.forgetting.Follow.{OfReport, of_parts, of_reports}
@@ -121,6 +123,13 @@ module _ (goes : ℕ → Bool) where
   pub due_pair : (h : List ℕ) (s : Store) → Stays goes s → Pair goes (due_now h (store_without goes s)) (due_now h s)
   due_pair h s k =
       subst (λ (ls : List QueuedPart). Pair goes (all_due ls (store_without goes s)) (due_now h s)) (sym (waiting_look goes h s k)) (all_pair (waiting_in h s) s k (λ l a. waiting_stays h l s k a))
+
+  -- ---- of one message alone
+
+  pub message_pair : (m : MessageRow) (s : Store) → Stays goes s → Pair goes (message_due m (store_without goes s)) (message_due m s)
+  message_pair m s k =
+      subst (λ (ls : List QueuedPart). Pair goes (all_due (parts_among m.id ls) (store_without goes s)) (message_due m s)) (sym (waiting_look goes m.handset s k))
+      (all_pair (parts_among m.id (waiting_in m.handset s)) s k (λ l a. waiting_stays m.handset l s k (among_parts m.id l (waiting_in m.handset s) a)))
 
   -- ---- messages expire, and status reports are dropped
 

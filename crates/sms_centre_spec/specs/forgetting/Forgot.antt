@@ -6,7 +6,7 @@ use Rattle.sms_base.specs.declared.holder.Holder.TheVariants.{Part, Report, Entr
 use Rattle.sms_centre_rows.specs.declared.waiting.handset_link.HandsetLink.{HandsetLink}
 use Rattle.sms_centre_spec.specs.declared.rows.Rows.{Rows}
 use Rattle.sms_centre_spec.specs.declared.event.CentreEvent.{CentreEvent}
-use Rattle.sms_centre_spec.specs.declared.event.CentreEvent.TheVariants.{Submit, Query, Cancel, Bound, Unbound, DeliverAnswered, Frame, LinkUp, LinkDown, Tick}
+use Rattle.sms_centre_spec.specs.declared.event.CentreEvent.TheVariants.{Submit, Query, Cancel, Bound, Unbound, DeliverAnswered, Frame, LinkUp, LinkDown, Ordered, Tick}
 use Rattle.sms_centre_spec.specs.Numbers.{id_in}
 use Rattle.sms_centre_spec.specs.SoundCore.{IsSoundCore}
 use Rattle.sms_base.specs.Among.{Among}
@@ -83,6 +83,7 @@ AsksOther goes (DeliverAnswered session id b) = Unit {0}
 AsksOther goes (Frame handset octets tag) = Unit {0}
 AsksOther goes (LinkUp handset) = Unit {0}
 AsksOther goes (LinkDown handset) = Unit {0}
+AsksOther goes (Ordered order id) = goes id ≡ false
 AsksOther goes (Tick now) = Unit {0}
 
 -- the small centre is the large one without messages that may go; both are sound

@@ -17,9 +17,11 @@ fn copy_of_account(alloc: Global, account: &CentreAccount) -> Result<CentreAccou
     ensures { IfOk result (λ copy. copy ≡ account.now) }
 {
     let name = copy_of_octets(alloc, &account.name)?;
+    let sources = Vec::from_slice(alloc, account.sources.as_slice())?;
     Ok(CentreAccount {
         name,
         address: account.address,
+        sources: Listed::from_vec(sources),
     })
 }
 

@@ -26,6 +26,7 @@ use Rattle.sms_tpdu.specs.ValidityTable.{later}
 use Rattle.sms_intake.specs.declared.submission.CentreAccount.{CentreAccount}
 use Rattle.sms_intake.specs.declared.submission.Text.TheVariants.{Single, Whole}
 use Rattle.sms_intake.specs.PartBodies.{body_behind}
+use Rattle.sms_intake.specs.AllowedSources.{permitted}
 use Rattle.sms_intake.specs.SmppIntake.{address_in, are_below, are_whole, before, class_at, content_at, due_in, from_pdu, front_in, handset_named, has_header, has_sar_lengths, has_too_much, headed_text, header_read, header_size, is_ascii, is_empty, judged_in, limit_in, limited, octets_at, plain_text, sar_key, septets_at, single_behind, source_in, splits, text_at, text_in, text_of, ucs2_at, whole_of}
 
 -- the result is not that refusal
@@ -125,20 +126,21 @@ named_other : (o : Option Address) → IsOther (handset_named o)
 named_other None e = cc
 named_other (Some a) e = if_other (names_handset a) (Ok a.digits) (Err ESME_RINVDSTADR) e (λ q. cc q) (λ q. cc q)
 
-front_other : (own : Address) (m : Message) → IsOther (front_in own m)
+front_other : (account : CentreAccount) (m : Message) → IsOther (front_in account m)
 unfolding front_in
-front_other own m e =
+front_other account m e =
     then_other (only_if (m.esm_class / 4 % 16 == 0) ESME_RINVESMCLASS) _ e (only_other (m.esm_class / 4 % 16 == 0) ESME_RINVESMCLASS (λ q. cc q))
-    (λ kind e1. then_other (ok_or (source_in own m.source) ESME_RINVSRCADR) _ e1 (or_other (source_in own m.source) ESME_RINVSRCADR (λ q. cc q))
+    (λ kind e1. then_other (ok_or (permitted account (source_in account.address m.source)) ESME_RINVSRCADR) _ e1
+    (or_other (permitted account (source_in account.address m.source)) ESME_RINVSRCADR (λ q. cc q))
     (λ source e2. then_other (handset_named (address_in m.destination)) _ e2 (named_other (address_in m.destination))
     (λ handset e3. then_other (only_if (has_sar_lengths m.tlvs) ESME_RINVPARLEN) _ e3 (only_other (has_sar_lengths m.tlvs) ESME_RINVPARLEN (λ q. cc q))
     (λ lengths e4. then_other (only_if (not (has_too_much m)) ESME_ROPTPARNOTALLWD) _ e4 (only_other (not (has_too_much m)) ESME_ROPTPARNOTALLWD (λ q. cc q))
     (λ alone e5. cc e5)))))
 
-judged_other : (own : Address) (now : ℕ) (m : Message) → IsOther (judged_in own now m)
+judged_other : (account : CentreAccount) (now : ℕ) (m : Message) → IsOther (judged_in account now m)
 unfolding judged_in
-judged_other own now m e =
-    then_other (front_in own m) _ e (front_other own m)
+judged_other account now m e =
+    then_other (front_in account m) _ e (front_other account m)
     (λ front e1. then_other (text_in m) _ e1 (text_in_other m)
     (λ text e2. then_other (limit_in now m.validity_period) _ e2 (limit_other now m.validity_period)
     (λ limit e3. then_other (due_in now limit m.schedule_delivery_time) _ e3 (due_other now limit m.schedule_delivery_time)
@@ -146,4 +148,4 @@ judged_other own now m e =
 
 pub pdu_other : (account : CentreAccount) (now : ℕ) (m : Message) → IsOther (from_pdu account now m)
 unfolding from_pdu
-pdu_other account now m e = then_other (judged_in account.address now m) _ e (judged_other account.address now m) (λ judged e1. cc e1)
+pdu_other account now m e = then_other (judged_in account now m) _ e (judged_other account now m) (λ judged e1. cc e1)

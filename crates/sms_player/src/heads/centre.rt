@@ -1,5 +1,5 @@
 //! The setup of a head's centre.
-ghost use Rattle.std.specs.Prelude.{◌≡◌, ◌≤◌, length, IfOk, true};
+ghost use Rattle.std.specs.Prelude.{◌≡◌, ◌≤◌, [], length, IfOk, true};
 ghost use Rattle.sms_base.specs.Address.{IsAddress};
 ghost use Rattle.sms_base.specs.HandsetNumber.{own_address};
 ghost use Rattle.sms_centre_spec.specs.SoundRows.{IsSetup};
@@ -14,12 +14,13 @@ use std::alloc::{AllocError, Global};
 
 fn account_of(alloc: Global, account: &AccountSetup<'_>) -> Result<CentreAccount, AllocError>
     requires { length account.now.number ≤ 20 }
-    ensures { IfOk result (λ made. made ≡ record { name = account.now.name; address = own_address account.now.number }) }
+    ensures { IfOk result (λ made. made ≡ record { name = account.now.name; address = own_address account.now.number; sources = [] }) }
 {
     let name = Octets::copy_of(alloc, account.name.as_slice())?;
     Ok(CentreAccount {
         name,
         address: Address::of_handset(digits_of(account.number.as_slice())),
+        sources: Listed::new(alloc),
     })
 }
 

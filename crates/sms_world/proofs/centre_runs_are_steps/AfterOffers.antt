@@ -23,10 +23,11 @@ use Rattle.sms_centre_spec.specs.CentreEvent.{aged, at_moment, fired, follow, fr
 use Rattle.sms_centre_spec.specs.Draft.{Core, Draft, Store, core_of, draft_of, handsets_in, references_in, waiting_in}
 use Rattle.sms_centre_spec.specs.Held.{SoundHeld}
 use Rattle.sms_centre_spec.specs.Offering.{holder_of, offer_all, offer_among, offer_load, offer_to, read_of, unit_of}
+use Rattle.sms_centre_spec.specs.Orders.{ordered}
 use Rattle.sms_centre_spec.specs.Requests.{cancel, query, submit}
 use Rattle.sms_centre_spec.specs.Sessions.{bind, deliver_answered, unbind}
 use Rattle.sms_centre_spec.specs.declared.event.CentreEvent.{CentreEvent}
-use Rattle.sms_centre_spec.specs.declared.event.CentreEvent.TheVariants.{Submit, Query, Cancel, Bound, Unbound, DeliverAnswered, Frame, LinkUp, LinkDown, Tick}
+use Rattle.sms_centre_spec.specs.declared.event.CentreEvent.TheVariants.{Submit, Query, Cancel, Bound, Unbound, DeliverAnswered, Frame, LinkUp, LinkDown, Ordered, Tick}
 use Rattle.sms_world.specs.centre_runs_are_steps.Offered.{HasOffered, IsOffered}
 use Rattle.sms_world.specs.centre_runs_are_steps.OfferedLaws.{BackLaw, EventLaw, FirstLaw}
 use Rattle.sms_world.proofs.centre_runs_are_steps.LinesOf.{other_line, own_line}
@@ -145,6 +146,7 @@ follows (DeliverAnswered session id b) c = (deliver_answered session id b (draft
 follows (Frame handset octets tag) c = (frame_taken octets (tag_of tag) (line_of handset c.lines) (draft_of c), refl)
 follows (LinkUp handset) c = (raise handset (draft_of c), refl)
 follows (LinkDown handset) c = (lower handset (draft_of c), refl)
+follows (Ordered order id) c = (ordered order id (draft_of c), refl)
 follows (Tick now) c = (raised (fired (aged (at_moment now (draft_of c)))), refl)
 
 pub event_offered : EventLaw

@@ -1,10 +1,11 @@
 -- Each event of the centre, as steps.
 use Rattle.std.proofs.Common.{[], refl}
-use Rattle.sms_centre_spec.specs.declared.event.CentreEvent.TheVariants.{Bound, Cancel, DeliverAnswered, Frame, LinkDown, LinkUp, Query, Submit, Tick, Unbound}
+use Rattle.sms_centre_spec.specs.declared.event.CentreEvent.TheVariants.{Bound, Cancel, DeliverAnswered, Frame, LinkDown, LinkUp, Ordered, Query, Submit, Tick, Unbound}
+use Rattle.sms_centre_spec.specs.declared.order.Order.TheVariants.{Retry, Delete}
 use Rattle.sms_world_model.specs.ScriptRun.{Handed}
-use Rattle.sms_world.proofs.centres_refine_the_world.Cancelling.{cancel_event}
+use Rattle.sms_world.proofs.centres_refine_the_world.Cancelling.{cancel_event, delete_event}
 use Rattle.sms_world.proofs.centres_refine_the_world.Playing.{offers_follow}
-use Rattle.sms_world.proofs.centres_refine_the_world.QuietEvents.{down_event, up_event}
+use Rattle.sms_world.proofs.centres_refine_the_world.QuietEvents.{down_event, retry_event, up_event}
 use Rattle.sms_world.proofs.centres_refine_the_world.SessionsBound.{bound_event}
 use Rattle.sms_world.proofs.centres_refine_the_world.SessionsChange.{unbound_event}
 use Rattle.sms_world.proofs.centres_refine_the_world.Submits.{submit_event}
@@ -30,5 +31,9 @@ every_event number (LinkUp handset) c w sound k is may s =
     let x = up_event c.moment handset c w sound is s in (x.0, ((x.1.0, (offers_follow (Handed number) (λ y z. z) x.0 x.1.0).1), x.1.1, x.1.2))
 every_event number (LinkDown handset) c w sound k is may s =
     let x = down_event c.moment handset c w sound is s in (x.0, ((x.1.0, (offers_follow (Handed number) (λ y z. z) x.0 x.1.0).1), x.1.1, x.1.2))
+every_event number (Ordered Retry id) c w sound k is may s =
+    let x = retry_event c.moment id c w sound s in (x.0, ((x.1.0, (offers_follow (Handed number) (λ y z. z) x.0 x.1.0).1), x.1.1, x.1.2))
+every_event number (Ordered Delete id) c w sound k is may s =
+    let x = delete_event id c w sound s in (x.0, ((x.1.0, x.1.1), x.1.2, x.1.3))
 every_event number (Tick now) c w sound k is may s =
     let x = tick_event now c w sound is s in (x.0, ((x.1.0, x.1.1), x.1.2, x.1.3))

@@ -8,7 +8,8 @@ use Rattle.sms_centre_spec.specs.Draft.{Core, Draft, draft_of, rows_of}
 use Rattle.sms_centre_spec.specs.SoundCore.{IsSoundCore}
 use Rattle.sms_centre_spec.specs.SoundRows.{IsSound, first_rows}
 use Rattle.sms_centre_spec.specs.declared.event.CentreEvent.{CentreEvent}
-use Rattle.sms_centre_spec.specs.declared.event.CentreEvent.TheVariants.{Bound, Cancel, DeliverAnswered, Frame, LinkDown, LinkUp, Query, Submit, Tick, Unbound}
+use Rattle.sms_centre_spec.specs.declared.event.CentreEvent.TheVariants.{Bound, Cancel, DeliverAnswered, Frame, LinkDown, LinkUp, Ordered, Query, Submit, Tick, Unbound}
+use Rattle.sms_centre_spec.specs.declared.order.Order.TheVariants.{Retry, Delete}
 use Rattle.sms_centre_spec.specs.declared.rows.Rows.{Rows}
 use Rattle.sms_world.specs.centre_runs_are_steps.Offered.{HasOffered}
 use Rattle.sms_world.proofs.centre_runs_are_steps.AfterOffers.{back_offered, event_offered, first_offered}
@@ -42,6 +43,8 @@ stops number (DeliverAnswered session id is_accepted) m w steps is are centre ru
 stops number (Frame handset octets tag) m w steps is are centre run = centre_stopped_so w (Handed number) m steps are centre run
 stops number (LinkUp handset) m w steps is are centre run = absurd is
 stops number (LinkDown handset) m w steps is are centre run = absurd is
+stops number (Ordered Retry id) m w steps is are centre run = absurd is
+stops number (Ordered Delete id) m w steps is are centre run = centre_stopped_so w Cancelled m steps are centre run
 stops number (Tick now) m w steps is are centre run = centre_stopped_so w Tick_centre m steps are centre run
 
 -- ---- one episode

@@ -1,4 +1,4 @@
--- A cancel_sm: the message is deleted and that is told, or nothing but the answer comes of it.
+-- A cancel_sm, or an operator's order: the message is deleted and that is told, or nothing but the answer comes of it.
 use Rattle.std.proofs.Common.{◌≡◌, ℕ, [], ◌∷◌, true, false, refl, inl, inr, Option, Some, None}
 use Rattle.std.proofs.lemmas.Bool.{cond_both}
 use Rattle.sms_base.specs.declared.final_state.FinalState.TheVariants.{Deleted}
@@ -10,17 +10,19 @@ use Rattle.sms_centre_rows.specs.messages.Messages.{ended, is_pending, message_a
 use Rattle.sms_centre_rows.specs.declared.messages.message.MessageRow.{MessageRow}
 use Rattle.sms_centre_spec.proofs.SoundEvents.{event_after}
 use Rattle.sms_centre_spec.proofs.SoundStores.{SoundStore}
-use Rattle.sms_centre_spec.proofs.Steady.{to_cancel_there}
+use Rattle.sms_centre_spec.proofs.Steady.{message_own, to_cancel_there}
 use Rattle.sms_centre_spec.specs.Draft.{Draft, answer_with, draft_of, in_store, messages_in, with_message}
 use Rattle.sms_centre_spec.specs.Ends.{end as end_message}
 use Rattle.sms_centre_spec.specs.Requests.{account_at, cancel, cancel_by, cancelled, refused, to_cancel}
 use Rattle.sms_centre_spec.specs.declared.answer.CentreAnswer.{CentreAnswer}
 use Rattle.sms_centre_spec.specs.declared.answer.CentreAnswer.TheVariants.{Cancelled as CancelledAnswer}
-use Rattle.sms_centre_spec.specs.declared.event.CentreEvent.TheVariants.{Cancel}
+use Rattle.sms_centre_spec.specs.declared.event.CentreEvent.TheVariants.{Cancel, Ordered}
+use Rattle.sms_centre_spec.specs.declared.order.Order.TheVariants.{Delete as OrderDelete}
+use Rattle.sms_centre_spec.specs.Orders.{ordered}
 use Rattle.sms_world_model.specs.WorldStep.{end, Delete}
 use Rattle.sms_world_model.specs.ScriptRun.{Cancelled, items}
 use Rattle.sms_world_model.specs.World.{Final, World, changed}
-use Rattle.sms_world.specs.centres_refine_the_world.CentreLaws.{CancelLaw}
+use Rattle.sms_world.specs.centres_refine_the_world.CentreLaws.{CancelLaw, DeleteLaw}
 use Rattle.sms_world.specs.centres_refine_the_world.CentreRefinement.{CentreRefines, StoreRefines}
 use Rattle.sms_world.proofs.centres_refine_the_world.Ending.{can_end, end_is_reached, ended_refines, pending_in_world}
 use Rattle.sms_world.proofs.centres_refine_the_world.Playing.{Acts, acts_lead, answer_refines, store_is_reached, agrees_follow}
@@ -83,3 +85,11 @@ cancel_event account q c w sound s =
     let d : Draft = draft_of c in
     acts_lead Cancelled (λ x k. k) c.moment w (cancel account q d) (cancel_acts (account_at account c.rows.setup.accounts) q w d (start c sound) s)
     (event_after (Cancel account q) c sound tt tt).store.0
+
+-- an operator's order is of whatever message has that number
+pub delete_event : DeleteLaw
+delete_event id c w sound s =
+    let d : Draft = draft_of c in
+    acts_lead Cancelled (λ x k. k) c.moment w (ordered OrderDelete id d)
+    (cancelled_acts (message_at id (messages_in d.store)) w d (start c sound) s (λ m e. message_own id m d.store e))
+    (event_after (Ordered OrderDelete id) c sound tt tt).store.0

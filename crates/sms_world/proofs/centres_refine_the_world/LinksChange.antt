@@ -59,7 +59,7 @@ module _ (w : World) where
       cond_both (l.number == 0) (report_due (report_of l.id (reports_in s)) s) (part_due (part_at l.id l.number (parts_in s)) s) (Both w)
       (λ t. report_due_both l.id (report_of l.id (reports_in s)) s k refl) (λ t. part_due_both (pair_key l.id l.number) (part_at l.id l.number (parts_in s)) s k refl)
 
-  all_due_both : (ls : List QueuedPart) (s : Store) → Both w s → Both w (all_due ls s)
+  pub all_due_both : (ls : List QueuedPart) (s : Store) → Both w s → Both w (all_due ls s)
   all_due_both [] s k = k
   all_due_both (l ∷ ls) s k = all_due_both ls (load_due l s) (load_due_both l s k)
 

@@ -1,5 +1,5 @@
 -- What a submit_sm of a script reads as, in the script's own words; and that what is read as a DELIVER was written so.
-use Rattle.std.proofs.Common.{◌≡◌, ℕ, zero, suc, ◌+◌, List, [], ◌∷◌, ◌++◌, Bool, true, false, refl, sym, ◌∙◌, ap, inl, inr, Option, Some, None, Result, Ok, Err}
+use Rattle.std.proofs.Common.{◌≡◌, ℕ, zero, suc, ◌+◌, List, [], ◌∷◌, ◌++◌, Bool, true, false, cond, refl, sym, ◌∙◌, ap, inl, inr, Option, Some, None, Result, Ok, Err}
 use Rattle.std.specs.Option.{ok_or}
 use Rattle.std.proofs.lemmas.Bool.{cond_both}
 use Rattle.sms_base.specs.Address.{address_of}
@@ -16,6 +16,7 @@ use Rattle.smpp_pdu.specs.declared.status.CommandStatus.{CommandStatus}
 use Rattle.smpp_pdu.specs.declared.status.CommandStatus.TheVariants.{ESME_RINVDSTADR, ESME_RINVESMCLASS, ESME_RINVPARLEN, ESME_RINVSRCADR, ESME_ROPTPARNOTALLWD}
 use Rattle.std.specs.Prelude.{◌/◌, ◌%◌, ◌==◌, not}
 use Rattle.sms_intake.specs.PartBodies.{deliver_octets, deliver_of, deliver_written, is_wish}
+use Rattle.sms_intake.specs.AllowedSources.{allows, permitted}
 use Rattle.sms_intake.specs.SmppIntake.{address_in, address_or_none, due_in, from_pdu, front_in, handset_named, has_sar_lengths, has_too_much, judged_in, limit_in, source_in, submission_for}
 use Rattle.sms_intake.specs.SmppText.{is_ascii, text_in, wish_in}
 use Rattle.sms_intake.specs.declared.smpp_front.Front.{Front}
@@ -54,7 +55,7 @@ pub account_of : (place : ℕ) (accounts : List AccountSetup) (a : CentreAccount
     → (x : AccountSetup) × (Among x accounts × (a.name ≡ x.name) × (a.address ≡ own_address x.number))
 account_of place [] a e = absurd cc
 account_of zero (x ∷ accounts) a e =
-    let made : CentreAccount = record { name = x.name; address = own_address x.number } in
+    let made : CentreAccount = record { name = x.name; address = own_address x.number; sources = [] } in
     let same : made ≡ a = cc in
     (x, (inl refl, ap (λ (z : CentreAccount). z.name) (sym same), ap (λ (z : CentreAccount). z.address) (sym same)))
 account_of (suc place) (x ∷ accounts) a e =
@@ -94,17 +95,26 @@ record IsFront (own : Address) (m : Pdu) (f : Front) : Type 0 where
   source : ok_or (source_in own m.source) ESME_RINVSRCADR ≡ Ok f.source
   handset : handset_named (address_in m.destination) ≡ Ok f.handset
 
-front_is : (own : Address) (m : Pdu) (f : Front) → front_in own m ≡ Ok f → IsFront own m f
+-- a source that is permitted is the one that was given
+was_given : (account : CentreAccount) (o : Option Address) (x : Address) → ok_or (permitted account o) ESME_RINVSRCADR ≡ Ok x → ok_or o ESME_RINVSRCADR ≡ Ok x
+was_given account None x e = e
+was_given account (Some source) x e = by_test (allows account source) e where
+  by_test : (b : Bool) → ok_or (cond b (Some source) None) ESME_RINVSRCADR ≡ Ok x → ok_or (Some source) ESME_RINVSRCADR ≡ Ok x
+  by_test true f = f
+  by_test false f = absurd cc
+
+front_is : (account : CentreAccount) (m : Pdu) (f : Front) → front_in account m ≡ Ok f → IsFront account.address m f
 unfolding front_in
-front_is own m f e =
+front_is account m f e =
+    let own = account.address in
     let kind = bind_ok (only_if (m.esm_class / 4 % 16 == 0) ESME_RINVESMCLASS) _ f e in
-    let source = bind_ok (ok_or (source_in own m.source) ESME_RINVSRCADR) _ f kind.2 in
+    let source = bind_ok (ok_or (permitted account (source_in own m.source)) ESME_RINVSRCADR) _ f kind.2 in
     let handset = bind_ok (handset_named (address_in m.destination)) _ f source.2 in
     let lengths = bind_ok (only_if (has_sar_lengths m.tlvs) ESME_RINVPARLEN) _ f handset.2 in
     let alone = bind_ok (only_if (not (has_too_much m)) ESME_ROPTPARNOTALLWD) _ f lengths.2 in
     let same = ok_is {E = CommandStatus} _ f alone.2 in
     record {
-      source = source.1 ∙ ap (λ (z : Front). let r : Result Address CommandStatus = Ok z.source in r) same;
+      source = was_given account (source_in own m.source) source.0 source.1 ∙ ap (λ (z : Front). let r : Result Address CommandStatus = Ok z.source in r) same;
       handset = handset.1 ∙ ap (λ (z : Front). let r : Result (List ℕ) CommandStatus = Ok z.handset in r) same;
     }
 
@@ -122,15 +132,15 @@ record IsReadOf (account : CentreAccount) (m : Pdu) (u : Submission) : Type 0 wh
 read_of : (account : CentreAccount) (now : ℕ) (m : Pdu) (u : Submission) → from_pdu account now m ≡ Ok u → IsReadOf account m u
 unfolding from_pdu judged_in
 read_of account now m u e =
-    let judged = bind_ok (judged_in account.address now m) _ u e in
-    let front = bind_ok (front_in account.address m) _ judged.0 judged.1 in
+    let judged = bind_ok (judged_in account now m) _ u e in
+    let front = bind_ok (front_in account m) _ judged.0 judged.1 in
     let text = bind_ok (text_in m) _ judged.0 front.2 in
     let limit = bind_ok (limit_in now m.validity_period) _ judged.0 text.2 in
     let due = bind_ok (due_in now limit.0 m.schedule_delivery_time) _ judged.0 limit.2 in
     let same = ap (λ j. submission_for account m j) (ok_is {E = CommandStatus} _ judged.0 due.2) ∙ ok_is {E = CommandStatus} _ u judged.2 in
     record {
       front = front.0;
-      is_front = front_is account.address m front.0 front.1;
+      is_front = front_is account m front.0 front.1;
       source = ap (λ (z : Submission). z.source) (sym same);
       handset = ap (λ (z : Submission). z.handset) (sym same);
       protocol_identifier = ap (λ (z : Submission). z.protocol_identifier) (sym same);

@@ -82,7 +82,7 @@ account_named p name accounts a e at =
 originator_of : (account : CentreAccount) (now : ℕ) (m : Pdu) (u : Submission) → from_pdu account now m ≡ Ok u → u.originator ≡ Application account.name
 unfolding from_pdu
 originator_of account now m u e =
-    let judged = bind_ok (judged_in account.address now m) _ u e in
+    let judged = bind_ok (judged_in account now m) _ u e in
     ap (λ (z : Submission). z.originator) (sym (ok_is {E = CommandStatus} (submission_for account m judged.0) u judged.2))
 
 -- an application's submission made it, which its event does

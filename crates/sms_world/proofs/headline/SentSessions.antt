@@ -45,6 +45,9 @@ use Rattle.sms_centre_spec.specs.Ends.{end}
 use Rattle.sms_centre_spec.specs.MessageNumbers.{next_number}
 use Rattle.sms_centre_spec.specs.Numbers.{id_in}
 use Rattle.sms_centre_spec.specs.Receiving.{is_duplicate, refuse, submit_accepted, submit_received as submission_from, unit_received}
+use Rattle.sms_centre_spec.specs.declared.order.Order.{Order}
+use Rattle.sms_centre_spec.specs.declared.order.Order.TheVariants.{Retry, Delete}
+use Rattle.sms_centre_spec.specs.Orders.{ordered, retried}
 use Rattle.sms_centre_spec.specs.Requests.{account_at, accepted, cancel_by, cancelled, message_numbered, own_message, queried, query_by, refused, submission_received, submit_by, to_cancel}
 use Rattle.sms_centre_spec.specs.Sessions.{answered_by, bind, bound_as, receipt_answered, session_of, unbind, unbound_from}
 use Rattle.sms_centre_spec.specs.Shares.{unless_too_much}
@@ -52,7 +55,7 @@ use Rattle.sms_centre_spec.specs.SoundCore.{IsSoundCore}
 use Rattle.sms_centre_spec.specs.Submitting.{accept, is_reference_taken}
 use Rattle.sms_centre_spec.specs.declared.answer.CentreAnswer.TheVariants.{Cancelled}
 use Rattle.sms_centre_spec.specs.declared.event.CentreEvent.{CentreEvent}
-use Rattle.sms_centre_spec.specs.declared.event.CentreEvent.TheVariants.{Submit, Query, Cancel, Bound, Unbound, DeliverAnswered, Frame, LinkUp, LinkDown, Tick}
+use Rattle.sms_centre_spec.specs.declared.event.CentreEvent.TheVariants.{Submit, Query, Cancel, Bound, Unbound, DeliverAnswered, Frame, LinkUp, LinkDown, Ordered, Tick}
 
 -- ---- sending
 
@@ -288,6 +291,14 @@ cancel_by_waits (Some a) q d k =
     let m : Option MessageRow = to_cancel a q (messages_in d.store) in
     cond_both (is_empty q.message_id) (refused ESME_RCANCELFAIL d) (cancelled m d) (λ (e : Draft). Waits e) (λ t. k) (λ t. cancelled_waits m d k)
 
+retried_waits : (m : Option MessageRow) (d : Draft) → Waits d → Waits (retried m d)
+retried_waits None d k = k
+retried_waits (Some m) d k = k
+
+ordered_waits : (order : Order) (id : ℕ) (d : Draft) → Waits d → Waits (ordered order id d)
+ordered_waits Retry id d k = retried_waits (message_at id (messages_in d.store)) d k
+ordered_waits Delete id d k = cancelled_waits (message_at id (messages_in d.store)) d k
+
 -- ---- every event
 
 -- what a draft sends at its end
@@ -319,4 +330,5 @@ goes_to (Frame handset octets tag) c s x i =
     sends_so (frame_taken octets (tag_of tag) l (draft_of c)) (frame_taken_waits octets (tag_of tag) l (draft_of c) (begins_quiet c s)) x i
 goes_to (LinkUp handset) c s x i = sends_so (raise handset (draft_of c)) (begins_quiet c s) x i
 goes_to (LinkDown handset) c s x i = sends_so (lower handset (draft_of c)) (lower_waits handset (draft_of c) (begins_quiet c s)) x i
+goes_to (Ordered order id) c s x i = sends_so (ordered order id (draft_of c)) (ordered_waits order id (draft_of c) (begins_quiet c s)) x i
 goes_to (Tick now) c s x i = sends_so (raised (fired (aged (at_moment now (draft_of c))))) (ticked_waits now (draft_of c) (begins_quiet c s)) x i

@@ -137,7 +137,7 @@ accepted_leaves account n u (Some s) d its k id e =
 of_account : (account : CentreAccount) (now : ℕ) (m : Message) (u : Submission) → from_pdu account now m ≡ Ok u → u.originator ≡ Application account.name
 unfolding from_pdu
 of_account account now m u e =
-    let judged = bind_ok (judged_in account.address now m) _ u e in
+    let judged = bind_ok (judged_in account now m) _ u e in
     ap (λ (x : Submission). x.originator) (sym (ok_is {E = CommandStatus} (submission_for account m judged.0) u judged.2))
 
 arrived_leaves : (account : CentreAccount) (r : Result Submission CommandStatus) (d : Draft) → ((u : Submission) → r ≡ Ok u → u.originator ≡ Application account.name)

@@ -21,7 +21,7 @@ use Rattle.smpp_pdu.specs.declared.query.QuerySm.{QuerySm}
 use Rattle.smpp_pdu.specs.declared.status.CommandStatus.{CommandStatus}
 use Rattle.sms_centre_rows.specs.declared.messages.message.MessageRow.{MessageRow}
 use Rattle.sms_centre_rows.specs.declared.messages.part.PartRow.{PartRow}
-use Rattle.sms_centre_rows.specs.messages.Messages.{is_pending, part_at}
+use Rattle.sms_centre_rows.specs.messages.Messages.{is_pending, message_at, part_at}
 use Rattle.sms_centre_rows.specs.messages.SplitReferences.{is_among, next_split}
 use Rattle.sms_centre_rows.specs.declared.reports.report.ReportRow.{ReportRow}
 use Rattle.sms_centre_rows.specs.reports.Receipts.{Session, session_key}
@@ -46,13 +46,16 @@ use Rattle.sms_centre_spec.specs.MessageNumbers.{next_number}
 use Rattle.sms_centre_spec.specs.Ends.{end}
 use Rattle.sms_centre_spec.specs.Numbers.{id_in}
 use Rattle.sms_centre_spec.specs.Receiving.{all_due, is_duplicate, load_due, part_due, report_due, submit_accepted, submit_received, unit_received}
+use Rattle.sms_centre_spec.specs.declared.order.Order.{Order}
+use Rattle.sms_centre_spec.specs.declared.order.Order.TheVariants.{Retry, Delete}
+use Rattle.sms_centre_spec.specs.Orders.{ordered, parts_among, retried}
 use Rattle.sms_centre_spec.specs.Requests.{account_at, accepted, cancel_by, cancelled, message_numbered, own_message, queried, query_by, submission_received, submit_by, to_cancel}
 use Rattle.sms_centre_spec.specs.Sessions.{answered_by, bound_as, due_for, unbind, unbound_from}
 use Rattle.sms_centre_spec.specs.Shares.{unless_too_much}
 use Rattle.sms_centre_spec.specs.Submitting.{accept, accept_as, accept_split, accept_under, enter, give_part, give_parts, is_reference_taken, part_given, reference_for}
 use Rattle.sms_centre_spec.specs.Transfers.{report_closed}
 use Rattle.sms_centre_spec.specs.declared.event.CentreEvent.{CentreEvent}
-use Rattle.sms_centre_spec.specs.declared.event.CentreEvent.TheVariants.{Submit, Query, Cancel, Bound, Unbound, DeliverAnswered, Frame, LinkUp, LinkDown, Tick}
+use Rattle.sms_centre_spec.specs.declared.event.CentreEvent.TheVariants.{Submit, Query, Cancel, Bound, Unbound, DeliverAnswered, Frame, LinkUp, LinkDown, Ordered, Tick}
 use Rattle.sms_centre_spec.proofs.Stages.{IfThere, unless_kept}
 use Rattle.sms_centre_spec.proofs.AcceptedConsistent.{then_there}
 use Rattle.sms_centre_draft.proofs.walks.MomentStays.{conclude_moment, end_moment}
@@ -145,6 +148,16 @@ module _ (k : ℕ) where
       all_due_stays ls (load_due l s)
       (cond_both (l.number == 0) (report_due (report_of l.id (reports_in s)) s) (part_due (part_at l.id l.number (parts_in s)) s) (λ (x : Store). At x)
       (λ t. report_due_stays (report_of l.id (reports_in s)) s e) (λ t. part_due_stays (part_at l.id l.number (parts_in s)) s e))
+
+  -- ---- orders
+
+  retried_stays : (o : Option MessageRow) (d : Draft) → AtDraft d → AtDraft (retried o d)
+  retried_stays None d e = e
+  retried_stays (Some m) d e = all_due_stays (parts_among m.id (waiting_in m.handset d.store)) d.store e
+
+  ordered_stays : (order : Order) (id : ℕ) (d : Draft) → AtDraft d → AtDraft (ordered order id d)
+  ordered_stays Retry id d e = retried_stays (message_at id (messages_in d.store)) d e
+  ordered_stays Delete id d e = cancelled_stays (message_at id (messages_in d.store)) d e
 
   -- ---- frames
 
@@ -269,4 +282,5 @@ event_moment (DeliverAnswered session id b) c = answered_stays c.moment id b (ro
 event_moment (Frame handset octets tag) c = frame_stays c.moment octets (tag_of tag) (line_of handset c.lines) (draft_of c) refl
 event_moment (LinkUp handset) c = raise_stays c.moment handset (draft_of c) refl
 event_moment (LinkDown handset) c = lower_stays c.moment handset (draft_of c) refl
+event_moment (Ordered order id) c = ordered_stays c.moment order id (draft_of c) refl
 event_moment (Tick now) c = tick_stays (moment_at (Tick now) c) (at_moment now (draft_of c)) refl

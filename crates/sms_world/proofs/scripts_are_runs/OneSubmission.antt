@@ -2,7 +2,8 @@
 use Rattle.std.proofs.Common.{◌≡◌, ℕ, List, [], ◌∷◌, ◌++◌, sym, subst, inl, inr, ⊎_elim}
 use Rattle.sms_base.specs.Among.{Among}
 use Rattle.sms_centre_spec.specs.declared.event.CentreEvent.{CentreEvent}
-use Rattle.sms_centre_spec.specs.declared.event.CentreEvent.TheVariants.{Bound, Cancel, DeliverAnswered, Frame as FrameCame, LinkDown, LinkUp, Query, Submit as SubmitCame, Tick, Unbound}
+use Rattle.sms_centre_spec.specs.declared.event.CentreEvent.TheVariants.{Bound, Cancel, DeliverAnswered, Frame as FrameCame, LinkDown, LinkUp, Ordered, Query, Submit as SubmitCame, Tick, Unbound}
+use Rattle.sms_centre_spec.specs.declared.order.Order.TheVariants.{Retry, Delete as OrderDelete}
 use Rattle.sms_world_model.specs.References.{Ticket}
 use Rattle.sms_world_model.specs.ScriptRun.{AllControl, AllMayFollow, AllWrite, Asked, Cancelled, Event, Follows, Handed, IsControl, IsExpiry, IsInOrder, IsOwn, IsPlayed, MayFollow, Reads, Removed, Restarted, Submitted, Tick_centre, Tick_handset, Wrote}
 use Rattle.sms_world_model.specs.Submission.{Submission}
@@ -123,4 +124,6 @@ event_once number (DeliverAnswered session id is_accepted) w steps a = nothing_o
 event_once number (FrameCame handset octets tag) w steps a = played_once w (Handed number) steps a
 event_once number (LinkUp handset) w steps a = none_one steps (offers_none steps a)
 event_once number (LinkDown handset) w steps a = none_one steps (offers_none steps a)
+event_once number (Ordered Retry id) w steps a = none_one steps (offers_none steps a)
+event_once number (Ordered OrderDelete id) w steps a = played_once w Cancelled steps a
 event_once number (Tick now) w steps a = played_once w Tick_centre steps a

@@ -64,8 +64,8 @@ text_is m t e =
 pub pdu_is : (account : CentreAccount) (now : ℕ) (m : Message) (u : Submission) → from_pdu account now m ≡ Ok u → IsText u.text
 unfolding from_pdu judged_in
 pdu_is account now m u e =
-    let judged = bind_ok (judged_in account.address now m) _ u e in
-    let front = bind_ok (front_in account.address m) _ judged.0 judged.1 in
+    let judged = bind_ok (judged_in account now m) _ u e in
+    let front = bind_ok (front_in account m) _ judged.0 judged.1 in
     let text = bind_ok (text_in m) _ judged.0 front.2 in
     let limit = bind_ok (limit_in now m.validity_period) _ judged.0 text.2 in
     let due = bind_ok (due_in now limit.0 m.schedule_delivery_time) _ judged.0 limit.2 in

@@ -60,7 +60,7 @@ named : IsNamedBy name id_one (holding from_application) from_application
 unfolding everything
 named = record {
   place = 0;
-  account = record { name = name; address = own_address source };
+  account = record { name = name; address = own_address source; sources = [] };
   named = refl;
   its = refl;
   number = 1;

@@ -10,7 +10,8 @@ use Rattle.sms_centre_spec.specs.Draft.{Core, core_of, draft_of, rows_of}
 use Rattle.sms_centre_spec.specs.SoundCore.{AreDifferent, IsEvent, IsSession, IsSoundCore}
 use Rattle.sms_centre_spec.specs.SoundRows.{IsSetup, first_rows}
 use Rattle.sms_centre_spec.specs.declared.event.CentreEvent.{CentreEvent}
-use Rattle.sms_centre_spec.specs.declared.event.CentreEvent.TheVariants.{Bound, Cancel, DeliverAnswered, Frame, LinkDown, LinkUp, Query, Submit, Tick, Unbound}
+use Rattle.sms_centre_spec.specs.declared.event.CentreEvent.TheVariants.{Bound, Cancel, DeliverAnswered, Frame, LinkDown, LinkUp, Ordered, Query, Submit, Tick, Unbound}
+use Rattle.sms_centre_spec.specs.declared.order.Order.TheVariants.{Retry, Delete}
 use Rattle.sms_centre_spec.specs.declared.rows.Rows.{Rows}
 use Rattle.sms_centre_spec.specs.declared.setup.Setup.{Setup}
 use Rattle.sms_world.specs.centre_runs_are_steps.Offered.{HasOffered}
@@ -39,7 +40,7 @@ lead (Stopped number event handsets sessions) c = recovered (rows_of (happened e
 lead (Restart handsets sessions) c = recovered c.rows handsets sessions
 lead (Others handset moment stopped steps) c = c
 
--- the events that scripts have
+-- the events that scripts have, and the order that does what one of them does
 abbrev pub IsScripted : CentreEvent → Type 0
 IsScripted (Submit account message) = Unit {0}
 IsScripted (Query account wanted) = Unit {0}
@@ -50,6 +51,8 @@ IsScripted (DeliverAnswered session id is_accepted) = ⊥
 IsScripted (Frame handset octets tag) = Unit {0}
 IsScripted (LinkUp handset) = ⊥
 IsScripted (LinkDown handset) = ⊥
+IsScripted (Ordered Retry id) = ⊥
+IsScripted (Ordered Delete id) = Unit {0}
 IsScripted (Tick now) = Unit {0}
 
 -- handsets with numbers, no two the same, and sessions in the order of their numbers in which only receipts of these rows were sent

@@ -4,7 +4,8 @@ use Rattle.std.specs.Prelude.{◌≡◌, ℕ, max, List, [], ◌∷◌, Bool, So
 use Rattle.sms_centre_spec.specs.CentreEvent.{happened, recovered, started}
 use Rattle.sms_centre_spec.specs.SoundCore.{IsSoundCore}
 use Rattle.sms_centre_spec.specs.declared.event.CentreEvent.{CentreEvent}
-use Rattle.sms_centre_spec.specs.declared.event.CentreEvent.TheVariants.{Bound, Cancel, DeliverAnswered, LinkDown, LinkUp, Query, Submit, Tick, Unbound}
+use Rattle.sms_centre_spec.specs.declared.event.CentreEvent.TheVariants.{Bound, Cancel, DeliverAnswered, LinkDown, LinkUp, Ordered, Query, Submit, Tick, Unbound}
+use Rattle.sms_centre_spec.specs.declared.order.Order.TheVariants.{Retry, Delete}
 use Rattle.smpp_pdu.specs.declared.cancel.CancelSm.{CancelSm}
 use Rattle.smpp_pdu.specs.declared.message.Message.{Message}
 use Rattle.smpp_pdu.specs.declared.query.QuerySm.{QuerySm}
@@ -100,6 +101,10 @@ abbrev pub LinkDownLaw : Type 0
 LinkDownLaw =
     (m : ℕ) (handset : List ℕ) (c : Core) (w : World) → IsSoundCore c → IsNumber handset → CentreRefines w (draft_of c) w → OffersOnly m (LinkDown handset) c w
 
+-- an operator makes what waits of a message due
+abbrev pub RetryLaw : Type 0
+RetryLaw = (m : ℕ) (id : ℕ) (c : Core) (w : World) → IsSoundCore c → CentreRefines w (draft_of c) w → OffersOnly m (Ordered Retry id) c w
+
 -- a session is bound
 abbrev pub BoundLaw : Type 0
 BoundLaw =
@@ -135,6 +140,10 @@ abbrev pub CancelLaw : Type 0
 CancelLaw =
     (account : ℕ) (wanted : CancelSm) (c : Core) (w : World) → IsSoundCore c → CentreRefines w (draft_of c) w
     → LeadsOn c.moment Cancelled (Cancel account wanted) c w
+
+-- an operator deletes a message
+abbrev pub DeleteLaw : Type 0
+DeleteLaw = (id : ℕ) (c : Core) (w : World) → IsSoundCore c → CentreRefines w (draft_of c) w → LeadsOn c.moment Cancelled (Ordered Delete id) c w
 
 -- its timers are looked at, and time never turns back
 abbrev pub TickLaw : Type 0

@@ -1,12 +1,18 @@
 -- Accounts in TOML: a table `[[account]]` for each, in order.
-use Rattle.std.specs.Prelude.{◌≡◌, ◌≢◌, ◌<◌, ◌≤◌, ◌||◌, ◌&&◌, ℕ, zero, suc, pos, Bool, true, false, List, [], ◌∷◌, ◌++◌, length, Option, Some, None, Ok, IsAscii, option_and_then, bytes_eq, codes}
+use Rattle.std.specs.Prelude.{◌≡◌, ◌≢◌, ◌==◌, ⊤, is_ok, if◌then◌else◌, ◌<◌, ◌≤◌, ◌||◌, ◌&&◌, ℕ, zero, suc, pos, Bool, true, false, List, [], ◌∷◌, ◌++◌, length, Option, Some, None, Ok, IsAscii, option_and_then, bytes_eq, codes}
 use Rattle.std.specs.List.{AllByRecursion}
+use Rattle.std.specs.Str.{chars}
 use Rattle.hex.specs.Hex.{decode_sized}
+use Rattle.sms_base.specs.Address.{address_of}
+use Rattle.toml.specs.View.{items_view}
 use Rattle.toml.specs.Data.{Data, Items, no_items, item, Members, no_members, member, as_array, as_bool, as_integer, as_str, as_table, get_member}
 use Rattle.smsc_cli.specs.words.Accounts.{IsName, IsPassword, most_accounts, usual_sessions}
+use Rattle.smsc_cli.specs.words.Secrets.{is_number_text}
 use Rattle.smsc_cli.specs.words.SimWords.{Gives, SpellsNumber}
 use Rattle.smsc_cli.specs.declared.words.account_tables.PasswordWords.{PasswordWords}
 use Rattle.smsc_cli.specs.declared.words.account_tables.PasswordWords.TheVariants.{Plain, Salted}
+use Rattle.smsc_cli.specs.declared.words.account_tables.SourceWords.{SourceWords}
+use Rattle.smsc_cli.specs.declared.words.account_tables.SourceWords.TheVariants.{Number, Prefix, Name}
 use Rattle.smsc_cli.specs.declared.words.account_tables.TableAccount.{TableAccount}
 
 -- ---- keys
@@ -17,7 +23,8 @@ is_password_key key = (bytes_eq key (codes "password") || bytes_eq key (codes "s
 
 -- the keys of what is allowed
 abbrev pub is_limit_key : List ℕ → Bool
-is_limit_key key = (bytes_eq key (codes "sessions") || bytes_eq key (codes "rate")) || bytes_eq key (codes "suspended")
+is_limit_key key =
+    (bytes_eq key (codes "sessions") || bytes_eq key (codes "rate")) || (bytes_eq key (codes "suspended") || bytes_eq key (codes "sources"))
 
 -- the keys that an account may have
 abbrev pub is_account_key : List ℕ → Bool
@@ -40,6 +47,25 @@ abbrev pub text_at : List ℕ → Members → Option (List ℕ)
 text_at key table = option_and_then as_str (get_member key table)
 
 -- ---- values
+
+-- the text without an asterisk at its end, and whether it has one
+unfoldable pub unstarred : List ℕ → List ℕ
+unstarred [] = []
+unstarred (c ∷ []) = if c == 42 then [] else c ∷ []
+unstarred (c ∷ d ∷ ds) = c ∷ unstarred (d ∷ ds)
+
+unfoldable pub ends_starred : List ℕ → Bool
+ends_starred [] = false
+ends_starred (c ∷ []) = c == 42
+ends_starred (c ∷ d ∷ ds) = ends_starred (d ∷ ds)
+
+-- digits and an asterisk
+abbrev pub is_prefix : List ℕ → Bool
+is_prefix text = ends_starred text && is_number_text (unstarred text)
+
+-- a name as the originator of a message has it (3GPP TS 23.040 9.1.2.5)
+abbrev pub is_name_text : List ℕ → Bool
+is_name_text text = is_ok (address_of 5 0 (chars text))
 
 -- the text is a name, or a password
 abbrev pub SpellsName : List ℕ → List ℕ → Type 0
@@ -92,6 +118,25 @@ abbrev pub SaysSuspended : Option Data → Bool → Type 0
 SaysSuspended None suspended = suspended ≡ false
 SaysSuspended (Some value) suspended = as_bool value ≡ Some suspended
 
+-- A source that an account may give: a number of 1 to 20 digits 0 to 9, such a number and an asterisk, or a name that an address may have.
+abbrev pub is_source : List ℕ → Bool
+is_source text = (is_number_text text || is_prefix text) || is_name_text text
+
+-- which of them it is
+abbrev pub SpellsSource : List ℕ → SourceWords → Type 0
+SpellsSource text (Number digits) = (digits.now ≡ text) × (is_number_text text ≡ true)
+SpellsSource text (Prefix digits) = (is_number_text text ≡ false) × (is_prefix text ≡ true) × (digits.now ≡ unstarred text)
+SpellsSource text (Name name) = (is_number_text text ≡ false) × (is_prefix text ≡ false) × (name.now ≡ text) × (is_name_text text ≡ true)
+
+abbrev pub AreSources : Items → Type 0
+AreSources no_items = ⊤
+AreSources (item value values) = ((text : List ℕ) × (as_str value ≡ Some text) × (is_source text ≡ true)) × AreSources values
+
+-- the sources that an account may give, one at least: any where it does not say
+abbrev pub SaysSources : Option Data → Items → Type 0
+SaysSources None sources = sources ≡ no_items
+SaysSources (Some value) sources = (as_array value ≡ Some sources) × (sources ≢ no_items) × AreSources sources
+
 -- The table has a name, a password and a number, and perhaps what is allowed. It has no other key.
 pub record SpellsTable (table : Members) (account : TableAccount) : Type 0 where
   pub known : are_account_keys table ≡ true
@@ -101,6 +146,7 @@ pub record SpellsTable (table : Members) (account : TableAccount) : Type 0 where
   pub sessions : SaysSessions (get_member (codes "sessions") table) account.sessions
   pub rate : SaysRate (get_member (codes "rate") table) account.rate
   pub suspended : SaysSuspended (get_member (codes "suspended") table) account.is_suspended
+  pub sources : SaysSources (get_member (codes "sources") table) (items_view account.sources.now)
 
 -- the value is a table of an account
 abbrev pub SpellsValue : Data → TableAccount → Type 0

@@ -13,7 +13,7 @@ use Rattle.smsc_cli.specs.declared.words.detail.LogDetail.{LogDetail}
 use Rattle.smsc_cli.specs.declared.words.server.Options.{Options}
 use Rattle.smsc_cli.specs.declared.words.server.ServerRun.{ServerRun}
 use Rattle.smsc_cli.specs.declared.words.server.ServerWords.{ServerWords}
-use Rattle.smsc_cli.specs.declared.words.server.ServerWords.TheVariants.{Run, Show, Save, Stop, End, Password}
+use Rattle.smsc_cli.specs.declared.words.server.ServerWords.TheVariants.{Run, Show, Save, Stop, End, Reload, Password}
 
 -- words that are arguments themselves, as many as there are
 abbrev pub listed_words : List ℕ → Rule
@@ -57,6 +57,9 @@ seat_word = record (new_rule (codes "seat")) { action = Some Set; required = tru
 abbrev pub end_command : App
 end_command = with_rule (with_rule (new_app (codes "end")) (required_option (codes "control"))) seat_word
 
+abbrev pub reload_command : App
+reload_command = with_rule (new_app (codes "reload")) (required_option (codes "control"))
+
 abbrev pub save_command : App
 save_command = with_rule (with_rule (new_app (codes "save")) (required_option (codes "store"))) (required_option (codes "to"))
 
@@ -73,6 +76,9 @@ stop_value name words = first_of name (matches_of stop_command words)
 
 abbrev pub end_value : List ℕ → List (List ℕ) → Option (List ℕ)
 end_value name words = first_of name (matches_of end_command words)
+
+abbrev pub reload_value : List ℕ → List (List ℕ) → Option (List ℕ)
+reload_value name words = first_of name (matches_of reload_command words)
 
 -- the values of an option that may be given more than once
 abbrev pub listed : Option (List (List ℕ)) → List (List ℕ)
@@ -160,6 +166,7 @@ AsksToServe words (Show store filter by_handset) = ⊥
 AsksToServe words (Save store to) = ⊥
 AsksToServe words (Stop control wait) = ⊥
 AsksToServe words (End control seat) = ⊥
+AsksToServe words (Reload control) = ⊥
 AsksToServe words Password = ⊥
 
 abbrev pub AsksToLook : List (List ℕ) → ServerWords → Type 0
@@ -168,6 +175,7 @@ AsksToLook words (Show store filter by_handset) = SpelledLook (λ name. look_val
 AsksToLook words (Save store to) = ⊥
 AsksToLook words (Stop control wait) = ⊥
 AsksToLook words (End control seat) = ⊥
+AsksToLook words (Reload control) = ⊥
 AsksToLook words Password = ⊥
 
 abbrev pub AsksToSave : List (List ℕ) → ServerWords → Type 0
@@ -176,6 +184,7 @@ AsksToSave words (Show store filter by_handset) = ⊥
 AsksToSave words (Save store to) = (save_value (codes "store") words ≡ Some store.now) × (save_value (codes "to") words ≡ Some to.now)
 AsksToSave words (Stop control wait) = ⊥
 AsksToSave words (End control seat) = ⊥
+AsksToSave words (Reload control) = ⊥
 AsksToSave words Password = ⊥
 
 -- clap takes the words, and they ask for a copy
@@ -192,6 +201,7 @@ AsksToStop words (Show store filter by_handset) = ⊥
 AsksToStop words (Save store to) = ⊥
 AsksToStop words (Stop control wait) = (stop_value (codes "control") words ≡ Some control.now) × Wants SpellsCount (stop_value (codes "wait") words) wait
 AsksToStop words (End control seat) = ⊥
+AsksToStop words (Reload control) = ⊥
 AsksToStop words Password = ⊥
 
 -- these values spell a stop
@@ -209,6 +219,7 @@ AsksToEnd words (Show store filter by_handset) = ⊥
 AsksToEnd words (Save store to) = ⊥
 AsksToEnd words (Stop control wait) = ⊥
 AsksToEnd words (End control seat) = (end_value (codes "control") words ≡ Some control.now) × Gives SpellsCount (end_value (codes "seat") words) seat
+AsksToEnd words (Reload control) = ⊥
 AsksToEnd words Password = ⊥
 
 -- these values spell the end of a connection
@@ -220,6 +231,21 @@ pub record AskForEnd (words : List (List ℕ)) : Type 0 where
   pub taken : takes end_command words ≡ true
   pub spelled : SpellsEnd (end_value (codes "control") words) (end_value (codes "seat") words)
 
+abbrev pub AsksToReload : List (List ℕ) → ServerWords → Type 0
+AsksToReload words (Run run accounts) = ⊥
+AsksToReload words (Show store filter by_handset) = ⊥
+AsksToReload words (Save store to) = ⊥
+AsksToReload words (Stop control wait) = ⊥
+AsksToReload words (End control seat) = ⊥
+AsksToReload words (Reload control) = reload_value (codes "control") words ≡ Some control.now
+AsksToReload words Password = ⊥
+
+-- clap takes the words, and they ask to read the accounts again
+pub record AskForReload (words : List (List ℕ)) : Type 0 where
+  pub taken : takes reload_command words ≡ true
+  pub control : List ℕ
+  pub given : reload_value (codes "control") words ≡ Some control
+
 -- the word that asks what to write of a password stands alone
 abbrev pub AskForPassword : List (List ℕ) → Type 0
 AskForPassword words = length words ≡ 1
@@ -230,6 +256,7 @@ AsksForPassword words (Show store filter by_handset) = ⊥
 AsksForPassword words (Save store to) = ⊥
 AsksForPassword words (Stop control wait) = ⊥
 AsksForPassword words (End control seat) = ⊥
+AsksForPassword words (Reload control) = ⊥
 AsksForPassword words Password = AskForPassword words
 
 -- whether a word is there and is this one
@@ -237,15 +264,16 @@ abbrev pub is_word : List ℕ → Option (List ℕ) → Bool
 is_word wanted None = false
 is_word wanted (Some word) = bytes_eq word wanted
 
--- `show`, `save`, `stop`, `end` and `password` as the second word ask for a look, a copy, an order, or what to write of a password, by the words
--- behind the program's name. All else asks for a run
+-- `show`, `save`, `stop`, `end`, `reload` and `password` as the second word ask for a look, a copy, an order, or what to write of a password, by the
+-- words behind the program's name. All else asks for a run
 abbrev pub AsksOfServer : Option (List ℕ) → List (List ℕ) → List (List ℕ) → ServerWords → Type 0
 AsksOfServer second words behind asked =
     MatchBool (is_word (codes "show") second) (AsksToLook behind asked)
     (MatchBool (is_word (codes "save") second) (AsksToSave behind asked)
     (MatchBool (is_word (codes "stop") second) (AsksToStop behind asked)
     (MatchBool (is_word (codes "end") second) (AsksToEnd behind asked)
-    (MatchBool (is_word (codes "password") second) (AsksForPassword behind asked) (AsksToServe words asked)))))
+    (MatchBool (is_word (codes "reload") second) (AsksToReload behind asked)
+    (MatchBool (is_word (codes "password") second) (AsksForPassword behind asked) (AsksToServe words asked))))))
 
 -- words that ask something of the server
 abbrev pub AskServer : Option (List ℕ) → List (List ℕ) → List (List ℕ) → Type 0
@@ -254,4 +282,5 @@ AskServer second words behind =
     (MatchBool (is_word (codes "save") second) (AskForSave behind)
     (MatchBool (is_word (codes "stop") second) (AskForStop behind)
     (MatchBool (is_word (codes "end") second) (AskForEnd behind)
-    (MatchBool (is_word (codes "password") second) (AskForPassword behind) (AskForServer words)))))
+    (MatchBool (is_word (codes "reload") second) (AskForReload behind)
+    (MatchBool (is_word (codes "password") second) (AskForPassword behind) (AskForServer words))))))

@@ -1,10 +1,11 @@
 //! Accounts in TOML.
-ghost use Rattle.std.specs.Prelude.{◌≡◌, ◌≢◌, ◌↔◌, ◌+◌, ◌<◌, ◌^◌, ℕ, List, Bool, true, None, Option, codes, length, option_map, Err, IfNone, IfSome, OnErr, OnOk};
-ghost use Rattle.toml.specs.Data.{Items, as_array, get_member};
+ghost use Rattle.std.specs.Prelude.{◌≡◌, ◌≢◌, ◌↔◌, ◌+◌, ◌<◌, ◌^◌, ℕ, List, Bool, true, false, None, Some, Option, codes, length, option_map, Err, IfNone, IfSome, MatchOption, OnErr, OnOk};
+ghost use Rattle.toml.specs.Data.{Items, as_array, as_str, get_member, no_items};
 ghost use Rattle.toml.specs.View.{items_view, table_view, view};
-ghost use Rattle.smsc_cli.specs.words.AccountTables.{AddsNoValue, AddsValue, AddsValues, HasRoomFor, HasValues, IsNewName, IsSalt, IsUpTo, SaysPassword, SaysRate, SaysSessions, SaysSuspended};
-ghost use Rattle.smsc_cli.specs.words.AccountTables.{SpellsDigest, SpellsName, SpellsPassword, SpellsSalt, SpellsTable, SpellsValue, StopsAtValue};
-ghost use Rattle.smsc_cli.specs.words.AccountTables.{are_account_keys, are_file_keys, is_account_key as is_account_key_of, is_file_key as is_file_key_of, is_limit_key as is_limit_key_of, is_password_key as is_password_key_of, text_at as text_in};
+ghost use Rattle.smsc_cli.specs.words.AccountTables.{AddsNoValue, AddsValue, AddsValues, AreSources, HasRoomFor, HasValues, IsNewName, IsSalt, IsUpTo, SaysPassword, SaysRate, SaysSessions, SaysSources, SaysSuspended};
+ghost use Rattle.smsc_cli.specs.words.AccountTables.{SpellsDigest, SpellsName, SpellsPassword, SpellsSalt, SpellsSource, SpellsTable, SpellsValue, StopsAtValue};
+ghost use Rattle.smsc_cli.specs.words.AccountTables.{are_account_keys, are_file_keys, ends_starred, is_name_text as is_name_text_of, is_prefix, is_source as is_source_of, unstarred as unstarred_of, is_account_key as is_account_key_of, is_file_key as is_file_key_of, is_limit_key as is_limit_key_of, is_password_key as is_password_key_of, text_at as text_in};
+ghost use Rattle.smsc_cli.specs.words.Secrets.{is_number_text as is_number_of};
 ghost use Rattle.smsc_cli.specs.words.SimWords.{Gives, Spells, SpellsNumber};
 ghost use Rattle.smsc_cli.specs.declared.words.account_tables.PasswordWords.{PasswordWords as PasswordWordsOf};
 ghost use Rattle.smsc_cli.specs.declared.words.account_tables.TableAccount.{TableAccount as TableAccountOf};
@@ -14,6 +15,7 @@ ghost use Rattle.smsc_cli.specs.declared.words.fault.WordsFault.TheVariants.{Bad
 use crate::words::account::{USUAL_SESSIONS, name_in, password_in};
 use crate::words::fault::WordsFault;
 use crate::words::number::address_of;
+use crate::words::secrets::is_number_text;
 use hex::FromHex;
 use sms_base::Address;
 use thiserror::Error;
@@ -48,6 +50,19 @@ pub struct TableAccount<'a> {
     pub rate: Option<u32>,
     /// It may have no session for now.
     pub is_suspended: bool,
+    /// The sources that its messages may name beside its number, each a text that `source_of` knows; any where there are none.
+    pub sources: &'a [Value],
+}
+
+/// A source that an account may give, as it is written.
+#[derive(Clone, Copy, Debug, PartialEq, Eq)]
+pub enum SourceWords<'a> {
+    /// A number, by its digits.
+    Number(&'a str),
+    /// The numbers that begin with these digits: an asterisk is behind them.
+    Prefix(&'a str),
+    /// A name.
+    Name(&'a str),
 }
 
 // ---- keys
@@ -61,7 +76,7 @@ fn is_password_key(key: &str) -> bool
 fn is_limit_key(key: &str) -> bool
     ensures { result ≡ is_limit_key_of key.now }
 {
-    (key == "sessions" || key == "rate") || key == "suspended"
+    (key == "sessions" || key == "rate") || (key == "suspended" || key == "sources")
 }
 
 fn is_account_key(key: &str) -> bool
@@ -266,6 +281,131 @@ fn suspended_by(value: Option<&Value>) -> Option<bool>
     }
 }
 
+// ---- sources
+
+// The text before an asterisk at its end.
+fn unstarred<'a>(text: &'a str) -> Option<&'a str>
+    ensures { MatchOption result (ends_starred text.entry.now ≡ false)
+        (λ front. (front.now ≡ unstarred_of text.entry.now) × (ends_starred text.entry.now ≡ true)) }
+{
+    match text.strip_suffix('*') {
+        Some(front) => Some(front),
+        None => None,
+    }
+}
+
+fn is_name_text(text: &str) -> bool
+    ensures { result ≡ is_name_text_of text.now }
+{
+    Address::new(5, 0, text).is_ok()
+}
+
+// The digits before an asterisk at the end.
+fn prefix_in<'a>(text: &'a str) -> Option<&'a str>
+    ensures found { IfSome result (λ digits. (digits.now ≡ unstarred_of text.entry.now) × (is_prefix text.entry.now ≡ true)) }
+    ensures none { IfNone result (is_prefix text.entry.now ≡ false) }
+{
+    let digits = unstarred(text)?;
+    if is_number_text(digits) {
+        return Some(digits);
+    }
+    None
+}
+
+// The source of a text that is neither a number nor the front of one.
+fn name_in_text<'a>(text: &'a str) -> Option<SourceWords<'a>>
+    requires number { is_number_of text.now ≡ false }
+    requires prefix { is_prefix text.now ≡ false }
+    ensures found { IfSome result (SpellsSource text.entry.now) }
+    ensures none { IfNone result (is_source_of text.entry.now ≡ false) }
+{
+    if is_name_text(text) {
+        return Some(SourceWords::Name(text));
+    }
+    None
+}
+
+// The source of a text that is no number.
+fn no_number<'a>(text: &'a str) -> Option<SourceWords<'a>>
+    requires number { is_number_of text.now ≡ false }
+    ensures found { IfSome result (SpellsSource text.entry.now) }
+    ensures none { IfNone result (is_source_of text.entry.now ≡ false) }
+{
+    match prefix_in(text) {
+        Some(digits) => Some(SourceWords::Prefix(digits)),
+        None => name_in_text(text),
+    }
+}
+
+/// The source that the text spells: a number of 1 to 20 digits, such digits and an asterisk, or a name.
+pub fn source_of<'a>(text: &'a str) -> Option<SourceWords<'a>>
+    ensures found { IfSome result (SpellsSource text.entry.now) }
+    ensures none { IfNone result (is_source_of text.entry.now ≡ false) }
+{
+    if is_number_text(text) {
+        return Some(SourceWords::Number(text));
+    }
+    no_number(text)
+}
+
+#[tactic(auto, using(crate::proofs::words::SourceTexts::spelled_source))]
+fn is_source_text(text: &str) -> bool
+    ensures { result ≡ is_source_of text.now }
+{
+    match source_of(text) {
+        Some(_source) => true,
+        None => false,
+    }
+}
+
+fn is_source(value: &Value) -> bool
+    ensures { (result ≡ true) ↔ ((text : List ℕ) × (as_str (view value.now) ≡ Some text) × (is_source_of text ≡ true)) }
+{
+    match value.as_str() {
+        Some(text) => is_source_text(text),
+        None => false,
+    }
+}
+
+fn are_sources(values: &[Value]) -> bool
+    ensures { (result ≡ true) ↔ AreSources (items_view values.now) }
+{
+    match values.split_first() {
+        Some((first, others)) => is_source(first) && are_sources(others),
+        None => true,
+    }
+}
+
+fn some_sources(values: &[Value]) -> Option<&[Value]>
+    ensures found { IfSome result (λ sources. (sources.now ≡ values.entry.now) × (items_view values.entry.now ≢ no_items) × AreSources (items_view values.entry.now)) }
+    ensures none { IfNone result (¬ ((items_view values.entry.now ≢ no_items) × AreSources (items_view values.entry.now))) }
+{
+    if values.is_empty() || !are_sources(values) {
+        return None;
+    }
+    Some(values)
+}
+
+fn sources_in(value: &Value) -> Option<&[Value]>
+    ensures found { IfSome result (λ sources. SaysSources (Some (view value.entry.now)) (items_view sources.now)) }
+    ensures none { IfNone result ((sources : Items) → ¬ SaysSources (Some (view value.entry.now)) sources) }
+{
+    match array_in(value) {
+        Some(values) => some_sources(values),
+        None => None,
+    }
+}
+
+fn sources_by<'a>(value: Option<&'a Value>) -> Option<&'a [Value]>
+    ensures found { IfSome result (λ sources. SaysSources (option_map (λ v. view v.now) value.entry) (items_view sources.now)) }
+    ensures none { IfNone result ((sources : Items) → ¬ SaysSources (option_map (λ v. view v.now) value.entry) sources) }
+{
+    match value {
+        Some(value) => sources_in(value),
+        None => Some(&[]),
+    }
+}
+
 // ---- an account
 
 fn account_in<'a>(table: &'a Table) -> Option<TableAccount<'a>>
@@ -281,6 +421,7 @@ fn account_in<'a>(table: &'a Table) -> Option<TableAccount<'a>>
     let sessions = sessions_by(value_at(table, "sessions"))?;
     let rate = rate_by(value_at(table, "rate"))?;
     let is_suspended = suspended_by(value_at(table, "suspended"))?;
+    let sources = sources_by(value_at(table, "sources"))?;
     Some(TableAccount {
         name,
         password,
@@ -288,6 +429,7 @@ fn account_in<'a>(table: &'a Table) -> Option<TableAccount<'a>>
         sessions,
         rate,
         is_suspended,
+        sources,
     })
 }
 

@@ -4,7 +4,7 @@ use crate::words::explaining::{MORE, Rule, Wanted, explained};
 use crate::words::handset::{is_show, run_command as handset_command, show_command};
 use crate::words::look::look_command;
 use crate::words::server::{
-    end_command, is_second, run_command, save_command, stop_command, texts_of,
+    end_command, is_second, reload_command, run_command, save_command, stop_command, texts_of,
 };
 use crate::words::sim::{is_relay, relay_command};
 use clap::{Command, Error};
@@ -94,6 +94,10 @@ fn order_refused<'a>(alloc: Global, words: &'a [&'a str]) -> Result<Option<Strin
         let command = end_command(alloc)?.override_usage("smscd end --control PATH SEAT");
         let text = explained(alloc, command, &words[1..], &[])?;
         return Ok(Some(or_other(alloc, text, "SEAT is 0 to 31")?));
+    }
+    if is_second(words, "reload") {
+        let command = reload_command(alloc)?.override_usage("smscd reload --control PATH");
+        return explained(alloc, command, &words[1..], &[]);
     }
     if is_second(words, "password") {
         let command = Command::new(alloc, "password").override_usage("smscd password");

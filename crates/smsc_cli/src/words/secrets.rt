@@ -25,7 +25,7 @@ pub struct SecretWords<'a> {
     pub secret: &'a str,
 }
 
-fn is_number_text(text: &str) -> bool
+pub(crate) fn is_number_text(text: &str) -> bool
     ensures { result ≡ is_number_of text.now }
 {
     1 <= text.len() && text.len() <= 20 && is_decimal_text(text)

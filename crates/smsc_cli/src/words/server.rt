@@ -8,8 +8,8 @@ ghost use Rattle.smsc_cli.specs.words.Accounts.{AddsAll};
 ghost use Rattle.smsc_cli.specs.words.SimWords.{Gives, Spells};
 ghost use Rattle.smsc_cli.specs.words.LookWords.{AskForLook, MayBe, Wants};
 ghost use Rattle.smsc_cli.specs.words.Numbers.{IsCount, SpellsCount, SpellsFrom};
-ghost use Rattle.smsc_cli.specs.words.ServerWords.{AreOptionsOf, AskForEnd, AskForPassword, AskForSave, AskForServer, AskForStop, AskServer, AsksForPassword, AsksOfServer, AsksToEnd, AsksToLook, AsksToSave, AsksToServe, AsksToStop, IsPortText, SpelledOptions, SpelledServer, SpellsEnd, SpellsServer, SpellsStop};
-ghost use Rattle.smsc_cli.specs.words.ServerWords.{account_texts, end_command, end_value, is_word, listed, listed_words, more_command, needed_command, paths_command, port_command, save_command, save_value, seat_word, server_command, server_value, store_command, stop_command, stop_value};
+ghost use Rattle.smsc_cli.specs.words.ServerWords.{AreOptionsOf, AskForEnd, AskForPassword, AskForReload, AskForSave, AskForServer, AskForStop, AskServer, AsksForPassword, AsksOfServer, AsksToEnd, AsksToLook, AsksToReload, AsksToSave, AsksToServe, AsksToStop, IsPortText, SpelledOptions, SpelledServer, SpellsEnd, SpellsServer, SpellsStop};
+ghost use Rattle.smsc_cli.specs.words.ServerWords.{account_texts, end_command, end_value, is_word, listed, listed_words, more_command, needed_command, paths_command, port_command, reload_command, reload_value, save_command, save_value, seat_word, server_command, server_value, store_command, stop_command, stop_value};
 
 use crate::centre_table::Filter;
 use crate::words::account::AccountWords;
@@ -92,6 +92,11 @@ pub enum ServerWords<'a> {
         control: &'a str,
         /// The number of the seat.
         seat: u32,
+    },
+    /// `reload --control PATH`.
+    Reload {
+        /// The path of the server's socket.
+        control: &'a str,
     },
     /// `password`.
     Password,
@@ -230,6 +235,13 @@ pub(crate) fn end_command<'a>(alloc: Global) -> Result<Command<'a>, AllocError>
         required(alloc, "control"),
         seat_word(alloc),
     )
+}
+
+/// The command line of an order to read the accounts again.
+pub(crate) fn reload_command<'a>(alloc: Global) -> Result<Command<'a>, AllocError>
+    ensures { IfOk result (λ command. app_of command ≡ reload_command) }
+{
+    Command::new(alloc, "reload").arg(required(alloc, "control"))
 }
 
 /// The words that no option takes, in the matches of the words.
@@ -476,6 +488,27 @@ fn end_asked<'a>(alloc: Global, words: &'a [&'a str]) -> Result<ServerWords<'a>,
     }
 }
 
+// The path of the socket, where the words ask to read the accounts again.
+fn reloaded<'a>(alloc: Global, words: &'a [&'a str]) -> Result<Option<&'a str>, Error>
+    ensures control { IfOk result (λ r. option_map (λ s. s.now) r ≡ reload_value (codes "control") (map (λ w. w.now) words.entry.now)) }
+    ensures good { IfErr result (λ error. takes reload_command (map (λ w. w.now) words.entry.now) ≡ true → kind_of error ≡ OutOfMemory) }
+{
+    let command = reload_command(alloc)?;
+    let matches = command.try_get_matches_from(words)?;
+    Ok(matches.get_str("control"))
+}
+
+fn reload_asked<'a>(alloc: Global, words: &'a [&'a str]) -> Result<ServerWords<'a>, WordsFault>
+    ensures asked { IfOk result (λ asked. AsksToReload (map (λ w. w.now) words.entry.now) asked) }
+    ensures good { AskForReload (map (λ w. w.now) words.entry.now) → IfErr result (λ fault. fault ≡ NoMemory) }
+{
+    match reloaded(alloc, words) {
+        Ok(Some(control)) => Ok(ServerWords::Reload { control }),
+        Ok(None) => Err(WordsFault::BadWords),
+        Err(error) => Err(fault_of(&error)),
+    }
+}
+
 // What to write of a password.
 fn password_asked<'a>(words: &[&str]) -> Result<ServerWords<'a>, WordsFault>
     ensures asked { IfOk result (λ asked. AsksForPassword (map (λ w. w.now) words.now) asked) }
@@ -520,7 +553,8 @@ pub(crate) fn is_second(words: &[&str], wanted: &str) -> bool
 ///   `--accounts-open` and up to 32 words
 ///   `NAME:PASSWORD:NUMBER` or `NAME:PASSWORD:NUMBER:SESSIONS`, no two of one name
 /// - `show --store FILE`, perhaps with `--id ID`, `--from WHO`, `--to NUMBER`, `--account NAME`, `--state STATE`, `--last N` and `--stuck`
-/// - `save --store FILE --to FILE`, `stop --control PATH`, perhaps with `--wait SECONDS`, `end --control PATH SEAT`, `password`
+/// - `save --store FILE --to FILE`, `stop --control PATH`, perhaps with `--wait SECONDS`, `end --control PATH SEAT`, `reload --control PATH`,
+///   `password`
 ///
 /// The WORD of the log is `messages` or `access`. A FILE or PATH is a path, a PORT 1 to 65535, and a NUMBER 1 to 20 digits 0 to 9. N and SEAT are 0 to 4294967295. The
 /// first two colons of an account end its NAME, 1 to 15 ASCII characters, and its PASSWORD, up to 8. SESSIONS is 1 to 32. All else is bad
@@ -543,6 +577,9 @@ pub fn server_words<'a>(alloc: Global, words: &'a [&'a str]) -> Result<ServerWor
     }
     if is_second(words, "end") {
         return end_asked(alloc, &words[1..]);
+    }
+    if is_second(words, "reload") {
+        return reload_asked(alloc, &words[1..]);
     }
     if is_second(words, "password") {
         return password_asked(&words[1..]);

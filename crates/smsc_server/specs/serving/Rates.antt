@@ -38,10 +38,16 @@ abbrev pub rates_after : ℕ → ℕ → Option Rate → List (Option Rate) → 
 rates_after place now None rates = rates
 rates_after place now (Some rate) rates = slice_set rates place (Some (after_request now rate))
 
--- ---- over all requests of an account
-
 abbrev pub new_rate : ℕ → Rate
 new_rate most = record { most = most; second = 0; put = 0 }
+
+-- The rate that allows no more than so many a second from now on; without a number there is none. It knows how many were put.
+abbrev pub limited : Option ℕ → Option Rate → Option Rate
+limited None rate = None
+limited (Some most) None = Some (new_rate most)
+limited (Some most) (Some rate) = Some (record rate { most = most })
+
+-- ---- over all requests of an account
 
 abbrev pub one_where : Bool → ℕ
 one_where true = 1

@@ -1,5 +1,6 @@
 -- How many sessions of each account are bound at the seats of a run, and how many may be.
-use Rattle.std.specs.Prelude.{ℕ, ◌≤◌, ◌==◌, nat_lt, suc, List, [], ◌∷◌, Option, Some, None, Bool, true, false, slice_get, slice_set, if◌then◌else◌}
+use Rattle.std.specs.Prelude.{ℕ, ◌≤◌, ◌==◌, ◌&&◌, not, nat_lt, suc, List, [], ◌∷◌, Option, Some, None, Bool, true, false, slice_get, slice_set, if◌then◌else◌}
+use Rattle.smpp_session.specs.Logins.{is_full}
 
 -- by the account that is bound at each seat, if there is one
 abbrev pub is_of : ℕ → Option ℕ → Bool
@@ -39,6 +40,19 @@ abbrev pub may_be_bound : Option ℕ → List ℕ → List (Option ℕ) → Bool
 may_be_bound None limits seats = true
 may_be_bound (Some account) limits seats = has_room account limits seats
 
--- Those accounts are full, and this one too where it has no room.
+-- a suspended account may have none more
+abbrev pub may_have_more : ℕ → List Bool → List ℕ → List (Option ℕ) → Bool
+may_have_more account suspended limits seats = has_room account limits seats && not (is_full account suspended)
+
+-- whether the session that is bound at a seat is of a suspended account
+abbrev pub is_suspended : List Bool → Option (Option ℕ) → Bool
+is_suspended suspended None = false
+is_suspended suspended (Some None) = false
+is_suspended suspended (Some (Some account)) = is_full account suspended
+
+abbrev pub is_suspended_at : ℕ → List Bool → List (Option ℕ) → Bool
+is_suspended_at seat suspended seats = is_suspended suspended (slice_get seats seat)
+
+-- Those accounts are full, and this one too where it may have none more.
 abbrev pub full_where : Bool → ℕ → List Bool → List Bool
 full_where room account full = if room then full else slice_set full account true

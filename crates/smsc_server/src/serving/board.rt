@@ -1,8 +1,7 @@
 //! What the threads of a run share.
+use crate::serving::allowances::Allowances;
 use crate::serving::occupancy::{Seated, Seating};
 use crate::serving::orders::{Orders, SEATS};
-use crate::serving::rates::Rates;
-use crossbeam_channel::{Receiver, Sender, bounded};
 use mio::Waker;
 use smpp_session::FullAccounts;
 use sms_base::Digits;
@@ -46,32 +45,6 @@ impl LinkSeats {
     }
 }
 
-// Whoever has it may bind. There is one.
-#[derive(Drop)]
-struct Turn;
-
-// Where it waits for the next one.
-#[derive(Drop)]
-struct Turnstile {
-    put: Sender<Turn>,
-    taken: Receiver<Turn>,
-}
-
-impl Turnstile {
-    fn new(alloc: Global) -> Result<Turnstile, AllocError> {
-        let (put, taken) = bounded::<Turn, _>(alloc, 1)?;
-        Ok(Turnstile { put, taken })
-    }
-
-    fn take<R: Wait>(&self, rt: &R) {
-        let _ = self.taken.recv(rt);
-    }
-
-    fn put<R: Wait>(&self, rt: &R) {
-        let _ = self.put.try_send(rt, Turn);
-    }
-}
-
 /// What the threads of a run share.
 #[derive(Drop)]
 pub(crate) struct Board {
@@ -80,29 +53,26 @@ pub(crate) struct Board {
     others_wait: AtomicBool,
     seating: Seating,
     links: Mutex<LinkSeats>,
-    turnstile: Turnstile,
-    rates: Rates,
+    allowances: Arc<Allowances>,
     // Wakes whoever takes connections.
     waker: Waker,
 }
 
 impl Board {
-    /// Nothing has happened yet. The accounts at their places may have so many sessions, and these rates.
+    /// Nothing has happened yet. The accounts may do what the allowances say.
     pub(crate) fn new(
         alloc: Global,
         orders: Arc<Orders>,
         waker: Waker,
-        limits: &[u8],
-        rates: Rates,
+        allowances: Arc<Allowances>,
     ) -> Result<Board, AllocError> {
         Ok(Board {
             orders,
             over: AtomicBool::new(false),
             others_wait: AtomicBool::new(false),
-            seating: Seating::new(alloc, limits)?,
+            seating: Seating::new(),
             links: Mutex::new(LinkSeats::new(alloc)?),
-            turnstile: Turnstile::new(alloc)?,
-            rates,
+            allowances,
             waker,
         })
     }
@@ -161,37 +131,37 @@ impl Board {
 
     /// The first may bind.
     pub(crate) fn open<R: Wait>(&self, rt: &R) {
-        self.turnstile.put(rt);
+        self.allowances.open(rt);
     }
 
     /// Waits until nobody else is about to bind, and says which accounts may have no further session. Nobody else is about to bind
     /// until `end_bind`.
     pub(crate) fn begin_bind<R: Wait>(&self, rt: &R) -> FullAccounts {
-        self.turnstile.take(rt);
-        self.seating.full(rt)
+        self.allowances.begin_bind(rt)
     }
 
     /// Whoever was about to bind is bound, or not.
     pub(crate) fn end_bind<R: Wait>(&self, rt: &R) {
-        self.turnstile.put(rt);
+        self.allowances.end_bind(rt);
     }
 
     /// The session at the seat of this number is of that account; none is bound there without one. One beyond the limit of its account
     /// ends: there is none while each that binds was told which accounts are full.
     pub(crate) fn bind<R: Wait>(&self, rt: &R, seat: usize, account: Option<u8>) {
-        if !self.seating.bind(rt, seat, account) {
+        if !self.allowances.bind(rt, seat, account) {
             let _ = self.orders.end(seat);
         }
     }
 
     /// Whether the request is put now, by the rate of its account.
     pub(crate) fn admit<R: Wait + Clock>(&self, rt: &R, request: &Job) -> bool {
-        self.rates.admit(rt, request)
+        self.allowances.admit(rt, request)
     }
 
     /// Who sits now.
     pub(crate) fn seated<R: Wait>(&self, rt: &R) -> Seated {
-        self.seating.seated(rt)
+        let most = self.allowances.most(rt);
+        self.seating.seated(most)
     }
 
     /// The handset has its link at the seat of this number; none has without one.

@@ -2,14 +2,13 @@
 ghost use Rattle.std.specs.Prelude.{◌≡◌, ◌<◌, ◌≤◌, ℕ, not, None, IfOk, length, replicate, slice_set};
 ghost use Rattle.smpp_session.specs.Logins.{is_full};
 ghost use Rattle.smsc_server.specs.serving.KeptSeats.{may_sit as may_sit_of};
-ghost use Rattle.smsc_server.specs.serving.SessionLimits.{bound_at, bound_where, count_of, full_where, has_room as has_room_of, is_of as is_of_account, limit_of, may_be_bound, AreWithin};
+ghost use Rattle.smsc_server.specs.serving.SessionLimits.{bound_at, bound_where, count_of, full_where, has_room as has_room_of, is_of as is_of_account, is_suspended_at, limit_of, may_be_bound, may_have_more as may_have_more_of, AreWithin};
 
 use crate::serving::orders::SEATS;
 use smpp_session::FullAccounts;
 use smsc_arrivals::Side;
 use std::alloc::{AllocError, Global};
 use std::sync::atomic::{AtomicUsize, Ordering};
-use std::sync::{Mutex, Wait};
 
 // So many seats are kept for applications, and as many for handsets: the other side never takes them.
 const KEPT: usize = 8;
@@ -69,23 +68,30 @@ fn count_in(account: u8, seats: &[Option<u8>]) -> usize
     }
 }
 
-// The account that is bound at each seat, and how many sessions each account may have.
+/// The account that is bound at each seat, how many sessions each account may have, and which accounts are suspended.
 #[derive(Drop)]
-struct Bound {
+pub(crate) struct Bound {
     accounts: Vec<Option<u8>>,
     limits: Vec<u8>,
+    suspended: FullAccounts,
     // No account has more sessions than it may have.
     ghost within: { AreWithin limits.items accounts.items },
 }
 
 impl Bound {
-    fn new(alloc: Global, limits: &[u8]) -> Result<Bound, AllocError> {
+    /// Nobody is bound. The accounts at their places may have so many sessions, and those are suspended.
+    pub(crate) fn new(
+        alloc: Global,
+        limits: &[u8],
+        suspended: FullAccounts,
+    ) -> Result<Bound, AllocError> {
         let accounts = none_bound(alloc)?;
         let mut all = Vec::new(alloc);
         all.extend_from_slice(limits)?;
         Ok(Bound {
             accounts,
             limits: all,
+            suspended,
         })
     }
 
@@ -113,20 +119,48 @@ impl Bound {
         self.count(account) < self.limit(account)
     }
 
+    // Whether it may have one more, and is not suspended.
+    fn may_have_more(&self, account: u8) -> bool
+        ensures { result ≡ may_have_more_of account self.now.suspended self.now.limits.items self.now.accounts.items }
+    {
+        self.has_room(account) && !self.suspended.contains(usize::from(account))
+    }
+
+    /// From now on those accounts are suspended, and no others.
+    pub(crate) fn suspend(&mut self, suspended: FullAccounts)
+        ensures suspended { self.new.suspended ≡ suspended }
+        ensures accounts { self.new.accounts ≡ self.old.accounts }
+        ensures limits { self.new.limits ≡ self.old.limits }
+    {
+        self.suspended = suspended;
+    }
+
+    /// Whether a session of a suspended account is bound at the seat.
+    pub(crate) fn is_suspended_at(&self, seat: usize) -> bool
+        ensures { result ≡ is_suspended_at seat self.now.suspended self.now.accounts.items }
+    {
+        match self.accounts.get(seat) {
+            Some(Some(account)) => self.suspended.contains(usize::from(*account)),
+            _ => false,
+        }
+    }
+
     fn set(&mut self, seat: usize, account: Option<u8>)
         requires { AreWithin self.old.limits.items (slice_set self.old.accounts.items seat account) }
         ensures accounts { self.new.accounts.items ≡ slice_set self.old.accounts.items seat account }
         ensures limits { self.new.limits ≡ self.old.limits }
+        ensures suspended { self.new.suspended ≡ self.old.suspended }
     {
         if let Some(bound) = self.accounts.get_mut(seat) {
             *bound = account;
         }
     }
 
-    // The session at the seat is of that account, or none is bound there. False where the account may have no further session.
-    fn put(&mut self, seat: usize, account: Option<u8>) -> bool
+    /// The session at the seat is of that account, or none is bound there. False where the account may have no further session.
+    pub(crate) fn put(&mut self, seat: usize, account: Option<u8>) -> bool
         ensures accounts { self.new.accounts.items ≡ bound_at seat account self.old.limits.items self.old.accounts.items }
         ensures limits { self.new.limits ≡ self.old.limits }
+        ensures suspended { self.new.suspended ≡ self.old.suspended }
         ensures said { result ≡ may_be_bound account self.old.limits.items self.old.accounts.items }
     {
         match account {
@@ -143,6 +177,7 @@ impl Bound {
         ensures accounts { self.new.accounts.items ≡ bound_where (has_room_of account self.old.limits.items self.old.accounts.items)
             seat account self.old.accounts.items }
         ensures limits { self.new.limits ≡ self.old.limits }
+        ensures suspended { self.new.suspended ≡ self.old.suspended }
         ensures said { result ≡ has_room_of account self.old.limits.items self.old.accounts.items }
     {
         if !self.has_room(account) {
@@ -154,9 +189,9 @@ impl Bound {
 
     // Those accounts, and this one too where it may have no further session.
     fn with_account(&self, full: FullAccounts, account: u8) -> FullAccounts
-        ensures { result ≡ full_where (has_room_of account self.now.limits.items self.now.accounts.items) account full }
+        ensures { result ≡ full_where (may_have_more_of account self.now.suspended self.now.limits.items self.now.accounts.items) account full }
     {
-        if self.has_room(account) {
+        if self.may_have_more(account) {
             return full;
         }
         let mut full = full;
@@ -164,9 +199,10 @@ impl Bound {
         full
     }
 
-    // Which accounts may have no further session.
-    fn full(&self) -> FullAccounts
-        ensures { (account : ℕ) → account < 32 → is_full account result ≡ not (has_room_of account self.now.limits.items self.now.accounts.items) }
+    /// Which accounts may have no further session.
+    pub(crate) fn full(&self) -> FullAccounts
+        ensures { (account : ℕ) → account < 32
+            → is_full account result ≡ not (may_have_more_of account self.now.suspended self.now.limits.items self.now.accounts.items) }
     {
         let mut full = FullAccounts::none();
         for account in 0..MOST_ACCOUNTS {
@@ -175,8 +211,8 @@ impl Bound {
         full
     }
 
-    // The account with most sessions.
-    fn most(&self) -> Option<(u8, usize)> {
+    /// The account with most sessions.
+    pub(crate) fn most(&self) -> Option<(u8, usize)> {
         let mut most: Option<(u8, usize)> = None;
         for bound in self.accounts.iter() {
             let Some(account) = *bound else { continue };
@@ -200,22 +236,20 @@ fn none_bound(alloc: Global) -> Result<Vec<Option<u8>>, AllocError>
     Ok(accounts)
 }
 
-/// Who sits at the seats of a run.
+/// How many sit at the seats of a run.
 #[derive(Drop)]
 pub(crate) struct Seating {
     applications: AtomicUsize,
     links: AtomicUsize,
-    bound: Mutex<Bound>,
 }
 
 impl Seating {
-    /// Nobody sits. The accounts at their places may have so many sessions.
-    pub(crate) fn new(alloc: Global, limits: &[u8]) -> Result<Seating, AllocError> {
-        Ok(Seating {
+    /// Nobody sits.
+    pub(crate) fn new() -> Seating {
+        Seating {
             applications: AtomicUsize::new(0),
             links: AtomicUsize::new(0),
-            bound: Mutex::new(Bound::new(alloc, limits)?),
-        })
+        }
     }
 
     fn of(&self, side: Side) -> &AtomicUsize {
@@ -242,23 +276,12 @@ impl Seating {
         may_sit(side, applications, links)
     }
 
-    /// The session at the seat of this number is of that account; none is bound there without one. False where the account may have
-    /// no further session.
-    pub(crate) fn bind<R: Wait>(&self, rt: &R, seat: usize, account: Option<u8>) -> bool {
-        self.bound.lock(rt).put(seat, account)
-    }
-
-    /// Which accounts may have no further session.
-    pub(crate) fn full<R: Wait>(&self, rt: &R) -> FullAccounts {
-        self.bound.lock(rt).full()
-    }
-
-    /// Who sits now.
-    pub(crate) fn seated<R: Wait>(&self, rt: &R) -> Seated {
+    /// Who sits now, where that account has most sessions.
+    pub(crate) fn seated(&self, most: Option<(u8, usize)>) -> Seated {
         Seated {
             applications: self.applications.load(Ordering::SeqCst),
             links: self.links.load(Ordering::SeqCst),
-            most: self.bound.lock(rt).most(),
+            most,
         }
     }
 }

@@ -18,6 +18,8 @@ const REPLACED: u8 = 2;
 // Nobody is there.
 const EMPTY: u8 = 3;
 
+const UNBIND: u8 = 4;
+
 /// What is ordered of a run, by whoever has it: the run looks at it once a second.
 #[derive(Drop)]
 pub struct Orders {
@@ -80,7 +82,15 @@ impl Orders {
         };
         match order.compare_exchange(STAY, END, Ordering::SeqCst, Ordering::SeqCst) {
             Ok(_) => true,
+            Err(UNBIND) => self.put(seat, END),
             Err(found) => found != EMPTY,
+        }
+    }
+
+    /// The session at the seat of this number leaves in good order: it is sent unbind.
+    pub(crate) fn unbind(&self, seat: usize) {
+        if let Some(order) = self.seats.get(seat) {
+            let _ = order.compare_exchange(STAY, UNBIND, Ordering::SeqCst, Ordering::SeqCst);
         }
     }
 
@@ -114,6 +124,7 @@ impl Orders {
         match self.number(seat) {
             END => Order::End,
             REPLACED => Order::Replaced,
+            UNBIND => Order::Unbind,
             _ if self.stop.load(Ordering::SeqCst) => Order::Unbind,
             _ => Order::Stay,
         }

@@ -1,9 +1,11 @@
 //! How many requests of an account are put in a second.
 ghost use Rattle.std.specs.Prelude.{◌≡◌, ◌≤◌, ℕ, List, Some, true, slice_get, slice_set};
-ghost use Rattle.smsc_server.specs.serving.Rates.{AreInOrder, after_request, count_put, has_place as has_place_of, is_admitted, new_rate, one_more, put_in as put_in_of, rate_of, rates_after, second_of as second_of_moment};
+ghost use Rattle.smsc_server.specs.serving.Rates.{AreInOrder, after_request, count_put, has_place as has_place_of, is_admitted, new_rate, one_more, limited as limited_to, put_in as put_in_of, rate_of, rates_after, second_of as second_of_moment};
 
+use crate::serving::allowances::Allowance;
 use crate::serving::clock::milliseconds;
 use sms_centre_spec::jobs::Job;
+use std::alloc::{AllocError, Global};
 use std::sync::{Mutex, Wait};
 use std::time::Clock;
 
@@ -76,6 +78,17 @@ impl Rate {
     }
 }
 
+// The rate that allows no more than so many a second. It knows how many were put.
+fn limited(most: Option<u32>, rate: Option<Rate>) -> Option<Rate>
+    ensures { result ≡ limited_to most rate }
+{
+    match (most, rate) {
+        (Some(most), Some(rate)) => Some(Rate { most, ..rate }),
+        (Some(most), None) => Some(Rate::of(most)),
+        (None, _) => None,
+    }
+}
+
 // The rates of the accounts at their places.
 #[derive(Drop)]
 struct AccountRates {
@@ -97,6 +110,25 @@ impl AccountRates {
     {
         if let Some(old) = self.rates.get_mut(place) {
             *old = Some(rate);
+        }
+    }
+
+    // The account at that place puts no more than so many in a second from now on; as many as it likes without a number.
+    fn limit(&mut self, place: usize, most: Option<u32>)
+        ensures { self.new.rates.items ≡ slice_set self.old.rates.items place (limited_to most (rate_of (slice_get self.old.rates.items place))) }
+    {
+        let rate = limited(most, self.rate_at(place));
+        if let Some(old) = self.rates.get_mut(place) {
+            *old = rate;
+        }
+    }
+
+    // So do all accounts, by their places.
+    fn limit_all(&mut self, allowed: &[Allowance]) {
+        let mut place = 0usize;
+        for allowance in allowed {
+            self.limit(place, allowance.rate);
+            place = place.saturating_add(1);
         }
     }
 
@@ -148,11 +180,20 @@ fn account_of(request: &Job) -> Option<u8> {
 }
 
 impl Rates {
-    /// These rates; an account without one puts as many as it likes.
-    pub(crate) fn new(rates: Vec<Option<Rate>>) -> Rates {
-        Rates {
-            accounts: Mutex::new(AccountRates { rates }),
+    /// The rates that accounts are allowed. None has put anything yet.
+    pub(crate) fn new(alloc: Global, allowed: &[Allowance]) -> Result<Rates, AllocError> {
+        let mut rates = Vec::with_capacity(alloc, allowed.len())?;
+        for allowance in allowed {
+            rates.push(limited(allowance.rate, None))?;
         }
+        Ok(Rates {
+            accounts: Mutex::new(AccountRates { rates }),
+        })
+    }
+
+    /// From now on the accounts have these rates.
+    pub(crate) fn change<R: Wait>(&self, rt: &R, allowed: &[Allowance]) {
+        self.accounts.lock(rt).limit_all(allowed);
     }
 
     /// Whether the request is put now. The clock is read while nobody else asks, so that the moments do not go back.

@@ -12,6 +12,7 @@ ghost use Rattle.smsc_server.specs.serving.Entering.{HasSameSeats, HaveEntered};
 ghost use Rattle.smsc_server.specs.serving.SeatThreads.{HasOneMore, HaveStarted, IsThreadOf, SeatThread as ThreadOf, end_of};
 
 use crate::serving::accepting::{Acceptor, accept_all};
+use crate::serving::allowances::Allowances;
 use crate::serving::board::Board;
 use crate::serving::endpoints::SeatContext;
 use crate::serving::entrance::{
@@ -21,7 +22,6 @@ use crate::serving::fault::ServeFault;
 use crate::serving::observer::Observer;
 use crate::serving::orders::{Orders, SEATS};
 use crate::serving::poller::Poller;
-use crate::serving::rates::{Rate, Rates};
 use crate::serving::reading::{Reader, Reading};
 use crate::serving::seat_thread::{SeatThread, start_thread};
 use crossbeam_channel::{Sender, bounded};
@@ -58,10 +58,8 @@ pub struct Given<T> {
     pub links: Option<Arc<LinkBoard>>,
     /// How many connections are served in all; no end of them where this is none.
     pub sessions: Option<u32>,
-    /// How many sessions each account may have at once, by its place. One that has no number here may have one at each seat.
-    pub limits: Vec<u8>,
-    /// How many requests each account may put in a second, by its place. One without a rate puts as many as it likes.
-    pub rates: Vec<Option<Rate>>,
+    /// What the accounts may do. Whoever has it changes it as the run goes on.
+    pub allowances: Arc<Allowances>,
 }
 
 /// What the threads of a run share.
@@ -81,15 +79,12 @@ impl<T: Observer + Drop> Shared<T> {
             ≡ admits (arc_value given.now.accounts) (arc_value given.now.access)) }
     {
         let orders = Arc::try_clone(&given.orders)?;
-        let rates = Rates::new(Vec::from_slice(alloc, given.rates.as_slice())?);
+        let allowances = Arc::try_clone(&given.allowances)?;
         Ok(Shared {
             accounts: Arc::try_clone(&given.accounts)?,
             access: Arc::try_clone(&given.access)?,
             observer: Arc::try_clone(&given.observer)?,
-            board: Arc::new(
-                alloc,
-                Board::new(alloc, orders, waker, given.limits.as_slice(), rates)?,
-            )?,
+            board: Arc::new(alloc, Board::new(alloc, orders, waker, allowances)?)?,
             sessions: given.sessions,
         })
     }

@@ -4,7 +4,9 @@ use crate::service::centre::{clock, logins};
 use sms_base::FinalState;
 use sms_keeper::Gate;
 use smsc_endpoint::LinkAccess;
-use smsc_server::{Event, Given, Loopback, Observer, Orders, ServeFault, loopback_pair};
+use smsc_server::{
+    Allowances, Event, Given, Loopback, Observer, Orders, ServeFault, loopback_pair,
+};
 use smsc_service::CentreStore;
 use std::alloc::Global;
 use std::net::{Net, TcpListener, TcpStream};
@@ -76,6 +78,7 @@ fn is_over(ended: &Result<(), ServeFault>, came: Result<(), Fail>) -> Result<(),
 fn given(alloc: Global, sessions: u32, limits: Vec<u8>) -> Result<Given<Silent>, Fail> {
     let accounts = logins(alloc)?;
     let orders = orders(alloc)?;
+    let allowances = Allowances::new(alloc, limits.as_slice(), &[])?;
     Ok(Given {
         accounts,
         access: Arc::new(alloc, LinkAccess::Anyone)?,
@@ -83,8 +86,7 @@ fn given(alloc: Global, sessions: u32, limits: Vec<u8>) -> Result<Given<Silent>,
         orders,
         links: None,
         sessions: Some(sessions),
-        limits,
-        rates: Vec::new(alloc),
+        allowances: Arc::new(alloc, allowances)?,
     })
 }
 

@@ -45,6 +45,15 @@ const MORE: &[(&str, bool)] = &[
     ("password = \"a\"\nsuspended = \"true\"", false),
     ("password = \"a\"\nsalt = \"b\"", false),
     ("password = \"a\"\nlimit = 4", false),
+    (
+        "password = \"a\"\nsources = [\"447700900002\", \"4477*\", \"Bank\"]",
+        true,
+    ),
+    ("password = \"a\"\nsources = []", false),
+    ("password = \"a\"\nsources = [5]", false),
+    ("password = \"a\"\nsources = [\"\"]", false),
+    ("password = \"a\"\nsources = [\"*\"]", false),
+    ("password = \"a\"\nsources = [\"TwelveLetter\"]", false),
     ("salt = \"b\"", false),
 ];
 

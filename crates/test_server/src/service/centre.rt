@@ -45,7 +45,11 @@ pub(crate) fn clock() -> Result<Still, Fail> {
 fn account(alloc: Global) -> Result<CentreAccount, Fail> {
     let address = Address::new(1, 1, "447700900001")?;
     let name = Octets::copy_of(alloc, b"app1")?;
-    Ok(CentreAccount { name, address })
+    Ok(CentreAccount {
+        name,
+        address,
+        sources: Listed::new(alloc),
+    })
 }
 
 fn accounts(alloc: Global) -> Result<Listed<CentreAccount>, Fail> {

@@ -12,5 +12,6 @@ returns c = record {
   frame = λ handset octets tag core. refl;
   link_up = λ handset core. refl;
   link_down = λ handset core. refl;
+  order = λ order id core. refl;
   tick = λ now core. refl;
 }

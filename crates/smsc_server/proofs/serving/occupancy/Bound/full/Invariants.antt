@@ -2,4 +2,4 @@ use Rattle.smsc_server.proofs.serving.Limits.{Tells}
 use Rattle.smsc_server.proofs.serving.occupancy.Bound.full.Given as goal
 
 abbrev pub invariant-loop-account : goal.invariant-loop-account
-invariant-loop-account l = Tells l.fn.self.limits.items l.fn.self.accounts.items l.account l.full
+invariant-loop-account l = Tells l.fn.self.suspended l.fn.self.limits.items l.fn.self.accounts.items l.account l.full

@@ -1,0 +1,53 @@
+//! An operator's retry: all of a message that waits for its handset becomes due.
+ghost use Rattle.std.specs.Prelude.{◌≡◌, Some, IfOk, OnOk};
+ghost use Rattle.sms_centre_rows.specs.messages.Messages.{message_at};
+ghost use Rattle.sms_centre_spec.specs.Draft.{Draft, in_store, messages_in, waiting_in};
+ghost use Rattle.sms_centre_spec.specs.Orders.{is_part_of as is_part_of_it, message_due as message_due_of, parts_among as parts_among_of};
+ghost use Rattle.sms_centre_draft.specs.CentreDraft.{Represents};
+
+use crate::centre_draft::CentreDraft;
+use crate::numbers::are_digits;
+use sms_base::MessageId;
+use sms_centre_rows::messages::MessageRow;
+use sms_centre_rows::waiting::QueuedPart;
+use std::alloc::AllocError;
+
+fn is_part_of(id: MessageId, load: &QueuedPart) -> bool
+    ensures { result ≡ is_part_of_it id load.now }
+{
+    load.id == id && load.number != 0
+}
+
+// The parts of the message among what waits.
+fn parts_among(id: MessageId, loads: Vec<QueuedPart>) -> Vec<QueuedPart>
+    ensures { result.items ≡ parts_among_of id loads.items }
+{
+    let mut loads = loads;
+    loads.retain(|load| is_part_of(id, load));
+    loads
+}
+
+impl<'a> CentreDraft<'a> {
+    // The parts of the message that wait for its handset, in memory of its own.
+    #[tactic(auto, using(crate::proofs::NumbersThere::digits_there))]
+    fn waiting_parts(&self, message: &MessageRow) -> Result<Vec<QueuedPart>, AllocError>
+        ensures { (d : Draft) → Represents d self.now → message_at message.now.id (messages_in d.store) ≡ Some message.now
+            → IfOk result (λ parts. parts.items ≡ parts_among_of message.now.id (waiting_in message.now.handset d.store)) }
+    {
+        // A message is to a number.
+        if !are_digits(message.handset.as_slice()) {
+            return Ok(Vec::new(self.alloc));
+        }
+        let loads = self.waiting(message.handset)?;
+        Ok(parts_among(message.id, loads))
+    }
+
+    /// All of the message that waits for its handset is due now.
+    pub fn message_due(&mut self, message: &MessageRow) -> Result<(), AllocError>
+        ensures { (d : Draft) → Represents d self.old → message_at message.now.id (messages_in d.store) ≡ Some message.now
+            → OnOk result (Represents (in_store (message_due_of message.now d.store) d) self.new) }
+    {
+        let parts = self.waiting_parts(message)?;
+        self.all_due(parts.as_slice())
+    }
+}

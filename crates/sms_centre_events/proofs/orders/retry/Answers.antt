@@ -1,0 +1,12 @@
+use Rattle.std.proofs.Common.{Option, OnOk, subst}
+use Rattle.sms_centre_rows.specs.declared.messages.message.MessageRow.{MessageRow}
+use Rattle.sms_centre_spec.specs.Orders.{retried}
+use Rattle.sms_centre_draft.specs.CentreDraft.{Represents}
+use Rattle.sms_centre_events.proofs.FoundMessages.{numbered_stored}
+use Rattle.sms_centre_events.proofs.orders.retry.Goals as goal
+
+pub returns : goal.returns
+returns c = λ d represents.
+    let is = c.in_ok-found.ensures d represents in
+    subst (λ (o : Option MessageRow). OnOk c.retry_found.result (Represents (retried o d) c.retry_found.new.draft)) is
+    (c.retry_found.ensures d represents (numbered_stored c.args.id d.store c.in_ok-found.found is))

@@ -1,0 +1,10 @@
+//! What an operator orders.
+
+/// What an operator orders of a message, whoever sent it.
+#[derive(Clone, Copy, Debug, PartialEq, Eq)]
+pub enum Order {
+    /// What waits of it is due now. It is answered with its state, as a query_sm is.
+    Retry,
+    /// It is not delivered any more. It ends as deleted, and that is reported as any other end is.
+    Delete,
+}

@@ -1,0 +1,171 @@
+//! The accounts' file, read again as the run goes on.
+//!
+//! A run takes over what accounts may do: their rates, and which are suspended. All else of an account it has from its start. So a file
+//! that says something else of an account changes nothing, as one with a fault does.
+use crate::account_file::{accounts_in, document_of, judge_file, line_at, read_file};
+use crate::run_fault::RunFault;
+use crate::setup::allowance_of;
+use smsc_cli::words::{PasswordWords, ServerRun, TableAccount};
+use smsc_server::{Allowance, Allowances, Orders};
+use std::alloc::{AllocError, Global};
+use std::sync::Arc;
+use toml::Value;
+
+/// Who reads the accounts' file again.
+#[derive(Drop)]
+pub struct Reloader {
+    host: HostRuntime,
+    path: String,
+    // The text of the file as the run began.
+    begun: String,
+    opens_accounts: bool,
+    // So many accounts are of words, before those of the file.
+    of_words: usize,
+    allowances: Arc<Allowances>,
+}
+
+// ---- whether an account is still what it was
+
+fn are_same_words(before: &PasswordWords<'_>, now: &PasswordWords<'_>) -> bool {
+    match (before, now) {
+        (PasswordWords::Plain(before), PasswordWords::Plain(now)) => *before == *now,
+        (
+            PasswordWords::Salted { salt, digest },
+            PasswordWords::Salted {
+                salt: other_salt,
+                digest: other_digest,
+            },
+        ) => *salt == *other_salt && *digest == *other_digest,
+        _ => false,
+    }
+}
+
+fn are_same_sources(before: &[Value], now: &[Value]) -> bool {
+    before.len() == now.len()
+        && before
+            .iter()
+            .zip(now.iter())
+            .all(|(before, now)| before.as_str() == now.as_str())
+}
+
+// Whether all is the same but what a run takes over.
+fn is_same(before: &TableAccount<'_>, now: &TableAccount<'_>) -> bool {
+    before.name == now.name
+        && are_same_words(&before.password, &now.password)
+        && before.address == now.address
+        && before.sessions == now.sessions
+        && are_same_sources(before.sources, now.sources)
+}
+
+// The number of the first account that is another, from 1; one too many or too few where all that are there are the same.
+fn first_other(before: &[TableAccount<'_>], now: &[TableAccount<'_>]) -> Option<usize> {
+    let mut number = 0usize;
+    for (before, now) in before.iter().zip(now.iter()) {
+        number = number.saturating_add(1);
+        if !is_same(before, now) {
+            return Some(number);
+        }
+    }
+    if before.len() == now.len() {
+        return None;
+    }
+    Some(number.saturating_add(1))
+}
+
+// ---- what the file allows
+
+fn put_allowed(
+    accounts: &[TableAccount<'_>],
+    of_words: usize,
+    allowed: &mut Vec<Allowance>,
+) -> Result<(), AllocError> {
+    for _ in 0..of_words {
+        allowed.push(Allowance {
+            is_suspended: false,
+            rate: None,
+        })?;
+    }
+    for account in accounts {
+        allowed.push(allowance_of(account))?;
+    }
+    Ok(())
+}
+
+impl Reloader {
+    /// For a run whose file of accounts had that text as it began; none where it has no file.
+    pub fn of(
+        host: HostRuntime,
+        run: &ServerRun<'_>,
+        file: Option<String>,
+        of_words: usize,
+        allowances: &Arc<Allowances>,
+    ) -> Result<Option<Reloader>, AllocError> {
+        match file {
+            Some(begun) => {
+                let reloader = Reloader::new(host, run, begun, of_words, allowances)?;
+                Ok(Some(reloader))
+            }
+            None => Ok(None),
+        }
+    }
+
+    fn new(
+        host: HostRuntime,
+        run: &ServerRun<'_>,
+        begun: String,
+        of_words: usize,
+        allowances: &Arc<Allowances>,
+    ) -> Result<Reloader, AllocError> {
+        let mut path = String::new(host.alloc());
+        path.push_str(run.accounts.unwrap_or(""))?;
+        Ok(Reloader {
+            host,
+            path,
+            begun,
+            opens_accounts: run.opens_accounts,
+            of_words,
+            allowances: Arc::try_clone(allowances)?,
+        })
+    }
+
+    /// The path of the file.
+    pub fn path(&self) -> &str {
+        self.path.as_str()
+    }
+
+    // What accounts may do by the text of the file, of which nothing else may have changed.
+    fn allowed_by(&self, file: &str) -> Result<Vec<Allowance>, RunFault> {
+        let alloc = self.host.alloc();
+        let path = self.path.as_str();
+        let document = document_of(alloc, path, file)?;
+        let accounts = accounts_in(alloc, path, file, &document)?;
+        let begun = self.begun.as_str();
+        let before_document = document_of(alloc, path, begun)?;
+        let before = accounts_in(alloc, path, begun, &before_document)?;
+        if let Some(number) = first_other(before.as_slice(), accounts.as_slice()) {
+            return Err(RunFault::OtherAccount(line_at(path, file, number)));
+        }
+        let mut allowed = Vec::new(alloc);
+        put_allowed(accounts.as_slice(), self.of_words, &mut allowed)?;
+        Ok(allowed)
+    }
+
+    fn read_again(&self) -> Result<Vec<Allowance>, RunFault> {
+        judge_file(&self.host, self.path.as_str(), self.opens_accounts)?;
+        let file = read_file(&self.host, self.path.as_str())?;
+        self.allowed_by(file.as_str())
+    }
+
+    /// Reads the file again. The run takes over what it allows; where it has a fault nothing changes.
+    pub fn reload(&self, orders: &Orders) -> Result<(), RunFault> {
+        let allowed = self.read_again()?;
+        if self
+            .allowances
+            .change(&self.host, orders, allowed.as_slice())
+        {
+            Ok(())
+        } else {
+            Err(RunFault::NoOrders)
+        }
+    }
+}
