@@ -19,7 +19,7 @@ use Rattle.sms_centre_spec.specs.forgetting.Forgetting.{goes_bare}
 use Rattle.sms_centre_spec.specs.forgetting.Forgot.{AreAway, CanForget, Forgot, IsAway, IsAwayTag}
 use Rattle.sms_centre_spec.specs.Draft.{core_of}
 use Rattle.sms_centre_spec.proofs.forgetting.Begins.{begins}
-use Rattle.sms_centre_spec.proofs.forgetting.Going.{going_bare, going_given, going_may, gone, passes}
+use Rattle.sms_centre_spec.proofs.forgetting.Going.{going_bare, going_given, going_may, gone_from, passes}
 use Rattle.sms_centre_spec.proofs.forgetting.Kept.{not_both}
 use Rattle.sms_centre_spec.proofs.forgetting.Removed.{forget_leaves}
 
@@ -45,13 +45,13 @@ record Clear (id : ℕ) (c : Core) : Type 0 where
   answered : is_unanswered id c.sessions ≡ false
   away : is_on_way id c.rows.parts c.lines ≡ false
 
-module _ (before most : ℕ) (c : Core) (s : IsSoundCore c) where
+module _ (before from most : ℕ) (c : Core) (s : IsSoundCore c) where
   abbrev goes : ℕ → Bool
-  goes = is_going_now before most c
+  goes = is_going_now before from most c
 
   clear : (id : ℕ) → goes id ≡ true → Clear id c
   clear id g =
-      let f = gone (may_go_now before c) most c.rows.messages id g in
+      let f = gone_from (may_go_now before c) from most c.rows.messages id g in
       let m : MessageRow = f.row in
       let a = and_parts (goes_bare before c.rows m) (not (is_unanswered m.id c.sessions) && not (is_on_way m.id c.rows.parts c.lines)) f.passes in
       let b = and_parts (not (is_unanswered m.id c.sessions)) (not (is_on_way m.id c.rows.parts c.lines)) a.1 in
@@ -65,9 +65,9 @@ module _ (before most : ℕ) (c : Core) (s : IsSoundCore c) where
 
   pub can_now : CanForget goes c
   can_now = record {
-    may = going_may before most c.rows (may_go_now before c) bare s.rows;
-    bare = going_bare before most c.rows (may_go_now before c) bare s.rows;
-    given = going_given before most c.rows (may_go_now before c) bare s.rows;
+    may = going_may before from most c.rows (may_go_now before c) bare s.rows;
+    bare = going_bare before from most c.rows (may_go_now before c) bare s.rows;
+    given = going_given before from most c.rows (may_go_now before c) bare s.rows;
     answered = λ x id a e. ⊎_elim
         (λ (t : goes id ≡ true). absurd (not_both (is_unanswered id c.sessions) (unanswered_there id x c.sessions a e) (clear id t).answered))
         (λ (t : goes id ≡ false). t)
@@ -98,8 +98,8 @@ module _ (before most : ℕ) (c : Core) (s : IsSoundCore c) where
   pub away_now : AreAway goes c
   away_now l a = way l.link.under_way (stays l a)
 
-  pub forgot_now : Forgot goes (core_of (forget before most c)) c
-  forgot_now = subst (λ (x : Core). Forgot goes x c) (sym (forget_leaves before most c s.rows)) (begins goes c s can_now away_now)
+  pub forgot_now : Forgot goes (core_of (forget before from most c)) c
+  forgot_now = subst (λ (x : Core). Forgot goes x c) (sym (forget_leaves before from most c s.rows)) (begins goes c s can_now away_now)
 
   pub may_now : (m : MessageRow) → Among m c.rows.messages → goes m.id ≡ true → may_go_now before c m ≡ true
-  may_now m a g = passes before most c.rows (may_go_now before c) bare s.rows m a g
+  may_now m a g = passes before from most c.rows (may_go_now before c) bare s.rows m a g
