@@ -20,27 +20,23 @@ use Rattle.sms_centre_spec.specs.forgetting.Forgetting.{going_from, goes_bare}
 
 -- ---- which messages may go now: neither is a receipt of one unanswered, nor is anything of it under way
 
-abbrev pub is_part_of : ℕ → Option PartRow → Bool
-is_part_of id None = false
-is_part_of id (Some p) = p.id == id
+abbrev pub is_held_for : ℕ → Holder → Bool
+is_held_for id (Part n number) = n == id
+is_held_for id (Report n) = n == id
+is_held_for id (Entry n) = false
+is_held_for id (Memory n) = false
 
-abbrev pub is_held_for : ℕ → List PartRow → Holder → Bool
-is_held_for id parts (Part n number) = (n == id) || is_part_of id (part_at n number parts)
-is_held_for id parts (Report n) = n == id
-is_held_for id parts (Entry n) = false
-is_held_for id parts (Memory n) = false
+abbrev pub is_carried : ℕ → Option Carried → Bool
+is_carried id None = false
+is_carried id (Some transfer) = is_held_for id transfer.tag
 
-abbrev pub is_carried : ℕ → List PartRow → Option Carried → Bool
-is_carried id parts None = false
-is_carried id parts (Some transfer) = is_held_for id parts transfer.tag
-
-abbrev pub is_on_way : ℕ → List PartRow → List HandsetLink → Bool
-is_on_way id parts [] = false
-is_on_way id parts (l ∷ ls) = is_carried id parts l.link.under_way || is_on_way id parts ls
+abbrev pub is_on_way : ℕ → List HandsetLink → Bool
+is_on_way id [] = false
+is_on_way id (l ∷ ls) = is_carried id l.link.under_way || is_on_way id ls
 
 abbrev pub may_go_now : ℕ → Core → MessageRow → Bool
 may_go_now before c m =
-    goes_bare before c.rows m && (not (is_unanswered m.id c.sessions) && not (is_on_way m.id c.rows.parts c.lines))
+    goes_bare before c.rows m && (not (is_unanswered m.id c.sessions) && not (is_on_way m.id c.lines))
 
 abbrev pub going_now : ℕ → ℕ → ℕ → Core → List ℕ
 going_now before from most c = going_from (may_go_now before c) from most c.rows.messages
