@@ -76,7 +76,7 @@ keeps_then a b c f g = record {
   parts = λ id n p e.
       let x = f.parts id n p e in
       let y = g.parts id n x.0 x.1.0 in
-      (y.0, (y.1.0, record { reference = y.1.1.reference ∙ x.1.1.reference; tpdu = y.1.1.tpdu ∙ x.1.1.tpdu; done = λ t. y.1.1.done (x.1.1.done t) }));
+      (y.0, (y.1.0, record { id = y.1.1.id ∙ x.1.1.id; reference = y.1.1.reference ∙ x.1.1.reference; tpdu = y.1.1.tpdu ∙ x.1.1.tpdu; done = λ t. y.1.1.done (x.1.1.done t) }));
   reports = λ id r e.
       let x = f.reports id r e in
       let y = g.reports id x.0 x.1.0 in

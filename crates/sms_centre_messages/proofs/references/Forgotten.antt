@@ -1,8 +1,8 @@
 -- What memory has of claims is what the rows without the messages that go lay claim to, too.
-use Rattle.std.proofs.Common.{◌≡◌, ℕ, ◌+◌, List, [], ◌∷◌, Bool, true, false, Option, Some, None, is_some, refl, sym, ◌∙◌, ap, inl, inr, ⊎_elim, arith}
-use Rattle.std.specs.Prelude.{◌⊎◌, ◌&&◌, not, if◌then◌else◌}
+use Rattle.std.proofs.Common.{◌≡◌, ℕ, ◌+◌, List, [], ◌∷◌, Bool, true, false, Option, Some, None, is_some, refl, sym, ◌∙◌, ap, inl, inr, ⊎_elim, eq-eqb, arith}
+use Rattle.std.specs.Prelude.{◌⊎◌, ◌==◌, ◌&&◌, not, if◌then◌else◌}
 use Rattle.std.specs.Str.{bytes_eq}
-use Rattle.std.proofs.lemmas.Bool.{and_left, and_right, cases_Bool}
+use Rattle.std.proofs.lemmas.Bool.{and_left, and_right, cases_Bool, cases_eq, ne_eqb}
 use Rattle.sms_base.specs.Among.{Among}
 use Rattle.sms_rows.specs.table.Table.{Rises}
 use Rattle.sms_centre_rows.specs.declared.messages.message.MessageRow.{MessageRow}
@@ -11,7 +11,7 @@ use Rattle.sms_centre_rows.specs.messages.Messages.{is_pending, message_at, mess
 use Rattle.sms_centre_rows.specs.messages.SplitReferences.{is_delivered, unless_split, wide_in}
 use Rattle.sms_centre_spec.specs.declared.rows.Rows.{Rows}
 use Rattle.sms_centre_spec.specs.SoundRows.{IsSound}
-use Rattle.sms_centre_spec.specs.forgetting.Forgetting.{AreBare, MayGo, kept, part_id, rows_without}
+use Rattle.sms_centre_spec.specs.forgetting.Forgetting.{AreBare, MayGo, is_split_on, kept, part_id, rows_without}
 use Rattle.sms_centre_spec.proofs.forgetting.Kept.{kept_gone, kept_here}
 use Rattle.sms_centre_spec.proofs.forgetting.Looks.{message_stays}
 use Rattle.sms_centre_spec.proofs.forgetting.Splits.{last_same}
@@ -19,6 +19,15 @@ use Rattle.sms_centre_messages.specs.declared.references.message_ends.MessageEnd
 use Rattle.sms_centre_messages.specs.references.Counts.{one_if}
 use Rattle.sms_centre_messages.specs.references.Keys.{key_of}
 use Rattle.sms_centre_messages.specs.references.ReferenceIndex.{ReferenceIndexOf, Represents, holds, holds_any, is_from_handset, is_of, is_reference, last_code, repeats, submitted_with, submitted_with_any, total, wide_of}
+
+-- ---- the last reference, by its code
+
+pub other_last : (n : ℕ) (o : Option ℕ) → not (last_code o == n + 1) ≡ is_split_on (Some n) o
+other_last n None = ap not (ne_eqb 0 (n + 1) (λ (e : 0 ≡ n + 1). absurd (omega (arith, e))))
+other_last n (Some k) = ap not (⊎_elim
+    (λ (e : k ≡ n). eq-eqb (k + 1) (n + 1) (ap (λ (i : ℕ). i + 1) e) ∙ sym (eq-eqb k n e))
+    (λ (e : k ≡ n → ⊥). ne_eqb (k + 1) (n + 1) (λ (q : k + 1 ≡ n + 1). e (omega (arith, q))) ∙ sym (ne_eqb k n e))
+    (cases_eq k n))
 
 -- ---- totals without what counts nothing
 
