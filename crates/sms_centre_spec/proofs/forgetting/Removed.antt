@@ -280,7 +280,7 @@ rows_all rows =
     ∙ ap (λ (l : List ReportRow). record z { messages = rows.messages; parts = rows.parts; reports = l }) (kept_all report_id rows.reports)
     ∙ ap (λ (l : List PriorityRow). record z { messages = rows.messages; parts = rows.parts; reports = rows.reports; priorities = l }) (kept_all priority_key rows.priorities)
 
-all_left : (ids : List ℕ) (s : Store) → Sure (rows_of s) → rows_of (messages_gone ids s) ≡ rows_without (λ (n : ℕ). is_among n ids) (rows_of s)
+pub all_left : (ids : List ℕ) (s : Store) → Sure (rows_of s) → rows_of (messages_gone ids s) ≡ rows_without (λ (n : ℕ). is_among n ids) (rows_of s)
 all_left [] s sure = sym (rows_all (rows_of s))
 all_left (id ∷ ids) s sure =
     let is : ℕ → Bool = λ (n : ℕ). n == id in
@@ -291,7 +291,7 @@ all_left (id ∷ ids) s sure =
     ∙ rows_twice is rest (rows_of s)
     ∙ rows_same (λ (n : ℕ). is n || rest n) (λ (n : ℕ). is_among n (id ∷ ids)) (rows_of s) (λ n. ap (λ (b : Bool). b || rest n) (turn n id))
 
-moment_kept : (ids : List ℕ) (s : Store) → (messages_gone ids s).moment ≡ s.moment
+pub moment_kept : (ids : List ℕ) (s : Store) → (messages_gone ids s).moment ≡ s.moment
 moment_kept [] s = refl
 moment_kept (id ∷ ids) s = moment_kept ids (message_gone id s)
 
@@ -307,7 +307,7 @@ base_kept (id ∷ ids) s = base_kept ids (message_gone id s) ∙ ap (λ (e : Sto
 
 -- ---- the event
 
-sure_rows : (rows : Rows) → IsSound rows → Sure rows
+pub sure_rows : (rows : Rows) → IsSound rows → Sure rows
 sure_rows rows s = record { numbers = λ p a. let i = s.messages.each_part p a in (i.first, i.few); report_keys = s.reports.keys; once = s.reports.once }
 
 pub forget_leaves : (before from most : ℕ) (c : Core) → IsSound c.rows → core_of (forget before from most c) ≡ core_without (is_going_now before from most c) c
@@ -347,7 +347,11 @@ forget_messages before from most c = messages_changed (going_now before from mos
 pub forget_priorities : (before from most : ℕ) (c : Core) → (changes_in (forget before from most c).store).priorities ≡ map (λ (id : ℕ). RemoveRow id) (going_now before from most c)
 forget_priorities before from most c = priorities_changed (going_now before from most c) (store_of c.rows c.moment)
 
-allocations_kept : (ids : List ℕ) (s : Store) → (messages_gone ids s).allocations ≡ s.allocations
+pub setup_kept : (ids : List ℕ) (s : Store) → (messages_gone ids s).setup ≡ s.setup
+setup_kept [] s = refl
+setup_kept (id ∷ ids) s = setup_kept ids (message_gone id s)
+
+pub allocations_kept : (ids : List ℕ) (s : Store) → (messages_gone ids s).allocations ≡ s.allocations
 allocations_kept [] s = refl
 allocations_kept (id ∷ ids) s = allocations_kept ids (message_gone id s)
 
