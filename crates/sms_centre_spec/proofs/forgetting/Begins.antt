@@ -50,7 +50,7 @@ reports_later goes a b (m ∷ ms) l = ⊎_elim
     (λ (t : goes m.id ≡ false). subst (λ (x : List ReportRow). after_reports a x ≤ after_reports (max b m.made) ms) (sym (kept_here report_id goes m ms t)) (reports_later goes (max a m.made) (max b m.made) ms (omega (arith, l))))
     (cases_Bool (goes m.id))
 
-is_member : (id : ℕ) (ns : List ℕ) → Among id ns → is_among id ns ≡ true
+pub is_member : (id : ℕ) (ns : List ℕ) → Among id ns → is_among id ns ≡ true
 is_member id [] a = absurd a
 is_member id (n ∷ ns) a = ⊎_elim
     (λ (e : id ≡ n). ap (λ (b : Bool). b || is_among id ns) (eq-eqb n id (sym e)))

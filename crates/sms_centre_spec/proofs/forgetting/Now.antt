@@ -32,7 +32,7 @@ unanswered_there id s (x ∷ xs) a e = ⊎_elim
     (λ (b : Among s xs). or_right (is_among id x.unanswered) (is_unanswered id xs) (unanswered_there id s xs b e))
     a
 
-on_way_there : (id : ℕ) (l : HandsetLink) (ls : List HandsetLink) → Among l ls → is_carried id l.link.under_way ≡ true → is_on_way id ls ≡ true
+pub on_way_there : (id : ℕ) (l : HandsetLink) (ls : List HandsetLink) → Among l ls → is_carried id l.link.under_way ≡ true → is_on_way id ls ≡ true
 on_way_there id l [] a e = absurd a
 on_way_there id l (x ∷ xs) a e = ⊎_elim
     (λ (q : l ≡ x). ap (λ (b : Bool). b || is_on_way id xs) (ap (λ (y : HandsetLink). is_carried id y.link.under_way) (sym q) ∙ e))

@@ -301,7 +301,7 @@ one_base id s =
     ap (λ (l : List PartRow). record z { parts = l }) (parts_base id 20 s.messages.parts)
     ∙ ap (λ (l : List ReportRow). record z { parts = s.messages.parts.base; reports = l }) (report_base (report_of id (reports_in s)) s.reports)
 
-base_kept : (ids : List ℕ) (s : Store) → base_of (messages_gone ids s) ≡ base_of s
+pub base_kept : (ids : List ℕ) (s : Store) → base_of (messages_gone ids s) ≡ base_of s
 base_kept [] s = refl
 base_kept (id ∷ ids) s = base_kept ids (message_gone id s) ∙ ap (λ (e : Store). base_of e) (gone_is id s) ∙ one_base id s
 

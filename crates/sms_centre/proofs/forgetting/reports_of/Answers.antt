@@ -1,0 +1,1 @@
+use Rattle.sms_centre.proofs.forgetting.reports_of.Goals as goal
