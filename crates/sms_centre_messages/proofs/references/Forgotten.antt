@@ -74,44 +74,39 @@ ended_repeats source handset reference m e =
 -- ---- all of them
 
 module _ (goes : ℕ → Bool) (rows : Rows) (s : IsSound rows) (may : MayGo goes rows) (bare : AreBare goes rows) where
-  few : Rows
+  abbrev few : Rows
   few = rows_without goes rows
 
   own_none : (key : MessageEnds) (p : PartRow) → Among p rows.parts → goes p.id ≡ true → wide_of key p (message_at p.id rows.messages) ≡ None
   own_none key p a t = no_wide key p (message_at p.id rows.messages) (λ m e. bare.own p m a t e)
 
   held_kept : (key : MessageEnds) → total (holds key) few.messages ≡ total (holds key) rows.messages
-  unfolding few
   held_kept key = total_kept message_key goes (holds key) (holds key) rows.messages (λ m a t. free_holds key m (bare.free m a t)) (λ m a t. refl)
 
   own_kept : (key : MessageEnds) → total (submitted_with key few.messages) few.parts ≡ total (submitted_with key rows.messages) rows.parts
-  unfolding few
   own_kept key =
       total_kept part_id goes (submitted_with key rows.messages) (submitted_with key (kept message_key goes rows.messages)) rows.parts
       (λ p a t. ap (λ (o : Option ℕ). one_if (is_reference key.number o)) (own_none key p a t))
       (λ p a t. ap (λ (o : Option MessageRow). one_if (is_reference key.number (wide_of key p o))) (message_stays goes p.id rows.messages t))
 
   held_any_kept : (key : MessageEnds) → total (holds_any key) few.messages ≡ total (holds_any key) rows.messages
-  unfolding few
   held_any_kept key = total_kept message_key goes (holds_any key) (holds_any key) rows.messages (λ m a t. free_holds_any key m (bare.free m a t)) (λ m a t. refl)
 
   own_any_kept : (key : MessageEnds) → total (submitted_with_any key few.messages) few.parts ≡ total (submitted_with_any key rows.messages) rows.parts
-  unfolding few
   own_any_kept key =
       total_kept part_id goes (submitted_with_any key rows.messages) (submitted_with_any key (kept message_key goes rows.messages)) rows.parts
       (λ p a t. ap (λ (o : Option ℕ). one_if (is_some o)) (own_none key p a t))
       (λ p a t. ap (λ (o : Option MessageRow). one_if (is_some (wide_of key p o))) (message_stays goes p.id rows.messages t))
 
   pub holds_without : (k : ReferenceIndexOf) → Represents k rows.messages rows.parts → Represents k (rows_without goes rows).messages (rows_without goes rows).parts
-  unfolding few
   holds_without k h = record {
     held = λ key. h.held key ∙ sym (held_kept key);
     own = λ key. h.own key ∙ sym (own_kept key);
     barred = λ source handset.
         let key = key_of source handset 0 in
         let was = h.barred source handset in
-        let a = held_any_kept key in
-        let b = own_any_kept key in
+        let a : total (holds_any key) few.messages ≡ total (holds_any key) rows.messages = held_any_kept key in
+        let b : total (submitted_with_any key few.messages) few.parts ≡ total (submitted_with_any key rows.messages) rows.parts = own_any_kept key in
         omega (arith, was, a, b);
     last = λ source handset. h.last source handset ∙ ap last_code (sym (last_same goes source handset None rows.messages s.messages.message_keys may.later));
     pending = λ source handset reference.
