@@ -208,7 +208,11 @@ fn going(
 }
 
 // The reports of these messages, whose numbers rise. It looks at all reports, unless no message goes.
-fn reports_of(alloc: Global, log: &ReportLog, ids: &[MessageId]) -> Result<Table<MessageReport>, AllocError>
+fn reports_of(
+    alloc: Global,
+    log: &ReportLog,
+    ids: &[MessageId],
+) -> Result<Table<MessageReport>, AllocError>
     ensures { (rows : List ReportRowOf) → LogRepresents log.now rows → Rises (λ (n : ℕ). n) ids.now → IfOk result (λ found. ArePlaced ids.now found.rows rows) }
 {
     if ids.is_empty() {

@@ -48,7 +48,11 @@ fn remove_report(
 impl<'a> CentreDraft<'a> {
     /// The messages of these numbers go, which the centre may forget as the event begins, each with its parts, its priority and its
     /// report. `found` has the places of their reports.
-    pub fn forget(&mut self, ids: &[MessageId], found: &Table<MessageReport>) -> Result<(), AllocError>
+    pub fn forget(
+        &mut self,
+        ids: &[MessageId],
+        found: &Table<MessageReport>,
+    ) -> Result<(), AllocError>
         ensures { (before from most : ℕ) (c : Core) → IsSoundCore c → Represents (draft_of c) self.old → ids.now ≡ going_now before from most c
             → ArePlaced ids.now found.now.rows c.rows.reports → OnOk result (Represents (forget before from most c) self.new) }
     {

@@ -30,14 +30,14 @@ abbrev below : {A : Type 0} → (A → ℕ) → ℕ → List A → ℕ
 below key n [] = 0
 below key n (x ∷ xs) = if nat_lt (key x) n then suc (below key n xs) else 0
 
-few_abbrev below : {A : Type 0} (key : A → ℕ) (n : ℕ) (xs : List A) → below key n xs ≤ length xs
+few_below : {A : Type 0} (key : A → ℕ) (n : ℕ) (xs : List A) → below key n xs ≤ length xs
 few_below key n [] = omega arith
 few_below key n (x ∷ xs) = by (nat_lt (key x) n) (few_below key n xs) where
   by : (b : Bool) → below key n xs ≤ length xs → (if b then suc (below key n xs) else 0) ≤ suc (length xs)
     by true l = omega (arith, l)
   by false l = omega arith
 
-drop_abbrev below : {A : Type 0} (key : A → ℕ) (n : ℕ) (xs : List A) → drop (below key n xs) xs ≡ rows_from key n xs
+drop_below : {A : Type 0} (key : A → ℕ) (n : ℕ) (xs : List A) → drop (below key n xs) xs ≡ rows_from key n xs
 drop_below key n [] = refl
 drop_below {A = A} key n (x ∷ xs) = by (nat_lt (key x) n) (drop_below key n xs) where
   by : (b : Bool) → drop (below key n xs) xs ≡ rows_from key n xs

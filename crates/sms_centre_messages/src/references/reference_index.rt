@@ -113,7 +113,9 @@ impl ReferenceIndex {
     {
         match message.split_reference {
             Some(reference) => {
-                let last = self.last.of(&MessageEnds::of(&message.source, &message.handset, 0));
+                let last = self
+                    .last
+                    .of(&MessageEnds::of(&message.source, &message.handset, 0));
                 last != u64::from(reference) + 1
             }
             None => true,

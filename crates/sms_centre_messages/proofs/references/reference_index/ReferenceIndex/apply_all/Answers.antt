@@ -16,10 +16,12 @@ loop-change-preserved c =
     let count = length c.args.messages.now - (c.loop-change.change-index + 1) in (
       c.apply.ensures.room count c.args.parts
           (less_room (length c.args.messages.now - c.loop-change.change-index) c.args.parts (count + 1) c.args.parts c.loop-change.self (omega (arith, c.loop-change-test.true)) (omega arith) c.loop-change.invariant.0),
-      (λ ms ps h rises moves. leads_on c.args.messages.now c.loop-change.change-index c.change-item.result c.loop-change.self c.apply.new.self ms ps (omega (arith, c.loop-change-test.true)) c.change-item.is
-          c.apply.ensures.holds (c.loop-change.invariant.1.0 ms ps h rises moves),
-      λ removals. c.apply.ensures.kept (removal_at c.args.messages.now c.loop-change.change-index c.change-item.result (omega (arith, c.loop-change-test.true)) c.change-item.is removals)
-          ∙ c.loop-change.invariant.1.1 removals),
+      (
+        λ ms ps h rises moves. leads_on c.args.messages.now c.loop-change.change-index c.change-item.result c.loop-change.self c.apply.new.self ms ps (omega (arith, c.loop-change-test.true)) c.change-item.is
+            c.apply.ensures.holds (c.loop-change.invariant.1.0 ms ps h rises moves),
+        λ removals. c.apply.ensures.kept (removal_at c.args.messages.now c.loop-change.change-index c.change-item.result (omega (arith, c.loop-change-test.true)) c.change-item.is removals)
+            ∙ c.loop-change.invariant.1.1 removals,
+      ),
     )
 
 pub returns-clause-holds : goal.returns-clause-holds

@@ -16,10 +16,12 @@ loop-revision-preserved c =
     let count = length c.args.parts.now - (c.loop-revision.revision-index + 1) in (
       c.apply_part.ensures.room count
           (less_room 0 (length c.args.parts.now - c.loop-revision.revision-index) 0 (count + 1) c.loop-revision.self (omega arith) (omega (arith, c.loop-revision-test.true)) c.loop-revision.invariant.0),
-      (λ base ms ps is h rises moves. parts_on c.args.messages.now c.args.parts.now c.loop-revision.revision-index c.revision-item.result c.loop-revision.self c.apply_part.new.self ms ps (omega (arith, c.loop-revision-test.true)) c.revision-item.is
-          (λ others k r m. c.apply_part.ensures.holds base ms others is k r m) (c.loop-revision.invariant.1.0 base ms ps is h rises moves),
-      λ removals. c.apply_part.ensures.kept (part_removal_at c.args.parts.now c.loop-revision.revision-index c.revision-item.result (omega (arith, c.loop-revision-test.true)) c.revision-item.is removals)
-          ∙ c.loop-revision.invariant.1.1 removals),
+      (
+        λ base ms ps is h rises moves. parts_on c.args.messages.now c.args.parts.now c.loop-revision.revision-index c.revision-item.result c.loop-revision.self c.apply_part.new.self ms ps (omega (arith, c.loop-revision-test.true)) c.revision-item.is
+            (λ others k r m. c.apply_part.ensures.holds base ms others is k r m) (c.loop-revision.invariant.1.0 base ms ps is h rises moves),
+        λ removals. c.apply_part.ensures.kept (part_removal_at c.args.parts.now c.loop-revision.revision-index c.revision-item.result (omega (arith, c.loop-revision-test.true)) c.revision-item.is removals)
+            ∙ c.loop-revision.invariant.1.1 removals,
+      ),
     )
 
 pub returns-clause-moved : goal.returns-clause-moved
