@@ -34,7 +34,7 @@ few_below : {A : Type 0} (key : A → ℕ) (n : ℕ) (xs : List A) → below key
 few_below key n [] = omega arith
 few_below key n (x ∷ xs) = by (nat_lt (key x) n) (few_below key n xs) where
   by : (b : Bool) → below key n xs ≤ length xs → (if b then suc (below key n xs) else 0) ≤ suc (length xs)
-    by true l = omega (arith, l)
+  by true l = omega (arith, l)
   by false l = omega arith
 
 drop_below : {A : Type 0} (key : A → ℕ) (n : ℕ) (xs : List A) → drop (below key n xs) xs ≡ rows_from key n xs
@@ -42,7 +42,7 @@ drop_below key n [] = refl
 drop_below {A = A} key n (x ∷ xs) = by (nat_lt (key x) n) (drop_below key n xs) where
   by : (b : Bool) → drop (below key n xs) xs ≡ rows_from key n xs
       → drop (if b then suc (below key n xs) else 0) (x ∷ xs) ≡ (if b then rows_from key n xs else x ∷ xs)
-    by true e = e
+  by true e = e
   by false e = refl
 
 alike_below : (names : NamesOf) (n : ℕ) (es : List MessageEntry) (ms : List MessageRow) → AreEntries names es ms → below message_entry_key n es ≡ below message_key n ms
