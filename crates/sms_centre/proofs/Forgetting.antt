@@ -19,6 +19,7 @@ use Rattle.sms_centre_rows.specs.declared.reports.report.ReportKind.TheVariants.
 use Rattle.sms_centre_rows.specs.declared.reports.report.ReportRow.{ReportRow}
 use Rattle.sms_centre_rows.specs.declared.waiting.handset_link.HandsetLink.{HandsetLink}
 use Rattle.sms_centre_rows.specs.messages.Messages.{message_at, message_key}
+use Rattle.sms_centre_rows.specs.messages.PartEntries.{Few}
 use Rattle.sms_centre_rows.specs.reports.Reports.{next_place, place_after, report_key, report_of}
 use Rattle.sms_centre_rows.specs.reports.SoundReports.{AreOnce, FitsOriginator, SoundReports}
 use Rattle.sms_centre_rows.specs.waiting.Links.{line_at, line_of, or_new_line}
@@ -40,6 +41,13 @@ same_bool : (a b : Bool) → (a ≡ true → b ≡ true) → (b ≡ true → a �
 same_bool true b f g = sym (f refl)
 same_bool false true f g = g refl
 same_bool false false f g = refl
+
+pub is_there : {A : Type 0} (o : Option A) → is_some o ≡ not (is_none o)
+is_there None = refl
+is_there (Some x) = refl
+
+pub few_parts : (c : Core) → IsSoundCore c → Few c.rows.parts
+few_parts c s = record { keys = s.rows.messages.part_keys; numbers = λ p a. let i = s.rows.messages.each_part p a in (i.first, i.few) }
 
 -- ---- whether its report is closed, and not the last
 

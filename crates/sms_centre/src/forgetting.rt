@@ -3,6 +3,7 @@ ghost use Rattle.std.specs.Prelude.{◌≡◌, ◌∷◌, [], ◌++◌, ◌&&◌
 ghost use Rattle.sms_rows.specs.table.Table.{Rises};
 ghost use Rattle.sms_centre_rows.specs.declared.reports.report.ReportRow.{ReportRow as ReportRowOf};
 ghost use Rattle.sms_centre_rows.specs.messages.Messages.{message_at};
+ghost use Rattle.sms_centre_rows.specs.messages.SplitReferences.{is_delivered as is_delivered_of};
 ghost use Rattle.sms_centre_rows.specs.reports.Reports.{report_of};
 ghost use Rattle.sms_centre_rows.specs.waiting.Links.{line_of};
 ghost use Rattle.sms_centre_reports.specs.report_log.ReportLog.{Represents as LogRepresents};
@@ -73,9 +74,20 @@ fn bars_reference(state: &CentreState, message: &Message) -> bool
     if state.messages.has_own_wide(message) {
         return true;
     }
-    match message.state {
-        Some(FinalState::Delivered) => false,
-        _ => message.split_reference.is_some(),
+    if message.split_reference.is_none() {
+        return false;
+    }
+    !is_delivered(message.state)
+}
+
+fn is_delivered(state: Option<FinalState>) -> bool
+    ensures { result ≡ is_delivered_of state }
+{
+    match state {
+        Some(FinalState::Delivered) => true,
+        Some(FinalState::Expired) | Some(FinalState::Deleted) | Some(FinalState::Undeliverable) =>
+            false,
+        None => false,
     }
 }
 
