@@ -1,6 +1,7 @@
 -- What a centre asks of a message before it forgets it, by the definition's words.
-use Rattle.std.proofs.Common.{◌≡◌, ℕ, zero, suc, ◌+◌, ◌-◌, ◌<◌, ◌≤◌, List, [], ◌∷◌, ◌++◌, map, length, get_or, drop, add-one, Bool, true, false, Option, Some, None, refl, sym, ◌∙◌, ap, subst, inl, inr, ⊎_elim, eq-eqb, arith}
-use Rattle.std.specs.Prelude.{◌⊎◌, ◌==◌, ◌&&◌, ◌||◌, not, is_none, is_some, nat_lt, slice_get, if◌then◌else◌}
+use Rattle.std.proofs.Common.{◌≡◌, ℕ, zero, suc, ◌+◌, ◌-◌, ◌<◌, ◌≤◌, List, [], ◌∷◌, ◌++◌, map, length, get_or, drop, add-one, Bool, true, false, Option, Some, None, Result, Ok, Err, refl, sym, ◌∙◌, ap, subst, inl, inr, ⊎_elim, eq-eqb, arith}
+use Rattle.std.specs.Prelude.{◌⊎◌, ◌==◌, ◌&&◌, ◌||◌, not, is_none, is_some, nat_lt, slice_get, if◌then◌else◌, IfOk}
+use Rattle.std.proofs.lemmas.Option.{get_or_from_slice_get, slice_get-get_or}
 use Rattle.std.specs.Str.{bytes_eq}
 use Rattle.std.proofs.lemmas.Bool.{and_from, and_left, and_right, cases_Bool, cases_eq, cond_both, eqb-true, lt-ltb, ltb-false, ltb-true, le-ltb, ne_eqb, or_left, or_right}
 use Rattle.sms_base.specs.Among.{Among}
@@ -11,7 +12,7 @@ use Rattle.sms_base.specs.declared.originator.Originator.{Originator}
 use Rattle.sms_base.specs.declared.originator.Originator.TheVariants.{Application, Handset}
 use Rattle.sms_rows.specs.index.Picked.{pick_of}
 use Rattle.sms_rows.specs.table.Keys.{AllDigits}
-use Rattle.sms_rows.specs.table.Table.{AllAbove, Rises}
+use Rattle.sms_rows.specs.table.Table.{AllAbove, Rises, RowsInMemory}
 use Rattle.sms_rows.proofs.table.Tables.{among_found}
 use Rattle.sms_centre_rows.specs.declared.messages.message.MessageRow.{MessageRow}
 use Rattle.sms_centre_rows.specs.declared.reports.report.ReportKind.{ReportKind}
@@ -25,7 +26,11 @@ use Rattle.sms_centre_rows.specs.reports.SoundReports.{AreOnce, FitsOriginator, 
 use Rattle.sms_centre_rows.specs.waiting.Links.{line_at, line_of, or_new_line}
 use Rattle.sms_centre_rows.proofs.reports.AllWaiting.{report_behind, report_found, report_here}
 use Rattle.sms_centre_reports.specs.declared.open_reports.entry.ReportEntry.{ReportEntry}
+use Rattle.sms_centre_reports.specs.declared.report_log.by_message.MessageReport.{MessageReport}
 use Rattle.sms_centre_reports.specs.declared.report_log.log.LoggedReport.{LoggedReport}
+use Rattle.sms_centre_reports.specs.report_log.ByMessage.{reports_between}
+use Rattle.sms_centre_reports.proofs.report_log.Finding.{found_report}
+use Rattle.sms_centre_draft.specs.Forgetting.{ArePlaced, found_place}
 use Rattle.sms_centre_reports.specs.open_reports.Entries.{is_open, open_entry, report_entry}
 use Rattle.sms_centre_reports.specs.report_log.ReportLog.{is_of_last, made_report}
 use Rattle.sms_centre_spec.specs.Draft.{Core}
@@ -259,3 +264,26 @@ high_last x (n ∷ m ∷ ns) d h a = ⊎_elim
     let r = high_last m (m ∷ ns) d h.1 (inl refl) in omega (arith, e, l, r))
     (λ (b : Among x (m ∷ ns)). high_last x (m ∷ ns) d h.1 b)
     a
+
+-- ---- the places of their reports
+
+pub none_placed : (ids : List ℕ) (found : List MessageReport) (rows : List ReportRow) → length ids ≤ 0 → ArePlaced ids found rows
+none_placed [] found rows l = λ id a. absurd a
+none_placed (x ∷ xs) found rows l = absurd (omega (arith, l))
+
+pub no_end : (ids : List ℕ) → slice_get ids (length ids - 1) ≡ None → length ids ≤ 0
+no_end [] e = omega arith
+no_end (x ∷ xs) e =
+    let some : slice_get (x ∷ xs) (length (x ∷ xs) - 1) ≡ Some (get_or (x ∷ xs) (length (x ∷ xs) - 1) x) = slice_get-get_or (x ∷ xs) (length (x ∷ xs) - 1) x (omega arith) in
+    let bad : Some (get_or (x ∷ xs) (length (x ∷ xs) - 1) x) ≡ None = sym some ∙ e in absurd cc
+
+pub placed_all : {E : Type 0} (ids : List ℕ) (rows : List ReportRow) (log : RowsInMemory LoggedReport) (first last : ℕ) (found : Result (RowsInMemory MessageReport) E)
+    → log.rows ≡ map made_report rows → Rises (λ (k : ℕ). k) ids → first ≡ get_or ids 0 first → slice_get ids (length ids - 1) ≡ Some last
+    → IfOk found (λ f. f.rows ≡ reports_between first (last + 1) log.rows) → IfOk found (λ f. ArePlaced ids f.rows rows)
+placed_all ids rows log first last (Err e) is rises low high h = h
+placed_all ids rows log first last (Ok f) is rises low high h = λ id a.
+    let l = low_first id ids first rises a in
+    let r = high_last id ids last rises a in
+    let end : get_or ids (length ids - 1) last ≡ last = get_or_from_slice_get ids (length ids - 1) last last high in
+    ap (λ (l : List MessageReport). found_place id l) (h ∙ ap (λ (l : List LoggedReport). reports_between first (last + 1) l) is)
+    ∙ found_report first (last + 1) id rows (omega (arith, l, low)) (omega (arith, r, end))

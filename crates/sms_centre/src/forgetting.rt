@@ -1,11 +1,12 @@
 //! Which messages a centre may forget, and the plan of it.
-ghost use Rattle.std.specs.Prelude.{◌≡◌, ◌∷◌, [], ◌++◌, ◌&&◌, ℕ, List, Some, is_some, slice_get, IfOk, OnOk};
+ghost use Rattle.std.specs.Prelude.{◌≡◌, ◌∷◌, [], ◌++◌, ◌&&◌, ◌+◌, ℕ, List, Some, get_or, is_some, slice_get, IfOk, OnOk};
 ghost use Rattle.sms_rows.specs.table.Table.{Rises};
 ghost use Rattle.sms_centre_rows.specs.declared.reports.report.ReportRow.{ReportRow as ReportRowOf};
 ghost use Rattle.sms_centre_rows.specs.messages.Messages.{message_at};
 ghost use Rattle.sms_centre_rows.specs.messages.SplitReferences.{is_delivered as is_delivered_of};
 ghost use Rattle.sms_centre_rows.specs.reports.Reports.{report_of};
 ghost use Rattle.sms_centre_rows.specs.waiting.Links.{line_of};
+ghost use Rattle.sms_centre_reports.specs.report_log.ByMessage.{reports_between};
 ghost use Rattle.sms_centre_reports.specs.report_log.ReportLog.{Represents as LogRepresents};
 ghost use Rattle.sms_centre_spec.specs.Draft.{Core, draft_of};
 ghost use Rattle.sms_centre_spec.specs.forgetting.Forget.{forget as forget_of, going_now, is_carried as is_carried_of, is_held_for as is_held_for_of, is_on_way as is_on_way_of, may_go_now as may_go_now_of};
@@ -165,15 +166,30 @@ fn note(
     ensures { (c : Core) → DraftRepresents (draft_of c) draft.now → StateRepresents c state.now
         → OnOk result (ids.new.items ≡ ids.old.items ++ gone_at (may_go_now_of before c) (slice_get c.rows.messages place)) }
 {
-    let Some(message) = state.messages.row(alloc, place)? else {
-        return Ok(());
-    };
-    let goes = may_go_now(draft, state, before, &message);
-    let id = message.id;
-    drop(message);
-    if goes {
-        ids.push(id)?;
+    let found = state.messages.row(alloc, place)?;
+    match found {
+        Some(message) => note_message(draft, state, before, message, ids),
+        None => Ok(()),
     }
+}
+
+fn note_message(
+    draft: &CentreDraft<'_>,
+    state: &CentreState,
+    before: Moment,
+    message: Message,
+    ids: &mut Vec<MessageId>,
+) -> Result<(), AllocError>
+    ensures { (c : Core) → DraftRepresents (draft_of c) draft.now → StateRepresents c state.now → message_at message.id c.rows.messages ≡ Some message
+        → OnOk result (ids.new.items ≡ ids.old.items ++ gone_at (may_go_now_of before c) (Some message)) }
+{
+    let id = message.id;
+    let goes = may_go_now(draft, state, before, &message);
+    drop(message);
+    if !goes {
+        return Ok(());
+    }
+    ids.push(id)?;
     Ok(())
 }
 
@@ -227,13 +243,38 @@ fn reports_of(
 ) -> Result<Table<MessageReport>, AllocError>
     ensures { (rows : List ReportRowOf) → LogRepresents log.now rows → Rises (λ (n : ℕ). n) ids.now → IfOk result (λ found. ArePlaced ids.now found.rows rows) }
 {
-    if ids.is_empty() {
-        return Ok(Table::new(alloc));
+    match ids.get(0) {
+        Some(first) => reports_from(alloc, log, ids, *first),
+        None => Ok(Table::new(alloc)),
     }
-    let first = ids[0].number();
-    let last = ids[ids.len() - 1].number();
-    match last.checked_add(1) {
-        Some(end) => log.between(alloc, first, end),
+}
+
+// The same, where that one is the first.
+fn reports_from(
+    alloc: Global,
+    log: &ReportLog,
+    ids: &[MessageId],
+    first: MessageId,
+) -> Result<Table<MessageReport>, AllocError>
+    ensures { (rows : List ReportRowOf) → LogRepresents log.now rows → Rises (λ (n : ℕ). n) ids.now → first ≡ get_or ids.now 0 first
+        → IfOk result (λ found. ArePlaced ids.now found.rows rows) }
+{
+    match ids.last() {
+        Some(last) => reports_to(alloc, log, first, *last),
+        None => Ok(Table::new(alloc)),
+    }
+}
+
+fn reports_to(
+    alloc: Global,
+    log: &ReportLog,
+    first: MessageId,
+    last: MessageId,
+) -> Result<Table<MessageReport>, AllocError>
+    ensures { IfOk result (λ found. found.rows ≡ reports_between first (last + 1) log.now.rows) }
+{
+    match last.number().checked_add(1) {
+        Some(end) => log.between(alloc, first.number(), end),
         None => Err(AllocError),
     }
 }

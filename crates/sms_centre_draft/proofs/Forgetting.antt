@@ -146,7 +146,7 @@ module _ (before from most : ℕ) (c : Core) (s : IsSoundCore c) where
   may : MayGo goes c.rows
   may = (can_now before from most c s).may
 
-  rises : Rises (λ (k : ℕ). k) ids
+  pub rises : Rises (λ (k : ℕ). k) ids
   rises = going_rises (may_go_now before c) most (rows_from message_key from c.rows.messages) (from_rises from c.rows.messages s.rows.messages.message_keys)
 
   left_reports : (done : List ℕ) → reports_in (messages_gone done first) ≡ kept report_id (λ (n : ℕ). is_among n done) c.rows.reports
