@@ -1,6 +1,6 @@
 mod ActsFirst
 mod AsDefined
-mod Forgetting
+mod MayGo
 mod Forgotten
 mod Promises
 mod Registered

@@ -7,7 +7,7 @@ use Rattle.sms_centre_spec.specs.Draft.{Core}
 use Rattle.sms_centre_spec.specs.SoundCore.{IsSoundCore}
 use Rattle.sms_centre_spec.specs.forgetting.Forgetting.{has_own_wide}
 use Rattle.sms_centre.specs.state.CentreState.{CentreStateOf, Represents as StateRepresents}
-use Rattle.sms_centre.proofs.Forgetting.{few_parts, is_there}
+use Rattle.sms_centre.proofs.MayGo.{few_parts, is_there}
 use Rattle.sms_centre.proofs.forgetting.bars_reference.Goals as goal
 
 pub returns-then-has_own_wide : goal.returns-then-has_own_wide

@@ -1,6 +1,6 @@
 use Rattle.std.proofs.Common.{◌≡◌, List, ℕ, sym, subst}
 use Rattle.sms_rows.specs.table.Table.{Rises}
-use Rattle.sms_centre_draft.proofs.Forgetting.{rises}
+use Rattle.sms_centre_draft.proofs.MessagesGo.{rises}
 use Rattle.sms_centre.specs.state.CentreState.{CentreStateOf, Represents as StateRepresents}
 use Rattle.sms_centre.proofs.forgetting.forget_all.Goals as goal
 

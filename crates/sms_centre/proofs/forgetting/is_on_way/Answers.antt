@@ -3,7 +3,7 @@ use Rattle.std.specs.Prelude.{◌||◌}
 use Rattle.std.proofs.lemmas.Bool.{or_left}
 use Rattle.sms_centre_rows.specs.waiting.Links.{line_of}
 use Rattle.sms_centre_spec.specs.forgetting.Forget.{is_carried}
-use Rattle.sms_centre.proofs.Forgetting.{way_by_ends}
+use Rattle.sms_centre.proofs.MayGo.{way_by_ends}
 use Rattle.sms_centre.proofs.forgetting.is_on_way.Goals as goal
 
 pub returns-then-is_on_way_to : goal.returns-then-is_on_way_to

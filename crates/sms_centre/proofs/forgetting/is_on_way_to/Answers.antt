@@ -3,7 +3,7 @@ use Rattle.sms_base.specs.declared.carried.Carried.{Carried}
 use Rattle.sms_rows.specs.table.Keys.{AllDigits}
 use Rattle.sms_centre_spec.specs.Draft.{draft_of}
 use Rattle.sms_centre_spec.specs.forgetting.Forget.{is_carried}
-use Rattle.sms_centre.proofs.Forgetting.{no_line}
+use Rattle.sms_centre.proofs.MayGo.{no_line}
 use Rattle.sms_centre.proofs.forgetting.is_on_way_to.Goals as goal
 
 pub under_way-requires-clause-digits : goal.under_way-requires-clause-digits

@@ -5,7 +5,7 @@ use Rattle.sms_centre_reports.specs.declared.report_log.log.LoggedReport.{Logged
 use Rattle.sms_centre_reports.specs.report_log.ReportLog.{is_of_last, made_report}
 use Rattle.std.proofs.Common.{List, map}
 use Rattle.sms_centre.specs.state.CentreState.{CentreStateOf, Represents as StateRepresents}
-use Rattle.sms_centre.proofs.Forgetting.{reported_as}
+use Rattle.sms_centre.proofs.MayGo.{reported_as}
 use Rattle.sms_centre.proofs.forgetting.is_reported.Goals as goal
 
 pub returns-then-is_some : goal.returns-then-is_some

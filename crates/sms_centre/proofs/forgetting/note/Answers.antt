@@ -4,7 +4,7 @@ use Rattle.sms_centre_rows.specs.declared.messages.message.MessageRow.{MessageRo
 use Rattle.sms_centre_spec.specs.forgetting.Forget.{may_go_now}
 use Rattle.sms_centre.specs.Forgetting.{gone_at}
 use Rattle.sms_centre.specs.state.CentreState.{CentreStateOf, Represents as StateRepresents}
-use Rattle.sms_centre.proofs.Forgetting.{got_found}
+use Rattle.sms_centre.proofs.MayGo.{got_found}
 use Rattle.sms_centre.proofs.forgetting.note.Goals as goal
 
 pub returns-in-Some : goal.returns-in-Some

@@ -7,7 +7,7 @@ use Rattle.sms_centre_spec.specs.forgetting.Forget.{may_go_now}
 use Rattle.sms_centre_spec.specs.forgetting.Forgetting.{going}
 use Rattle.sms_centre.specs.Forgetting.{gone_at}
 use Rattle.sms_centre.specs.state.CentreState.{CentreStateOf, Represents as StateRepresents}
-use Rattle.sms_centre.proofs.Forgetting.{behind_start, going_more}
+use Rattle.sms_centre.proofs.MayGo.{behind_start, going_more}
 use Rattle.sms_centre.proofs.forgetting.note_each.Goals as goal
 
 pub loop-behind-preserved : goal.loop-behind-preserved

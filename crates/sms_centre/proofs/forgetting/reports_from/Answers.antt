@@ -1,7 +1,7 @@
 use Rattle.std.proofs.Common.{◌≡◌, List, sym, ◌∙◌, ap}
 use Rattle.sms_rows.specs.table.Table.{RowsInMemory}
 use Rattle.sms_centre_reports.specs.declared.report_log.by_message.MessageReport.{MessageReport}
-use Rattle.sms_centre.proofs.Forgetting.{no_end, none_placed, placed_all}
+use Rattle.sms_centre.proofs.MayGo.{no_end, none_placed, placed_all}
 use Rattle.sms_centre.proofs.forgetting.reports_from.Goals as goal
 
 pub returns-in-Some : goal.returns-in-Some

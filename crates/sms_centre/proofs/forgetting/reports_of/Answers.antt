@@ -1,5 +1,5 @@
 use Rattle.std.proofs.Common.{◌≡◌, sym}
-use Rattle.sms_centre.proofs.Forgetting.{none_placed}
+use Rattle.sms_centre.proofs.MayGo.{none_placed}
 use Rattle.sms_centre.proofs.forgetting.reports_of.Goals as goal
 
 pub returns-in-Some : goal.returns-in-Some

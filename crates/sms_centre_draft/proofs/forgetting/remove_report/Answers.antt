@@ -3,7 +3,7 @@ use Rattle.sms_centre_rows.specs.reports.Reports.{report_of, reports_of}
 use Rattle.sms_centre_reports.specs.open_reports.OpenReportsDraft.{DraftRepresents}
 use Rattle.sms_centre_spec.specs.forgetting.Forget.{remove_in, report_out}
 use Rattle.sms_centre_draft.specs.Forgetting.{place_of}
-use Rattle.sms_centre_draft.proofs.Forgetting.{none_removed, removed_ok}
+use Rattle.sms_centre_draft.proofs.MessagesGo.{none_removed, removed_ok}
 use Rattle.sms_centre_draft.proofs.forgetting.remove_report.Goals as goal
 
 pub returns-in-Some : goal.returns-in-Some

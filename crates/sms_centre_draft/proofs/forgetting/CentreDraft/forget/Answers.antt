@@ -2,7 +2,7 @@ use Rattle.std.proofs.Common.{◌≡◌, ℕ, ◌+◌, List, length, get_or, dro
 use Rattle.std.proofs.Math.ListN.{drop_of_length-le}
 use Rattle.sms_centre_spec.specs.forgetting.Forget.{going_now}
 use Rattle.sms_centre_draft.specs.Forgetting.{ArePlaced}
-use Rattle.sms_centre_draft.proofs.Forgetting.{went_all, went_first, went_on}
+use Rattle.sms_centre_draft.proofs.MessagesGo.{went_all, went_first, went_on}
 use Rattle.sms_centre_draft.proofs.forgetting.CentreDraft.forget.Goals as goal
 
 pub loop-id-init : goal.loop-id-init
