@@ -96,8 +96,10 @@ fn is_held_for(tag: Holder, id: MessageId) -> bool
     ensures { result ≡ is_held_for_of id tag }
 {
     match tag {
-        Holder::Part(other, _) | Holder::Report(other) => other.number() == id.number(),
-        Holder::Entry(_) | Holder::Memory(_) => false,
+        Holder::Part(other, _) => other.number() == id.number(),
+        Holder::Report(other) => other.number() == id.number(),
+        Holder::Entry(_) => false,
+        Holder::Memory(_) => false,
     }
 }
 
