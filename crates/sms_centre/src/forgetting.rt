@@ -86,8 +86,9 @@ fn is_delivered(state: Option<FinalState>) -> bool
 {
     match state {
         Some(FinalState::Delivered) => true,
-        Some(FinalState::Expired) | Some(FinalState::Deleted) | Some(FinalState::Undeliverable) =>
-            false,
+        Some(FinalState::Expired) => false,
+        Some(FinalState::Deleted) => false,
+        Some(FinalState::Undeliverable) => false,
         None => false,
     }
 }
