@@ -32,7 +32,7 @@ use Rattle.sms_centre_spec.proofs.forgetting.Kept.{kept_among}
 use Rattle.sms_centre_spec.proofs.forgetting.Looks.{message_stays, waiting_same}
 use Rattle.sms_centre_spec.proofs.forgetting.Moves.{report_stays}
 use Rattle.sms_centre_spec.proofs.forgetting.Now.{can_now, forgot_now}
-use Rattle.sms_centre_spec.proofs.forgetting.Removed.{all_left, allocations_kept, moment_kept, setup_kept, sure_rows}
+use Rattle.sms_centre_spec.proofs.forgetting.Removed.{allocations_kept, moment_kept, rows_left, setup_kept}
 use Rattle.sms_centre_spec.proofs.forgetting.Splits.{next_place_same}
 use Rattle.sms_centre_draft.specs.CentreDraft.{CentreDraftOf, Represents, all_waiting}
 use Rattle.sms_centre_draft.specs.Forgetting.{ArePlaced, CanRemove, found_place, place_of}
@@ -150,7 +150,7 @@ module _ (before from most : ℕ) (c : Core) (s : IsSoundCore c) where
   rises = going_rises (may_go_now before c) most (rows_from message_key from c.rows.messages) (from_rises from c.rows.messages s.rows.messages.message_keys)
 
   left_reports : (done : List ℕ) → reports_in (messages_gone done first) ≡ kept report_id (λ (n : ℕ). is_among n done) c.rows.reports
-  left_reports done = ap (λ (r : Rows). r.reports) (all_left done first (sure_rows c.rows s.rows))
+  left_reports done = ap (λ (r : Rows). r.reports) (rows_left done c.rows c.moment s.rows)
 
   module _ (done : List ℕ) (x : ℕ) (ys : List ℕ) (split : done ++ x ∷ ys ≡ ids) where
     abbrev t : Revised ReportRow
@@ -213,7 +213,7 @@ module _ (before from most : ℕ) (c : Core) (s : IsSoundCore c) where
   behind = messages_gone ids first
 
   after_rows : rows_of behind ≡ rows_without goes c.rows
-  after_rows = all_left ids first (sure_rows c.rows s.rows)
+  after_rows = rows_left ids c.rows c.moment s.rows
 
   sound_after : IsSoundCore (core_of (forget before from most c))
   sound_after = (forgot_now before from most c s).left

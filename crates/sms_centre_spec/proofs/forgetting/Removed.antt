@@ -280,7 +280,7 @@ rows_all rows =
     ∙ ap (λ (l : List ReportRow). record z { messages = rows.messages; parts = rows.parts; reports = l }) (kept_all report_id rows.reports)
     ∙ ap (λ (l : List PriorityRow). record z { messages = rows.messages; parts = rows.parts; reports = rows.reports; priorities = l }) (kept_all priority_key rows.priorities)
 
-pub all_left : (ids : List ℕ) (s : Store) → Sure (rows_of s) → rows_of (messages_gone ids s) ≡ rows_without (λ (n : ℕ). is_among n ids) (rows_of s)
+all_left : (ids : List ℕ) (s : Store) → Sure (rows_of s) → rows_of (messages_gone ids s) ≡ rows_without (λ (n : ℕ). is_among n ids) (rows_of s)
 all_left [] s sure = sym (rows_all (rows_of s))
 all_left (id ∷ ids) s sure =
     let is : ℕ → Bool = λ (n : ℕ). n == id in
@@ -307,8 +307,11 @@ base_kept (id ∷ ids) s = base_kept ids (message_gone id s) ∙ ap (λ (e : Sto
 
 -- ---- the event
 
-pub sure_rows : (rows : Rows) → IsSound rows → Sure rows
+sure_rows : (rows : Rows) → IsSound rows → Sure rows
 sure_rows rows s = record { numbers = λ p a. let i = s.messages.each_part p a in (i.first, i.few); report_keys = s.reports.keys; once = s.reports.once }
+
+pub rows_left : (ids : List ℕ) (rows : Rows) (moment : ℕ) → IsSound rows → rows_of (messages_gone ids (store_of rows moment)) ≡ rows_without (λ (n : ℕ). is_among n ids) rows
+rows_left ids rows moment s = all_left ids (store_of rows moment) (sure_rows rows s)
 
 pub forget_leaves : (before from most : ℕ) (c : Core) → IsSound c.rows → core_of (forget before from most c) ≡ core_without (is_going_now before from most c) c
 forget_leaves before from most c s =
