@@ -3,7 +3,7 @@ use Rattle.std.proofs.Math.ListN.{drop_of_length-le}
 use Rattle.sms_centre_spec.specs.forgetting.Forget.{going_now}
 use Rattle.sms_centre_draft.specs.Forgetting.{ArePlaced}
 use Rattle.sms_centre_draft.proofs.MessagesGo.{went_all, went_first, went_on}
-use Rattle.sms_centre_draft.proofs.forgetting.CentreDraft.forget.Goals as goal
+use Rattle.sms_centre_draft.proofs.centre_draft.CentreDraft.forget.Goals as goal
 
 pub loop-id-init : goal.loop-id-init
 loop-id-init c = λ before from most core sound represents are placed. went_first before from most core sound c.args.self.now represents

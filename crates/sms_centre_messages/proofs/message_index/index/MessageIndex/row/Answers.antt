@@ -8,7 +8,7 @@ use Rattle.sms_centre_messages.specs.declared.message_index.message_entry.Messag
 use Rattle.sms_centre_messages.specs.message_index.MessageIndex.{Represents, MessageIndexOf}
 use Rattle.sms_centre_messages.proofs.message_index.IndexRepresents.{no_row, placed_row}
 use Rattle.sms_centre_messages.proofs.message_index.Places.{get_beyond}
-use Rattle.sms_centre_messages.proofs.message_index.forgettable.MessageIndex.row.Goals as goal
+use Rattle.sms_centre_messages.proofs.message_index.index.MessageIndex.row.Goals as goal
 
 same_row : (r : Result (Option MessageRow) AllocError) (a b : Option MessageRow) → a ≡ b → IfOk r (λ x. x ≡ a) → IfOk r (λ x. x ≡ b)
 same_row (Ok x) a b e h = h ∙ e

@@ -5,7 +5,7 @@ use Rattle.sms_centre_spec.specs.forgetting.Forget.{going_now}
 use Rattle.sms_centre_draft.specs.CentreDraft.{Represents}
 use Rattle.sms_centre_draft.specs.Forgetting.{ArePlaced}
 use Rattle.sms_centre_draft.proofs.MessagesGo.{Went}
-use Rattle.sms_centre_draft.proofs.forgetting.CentreDraft.forget.Given as goal
+use Rattle.sms_centre_draft.proofs.centre_draft.CentreDraft.forget.Given as goal
 
 abbrev pub invariant-loop-id : goal.invariant-loop-id
 invariant-loop-id l =

@@ -7,7 +7,7 @@ use Rattle.sms_centre_messages.specs.declared.message_index.message_entry.Messag
 use Rattle.sms_centre_messages.specs.message_index.Entries.{AreEntries, message_entry_key}
 use Rattle.sms_centre_messages.specs.message_index.MessageIndex.{MessageIndexOf, Represents}
 use Rattle.sms_centre_messages.proofs.message_index.Forgetting.{from_alike}
-use Rattle.sms_centre_messages.proofs.message_index.forgettable.MessageIndex.place_from.Goals as goal
+use Rattle.sms_centre_messages.proofs.message_index.index.MessageIndex.place_from.Goals as goal
 
 pub returns : goal.returns
 returns c = λ ms ps h.

@@ -1,6 +1,6 @@
 use Rattle.std.proofs.Common.{sym, ◌∙◌, arith}
 use Rattle.sms_centre_messages.proofs.message_index.Forgetting.{own_found, own_more, own_none}
-use Rattle.sms_centre_messages.proofs.message_index.forgettable.MessageIndex.is_own_to_last.Goals as goal
+use Rattle.sms_centre_messages.proofs.message_index.index.MessageIndex.is_own_to_last.Goals as goal
 
 pub loop-behind-init : goal.loop-behind-init
 loop-behind-init c = own_none c.args.message.now c.args.self.now.parts.rows

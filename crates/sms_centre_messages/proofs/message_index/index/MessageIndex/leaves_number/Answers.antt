@@ -3,7 +3,7 @@ use Rattle.std.specs.List.{slice_get}
 use Rattle.sms_centre_messages.specs.declared.message_index.message_entry.MessageEntry.{MessageEntry}
 use Rattle.sms_centre_messages.specs.message_index.MessageIndex.{Represents, MessageIndexOf}
 use Rattle.sms_centre_messages.proofs.message_index.Forgetting.{last_leaves, none_leaves}
-use Rattle.sms_centre_messages.proofs.message_index.forgettable.MessageIndex.leaves_number.Goals as goal
+use Rattle.sms_centre_messages.proofs.message_index.index.MessageIndex.leaves_number.Goals as goal
 
 pub returns-in-Some : goal.returns-in-Some
 returns-in-Some c = λ ms ps h.

@@ -5,7 +5,7 @@ use Rattle.sms_rows.specs.table.Keys.{pair_key}
 use Rattle.sms_rows.specs.table.Table.{row_at}
 use Rattle.sms_centre_messages.specs.message_index.Forgettable.{is_own_wide}
 use Rattle.sms_centre_messages.specs.message_index.MessageIndex.{MessageIndexOf}
-use Rattle.sms_centre_messages.proofs.message_index.forgettable.MessageIndex.is_own_wide.Goals as goal
+use Rattle.sms_centre_messages.proofs.message_index.index.MessageIndex.is_own_wide.Goals as goal
 
 pub returns-in-Some : goal.returns-in-Some
 returns-in-Some c =
