@@ -196,6 +196,25 @@ fn note_message(
     Ok(())
 }
 
+// The same of the one so many places behind another.
+fn note_behind(
+    alloc: Global,
+    draft: &CentreDraft<'_>,
+    state: &CentreState,
+    before: Moment,
+    start: usize,
+    behind: usize,
+    ids: &mut Vec<MessageId>,
+) -> Result<(), AllocError>
+    ensures { (c : Core) → DraftRepresents (draft_of c) draft.now → StateRepresents c state.now
+        → OnOk result (ids.new.items ≡ ids.old.items ++ gone_at (may_go_now_of before c) (slice_get c.rows.messages (start + behind))) }
+{
+    match start.checked_add(behind) {
+        Some(place) => note(alloc, draft, state, before, place, ids),
+        None => Err(AllocError),
+    }
+}
+
 fn note_each(
     alloc: Global,
     draft: &CentreDraft<'_>,
@@ -210,10 +229,7 @@ fn note_each(
 {
     let start = state.messages.place_from(from);
     for behind in 0..usize::from(most) {
-        let Some(place) = start.checked_add(behind) else {
-            return Err(AllocError);
-        };
-        note(alloc, draft, state, before, place, ids)?;
+        note_behind(alloc, draft, state, before, start, behind, ids)?;
     }
     Ok(())
 }

@@ -19,8 +19,7 @@ loop-behind-preserved c = λ core represents stands none.
     let ms = rows_from message_key c.args.from core.rows.messages in
     let at : slice_get ms n ≡ slice_get core.rows.messages (c.place_from-start.result + n) =
     ap (λ (l : List MessageRow). slice_get l n) (sym (c.place_from-start.ensures core.rows.messages core.rows.parts was.centre.messages_are)) ∙ behind_start c.place_from-start.result n core.rows.messages in
-    c.in_ok-note.ensures core represents stands
-    ∙ ap (λ (l : List ℕ). l ++ gone_at goes (slice_get core.rows.messages c.let-place.place)) (c.loop-behind.invariant core represents stands none)
-    ∙ ap (λ (k : ℕ). going goes n ms ++ gone_at goes (slice_get core.rows.messages k)) cc
+    c.in_ok-note_behind.ensures core represents stands
+    ∙ ap (λ (l : List ℕ). l ++ gone_at goes (slice_get core.rows.messages (c.place_from-start.result + n))) (c.loop-behind.invariant core represents stands none)
     ∙ ap (λ (o : Option MessageRow). going goes n ms ++ gone_at goes o) (sym at)
     ∙ sym (going_more goes n ms)
