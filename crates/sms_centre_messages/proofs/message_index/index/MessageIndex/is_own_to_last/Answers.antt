@@ -11,6 +11,3 @@ returns-then-is_own_wide c =
 
 pub loop-behind-preserved : goal.loop-behind-preserved
 loop-behind-preserved c = own_more c.args.message.now c.loop-behind.behind c.args.self.now.parts.rows c.loop-behind.invariant (sym c.is_own_wide.ensures ∙ c.if-is_own_wide.false)
-
-pub returns : goal.returns
-returns c = sym c.loop-behind.invariant

@@ -17,7 +17,7 @@ loop-behind-preserved c = λ none.
     let n : ℕ = length rs - 1 - c.loop-behind.behind in
     let e : n ≡ length rs - (c.loop-behind.behind + 1) = omega arith in
     c.in_ok-note.ensures
-    ∙ one_more_found c.args.first c.args.end n (length rs - c.loop-behind.behind) rs c.index-reports-report.result c.loop-behind.found.rows (omega (arith, c.loop-behind-test.true)) (omega arith) c.index-reports-report.is (c.loop-behind.invariant none)
+    ∙ one_more_found c.args.first c.args.end n (length rs - c.loop-behind.behind) rs c.index-reports-reports.result c.loop-behind.found.rows (omega (arith, c.loop-behind-test.true)) (omega arith) c.index-reports-reports.is (c.loop-behind.invariant none)
     ∙ ap (λ (k : ℕ). reports_between c.args.first c.args.end (drop k rs)) e
 
 pub returns : goal.returns
