@@ -264,7 +264,10 @@ fn reports_of(
 {
     match ids.get(0) {
         Some(first) => reports_from(alloc, log, ids, *first),
-        None => Ok(Table::new(alloc)),
+        None => {
+            let none = Table::new(alloc);
+            Ok(none)
+        }
     }
 }
 
@@ -280,7 +283,10 @@ fn reports_from(
 {
     match ids.last() {
         Some(last) => reports_to(alloc, log, first, *last),
-        None => Ok(Table::new(alloc)),
+        None => {
+            let none = Table::new(alloc);
+            Ok(none)
+        }
     }
 }
 
