@@ -1,5 +1,5 @@
 -- What is kept once the plan of forgetting was put in is that of the centre without what went.
-use Rattle.std.proofs.Common.{◌≡◌, ℕ, zero, suc, List, [], ◌∷◌, ◌++◌, map, Bool, true, false, Option, Some, None, refl, sym, ◌∙◌, ap, subst}
+use Rattle.std.proofs.Common.{◌≡◌, ℕ, zero, suc, List, [], ◌∷◌, ◌++◌, map, Bool, false, Option, Some, None, sym, ◌∙◌, ap, subst}
 use Rattle.sms_rows.specs.declared.table.change.Change.{Change}
 use Rattle.sms_rows.specs.declared.table.change.Change.TheVariants.{Remove as RemoveRow}
 use Rattle.sms_rows.specs.table.Table.{all_applied}
@@ -23,8 +23,7 @@ use Rattle.sms_centre_spec.specs.declared.rows.Rows.{Rows}
 use Rattle.sms_centre_spec.specs.declared.setup.Setup.{Setup}
 use Rattle.sms_centre_spec.specs.Draft.{Core, Draft, Store, core_of, messages_in, parts_in, reports_in, rows_after, store_of}
 use Rattle.sms_centre_spec.specs.SoundCore.{IsSoundCore}
-use Rattle.sms_centre_spec.specs.forgetting.Forget.{forget, going_now, is_going_now, message_gone, messages_gone, part_gone, part_out, parts_out}
-use Rattle.sms_centre_spec.specs.forgetting.Forgot.{core_without}
+use Rattle.sms_centre_spec.specs.forgetting.Forget.{forget, going_now, is_going_now, message_gone, messages_gone, part_gone, parts_out}
 use Rattle.sms_centre_spec.proofs.forgetting.Begins.{is_member}
 use Rattle.sms_centre_spec.proofs.forgetting.Looks.{message_stays}
 use Rattle.sms_centre_spec.proofs.forgetting.Moves.{report_stays}

@@ -2,8 +2,7 @@
 use Rattle.std.proofs.Common.{◌≡◌, ℕ, zero, suc, ◌+◌, ◌-◌, ◌<◌, ◌≤◌, List, [], ◌∷◌, ◌++◌, map, length, get_or, drop, add-one, Bool, true, false, Option, Some, None, Result, Ok, Err, refl, sym, ◌∙◌, ap, subst, inl, inr, ⊎_elim, eq-eqb, arith}
 use Rattle.std.specs.Prelude.{◌⊎◌, ◌==◌, ◌&&◌, ◌||◌, not, is_none, is_some, nat_lt, slice_get, if◌then◌else◌, IfOk}
 use Rattle.std.proofs.lemmas.Option.{get_or_from_slice_get, slice_get-get_or}
-use Rattle.std.specs.Str.{bytes_eq}
-use Rattle.std.proofs.lemmas.Bool.{and_from, and_left, and_right, cases_Bool, cases_eq, cond_both, eqb-true, lt-ltb, ltb-false, ltb-true, le-ltb, ne_eqb, or_left, or_right}
+use Rattle.std.proofs.lemmas.Bool.{cases_Bool, cases_eq, eqb-true, lt-ltb, le-ltb, ne_eqb, or_left, or_right}
 use Rattle.sms_base.specs.Among.{Among}
 use Rattle.sms_base.specs.declared.carried.Carried.{Carried}
 use Rattle.sms_base.specs.declared.holder.Holder.{Holder}
@@ -21,11 +20,10 @@ use Rattle.sms_centre_rows.specs.declared.reports.report.ReportRow.{ReportRow}
 use Rattle.sms_centre_rows.specs.declared.waiting.handset_link.HandsetLink.{HandsetLink}
 use Rattle.sms_centre_rows.specs.messages.Messages.{message_at, message_key}
 use Rattle.sms_centre_rows.specs.messages.PartEntries.{Few}
-use Rattle.sms_centre_rows.specs.reports.Reports.{next_place, place_after, report_key, report_of}
+use Rattle.sms_centre_rows.specs.reports.Reports.{place_after, report_key, report_of}
 use Rattle.sms_centre_rows.specs.reports.SoundReports.{AreOnce, FitsOriginator, SoundReports}
 use Rattle.sms_centre_rows.specs.waiting.Links.{line_at, line_of, or_new_line}
 use Rattle.sms_centre_rows.proofs.reports.AllWaiting.{report_behind, report_found, report_here}
-use Rattle.sms_centre_reports.specs.declared.open_reports.entry.ReportEntry.{ReportEntry}
 use Rattle.sms_centre_reports.specs.declared.report_log.by_message.MessageReport.{MessageReport}
 use Rattle.sms_centre_reports.specs.declared.report_log.log.LoggedReport.{LoggedReport}
 use Rattle.sms_centre_reports.specs.report_log.ByMessage.{reports_between}

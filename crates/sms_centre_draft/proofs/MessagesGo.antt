@@ -1,13 +1,11 @@
 -- A centre forgets message by message.
 use Rattle.std.proofs.Common.{◌≡◌, ℕ, zero, suc, ◌+◌, ◌<◌, ◌≤◌, List, [], ◌∷◌, ◌++◌, length, drop, get_or, append-nil, append_assoc, Bool, true, false, Option, Some, None, Result, OnOk, refl, sym, ◌∙◌, ap, subst, inl, inr, ⊎_elim, eq-eqb, arith}
 use Rattle.std.specs.Prelude.{◌⊎◌, ◌==◌, ◌||◌, nat_lt, if◌then◌else◌}
-use Rattle.std.specs.Option.{option_map}
 use Rattle.std.proofs.lemmas.Bool.{cases_Bool, cond_both, ne_eqb, or_left, or_right}
 use Rattle.std.proofs.lemmas.List.{drop_more}
 use Rattle.sms_base.specs.Among.{Among}
 use Rattle.sms_rows.specs.table.Table.{AllAbove, Rises, rows_from}
 use Rattle.sms_centre_rows.specs.declared.messages.message.MessageRow.{MessageRow}
-use Rattle.sms_centre_rows.specs.declared.messages.part.PartRow.{PartRow}
 use Rattle.sms_centre_rows.specs.declared.reports.report.ReportRow.{ReportRow}
 use Rattle.sms_centre_rows.specs.messages.Messages.{Messages, message_at, message_key}
 use Rattle.sms_centre_rows.specs.messages.SplitReferences.{is_among}
@@ -15,14 +13,14 @@ use Rattle.sms_centre_rows.specs.reports.Reports.{next_place, report_key, report
 use Rattle.sms_centre_rows.specs.waiting.References.{Allocations}
 use Rattle.sms_centre_rows.specs.waiting.Revisions.{Revised}
 use Rattle.sms_centre_rows.proofs.reports.AllWaiting.{report_found}
-use Rattle.sms_centre_messages.specs.message_index.MessageIndex.{DraftRepresents as RepresentsMessages, MessageIndexDraftOf as MessagesOf}
+use Rattle.sms_centre_messages.specs.message_index.MessageIndex.{DraftRepresents as RepresentsMessages}
 use Rattle.sms_centre_queue.specs.queues.Representing.{DraftRepresents as RepresentsQueues}
 use Rattle.sms_centre_reports.specs.declared.report_log.by_message.MessageReport.{MessageReport}
 use Rattle.sms_centre_reports.specs.open_reports.Entries.{account_in}
 use Rattle.sms_centre_reports.specs.open_reports.OpenReportsDraft.{DraftRepresents, OpenReportsDraftOf as ReportsOf, made_in}
 use Rattle.sms_centre_spec.specs.declared.rows.Rows.{Rows}
 use Rattle.sms_centre_spec.specs.Consistent.{IsConsistent}
-use Rattle.sms_centre_spec.specs.Draft.{Core, Draft, Store, core_of, draft_of, messages_in, parts_in, reports_in, rows_of, store_of}
+use Rattle.sms_centre_spec.specs.Draft.{Core, Draft, Store, core_of, draft_of, messages_in, reports_in, rows_of, store_of}
 use Rattle.sms_centre_spec.specs.SoundCore.{IsSoundCore}
 use Rattle.sms_centre_spec.specs.SoundRows.{IsSound}
 use Rattle.sms_centre_spec.specs.forgetting.Forget.{forget, going_now, is_going_now, may_go_now, message_gone, message_out, messages_gone, remove_in, report_gone, report_out}

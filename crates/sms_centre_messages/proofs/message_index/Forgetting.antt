@@ -1,5 +1,5 @@
 -- What is asked of a message before it is forgotten is so of its row.
-use Rattle.std.proofs.Common.{◌≡◌, ℕ, zero, suc, ◌+◌, ◌<◌, ◌≤◌, List, [], ◌∷◌, map, length, drop, length-drop, Bool, true, false, Option, Some, None, refl, sym, ◌∙◌, ap, subst, inl, inr, ⊎_elim, eq-eqb, arith}
+use Rattle.std.proofs.Common.{◌≡◌, ℕ, zero, suc, ◌+◌, ◌<◌, ◌≤◌, List, [], ◌∷◌, map, length, drop, length-drop, Bool, true, false, Option, Some, None, refl, sym, ◌∙◌, ap, inl, inr, ⊎_elim, eq-eqb, arith}
 use Rattle.std.specs.List.{slice_get}
 use Rattle.std.specs.Option.{option_map}
 use Rattle.std.specs.Prelude.{◌==◌, ◌&&◌, ◌||◌, ◌-◌, is_some, nat_le, nat_lt, if◌then◌else◌}
@@ -17,11 +17,11 @@ use Rattle.sms_centre_rows.specs.messages.SplitReferences.{unless_split, wide_in
 use Rattle.sms_centre_rows.proofs.messages.Entries.{entry_at}
 use Rattle.sms_centre_spec.specs.forgetting.Forgetting.{has_own_wide, last_submitted, leaves_number}
 use Rattle.sms_centre_messages.specs.declared.message_index.message_entry.MessageEntry.{MessageEntry}
-use Rattle.sms_centre_messages.specs.message_index.Entries.{AreEntries, IsEntry, NamesOf, message_entry_key}
+use Rattle.sms_centre_messages.specs.message_index.Entries.{AreEntries, NamesOf, message_entry_key}
 use Rattle.sms_centre_messages.specs.message_index.Forgettable.{is_own_wide, own_wide_to}
 use Rattle.sms_centre_messages.specs.message_index.MessageIndex.{MessageIndexOf, Represents}
 use Rattle.sms_centre_messages.proofs.message_index.Entries.{same_key}
-use Rattle.sms_centre_messages.proofs.message_index.IndexRepresents.{as_many, next_none, next_some}
+use Rattle.sms_centre_messages.proofs.message_index.IndexRepresents.{next_none, next_some}
 use Rattle.std.proofs.lemmas.Option.{slice_get_within}
 
 -- ---- from a number on

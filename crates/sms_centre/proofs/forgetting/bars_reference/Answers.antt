@@ -1,10 +1,7 @@
-use Rattle.std.proofs.Common.{◌≡◌, Bool, true, false, Option, is_none, is_some, sym, ◌∙◌, ap, subst}
+use Rattle.std.proofs.Common.{◌≡◌, Bool, true, false, is_none, is_some, sym, ◌∙◌, ap, subst}
 use Rattle.std.specs.Prelude.{◌&&◌, ◌||◌, not}
 use Rattle.std.proofs.lemmas.Bool.{or_left}
-use Rattle.sms_centre_rows.specs.messages.PartEntries.{Few}
 use Rattle.sms_centre_rows.specs.messages.SplitReferences.{is_delivered}
-use Rattle.sms_centre_spec.specs.Draft.{Core}
-use Rattle.sms_centre_spec.specs.SoundCore.{IsSoundCore}
 use Rattle.sms_centre_spec.specs.forgetting.Forgetting.{has_own_wide}
 use Rattle.sms_centre.specs.state.CentreState.{CentreStateOf, Represents as StateRepresents}
 use Rattle.sms_centre.proofs.MayGo.{few_parts, is_there}

@@ -1,6 +1,4 @@
-use Rattle.std.proofs.Common.{◌≡◌, List, sym, ◌∙◌, ap}
-use Rattle.sms_rows.specs.table.Table.{RowsInMemory}
-use Rattle.sms_centre_reports.specs.declared.report_log.by_message.MessageReport.{MessageReport}
+use Rattle.std.proofs.Common.{◌≡◌, sym}
 use Rattle.sms_centre.proofs.MayGo.{no_end, none_placed, placed_all}
 use Rattle.sms_centre.proofs.forgetting.reports_from.Goals as goal
 

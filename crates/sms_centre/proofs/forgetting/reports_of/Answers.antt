@@ -1,4 +1,4 @@
-use Rattle.std.proofs.Common.{◌≡◌, sym}
+use Rattle.std.proofs.Common.{◌≡◌}
 use Rattle.sms_centre.proofs.MayGo.{none_placed}
 use Rattle.sms_centre.proofs.forgetting.reports_of.Goals as goal
 

@@ -1,7 +1,5 @@
-use Rattle.std.proofs.Common.{◌≡◌, ℕ, Option, Some, None, Result, OnOk, subst}
+use Rattle.std.proofs.Common.{◌≡◌, ℕ, Option, Some, None, subst}
 use Rattle.sms_centre_rows.specs.reports.Reports.{report_of, reports_of}
-use Rattle.sms_centre_reports.specs.open_reports.OpenReportsDraft.{DraftRepresents}
-use Rattle.sms_centre_spec.specs.forgetting.Forget.{remove_in, report_out}
 use Rattle.sms_centre_draft.specs.Forgetting.{place_of}
 use Rattle.sms_centre_draft.proofs.MessagesGo.{none_removed, removed_ok}
 use Rattle.sms_centre_draft.proofs.forgetting.remove_report.Goals as goal

@@ -1,4 +1,4 @@
-use Rattle.std.proofs.Common.{ℕ, Option, Some, None, is_some, sym, ◌∙◌, ap}
+use Rattle.std.proofs.Common.{ℕ, Option, Some, None, is_some, ◌∙◌, ap}
 use Rattle.sms_centre_rows.specs.declared.messages.parts.PartEntry.{PartEntry}
 use Rattle.sms_centre_rows.specs.messages.PartEntries.{entry_key}
 use Rattle.sms_rows.specs.table.Keys.{pair_key}

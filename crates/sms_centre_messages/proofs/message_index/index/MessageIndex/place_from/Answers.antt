@@ -1,7 +1,7 @@
-use Rattle.std.proofs.Common.{rules, ◌≡◌, List, drop, length, sym, ap, subst, arith}
+use Rattle.std.proofs.Common.{rules, ◌≡◌, List, drop, sym, subst, arith}
 use Rattle.std.specs.Prelude.{nat_lt}
 use Rattle.std.proofs.lemmas.List.Sorted.{IsPartitionPoint-from_clause, IsPartitionedBy-ltb}
-use Rattle.sms_rows.specs.table.Table.{Rises, RowsInMemory, rows_from}
+use Rattle.sms_rows.specs.table.Table.{Rises}
 use Rattle.sms_rows.proofs.table.Places.{keys_rise, drop_point}
 use Rattle.sms_centre_messages.specs.declared.message_index.message_entry.MessageEntry.{MessageEntry}
 use Rattle.sms_centre_messages.specs.message_index.Entries.{AreEntries, message_entry_key}
