@@ -441,7 +441,7 @@ class Centre:
         message.update(state=state, done=self.now)
         if message['wish'] is None or message['wish'] == 'failure' and state == 0:
             return
-        report = {'place': len(self.reports) + 1, 'id': message['id'], 'made': self.now, 'is_done': False, 'attempts': 0, 'due': self.now,
+        report = {'place': self.reports[-1]['place'] + 1 if self.reports else 1, 'id': message['id'], 'made': self.now, 'is_done': False, 'attempts': 0, 'due': self.now,
                   'kind': 'receipt', 'reference': None, 'tpdu': None}
         if message['account'] is None:
             references = self.free_references(message['source'][2], 1)
@@ -456,6 +456,39 @@ class Centre:
         status = (0x00, 0x46, 0x48, 0x40)[message['state']]
         return (bytes([6, message['message_reference']]) + written_address(1, 1, message['handset']) + written_time(message['submitted'])
                 + written_time(message['done']) + bytes([status]))
+
+    # -- forgetting
+
+    def forget(self, before, first, most):
+        """Looks at so many messages from that number on. Those go that ended before that moment and were reported, and that nothing needs."""
+        looked = [message for message in self.messages if message['id'] >= first][:most]
+        gone = {message['id'] for message in looked if self.is_forgettable(message, before)}
+        self.messages, self.parts, self.reports = (
+            [row for row in rows if row['id'] not in gone] for rows in (self.messages, self.parts, self.reports))
+
+    def is_forgettable(self, message, before):
+        id, last = message['id'], self.messages[-1]
+        if message['state'] is None or message['done'] >= before:
+            return False
+        reports = [report for report in self.reports if report['id'] == id]
+        if any(not report['is_done'] or report is self.reports[-1] for report in reports):
+            return False
+        # The next number and the moment of a restart stay.
+        if message is last or message['submitted'] > last['submitted']:
+            return False
+        if any(id in session['unanswered'] for session in self.sessions):
+            return False
+        if any(line.under_way and line.under_way[1][1] == id for line in self.lines.values()):
+            return False
+        return not self.bars(message)
+
+    def bars(self, message):
+        """Whether its reference is barred as long as it is there, or says where the search for the next one begins."""
+        if message['split'] is None:
+            return any(part['id'] == message['id'] and part['key'] and part['key'][0] == 16 for part in self.parts)
+        given = [other['split'] for other in self.messages
+                 if (other['source'], other['handset']) == (message['source'], message['handset']) and other['split'] is not None]
+        return message['state'] != 0 or message['split'] == given[-1]
 
     # -- receipts
 

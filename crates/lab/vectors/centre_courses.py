@@ -31,7 +31,8 @@ STOPPED = ('a lost answer is asked for again', 'a restarted centre offers again'
 # What is asked of a centre before it stops, and once it has started again. What `query` tells is of its answer and of all rows.
 ASKED = ('query id=1', 'query id=2', 'rows', 'table', 'receipts')
 # Lines of rows that are told again as courses.
-AGAIN = ('row', 'submit', 'query', 'cancel', 'retry', 'delete', 'bound', 'unbound', 'receipt', 'frame', 'link_up', 'link_down', 'tick', 'restart', 'repeat', 'start')
+AGAIN = ('row', 'submit', 'query', 'cancel', 'retry', 'delete', 'bound', 'unbound', 'receipt', 'frame', 'link_up', 'link_down', 'tick', 'forget', 'restart',
+         'repeat', 'start')
 PAST, FUTURE = '42209232958500', '42301010000000'
 
 
@@ -145,6 +146,9 @@ class Play:
             centre.meet(centre.frame, PLACES[words[1]], bytes.fromhex(words[2]), tag_in(fields))
         elif kind == 'tick':
             centre.meet(centre.tick, START + int(words[1]))
+        elif kind == 'forget':
+            centre.frames, centre.answer, centre.deliveries = [], None, []
+            centre.forget(START + int(fields['before']), int(fields['from']), int(fields['most']))
         elif kind == 'restart':
             centre.restart([PLACES[fields['up']]] if 'up' in fields else [])
             centre.frames, centre.answer, centre.deliveries = [], None, []
@@ -465,6 +469,11 @@ class Course:
         # now and then a clock that goes back
         return f'tick {0 if self.one_in(12) else self.seconds}'
 
+    def forget(self):
+        messages = self.play.centre.messages
+        first = self.of((3, 1), (1, messages[0]['id'] if messages else 1), (1, self.dice.randrange(1, 40)))
+        return f'forget before={self.of((3, self.seconds), (1, self.seconds + 1), (2, self.seconds // 2))} from={first} most={self.of((3, 200), (1, 5), (1, 0))}'
+
     def restart(self):
         return self.of((1, 'restart'), (1, 'restart session=2'), (1, 'restart up=A'), (1, 'restart up=B'), (1, 'restart up=C'))
 
@@ -472,7 +481,7 @@ class Course:
         line = self.of(
             (14, self.submit), (2, lambda: self.question('query')), (1, lambda: self.question('cancel')), (1, self.order), (2, self.bound),
             (1, lambda: f'unbound session={self.dice.randrange(5)}'), (4, self.receipt), (24, self.frame),
-            (4, lambda: f'link_up {self.handset()}'), (1, lambda: f'link_down {self.handset()}'), (6, self.tick), (1, self.restart))()
+            (4, lambda: f'link_up {self.handset()}'), (1, lambda: f'link_down {self.handset()}'), (6, self.tick), (1, self.restart), (1, self.forget))()
         self.lines.append(line)
         self.play.line(line)
         for handset, frame, carried, _ in self.play.centre.frames:

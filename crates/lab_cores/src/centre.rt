@@ -8,6 +8,7 @@
 //! - `sweep LINE` makes the event, or a `restart`, again and again while memory is refused. It prints that the plan was
 //!   refused, and then what followed. `sweep commit LINE` prints besides that the commit was refused: one that puts octets takes memory.
 //! - `hostile HANDSET COUNT SEED HEX` makes so many frames of a fixed generator arrive, some of them the true frame HEX with faults.
+//! - `forget before=SECONDS from=NUMBER most=COUNT` makes the centre forget, and commits it.
 //! - `table`, `receipts` and `rows` print what the centre and its store hold.
 //! - `unsound` prints how a centre starts with the rows of the store but for the priorities.
 //! - `measure FINISHED OPEN TURNS` prints a checksum for each kind of event, and on standard error how long the kind took.

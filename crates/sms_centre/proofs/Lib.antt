@@ -1,5 +1,7 @@
 mod ActsFirst
 mod AsDefined
+mod MayGo
+mod Forgotten
 mod Promises
 mod Registered
 mod Stopped

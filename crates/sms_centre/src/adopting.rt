@@ -1,8 +1,9 @@
 //! Putting a plan in.
-ghost use Rattle.std.specs.Prelude.{◌≡◌};
+ghost use Rattle.std.specs.Prelude.{◌≡◌, ℕ};
 ghost use Rattle.sms_centre_spec.specs.CentreEvent.{happened};
 ghost use Rattle.sms_centre_spec.specs.Draft.{Core, core_of};
 ghost use Rattle.sms_centre_spec.specs.SoundCore.{IsEvent};
+ghost use Rattle.sms_centre_spec.specs.forgetting.Forget.{forget};
 ghost use Rattle.sms_centre_spec.specs.declared.event.CentreEvent.{CentreEvent as CentreEventOf};
 ghost use Rattle.sms_centre.specs.Planning.{Fits};
 ghost use Rattle.sms_centre.specs.plans.EventOutcome.{IsOutcome};
@@ -30,6 +31,8 @@ pub(crate) fn put_in(
     ensures setup { centre_state.new.setup ≡ centre_state.old.setup }
     ensures centre_state { (event : CentreEventOf) (c : Core) → Represents c centre_state.old → IsEvent event → IsOutcome (happened event c) planned.plan
         → Represents (core_of (happened event c)) centre_state.new }
+    ensures forgotten { (before from most : ℕ) (c : Core) → Represents c centre_state.old → IsOutcome (forget before from most c) planned.plan
+        → Represents (core_of (forget before from most c)) centre_state.new }
 {
     every_event_keeps_what_is_awaited();
     let Plan { plan, log } = planned;

@@ -5,6 +5,7 @@ ghost use Rattle.sms_centre_rows.specs.waiting.SoundAllocations.{IsNumber};
 ghost use Rattle.sms_centre_spec.specs.declared.event.CentreEvent.{CentreEvent as CentreEventOf};
 ghost use Rattle.sms_centre_spec.specs.CentreEvent.{happened, moment_of, recovered, started};
 ghost use Rattle.sms_centre_spec.specs.Draft.{Core, core_of};
+ghost use Rattle.sms_centre_spec.specs.forgetting.Forget.{forget};
 ghost use Rattle.sms_centre_spec.specs.Requests.{cancel_refusal, octets_refusal, query_refusal};
 ghost use Rattle.sms_centre_spec.specs.SoundCore.{AreDifferent, HasNumber, IsEvent};
 ghost use Rattle.sms_centre_spec.specs.SoundRows.{IsSetup};
@@ -25,6 +26,7 @@ ghost use Rattle.sms_centre.specs.state.CentreState.{Represents};
 use crate::acting::is_event;
 use crate::adopting::put_in;
 use crate::finishing::plan_of;
+use crate::forgetting::plan_forget;
 use crate::plan::Plan;
 use crate::plans::Outputs;
 use crate::refusing::{cancel_refusal, query_refusal, submit_refusal};
@@ -196,6 +198,18 @@ impl Centre {
         )
     }
 
+    /// What it leads to that the centre forgets. It looks at so many messages, from that number on. Those go that ended before that
+    /// moment and were reported, where nobody can tell but who asks for them. Nothing has changed yet.
+    ///
+    /// # Errors
+    /// A growth was refused.
+    pub fn plan_forget(&self, before: Moment, from: u64, most: u16) -> Result<Plan, AllocError>
+        ensures outcome { (c : Core) → Represents c self.now → IfOk result (λ p. IsOutcome (forget before from most c) p.plan) }
+        ensures fits { IfOk result (Fits self.now) }
+    {
+        plan_forget(self.alloc, &self.centre_state, before, from, most)
+    }
+
     /// The status with which its octets refuse a submit_sm of that account, if they do. It takes no memory: a caller has it also
     /// where `plan` finds none.
     pub fn submit_refusal(&self, account: u8, message: &SubmitSm<'_>) -> Option<CommandStatus>
@@ -218,12 +232,14 @@ impl Centre {
         cancel_refusal(&self.centre_state, account, cancel)
     }
 
-    /// Puts the plan of an event into the centre, without taking memory, and gives what leaves.
+    /// Puts the plan of an event or of forgetting into the centre, without taking memory, and gives what leaves.
     pub fn adopt(&mut self, planned: Plan) -> Outputs
         requires { Fits self.old planned }
         ensures outputs { result ≡ planned.plan.outputs }
         ensures centre_state { (event : CentreEventOf) (c : Core) → Represents c self.old → IsEvent event → IsOutcome (happened event c) planned.plan
             → Represents (core_of (happened event c)) self.new }
+        ensures forgotten { (before from most : ℕ) (c : Core) → Represents c self.old → IsOutcome (forget before from most c) planned.plan
+            → Represents (core_of (forget before from most c)) self.new }
     {
         let kept = Listed::new(self.alloc);
         let (changes, outputs) = put_in(&mut self.centre_state, planned, kept);
@@ -242,6 +258,8 @@ impl Centre {
         ensures outputs { IfOk result (λ r. r.1 ≡ planned.plan.outputs) }
         ensures centre_state { (event : CentreEventOf) (c : Core) → Represents c self.old → IsEvent event → IsOutcome (happened event c) planned.plan
             → OnOk result (Represents (core_of (happened event c)) self.new) }
+        ensures forgotten { (before from most : ℕ) (c : Core) → Represents c self.old → IsOutcome (forget before from most c) planned.plan
+            → OnOk result (Represents (core_of (forget before from most c)) self.new) }
         ensures same { OnErr result (self.new ≡ self.old) }
     {
         match copy_of_changes(self.alloc, planned.changes().messages.as_slice()) {

@@ -44,7 +44,7 @@ fn with_log(
 }
 
 // The plan of the centre as it is.
-fn planned(
+pub(crate) fn planned(
     alloc: Global,
     centre_state: &CentreState,
     draft: CentreDraft<'_>,

@@ -11,6 +11,7 @@
 //! - `adopting`: a plan, put in
 //! - `centre`: the centre and its calls
 //! - `finishing`: what follows an event, and its plan
+//! - `forgetting`: which messages a centre may forget, and the plan of it
 //! - `laws`: laws of the centre's events
 //! - `lending`: a centre that is lent
 //! - `plan`: a plan, as callers see it
@@ -23,6 +24,7 @@ mod acting;
 mod adopting;
 mod centre;
 mod finishing;
+mod forgetting;
 pub mod laws;
 mod lending;
 mod plan;

@@ -2,6 +2,7 @@ pub mod AnswerLengths
 pub mod Begun
 pub mod DueNow
 pub mod Entering
+pub mod MessagesGo
 pub mod FoundOpen
 pub mod MovesWaiting
 pub mod NumbersThere

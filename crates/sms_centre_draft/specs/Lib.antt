@@ -6,3 +6,4 @@ pub mod DueNow
 pub mod Beginning
 pub mod Aging
 pub mod walks
+pub mod Forgetting

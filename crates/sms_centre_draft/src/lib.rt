@@ -9,6 +9,7 @@
 //! - `answers`: answers to units of handsets (3GPP TS 24.011 6)
 //! - `asking`: questions over many handsets or reports, and receipts that are sent
 //! - `ends`: how a message ends, and its report
+//! - `forgetting`: messages that leave the centre
 //! - `links`: links that are lost, and timers that fire
 //! - `moves`: one change of what the centre keeps, each
 //! - `numbers`: the numbers of handsets
@@ -29,6 +30,7 @@ mod answers;
 mod asking;
 mod centre_draft;
 mod ends;
+mod forgetting;
 mod links;
 mod moves;
 mod numbers;

@@ -1,4 +1,5 @@
 pub mod Entries
+pub mod Forgetting
 pub mod IndexRepresents
 pub mod PastOnes
 pub mod Places

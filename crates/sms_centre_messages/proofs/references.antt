@@ -3,6 +3,7 @@ pub mod Answering
 pub mod Behind
 pub mod Ending
 pub mod Entering
+pub mod Forgotten
 pub mod Recovering
 pub mod Tallies
 pub mod Written

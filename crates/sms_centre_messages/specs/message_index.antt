@@ -1,5 +1,6 @@
 pub mod Entries
 pub mod Expiring
+pub mod Forgettable
 pub mod MessageIndex
 pub mod Newest
 pub mod Puts

@@ -10,6 +10,7 @@ mod changes;
 mod copying;
 mod draft;
 mod expiring;
+mod forgettable;
 mod index;
 pub mod laws;
 mod message_entry;

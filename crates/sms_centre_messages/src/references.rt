@@ -16,6 +16,7 @@ mod recover;
 mod reference_index;
 mod reserve;
 
+pub(crate) use ends::own_reference;
 pub use message_ends::{MessageEnds, Sender};
 pub use reference_index::ReferenceIndex;
 pub use reserve::ReferenceIndexReserve;

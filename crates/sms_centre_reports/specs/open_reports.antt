@@ -7,6 +7,5 @@ pub mod DueReceipts
 pub mod OpenReportsDraft
 pub mod ReceiptMoves
 pub mod OpenReports
-pub mod Removing
 pub mod Serving
 pub mod Updates

@@ -1,2 +1,3 @@
+pub mod ByMessage
 pub mod ReportLog
 pub mod Reporting

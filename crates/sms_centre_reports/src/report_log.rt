@@ -5,6 +5,8 @@
 //! put in without taking memory. `specs/report_log/Telling.antt` says what a centre answers about its messages and
 //! their ends.
 
+mod by_message;
 mod log;
 
+pub use by_message::MessageReport;
 pub use log::{LoggedReport, ReportLog, ReportLogReserve};

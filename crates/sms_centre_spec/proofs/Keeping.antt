@@ -42,7 +42,7 @@ pub same_message : (m : MessageRow) → IsMessageStill m m
 same_message m = record { handset = refl; source = refl; originator = refl; split = refl; final = λ f e. refl }
 
 pub same_part : (p : PartRow) → IsPartStill p p
-same_part p = record { reference = refl; tpdu = refl; done = λ e. e }
+same_part p = record { id = refl; reference = refl; tpdu = refl; done = λ e. e }
 
 pub same_report : (r : ReportRow) → IsReportStill r r
 same_report r = record { kind = refl; made = refl; closed = λ e. e }
@@ -76,7 +76,7 @@ keeps_then a b c f g = record {
   parts = λ id n p e.
       let x = f.parts id n p e in
       let y = g.parts id n x.0 x.1.0 in
-      (y.0, (y.1.0, record { reference = y.1.1.reference ∙ x.1.1.reference; tpdu = y.1.1.tpdu ∙ x.1.1.tpdu; done = λ t. y.1.1.done (x.1.1.done t) }));
+      (y.0, (y.1.0, record { id = y.1.1.id ∙ x.1.1.id; reference = y.1.1.reference ∙ x.1.1.reference; tpdu = y.1.1.tpdu ∙ x.1.1.tpdu; done = λ t. y.1.1.done (x.1.1.done t) }));
   reports = λ id r e.
       let x = f.reports id r e in
       let y = g.reports id x.0 x.1.0 in
@@ -172,7 +172,7 @@ part_far_keeps p q s there done = record {
     is_same x e = cc
 
     still : IsPartStill p (part_reaching q p)
-    still = record { reference = refl; tpdu = refl; done = done }
+    still = record { id = refl; reference = refl; tpdu = refl; done = done }
 
 pub report_far_keeps : (r : ReportRow) (q : Progress) (s : Store) → IsConsistent s → report_of r.id (reports_in s) ≡ Some r → (q.is_done ≡ false → r.progress.is_done ≡ false) → Keeps (rows_of s) (rows_of (with_report_at r q s))
 report_far_keeps r q s k there stays = record {

@@ -40,7 +40,7 @@ module _ (before after : Rows) (k : Keeps before after) where
   sent_still h reference (Part id number) (p, (m, i)) =
       let x = k.parts id number p i.0 in
       let y = k.messages id m i.2 in
-      (x.0, (y.0, (x.1.0, x.1.1.reference ∙ i.1, y.1.0, y.1.1.handset ∙ i.3)))
+      (x.0, (y.0, (x.1.0, x.1.1.reference ∙ i.1, y.1.0, y.1.1.handset ∙ i.3, x.1.1.id ∙ i.4)))
   sent_still h reference (Report id) (r, (m, (tpdu, i))) =
       let x = k.reports id r i.0 in
       let y = k.messages id m i.2 in

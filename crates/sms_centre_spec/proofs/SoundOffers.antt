@@ -86,7 +86,7 @@ part_sent h l (Some p) s e w = of (message_at p.id (messages_in s)) refl
     of (Some m) q =
         let both = and_parts (not p.progress.is_done) (is_pending m && bytes_eq m.handset h) (sym (ap (λ (o : Option MessageRow). waits_for h p o) q) ∙ is_waiting) in
         let to : bytes_eq m.handset h ≡ true = (and_parts (is_pending m) (bytes_eq m.handset h) both.1).1 in
-        (p, (m, (e, reference, ap (λ (i : ℕ). message_at i (messages_in s)) (sym id) ∙ q, (bytes_eq-Decides m.handset h).0 to)))
+        (p, (m, (e, reference, ap (λ (i : ℕ). message_at i (messages_in s)) (sym id) ∙ q, (bytes_eq-Decides m.handset h).0 to, id)))
 
 report_sent : (h : List ℕ) (l : QueuedPart) (o : Option ReportRow) (s : Store) → report_of l.id (reports_in s) ≡ o → report_wait h (messages_in s) o ≡ Some l → IsSentFor h l.reference (Report l.id) (rows_of s)
 report_sent h l None s e w = absurd cc

@@ -1,9 +1,9 @@
 pub mod Kept
-mod Looks
-mod Splits
+pub mod Looks
+pub mod Splits
 mod Sound
 mod Going
-mod Moves
+pub mod Moves
 mod Follow
 mod Answers
 mod Submits
@@ -18,6 +18,6 @@ mod Behind
 mod Runs
 mod Latest
 mod BarsStand
-mod Begins
-mod Removed
-mod Now
+pub mod Begins
+pub mod Removed
+pub mod Now

@@ -18,6 +18,7 @@ pub record IsMessageStill (before after : MessageRow) : Type 0 where
   pub final : (state : FinalState) → before.state ≡ Some state → after ≡ before
 
 pub record IsPartStill (before after : PartRow) : Type 0 where
+  pub id : after.id ≡ before.id
   pub reference : after.reference ≡ before.reference
   pub tpdu : after.tpdu ≡ before.tpdu
   pub done : before.progress.is_done ≡ true → after.progress.is_done ≡ true

@@ -27,11 +27,12 @@ use Rattle.sms_centre_spec.specs.CentreEvent.{moment_of}
 use Rattle.sms_centre_spec.specs.Draft.{Core}
 use Rattle.sms_centre_spec.specs.SoundRows.{IsSound}
 
--- what is under way to a handset is a part of one of its messages under the part's reference, or its status report
+-- What is under way to a handset is a part of one of its messages under the part's reference, or its status report. The part is that
+-- of the message that the tag names.
 abbrev pub IsSentFor : List ℕ → ℕ → Holder → Rows → Type 0
 IsSentFor handset reference (Part id number) rows =
     (p : PartRow) × ((m : MessageRow)
-    × ((part_at id number rows.parts ≡ Some p) × (p.reference ≡ reference) × (message_at id rows.messages ≡ Some m) × (m.handset ≡ handset)))
+    × ((part_at id number rows.parts ≡ Some p) × (p.reference ≡ reference) × (message_at id rows.messages ≡ Some m) × (m.handset ≡ handset) × (p.id ≡ id)))
 IsSentFor handset reference (Report id) rows =
     (r : ReportRow) × ((m : MessageRow)
     × ((tpdu : List ℕ) × ((report_of id rows.reports ≡ Some r) × (r.kind ≡ Status reference tpdu) × (message_at id rows.messages ≡ Some m)

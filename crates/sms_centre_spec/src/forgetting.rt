@@ -1,7 +1,7 @@
 //! Laws of forgetting, over definitions alone: messages that ended long ago and were reported leave the rows.
 //!
-//! No event of `CentreEvent` forgets yet. These laws say what such an event takes out, and that nobody can tell but who asks
-//! for what went. Rows keep no bars yet either, so a message that bars a reference stays (`bars_reference`).
+//! No event of `CentreEvent` forgets: a centre plans it by a call of its own. These laws say what it takes out, and that nobody
+//! can tell but who asks for what went. Rows keep no bars yet either, so a message that bars a reference stays (`bars_reference`).
 ghost use Rattle.std.specs.Prelude.{◌≡◌, ◌≤◌, ◌++◌, ℕ, List, [], map, Bool, Option, None, false, true, length};
 ghost use Rattle.sms_base.specs.Among.{Among};
 ghost use Rattle.sms_base.specs.declared.address.Address.{Address};
@@ -27,7 +27,7 @@ ghost use Rattle.sms_centre_spec.specs.declared.event.CentreEvent.{CentreEvent};
 ghost use Rattle.sms_centre_spec.specs.declared.rows.Rows.{Rows};
 ghost use Rattle.sms_centre_spec.specs.forgetting.Bars.{Bar, bars_left, is_taken_beside, next_beside};
 ghost use Rattle.sms_centre_spec.specs.forgetting.Forget.{forget, going_now, is_going_now, may_go_now};
-ghost use Rattle.sms_centre_spec.specs.forgetting.Forgetting.{AreBare, AreNoLater, MayGo, going, goes_bare, is_going, last_submitted, rows_without};
+ghost use Rattle.sms_centre_spec.specs.forgetting.Forgetting.{AreBare, AreNoLater, MayGo, going_from, goes_bare, is_going, last_submitted, rows_without};
 ghost use Rattle.sms_centre_spec.specs.forgetting.Forgot.{AreAway, AsksOther, CanForget, Forgot, InStep, Same, core_without};
 
 /// Sound rows are sound without the messages that may go.
@@ -69,15 +69,15 @@ pub fn bars_stand_for_what_went()
         ≡ is_taken_beside bars source handset own rows.messages }
 {}
 
-/// Those that are forgotten are messages that may go, and no more than so many.
+/// Those that are forgotten are messages that may go, of numbers from that one on, and no more than so many.
 pub fn what_is_forgotten_may_go()
-    ensures may { (before most : ℕ) (rows : Rows) → IsSound rows → MayGo (is_going before most rows) rows }
-    ensures submitted { (before most : ℕ) (rows : Rows) (m : MessageRow) → IsSound rows → Among m rows.messages → is_going before most rows m.id ≡ true
+    ensures may { (before from most : ℕ) (rows : Rows) → IsSound rows → MayGo (is_going before from most rows) rows }
+    ensures submitted { (before from most : ℕ) (rows : Rows) (m : MessageRow) → IsSound rows → Among m rows.messages → is_going before from most rows m.id ≡ true
         → m.submitted ≤ last_submitted 0 rows.messages }
-    ensures bare { (before most : ℕ) (rows : Rows) → IsSound rows → AreBare (is_going before most rows) rows }
-    ensures each { (before most : ℕ) (rows : Rows) (m : MessageRow) → IsSound rows → Among m rows.messages → is_going before most rows m.id ≡ true
+    ensures bare { (before from most : ℕ) (rows : Rows) → IsSound rows → AreBare (is_going before from most rows) rows }
+    ensures each { (before from most : ℕ) (rows : Rows) (m : MessageRow) → IsSound rows → Among m rows.messages → is_going before from most rows m.id ≡ true
         → goes_bare before rows m ≡ true }
-    ensures few { (before most : ℕ) (rows : Rows) → length (going (goes_bare before rows) most rows.messages) ≤ most }
+    ensures few { (before from most : ℕ) (rows : Rows) → length (going_from (goes_bare before rows) from most rows.messages) ≤ most }
 {}
 
 /// Nothing else goes.
@@ -120,24 +120,24 @@ pub fn it_begins_in_step()
 /// To forget takes out the messages that may go now, and changes nothing else of the centre. What it takes out was
 /// reported, is neither unanswered nor under way, and the centre is in step with the one that keeps it.
 pub fn a_centre_forgets_what_may_go()
-    ensures left { (before most : ℕ) (c : Core) → IsSound c.rows → core_of (forget before most c) ≡ core_without (is_going_now before most c) c }
-    ensures in_step { (before most : ℕ) (c : Core) → IsSoundCore c → Forgot (is_going_now before most c) (core_of (forget before most c)) c }
-    ensures each { (before most : ℕ) (c : Core) (m : MessageRow) → IsSoundCore c → Among m c.rows.messages → is_going_now before most c m.id ≡ true
+    ensures left { (before from most : ℕ) (c : Core) → IsSound c.rows → core_of (forget before from most c) ≡ core_without (is_going_now before from most c) c }
+    ensures in_step { (before from most : ℕ) (c : Core) → IsSoundCore c → Forgot (is_going_now before from most c) (core_of (forget before from most c)) c }
+    ensures each { (before from most : ℕ) (c : Core) (m : MessageRow) → IsSoundCore c → Among m c.rows.messages → is_going_now before from most c m.id ≡ true
         → may_go_now before c m ≡ true }
-    ensures few { (before most : ℕ) (c : Core) → length (going_now before most c) ≤ most }
+    ensures few { (before from most : ℕ) (c : Core) → length (going_now before from most c) ≤ most }
 {}
 
 /// It commits what it takes out: of messages and of priorities one removal each, and nothing of handsets or references.
 /// It sends nothing and answers nobody.
 pub fn what_is_forgotten_is_committed()
-    ensures adopted { (before most : ℕ) (c : Core) → adopted (outcome_of (forget before most c)) c ≡ core_of (forget before most c) }
-    ensures messages { (before most : ℕ) (c : Core)
-        → (changes_in (forget before most c).store).messages ≡ map (λ (id : ℕ). Remove id) (going_now before most c) }
-    ensures priorities { (before most : ℕ) (c : Core)
-        → (changes_in (forget before most c).store).priorities ≡ map (λ (id : ℕ). Remove id) (going_now before most c) }
-    ensures references { (before most : ℕ) (c : Core) → (changes_in (forget before most c).store).references ≡ [] }
-    ensures handsets { (before most : ℕ) (c : Core) → (changes_in (forget before most c).store).handsets ≡ [] }
-    ensures frames { (before most : ℕ) (c : Core) → (forget before most c).links.frames ≡ [] }
-    ensures deliveries { (before most : ℕ) (c : Core) → (forget before most c).bindings.deliveries ≡ [] }
-    ensures answer { (before most : ℕ) (c : Core) → (forget before most c).answer ≡ None }
+    ensures adopted { (before from most : ℕ) (c : Core) → adopted (outcome_of (forget before from most c)) c ≡ core_of (forget before from most c) }
+    ensures messages { (before from most : ℕ) (c : Core)
+        → (changes_in (forget before from most c).store).messages ≡ map (λ (id : ℕ). Remove id) (going_now before from most c) }
+    ensures priorities { (before from most : ℕ) (c : Core)
+        → (changes_in (forget before from most c).store).priorities ≡ map (λ (id : ℕ). Remove id) (going_now before from most c) }
+    ensures references { (before from most : ℕ) (c : Core) → (changes_in (forget before from most c).store).references ≡ [] }
+    ensures handsets { (before from most : ℕ) (c : Core) → (changes_in (forget before from most c).store).handsets ≡ [] }
+    ensures frames { (before from most : ℕ) (c : Core) → (forget before from most c).links.frames ≡ [] }
+    ensures deliveries { (before from most : ℕ) (c : Core) → (forget before from most c).bindings.deliveries ≡ [] }
+    ensures answer { (before from most : ℕ) (c : Core) → (forget before from most c).answer ≡ None }
 {}

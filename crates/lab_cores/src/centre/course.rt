@@ -10,7 +10,7 @@ use crate::centre::sweeping::{Refusals, happens_swept};
 use lab_lines::acts::{act_in, sent};
 use lab_lines::lines::{Happened, SubstituteKeep, Trouble, alone, handset, print_outcome, sum_of};
 use lab_lines::refusals::{MOST_CALLS, Purse};
-use sms_base::{Digits, Listed};
+use sms_base::{Digits, Listed, Moment};
 use sms_centre::{
     Centre, CentreEvent, Outputs, Plan, PlanError, ReceiptSession, RecoverError, Rows, with_centre,
 };
@@ -147,6 +147,19 @@ fn happens(
     }
 }
 
+// What it plans to forget is committed and put in.
+fn forgets(
+    centre: &mut Centre,
+    keep: &mut MemoryKeep,
+    is_kept: &mut bool,
+    before: Moment,
+    from: u64,
+    most: u16,
+) -> Result<Outputs, Trouble> {
+    let planned = centre.plan_forget(before, from, most)?;
+    Ok(adopted(centre, keep, is_kept, planned))
+}
+
 // Why the centre plans nothing with a store that refuses each read, if it does not.
 fn refusal(alloc: Global, centre: &Centre, event: &CentreEvent<'_>) -> Option<PlanError>
     requires { HasNumber event.now }
@@ -226,6 +239,14 @@ impl<'a> Course<'a> {
         }
         let outputs = self.outputs(event)?;
         self.print_outputs(rt, &outputs)
+    }
+
+    /// It looks at so many messages from that number on, and forgets those that may go and ended before that moment.
+    pub(crate) fn forget(&mut self, before: Moment, from: u64, most: u16) -> Result<(), Trouble> {
+        let mut is_kept = false;
+        let outputs = forgets(self.centre, self.keep, &mut is_kept, before, from, most)?;
+        drop(outputs);
+        if is_kept { Ok(()) } else { Err(Trouble::Store) }
     }
 
     /// What the line says happens.

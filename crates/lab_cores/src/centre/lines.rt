@@ -3,7 +3,7 @@ use crate::centre::course::{Course, PrintForm};
 use crate::centre::measuring::measure;
 use lab_lines::acts::{print_receipts, print_rows, print_table};
 use lab_lines::hostile::{Generator, seed_in};
-use lab_lines::lines::{Trouble, place_named, read_number, session, value, word};
+use lab_lines::lines::{Trouble, moment, number, place_named, read_number, session, value, word};
 use std::io::Print;
 
 /// Plays the lines, each with what the lines before it left.
@@ -62,11 +62,25 @@ fn print_centre_receipts(rt: &HostRuntime, course: &Course<'_>) -> Result<(), Tr
 
 fn act(rt: &HostRuntime, course: &mut Course<'_>, kind: &str, line: &str) -> Result<(), Trouble> {
     match kind {
+        "forget" => {
+            forget(course, line)?;
+            course.print_nothing(rt)
+        }
         "restart" => {
             start_again(course, line)?;
             course.print_nothing(rt)
         }
         _ => course.happen(rt, line),
+    }
+}
+
+// `forget before=SECONDS from=NUMBER most=COUNT`.
+fn forget(course: &mut Course<'_>, line: &str) -> Result<(), Trouble> {
+    let before = moment(number(line, "before", 0)?)?;
+    let from = number(line, "from", 1)?;
+    match u16::try_from(number(line, "most", 0)?) {
+        Ok(most) => course.forget(before, from, most),
+        Err(_) => Err(Trouble::BadLine),
     }
 }
 

@@ -1,8 +1,9 @@
 //! Putting in what an event leads to.
-ghost use Rattle.std.specs.Prelude.{◌≡◌};
+ghost use Rattle.std.specs.Prelude.{◌≡◌, ℕ};
 ghost use Rattle.sms_centre_spec.specs.CentreEvent.{happened};
 ghost use Rattle.sms_centre_spec.specs.Draft.{Core, core_of};
 ghost use Rattle.sms_centre_spec.specs.SoundCore.{IsEvent};
+ghost use Rattle.sms_centre_spec.specs.forgetting.Forget.{forget};
 ghost use Rattle.sms_centre_spec.specs.declared.event.CentreEvent.{CentreEvent as CentreEventOf};
 ghost use Rattle.sms_centre_spec.specs.declared.setup.Setup.{Setup as SetupOf};
 ghost use Rattle.sms_centre_messages.specs.references.ReferenceIndex.{Represents as ReferencesRepresent};
@@ -43,6 +44,13 @@ impl EventOutcome {
             → IsCentre c setup moment.old messages.old queues.old reports.old sessions.old.rows
             → ReferencesRepresent reference_index.old c.rows.messages c.rows.parts
             → ReferencesRepresent reference_index.new (core_of (happened event c)).rows.messages (core_of (happened event c)).rows.parts }
+        ensures forgotten { (before from most : ℕ) (c : Core) (setup : SetupOf) → IsOutcome (forget before from most c) self
+            → IsCentre c setup moment.old messages.old queues.old reports.old sessions.old.rows
+            → IsCentre (core_of (forget before from most c)) setup moment.new messages.new queues.new reports.new sessions.new.rows }
+        ensures reference_index_forgets { (before from most : ℕ) (c : Core) (setup : SetupOf) → IsOutcome (forget before from most c) self
+            → IsCentre c setup moment.old messages.old queues.old reports.old sessions.old.rows
+            → ReferencesRepresent reference_index.old c.rows.messages c.rows.parts
+            → ReferencesRepresent reference_index.new (core_of (forget before from most c)).rows.messages (core_of (forget before from most c)).rows.parts }
     {
         let EventOutcome {
             changes,

@@ -1,5 +1,5 @@
 -- What an event leaves is put in.
-use Rattle.std.proofs.Common.{◌≡◌, ℕ, ◌+◌, ◌≤◌, List, [], ◌∷◌, ◌++◌, ◌<◌, length, get_or, drop, Bool, true, false, Option, Some, append-nil, append_assoc, refl, sym, ◌∙◌, ap, subst, arith}
+use Rattle.std.proofs.Common.{◌≡◌, ℕ, zero, suc, ◌+◌, ◌≤◌, List, [], ◌∷◌, ◌++◌, ◌<◌, length, get_or, drop, Bool, true, false, Option, Some, append-nil, append_assoc, refl, sym, ◌∙◌, ap, subst, arith}
 use Rattle.std.specs.Map.{keys_of}
 use Rattle.std.specs.List.{IsDistinct}
 use Rattle.std.specs.Prelude.{◌==◌, if◌then◌else◌}
@@ -22,7 +22,7 @@ use Rattle.sms_centre_rows.specs.waiting.Revisions.{all_revised, amended, revise
 use Rattle.sms_centre_messages.specs.declared.references.message_ends.MessageEnds.{MessageEnds}
 use Rattle.sms_centre_messages.specs.references.ReferenceIndex.{ReferenceIndexOf, Represents, submitted_with, submitted_with_any, total}
 use Rattle.sms_centre_messages.specs.references.Keys.{is_same, key_of, pair_of}
-use Rattle.sms_centre_messages.specs.references.Moves.{AreMoves, ArePartMoves, Fits, HasRoomFor, IsMove, IsPartMove, ReferenceIndexReserveOf, Takes}
+use Rattle.sms_centre_messages.specs.references.Moves.{AreMoves, ArePartMoves, ArePartRemovals, AreRemovals, Fits, HasRoomFor, IsMove, IsPartMove, IsPartRemoval, IsRemoval, ReferenceIndexReserveOf, Takes}
 use Rattle.sms_centre_messages.proofs.references.Written.{same_key, same_here}
 
 -- ---- memory
@@ -110,6 +110,24 @@ less_room n p a b k less few room = record {
 
 next_of : {A : Type 0} (xs : List A) (i : ℕ) (x : A) → i < length xs → x ≡ get_or xs i x → drop i xs ≡ x ∷ drop (i + 1) xs
 next_of xs i x l is = drop_more xs i x l ∙ ap (λ y. y ∷ drop (i + 1) xs) (sym is)
+
+-- ---- one of changes that only take out
+
+removals_left : (i : ℕ) (cs : List (Change MessageRow)) → AreRemovals cs → AreRemovals (drop i cs)
+removals_left zero cs r = r
+removals_left (suc i) [] r = r
+removals_left (suc i) (c ∷ cs) r = removals_left i cs r.1
+
+pub removal_at : (cs : List (Change MessageRow)) (i : ℕ) (c : Change MessageRow) → i < length cs → c ≡ get_or cs i c → AreRemovals cs → IsRemoval c
+removal_at cs i c l is r = (subst (λ (x : List (Change MessageRow)). AreRemovals x) (next_of cs i c l is) (removals_left i cs r)).0
+
+part_removals_left : (i : ℕ) (rs : List (Revision PartRow)) → ArePartRemovals rs → ArePartRemovals (drop i rs)
+part_removals_left zero rs r = r
+part_removals_left (suc i) [] r = r
+part_removals_left (suc i) (c ∷ rs) r = part_removals_left i rs r.1
+
+pub part_removal_at : (rs : List (Revision PartRow)) (i : ℕ) (c : Revision PartRow) → i < length rs → c ≡ get_or rs i c → ArePartRemovals rs → IsPartRemoval c
+part_removal_at rs i c l is r = (subst (λ (x : List (Revision PartRow)). ArePartRemovals x) (next_of rs i c l is) (part_removals_left i rs r)).0
 
 -- so far the changes lead from these messages to those
 pub LeadsTo : List (Change MessageRow) → ℕ → ReferenceIndexOf → List MessageRow → List PartRow → Type 0

@@ -43,6 +43,25 @@ abbrev pub ArePartMoves : List (Change MessageRow) → List (Revision PartRow) �
 ArePartMoves changes [] ms ps = Unit {0}
 ArePartMoves changes (r ∷ rs) ms ps = IsPartMove changes r ms ps × ArePartMoves changes rs ms (revised part_key part_reaching r ps)
 
+-- ---- changes that only take out
+
+abbrev pub IsRemoval : Change MessageRow → Type 0
+IsRemoval (Put row) = ⊥
+IsRemoval (Remove n) = Unit {0}
+
+abbrev pub AreRemovals : List (Change MessageRow) → Type 0
+AreRemovals [] = Unit {0}
+AreRemovals (c ∷ cs) = IsRemoval c × AreRemovals cs
+
+abbrev pub IsPartRemoval : Revision PartRow → Type 0
+IsPartRemoval (PutPart p) = ⊥
+IsPartRemoval (Amend n progress) = ⊥
+IsPartRemoval (RemovePart n) = Unit {0}
+
+abbrev pub ArePartRemovals : List (Revision PartRow) → Type 0
+ArePartRemovals [] = Unit {0}
+ArePartRemovals (r ∷ rs) = IsPartRemoval r × ArePartRemovals rs
+
 -- ---- memory
 
 pub record ReferenceIndexReserveOf : Type 0 where

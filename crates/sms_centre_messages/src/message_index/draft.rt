@@ -2,7 +2,7 @@
 ghost use Rattle.std.specs.Prelude.{◌≡◌, [], ℕ, List, Some, OnOk, IfOk, length, option_copied};
 ghost use Rattle.sms_centre_messages.specs.message_index.MessageIndex.{Fits, Represents, DraftRepresents, found_part, opened};
 ghost use Rattle.sms_centre_messages.specs.message_index.Puts.{tpdu_put};
-ghost use Rattle.sms_centre_messages.specs.message_index.Removing.{remove_message, remove_part, remove_priority};
+ghost use Rattle.sms_centre_spec.specs.forgetting.Forget.{message_out, part_out, parts_out, without_message, without_part, without_priority};
 ghost use Rattle.sms_centre_messages.specs.message_index.Settling.{IsSettled};
 ghost use Rattle.sms_rows.specs.table.Keys.{pair_key};
 ghost use Rattle.sms_centre_rows.specs.messages.Messages.{Messages, all_done, amend_part, message_at, messages_of, part_at, parts_of, put_message, put_part, put_priority};
@@ -140,7 +140,7 @@ impl<'a> MessageIndexDraft<'a> {
 
     /// Takes out the message of that number.
     pub fn remove_message(&mut self, id: MessageId) -> Result<(), AllocError>
-        ensures { (m : Messages) → DraftRepresents self.old m → OnOk result (DraftRepresents self.new (remove_message id m)) }
+        ensures { (m : Messages) → DraftRepresents self.old m → OnOk result (DraftRepresents self.new (without_message id m)) }
     {
         self.messages.push(Change::Remove(Key::of(id.number())))?;
         Ok(())
@@ -148,7 +148,7 @@ impl<'a> MessageIndexDraft<'a> {
 
     /// Takes out the priority of that message.
     pub fn remove_priority(&mut self, id: MessageId) -> Result<(), AllocError>
-        ensures { (m : Messages) → DraftRepresents self.old m → OnOk result (DraftRepresents self.new (remove_priority id m)) }
+        ensures { (m : Messages) → DraftRepresents self.old m → OnOk result (DraftRepresents self.new (without_priority id m)) }
     {
         self.priorities.push(Change::Remove(Key::of(id.number())))?;
         Ok(())
@@ -156,9 +156,39 @@ impl<'a> MessageIndexDraft<'a> {
 
     /// Takes out the part.
     pub fn remove_part(&mut self, entry: &PartEntry) -> Result<(), AllocError>
-        ensures { (m : Messages) → DraftRepresents self.old m → OnOk result (DraftRepresents self.new (remove_part (entry_key entry.now) m)) }
+        ensures { (m : Messages) → DraftRepresents self.old m → OnOk result (DraftRepresents self.new (without_part (entry_key entry.now) m)) }
     {
         self.parts.remove(entry.key())?;
+        Ok(())
+    }
+
+    // Takes out the part of that message and number, if there is one.
+    fn remove_found(&mut self, id: MessageId, number: u8) -> Result<(), AllocError>
+        ensures { (m : Messages) → DraftRepresents self.old m → OnOk result (DraftRepresents self.new (part_out id number m)) }
+    {
+        match self.find_part(id, number) {
+            Some(entry) => self.remove_part(&entry),
+            None => Ok(()),
+        }
+    }
+
+    // Takes out the parts of the message, which has 20 at most.
+    fn remove_parts(&mut self, id: MessageId) -> Result<(), AllocError>
+        ensures { (m : Messages) → DraftRepresents self.old m → OnOk result (DraftRepresents self.new (parts_out id 20 m)) }
+    {
+        for behind in 0u8..20 {
+            self.remove_found(id, behind + 1)?;
+        }
+        Ok(())
+    }
+
+    /// Takes out the message with its parts and its priority.
+    pub fn take_out(&mut self, id: MessageId) -> Result<(), AllocError>
+        ensures { (m : Messages) → DraftRepresents self.old m → OnOk result (DraftRepresents self.new (message_out id m)) }
+    {
+        self.remove_parts(id)?;
+        self.remove_priority(id)?;
+        self.remove_message(id)?;
         Ok(())
     }
 

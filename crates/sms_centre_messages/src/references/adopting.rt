@@ -1,7 +1,7 @@
 //! What an event leaves, put in without taking memory.
 ghost use Rattle.std.specs.Prelude.{◌≡◌, ◌+◌, ℕ, List, Some, None, length, option_copied};
 ghost use Rattle.sms_centre_messages.specs.references.ReferenceIndex.{AreFew, IsNewest, Represents};
-ghost use Rattle.sms_centre_messages.specs.references.Moves.{AreMoves, ArePartMoves, Fits, HasRoomFor, IsMove, IsMoveTo, IsPartMove};
+ghost use Rattle.sms_centre_messages.specs.references.Moves.{AreMoves, ArePartMoves, ArePartRemovals, AreRemovals, Fits, HasRoomFor, IsMove, IsMoveTo, IsPartMove, IsPartRemoval, IsRemoval};
 ghost use Rattle.sms_centre_rows.specs.messages.Messages.{message_at, message_key, part_key, part_reaching};
 ghost use Rattle.sms_centre_rows.specs.declared.messages.message.MessageRow.{MessageRow as MessageRowOf};
 ghost use Rattle.sms_centre_rows.specs.declared.messages.part.PartRow.{PartRow as PartRowOf};
@@ -17,7 +17,8 @@ use sms_rows::table::{Change, Key};
 
 impl ReferenceIndex {
     /// Puts the changes of messages and of parts in, without taking memory. A pending message is new, behind all
-    /// others; one that has an end was pending before. A part is new with its message.
+    /// others; one that has an end was pending before. A part is new with its message. Changes that only take out leave all
+    /// claims as they are.
     pub fn adopt(
         &mut self,
         reserve: ReferenceIndexReserve,
@@ -25,10 +26,12 @@ impl ReferenceIndex {
         parts: &[Revision<PartRow>],
     )
         requires { Fits reserve (length messages.now) (length parts.now) self.old }
-        ensures { (ms : List MessageRowOf) (ps : List PartRowOf) → Represents self.old ms ps → Rises message_key ms → Rises part_key ps
+        ensures moved { (ms : List MessageRowOf) (ps : List PartRowOf) → Represents self.old ms ps → Rises message_key ms → Rises part_key ps
             → AreMoves messages.now ms ps
             → ArePartMoves messages.now parts.now (all_applied message_key messages.now ms) ps
             → Represents self.new (all_applied message_key messages.now ms) (all_revised part_key part_reaching parts.now ps) }
+        ensures kept { (ms : List MessageRowOf) (ps : List PartRowOf) → Represents self.old ms ps → AreRemovals messages.now → ArePartRemovals parts.now
+            → Represents self.new ms ps }
     {
         self.take_in(reserve);
         self.apply_all(messages, parts.len());
@@ -41,6 +44,7 @@ impl ReferenceIndex {
         ensures holds { (ms : List MessageRowOf) (ps : List PartRowOf) → Represents self.old ms ps → Rises message_key ms → AreMoves messages.now ms ps
             → Represents self.new (all_applied message_key messages.now ms) ps }
         ensures room { HasRoomFor 0 parts self.new }
+        ensures kept { AreRemovals messages.now → self.new ≡ self.old }
     {
         for change in messages {
             self.apply(change);
@@ -52,6 +56,7 @@ impl ReferenceIndex {
         ensures holds { (ms : List MessageRowOf) (ps : List PartRowOf) → Represents self.old ms ps → Rises message_key ms → IsMove change.now ms ps
             → Represents self.new (applied message_key change.now ms) ps }
         ensures room { (n p : ℕ) → HasRoomFor (n + 1) p self.old → HasRoomFor n p self.new }
+        ensures kept { IsRemoval change.now → self.new ≡ self.old }
     {
         if let Change::Put(row) = change {
             self.put(row);
@@ -85,9 +90,10 @@ impl ReferenceIndex {
     // The changes of parts, whose messages were put by the others.
     fn apply_parts(&mut self, parts: &[Revision<PartRow>], messages: &[Change<MessageRow>])
         requires { HasRoomFor 0 (length parts.now) self.old }
-        ensures { (base ms : List MessageRowOf) (ps : List PartRowOf) → ms ≡ all_applied message_key messages.now base → Represents self.old ms ps
+        ensures moved { (base ms : List MessageRowOf) (ps : List PartRowOf) → ms ≡ all_applied message_key messages.now base → Represents self.old ms ps
             → Rises part_key ps → ArePartMoves messages.now parts.now ms ps
             → Represents self.new ms (all_revised part_key part_reaching parts.now ps) }
+        ensures kept { ArePartRemovals parts.now → self.new ≡ self.old }
     {
         for revision in parts {
             self.apply_part(revision, messages);
@@ -100,6 +106,7 @@ impl ReferenceIndex {
             → Rises part_key ps
             → IsPartMove messages.now revision.now ms ps → Represents self.new ms (revised part_key part_reaching revision.now ps) }
         ensures room { (n : ℕ) → HasRoomFor 0 (n + 1) self.old → HasRoomFor 0 n self.new }
+        ensures kept { IsPartRemoval revision.now → self.new ≡ self.old }
     {
         match revision {
             Revision::Put(part) => self.put_part(part, messages),

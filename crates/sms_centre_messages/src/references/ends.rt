@@ -109,7 +109,7 @@ fn drop_pending(pending: &mut Counts, row: &MessageRow)
 }
 
 // The 16-bit reference that was submitted with the message.
-fn own_reference(message: &MessageRow, key: &Option<ConcatKey>) -> Option<u16>
+pub(crate) fn own_reference(message: &MessageRow, key: &Option<ConcatKey>) -> Option<u16>
     ensures { result ≡ unless_split message.now.split_reference (wide_in key.now) }
 {
     if message.split_reference.is_some() {

@@ -1,6 +1,7 @@
 //! What earlier messages lay claim to, between two events.
 ghost use Rattle.std.specs.Prelude.{◌≡◌, ◌+◌, ◌%◌, min, [], ◌++◌, List};
 ghost use Rattle.sms_centre_messages.specs.references.ReferenceIndex.{Represents, has_pending};
+ghost use Rattle.sms_centre_spec.specs.forgetting.Forgetting.{leaves_split};
 ghost use Rattle.sms_centre_rows.specs.messages.SplitReferences.{held_splits, is_among, is_taken, next_split, own_splits};
 ghost use Rattle.sms_centre_rows.specs.declared.messages.message.MessageRow.{MessageRow as MessageRowOf};
 ghost use Rattle.sms_centre_rows.specs.declared.messages.part.PartRow.{PartRow as PartRowOf};
@@ -8,6 +9,7 @@ ghost use Rattle.sms_centre_rows.specs.declared.messages.part.PartRow.{PartRow a
 use crate::references::counts::Counts;
 use crate::references::message_ends::MessageEnds;
 use sms_base::{Address, Digits};
+use sms_centre_rows::messages::MessageRow;
 use std::alloc::Global;
 use std::marker::Model;
 
@@ -103,6 +105,21 @@ impl ReferenceIndex {
             reference = reference.wrapping_add(1);
         }
         None
+    }
+
+    /// Whether the centre did not split the message, or has split another of its source and handset since, under another reference.
+    pub fn leaves_split(&self, message: &MessageRow) -> bool
+        ensures { (ms : List MessageRowOf) (ps : List PartRowOf) → Represents self.now ms ps → result ≡ leaves_split message.now ms }
+    {
+        match message.split_reference {
+            Some(reference) => {
+                let last = self
+                    .last
+                    .of(&MessageEnds::of(&message.source, &message.handset, 0));
+                last != u64::from(reference) + 1
+            }
+            None => true,
+        }
     }
 
     /// Whether a message of that handset is pending under that TP-MR: the digits of its source, those of its destination, and

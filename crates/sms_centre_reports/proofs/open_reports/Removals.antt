@@ -17,7 +17,7 @@ use Rattle.sms_centre_rows.specs.waiting.Revisions.{Revised}
 use Rattle.sms_centre_reports.specs.open_reports.Entries.{account_in, is_named, is_open, open_entry, receipt_entry, report_entry, status_entry}
 use Rattle.sms_centre_reports.specs.open_reports.OpenReports.{OpenReportsOf, Represents}
 use Rattle.sms_centre_reports.specs.open_reports.OpenReportsDraft.{OpenReportsDraftOf, DraftRepresents, Stays, made_in}
-use Rattle.sms_centre_reports.specs.open_reports.Removing.{remove_report}
+use Rattle.sms_centre_spec.specs.forgetting.Forget.{remove_in}
 use Rattle.sms_centre_reports.proofs.open_reports.Noting.{noted_gone}
 
 -- ---- rows without it
@@ -133,9 +133,9 @@ module _ (ms : List MessageRow) (r : ReportRow) (rows : List ReportRow) (there :
 pub report_removed : (ms : List MessageRow) (p after : OpenReportsDraftOf) (t : Revised ReportRow) (r : ReportRow) (n : ℕ) → n ≡ r.place
     → after ≡ record { current = p.current; changes = p.changes ++ Remove n ∷ []; made = p.made } → DraftRepresents ms p t
     → report_of r.id (reports_of t) ≡ Some r → r.progress.is_done ≡ true → r.place + 1 < next_place (reports_of t) → made_in r.id t.news ≡ None
-    → DraftRepresents ms after (remove_report r.place t)
+    → DraftRepresents ms after (remove_in r.place t)
 report_removed ms p after t r n e is tells there closed low none =
-    subst (λ (d : OpenReportsDraftOf). DraftRepresents ms d (remove_report r.place t)) (sym (is ∙ ap (λ (k : ℕ). record { current = p.current; changes = p.changes ++ Remove k ∷ []; made = p.made }) e)) (record {
+    subst (λ (d : OpenReportsDraftOf). DraftRepresents ms d (remove_in r.place t)) (sym (is ∙ ap (λ (k : ℕ). record { current = p.current; changes = p.changes ++ Remove k ∷ []; made = p.made }) e)) (record {
       current = still_current ms r (reports_of t) there closed low p.current tells.current;
       changes = ap (λ (cs : List (Revision ReportRow)). cs ++ Remove r.place ∷ []) tells.changes;
       noted = noted_gone p.made p.changes t.news r.place tells.noted;

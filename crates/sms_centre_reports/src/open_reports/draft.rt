@@ -4,7 +4,7 @@ ghost use Rattle.sms_rows.specs.index.Picked.{pick_of};
 ghost use Rattle.sms_centre_reports.specs.open_reports.Entries.{account_in, open_entry, receipt_due, receipt_key, report_entry, status_key, status_until};
 ghost use Rattle.sms_centre_reports.specs.open_reports.OpenReports.{Represents, receipts_at};
 ghost use Rattle.sms_centre_reports.specs.open_reports.OpenReportsDraft.{DraftRepresents, made_in, made_row as made_row_of, noting, put_at, tpdu_made};
-ghost use Rattle.sms_centre_reports.specs.open_reports.Removing.{remove_report};
+ghost use Rattle.sms_centre_spec.specs.forgetting.Forget.{remove_in};
 ghost use Rattle.sms_rows.specs.index.First.{first_such, is_ahead_from, is_past_from};
 ghost use Rattle.sms_centre_reports.specs.open_reports.Updates.{entry_reaching};
 ghost use Rattle.sms_centre_rows.specs.messages.Messages.{message_at};
@@ -229,7 +229,7 @@ impl OpenReportsDraft {
     pub fn remove(&mut self, place: u64) -> Result<(), AllocError>
         ensures { (messages : List MessageRowOf) (t : Revised ReportRowOf) (r : ReportRowOf) → DraftRepresents messages self.old t
             → report_of r.id (reports_of t) ≡ Some r → place ≡ r.place → r.progress.is_done ≡ true → r.place + 1 < next_place (reports_of t)
-            → made_in r.id t.news ≡ None → OnOk result (DraftRepresents messages self.new (remove_report place t)) }
+            → made_in r.id t.news ≡ None → OnOk result (DraftRepresents messages self.new (remove_in place t)) }
     {
         self.changes.push(Revision::Remove(Key::of(place)))?;
         Ok(())

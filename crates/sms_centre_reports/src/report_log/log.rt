@@ -1,11 +1,13 @@
 //! The log of reports.
-ghost use Rattle.std.specs.Prelude.{◌≡◌, ◌+◌, ◌≤◌, List, [], length, map, max, IfOk};
-ghost use Rattle.sms_centre_reports.specs.report_log.ReportLog.{Represents, made_key, made_report};
+ghost use Rattle.std.specs.Prelude.{◌≡◌, ◌+◌, ◌≤◌, List, [], length, map, max, IfOk, OnOk};
+ghost use Rattle.sms_centre_reports.specs.report_log.ByMessage.{reports_between};
+ghost use Rattle.sms_centre_reports.specs.report_log.ReportLog.{Represents, is_of_last as is_of_last_of, made_key, made_report};
 ghost use Rattle.sms_centre_rows.specs.reports.Reports.{report_key, report_reaching};
 ghost use Rattle.sms_centre_rows.specs.declared.reports.report.ReportRow.{ReportRow as ReportRowOf};
 ghost use Rattle.sms_rows.specs.table.Table.{HasRoom, Rises};
 ghost use Rattle.sms_centre_rows.specs.waiting.Revisions.{all_revised, revised};
 
+use crate::report_log::by_message::{MessageReport, note};
 use sms_base::MessageId;
 use sms_centre_rows::reports::ReportRow;
 use sms_centre_rows::waiting::Revision;
@@ -85,6 +87,52 @@ impl ReportLog {
         ensures { (rows : List ReportRowOf) → Represents self.now rows → result.now ≡ map made_report rows }
     {
         self.reports.as_slice()
+    }
+
+    /// Whether the last report is that of the message.
+    pub fn is_of_last(&self, id: MessageId) -> bool
+        ensures { result ≡ is_of_last_of id self.now.rows }
+    {
+        match self.reports.as_slice().last() {
+            Some(last) => last.id.number() == id.number(),
+            None => false,
+        }
+    }
+
+    /// The reports of the messages with these numbers, found by messages. It looks at all reports.
+    pub fn between(
+        &self,
+        alloc: Global,
+        first: u64,
+        end: u64,
+    ) -> Result<Table<MessageReport>, AllocError>
+        ensures { IfOk result (λ found. found.rows ≡ reports_between first end self.now.rows) }
+    {
+        let mut found = Table::new(alloc);
+        match self.collect(first, end, &mut found) {
+            Ok(()) => Ok(found),
+            Err(error) => {
+                drop(found);
+                Err(error)
+            }
+        }
+    }
+
+    // The last one first, so that of two of a message the first stays.
+    fn collect(
+        &self,
+        first: u64,
+        end: u64,
+        found: &mut Table<MessageReport>,
+    ) -> Result<(), AllocError>
+        ensures { found.old.rows ≡ [] → OnOk result (found.new.rows ≡ reports_between first end self.now.rows) }
+    {
+        let reports = self.reports.as_slice();
+        for behind in 0..reports.len() {
+            let report = &reports[reports.len() - 1 - behind];
+            note(found, report, first, end)?;
+        }
+        Ok(())
     }
 
     /// Memory for that many changes.

@@ -50,14 +50,14 @@ reports_later goes a b (m ∷ ms) l = ⊎_elim
     (λ (t : goes m.id ≡ false). subst (λ (x : List ReportRow). after_reports a x ≤ after_reports (max b m.made) ms) (sym (kept_here report_id goes m ms t)) (reports_later goes (max a m.made) (max b m.made) ms (omega (arith, l))))
     (cases_Bool (goes m.id))
 
-is_member : (id : ℕ) (ns : List ℕ) → Among id ns → is_among id ns ≡ true
+pub is_member : (id : ℕ) (ns : List ℕ) → Among id ns → is_among id ns ≡ true
 is_member id [] a = absurd a
 is_member id (n ∷ ns) a = ⊎_elim
     (λ (e : id ≡ n). ap (λ (b : Bool). b || is_among id ns) (eq-eqb n id (sym e)))
     (λ (b : Among id ns). or_right (n == id) (is_among id ns) (is_member id ns b))
     a
 
-tag_without : (goes : ℕ → Bool) (rows : Rows) (keys : Rises part_key rows.parts) (h : List ℕ) (r : ℕ) (tag : Holder) → IsAwayTag goes rows tag → IsSentFor h r tag rows → IsSentFor h r tag (rows_without goes rows)
+tag_without : (goes : ℕ → Bool) (rows : Rows) (keys : Rises part_key rows.parts) (h : List ℕ) (r : ℕ) (tag : Holder) → IsAwayTag goes tag → IsSentFor h r tag rows → IsSentFor h r tag (rows_without goes rows)
 tag_without goes rows keys h r (Part id number) away s =
     let p : PartRow = s.0 in
     let e = s.1.1 in
@@ -67,10 +67,11 @@ tag_without goes rows keys h r (Part id number) away s =
       (
         s.1.0,
         (
-          at_stays part_id goes part_key (pair_key id number) rows.parts (λ y b f. ap (λ (x : PartRow). goes x.id) (one_row part_key y p rows.parts keys b a (f ∙ sym own)) ∙ away.1 p e.0) ∙ e.0,
+          at_stays part_id goes part_key (pair_key id number) rows.parts (λ y b f. ap (λ (x : PartRow). goes x.id) (one_row part_key y p rows.parts keys b a (f ∙ sym own)) ∙ ap goes e.4 ∙ away) ∙ e.0,
           e.1,
-          message_stays goes id rows.messages away.0 ∙ e.2,
+          message_stays goes id rows.messages away ∙ e.2,
           e.3,
+          e.4,
         ),
       ),
     )
@@ -80,7 +81,7 @@ tag_without goes rows keys h r (Report id) away s =
 tag_without goes rows keys h r (Entry n) away s = absurd s
 tag_without goes rows keys h r (Memory n) away s = absurd s
 
-way_without : (goes : ℕ → Bool) (rows : Rows) (keys : Rises part_key rows.parts) (h : List ℕ) (o : Option Carried) → IsAway goes rows o → IsUnderWay h o rows → IsUnderWay h o (rows_without goes rows)
+way_without : (goes : ℕ → Bool) (rows : Rows) (keys : Rises part_key rows.parts) (h : List ℕ) (o : Option Carried) → IsAway goes o → IsUnderWay h o rows → IsUnderWay h o (rows_without goes rows)
 way_without goes rows keys h None away s = tt
 way_without goes rows keys h (Some t) away s = (s.0, tag_without goes rows keys h t.reference t.tag away s.1)
 
@@ -117,10 +118,10 @@ begins goes c s can away = record {
 
 -- ---- a recovery: nothing is under way
 
-pub awaited_away : (goes : ℕ → Bool) (rows : Rows) (handsets : List (List ℕ)) (l : HandsetLink) → Among l (lines_awaited handsets) → IsAway goes rows l.link.under_way
+pub awaited_away : (goes : ℕ → Bool) (rows : Rows) (handsets : List (List ℕ)) (l : HandsetLink) → Among l (lines_awaited handsets) → IsAway goes l.link.under_way
 awaited_away goes rows [] l a = absurd a
 awaited_away goes rows (n ∷ ns) l a = ⊎_elim
-    (λ (e : l ≡ record { handset = n; is_up = false; is_awaited = true; is_full = false; link = new_link Centre }). subst (λ (x : HandsetLink). IsAway goes rows x.link.under_way) (sym e) tt)
+    (λ (e : l ≡ record { handset = n; is_up = false; is_awaited = true; is_full = false; link = new_link Centre }). subst (λ (x : HandsetLink). IsAway goes x.link.under_way) (sym e) tt)
     (λ (b : Among l (lines_awaited ns)). awaited_away goes rows ns l b)
     a
 

@@ -8,7 +8,7 @@ use Rattle.sms_base.specs.declared.address.Address.{Address}
 use Rattle.sms_centre_spec.proofs.forgetting.Splits.{above}
 use Rattle.std.proofs.lemmas.Bool.{and_from, and_parts, cases_Bool, cases_eq, cond_both, eqb-true, leb-true, ltb-true, or_parts}
 use Rattle.sms_base.specs.Among.{Among}
-use Rattle.sms_rows.specs.table.Table.{Rises, row_at}
+use Rattle.sms_rows.specs.table.Table.{Rises, row_at, rows_from}
 use Rattle.sms_rows.proofs.table.Tables.{among_found, found_among, found_key}
 use Rattle.sms_centre_rows.specs.declared.messages.message.MessageRow.{MessageRow}
 use Rattle.sms_centre_rows.specs.declared.messages.part.PartRow.{PartRow}
@@ -19,7 +19,7 @@ use Rattle.sms_centre_rows.specs.reports.Reports.{next_place, report_key, report
 use Rattle.sms_centre_rows.proofs.reports.AllWaiting.{report_behind, report_here}
 use Rattle.sms_centre_spec.specs.declared.rows.Rows.{Rows}
 use Rattle.sms_centre_spec.specs.SoundRows.{IsSound}
-use Rattle.sms_centre_spec.specs.forgetting.Forgetting.{AreBare, IsLaterSplit, MayGo, bars_reference, going, goes_bare, has_own_wide, is_before, is_given, is_reported, is_split_on, last_submitted, leaves_number, leaves_split, may_go}
+use Rattle.sms_centre_spec.specs.forgetting.Forgetting.{AreBare, IsLaterSplit, MayGo, bars_reference, going, going_from, goes_bare, has_own_wide, is_before, is_given, is_reported, is_split_on, last_submitted, leaves_number, leaves_split, may_go}
 
 -- ---- each of them is the number of a message that passes the test
 
@@ -36,13 +36,23 @@ pub gone : (goes : MessageRow → Bool) (most : ℕ) (ms : List MessageRow) (id 
 gone goes zero ms id e = let bad : false ≡ true = e in absurd cc
 gone goes (suc most) [] id e = let bad : false ≡ true = e in absurd cc
 gone goes (suc most) (m ∷ ms) id e =
-    cond_both (goes m) (m.id ∷ going goes most ms) (going goes (suc most) ms) (λ (l : List ℕ). is_among id l ≡ true → Gone goes (m ∷ ms) id)
+    cond_both (goes m) (m.id ∷ going goes most ms) (going goes most ms) (λ (l : List ℕ). is_among id l ≡ true → Gone goes (m ∷ ms) id)
     (λ t f. ⊎_elim
     (λ (q : (m.id == id) ≡ true). record { row = m; among = inl refl; own = eqb-true m.id id q; passes = t })
     (λ (q : (m.id == id) ≡ false). behind goes m ms id (gone goes most ms id (sym (ap (λ (b : Bool). b || is_among id (going goes most ms)) q) ∙ f)))
     (cases_Bool (m.id == id)))
-    (λ t f. behind goes m ms id (gone goes (suc most) ms id f))
+    (λ t f. behind goes m ms id (gone goes most ms id f))
     e
+
+from_among : (n : ℕ) (x : MessageRow) (ms : List MessageRow) → Among x (rows_from message_key n ms) → Among x ms
+from_among n x [] a = a
+from_among n x (m ∷ ms) a =
+    cond_both (nat_lt m.id n) (rows_from message_key n ms) (m ∷ ms) (λ (l : List MessageRow). Among x l → Among x (m ∷ ms)) (λ t b. inr (from_among n x ms b)) (λ t b. b) a
+
+pub gone_from : (goes : MessageRow → Bool) (from most : ℕ) (ms : List MessageRow) (id : ℕ) → is_among id (going_from goes from most ms) ≡ true → Gone goes ms id
+gone_from goes from most ms id e =
+    let g = gone goes most (rows_from message_key from ms) id e in
+    record { row = g.row; among = from_among from g.row ms g.among; own = g.own; passes = g.passes }
 
 -- ---- rows of one key are one
 
@@ -216,13 +226,13 @@ free_of m e (Some n) q = inr (true_of (is_delivered m.state) (sym (ap (λ (o : O
 
 -- ---- all of it
 
-module _ (before most : ℕ) (rows : Rows) (test : MessageRow → Bool) (bare : (m : MessageRow) → test m ≡ true → goes_bare before rows m ≡ true) (s : IsSound rows) where
+module _ (before from most : ℕ) (rows : Rows) (test : MessageRow → Bool) (bare : (m : MessageRow) → test m ≡ true → goes_bare before rows m ≡ true) (s : IsSound rows) where
   abbrev goes : ℕ → Bool
-  goes id = is_among id (going test most rows.messages)
+  goes id = is_among id (going_from test from most rows.messages)
 
   pub passes : (m : MessageRow) → Among m rows.messages → goes m.id ≡ true → test m ≡ true
   passes m a g =
-      let f = gone test most rows.messages m.id g in
+      let f = gone_from test from most rows.messages m.id g in
       subst (λ (x : MessageRow). test x ≡ true) (one_row message_key f.row m rows.messages s.messages.message_keys f.among a f.own) f.passes
 
   of : (m : MessageRow) → Among m rows.messages → goes m.id ≡ true → Tests rows m
@@ -230,7 +240,7 @@ module _ (before most : ℕ) (rows : Rows) (test : MessageRow → Bool) (bare : 
 
   report : (r : ReportRow) → Among r rows.reports → goes r.id ≡ true → Reported rows.reports r
   report r a g =
-      let f = gone test most rows.messages r.id g in
+      let f = gone_from test from most rows.messages r.id g in
       let found : report_of r.id rows.reports ≡ Some r = report_own r rows.reports a (λ x b e. one_row report_key x r rows.reports s.reports.keys b a (s.reports.once x r b a e)) in
       reported_of rows.reports (report_of f.row.id rows.reports) r (tests before rows f.row (bare f.row f.passes)).reported (ap (λ (n : ℕ). report_of n rows.reports) f.own ∙ found)
 
@@ -257,7 +267,7 @@ module _ (before most : ℕ) (rows : Rows) (test : MessageRow → Bool) (bare : 
 
   pub going_given : (id : ℕ) → goes id ≡ true → id + 1 < next_id rows.messages
   going_given id g =
-      let f = gone test most rows.messages id g in
+      let f = gone_from test from most rows.messages id g in
       let low : f.row.id + 1 < next_id rows.messages = (tests before rows f.row (bare f.row f.passes)).number in
       let own : f.row.id ≡ id = f.own in
       omega (arith, low, own)
@@ -267,6 +277,6 @@ pub going_most : (goes : MessageRow → Bool) (most : ℕ) (ms : List MessageRow
 going_most goes zero ms = omega arith
 going_most goes (suc most) [] = omega arith
 going_most goes (suc most) (m ∷ ms) =
-    cond_both (goes m) (m.id ∷ going goes most ms) (going goes (suc most) ms) (λ (l : List ℕ). length l ≤ suc most)
+    cond_both (goes m) (m.id ∷ going goes most ms) (going goes most ms) (λ (l : List ℕ). length l ≤ suc most)
     (λ t. let few = going_most goes most ms in omega (arith, few))
-    (λ t. going_most goes (suc most) ms)
+    (λ t. let few = going_most goes most ms in omega (arith, few))

@@ -7,19 +7,17 @@ use Rattle.sms_base.specs.declared.carried.Carried.{Carried}
 use Rattle.sms_base.specs.declared.holder.Holder.{Holder}
 use Rattle.sms_base.specs.declared.holder.Holder.TheVariants.{Part, Report, Entry, Memory}
 use Rattle.sms_centre_rows.specs.declared.messages.message.MessageRow.{MessageRow}
-use Rattle.sms_centre_rows.specs.declared.messages.part.PartRow.{PartRow}
-use Rattle.sms_centre_rows.specs.messages.Messages.{part_at}
 use Rattle.sms_centre_rows.specs.messages.SplitReferences.{is_among}
 use Rattle.sms_centre_rows.specs.reports.Receipts.{Session, is_unanswered}
 use Rattle.sms_centre_rows.specs.declared.waiting.handset_link.HandsetLink.{HandsetLink}
 use Rattle.sms_centre_spec.specs.Draft.{Core}
 use Rattle.sms_centre_spec.specs.SoundCore.{IsSoundCore}
-use Rattle.sms_centre_spec.specs.forgetting.Forget.{forget, is_carried, is_going_now, is_held_for, is_on_way, is_part_of, may_go_now}
+use Rattle.sms_centre_spec.specs.forgetting.Forget.{forget, is_carried, is_going_now, is_held_for, is_on_way, may_go_now}
 use Rattle.sms_centre_spec.specs.forgetting.Forgetting.{goes_bare}
 use Rattle.sms_centre_spec.specs.forgetting.Forgot.{AreAway, CanForget, Forgot, IsAway, IsAwayTag}
 use Rattle.sms_centre_spec.specs.Draft.{core_of}
 use Rattle.sms_centre_spec.proofs.forgetting.Begins.{begins}
-use Rattle.sms_centre_spec.proofs.forgetting.Going.{going_bare, going_given, going_may, gone, passes}
+use Rattle.sms_centre_spec.proofs.forgetting.Going.{going_bare, going_given, going_may, gone_from, passes}
 use Rattle.sms_centre_spec.proofs.forgetting.Kept.{not_both}
 use Rattle.sms_centre_spec.proofs.forgetting.Removed.{forget_leaves}
 
@@ -34,40 +32,40 @@ unanswered_there id s (x ∷ xs) a e = ⊎_elim
     (λ (b : Among s xs). or_right (is_among id x.unanswered) (is_unanswered id xs) (unanswered_there id s xs b e))
     a
 
-on_way_there : (id : ℕ) (parts : List PartRow) (l : HandsetLink) (ls : List HandsetLink) → Among l ls → is_carried id parts l.link.under_way ≡ true → is_on_way id parts ls ≡ true
-on_way_there id parts l [] a e = absurd a
-on_way_there id parts l (x ∷ xs) a e = ⊎_elim
-    (λ (q : l ≡ x). ap (λ (b : Bool). b || is_on_way id parts xs) (ap (λ (y : HandsetLink). is_carried id parts y.link.under_way) (sym q) ∙ e))
-    (λ (b : Among l xs). or_right (is_carried id parts x.link.under_way) (is_on_way id parts xs) (on_way_there id parts l xs b e))
+pub on_way_there : (id : ℕ) (l : HandsetLink) (ls : List HandsetLink) → Among l ls → is_carried id l.link.under_way ≡ true → is_on_way id ls ≡ true
+on_way_there id l [] a e = absurd a
+on_way_there id l (x ∷ xs) a e = ⊎_elim
+    (λ (q : l ≡ x). ap (λ (b : Bool). b || is_on_way id xs) (ap (λ (y : HandsetLink). is_carried id y.link.under_way) (sym q) ∙ e))
+    (λ (b : Among l xs). or_right (is_carried id x.link.under_way) (is_on_way id xs) (on_way_there id l xs b e))
     a
 
 record Clear (id : ℕ) (c : Core) : Type 0 where
   answered : is_unanswered id c.sessions ≡ false
-  away : is_on_way id c.rows.parts c.lines ≡ false
+  away : is_on_way id c.lines ≡ false
 
-module _ (before most : ℕ) (c : Core) (s : IsSoundCore c) where
+module _ (before from most : ℕ) (c : Core) (s : IsSoundCore c) where
   abbrev goes : ℕ → Bool
-  goes = is_going_now before most c
+  goes = is_going_now before from most c
 
   clear : (id : ℕ) → goes id ≡ true → Clear id c
   clear id g =
-      let f = gone (may_go_now before c) most c.rows.messages id g in
+      let f = gone_from (may_go_now before c) from most c.rows.messages id g in
       let m : MessageRow = f.row in
-      let a = and_parts (goes_bare before c.rows m) (not (is_unanswered m.id c.sessions) && not (is_on_way m.id c.rows.parts c.lines)) f.passes in
-      let b = and_parts (not (is_unanswered m.id c.sessions)) (not (is_on_way m.id c.rows.parts c.lines)) a.1 in
+      let a = and_parts (goes_bare before c.rows m) (not (is_unanswered m.id c.sessions) && not (is_on_way m.id c.lines)) f.passes in
+      let b = and_parts (not (is_unanswered m.id c.sessions)) (not (is_on_way m.id c.lines)) a.1 in
       record {
         answered = ap (λ (n : ℕ). is_unanswered n c.sessions) (sym f.own) ∙ untrue (is_unanswered m.id c.sessions) b.0;
-        away = ap (λ (n : ℕ). is_on_way n c.rows.parts c.lines) (sym f.own) ∙ untrue (is_on_way m.id c.rows.parts c.lines) b.1;
+        away = ap (λ (n : ℕ). is_on_way n c.lines) (sym f.own) ∙ untrue (is_on_way m.id c.lines) b.1;
       }
 
   bare : (m : MessageRow) → may_go_now before c m ≡ true → goes_bare before c.rows m ≡ true
-  bare m t = (and_parts (goes_bare before c.rows m) (not (is_unanswered m.id c.sessions) && not (is_on_way m.id c.rows.parts c.lines)) t).0
+  bare m t = (and_parts (goes_bare before c.rows m) (not (is_unanswered m.id c.sessions) && not (is_on_way m.id c.lines)) t).0
 
   pub can_now : CanForget goes c
   can_now = record {
-    may = going_may before most c.rows (may_go_now before c) bare s.rows;
-    bare = going_bare before most c.rows (may_go_now before c) bare s.rows;
-    given = going_given before most c.rows (may_go_now before c) bare s.rows;
+    may = going_may before from most c.rows (may_go_now before c) bare s.rows;
+    bare = going_bare before from most c.rows (may_go_now before c) bare s.rows;
+    given = going_given before from most c.rows (may_go_now before c) bare s.rows;
     answered = λ x id a e. ⊎_elim
         (λ (t : goes id ≡ true). absurd (not_both (is_unanswered id c.sessions) (unanswered_there id x c.sessions a e) (clear id t).answered))
         (λ (t : goes id ≡ false). t)
@@ -75,31 +73,27 @@ module _ (before most : ℕ) (c : Core) (s : IsSoundCore c) where
   }
 
   -- what is carried is of a message that stays
-  stays : (l : HandsetLink) → Among l c.lines → (id : ℕ) → is_carried id c.rows.parts l.link.under_way ≡ true → goes id ≡ false
+  stays : (l : HandsetLink) → Among l c.lines → (id : ℕ) → is_carried id l.link.under_way ≡ true → goes id ≡ false
   stays l a id e = ⊎_elim
-      (λ (t : goes id ≡ true). absurd (not_both (is_on_way id c.rows.parts c.lines) (on_way_there id c.rows.parts l c.lines a e) (clear id t).away))
+      (λ (t : goes id ≡ true). absurd (not_both (is_on_way id c.lines) (on_way_there id l c.lines a e) (clear id t).away))
       (λ (t : goes id ≡ false). t)
       (cases_Bool (goes id))
 
-  tag_away : (tag : Holder) → ((id : ℕ) → is_held_for id c.rows.parts tag ≡ true → goes id ≡ false) → IsAwayTag goes c.rows tag
-  tag_away (Part n number) f =
-      let o : Option PartRow = part_at n number c.rows.parts in (
-        f n (ap (λ (b : Bool). b || is_part_of n o) (eq-eqb n n refl)),
-        λ p e. f p.id (or_right (n == p.id) (is_part_of p.id o) (ap (λ (x : Option PartRow). is_part_of p.id x) e ∙ eq-eqb p.id p.id refl)),
-      )
+  tag_away : (tag : Holder) → ((id : ℕ) → is_held_for id tag ≡ true → goes id ≡ false) → IsAwayTag goes tag
+  tag_away (Part n number) f = f n (eq-eqb n n refl)
   tag_away (Report n) f = f n (eq-eqb n n refl)
   tag_away (Entry n) f = tt
   tag_away (Memory n) f = tt
 
-  way : (o : Option Carried) → ((id : ℕ) → is_carried id c.rows.parts o ≡ true → goes id ≡ false) → IsAway goes c.rows o
+  way : (o : Option Carried) → ((id : ℕ) → is_carried id o ≡ true → goes id ≡ false) → IsAway goes o
   way None f = tt
   way (Some t) f = tag_away t.tag f
 
   pub away_now : AreAway goes c
   away_now l a = way l.link.under_way (stays l a)
 
-  pub forgot_now : Forgot goes (core_of (forget before most c)) c
-  forgot_now = subst (λ (x : Core). Forgot goes x c) (sym (forget_leaves before most c s.rows)) (begins goes c s can_now away_now)
+  pub forgot_now : Forgot goes (core_of (forget before from most c)) c
+  forgot_now = subst (λ (x : Core). Forgot goes x c) (sym (forget_leaves before from most c s.rows)) (begins goes c s can_now away_now)
 
   pub may_now : (m : MessageRow) → Among m c.rows.messages → goes m.id ≡ true → may_go_now before c m ≡ true
-  may_now m a g = passes before most c.rows (may_go_now before c) bare s.rows m a g
+  may_now m a g = passes before from most c.rows (may_go_now before c) bare s.rows m a g

@@ -291,7 +291,7 @@ all_left (id ∷ ids) s sure =
     ∙ rows_twice is rest (rows_of s)
     ∙ rows_same (λ (n : ℕ). is n || rest n) (λ (n : ℕ). is_among n (id ∷ ids)) (rows_of s) (λ n. ap (λ (b : Bool). b || rest n) (turn n id))
 
-moment_kept : (ids : List ℕ) (s : Store) → (messages_gone ids s).moment ≡ s.moment
+pub moment_kept : (ids : List ℕ) (s : Store) → (messages_gone ids s).moment ≡ s.moment
 moment_kept [] s = refl
 moment_kept (id ∷ ids) s = moment_kept ids (message_gone id s)
 
@@ -301,7 +301,7 @@ one_base id s =
     ap (λ (l : List PartRow). record z { parts = l }) (parts_base id 20 s.messages.parts)
     ∙ ap (λ (l : List ReportRow). record z { parts = s.messages.parts.base; reports = l }) (report_base (report_of id (reports_in s)) s.reports)
 
-base_kept : (ids : List ℕ) (s : Store) → base_of (messages_gone ids s) ≡ base_of s
+pub base_kept : (ids : List ℕ) (s : Store) → base_of (messages_gone ids s) ≡ base_of s
 base_kept [] s = refl
 base_kept (id ∷ ids) s = base_kept ids (message_gone id s) ∙ ap (λ (e : Store). base_of e) (gone_is id s) ∙ one_base id s
 
@@ -310,17 +310,20 @@ base_kept (id ∷ ids) s = base_kept ids (message_gone id s) ∙ ap (λ (e : Sto
 sure_rows : (rows : Rows) → IsSound rows → Sure rows
 sure_rows rows s = record { numbers = λ p a. let i = s.messages.each_part p a in (i.first, i.few); report_keys = s.reports.keys; once = s.reports.once }
 
-pub forget_leaves : (before most : ℕ) (c : Core) → IsSound c.rows → core_of (forget before most c) ≡ core_without (is_going_now before most c) c
-forget_leaves before most c s =
-    let ids : List ℕ = going_now before most c in
+pub rows_left : (ids : List ℕ) (rows : Rows) (moment : ℕ) → IsSound rows → rows_of (messages_gone ids (store_of rows moment)) ≡ rows_without (λ (n : ℕ). is_among n ids) rows
+rows_left ids rows moment s = all_left ids (store_of rows moment) (sure_rows rows s)
+
+pub forget_leaves : (before from most : ℕ) (c : Core) → IsSound c.rows → core_of (forget before from most c) ≡ core_without (is_going_now before from most c) c
+forget_leaves before from most c s =
+    let ids : List ℕ = going_now before from most c in
     let d : Store = messages_gone ids (store_of c.rows c.moment) in
     ap (λ (r : Rows). record { rows = r; moment = d.moment; lines = c.lines; sessions = c.sessions }) (all_left ids (store_of c.rows c.moment) (sure_rows c.rows s))
-    ∙ ap (λ (n : ℕ). record { rows = rows_without (is_going_now before most c) c.rows; moment = n; lines = c.lines; sessions = c.sessions }) (moment_kept ids (store_of c.rows c.moment))
+    ∙ ap (λ (n : ℕ). record { rows = rows_without (is_going_now before from most c) c.rows; moment = n; lines = c.lines; sessions = c.sessions }) (moment_kept ids (store_of c.rows c.moment))
 
-pub forget_commits : (before most : ℕ) (c : Core) → adopted (outcome_of (forget before most c)) c ≡ core_of (forget before most c)
-forget_commits before most c =
-    let s : Store = (forget before most c).store in
-    let base : base_of s ≡ c.rows = base_kept (going_now before most c) (store_of c.rows c.moment) in
+pub forget_commits : (before from most : ℕ) (c : Core) → adopted (outcome_of (forget before from most c)) c ≡ core_of (forget before from most c)
+forget_commits before from most c =
+    let s : Store = (forget before from most c).store in
+    let base : base_of s ≡ c.rows = base_kept (going_now before from most c) (store_of c.rows c.moment) in
     ap (λ (r : Rows). record { rows = r; moment = s.moment; lines = c.lines; sessions = c.sessions }) (ap (λ (r : Rows). rows_after (changes_in s) r) (sym base) ∙ store_commits s)
 
 -- ---- its changes
@@ -341,18 +344,22 @@ priorities_changed (id ∷ ids) s =
     ∙ ap (λ (e : Store). changes_of e.messages.priorities.news ++ map (λ (n : ℕ). RemoveRow n) ids) (gone_is id s)
     ∙ append_assoc (changes_of s.messages.priorities.news) (RemoveRow id ∷ []) (map (λ (n : ℕ). RemoveRow n) ids)
 
-pub forget_messages : (before most : ℕ) (c : Core) → (changes_in (forget before most c).store).messages ≡ map (λ (id : ℕ). RemoveRow id) (going_now before most c)
-forget_messages before most c = messages_changed (going_now before most c) (store_of c.rows c.moment)
+pub forget_messages : (before from most : ℕ) (c : Core) → (changes_in (forget before from most c).store).messages ≡ map (λ (id : ℕ). RemoveRow id) (going_now before from most c)
+forget_messages before from most c = messages_changed (going_now before from most c) (store_of c.rows c.moment)
 
-pub forget_priorities : (before most : ℕ) (c : Core) → (changes_in (forget before most c).store).priorities ≡ map (λ (id : ℕ). RemoveRow id) (going_now before most c)
-forget_priorities before most c = priorities_changed (going_now before most c) (store_of c.rows c.moment)
+pub forget_priorities : (before from most : ℕ) (c : Core) → (changes_in (forget before from most c).store).priorities ≡ map (λ (id : ℕ). RemoveRow id) (going_now before from most c)
+forget_priorities before from most c = priorities_changed (going_now before from most c) (store_of c.rows c.moment)
 
-allocations_kept : (ids : List ℕ) (s : Store) → (messages_gone ids s).allocations ≡ s.allocations
+pub setup_kept : (ids : List ℕ) (s : Store) → (messages_gone ids s).setup ≡ s.setup
+setup_kept [] s = refl
+setup_kept (id ∷ ids) s = setup_kept ids (message_gone id s)
+
+pub allocations_kept : (ids : List ℕ) (s : Store) → (messages_gone ids s).allocations ≡ s.allocations
 allocations_kept [] s = refl
 allocations_kept (id ∷ ids) s = allocations_kept ids (message_gone id s)
 
-pub forget_references : (before most : ℕ) (c : Core) → (changes_in (forget before most c).store).references ≡ []
-forget_references before most c = ap (λ (a : Allocations). changes_of a.references.news) (allocations_kept (going_now before most c) (store_of c.rows c.moment))
+pub forget_references : (before from most : ℕ) (c : Core) → (changes_in (forget before from most c).store).references ≡ []
+forget_references before from most c = ap (λ (a : Allocations). changes_of a.references.news) (allocations_kept (going_now before from most c) (store_of c.rows c.moment))
 
-pub forget_handsets : (before most : ℕ) (c : Core) → (changes_in (forget before most c).store).handsets ≡ []
-forget_handsets before most c = ap (λ (a : Allocations). changes_of a.handsets.news) (allocations_kept (going_now before most c) (store_of c.rows c.moment))
+pub forget_handsets : (before from most : ℕ) (c : Core) → (changes_in (forget before from most c).store).handsets ≡ []
+forget_handsets before from most c = ap (λ (a : Allocations). changes_of a.handsets.news) (allocations_kept (going_now before from most c) (store_of c.rows c.moment))

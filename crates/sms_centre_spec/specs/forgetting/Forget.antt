@@ -1,5 +1,5 @@
--- Forgetting as stages of an event, with its changes: the oldest so many messages that may go leave, each with its report, its parts
--- and its priority. Nothing is due by it, so nothing follows it.
+-- Forgetting as stages of an event, with its changes. It looks at so many messages from a number on, and those that may go leave, each
+-- with its report, its parts and its priority. Nothing is due by it, so nothing follows it.
 use Rattle.std.specs.Prelude.{ℕ, zero, suc, ◌==◌, ◌&&◌, ◌||◌, not, List, [], ◌∷◌, Bool, false, Option, Some, None}
 use Rattle.sms_base.specs.declared.carried.Carried.{Carried}
 use Rattle.sms_base.specs.declared.holder.Holder.{Holder}
@@ -16,37 +16,33 @@ use Rattle.sms_centre_rows.specs.declared.waiting.handset_link.HandsetLink.{Hand
 use Rattle.sms_centre_rows.specs.declared.waiting.revision.Revision.TheVariants.{Remove}
 use Rattle.sms_centre_rows.specs.waiting.Revisions.{Revised}
 use Rattle.sms_centre_spec.specs.Draft.{Core, Draft, Store, draft_of, in_store, store_of}
-use Rattle.sms_centre_spec.specs.forgetting.Forgetting.{going, goes_bare}
+use Rattle.sms_centre_spec.specs.forgetting.Forgetting.{going_from, goes_bare}
 
 -- ---- which messages may go now: neither is a receipt of one unanswered, nor is anything of it under way
 
-abbrev pub is_part_of : ℕ → Option PartRow → Bool
-is_part_of id None = false
-is_part_of id (Some p) = p.id == id
+abbrev pub is_held_for : ℕ → Holder → Bool
+is_held_for id (Part n number) = n == id
+is_held_for id (Report n) = n == id
+is_held_for id (Entry n) = false
+is_held_for id (Memory n) = false
 
-abbrev pub is_held_for : ℕ → List PartRow → Holder → Bool
-is_held_for id parts (Part n number) = (n == id) || is_part_of id (part_at n number parts)
-is_held_for id parts (Report n) = n == id
-is_held_for id parts (Entry n) = false
-is_held_for id parts (Memory n) = false
+abbrev pub is_carried : ℕ → Option Carried → Bool
+is_carried id None = false
+is_carried id (Some transfer) = is_held_for id transfer.tag
 
-abbrev pub is_carried : ℕ → List PartRow → Option Carried → Bool
-is_carried id parts None = false
-is_carried id parts (Some transfer) = is_held_for id parts transfer.tag
-
-abbrev pub is_on_way : ℕ → List PartRow → List HandsetLink → Bool
-is_on_way id parts [] = false
-is_on_way id parts (l ∷ ls) = is_carried id parts l.link.under_way || is_on_way id parts ls
+abbrev pub is_on_way : ℕ → List HandsetLink → Bool
+is_on_way id [] = false
+is_on_way id (l ∷ ls) = is_carried id l.link.under_way || is_on_way id ls
 
 abbrev pub may_go_now : ℕ → Core → MessageRow → Bool
 may_go_now before c m =
-    goes_bare before c.rows m && (not (is_unanswered m.id c.sessions) && not (is_on_way m.id c.rows.parts c.lines))
+    goes_bare before c.rows m && (not (is_unanswered m.id c.sessions) && not (is_on_way m.id c.lines))
 
-abbrev pub going_now : ℕ → ℕ → Core → List ℕ
-going_now before most c = going (may_go_now before c) most c.rows.messages
+abbrev pub going_now : ℕ → ℕ → ℕ → Core → List ℕ
+going_now before from most c = going_from (may_go_now before c) from most c.rows.messages
 
-abbrev pub is_going_now : ℕ → ℕ → Core → ℕ → Bool
-is_going_now before most c id = is_among id (going_now before most c)
+abbrev pub is_going_now : ℕ → ℕ → ℕ → Core → ℕ → Bool
+is_going_now before from most c id = is_among id (going_now before from most c)
 
 -- ---- moves of messages, and of reports: one change of one list each
 
@@ -98,5 +94,5 @@ abbrev pub messages_gone : List ℕ → Store → Store
 messages_gone [] s = s
 messages_gone (id ∷ ids) s = messages_gone ids (message_gone id s)
 
-abbrev pub forget : ℕ → ℕ → Core → Draft
-forget before most c = in_store (messages_gone (going_now before most c) (store_of c.rows c.moment)) (draft_of c)
+abbrev pub forget : ℕ → ℕ → ℕ → Core → Draft
+forget before from most c = in_store (messages_gone (going_now before from most c) (store_of c.rows c.moment)) (draft_of c)

@@ -1,6 +1,7 @@
 -- What a centre forgets: messages that ended long ago and were reported, with their parts, priorities and reports.
 use Rattle.std.specs.Prelude.{◌≡◌, ℕ, zero, suc, ◌+◌, ◌<◌, ◌≤◌, ◌==◌, ◌&&◌, ◌||◌, not, nat_le, nat_lt, is_some, List, [], ◌∷◌, Bool, true, false, if◌then◌else◌, Option, Some, None, ◌⊎◌}
 use Rattle.sms_base.specs.Among.{Among}
+use Rattle.sms_rows.specs.table.Table.{rows_from}
 use Rattle.sms_centre_rows.specs.declared.messages.message.MessageRow.{MessageRow}
 use Rattle.sms_centre_rows.specs.declared.messages.part.PartRow.{PartRow}
 use Rattle.sms_centre_rows.specs.messages.Messages.{is_pending, message_at, message_key, next_id, priority_key}
@@ -90,15 +91,20 @@ bars_reference m ps = has_own_wide m ps || (is_some m.split_reference && not (is
 abbrev pub goes_bare : ℕ → Rows → MessageRow → Bool
 goes_bare before rows m = may_go before rows m && not (bars_reference m rows.parts)
 
--- ---- the numbers of the oldest so many that may go and leave no bar
+-- ---- which of so many messages from a number on may go and leave no bar
 
+-- the numbers of those that pass, of the first so many
 abbrev pub going : (MessageRow → Bool) → ℕ → List MessageRow → List ℕ
 going goes zero ms = []
 going goes (suc most) [] = []
-going goes (suc most) (m ∷ ms) = if goes m then m.id ∷ going goes most ms else going goes (suc most) ms
+going goes (suc most) (m ∷ ms) = if goes m then m.id ∷ going goes most ms else going goes most ms
 
-abbrev pub is_going : ℕ → ℕ → Rows → ℕ → Bool
-is_going before most rows id = is_among id (going (goes_bare before rows) most rows.messages)
+-- of the first so many from that number on
+abbrev pub going_from : (MessageRow → Bool) → ℕ → ℕ → List MessageRow → List ℕ
+going_from goes from most ms = going goes most (rows_from message_key from ms)
+
+abbrev pub is_going : ℕ → ℕ → ℕ → Rows → ℕ → Bool
+is_going before from most rows id = is_among id (going_from (goes_bare before rows) from most rows.messages)
 
 -- ---- what of these numbers must hold
 

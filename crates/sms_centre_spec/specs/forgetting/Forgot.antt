@@ -4,7 +4,6 @@ use Rattle.sms_base.specs.declared.carried.Carried.{Carried}
 use Rattle.sms_base.specs.declared.holder.Holder.{Holder}
 use Rattle.sms_base.specs.declared.holder.Holder.TheVariants.{Part, Report, Entry, Memory}
 use Rattle.sms_centre_rows.specs.declared.waiting.handset_link.HandsetLink.{HandsetLink}
-use Rattle.sms_centre_spec.specs.declared.rows.Rows.{Rows}
 use Rattle.sms_centre_spec.specs.declared.event.CentreEvent.{CentreEvent}
 use Rattle.sms_centre_spec.specs.declared.event.CentreEvent.TheVariants.{Submit, Query, Cancel, Bound, Unbound, DeliverAnswered, Frame, LinkUp, LinkDown, Ordered, Tick}
 use Rattle.sms_centre_spec.specs.Numbers.{id_in}
@@ -13,7 +12,7 @@ use Rattle.sms_base.specs.Among.{Among}
 use Rattle.sms_rows.specs.table.Table.{Rises}
 use Rattle.sms_centre_rows.specs.declared.messages.message.MessageRow.{MessageRow}
 use Rattle.sms_centre_rows.specs.declared.messages.part.PartRow.{PartRow}
-use Rattle.sms_centre_rows.specs.messages.Messages.{is_pending, message_key, next_id, part_at, part_key, priority_key}
+use Rattle.sms_centre_rows.specs.messages.Messages.{is_pending, message_key, next_id, part_key, priority_key}
 use Rattle.sms_centre_rows.specs.messages.SplitReferences.{is_among}
 use Rattle.sms_centre_rows.specs.declared.reports.report.ReportRow.{ReportRow}
 use Rattle.sms_centre_rows.specs.reports.Receipts.{Session}
@@ -103,15 +102,15 @@ pub record InStep (goes : ℕ → Bool) (small large : Draft) : Type 0 where
   pub behind : Forgot goes (core_of small) (core_of large)
 
 -- no message of these numbers is under way
-abbrev pub IsAwayTag : (ℕ → Bool) → Rows → Holder → Type 0
-IsAwayTag goes rows (Part id number) = (goes id ≡ false) × ((p : PartRow) → part_at id number rows.parts ≡ Some p → goes p.id ≡ false)
-IsAwayTag goes rows (Report id) = goes id ≡ false
-IsAwayTag goes rows (Entry n) = Unit {0}
-IsAwayTag goes rows (Memory n) = Unit {0}
+abbrev pub IsAwayTag : (ℕ → Bool) → Holder → Type 0
+IsAwayTag goes (Part id number) = goes id ≡ false
+IsAwayTag goes (Report id) = goes id ≡ false
+IsAwayTag goes (Entry n) = Unit {0}
+IsAwayTag goes (Memory n) = Unit {0}
 
-abbrev pub IsAway : (ℕ → Bool) → Rows → Option Carried → Type 0
-IsAway goes rows None = Unit {0}
-IsAway goes rows (Some transfer) = IsAwayTag goes rows transfer.tag
+abbrev pub IsAway : (ℕ → Bool) → Option Carried → Type 0
+IsAway goes None = Unit {0}
+IsAway goes (Some transfer) = IsAwayTag goes transfer.tag
 
 abbrev pub AreAway : (ℕ → Bool) → Core → Type 0
-AreAway goes c = (l : HandsetLink) → Among l c.lines → IsAway goes c.rows l.link.under_way
+AreAway goes c = (l : HandsetLink) → Among l c.lines → IsAway goes l.link.under_way

@@ -130,14 +130,14 @@ module _ (s : Store) (w : World) (sound : SoundStore s) (refines : StoreRefines 
       follows_one handed s.moment b (λ v. StoreRefines (report_closed r s) v × (v.bag ≡ w.bag)) w (Close r.id) (tt, tt) (tt, tt) (open_in_world r s w keys there refines open_one) (closed_refines r s w keys there refines, refl)
 
   acknowledged_holder : (h : Holder) → IsSent w u Down Ack → IsSentFor u.handset u.reference h (rows_of s) → IsNumbered h → is_open h s ≡ true → Settles handed s.moment b (holder_ended Settled h s) w
-  acknowledged_holder (Part id number) sent (p, (m, (at, under, of, to))) small waits = settled_part id number p m at small of waits sent to under
+  acknowledged_holder (Part id number) sent (p, (m, (at, under, of, to, own))) small waits = settled_part id number p m at small of waits sent to under
   acknowledged_holder (Report id) sent (r, (m, (tpdu, (at, kind, of, to)))) small waits =
       subst (λ (o : Option ReportRow). Settles handed s.moment b (report_ended_at Settled o s) w) (sym at) (closed_report id r at waits)
   acknowledged_holder (Entry n) sent is small waits = absurd is
   acknowledged_holder (Memory n) sent is small waits = absurd is
 
   refused_holder : (h : Holder) → IsSent w u Down Error → IsSentFor u.handset u.reference h (rows_of s) → IsNumbered h → is_open h s ≡ true → Settles handed s.moment b (holder_ended Refused h s) w
-  refused_holder (Part id number) sent (p, (m, (at, under, of, to))) small waits = refused_part id number p m at small of waits sent to under
+  refused_holder (Part id number) sent (p, (m, (at, under, of, to, own))) small waits = refused_part id number p m at small of waits sent to under
   refused_holder (Report id) sent (r, (m, (tpdu, (at, kind, of, to)))) small waits =
       subst (λ (o : Option ReportRow). Settles handed s.moment b (report_ended_at Refused o s) w) (sym at) (closed_report id r at waits)
   refused_holder (Entry n) sent is small waits = absurd is

@@ -9,7 +9,7 @@ returns c = record {
   priorities = forget_priorities;
   references = forget_references;
   handsets = forget_handsets;
-  frames = λ before most c. refl;
-  deliveries = λ before most c. refl;
-  answer = λ before most c. refl;
+  frames = λ before from most c. refl;
+  deliveries = λ before from most c. refl;
+  answer = λ before from most c. refl;
 }

@@ -1,6 +1,6 @@
-use Rattle.std.proofs.Common.{List, ap, subst}
+use Rattle.std.proofs.Common.{List, sym, ap, subst}
 use Rattle.sms_centre_messages.specs.references.ReferenceIndex.{Represents as ReferencesRepresent}
-use Rattle.sms_centre_messages.specs.references.Moves.{AreMoves, ArePartMoves}
+use Rattle.sms_centre_messages.specs.references.Moves.{AreMoves, ArePartMoves, ArePartRemovals, AreRemovals}
 use Rattle.sms_centre_messages.specs.message_index.MessageIndex.{Represents, Matches}
 use Rattle.sms_centre_rows.specs.declared.messages.message.MessageRow.{MessageRow}
 use Rattle.sms_centre_rows.specs.declared.messages.part.PartRow.{PartRow}
@@ -11,6 +11,7 @@ use Rattle.sms_rows.specs.table.Table.{Rises, all_applied}
 use Rattle.sms_centre_rows.specs.declared.waiting.revision.Revision.{Revision}
 use Rattle.sms_centre_rows.specs.waiting.Revisions.{all_revised}
 use Rattle.sms_centre.specs.plans.NextState.{NextStateOf}
+use Rattle.sms_centre.proofs.Forgotten.{centre_forgets, messages_removed, parts_are_removed, reference_index_forgets}
 use Rattle.sms_centre.proofs.plans.Adopted.{centre_after, reference_index_after}
 use Rattle.sms_centre.proofs.plans.event_outcome.EventOutcome.adopt.Goals as goal
 
@@ -29,4 +30,20 @@ returns-clause-reference_index c = λ event core setup is planned was holds.
     (subst (λ (m : List (Change MessageRow)). (ms : List MessageRow) (ps : List PartRow) → ReferencesRepresent c.args.reference_index.now ms ps → Rises message_key ms → Rises part_key ps → AreMoves m ms ps
     → ArePartMoves m c.args.self.changes.parts (all_applied message_key m ms) ps → ReferencesRepresent c.adopt.new.self (all_applied message_key m ms) (all_revised part_key part_reaching c.args.self.changes.parts ps)) c.as_slice.ensures
     (subst (λ (r : List (Revision PartRow)). (ms : List MessageRow) (ps : List PartRow) → ReferencesRepresent c.args.reference_index.now ms ps → Rises message_key ms → Rises part_key ps → AreMoves c.as_slice.result.now ms ps
-    → ArePartMoves c.as_slice.result.now r (all_applied message_key c.as_slice.result.now ms) ps → ReferencesRepresent c.adopt.new.self (all_applied message_key c.as_slice.result.now ms) (all_revised part_key part_reaching r ps)) c.as_slice-2.ensures c.adopt.ensures))
+    → ArePartMoves c.as_slice.result.now r (all_applied message_key c.as_slice.result.now ms) ps → ReferencesRepresent c.adopt.new.self (all_applied message_key c.as_slice.result.now ms) (all_revised part_key part_reaching r ps)) c.as_slice-2.ensures c.adopt.ensures.moved))
+
+pub returns-clause-forgotten : goal.returns-clause-forgotten
+returns-clause-forgotten c = λ before from most core setup planned was.
+    let next_state = c.next_state.view_is in
+    centre_forgets before from most core c.args.self planned setup c.args.moment.now c.next_state.inside.moment c.args.messages.now c.adopt-2.new.self c.args.queues.now c.adopt-3.new.self c.args.reports.now c.next_state.inside.reports c.args.sessions.now.rows c.next_state.inside.sessions.rows was
+    (ap (λ (l : NextStateOf). l.moment) next_state)
+    (subst (λ (l : NextStateOf). (ms : List MessageRow) (ps others : List PartRow) → Represents c.args.messages.now ms ps → Matches l.messages ps others → Represents c.adopt-2.new.self (all_applied message_key c.args.self.changes.messages ms) others) next_state c.adopt-2.ensures)
+    (subst (λ (l : NextStateOf). IsAdopted l.queues c.adopt-3.new.self) next_state c.adopt-3.ensures)
+    (ap (λ (l : NextStateOf). l.reports) next_state) (ap (λ (l : NextStateOf). l.sessions) next_state)
+
+pub returns-clause-reference_index_forgets : goal.returns-clause-reference_index_forgets
+returns-clause-reference_index_forgets c = λ before from most core setup planned was holds.
+    reference_index_forgets before from most core c.args.self planned was.sound c.adopt.new.self
+    (c.adopt.ensures.kept core.rows.messages core.rows.parts holds
+    (subst (λ (m : List (Change MessageRow)). AreRemovals m) (sym c.as_slice.ensures) (messages_removed before from most core c.args.self planned))
+    (subst (λ (r : List (Revision PartRow)). ArePartRemovals r) (sym c.as_slice-2.ensures) (parts_are_removed before from most core c.args.self planned)))

@@ -1,0 +1,287 @@
+-- What a centre asks of a message before it forgets it, by the definition's words.
+use Rattle.std.proofs.Common.{◌≡◌, ℕ, zero, suc, ◌+◌, ◌-◌, ◌<◌, ◌≤◌, List, [], ◌∷◌, ◌++◌, map, length, get_or, drop, add-one, Bool, true, false, Option, Some, None, Result, Ok, Err, refl, sym, ◌∙◌, ap, subst, inl, inr, ⊎_elim, eq-eqb, arith}
+use Rattle.std.specs.Prelude.{◌⊎◌, ◌==◌, ◌&&◌, ◌||◌, not, is_none, is_some, nat_lt, slice_get, if◌then◌else◌, IfOk}
+use Rattle.std.proofs.lemmas.Option.{get_or_from_slice_get, slice_get-get_or}
+use Rattle.std.proofs.lemmas.Bool.{cases_Bool, cases_eq, eqb-true, lt-ltb, le-ltb, ne_eqb, or_left, or_right}
+use Rattle.sms_base.specs.Among.{Among}
+use Rattle.sms_base.specs.declared.carried.Carried.{Carried}
+use Rattle.sms_base.specs.declared.holder.Holder.{Holder}
+use Rattle.sms_base.specs.declared.holder.Holder.TheVariants.{Part, Report, Entry, Memory}
+use Rattle.sms_base.specs.declared.originator.Originator.{Originator}
+use Rattle.sms_base.specs.declared.originator.Originator.TheVariants.{Application, Handset}
+use Rattle.sms_rows.specs.index.Picked.{pick_of}
+use Rattle.sms_rows.specs.table.Keys.{AllDigits}
+use Rattle.sms_rows.specs.table.Table.{AllAbove, Rises, RowsInMemory}
+use Rattle.sms_rows.proofs.table.Tables.{among_found}
+use Rattle.sms_centre_rows.specs.declared.messages.message.MessageRow.{MessageRow}
+use Rattle.sms_centre_rows.specs.declared.reports.report.ReportKind.{ReportKind}
+use Rattle.sms_centre_rows.specs.declared.reports.report.ReportKind.TheVariants.{Receipt, Status, Unsent}
+use Rattle.sms_centre_rows.specs.declared.reports.report.ReportRow.{ReportRow}
+use Rattle.sms_centre_rows.specs.declared.waiting.handset_link.HandsetLink.{HandsetLink}
+use Rattle.sms_centre_rows.specs.messages.Messages.{message_at, message_key}
+use Rattle.sms_centre_rows.specs.messages.PartEntries.{Few}
+use Rattle.sms_centre_rows.specs.reports.Reports.{place_after, report_key, report_of}
+use Rattle.sms_centre_rows.specs.reports.SoundReports.{AreOnce, FitsOriginator, SoundReports}
+use Rattle.sms_centre_rows.specs.waiting.Links.{line_at, line_of, or_new_line}
+use Rattle.sms_centre_rows.proofs.reports.AllWaiting.{report_behind, report_found, report_here}
+use Rattle.sms_centre_reports.specs.declared.report_log.by_message.MessageReport.{MessageReport}
+use Rattle.sms_centre_reports.specs.declared.report_log.log.LoggedReport.{LoggedReport}
+use Rattle.sms_centre_reports.specs.report_log.ByMessage.{reports_between}
+use Rattle.sms_centre_reports.proofs.report_log.Finding.{found_report}
+use Rattle.sms_centre_draft.specs.Forgetting.{ArePlaced, found_place}
+use Rattle.sms_centre_reports.specs.open_reports.Entries.{is_open, open_entry, report_entry}
+use Rattle.sms_centre_reports.specs.report_log.ReportLog.{is_of_last, made_report}
+use Rattle.sms_centre_spec.specs.Draft.{Core}
+use Rattle.sms_centre_spec.specs.SoundCore.{IsSentFor, IsSoundCore, IsUnderWay}
+use Rattle.sms_centre_spec.specs.forgetting.Forget.{is_carried, is_held_for, is_on_way}
+use Rattle.sms_centre_spec.specs.forgetting.Forgetting.{going, is_reported}
+use Rattle.sms_centre_spec.proofs.SoundLinks.{line_found, line_none}
+use Rattle.sms_centre_spec.proofs.forgetting.Now.{on_way_there}
+use Rattle.sms_centre_draft.proofs.walks.LinesStay.{line_own}
+use Rattle.sms_centre.specs.Forgetting.{gone_at}
+
+same_bool : (a b : Bool) → (a ≡ true → b ≡ true) → (b ≡ true → a ≡ true) → a ≡ b
+same_bool true b f g = sym (f refl)
+same_bool false true f g = g refl
+same_bool false false f g = refl
+
+pub is_there : {A : Type 0} (o : Option A) → is_some o ≡ not (is_none o)
+is_there None = refl
+is_there (Some x) = refl
+
+pub few_parts : (c : Core) → IsSoundCore c → Few c.rows.parts
+few_parts c s = record { keys = s.rows.messages.part_keys; numbers = λ p a. let i = s.rows.messages.each_part p a in (i.first, i.few) }
+
+-- ---- whether its report is closed, and not the last
+
+-- of a sound report
+open_undone : (k : ReportKind) (o : Originator) (m : MessageRow) (r : ReportRow) → r.kind ≡ k → FitsOriginator k o m r → is_open r ≡ not r.progress.is_done
+open_undone Receipt o m r e fits = ap (λ (k : ReportKind). is_open (record r { kind = k })) e ∙ or_false (not r.progress.is_done)
+  where
+    or_false : (b : Bool) → (b || false) ≡ b
+    or_false true = refl
+    or_false false = refl
+open_undone (Status reference tpdu) o m r e fits = ap (λ (k : ReportKind). is_open (record r { kind = k })) e
+open_undone Unsent (Application account) m r e fits = absurd fits
+open_undone Unsent (Handset n) m r e fits = ap (λ (k : ReportKind). is_open (record r { kind = k })) e ∙ sym (ap not fits)
+
+picked_open : (r : ReportRow) → is_some (open_entry r) ≡ is_open r
+picked_open r = by (is_open r) where
+  by : (b : Bool) → is_some (if b then Some (report_entry r) else None) ≡ b
+  by true = refl
+  by false = refl
+
+abbrev logged : List ReportRow → List LoggedReport
+logged rs = map made_report rs
+
+-- a report that is there: a later one gives the next place, unless the last is of the message
+of_last : (id k : ℕ) (r : ReportRow) (rs : List ReportRow) → Rises report_key rs → AreOnce rs → Among r rs → r.id ≡ id
+    → nat_lt (r.place + 1) (place_after k rs) ≡ not (is_of_last id (logged rs))
+of_last id k r [] rises once a own = absurd a
+of_last id k r (x ∷ []) rises once a own = ⊎_elim
+    (λ (e : r ≡ x).
+    ap (λ (y : ReportRow). nat_lt (r.place + 1) (y.place + 1)) (sym e) ∙ le-ltb (r.place + 1) (r.place + 1) (omega arith)
+    ∙ sym (ap not (eq-eqb x.id id (ap (λ (y : ReportRow). y.id) (sym e) ∙ own))))
+    (λ (b : Among r []). absurd b)
+    a
+of_last id k r (x ∷ y ∷ rs) rises once a own = ⊎_elim
+    (λ (e : r ≡ x). first e)
+    (λ (b : Among r (y ∷ rs)). of_last id (x.place + 1) r (y ∷ rs) rises.1 (λ p q c d. once p q (inr c) (inr d)) b own)
+    a
+  where
+    -- the first of several is not the last, and its place is lower
+    higher : (n : ℕ) (z : ReportRow) (zs : List ReportRow) → AllAbove report_key n (z ∷ zs) → n + 1 < place_after (z.place + 1) zs
+    higher n z [] h = let l : n < z.place = h.0 in omega (arith, l)
+    higher n z (u ∷ us) h = higher n u us h.1
+
+    other_last : (z : ReportRow) (zs : List ReportRow) → ((w : ReportRow) → Among w (z ∷ zs) → ¬ (w.id ≡ id)) → is_of_last id (logged (z ∷ zs)) ≡ false
+    other_last z [] f = ne_eqb z.id id (f z (inl refl))
+    other_last z (u ∷ us) f = other_last u us (λ w c. f w (inr c))
+
+    first : r ≡ x → nat_lt (r.place + 1) (place_after (y.place + 1) rs) ≡ not (is_of_last id (logged (y ∷ rs)))
+    first e =
+        let low : x.place + 1 < place_after (y.place + 1) rs = higher x.place y rs rises.0 in
+        let same : r.place ≡ x.place = ap (λ (z : ReportRow). z.place) e in
+        lt-ltb (r.place + 1) (place_after (y.place + 1) rs) (omega (arith, low, same))
+        ∙ sym (ap not (other_last y rs (λ w c q.
+        let p : x.place ≡ w.place = once x w (inl refl) (inr c) (ap (λ (z : ReportRow). z.id) (sym e) ∙ own ∙ sym q) in
+        let l : x.place < w.place = above x.place w (y ∷ rs) rises.0 c in absurd (omega (arith, p, l)))))
+      where
+        above : (n : ℕ) (z : ReportRow) (zs : List ReportRow) → AllAbove report_key n zs → Among z zs → n < z.place
+        above n z [] h c = absurd c
+        above n z (u ∷ us) h c = ⊎_elim (λ (q : z ≡ u). subst (λ (v : ReportRow). n < v.place) (sym q) h.0) (λ (d : Among z us). above n z us h.1 d) c
+
+no_last : (id : ℕ) (rs : List ReportRow) → report_of id rs ≡ None → is_of_last id (logged rs) ≡ false
+no_last id [] e = refl
+no_last id (x ∷ []) e = ⊎_elim
+    (λ (q : x.id ≡ id). let bad : Some x ≡ None = sym (report_here id x [] q) ∙ e in absurd cc)
+    (λ (q : x.id ≡ id → ⊥). ne_eqb x.id id q)
+    (cases_eq x.id id)
+no_last id (x ∷ y ∷ rs) e = ⊎_elim
+    (λ (q : x.id ≡ id). let bad : Some x ≡ None = sym (report_here id x (y ∷ rs) q) ∙ e in absurd cc)
+    (λ (q : x.id ≡ id → ⊥). no_last id (y ∷ rs) (sym (report_behind id x (y ∷ rs) q) ∙ e))
+    (cases_eq x.id id)
+
+-- by what memory has: the open reports, and the last one of the log
+pub reported_as : (id : ℕ) (messages : List MessageRow) (rows : List ReportRow) → SoundReports messages rows
+    → (not (is_some (pick_of open_entry (report_of id rows))) && not (is_of_last id (logged rows))) ≡ is_reported rows (report_of id rows)
+reported_as id messages rows s = by (report_of id rows) refl
+  where
+    by : (o : Option ReportRow) → report_of id rows ≡ o → (not (is_some (pick_of open_entry o)) && not (is_of_last id (logged rows))) ≡ is_reported rows o
+    by None e = ap not (no_last id rows e)
+    by (Some r) e =
+        let f = report_found id r rows e in
+        let i = s.each r f.0 in
+        let undone : is_some (open_entry r) ≡ not r.progress.is_done = picked_open r ∙ open_undone r.kind i.message.0.originator i.message.0 r refl i.message.1.1.1 in
+        ap (λ (b : Bool). not b && not (is_of_last id (logged rows))) undone
+        ∙ ap (λ (b : Bool). b && not (is_of_last id (logged rows))) (twice r.progress.is_done)
+        ∙ ap (λ (b : Bool). r.progress.is_done && b) (sym (of_last id 1 r rows s.keys s.once f.0 f.1))
+      where
+        twice : (b : Bool) → not (not b) ≡ b
+        twice true = refl
+        twice false = refl
+
+-- ---- whether it is under way
+
+module _ (c : Core) (s : IsSoundCore c) (m : MessageRow) (there : message_at m.id c.rows.messages ≡ Some m) where
+  abbrev carried_to : List ℕ → Bool
+  carried_to number = is_carried m.id (line_of number c.lines).link.under_way
+
+  -- a line that is there carries it
+  on_line : (number : List ℕ) → carried_to number ≡ true → is_on_way m.id c.lines ≡ true
+  on_line number e = by (line_at number c.lines) refl e
+    where
+      by : (o : Option HandsetLink) → line_at number c.lines ≡ o → is_carried m.id (or_new_line number o).link.under_way ≡ true → is_on_way m.id c.lines ≡ true
+      by None q f = let bad : false ≡ true = f in absurd cc
+      by (Some l) q f = on_way_there m.id l c.lines (line_found number l c.lines q).0 f
+
+  record OnLine : Type 0 where
+    line : HandsetLink
+    among : Among line c.lines
+    carried : is_carried m.id line.link.under_way ≡ true
+
+  found_line : (ls : List HandsetLink) → ((l : HandsetLink) → Among l ls → Among l c.lines) → is_on_way m.id ls ≡ true → OnLine
+  found_line [] all e = let bad : false ≡ true = e in absurd cc
+  found_line (l ∷ ls) all e = ⊎_elim
+      (λ (t : is_carried m.id l.link.under_way ≡ true). record { line = l; among = all l (inl refl); carried = t })
+      (λ (t : is_carried m.id l.link.under_way ≡ false).
+      found_line ls (λ x a. all x (inr a)) (sym (ap (λ (b : Bool). b || is_on_way m.id ls) t) ∙ e))
+      (cases_Bool (is_carried m.id l.link.under_way))
+
+  own_message : (w : MessageRow) (n : ℕ) → (n == m.id) ≡ true → message_at n c.rows.messages ≡ Some w → w ≡ m
+  own_message w n e found =
+      let same : Some w ≡ Some m = sym found ∙ ap (λ (k : ℕ). message_at k c.rows.messages) (eqb-true n m.id e) ∙ there in cc
+
+  for_it : (handset : List ℕ) (reference : ℕ) (tag : Holder) → is_held_for m.id tag ≡ true → IsSentFor handset reference tag c.rows → (m.handset ≡ handset) ⊎ (m.source.digits ≡ handset)
+  for_it handset reference (Part n number) e (p, (w, i)) = let same : w ≡ m = own_message w n e i.2 in inl (ap (λ (x : MessageRow). x.handset) (sym same) ∙ i.3)
+  for_it handset reference (Report n) e (r, (w, (tpdu, i))) = let same : w ≡ m = own_message w n e i.2 in inr (ap (λ (x : MessageRow). x.source.digits) (sym same) ∙ i.3)
+  for_it handset reference (Entry n) e i = let bad : false ≡ true = e in absurd cc
+  for_it handset reference (Memory n) e i = let bad : false ≡ true = e in absurd cc
+
+  for_line : (handset : List ℕ) (o : Option Carried) → is_carried m.id o ≡ true → IsUnderWay handset o c.rows → (m.handset ≡ handset) ⊎ (m.source.digits ≡ handset)
+  for_line handset None e i = let bad : false ≡ true = e in absurd cc
+  for_line handset (Some t) e i = for_it handset t.reference t.tag e i.1
+
+  pub way_by_ends : (carried_to m.handset || carried_to m.source.digits) ≡ is_on_way m.id c.lines
+  way_by_ends = same_bool (carried_to m.handset || carried_to m.source.digits) (is_on_way m.id c.lines)
+      (λ e. ⊎_elim
+      (λ (t : carried_to m.handset ≡ true). on_line m.handset t)
+      (λ (t : carried_to m.handset ≡ false). on_line m.source.digits (sym (ap (λ (b : Bool). b || carried_to m.source.digits) t) ∙ e))
+      (cases_Bool (carried_to m.handset)))
+      (λ e.
+      let f = found_line c.lines (λ l a. a) e in
+      let l : HandsetLink = f.line in
+      let own : line_of l.handset c.lines ≡ l = line_own l c.lines s.apart f.among in
+      let carried : carried_to l.handset ≡ true = ap (λ (x : HandsetLink). is_carried m.id x.link.under_way) own ∙ f.carried in
+      ⊎_elim
+      (λ (q : m.handset ≡ l.handset). or_left (carried_to m.handset) (carried_to m.source.digits) (ap (λ (n : List ℕ). carried_to n) q ∙ carried))
+      (λ (q : m.source.digits ≡ l.handset). or_right (carried_to m.handset) (carried_to m.source.digits) (ap (λ (n : List ℕ). carried_to n) q ∙ carried))
+      (for_line l.handset l.link.under_way f.carried (s.each_line l f.among).under_way))
+
+-- a number that isn't digits has no line
+pub no_line : (id : ℕ) (number : List ℕ) (lines : List HandsetLink) → ((l : HandsetLink) → Among l lines → AllDigits l.handset) → (AllDigits number → ⊥)
+    → false ≡ is_carried id (line_of number lines).link.under_way
+no_line id number lines digits none =
+    sym (ap (λ (o : Option HandsetLink). is_carried id (or_new_line number o).link.under_way)
+    (line_none number lines (λ x a e. none (subst (λ (n : List ℕ). AllDigits n) e (digits x a)))))
+
+-- ---- one message more is looked at
+
+pub going_more : (goes : MessageRow → Bool) (n : ℕ) (ms : List MessageRow) → going goes (n + 1) ms ≡ going goes n ms ++ gone_at goes (slice_get ms n)
+going_more goes n ms = ap (λ (k : ℕ). going goes k ms) (add-one n) ∙ next n ms
+  where
+    next : (k : ℕ) (xs : List MessageRow) → going goes (suc k) xs ≡ going goes k xs ++ gone_at goes (slice_get xs k)
+    next zero [] = refl
+    next zero (m ∷ xs) = refl
+    next (suc k) [] = refl
+    next (suc k) (m ∷ xs) = by (goes m) (next k xs) where
+      by : (b : Bool) → going goes (suc k) xs ≡ going goes k xs ++ gone_at goes (slice_get xs k)
+          → (if b then m.id ∷ going goes (suc k) xs else going goes (suc k) xs) ≡ (if b then m.id ∷ going goes k xs else going goes k xs) ++ gone_at goes (slice_get xs k)
+      by true e = ap (λ (l : List ℕ). m.id ∷ l) e
+      by false e = e
+
+pub behind_start : (start n : ℕ) (ms : List MessageRow) → slice_get (drop start ms) n ≡ slice_get ms (start + n)
+behind_start zero n ms = ap (λ (k : ℕ). slice_get ms k) (let e : n ≡ 0 + n = omega arith in e)
+behind_start (suc start) n [] = nothing n
+  where
+    nothing : (k : ℕ) → slice_get [] k ≡ slice_get [] (suc start + k)
+    nothing k = refl
+behind_start (suc start) n (m ∷ ms) =
+    behind_start start n ms ∙ ap (λ (k : ℕ). slice_get (m ∷ ms) k) (let e : suc (start + n) ≡ suc start + n = omega arith in e)
+
+got_among : (ms : List MessageRow) (n : ℕ) (m : MessageRow) → slice_get ms n ≡ Some m → Among m ms
+got_among [] n m e = absurd cc
+got_among (x ∷ xs) zero m e = let same : x ≡ m = cc in inl (sym same)
+got_among (x ∷ xs) (suc n) m e = inr (got_among xs n m e)
+
+pub got_found : (ms : List MessageRow) (n : ℕ) (m : MessageRow) → Rises message_key ms → slice_get ms n ≡ Some m → message_at m.id ms ≡ Some m
+got_found ms n m rises e = among_found message_key m ms rises (got_among ms n m e)
+
+-- ---- the numbers that go lie between the first and the last
+
+above_all : (n x : ℕ) (ns : List ℕ) → AllAbove (λ (k : ℕ). k) n ns → Among x ns → n < x
+above_all n x [] h a = absurd a
+above_all n x (m ∷ ns) h a = ⊎_elim
+    (λ (e : x ≡ m). let l : n < m = h.0 in omega (arith, l, e))
+    (λ (b : Among x ns). above_all n x ns h.1 b)
+    a
+
+pub low_first : (x : ℕ) (ns : List ℕ) (d : ℕ) → Rises (λ (k : ℕ). k) ns → Among x ns → get_or ns 0 d ≤ x
+low_first x [] d h a = absurd a
+low_first x (n ∷ ns) d h a = ⊎_elim
+    (λ (e : x ≡ n). omega (arith, e))
+    (λ (b : Among x ns). let l = above_all n x ns h.0 b in omega (arith, l))
+    a
+
+pub high_last : (x : ℕ) (ns : List ℕ) (d : ℕ) → Rises (λ (k : ℕ). k) ns → Among x ns → x ≤ get_or ns (length ns - 1) d
+high_last x [] d h a = absurd a
+high_last x (n ∷ []) d h a = ⊎_elim (λ (e : x ≡ n). omega (arith, e)) (λ (b : Among x []). absurd b) a
+high_last x (n ∷ m ∷ ns) d h a = ⊎_elim
+    (λ (e : x ≡ n).
+    let l : n < m = h.0.0 in
+    let r = high_last m (m ∷ ns) d h.1 (inl refl) in omega (arith, e, l, r))
+    (λ (b : Among x (m ∷ ns)). high_last x (m ∷ ns) d h.1 b)
+    a
+
+-- ---- the places of their reports
+
+pub none_placed : (ids : List ℕ) (found : List MessageReport) (rows : List ReportRow) → length ids ≤ 0 → ArePlaced ids found rows
+none_placed [] found rows l = λ id a. absurd a
+none_placed (x ∷ xs) found rows l = absurd (omega (arith, l))
+
+pub no_end : (ids : List ℕ) → slice_get ids (length ids - 1) ≡ None → length ids ≤ 0
+no_end [] e = omega arith
+no_end (x ∷ xs) e =
+    let some : slice_get (x ∷ xs) (length (x ∷ xs) - 1) ≡ Some (get_or (x ∷ xs) (length (x ∷ xs) - 1) x) = slice_get-get_or (x ∷ xs) (length (x ∷ xs) - 1) x (omega arith) in
+    let bad : Some (get_or (x ∷ xs) (length (x ∷ xs) - 1) x) ≡ None = sym some ∙ e in absurd cc
+
+pub placed_all : {E : Type 0} (ids : List ℕ) (rows : List ReportRow) (log : RowsInMemory LoggedReport) (first last : ℕ) (found : Result (RowsInMemory MessageReport) E)
+    → log.rows ≡ map made_report rows → Rises (λ (k : ℕ). k) ids → first ≡ get_or ids 0 first → slice_get ids (length ids - 1) ≡ Some last
+    → IfOk found (λ f. f.rows ≡ reports_between first (last + 1) log.rows) → IfOk found (λ f. ArePlaced ids f.rows rows)
+placed_all ids rows log first last (Err e) is rises low high h = h
+placed_all ids rows log first last (Ok f) is rises low high h = λ id a.
+    let l = low_first id ids first rises a in
+    let r = high_last id ids last rises a in
+    let end : get_or ids (length ids - 1) last ≡ last = get_or_from_slice_get ids (length ids - 1) last last high in
+    ap (λ (l : List MessageReport). found_place id l) (h ∙ ap (λ (l : List LoggedReport). reports_between first (last + 1) l) is)
+    ∙ found_report first (last + 1) id rows (omega (arith, l, low)) (omega (arith, r, end))

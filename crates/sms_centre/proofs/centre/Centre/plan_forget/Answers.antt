@@ -1,0 +1,6 @@
+use Rattle.std.proofs.Common.{sym, subst}
+use Rattle.sms_centre.specs.state.CentreState.{CentreStateOf, Represents}
+use Rattle.sms_centre.proofs.centre.Centre.plan_forget.Goals as goal
+
+pub returns-clause-outcome : goal.returns-clause-outcome
+returns-clause-outcome c = λ core represents. c.plan_forget.ensures.plan core (subst (λ (s : CentreStateOf). Represents core s) (sym c.self.view_is) represents)

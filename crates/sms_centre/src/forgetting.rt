@@ -1,0 +1,375 @@
+//! Which messages a centre may forget, and the plan of it.
+ghost use Rattle.std.specs.Prelude.{◌≡◌, ◌∷◌, [], ◌++◌, ◌&&◌, ◌+◌, ℕ, List, Some, get_or, is_some, slice_get, IfOk, OnOk};
+ghost use Rattle.sms_rows.specs.table.Table.{Rises};
+ghost use Rattle.sms_centre_rows.specs.declared.reports.report.ReportRow.{ReportRow as ReportRowOf};
+ghost use Rattle.sms_centre_rows.specs.messages.Messages.{message_at};
+ghost use Rattle.sms_centre_rows.specs.messages.SplitReferences.{is_delivered as is_delivered_of};
+ghost use Rattle.sms_centre_rows.specs.reports.Reports.{report_of};
+ghost use Rattle.sms_centre_rows.specs.waiting.Links.{line_of};
+ghost use Rattle.sms_centre_reports.specs.report_log.ByMessage.{reports_between};
+ghost use Rattle.sms_centre_reports.specs.report_log.ReportLog.{Represents as LogRepresents};
+ghost use Rattle.sms_centre_spec.specs.Draft.{Core, draft_of};
+ghost use Rattle.sms_centre_spec.specs.forgetting.Forget.{forget as forget_of, going_now, is_carried as is_carried_of, is_held_for as is_held_for_of, is_on_way as is_on_way_of, may_go_now as may_go_now_of};
+ghost use Rattle.sms_centre_spec.specs.forgetting.Forgetting.{bars_reference as bars_reference_of, is_before, is_reported as is_reported_of, may_go as may_go_of};
+ghost use Rattle.sms_centre_draft.specs.CentreDraft.{Represents as DraftRepresents};
+ghost use Rattle.sms_centre_draft.specs.Forgetting.{ArePlaced};
+ghost use Rattle.sms_centre.specs.Forgetting.{gone_at};
+ghost use Rattle.sms_centre.specs.Planning.{Fits};
+ghost use Rattle.sms_centre.specs.plans.EventOutcome.{IsOutcome};
+ghost use Rattle.sms_centre.specs.state.CentreState.{CentreStateOf, Represents as StateRepresents};
+
+use crate::finishing::planned;
+use crate::plan::Plan;
+use crate::state::CentreState;
+use sms_base::{Carried, Digits, FinalState, Holder, MessageId, Moment};
+use sms_centre_draft::{CentreDraft, are_digits};
+use sms_centre_reports::report_log::{MessageReport, ReportLog};
+use sms_centre_rows::messages::MessageRow as Message;
+use sms_rows::table::Table;
+use std::alloc::{AllocError, Global};
+
+// ---- what is asked of a message
+
+// It has a final state, from before that moment.
+fn has_ended(message: &Message, before: Moment) -> bool
+    ensures { result ≡ (is_some message.now.state && is_before before message.now.done) }
+{
+    if message.state.is_none() {
+        return false;
+    }
+    match message.done {
+        Some(done) => done.seconds() < before.seconds(),
+        None => false,
+    }
+}
+
+// Its report is closed, and a later one gives the next place; or it has none.
+fn is_reported(state: &CentreState, id: MessageId) -> bool
+    ensures { (c : Core) → StateRepresents c state.now → result ≡ is_reported_of c.rows.reports (report_of id c.rows.reports) }
+{
+    if state.reports.find(id).is_some() {
+        return false;
+    }
+    !state.log.is_of_last(id)
+}
+
+fn may_go(state: &CentreState, before: Moment, message: &Message) -> bool
+    ensures { (c : Core) → StateRepresents c state.now → result ≡ may_go_of before c.rows message.now }
+{
+    if !has_ended(message, before) {
+        return false;
+    }
+    if !is_reported(state, message.id) {
+        return false;
+    }
+    if !state.reference_index.leaves_split(message) {
+        return false;
+    }
+    state.messages.leaves_number(message)
+}
+
+// It came with a header of its own, or the centre split it and not all of it was delivered.
+fn bars_reference(state: &CentreState, message: &Message) -> bool
+    ensures { (c : Core) → StateRepresents c state.now → result ≡ bars_reference_of message.now c.rows.parts }
+{
+    if state.messages.has_own_wide(message) {
+        return true;
+    }
+    if message.split_reference.is_none() {
+        return false;
+    }
+    !is_delivered(message.state)
+}
+
+fn is_delivered(state: Option<FinalState>) -> bool
+    ensures { result ≡ is_delivered_of state }
+{
+    match state {
+        Some(FinalState::Delivered) => true,
+        Some(FinalState::Expired) => false,
+        Some(FinalState::Deleted) => false,
+        Some(FinalState::Undeliverable) => false,
+        None => false,
+    }
+}
+
+fn is_held_for(tag: Holder, id: MessageId) -> bool
+    ensures { result ≡ is_held_for_of id tag }
+{
+    match tag {
+        Holder::Part(other, _) => other.number() == id.number(),
+        Holder::Report(other) => other.number() == id.number(),
+        Holder::Entry(_) => false,
+        Holder::Memory(_) => false,
+    }
+}
+
+fn is_carried(transfer: Option<Carried>, id: MessageId) -> bool
+    ensures { result ≡ is_carried_of id transfer }
+{
+    match transfer {
+        Some(transfer) => is_held_for(transfer.tag, id),
+        None => false,
+    }
+}
+
+// It is under way to that handset.
+fn is_on_way_to(draft: &CentreDraft<'_>, handset: Digits, id: MessageId) -> bool
+    ensures { (c : Core) → DraftRepresents (draft_of c) draft.now → result ≡ is_carried_of id (line_of handset c.lines).link.under_way }
+{
+    if !are_digits(handset.as_slice()) {
+        return false;
+    }
+    is_carried(draft.under_way(handset), id)
+}
+
+// It or its report is under way: to its handset, or to its source.
+fn is_on_way(draft: &CentreDraft<'_>, message: &Message) -> bool
+    ensures { (c : Core) (state : CentreStateOf) → DraftRepresents (draft_of c) draft.now → StateRepresents c state
+        → message_at message.now.id c.rows.messages ≡ Some message.now → result ≡ is_on_way_of message.now.id c.lines }
+{
+    if is_on_way_to(draft, message.handset, message.id) {
+        return true;
+    }
+    is_on_way_to(draft, message.source.digits, message.id)
+}
+
+fn may_go_now(
+    draft: &CentreDraft<'_>,
+    state: &CentreState,
+    before: Moment,
+    message: &Message,
+) -> bool
+    ensures { (c : Core) → DraftRepresents (draft_of c) draft.now → StateRepresents c state.now → message_at message.now.id c.rows.messages ≡ Some message.now
+        → result ≡ may_go_now_of before c message.now }
+{
+    if !may_go(state, before, message) {
+        return false;
+    }
+    if bars_reference(state, message) {
+        return false;
+    }
+    if draft.bindings.is_unanswered(message.id) {
+        return false;
+    }
+    !is_on_way(draft, message)
+}
+
+// ---- which of the messages it looks at go
+
+// The number of the message at that place is one of them, if it may go.
+fn note(
+    alloc: Global,
+    draft: &CentreDraft<'_>,
+    state: &CentreState,
+    before: Moment,
+    place: usize,
+    ids: &mut Vec<MessageId>,
+) -> Result<(), AllocError>
+    ensures { (c : Core) → DraftRepresents (draft_of c) draft.now → StateRepresents c state.now
+        → OnOk result (ids.new.items ≡ ids.old.items ++ gone_at (may_go_now_of before c) (slice_get c.rows.messages place)) }
+{
+    let found = state.messages.row(alloc, place)?;
+    match found {
+        Some(message) => note_message(draft, state, before, message, ids),
+        None => Ok(()),
+    }
+}
+
+fn note_message(
+    draft: &CentreDraft<'_>,
+    state: &CentreState,
+    before: Moment,
+    message: Message,
+    ids: &mut Vec<MessageId>,
+) -> Result<(), AllocError>
+    ensures { (c : Core) → DraftRepresents (draft_of c) draft.now → StateRepresents c state.now → message_at message.id c.rows.messages ≡ Some message
+        → OnOk result (ids.new.items ≡ ids.old.items ++ gone_at (may_go_now_of before c) (Some message)) }
+{
+    let id = message.id;
+    let goes = may_go_now(draft, state, before, &message);
+    drop(message);
+    if !goes {
+        return Ok(());
+    }
+    ids.push(id)?;
+    Ok(())
+}
+
+// The same of the one so many places behind another.
+fn note_behind(
+    alloc: Global,
+    draft: &CentreDraft<'_>,
+    state: &CentreState,
+    before: Moment,
+    start: usize,
+    behind: usize,
+    ids: &mut Vec<MessageId>,
+) -> Result<(), AllocError>
+    ensures { (c : Core) → DraftRepresents (draft_of c) draft.now → StateRepresents c state.now
+        → OnOk result (ids.new.items ≡ ids.old.items ++ gone_at (may_go_now_of before c) (slice_get c.rows.messages (start + behind))) }
+{
+    match start.checked_add(behind) {
+        Some(place) => note(alloc, draft, state, before, place, ids),
+        None => Err(AllocError),
+    }
+}
+
+fn note_each(
+    alloc: Global,
+    draft: &CentreDraft<'_>,
+    state: &CentreState,
+    before: Moment,
+    from: u64,
+    most: u16,
+    ids: &mut Vec<MessageId>,
+) -> Result<(), AllocError>
+    ensures { (c : Core) → DraftRepresents (draft_of c) draft.now → StateRepresents c state.now → ids.old.items ≡ []
+        → OnOk result (ids.new.items ≡ going_now before from most c) }
+{
+    let start = state.messages.place_from(from);
+    for behind in 0..usize::from(most) {
+        note_behind(alloc, draft, state, before, start, behind, ids)?;
+    }
+    Ok(())
+}
+
+fn going(
+    alloc: Global,
+    draft: &CentreDraft<'_>,
+    state: &CentreState,
+    before: Moment,
+    from: u64,
+    most: u16,
+) -> Result<Vec<MessageId>, AllocError>
+    ensures { (c : Core) → DraftRepresents (draft_of c) draft.now → StateRepresents c state.now → IfOk result (λ ids. ids.items ≡ going_now before from most c) }
+{
+    let mut ids = Vec::new(alloc);
+    match note_each(alloc, draft, state, before, from, most, &mut ids) {
+        Ok(()) => Ok(ids),
+        Err(error) => {
+            drop(ids);
+            Err(error)
+        }
+    }
+}
+
+// The reports of these messages, whose numbers rise. It looks at all reports, unless no message goes.
+fn reports_of(
+    alloc: Global,
+    log: &ReportLog,
+    ids: &[MessageId],
+) -> Result<Table<MessageReport>, AllocError>
+    ensures { (rows : List ReportRowOf) → LogRepresents log.now rows → Rises (λ (n : ℕ). n) ids.now → IfOk result (λ found. ArePlaced ids.now found.rows rows) }
+{
+    match ids.get(0) {
+        Some(first) => reports_from(alloc, log, ids, *first),
+        None => {
+            let none = Table::new(alloc);
+            Ok(none)
+        }
+    }
+}
+
+// The same, where that one is the first.
+fn reports_from(
+    alloc: Global,
+    log: &ReportLog,
+    ids: &[MessageId],
+    first: MessageId,
+) -> Result<Table<MessageReport>, AllocError>
+    ensures { (rows : List ReportRowOf) → LogRepresents log.now rows → Rises (λ (n : ℕ). n) ids.now → first ≡ get_or ids.now 0 first
+        → IfOk result (λ found. ArePlaced ids.now found.rows rows) }
+{
+    match ids.last() {
+        Some(last) => reports_to(alloc, log, first, *last),
+        None => {
+            let none = Table::new(alloc);
+            Ok(none)
+        }
+    }
+}
+
+fn reports_to(
+    alloc: Global,
+    log: &ReportLog,
+    first: MessageId,
+    last: MessageId,
+) -> Result<Table<MessageReport>, AllocError>
+    ensures { IfOk result (λ found. found.rows ≡ reports_between first (last + 1) log.now.rows) }
+{
+    match last.number().checked_add(1) {
+        Some(end) => log.between(alloc, first.number(), end),
+        None => Err(AllocError),
+    }
+}
+
+// ---- the plan
+
+fn forget(
+    alloc: Global,
+    state: &CentreState,
+    draft: &mut CentreDraft<'_>,
+    before: Moment,
+    from: u64,
+    most: u16,
+) -> Result<(), AllocError>
+    ensures { (c : Core) → DraftRepresents (draft_of c) draft.old → StateRepresents c state.now
+        → OnOk result (DraftRepresents (forget_of before from most c) draft.new) }
+{
+    let ids = going(alloc, draft, state, before, from, most)?;
+    let done = forget_all(alloc, state, draft, ids.as_slice());
+    drop(ids);
+    done
+}
+
+fn forget_all(
+    alloc: Global,
+    state: &CentreState,
+    draft: &mut CentreDraft<'_>,
+    ids: &[MessageId],
+) -> Result<(), AllocError>
+    ensures { (before from most : ℕ) (c : Core) → DraftRepresents (draft_of c) draft.old → StateRepresents c state.now → ids.now ≡ going_now before from most c
+        → OnOk result (DraftRepresents (forget_of before from most c) draft.new) }
+{
+    let found = reports_of(alloc, &state.log, ids)?;
+    let done = draft.forget(ids, &found);
+    drop(found);
+    done
+}
+
+fn plan_begun(
+    alloc: Global,
+    state: &CentreState,
+    mut draft: CentreDraft<'_>,
+    before: Moment,
+    from: u64,
+    most: u16,
+) -> Result<Plan, AllocError>
+    ensures plan { (c : Core) → DraftRepresents (draft_of c) draft.entry → StateRepresents c state.now
+        → IfOk result (λ p. IsOutcome (forget_of before from most c) p.plan) }
+    ensures fits { IfOk result (Fits state.now) }
+{
+    match forget(alloc, state, &mut draft, before, from, most) {
+        Ok(()) => planned(alloc, state, draft),
+        Err(error) => {
+            drop(draft);
+            Err(error)
+        }
+    }
+}
+
+/// The plan of forgetting: of the first so many messages from that number on those go that may, and ended before that moment.
+pub(crate) fn plan_forget(
+    alloc: Global,
+    state: &CentreState,
+    before: Moment,
+    from: u64,
+    most: u16,
+) -> Result<Plan, AllocError>
+    ensures plan { (c : Core) → StateRepresents c state.now → IfOk result (λ p. IsOutcome (forget_of before from most c) p.plan) }
+    ensures fits { IfOk result (Fits state.now) }
+{
+    let draft = state.begin(alloc)?;
+    plan_begun(alloc, state, draft, before, from, most)
+}
