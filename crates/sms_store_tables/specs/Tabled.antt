@@ -97,7 +97,9 @@ computed t there deletes updates inserts selects is_no_listing own_tree free gua
 module _ {X : Type 0} (l : ListOf X) where
   -- a row is written, read and set as its columns, which the column's kinds leave as they are
   abbrev pub IsWritten : Type 0
-  IsWritten = (x : X) → value_rows (l.columns x) (length l.table.values) (length l.table.values / length l.table.values) l.table.values ≡ (Null ∷ l.columns x) ∷ []
+  IsWritten =
+      (x : X) → value_rows (l.columns x) (length l.table.values) (length l.table.values / length l.table.values) l.table.values
+      ≡ (Null ∷ l.columns x) ∷ []
 
   abbrev pub IsRead : Type 0
   IsRead = (id : ℤ) (x : X) → eval_all l.table.projected ([] ∷ (Int id ∷ l.columns x) ∷ []) ≡ l.columns x

@@ -19,7 +19,8 @@ use Rattle.sms_store_tables.specs.centre.HandsetList.{handset_list}
 use Rattle.sms_store_tables.specs.centre.ReportList.{report_list}
 use Rattle.sms_store_tables.specs.centre.PriorityList.{priority_list}
 use Rattle.sms_store_migration.specs.Versions.{centre_meta}
-use Rattle.sms_store.specs.centre.CentreRows.{Founds}
+use Rattle.sms_store.specs.keeping.Stores.{Founds}
+use Rattle.sms_store.specs.centre.CentreRows.{centre_stores}
 use Rattle.sms_store_tables.specs.centre.Completing.{Completes}
 use Rattle.sms_store_migration.proofs.Apart.{free_2, free_4, free_6, free_8, free_10, free_12}
 use Rattle.sms_store.specs.centre.Founding.{HasFirst, HasNext, MakesFirst, MakesNext, Tabulates, Declares}
@@ -88,5 +89,5 @@ declared a b p has first next none setup = record {
   priorities = blank_still a b p has priority_list (λ (e : 12 ≡ 0). omega (arith, e)) free_12 none;
 }
 
-pub founded : (a b c : Database) → Tabulates a b → Declares b c → Founds a c
+pub founded : (a b c : Database) → Tabulates a b → Declares b c → Founds centre_stores a c
 founded a b c p q has = let tables = p has in q tables.0 tables.1 tables.2 tables.3

@@ -18,11 +18,12 @@ use Rattle.sms_store_tables.specs.centre.HandsetList.{handset_list, handset_is_l
 use Rattle.sms_store_tables.specs.centre.ReportList.{report_list, report_is_list}
 use Rattle.sms_store_tables.specs.centre.PriorityList.{priority_list, priority_is_list}
 use Rattle.sms_store_migration.specs.Versions.{centre_meta}
-use Rattle.sms_store.specs.centre.CentreRows.{IsStoreWith, Turns}
-use Rattle.sms_store.specs.centre.Types.{Rows, Changes, rows_after, Setup, MessageRow, PartRow, ReferenceRow, HandsetRow, ReportRow, PriorityRow}
+use Rattle.sms_store.specs.keeping.Stores.{IsStoreWith, Turns}
+use Rattle.sms_store.specs.centre.CentreRows.{centre_stores}
+use Rattle.sms_store.specs.centre.Types.{Rows, Setup, MessageRow, PartRow, ReferenceRow, HandsetRow, ReportRow, PriorityRow}
 
 -- one step after another
-pub turns_then : (a b c : State) (f g : Rows → Rows) → Leads (Turns f) a b → Leads (Turns g) b c → Leads (Turns (λ rows. g (f rows))) a c
+pub turns_then : (a b c : State) (f g : Rows → Rows) → Leads (Turns centre_stores f) a b → Leads (Turns centre_stores g) b c → Leads (Turns centre_stores (λ rows. g (f rows))) a c
 turns_then a b c f g p q = record {
   inside = record { was_open = p.inside.was_open; is_open = q.inside.is_open; now_is = refl; committed_is = q.inside.committed_is ∙ p.inside.committed_is; mode = q.inside.mode };
   changed = λ rows h. q.changed (f rows) (p.changed rows h);
@@ -36,7 +37,7 @@ module _ {X : Type 0} (l : ListOf X) (here : l.table.schema ≡ centre_schema) (
       let same = alters.others (has ∙ sym here) m.table.tree apart (subst (λ s. IsNoIndex s m.table.tree) (sym here) free) in
       subst (λ rows. Represents m rows ys) (sym same) held
 
-pub messages_turn : (change : List MessageRow → List MessageRow) (old new : State) → Alters message_list change old new → Leads (Turns (λ rows. record rows { messages = change rows.messages })) old new
+pub messages_turn : (change : List MessageRow → List MessageRow) (old new : State) → Alters message_list change old new → Leads (Turns centre_stores (λ rows. record rows { messages = change rows.messages })) old new
 messages_turn change old new alters = record {
   inside = alters.inside;
   changed = λ rows h. record {
@@ -51,7 +52,7 @@ messages_turn change old new alters = record {
   };
 }
 
-pub parts_turn : (change : List PartRow → List PartRow) (old new : State) → Alters part_list change old new → Leads (Turns (λ rows. record rows { parts = change rows.parts })) old new
+pub parts_turn : (change : List PartRow → List PartRow) (old new : State) → Alters part_list change old new → Leads (Turns centre_stores (λ rows. record rows { parts = change rows.parts })) old new
 parts_turn change old new alters = record {
   inside = alters.inside;
   changed = λ rows h. record {
@@ -66,7 +67,7 @@ parts_turn change old new alters = record {
   };
 }
 
-pub references_turn : (change : List ReferenceRow → List ReferenceRow) (old new : State) → Alters reference_list change old new → Leads (Turns (λ rows. record rows { references = change rows.references })) old new
+pub references_turn : (change : List ReferenceRow → List ReferenceRow) (old new : State) → Alters reference_list change old new → Leads (Turns centre_stores (λ rows. record rows { references = change rows.references })) old new
 references_turn change old new alters = record {
   inside = alters.inside;
   changed = λ rows h. record {
@@ -81,7 +82,7 @@ references_turn change old new alters = record {
   };
 }
 
-pub handsets_turn : (change : List HandsetRow → List HandsetRow) (old new : State) → Alters handset_list change old new → Leads (Turns (λ rows. record rows { handsets = change rows.handsets })) old new
+pub handsets_turn : (change : List HandsetRow → List HandsetRow) (old new : State) → Alters handset_list change old new → Leads (Turns centre_stores (λ rows. record rows { handsets = change rows.handsets })) old new
 handsets_turn change old new alters = record {
   inside = alters.inside;
   changed = λ rows h. record {
@@ -96,7 +97,7 @@ handsets_turn change old new alters = record {
   };
 }
 
-pub reports_turn : (change : List ReportRow → List ReportRow) (old new : State) → Alters report_list change old new → Leads (Turns (λ rows. record rows { reports = change rows.reports })) old new
+pub reports_turn : (change : List ReportRow → List ReportRow) (old new : State) → Alters report_list change old new → Leads (Turns centre_stores (λ rows. record rows { reports = change rows.reports })) old new
 reports_turn change old new alters = record {
   inside = alters.inside;
   changed = λ rows h. record {
@@ -111,7 +112,7 @@ reports_turn change old new alters = record {
   };
 }
 
-pub priorities_turn : (change : List PriorityRow → List PriorityRow) (old new : State) → Alters priority_list change old new → Leads (Turns (λ rows. record rows { priorities = change rows.priorities })) old new
+pub priorities_turn : (change : List PriorityRow → List PriorityRow) (old new : State) → Alters priority_list change old new → Leads (Turns centre_stores (λ rows. record rows { priorities = change rows.priorities })) old new
 priorities_turn change old new alters = record {
   inside = alters.inside;
   changed = λ rows h. record {
@@ -127,7 +128,7 @@ priorities_turn change old new alters = record {
 }
 
 -- a database is the store of one set of rows
-pub store_once : (setup : Setup) → IsOfOne (IsStoreWith setup)
+pub store_once : (setup : Setup) → IsOfOne (IsStoreWith centre_stores setup)
 store_once setup a b r s same p q =
     let messages = holds_once message_list message_is_list _ _ r.messages s.messages (ap (λ (t : Trees). t 2) same) p.0.messages q.0.messages in
     let parts = holds_once part_list part_is_list _ _ r.parts s.parts (ap (λ (t : Trees). t 4) same) p.0.parts q.0.parts in
@@ -137,7 +138,3 @@ store_once setup a b r s same p q =
     let priorities = holds_once priority_list priority_is_list _ _ r.priorities s.priorities (ap (λ (t : Trees). t 12) same) p.0.priorities q.0.priorities in
     let set = p.1 ∙ sym q.1 in
     λ i. record { messages = messages i; parts = parts i; references = references i; handsets = handsets i; reports = reports i; priorities = priorities i; setup = set i }
-
--- the setup is as it was, if the change leaves it
-pub turns_with : (setup : Setup) (changes : Changes) (a b : Database) (rows : Rows) → Turns (rows_after changes) a b → IsStoreWith setup a rows → IsStoreWith setup b (rows_after changes rows)
-turns_with setup changes a b rows turns is = (turns rows is.0, is.1)

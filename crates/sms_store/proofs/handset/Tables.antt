@@ -12,7 +12,8 @@ use Rattle.sms_store_sql.specs.listing.Listing.{ListOf, Represents}
 use Rattle.sms_store_sql.specs.listing.Transaction.{Leads}
 use Rattle.sms_store_sql.proofs.listing.Making.{makes}
 use Rattle.sms_store_tables.specs.handset.HandsetSchema.{with_meta, with_entry, with_last, with_out, with_mark, handset_schema, adds_meta, adds_entry, adds_last, adds_out, adds_mark, adds_count, count_plan, entry_plan, last_plan, mark_plan, out_plan}
-use Rattle.sms_store.specs.handset.HandsetRows.{handset_meta, counters_row, Founds}
+use Rattle.sms_store.specs.keeping.Stores.{Founds}
+use Rattle.sms_store.specs.handset.HandsetRows.{handset_stores, handset_meta, counters_row}
 use Rattle.sms_store.specs.handset.Founding.{MakesFirst, MakesLast, Tabulates, Declares}
 use Rattle.sms_store_tables.specs.handset.MetaList.{meta_list}
 use Rattle.sms_store_tables.specs.handset.EntryList.{entry_list}
@@ -91,5 +92,5 @@ declared a b c p q has first last setup =
       counters = q.changed mid [] (blank_still a b p has count_list (λ (e : 10 ≡ 0). omega (arith, e)) free_10 last.counters);
     }
 
-pub founded : (a b c : Database) → Tabulates a b → Declares b c → Founds a c
+pub founded : (a b c : Database) → Tabulates a b → Declares b c → Founds handset_stores a c
 founded a b c p q has = let tables = p has in q tables.0 tables.1 tables.2

@@ -10,20 +10,21 @@ use Rattle.sms_store_sql.specs.listing.Listing.{ListOf, Represents}
 use Rattle.sms_store_sql.specs.listing.Transaction.{Leads, IsOfOne}
 use Rattle.sms_store_sql.proofs.listing.Once.{holds_once}
 use Rattle.sms_store_tables.specs.handset.HandsetSchema.{handset_schema}
-use Rattle.sms_store.specs.handset.HandsetRows.{IsStoreWith, Turns, counters_row, handset_meta}
+use Rattle.sms_store.specs.keeping.Stores.{IsStoreWith, Turns}
+use Rattle.sms_store.specs.handset.HandsetRows.{handset_stores, counters_row, handset_meta}
 use Rattle.sms_store_tables.specs.handset.MetaList.{meta_list}
 use Rattle.sms_store_tables.specs.handset.EntryList.{entry_list, entry_is_list}
 use Rattle.sms_store_tables.specs.handset.LastAcceptedList.{last_list, last_is_list}
 use Rattle.sms_store_tables.specs.handset.OutEntryList.{out_list, out_is_list}
 use Rattle.sms_store_tables.specs.handset.DiscardedGroupList.{mark_list, mark_is_list}
 use Rattle.sms_store.specs.handset.CountersList.{count_list, count_is_list}
-use Rattle.sms_store.specs.handset.Types.{Rows, Changes, rows_after, Setup, Entry, LastAccepted, OutEntry, DiscardedGroup, Counters, CountersRow}
+use Rattle.sms_store.specs.handset.Types.{Rows, Setup, Entry, LastAccepted, OutEntry, DiscardedGroup, Counters, CountersRow}
 
 -- steps one after another
-pub turns_none : (s : State) → IsTrue s.is_open → IsTrue s.in_transaction → Leads (Turns (λ rows. rows)) s s
+pub turns_none : (s : State) → IsTrue s.is_open → IsTrue s.in_transaction → Leads (Turns handset_stores (λ rows. rows)) s s
 turns_none s live inside = record { inside = record { was_open = live; is_open = live; now_is = refl; committed_is = refl; mode = inside }; changed = λ rows h. h }
 
-pub turns_then : (a b c : State) (f g : Rows → Rows) → Leads (Turns f) a b → Leads (Turns g) b c → Leads (Turns (λ rows. g (f rows))) a c
+pub turns_then : (a b c : State) (f g : Rows → Rows) → Leads (Turns handset_stores f) a b → Leads (Turns handset_stores g) b c → Leads (Turns handset_stores (λ rows. g (f rows))) a c
 turns_then a b c f g p q = record {
   inside = record { was_open = p.inside.was_open; is_open = q.inside.is_open; now_is = refl; committed_is = q.inside.committed_is ∙ p.inside.committed_is; mode = q.inside.mode };
   changed = λ rows h. q.changed (f rows) (p.changed rows h);
@@ -56,7 +57,7 @@ module _ {X : Type 0} (l : ListOf X) (here : l.table.schema ≡ handset_schema) 
       let same = alters.others (has ∙ sym here) m.table.tree apart (subst (λ s. IsNoIndex s m.table.tree) (sym here) free) in
       subst (λ rows. Represents m rows ys) (sym same) held
 
-pub entries_turn : (change : List Entry → List Entry) (old new : State) → Alters entry_list change old new → Leads (Turns (λ rows. record rows { entries = change rows.entries })) old new
+pub entries_turn : (change : List Entry → List Entry) (old new : State) → Alters entry_list change old new → Leads (Turns handset_stores (λ rows. record rows { entries = change rows.entries })) old new
 entries_turn change old new alters = record {
   inside = alters.inside;
   changed = λ rows h. record {
@@ -70,7 +71,7 @@ entries_turn change old new alters = record {
   };
 }
 
-pub last_turn : (change : List LastAccepted → List LastAccepted) (old new : State) → Alters last_list change old new → Leads (Turns (λ rows. record rows { last = change rows.last })) old new
+pub last_turn : (change : List LastAccepted → List LastAccepted) (old new : State) → Alters last_list change old new → Leads (Turns handset_stores (λ rows. record rows { last = change rows.last })) old new
 last_turn change old new alters = record {
   inside = alters.inside;
   changed = λ rows h. record {
@@ -84,7 +85,7 @@ last_turn change old new alters = record {
   };
 }
 
-pub outbox_turn : (change : List OutEntry → List OutEntry) (old new : State) → Alters out_list change old new → Leads (Turns (λ rows. record rows { outbox = change rows.outbox })) old new
+pub outbox_turn : (change : List OutEntry → List OutEntry) (old new : State) → Alters out_list change old new → Leads (Turns handset_stores (λ rows. record rows { outbox = change rows.outbox })) old new
 outbox_turn change old new alters = record {
   inside = alters.inside;
   changed = λ rows h. record {
@@ -98,7 +99,7 @@ outbox_turn change old new alters = record {
   };
 }
 
-pub marks_turn : (change : List DiscardedGroup → List DiscardedGroup) (old new : State) → Alters mark_list change old new → Leads (Turns (λ rows. record rows { marks = change rows.marks })) old new
+pub marks_turn : (change : List DiscardedGroup → List DiscardedGroup) (old new : State) → Alters mark_list change old new → Leads (Turns handset_stores (λ rows. record rows { marks = change rows.marks })) old new
 marks_turn change old new alters = record {
   inside = alters.inside;
   changed = λ rows h. record {
@@ -112,7 +113,7 @@ marks_turn change old new alters = record {
   };
 }
 
-pub counters_turn : (c : Counters) (old new : State) → Alters count_list (put count_list.key (counters_row c)) old new → Leads (Turns (λ rows. record rows { counters = c })) old new
+pub counters_turn : (c : Counters) (old new : State) → Alters count_list (put count_list.key (counters_row c)) old new → Leads (Turns handset_stores (λ rows. record rows { counters = c })) old new
 counters_turn c old new alters = record {
   inside = alters.inside;
   changed = λ rows h. record {
@@ -127,7 +128,7 @@ counters_turn c old new alters = record {
 }
 
 -- a database is the store of one set of rows
-pub store_once : (setup : Setup) → IsOfOne (IsStoreWith setup)
+pub store_once : (setup : Setup) → IsOfOne (IsStoreWith handset_stores setup)
 store_once setup a b r s same p q =
     let entries = holds_once entry_list entry_is_list _ _ r.entries s.entries (ap (λ (t : Trees). t 2) same) p.0.entries q.0.entries in
     let last = holds_once last_list last_is_list _ _ r.last s.last (ap (λ (t : Trees). t 4) same) p.0.last q.0.last in
@@ -141,7 +142,3 @@ store_once setup a b r s same p q =
     counted_in : List CountersRow → Counters
     counted_in [] = r.counters
     counted_in (c ∷ cs) = c.counters
-
--- the setup is as it was, if the change leaves it
-pub turns_with : (setup : Setup) (changes : Changes) (a b : Database) (rows : Rows) → Turns (rows_after changes) a b → IsStoreWith setup a rows → IsStoreWith setup b (rows_after changes rows)
-turns_with setup changes a b rows turns is = (turns rows is.0, is.1)

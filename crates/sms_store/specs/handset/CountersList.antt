@@ -74,7 +74,10 @@ agrees x id new y = refl
 in_schema : IsTabled count_table
 unfolding understood everything
 in_schema =
-    computed count_table refl (refl, (refl, refl)) (refl, (refl, refl)) (refl, (refl, refl)) (refl, (refl, refl)) refl (λ db. refl) (λ keys olds news. refl) refl
+    computed count_table refl (refl, (refl, refl)) (refl, (refl, refl)) (refl, (refl, refl)) (refl, (refl, refl)) refl (λ db. refl)
+    (λ keys olds news. refl) refl
 
 pub count_is_list : IsList count_list
-count_is_list = listed count_list in_schema (λ x. refl) (λ id x. refl) (λ x id y. refl) stays finds (λ x id y fits suits. finds (count_list.key x) id y suits) agrees reads_back
+count_is_list =
+    listed count_list in_schema (λ x. refl) (λ id x. refl) (λ x id y. refl) stays finds
+    (λ x id y fits suits. finds (count_list.key x) id y suits) agrees reads_back

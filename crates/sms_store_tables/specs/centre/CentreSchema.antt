@@ -153,18 +153,24 @@ report_message_index = record { name = codes "report_message"; tree = 14; table 
 
 -- all tables and indexes of version 1
 abbrev pub first_tables : List Table
-first_tables = defined 0 meta_plan ∷ defined 2 message_plan ∷ defined 4 part_plan ∷ defined 6 reference_plan ∷ defined 8 handset_plan ∷ defined 10 report_plan ∷ []
+first_tables =
+    defined 0 meta_plan ∷ defined 2 message_plan ∷ defined 4 part_plan ∷ defined 6 reference_plan ∷ defined 8 handset_plan ∷ defined 10 report_plan ∷ []
 
 abbrev pub first_indexes : List Index
-first_indexes = key_index 0 meta_plan ∷ key_index 2 message_plan ∷ key_index 4 part_plan ∷ key_index 6 reference_plan ∷ key_index 8 handset_plan ∷ key_index 10 report_plan ∷ []
+first_indexes =
+    key_index 0 meta_plan ∷ key_index 2 message_plan ∷ key_index 4 part_plan ∷ key_index 6 reference_plan
+    ∷ key_index 8 handset_plan ∷ key_index 10 report_plan ∷ []
 
 -- and of version 2
 abbrev pub centre_tables : List Table
 centre_tables =
-    defined 0 meta_plan ∷ defined 2 message_plan ∷ defined 4 part_plan ∷ defined 6 reference_plan ∷ defined 8 handset_plan ∷ defined 10 report_plan ∷ defined 12 priority_plan ∷ []
+    defined 0 meta_plan ∷ defined 2 message_plan ∷ defined 4 part_plan ∷ defined 6 reference_plan ∷ defined 8 handset_plan
+    ∷ defined 10 report_plan ∷ defined 12 priority_plan ∷ []
 
 abbrev pub centre_indexes : List Index
-centre_indexes = key_index 0 meta_plan ∷ key_index 2 message_plan ∷ key_index 4 part_plan ∷ key_index 6 reference_plan ∷ key_index 8 handset_plan ∷ key_index 10 report_plan ∷ key_index 12 priority_plan ∷ report_message_index ∷ []
+centre_indexes =
+    key_index 0 meta_plan ∷ key_index 2 message_plan ∷ key_index 4 part_plan ∷ key_index 6 reference_plan
+    ∷ key_index 8 handset_plan ∷ key_index 10 report_plan ∷ key_index 12 priority_plan ∷ report_message_index ∷ []
 
 pub first_schema_is : first_schema ≡ record {
   tables = first_tables;

@@ -49,7 +49,10 @@ agrees x id new y = refl
 in_schema : IsTabled handset_table
 unfolding understood everything
 in_schema =
-    computed handset_table refl (refl, (refl, refl)) (refl, (refl, refl)) (refl, (refl, refl)) (refl, (refl, refl)) refl (λ db. refl) (λ keys olds news. refl) refl
+    computed handset_table refl (refl, (refl, refl)) (refl, (refl, refl)) (refl, (refl, refl)) (refl, (refl, refl)) refl (λ db. refl)
+    (λ keys olds news. refl) refl
 
 pub handset_is_list : IsList handset_list
-handset_is_list = listed handset_list in_schema (λ x. refl) (λ id x. refl) (λ x id y. refl) stays finds (λ x id y fits suits. finds (handset_list.key x) id y suits) agrees reads_back
+handset_is_list =
+    listed handset_list in_schema (λ x. refl) (λ id x. refl) (λ x id y. refl) stays finds
+    (λ x id y fits suits. finds (handset_list.key x) id y suits) agrees reads_back

@@ -111,7 +111,10 @@ agrees x id new y = refl
 in_schema : IsTabled message_table
 unfolding understood everything
 in_schema =
-    computed message_table refl (refl, (refl, refl)) (refl, (refl, refl)) (refl, (refl, refl)) (refl, (refl, refl)) refl (λ db. refl) (λ keys olds news. refl) refl
+    computed message_table refl (refl, (refl, refl)) (refl, (refl, refl)) (refl, (refl, refl)) (refl, (refl, refl)) refl (λ db. refl)
+    (λ keys olds news. refl) refl
 
 pub message_is_list : IsList message_list
-message_is_list = listed message_list in_schema (λ x. refl) (λ id x. refl) (λ x id y. refl) stays finds (λ x id y fits suits. finds (message_list.key x) id y suits) agrees reads_back
+message_is_list =
+    listed message_list in_schema (λ x. refl) (λ id x. refl) (λ x id y. refl) stays finds
+    (λ x id y fits suits. finds (message_list.key x) id y suits) agrees reads_back

@@ -97,7 +97,8 @@ agrees x id new y = refl
 in_schema : IsTabled part_table
 unfolding understood everything
 in_schema =
-    computed part_table refl (refl, (refl, refl)) (refl, (refl, refl)) (refl, (refl, refl)) (refl, (refl, refl)) refl (λ db. refl) (λ keys olds news. refl) refl
+    computed part_table refl (refl, (refl, refl)) (refl, (refl, refl)) (refl, (refl, refl)) (refl, (refl, refl)) refl (λ db. refl)
+    (λ keys olds news. refl) refl
 
 pub part_is_list : IsList part_list
 part_is_list = listed part_list in_schema (λ x. refl) (λ id x. refl) (λ x id y. refl) stays finds meets agrees reads_back
@@ -120,7 +121,8 @@ amend_part = amend_text part_plan progress_names
 abbrev pub part_amended : List Term
 part_amended = columns_of 8 ++ given_from 2 3
 
-amending : IsCompiledTo part_table amend_part (Update part_table.place (record { lets = []; body = rows_where part_table.tree part_table.tests (col 1 0 ∷ col 1 0 ∷ part_amended) }))
+amending : IsCompiledTo part_table amend_part
+    (Update part_table.place (record { lets = []; body = rows_where part_table.tree part_table.tests (col 1 0 ∷ col 1 0 ∷ part_amended) }))
 unfolding understood everything
 amending = (refl, (refl, refl))
 

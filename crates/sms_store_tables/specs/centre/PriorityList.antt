@@ -47,7 +47,10 @@ agrees x id new y = refl
 in_schema : IsTabled priority_table
 unfolding understood everything
 in_schema =
-    computed priority_table refl (refl, (refl, refl)) (refl, (refl, refl)) (refl, (refl, refl)) (refl, (refl, refl)) refl (λ db. refl) (λ keys olds news. refl) refl
+    computed priority_table refl (refl, (refl, refl)) (refl, (refl, refl)) (refl, (refl, refl)) (refl, (refl, refl)) refl (λ db. refl)
+    (λ keys olds news. refl) refl
 
 pub priority_is_list : IsList priority_list
-priority_is_list = listed priority_list in_schema (λ x. refl) (λ id x. refl) (λ x id y. refl) stays finds (λ x id y fits suits. finds (priority_list.key x) id y suits) agrees reads_back
+priority_is_list =
+    listed priority_list in_schema (λ x. refl) (λ id x. refl) (λ x id y. refl) stays finds
+    (λ x id y fits suits. finds (priority_list.key x) id y suits) agrees reads_back

@@ -53,7 +53,8 @@ agrees x id new y = refl
 in_schema : IsTabled reference_table
 unfolding understood everything
 in_schema =
-    computed reference_table refl (refl, (refl, refl)) (refl, (refl, refl)) (refl, (refl, refl)) (refl, (refl, refl)) refl (λ db. refl) (λ keys olds news. refl) refl
+    computed reference_table refl (refl, (refl, refl)) (refl, (refl, refl)) (refl, (refl, refl)) (refl, (refl, refl)) refl (λ db. refl)
+    (λ keys olds news. refl) refl
 
 pub reference_is_list : IsList reference_list
 reference_is_list = listed reference_list in_schema (λ x. refl) (λ id x. refl) (λ x id y. refl) stays finds meets agrees reads_back

@@ -73,10 +73,13 @@ agrees x id new y = refl
 in_schema : IsTabled report_table
 unfolding understood everything
 in_schema =
-    computed report_table refl (refl, (refl, refl)) (refl, (refl, refl)) (refl, (refl, refl)) (refl, (refl, refl)) refl (λ db. refl) (λ keys olds news. refl) refl
+    computed report_table refl (refl, (refl, refl)) (refl, (refl, refl)) (refl, (refl, refl)) (refl, (refl, refl)) refl (λ db. refl)
+    (λ keys olds news. refl) refl
 
 pub report_is_list : IsList report_list
-report_is_list = listed report_list in_schema (λ x. refl) (λ id x. refl) (λ x id y. refl) stays finds (λ x id y fits suits. finds (report_list.key x) id y suits) agrees reads_back
+report_is_list =
+    listed report_list in_schema (λ x. refl) (λ id x. refl) (λ x id y. refl) stays finds
+    (λ x id y fits suits. finds (report_list.key x) id y suits) agrees reads_back
 
 -- ---- the row of a key
 
@@ -96,7 +99,8 @@ amend_report = amend_text report_plan progress_names
 abbrev pub report_amended : List Term
 report_amended = columns_of 6 ++ given_from 1 3
 
-amending : IsCompiledTo report_table amend_report (Update report_table.place (record { lets = []; body = rows_where report_table.tree report_table.tests (col 1 0 ∷ col 1 0 ∷ report_amended) }))
+amending : IsCompiledTo report_table amend_report
+    (Update report_table.place (record { lets = []; body = rows_where report_table.tree report_table.tests (col 1 0 ∷ col 1 0 ∷ report_amended) }))
 unfolding understood everything
 amending = (refl, (refl, refl))
 
@@ -126,7 +130,8 @@ seek_report = seek_text report_plan (codes "message")
 abbrev pub message_tests : List Term
 message_tests = equals 2 0 ∷ []
 
-seeking : IsCompiledTo report_table seek_report (Select (record { lets = []; body = rows_where report_table.tree message_tests report_table.projected }) report_table.names)
+seeking : IsCompiledTo report_table seek_report
+    (Select (record { lets = []; body = rows_where report_table.tree message_tests report_table.projected }) report_table.names)
 unfolding understood everything
 seeking = (refl, (refl, refl))
 

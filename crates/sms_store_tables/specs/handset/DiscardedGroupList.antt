@@ -55,7 +55,10 @@ agrees x id new y = refl
 in_schema : IsTabled mark_table
 unfolding understood everything
 in_schema =
-    computed mark_table refl (refl, (refl, refl)) (refl, (refl, refl)) (refl, (refl, refl)) (refl, (refl, refl)) refl (λ db. refl) (λ keys olds news. refl) refl
+    computed mark_table refl (refl, (refl, refl)) (refl, (refl, refl)) (refl, (refl, refl)) (refl, (refl, refl)) refl (λ db. refl)
+    (λ keys olds news. refl) refl
 
 pub mark_is_list : IsList mark_list
-mark_is_list = listed mark_list in_schema (λ x. refl) (λ id x. refl) (λ x id y. refl) stays finds (λ x id y fits suits. finds (mark_list.key x) id y suits) agrees reads_back
+mark_is_list =
+    listed mark_list in_schema (λ x. refl) (λ id x. refl) (λ x id y. refl) stays finds
+    (λ x id y fits suits. finds (mark_list.key x) id y suits) agrees reads_back

@@ -115,10 +115,13 @@ handset_schema = with_count
 
 -- all tables and indexes
 abbrev pub handset_tables : List Table
-handset_tables = defined 0 meta_plan ∷ defined 2 entry_plan ∷ defined 4 last_plan ∷ defined 6 out_plan ∷ defined 8 mark_plan ∷ defined 10 count_plan ∷ []
+handset_tables =
+    defined 0 meta_plan ∷ defined 2 entry_plan ∷ defined 4 last_plan ∷ defined 6 out_plan ∷ defined 8 mark_plan ∷ defined 10 count_plan ∷ []
 
 abbrev pub handset_indexes : List Index
-handset_indexes = key_index 0 meta_plan ∷ key_index 2 entry_plan ∷ key_index 4 last_plan ∷ key_index 6 out_plan ∷ key_index 8 mark_plan ∷ key_index 10 count_plan ∷ []
+handset_indexes =
+    key_index 0 meta_plan ∷ key_index 2 entry_plan ∷ key_index 4 last_plan ∷ key_index 6 out_plan
+    ∷ key_index 8 mark_plan ∷ key_index 10 count_plan ∷ []
 
 pub schema_is : handset_schema ≡ record {
   tables = handset_tables;

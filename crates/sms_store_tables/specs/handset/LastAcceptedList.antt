@@ -42,7 +42,10 @@ agrees x id new y = refl
 in_schema : IsTabled last_table
 unfolding understood everything
 in_schema =
-    computed last_table refl (refl, (refl, refl)) (refl, (refl, refl)) (refl, (refl, refl)) (refl, (refl, refl)) refl (λ db. refl) (λ keys olds news. refl) refl
+    computed last_table refl (refl, (refl, refl)) (refl, (refl, refl)) (refl, (refl, refl)) (refl, (refl, refl)) refl (λ db. refl)
+    (λ keys olds news. refl) refl
 
 pub last_is_list : IsList last_list
-last_is_list = listed last_list in_schema (λ x. refl) (λ id x. refl) (λ x id y. refl) stays finds (λ x id y fits suits. finds (last_list.key x) id y suits) agrees reads_back
+last_is_list =
+    listed last_list in_schema (λ x. refl) (λ id x. refl) (λ x id y. refl) stays finds
+    (λ x id y fits suits. finds (last_list.key x) id y suits) agrees reads_back

@@ -17,7 +17,8 @@ meta_list = meta_list_in handset_schema
 in_schema : IsTabled meta_table
 unfolding understood everything
 in_schema =
-    computed meta_table refl (refl, (refl, refl)) (refl, (refl, refl)) (refl, (refl, refl)) (refl, (refl, refl)) refl (λ db. refl) (λ keys olds news. refl) refl
+    computed meta_table refl (refl, (refl, refl)) (refl, (refl, refl)) (refl, (refl, refl)) (refl, (refl, refl)) refl (λ db. refl)
+    (λ keys olds news. refl) refl
 
 pub meta_is_list : IsList meta_list
 meta_is_list = meta_listed handset_schema in_schema

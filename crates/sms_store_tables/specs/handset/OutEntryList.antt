@@ -104,7 +104,10 @@ agrees x id new y = refl
 in_schema : IsTabled out_table
 unfolding understood everything
 in_schema =
-    computed out_table refl (refl, (refl, refl)) (refl, (refl, refl)) (refl, (refl, refl)) (refl, (refl, refl)) refl (λ db. refl) (λ keys olds news. refl) refl
+    computed out_table refl (refl, (refl, refl)) (refl, (refl, refl)) (refl, (refl, refl)) (refl, (refl, refl)) refl (λ db. refl)
+    (λ keys olds news. refl) refl
 
 pub out_is_list : IsList out_list
-out_is_list = listed out_list in_schema (λ x. refl) (λ id x. refl) (λ x id y. refl) stays finds (λ x id y fits suits. finds (out_list.key x) id y suits) agrees reads_back
+out_is_list =
+    listed out_list in_schema (λ x. refl) (λ id x. refl) (λ x id y. refl) stays finds
+    (λ x id y fits suits. finds (out_list.key x) id y suits) agrees reads_back

@@ -1,5 +1,5 @@
 use Rattle.sqlite.specs.Held.{state}
-use Rattle.sms_store.proofs.centre.Stopping.{leaves_raised}
+use Rattle.sms_store.proofs.centre.Raised.{leaves_raised}
 use Rattle.sms_store.proofs.centre.keep.CentreKeep.migrate_over.Goals as goal
 
 pub returns-in-Ok-clause-migrated : goal.returns-in-Ok-clause-migrated

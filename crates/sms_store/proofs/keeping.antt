@@ -1,0 +1,3 @@
+pub mod Kept
+pub mod Leaving
+pub mod Openings

@@ -1,0 +1,4 @@
+pub mod InKeep
+pub mod Opened
+pub mod Refusing
+pub mod Stores

@@ -1,0 +1,14 @@
+//! A keep of the rows of one side, a centre or a handset, in a database: a file, or memory.
+//!
+//! `Kept` says what a side keeps, and how its tables are made, written and read. `Openable` says how a database becomes a
+//! store of the side. A `StoreKeep` commits the changes of an event in one transaction, and loads the rows.
+
+mod keep;
+mod kept;
+mod opening;
+mod readying;
+
+pub use keep::StoreKeep;
+pub use kept::{Kept, Openable};
+pub use opening::in_memory;
+pub(crate) use readying::{found, judge_said};
