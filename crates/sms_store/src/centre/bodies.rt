@@ -138,7 +138,8 @@ impl<S: Alter> CentreKeep<S> {
 
     fn octets_under(&mut self, key: Key) -> Result<Option<Octets>, KeepError>
         ensures outcome { (rows : RowsOf)
-            → StoreOutcome (λ octets. octets ≡ octets_at rows key) rows rows (state_of centre_stores S.Store self.old) (state_of centre_stores S.Store self.new) result }
+            → StoreOutcome (λ octets. octets ≡ octets_at rows key) rows rows (state_of centre_stores S.Store self.old)
+            (state_of centre_stores S.Store self.new) result }
         ensures closed { IfClosed (state_of centre_stores S.Store self.old) (state_of centre_stores S.Store self.new) (result ≡ Err Closed) }
         ensures shut { result ≡ Err Closed → IsClosed S.Store self.new }
         ensures before { WasHonest (state_of centre_stores S.Store self.old) (state_of centre_stores S.Store self.new) }
@@ -158,7 +159,8 @@ impl<S: Alter> BodyKeep for CentreKeep<S> {
 
     fn body(&mut self, key: Key) -> Result<Option<Octets>, KeepError>
         ensures outcome { (rows : RowsOf)
-            → StoreOutcome (λ octets. octets ≡ octets_at rows key) rows rows (state_of centre_stores S.Store self.old) (state_of centre_stores S.Store self.new) result }
+            → StoreOutcome (λ octets. octets ≡ octets_at rows key) rows rows (state_of centre_stores S.Store self.old)
+            (state_of centre_stores S.Store self.new) result }
         ensures closed { IfClosed (state_of centre_stores S.Store self.old) (state_of centre_stores S.Store self.new) (result ≡ Err Closed) }
         ensures shut { result ≡ Err Closed → IsClosed S.Store self.new }
         ensures before { WasHonest (state_of centre_stores S.Store self.old) (state_of centre_stores S.Store self.new) }

@@ -66,8 +66,8 @@ pub fn look_over<S: Alter + Drop>(
     setup: Setup,
 ) -> Result<Looked<S>, KeepError>
     // Whatever rows the database is the store of, they are found, and it is the store of them still.
-    ensures found { IfOk result (λ looked. HasCleanDisk (state S.Store looked.conn) → (rows : RowsOf) → IsStoreWith centre_stores setup (state S.Store conn).now rows
-        → (looked.rows ≡ rows) × IsOpenStore IsStore (state S.Store looked.conn) rows) }
+    ensures found { IfOk result (λ looked. HasCleanDisk (state S.Store looked.conn) → (rows : RowsOf)
+        → IsStoreWith centre_stores setup (state S.Store conn).now rows → (looked.rows ≡ rows) × IsOpenStore IsStore (state S.Store looked.conn) rows) }
 {
     let keep = keep_over(alloc, conn, setup)?;
     let looked = look_in(keep)?;

@@ -138,5 +138,6 @@ in_schema =
 
 pub entry_is_list : IsList entry_list
 entry_is_list =
-    listed entry_list in_schema (λ x. written x.number x.slots x.message) (λ id x. selects_columns id x.number x.slots x.message) (λ x id y. sets x.number x.slots x.message id (row_columns y)) stays finds
+    listed entry_list in_schema (λ x. written x.number x.slots x.message) (λ id x. selects_columns id x.number x.slots x.message)
+    (λ x id y. sets x.number x.slots x.message id (row_columns y)) stays finds
     (λ x id y fits suits. finds (entry_list.key x) id y suits) agrees reads_back

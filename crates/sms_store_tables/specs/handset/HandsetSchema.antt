@@ -20,8 +20,8 @@ entry_plan = record {
   name = codes "entry";
   columns =
       given (codes "number") Integer ∷ given (codes "slots") Integer ∷ given (codes "kind") Text ∷ optional (codes "source_ton") Integer
-      ∷ optional (codes "source_npi") Integer ∷ optional (codes "source") Text ∷ optional (codes "reference_bits") Integer ∷ optional (codes "reference") Integer
-      ∷ optional (codes "total") Integer ∷ optional (codes "part") Integer ∷ optional (codes "coding") Text ∷ optional (codes "data_coding_scheme") Integer
+      ∷ optional (codes "source_npi") Integer ∷ optional (codes "source") Text ∷ optional (codes "reference_bits") Integer
+      ∷ optional (codes "reference") Integer ∷ optional (codes "total") Integer ∷ optional (codes "part") Integer ∷ optional (codes "coding") Text ∷ optional (codes "data_coding_scheme") Integer
       ∷ given (codes "octets") Blob ∷ [];
   key = 1;
 }
@@ -57,8 +57,8 @@ abbrev pub count_plan : TablePlan
 count_plan = record {
   name = codes "counters";
   columns =
-      given (codes "place") Integer ∷ given (codes "next_entry") Integer ∷ given (codes "next_message_reference") Integer ∷ given (codes "next_reference") Integer
-      ∷ given (codes "next_concat_reference") Integer ∷ given (codes "next_notice") Integer ∷ given (codes "is_memory_full") Integer ∷ [];
+      given (codes "place") Integer ∷ given (codes "next_entry") Integer ∷ given (codes "next_message_reference") Integer
+      ∷ given (codes "next_reference") Integer ∷ given (codes "next_concat_reference") Integer ∷ given (codes "next_notice") Integer ∷ given (codes "is_memory_full") Integer ∷ [];
   key = 1;
 }
 
