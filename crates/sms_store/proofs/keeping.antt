@@ -1,3 +1,3 @@
-pub mod Kept
 pub mod Leaving
 pub mod Openings
+pub mod StoresKept

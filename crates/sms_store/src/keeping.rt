@@ -4,11 +4,11 @@
 //! store of the side. A `StoreKeep` commits the changes of an event in one transaction, and loads the rows.
 
 mod keep;
-mod kept;
 mod opening;
 mod readying;
+mod sides;
 
 pub use keep::StoreKeep;
-pub use kept::{Kept, Openable};
+pub use sides::{Kept, Openable};
 pub use opening::in_memory;
 pub(crate) use readying::{found, judge_said};

@@ -14,7 +14,7 @@ use Rattle.sms_store_sql.specs.schema.Blank.{no_tables}
 use Rattle.sms_store.specs.keeping.Opened.{Opened}
 use Rattle.sms_store.specs.keeping.Refusing.{Says, FindsJudgement, RefusesBy, RefusesSaid}
 use Rattle.sms_store.specs.keeping.Stores.{StoresOf, IsStoreWith, AreStores}
-use Rattle.sms_store.proofs.keeping.Kept.{kept_still}
+use Rattle.sms_store.proofs.keeping.StoresKept.{kept_still}
 
 module _ {P R : Type 0} (of : StoresOf P R) (lawful : AreStores of) where
   -- a database without tables

@@ -7,7 +7,7 @@ ghost use Rattle.sms_store_sql.specs.listing.Transaction.{MayLeave};
 ghost use Rattle.sms_store.specs.keeping.Stores.{FindsRows, HasRows, IsStoreWith, LeavesBeforeOrAfter, LeavesRows, Turns};
 ghost use Rattle.sms_store.specs.keeping.InKeep.{IsClosed, connection_in, setup_in, state_in, state_of};
 
-use crate::keeping::kept::Kept;
+use crate::keeping::sides::Kept;
 use sms_rows::keep::{Keep, KeepError, Refusals, RowStore};
 use sms_store_sql::listing::{Health, Lookup, Work, look_or_close, transact_or_close};
 use sqlite::{Alter, Connection, Error, Transaction};

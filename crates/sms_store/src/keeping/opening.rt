@@ -12,7 +12,7 @@ ghost use Rattle.sms_store.specs.keeping.Stores.{IsStoreWith};
 ghost use Rattle.sms_store.specs.keeping.InKeep.{connection_in, setup_in, state_in};
 
 use crate::keeping::keep::StoreKeep;
-use crate::keeping::kept::{Kept, Openable};
+use crate::keeping::sides::{Kept, Openable};
 use crate::keeping::readying::found;
 use sms_rows::keep::{KeepError, Refusals};
 use sms_store_sql::listing::{Health, write_cause_of};

@@ -7,7 +7,7 @@ ghost use Rattle.sms_store_sql.specs.schema.Blank.{no_tables};
 ghost use Rattle.sms_store.specs.keeping.Opened.{IsAsItWas, IsFounded, IsOfNoStore, LeavesStore};
 ghost use Rattle.sms_store.specs.keeping.Stores.{Founds};
 
-use crate::keeping::kept::Kept;
+use crate::keeping::sides::Kept;
 use sms_rows::keep::KeepError;
 use sms_store_sql::listing::{Lookup, Work, look, transact, write_cause_of};
 use sqlite::{Alter, Connection, Error, Transaction};

@@ -58,7 +58,8 @@ count_plan = record {
   name = codes "counters";
   columns =
       given (codes "place") Integer ∷ given (codes "next_entry") Integer ∷ given (codes "next_message_reference") Integer
-      ∷ given (codes "next_reference") Integer ∷ given (codes "next_concat_reference") Integer ∷ given (codes "next_notice") Integer ∷ given (codes "is_memory_full") Integer ∷ [];
+      ∷ given (codes "next_reference") Integer ∷ given (codes "next_concat_reference") Integer
+      ∷ given (codes "next_notice") Integer ∷ given (codes "is_memory_full") Integer ∷ [];
   key = 1;
 }
 

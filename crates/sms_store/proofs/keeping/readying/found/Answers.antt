@@ -1,5 +1,5 @@
 use Rattle.sqlite.specs.Held.{state}
-use Rattle.sms_store.proofs.keeping.Kept.{kept_founded}
+use Rattle.sms_store.proofs.keeping.StoresKept.{kept_founded}
 use Rattle.sms_store.proofs.keeping.Leaving.{left_by_founding}
 use Rattle.sms_store.proofs.keeping.readying.found.Goals as goal
 

@@ -7,7 +7,7 @@ use Rattle.sms_store_sql.proofs.listing.ConnectedCalls.{refusal_keeps}
 use Rattle.sms_store.specs.keeping.Stores.{IsStoreWith}
 use Rattle.sms_store.specs.centre.CentreRows.{centre_stores}
 use Rattle.sms_store.proofs.centre.BodiesRead.{part_read}
-use Rattle.sms_store.proofs.keeping.Kept.{kept_still}
+use Rattle.sms_store.proofs.keeping.StoresKept.{kept_still}
 use Rattle.sms_store.proofs.centre.keep.CentreKeep.part_octets.Goals as goal
 
 pub returns-in-Ok-clause-outcome : goal.returns-in-Ok-clause-outcome

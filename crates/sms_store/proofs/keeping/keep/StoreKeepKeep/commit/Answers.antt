@@ -6,7 +6,7 @@ use Rattle.sms_store_sql.specs.listing.Closing.{IsShut, health_after}
 use Rattle.sms_store_sql.proofs.listing.ConnectedCalls.{refusal_keeps, stop_on_disk, stop_rows}
 use Rattle.sms_store_sql.proofs.listing.Keeping.{committed_keeps}
 use Rattle.sms_store.specs.keeping.Stores.{IsStoreWith, Turns}
-use Rattle.sms_store.proofs.keeping.Kept.{turns_with}
+use Rattle.sms_store.proofs.keeping.StoresKept.{turns_with}
 use Rattle.sms_store.proofs.keeping.keep.StoreKeepKeep.commit.Goals as goal
 
 pub returns-in-Ok-clause-outcome : goal.returns-in-Ok-clause-outcome
