@@ -1,3 +1,4 @@
 pub mod Leaving
+pub mod Lists
 pub mod Openings
 pub mod StoresKept

@@ -24,7 +24,7 @@ use Rattle.sms_store.specs.centre.CentreRows.{centre_stores}
 use Rattle.sms_store_tables.specs.centre.Completing.{Completes}
 use Rattle.sms_store_migration.proofs.Apart.{free_2, free_4, free_6, free_8, free_10, free_12}
 use Rattle.sms_store.specs.centre.Founding.{HasFirst, HasNext, MakesFirst, MakesNext, Tabulates, Declares}
-use Rattle.sms_store.proofs.centre.Turning.{other}
+use Rattle.sms_store.proofs.keeping.Lists.{holds_none, other_list}
 use Rattle.sms_store_tables.specs.TablePlan.{made}
 use Rattle.sms_store_tables.specs.Texts.{create_text}
 use Rattle.sms_store_tables.specs.MetaTable.{meta_plan}
@@ -70,12 +70,9 @@ tables_made a b c p q has =
       made.empty,
     )
 
-pub holds_none : {X : Type 0} (l : ListOf X) (rows : List Row) → rows ≡ [] → Represents l rows []
-holds_none l rows none = record { entries = []; keyed = tt; stored = none; listed = IsPermutation-refl []; rises = tt; fit = tt }
-
 module _ (a b : State) (p : Alters meta_list (put meta_list.key centre_meta) a b) (has : a.now.schema ≡ centre_schema) where
   blank_still : {X : Type 0} (m : ListOf X) → m.table.tree ≢ 0 → IsNoIndex centre_schema m.table.tree → a.now.trees m.table.tree ≡ [] → Represents m (b.now.trees m.table.tree) []
-  blank_still m apart free none = other meta_list refl (put meta_list.key centre_meta) a b p m [] has apart free (holds_none m _ none)
+  blank_still m apart free none = other_list meta_list centre_schema refl (put meta_list.key centre_meta) a b p m [] has apart free (holds_none m _ none)
 
 pub declared : (a b : State) → Alters meta_list (put meta_list.key centre_meta) a b → Declares a.now b.now
 declared a b p has first next none setup = record {

@@ -22,23 +22,14 @@ use Rattle.sms_store_tables.specs.handset.OutEntryList.{out_list}
 use Rattle.sms_store_tables.specs.handset.DiscardedGroupList.{mark_list}
 use Rattle.sms_store.specs.handset.CountersList.{count_list}
 use Rattle.sms_store.specs.handset.Types.{Counters}
-use Rattle.sms_store.proofs.handset.Turning.{other, free_0, free_2, free_4, free_6, free_8, free_10}
+use Rattle.sms_store.proofs.handset.Turning.{free_0, free_2, free_4, free_6, free_8, free_10}
+use Rattle.sms_store.proofs.keeping.Lists.{holds_none, other_list}
 use Rattle.sms_store_tables.specs.TablePlan.{made}
 use Rattle.sms_store_tables.specs.Texts.{create_text}
 use Rattle.sms_store_tables.specs.MetaTable.{meta_plan}
 
 abbrev first_counters : Counters
 first_counters = record { entry = 1; message_reference = 0; reference = 0; concat_reference = 0; notice = 0; is_memory_full = Rattle.std.proofs.Common.false }
-
--- one step after another
-pub leads_then : (P Q R : Database → Database → Type 0) (a b c : State) → ((x y z : Database) → P x y → Q y z → R x z) → Leads P a b → Leads Q b c → Leads R a c
-leads_then P Q R a b c both p q = record {
-  inside = record { was_open = p.inside.was_open; is_open = q.inside.is_open; now_is = refl; committed_is = q.inside.committed_is ∙ p.inside.committed_is; mode = q.inside.mode };
-  changed = both _ _ _ p.changed q.changed;
-}
-
-pub ran_leads : (P : Database → Database → Type 0) (sql : List ℕ) (params : Row) (a b : State) → (Ran sql params a b → P a.now b.now) → Ran sql params a b → Leads P a b
-ran_leads P sql params a b turn h = record { inside = h.inside; changed = turn h }
 
 pub first_made : (a b c d : State) → Ran (create_text meta_plan) [] a b → Ran (create_text entry_plan) [] b c → Ran (create_text last_plan) [] c d → MakesFirst a.now d.now
 first_made a b c d p q r has =
@@ -68,16 +59,13 @@ last_made_too a b c d p q r has first =
 pub tables_made : (a b c : Database) → MakesFirst a b → MakesLast b c → Tabulates a c
 tables_made a b c p q has = let first = p has in q first.0 first.1
 
-holds_none : {X : Type 0} (l : ListOf X) (rows : List Row) → rows ≡ [] → Represents l rows []
-holds_none l rows none = record { entries = []; keyed = tt; stored = none; listed = IsPermutation-refl []; rises = tt; fit = tt }
-
 module _ (a b : State) (p : Alters meta_list (put meta_list.key handset_meta) a b) (has : a.now.schema ≡ handset_schema) where
   blank_still : {X : Type 0} (m : ListOf X) → m.table.tree ≢ 0 → IsNoIndex handset_schema m.table.tree → a.now.trees m.table.tree ≡ [] → Represents m (b.now.trees m.table.tree) []
-  blank_still m apart free none = other meta_list refl (put meta_list.key handset_meta) a b p m [] has apart free (holds_none m _ none)
+  blank_still m apart free none = other_list meta_list handset_schema refl (put meta_list.key handset_meta) a b p m [] has apart free (holds_none m _ none)
 
 module _ (b c : State) (q : Alters count_list (put count_list.key (counters_row first_counters)) b c) (has : b.now.schema ≡ handset_schema) where
   held_still : {X : Type 0} (m : ListOf X) (xs : List X) → m.table.tree ≢ 10 → IsNoIndex handset_schema m.table.tree → Represents m (b.now.trees m.table.tree) xs → Represents m (c.now.trees m.table.tree) xs
-  held_still m xs apart free held = other count_list refl (put count_list.key (counters_row first_counters)) b c q m xs has apart free held
+  held_still m xs apart free held = other_list count_list handset_schema refl (put count_list.key (counters_row first_counters)) b c q m xs has apart free held
 
 pub declared : (a b c : State) → Alters meta_list (put meta_list.key handset_meta) a b → Alters count_list (put count_list.key (counters_row first_counters)) b c → Declares a.now c.now
 declared a b c p q has first last setup =

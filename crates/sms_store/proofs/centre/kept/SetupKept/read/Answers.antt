@@ -3,7 +3,8 @@ use Rattle.sqlite.specs.Effect.{Database}
 use Rattle.sqlite.specs.State.{HasCleanDisk}
 use Rattle.sqlite.specs.Held.{state}
 use Rattle.sqlite.proofs.Callers.{unchanged_then}
-use Rattle.sms_store.proofs.centre.Loading.{found_rows, moved}
+use Rattle.sms_store.proofs.centre.Loading.{found_rows}
+use Rattle.sms_store.proofs.keeping.Lists.{moved}
 use Rattle.sms_store_tables.specs.centre.PartList.{part_list}
 use Rattle.sms_store_tables.specs.centre.ReferenceList.{reference_list}
 use Rattle.sms_store_tables.specs.centre.HandsetList.{handset_list}

@@ -5,7 +5,8 @@ use Rattle.sms_store_sql.proofs.listing.Steps.{ok_then}
 use Rattle.sms_store.specs.handset.Founding.{Tabulates, Declares}
 use Rattle.sms_store.specs.handset.HandsetRows.{handset_stores}
 use Rattle.sms_store.specs.keeping.Stores.{Founds}
-use Rattle.sms_store.proofs.handset.Tables.{leads_then, founded}
+use Rattle.sms_store.proofs.handset.Tables.{founded}
+use Rattle.sms_store_tables.proofs.centre.Completed.{leads_then}
 use Rattle.sms_store.proofs.handset.kept.SetupKept.make.Goals as goal
 
 pub returns-clause-done : goal.returns-clause-done

@@ -3,7 +3,8 @@ use Rattle.sqlite.specs.Effect.{Database}
 use Rattle.sqlite.specs.State.{HasCleanDisk}
 use Rattle.sqlite.specs.Held.{state}
 use Rattle.sqlite.proofs.Callers.{unchanged_then}
-use Rattle.sms_store.proofs.handset.Loading.{found_rows, moved}
+use Rattle.sms_store.proofs.handset.Loading.{found_rows}
+use Rattle.sms_store.proofs.keeping.Lists.{moved}
 use Rattle.sms_store.specs.handset.CountersList.{count_list}
 use Rattle.sms_store.specs.handset.HandsetRows.{counters_row}
 use Rattle.sms_store_tables.specs.handset.LastAcceptedList.{last_list}
