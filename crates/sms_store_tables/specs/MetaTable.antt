@@ -1,7 +1,7 @@
 -- The table that says what a store is, and the list of its rows, whatever other tables the store has.
 use Rattle.std.specs.Prelude.{◌≡◌, [], ◌∷◌, codes, refl}
 use Rattle.sqlite.specs.declared.types.Value.TheVariants.{Text}
-use Rattle.sqlite.specs.Kind.TheVariants as kind
+use Rattle.sqlite.specs.Kind.TheVariants as kinds
 use Rattle.sqlite.specs.Schema.{Schema}
 use Rattle.sqlite_value.specs.Order.{column}
 use Rattle.sqlite_tied.specs.Compute.{everything}
@@ -14,7 +14,7 @@ use Rattle.sms_store_tables.specs.TablePlan.{TablePlan}
 use Rattle.sms_store_tables.specs.Tabled.{IsTabled, KeepsKinds, FindsItsKey, AgreesInItsKey, IsReadBack, listed, tabled}
 
 abbrev pub meta_plan : TablePlan
-meta_plan = record { name = codes "meta"; columns = given (codes "version") kind.Integer ∷ given (codes "kind") kind.Text ∷ []; key = 1 }
+meta_plan = record { name = codes "meta"; columns = given (codes "version") kinds.Integer ∷ given (codes "kind") kinds.Text ∷ []; key = 1 }
 
 abbrev pub meta_list_in : Schema → ListOf Meta
 meta_list_in schema = record {
