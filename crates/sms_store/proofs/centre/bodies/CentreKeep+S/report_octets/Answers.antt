@@ -6,15 +6,15 @@ use Rattle.sms_store_sql.specs.listing.Closing.{IsShut, health_after}
 use Rattle.sms_store_sql.proofs.listing.ConnectedCalls.{refusal_keeps}
 use Rattle.sms_store.specs.keeping.Stores.{IsStoreWith}
 use Rattle.sms_store.specs.centre.CentreRows.{centre_stores}
-use Rattle.sms_store.proofs.centre.BodiesRead.{part_read}
+use Rattle.sms_store.proofs.centre.BodiesRead.{report_read}
 use Rattle.sms_store.proofs.keeping.StoresKept.{kept_still}
-use Rattle.sms_store.proofs.centre.keep.CentreKeep.part_octets.Goals as goal
+use Rattle.sms_store.proofs.centre.bodies.CentreKeep+S.report_octets.Goals as goal
 
 pub returns-in-Ok-clause-outcome : goal.returns-in-Ok-clause-outcome
 returns-in-Ok-clause-outcome g c rows clean kept =
     let h = c.in-Ok.ensures.ok clean kept.store.0.schema in
     let setup = c.args.self.now.setup in
-    ((λ is. part_read _ setup rows kept.store c.args.key _ c.in-Ok.part is h.1 c.octets_of_part.ensures), kept_still centre_stores setup _ _ rows h.0 kept.store)
+    ((λ is. report_read _ setup rows kept.store c.args.key _ c.in-Ok.reports.items is (rw c.number.ensures at h.1) c.octets_of_first.ensures), kept_still centre_stores setup _ _ rows h.0 kept.store)
 
 pub returns-in-Err-clause-outcome : goal.returns-in-Err-clause-outcome
 returns-in-Err-clause-outcome g c rows clean kept =

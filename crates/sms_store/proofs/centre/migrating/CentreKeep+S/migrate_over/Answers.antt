@@ -1,6 +1,6 @@
 use Rattle.sqlite.specs.Held.{state}
 use Rattle.sms_store.proofs.centre.Raised.{leaves_raised}
-use Rattle.sms_store.proofs.centre.keep.CentreKeep.migrate_over.Goals as goal
+use Rattle.sms_store.proofs.centre.migrating.CentreKeep+S.migrate_over.Goals as goal
 
 pub returns-in-Ok-clause-migrated : goal.returns-in-Ok-clause-migrated
 returns-in-Ok-clause-migrated g c clean = c.in-Ok.ensures.ok clean c.args.setup

@@ -4,7 +4,7 @@ use Rattle.sms_centre_spec.specs.octets.OctetsAt.{octets_at}
 use Rattle.sms_store.specs.centre.CentreRows.{centre_stores}
 use Rattle.sms_store.specs.keeping.InKeep.{state_of}
 use Rattle.sms_store.proofs.centre.BodiesRead.{still_right}
-use Rattle.sms_store.proofs.centre.keep.CentreKeep.octets_under.Goals as goal
+use Rattle.sms_store.proofs.centre.bodies.CentreKeep+S.octets_under.Goals as goal
 
 pub returns-then-number-eq0-clause-outcome : goal.returns-then-number-eq0-clause-outcome
 returns-then-number-eq0-clause-outcome g c rows honest holds =
