@@ -16,9 +16,8 @@ mod readying;
 mod tables;
 
 use crate::keeping::StoreKeep;
-use sms_centre_spec::Setup;
-
 pub use crate::keeping::in_memory;
+use sms_centre_spec::Setup;
 pub use sms_store_migration::raise;
 
 /// The rows of a centre in a database: a file, or memory.

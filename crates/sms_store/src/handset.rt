@@ -12,10 +12,9 @@ mod kind;
 mod readying;
 
 use crate::keeping::StoreKeep;
-use sms_handset::Setup;
-
 pub use crate::keeping::in_memory;
 pub use counters::CountersRow;
+use sms_handset::Setup;
 
 /// The rows of a handset in a database: a file, or memory.
 pub type HandsetKeep<S> = StoreKeep<Setup, S>;

@@ -9,6 +9,6 @@ mod readying;
 mod sides;
 
 pub use keep::StoreKeep;
-pub use sides::{Kept, Openable};
 pub use opening::in_memory;
 pub(crate) use readying::{found, judge_said};
+pub use sides::{Kept, Openable};

@@ -22,6 +22,7 @@ use std::alloc::Global;
 
 impl Kept for Setup {
     type Rows = Rows;
+
     type Changes = Changes;
 
     ghost stores = { centre_stores };

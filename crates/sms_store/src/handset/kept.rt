@@ -5,7 +5,9 @@ ghost use Rattle.sms_store.specs.handset.HandsetRows.{handset_stores};
 ghost use Rattle.sms_store.specs.handset.Types.{changes_in, rows_after};
 ghost use Rattle.sms_store.proofs.handset.Lawful.{handset_lawful};
 
-use crate::handset::commit::{write_counters, write_entries, write_last, write_marks, write_outbox};
+use crate::handset::commit::{
+    write_counters, write_entries, write_last, write_marks, write_outbox,
+};
 use crate::handset::counters::CountersRow;
 use crate::handset::founding::{declare, make_tables};
 use crate::keeping::Kept;
@@ -18,6 +20,7 @@ use std::alloc::Global;
 
 impl Kept for Setup {
     type Rows = Rows;
+
     type Changes = Changes;
 
     ghost stores = { handset_stores };

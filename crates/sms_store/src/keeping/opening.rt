@@ -12,8 +12,8 @@ ghost use Rattle.sms_store.specs.keeping.Stores.{IsStoreWith};
 ghost use Rattle.sms_store.specs.keeping.InKeep.{connection_in, setup_in, state_in};
 
 use crate::keeping::keep::StoreKeep;
-use crate::keeping::sides::{Kept, Openable};
 use crate::keeping::readying::found;
+use crate::keeping::sides::{Kept, Openable};
 use sms_rows::keep::{KeepError, Refusals};
 use sms_store_sql::listing::{Health, write_cause_of};
 use sqlite::{Alter, Connection, File, FileFrom, FileStore, MemStore, Start, Unknown};

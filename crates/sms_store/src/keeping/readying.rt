@@ -29,7 +29,10 @@ impl<P: Kept> Work for Founding<P> {
 }
 
 /// Makes an empty database the store of the first rows.
-pub(crate) fn found<P: Kept, S: Alter>(alloc: Global, conn: &mut Connection<S>) -> Result<(), KeepError>
+pub(crate) fn found<P: Kept, S: Alter>(
+    alloc: Global,
+    conn: &mut Connection<S>,
+) -> Result<(), KeepError>
     ensures mode { conn.old.in_transaction ≡ false → conn.new.in_transaction ≡ false }
     ensures clean { HasCleanDisk (state S.Store conn.new) → HasCleanDisk (state S.Store conn.old) }
     ensures ok { HasCleanDisk (state S.Store conn.new) → (state S.Store conn.old).now.schema ≡ no_tables
