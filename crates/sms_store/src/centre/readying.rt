@@ -1,8 +1,7 @@
 //! Makes a database ready to be a store: an empty one gets its tables, and a store must say that it is the wanted one.
-ghost use Rattle.std.specs.Prelude.{◌≡◌, ◌≢◌, false, IfErr, OnOk};
+ghost use Rattle.std.specs.Prelude.{◌≡◌, false, IfErr, OnOk};
 ghost use Rattle.sqlite.specs.Held.{state};
 ghost use Rattle.sqlite.specs.State.{HasCleanDisk};
-ghost use Rattle.sms_store_tables.specs.centre.CentreSchema.{centre_schema, first_schema};
 ghost use Rattle.sms_store.specs.centre.CentreRows.{centre_stores};
 ghost use Rattle.sms_store.specs.centre.Refusing.{RefusesNow};
 ghost use Rattle.sms_store.specs.keeping.Opened.{IsAsItWas, IsOpened, LeavesStore};

@@ -1,6 +1,4 @@
 //! Makes a database ready to be a store: an empty one gets its tables, and a store must say that it is a handset's.
-ghost use Rattle.std.specs.Prelude.{◌≡◌};
-
 use crate::handset::kind::Said;
 use crate::keeping::{Openable, found, judge_said};
 use sms_handset::Setup;
