@@ -138,6 +138,23 @@ impl<K: CentreStore + Drop> Service<K> {
         Ok(Service::of(alloc, keep, centre, seat_map, board, cutoff))
     }
 
+    /// Ends the service, and gives the keep of its rows.
+    pub(crate) fn into_keep(self) -> K
+        ensures { result ≡ store_in self }
+    {
+        let Service {
+            machine,
+            seat_map,
+            board,
+            cutoff,
+            ..
+        } = self;
+        drop(seat_map);
+        drop(board);
+        drop(cutoff);
+        machine.into_keep()
+    }
+
     // The replies to the seats for the plan, made twice before anything is committed.
     fn outs_of(&self, stimulus: &Stimulus<Job>, planned: &Plan) -> Result<Twice, AllocError>
         ensures outputs { (event : CentreEventOf) (s : Serving) → Represents s.core self.now.machine.centre → seats_in self.now.seat_map ≡ s.seats

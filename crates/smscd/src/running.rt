@@ -1,6 +1,6 @@
 //! A run of the server.
+use crate::account_file::book_of;
 use crate::control::Control;
-use crate::link_secrets::access_of;
 use crate::logging::{self, Log, LogThread};
 use crate::moments::{now, text_of};
 use crate::opening::{FoundStore, open_store};
@@ -20,20 +20,17 @@ use sms_base::{Address, Moment};
 use sms_centre_spec::numbers::first_number;
 use sms_keeper::Gate;
 use sms_store_files::{LogFinding, LogJudgement};
-use smsc_cli::words::{AccountWords, FileFault, ServerRun, add_lines};
+use smsc_cli::words::{AccountWords, ServerRun};
 use smsc_endpoint::LinkAccess;
-use smsc_server::{Given, ObservedKeep, Orders, Ports, ServeFault, serve};
+use smsc_server::{Given, ObservedKeep, Orders, Ports, Rate, ServeFault, serve};
 use smsc_service::{CentreStore, LinkBoard, Setup};
 use std::alloc::{AllocError, Global};
+use std::io;
 use std::net::TcpListener;
 use std::sync::atomic::{AtomicBool, Ordering};
 use std::sync::{Arc, Wait};
 use std::thread::{self, JoinHandle, Threads};
 use std::time::Clock;
-use std::{fs, io};
-
-// How many accounts there may be.
-const MOST_ACCOUNTS: usize = 32;
 
 // So many seconds the rows may be ahead of the clock.
 const MOST_AHEAD: u64 = 600;
@@ -53,9 +50,7 @@ pub fn run_words<R: Threads + Wait + Clock + Copy + Send + Sync + 'static>(
     run: &ServerRun<'_>,
     accounts: &[AccountWords<'_>],
 ) -> Result<(), RunFault> {
-    let access = access_of(&host, run.link_secrets)?;
-    let mut book = RunAccounts::new(host.alloc(), access);
-    fill(&host, run, accounts, &mut book)?;
+    let book = book_of(&host, run, accounts)?;
     // A run of no connection opens nothing.
     if run.sessions == Some(0) {
         return Ok(());
@@ -64,63 +59,6 @@ pub fn run_words<R: Threads + Wait + Clock + Copy + Send + Sync + 'static>(
         Some(start) => serve_book(host, rt, run, book, start),
         None => Err(RunFault::NoClock),
     }
-}
-
-// ---- accounts
-
-fn fill(
-    host: &HostRuntime,
-    run: &ServerRun<'_>,
-    accounts: &[AccountWords<'_>],
-    book: &mut RunAccounts,
-) -> Result<(), RunFault> {
-    book.add_all(host.alloc(), accounts)?;
-    match run.accounts {
-        Some(path) => add_file(host, path, book),
-        None => Ok(()),
-    }
-}
-
-fn reading_fault(error: io::Error) -> RunFault {
-    match error.kind() {
-        io::ErrorKind::OutOfMemory => RunFault::NoMemory,
-        io::ErrorKind::InvalidData => RunFault::NoText,
-        _ => RunFault::NoAccounts(error),
-    }
-}
-
-fn add_file(host: &HostRuntime, path: &str, book: &mut RunAccounts) -> Result<(), RunFault> {
-    match fs::read_to_string(host, path) {
-        Ok(file) => add_text(host.alloc(), file.as_str(), book),
-        Err(error) => Err(reading_fault(error)),
-    }
-}
-
-fn lines_fault(fault: FileFault) -> RunFault {
-    match fault {
-        FileFault::BadLine(number) => RunFault::AccountLine(number),
-        FileFault::NoMemory => RunFault::NoMemory,
-    }
-}
-
-// The accounts of a file, behind those of the words: 32 at most, no two of one name.
-fn add_text(alloc: Global, file: &str, book: &mut RunAccounts) -> Result<(), RunFault> {
-    let mut more = Vec::new(alloc);
-    add_lines(&mut more, file).map_err(lines_fault)?;
-    add_accounts(alloc, more.as_slice(), book)
-}
-
-fn add_accounts(
-    alloc: Global,
-    more: &[AccountWords<'_>],
-    book: &mut RunAccounts,
-) -> Result<(), RunFault> {
-    let room = MOST_ACCOUNTS.saturating_sub(book.names.len());
-    if more.len() > room || book.has_any(more) {
-        return Err(RunFault::Accounts);
-    }
-    book.add_all(alloc, more)?;
-    Ok(())
 }
 
 // ---- the log
@@ -147,7 +85,9 @@ fn serve_book<R: Threads + Wait + Clock + Copy + Send + Sync + 'static>(
         accounts,
         access,
         limits,
+        rates,
     } = book;
+    let limits = Limits { limits, rates };
     let setup = setup_of(run, start, accounts);
     let names = Arc::new(host.alloc(), names)?;
     let (log, thread) = start_log(host, rt, &names)?;
@@ -164,12 +104,19 @@ fn end_log<R: Threads + Wait + Clock + Copy>(rt: &R, log: Arc<Log<R>>, thread: L
     thread.end(rt);
 }
 
+// How many sessions each account may have, and how many requests it may put in a second.
+#[derive(Drop)]
+struct Limits {
+    limits: Vec<u8>,
+    rates: Vec<Option<Rate>>,
+}
+
 // What a run has beside its store.
 #[derive(Drop)]
 struct RunParts<R: Wait> {
     logins: Accounts,
     access: LinkAccess,
-    limits: Vec<u8>,
+    limits: Limits,
     names: Arc<Vec<String>>,
     log: Arc<Log<R>>,
     orders: Arc<Orders>,
@@ -184,7 +131,7 @@ fn parts_of<R: Wait>(
     alloc: Global,
     logins: Vec<Login>,
     access: LinkAccess,
-    limits: Vec<u8>,
+    limits: Limits,
     names: Arc<Vec<String>>,
     log: &Arc<Log<R>>,
 ) -> Result<RunParts<R>, AllocError> {
@@ -260,6 +207,7 @@ fn given_of<R: Wait + Copy>(
     let accounts = Arc::new(alloc, logins)?;
     let access = Arc::new(alloc, access)?;
     let observer = Arc::new(alloc, watchers)?;
+    let Limits { limits, rates } = limits;
     Ok((
         Given {
             accounts,
@@ -269,6 +217,7 @@ fn given_of<R: Wait + Copy>(
             links,
             sessions: run.sessions,
             limits,
+            rates,
         },
         part,
     ))
@@ -362,7 +311,7 @@ fn serve_found<R: Threads + Wait + Clock + Copy + Send + Sync + 'static, K: Cent
     keep: K,
     found: &FoundStore,
     start: Moment,
-) -> Result<(), RunFault> {
+) -> Result<K, RunFault> {
     say_open_modes(&host, &*parts.log, &found.paths)?;
     say_open_files(&host, &*parts.log, run)?;
     let guard = guard_of(host, found, &parts.orders)?;
@@ -456,19 +405,25 @@ fn observed<'a, K: CentreStore, R: Wait>(
 }
 
 // How the run ended, once the threads beside it have.
-fn end_run<R: Threads + Wait + Copy>(
+fn end_run<R: Threads + Wait + Copy, K: Drop>(
     rt: &R,
     helpers: Helpers,
     watchers: &Watchers<R>,
-    ended: Result<(), ServeFault>,
-) -> Result<(), RunFault> {
+    ended: Result<K, ServeFault>,
+) -> Result<K, RunFault> {
     helpers.end(rt);
     watchers.log.put("info", "event=ended_run");
     if let Some(fault) = watchers.guard.fault() {
+        drop(ended);
         return Err(fault);
     }
-    ended?;
-    Ok(())
+    Ok(ended?)
+}
+
+// The keep itself, once nobody observes it any more.
+fn unobserved<K, T>(observed: ObservedKeep<'_, K, T>) -> K {
+    let ObservedKeep { keep, observer: _ } = observed;
+    keep
 }
 
 // What follows from here on is the same over any keep, and then over any machine, so that its proof need not look into the store or the
@@ -480,10 +435,11 @@ fn serve_open<R: Threads + Wait + Clock + Copy + Send + Sync + 'static, K: Centr
     keep: K,
     ports: Ports<TcpListener>,
     clock: &RunClock<R>,
-) -> Result<(), ServeFault> {
+) -> Result<K, ServeFault> {
     let keep = observed(keep, given);
-    drop(serve(rt, alloc, keep, &OpenGate, clock, ports, given)?);
-    Ok(())
+    let (doors, keep) = serve(rt, alloc, keep, &OpenGate, clock, ports, given)?;
+    drop(doors);
+    Ok(unobserved(keep))
 }
 
 fn serve_ports<R: Threads + Wait + Clock + Copy + Send + Sync + 'static, K: CentreStore + Drop>(
@@ -496,7 +452,7 @@ fn serve_ports<R: Threads + Wait + Clock + Copy + Send + Sync + 'static, K: Cent
     ports: Ports<TcpListener>,
     summary: &Summary,
     clock: &RunClock<R>,
-) -> Result<(), RunFault> {
+) -> Result<K, RunFault> {
     let mut helpers = Helpers::new(host.alloc())?;
     helpers.start_all(host, rt, run, given, part, summary, clock.start)?;
     let ended = serve_open(rt, host.alloc(), given, keep, ports, clock);
@@ -512,7 +468,7 @@ fn serve_keep<R: Threads + Wait + Clock + Copy + Send + Sync + 'static, K: Centr
     keep: K,
     found: &FoundStore,
     start: Moment,
-) -> Result<(), RunFault> {
+) -> Result<K, RunFault> {
     let mut keep = keep;
     let summary = look_at(host.alloc(), &*given.observer, &mut keep, found, start)?;
     let clock = clock_of(rt, summary.newest, run.is_ahead)?;

@@ -1,0 +1,138 @@
+//! What a run of the server is given in a test.
+use crate::rows::holds;
+use crate::service::centre::{clock, logins};
+use sms_base::FinalState;
+use sms_keeper::Gate;
+use smsc_endpoint::LinkAccess;
+use smsc_server::{Event, Given, Loopback, Observer, Orders, ServeFault, loopback_pair};
+use smsc_service::CentreStore;
+use std::alloc::Global;
+use std::net::{Net, TcpListener, TcpStream};
+use std::sync::atomic::{AtomicU32, Ordering};
+use std::sync::{Arc, Wait};
+use std::test::Fail;
+use std::thread::Threads;
+use std::time::Clock;
+
+/// An observer that does nothing.
+#[derive(Drop)]
+pub(crate) struct Silent;
+
+impl Observer for Silent {
+    fn observe(&self, _event: &Event) {}
+}
+
+/// An observer that counts the messages which were accepted, and those which were delivered.
+#[derive(Drop)]
+pub(crate) struct Counting {
+    accepted: AtomicU32,
+    delivered: AtomicU32,
+}
+
+impl Counting {
+    /// None yet.
+    pub(crate) fn new() -> Counting {
+        Counting {
+            accepted: AtomicU32::new(0),
+            delivered: AtomicU32::new(0),
+        }
+    }
+
+    /// How many were accepted, and how many delivered.
+    pub(crate) fn counts(&self) -> (u32, u32) {
+        (
+            self.accepted.load(Ordering::SeqCst),
+            self.delivered.load(Ordering::SeqCst),
+        )
+    }
+}
+
+impl Observer for Counting {
+    fn observe(&self, event: &Event) {
+        match event {
+            Event::Accepted(_, _) => {
+                self.accepted.fetch_add(1, Ordering::SeqCst);
+            }
+            Event::Final(_, FinalState::Delivered) => {
+                self.delivered.fetch_add(1, Ordering::SeqCst);
+            }
+            _ => (),
+        }
+    }
+}
+
+fn orders(alloc: Global) -> Result<Arc<Orders>, Fail> {
+    let orders = Orders::new(alloc)?;
+    Ok(Arc::new(alloc, orders)?)
+}
+
+// The run and its clients ended well.
+fn is_over(ended: &Result<(), ServeFault>, came: Result<(), Fail>) -> Result<(), Fail> {
+    came?;
+    holds(ended.is_ok(), "the run ends with its connections")
+}
+
+// A run for so many connections: app1 may bind with the password secret. It may have so many sessions at once as the limits say.
+fn given(alloc: Global, sessions: u32, limits: Vec<u8>) -> Result<Given<Silent>, Fail> {
+    let accounts = logins(alloc)?;
+    let orders = orders(alloc)?;
+    Ok(Given {
+        accounts,
+        access: Arc::new(alloc, LinkAccess::Anyone)?,
+        observer: Arc::new(alloc, Silent)?,
+        orders,
+        links: None,
+        sessions: Some(sessions),
+        limits,
+        rates: Vec::new(alloc),
+    })
+}
+
+/// Serves so many connections over the store, whatever that is, to the clients that come. An account may have a session at each seat.
+pub(crate) fn serves<
+    R: Net<Listener = TcpListener, Stream = TcpStream>
+        + Threads
+        + Wait
+        + Clock
+        + Copy
+        + Send
+        + Sync
+        + 'static,
+    K: CentreStore + Drop + Send,
+    G: Gate + Sync,
+    C: FnOnce(Loopback) -> Result<(), Fail>,
+>(rt: R, alloc: Global, store: K, gate: &G, sessions: u32, come: C) -> Result<(), Fail>
+    requires { C.IsAlwaysCallable come }
+{
+    serves_within(rt, alloc, store, gate, sessions, Vec::new(alloc), come)
+}
+
+/// So too, but the account at each place may have so many sessions at once.
+pub(crate) fn serves_within<
+    R: Net<Listener = TcpListener, Stream = TcpStream>
+        + Threads
+        + Wait
+        + Clock
+        + Copy
+        + Send
+        + Sync
+        + 'static,
+    K: CentreStore + Drop + Send,
+    G: Gate + Sync,
+    C: FnOnce(Loopback) -> Result<(), Fail>,
+>(
+    rt: R,
+    alloc: Global,
+    store: K,
+    gate: &G,
+    sessions: u32,
+    limits: Vec<u8>,
+    come: C,
+) -> Result<(), Fail>
+    requires { C.IsAlwaysCallable come }
+{
+    let clock = clock()?;
+    let run = given(alloc, sessions, limits)?;
+    let (ended, came) = loopback_pair(rt, alloc, store, gate, &clock, &run, come)?;
+    is_over(&ended, came)
+}

@@ -1,0 +1,83 @@
+//! A centre that has no message yet, who may bind, and what applications ask of it.
+use crate::clock_and_gate::Still;
+use smpp_session::{Account, Accounts, Password};
+use sms_base::{Address, Listed, Moment, Octets};
+use sms_store_memory::centre::MemoryKeep;
+use smsc_service::{CentreAccount, Setup};
+use std::alloc::Global;
+use std::sync::Arc;
+use std::test::Fail;
+
+// 2024-02-29 23:59:58.
+const START: u64 = 1_709_251_198;
+
+/// bind_transceiver of app1 with the password secret, sequence number 1 (SMPP v3.4 4.1.5).
+pub(crate) const BIND: &[u8] = &[
+    0x00, 0x00, 0x00, 0x21, 0x00, 0x00, 0x00, 0x09, 0x00, 0x00, 0x00, 0x00, 0x00, 0x00, 0x00, 0x01,
+    0x61, 0x70, 0x70, 0x31, 0x00, 0x73, 0x65, 0x63, 0x72, 0x65, 0x74, 0x00, 0x00, 0x34, 0x00, 0x00,
+    0x00,
+];
+
+/// submit_sm of `hello` to 447700900456, sequence number 2 (SMPP v3.4 4.4.1).
+pub(crate) const SUBMIT: &[u8] = &[
+    0x00, 0x00, 0x00, 0x32, 0x00, 0x00, 0x00, 0x04, 0x00, 0x00, 0x00, 0x00, 0x00, 0x00, 0x00, 0x02,
+    0x00, 0x00, 0x00, 0x00, 0x01, 0x01, 0x34, 0x34, 0x37, 0x37, 0x30, 0x30, 0x39, 0x30, 0x30, 0x34,
+    0x35, 0x36, 0x00, 0x00, 0x00, 0x00, 0x00, 0x00, 0x01, 0x00, 0x00, 0x00, 0x05, 0x68, 0x65, 0x6C,
+    0x6C, 0x6F,
+];
+
+/// query_sm of the message 0000000001, sequence number 3 (4.8.1).
+pub(crate) const QUERY: &[u8] = &[
+    0x00, 0x00, 0x00, 0x1E, 0x00, 0x00, 0x00, 0x03, 0x00, 0x00, 0x00, 0x00, 0x00, 0x00, 0x00, 0x03,
+    0x30, 0x30, 0x30, 0x30, 0x30, 0x30, 0x30, 0x30, 0x30, 0x31, 0x00, 0x00, 0x00, 0x00,
+];
+
+/// enquire_link, sequence number 4 (4.11.1).
+pub(crate) const ENQUIRE: &[u8] = &[
+    0x00, 0x00, 0x00, 0x10, 0x00, 0x00, 0x00, 0x15, 0x00, 0x00, 0x00, 0x00, 0x00, 0x00, 0x00, 0x04,
+];
+
+/// A clock that always shows the start.
+pub(crate) fn clock() -> Result<Still, Fail> {
+    Ok(Still(Moment::from_seconds(START)?))
+}
+
+fn account(alloc: Global) -> Result<CentreAccount, Fail> {
+    let address = Address::new(1, 1, "447700900001")?;
+    let name = Octets::copy_of(alloc, b"app1")?;
+    Ok(CentreAccount { name, address })
+}
+
+fn accounts(alloc: Global) -> Result<Listed<CentreAccount>, Fail> {
+    let accounts = vec![in alloc; account(alloc)?]?;
+    Ok(Listed::from_vec(accounts))
+}
+
+fn setup(alloc: Global) -> Result<Setup, Fail> {
+    let centre = Address::new(1, 1, "447700900999")?;
+    let start = Moment::from_seconds(START)?;
+    let accounts = accounts(alloc)?;
+    Ok(Setup {
+        centre,
+        start,
+        first: 1,
+        accounts,
+    })
+}
+
+/// A store of a centre that has no message yet.
+pub(crate) fn keep(alloc: Global) -> Result<MemoryKeep, Fail> {
+    Ok(MemoryKeep::new(alloc, setup(alloc)?))
+}
+
+fn login(alloc: Global) -> Result<Account, Fail> {
+    let name = Octets::copy_of(alloc, b"app1")?;
+    let password = Password::Plain(Octets::copy_of(alloc, b"secret")?);
+    Ok(Account { name, password })
+}
+
+/// What may bind: app1 with the password secret.
+pub(crate) fn logins(alloc: Global) -> Result<Arc<Accounts>, Fail> {
+    let logins = vec![in alloc; login(alloc)?]?;
+    Ok(Arc::new(alloc, Accounts::from_vec(logins))?)
+}

@@ -1,0 +1,98 @@
+//! A service, what happens to it, and its replies.
+use crate::clock_and_gate::Open;
+use crate::rows::turn_holds;
+use crate::service::asks::{Request, job, ticks};
+use crate::service::centre::keep;
+use crate::service::store::{Limits, Store};
+use crate::service::telling::{To, is_step};
+use sms_centre_spec::jobs::Job;
+use sms_keeper::{Fate, Machine, Stimulus};
+use smsc_service::{Cutoff, Service, serve_with};
+use std::alloc::Global;
+use std::sync::Arc;
+use std::test::Fail;
+
+/// A turn of a course.
+#[derive(Clone, Copy)]
+pub(crate) enum Turn {
+    /// What the seat asks, what befalls it, and who is told what, in order.
+    Job(usize, Request, Fate, &'static [To]),
+    /// The clock shows so many seconds after the start: what befalls that, and who is told what.
+    Tick(u32, Fate, &'static [To]),
+    /// The store takes so many commits more.
+    Commits(u32),
+    /// The store gives so many bodies more.
+    Bodies(u32),
+    /// The service starts again with the rows of its store.
+    Reopens,
+    /// From now on it is too late to begin anything.
+    IsTooLate,
+}
+
+/// A course: its name, and its turns.
+pub(crate) type Course = (&'static str, &'static [Turn]);
+
+fn meets(
+    service: &mut Service<Store<'_>>,
+    stimulus: Stimulus<Job>,
+    fate: Fate,
+    told: &[To],
+) -> bool {
+    let step = service.step(&Open, &stimulus);
+    is_step(&step, fate, told)
+}
+
+fn take_turn(
+    alloc: Global,
+    service: &mut Service<Store<'_>>,
+    limits: &Limits,
+    cutoff: &Cutoff,
+    turn: &Turn,
+) -> Result<bool, Fail> {
+    match turn {
+        Turn::Job(seat, asked, fate, told) => {
+            let job = job(alloc, asked)?;
+            Ok(meets(service, Stimulus::Job(*seat, job), *fate, told))
+        }
+        Turn::Tick(seconds, fate, told) => Ok(meets(service, ticks(*seconds)?, *fate, told)),
+        Turn::Commits(count) => {
+            limits.commits.set(*count);
+            Ok(true)
+        }
+        Turn::Bodies(count) => {
+            limits.bodies.set(*count);
+            Ok(true)
+        }
+        Turn::Reopens => Ok(service.reopen().is_ok()),
+        Turn::IsTooLate => {
+            cutoff.pass();
+            Ok(true)
+        }
+    }
+}
+
+fn go(
+    alloc: Global,
+    service: &mut Service<Store<'_>>,
+    limits: &Limits,
+    cutoff: &Cutoff,
+    course: &Course,
+) -> Result<(), Fail> {
+    let (name, turns) = course;
+    for (at, turn) in turns.iter().enumerate() {
+        turn_holds(take_turn(alloc, service, limits, cutoff, turn)?, name, at)?;
+    }
+    Ok(())
+}
+
+/// Each turn of the course is as told, over a store of a centre that has no message yet.
+pub(crate) fn plays(alloc: Global, course: &Course) -> Result<(), Fail> {
+    let limits = Limits::none();
+    let store = Store::new(keep(alloc)?, &limits);
+    let cutoff = Arc::new(alloc, Cutoff::new())?;
+    let (went, store) = serve_with(alloc, store, None, &cutoff, |service| {
+        go(alloc, service, &limits, &cutoff, course)
+    })?;
+    drop(store);
+    went
+}
