@@ -1,5 +1,6 @@
 pub mod BodiesRead
 pub mod Lawful
+pub mod LeftNow
 pub mod Loading
 pub mod Raised
 pub mod Refusals

@@ -1,3 +1,4 @@
+pub mod Closing
 pub mod InKeep
 pub mod Opened
 pub mod Refusing

@@ -6,6 +6,7 @@
 //! version 1.
 
 mod bodies;
+mod closing;
 mod commit;
 mod founding;
 mod gathering;
@@ -17,6 +18,7 @@ mod tables;
 
 use crate::keeping::StoreKeep;
 pub use crate::keeping::in_memory;
+pub use closing::what_was_left_is_not_raised;
 use sms_centre_spec::Setup;
 pub use sms_store_migration::raise;
 

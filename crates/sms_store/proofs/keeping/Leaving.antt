@@ -7,6 +7,7 @@ use Rattle.sms_store_sql.specs.listing.Transaction.{Leaves}
 use Rattle.sms_store_sql.specs.schema.Blank.{no_tables}
 use Rattle.sms_store.specs.keeping.Opened.{IsAsItWas, IsLeft}
 use Rattle.sms_store.specs.keeping.Stores.{StoresOf, Founds, AreStores}
+use Rattle.sms_store.proofs.keeping.StoresKept.{not_blank}
 
 -- while a connection is open, a stop leaves what was committed
 abbrev pub Settles : State → Type 0
@@ -41,7 +42,7 @@ module _ {P R : Type 0} (of : StoresOf P R) where
   left_by_founding lawful old new left settles none leaves may = elim (leaves may) [
     | inl before ↦ left_alone old left settles before
     | inr made ↦ record {
-      current = λ rows kept. absurd (lawful.some_tables (sym none ∙ lawful.tables old.now rows kept.store));
+      current = λ rows kept. absurd (not_blank of lawful (sym none ∙ lawful.tables old.now rows kept.store));
       earlier = λ rows kept. absurd (lawful.earlier_tables old.now rows kept.store none);
       blank = λ setup kept. let it = made kept.is_open in inr (it.0, it.1, it.2 none setup);
     }

@@ -14,7 +14,7 @@ use Rattle.sms_store_sql.specs.schema.Blank.{no_tables}
 use Rattle.sms_store.specs.keeping.Opened.{Opened}
 use Rattle.sms_store.specs.keeping.Refusing.{Says, FindsJudgement, RefusesBy, RefusesSaid}
 use Rattle.sms_store.specs.keeping.Stores.{StoresOf, IsStoreWith, AreStores}
-use Rattle.sms_store.proofs.keeping.StoresKept.{kept_still}
+use Rattle.sms_store.proofs.keeping.StoresKept.{kept_still, not_blank}
 
 module _ {P R : Type 0} (of : StoresOf P R) (lawful : AreStores of) where
   -- a database without tables
@@ -22,7 +22,7 @@ module _ {P R : Type 0} (of : StoresOf P R) (lawful : AreStores of) where
       → Opened of setup old.now new
   opened_blank setup old new none kept = record {
     founded = λ _. kept;
-    unchanged = λ rows is. absurd (lawful.some_tables (sym none ∙ lawful.tables old.now rows is.0));
+    unchanged = λ rows is. absurd (not_blank of lawful (sym none ∙ lawful.tables old.now rows is.0));
     ours = inl none;
   }
 
@@ -30,7 +30,7 @@ module _ {P R : Type 0} (of : StoresOf P R) (lawful : AreStores of) where
   pub opened_ours : (setup : P) (old new : State) → old.now.schema ≡ of.schema → Shows old new old.now old.now false → of.IsOurs old.now
       → Opened of setup old.now new
   opened_ours setup old new ours shows says = record {
-    founded = λ none. absurd (lawful.some_tables (sym none ∙ ours));
+    founded = λ none. absurd (not_blank of lawful (sym none ∙ ours));
     unchanged = λ rows is. kept_still of setup old new rows shows is;
     ours = inr says;
   }

@@ -1,12 +1,17 @@
 -- What is so of the stores of any side.
-use Rattle.std.proofs.Common.{◌≡◌, refl, sym, subst, ◌∙◌, false}
+use Rattle.std.proofs.Common.{◌≡◌, length, refl, sym, ap, subst, ◌∙◌, false}
 use Rattle.sqlite.specs.Effect.{Database}
+use Rattle.sqlite.specs.Schema.{Schema}
 use Rattle.sqlite.specs.State.{State, Shows}
 use Rattle.sms_store_sql.specs.listing.Transaction.{Committed, IsOpenStore}
 use Rattle.sms_store_sql.specs.schema.Blank.{no_tables}
 use Rattle.sms_store.specs.keeping.Stores.{StoresOf, IsStoreWith, Turns, Founds, AreStores}
 
 module _ {P R : Type 0} (of : StoresOf P R) where
+  -- a store has tables
+  pub not_blank : AreStores of → no_tables ≡ of.schema → ⊥
+  not_blank lawful same = lawful.some_tables (sym (ap (λ (s : Schema). length s.tables) same))
+
   -- the setup is as it was, if the change leaves it
   pub turns_with : (change : R → R) → ((rows : R) → of.setup_of (change rows) ≡ of.setup_of rows) → (setup : P) (a b : Database) (rows : R)
       → Turns of change a b → IsStoreWith of setup a rows → IsStoreWith of setup b (change rows)

@@ -12,6 +12,7 @@ centre_stores = record {
   schema = centre_schema;
   IsStore = IsStore;
   setup_of = λ rows. rows.setup;
+  with_setup = λ setup rows. record rows { setup = setup };
   first_rows = first_rows;
   IsEarlier = IsFirstStore;
   raised = migrated;

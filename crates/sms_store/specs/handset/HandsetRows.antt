@@ -37,6 +37,7 @@ handset_stores = record {
   schema = handset_schema;
   IsStore = IsStore;
   setup_of = λ rows. rows.setup;
+  with_setup = λ setup rows. record rows { setup = setup };
   first_rows = first_rows;
   IsEarlier = λ db rows. ⊥;
   raised = λ rows. rows;

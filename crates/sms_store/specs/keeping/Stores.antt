@@ -1,5 +1,5 @@
 -- What the stores of a centre, or of a handset, are.
-use Rattle.std.specs.Prelude.{◌≡◌, ◌⊎◌}
+use Rattle.std.specs.Prelude.{◌≡◌, ◌⊎◌, length}
 use Rattle.sqlite.specs.Effect.{Database}
 use Rattle.sqlite.specs.Schema.{Schema}
 use Rattle.sqlite.specs.State.{State}
@@ -13,6 +13,8 @@ pub record StoresOf (Setup Rows : Type 0) : Type 1 where
   -- the database is the store of these rows, whose setup is handed in and not stored
   pub IsStore : Database → Rows → Type 0
   pub setup_of : Rows → Setup
+  -- the rows as one who hands in this setup has them
+  pub with_setup : Setup → Rows → Rows
   -- the rows of a new store
   pub first_rows : Setup → Rows
   -- the database is the store of an earlier version of these rows, which become those
@@ -60,6 +62,10 @@ module _ {Setup Rows : Type 0} (of : StoresOf Setup Rows) where
   pub record AreStores : Type 0 where
     pub tables : (db : Database) (rows : Rows) → of.IsStore db rows → db.schema ≡ of.schema
     pub earlier_tables : (db : Database) (rows : Rows) → of.IsEarlier db rows → db.schema ≡ no_tables → ⊥
-    pub some_tables : no_tables ≡ of.schema → ⊥
+    pub some_tables : length of.schema.tables ≡ 0 → ⊥
+    pub our_tables : (db : Database) → of.IsOurs db → db.schema ≡ of.schema
+    -- what is not in the trees is the tables' shape and the setup
+    pub by_trees : (db other : Database) (rows : Rows) (setup : Setup) → other.schema ≡ of.schema → other.trees ≡ db.trees → of.IsStore db rows
+        → IsStoreWith setup other (of.with_setup setup rows)
     pub once : (setup : Setup) → IsOfOne (IsStoreWith setup)
     pub first_setup : (setup : Setup) → of.setup_of (of.first_rows setup) ≡ setup
