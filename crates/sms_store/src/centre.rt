@@ -7,7 +7,6 @@
 
 mod bodies;
 mod closing;
-mod commit;
 mod founding;
 mod gathering;
 mod kept;

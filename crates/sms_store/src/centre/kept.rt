@@ -4,9 +4,6 @@ ghost use Rattle.sms_store.specs.centre.CentreRows.{centre_stores};
 ghost use Rattle.sms_store.specs.centre.Types.{rows_after};
 ghost use Rattle.sms_store.proofs.centre.Lawful.{centre_lawful};
 
-use crate::centre::commit::{
-    write_handsets, write_messages, write_parts, write_priorities, write_references, write_reports,
-};
 use crate::centre::founding::{declare, make_tables};
 use crate::keeping::Kept;
 use sms_base::Listed;
@@ -15,7 +12,8 @@ use sms_centre_rows::reports::ReportRow;
 use sms_centre_rows::waiting::{HandsetRow, ReferenceRow};
 use sms_centre_spec::octets::copy_of_setup;
 use sms_centre_spec::{Changes, Rows, Setup};
-use sms_store_sql::listing::load;
+use sms_store_sql::listing::{load, write};
+use sms_store_tables::amending::write_revisions;
 use sms_store_tables::centre::CentreStore;
 use sqlite::{Alter, Error, Transaction};
 use std::alloc::Global;
@@ -39,12 +37,12 @@ impl Kept for Setup {
         tx: &mut Transaction<'_, S>,
         changes: &Changes,
     ) -> Result<(), Error> {
-        write_messages(alloc, tx, changes.messages.as_slice())?;
-        write_parts(alloc, tx, changes.parts.as_slice())?;
-        write_references(alloc, tx, changes.references.as_slice())?;
-        write_handsets(alloc, tx, changes.handsets.as_slice())?;
-        write_reports(alloc, tx, changes.reports.as_slice())?;
-        write_priorities(alloc, tx, changes.priorities.as_slice())
+        write::<CentreStore, MessageRow, S>(alloc, tx, changes.messages.as_slice())?;
+        write_revisions::<CentreStore, PartRow, S>(alloc, tx, changes.parts.as_slice())?;
+        write::<CentreStore, ReferenceRow, S>(alloc, tx, changes.references.as_slice())?;
+        write::<CentreStore, HandsetRow, S>(alloc, tx, changes.handsets.as_slice())?;
+        write_revisions::<CentreStore, ReportRow, S>(alloc, tx, changes.reports.as_slice())?;
+        write::<CentreStore, PriorityRow, S>(alloc, tx, changes.priorities.as_slice())
     }
 
     fn read<S: Alter>(&self, alloc: Global, tx: &mut Transaction<'_, S>) -> Result<Rows, Error> {

@@ -5,15 +5,13 @@ ghost use Rattle.sms_store.specs.handset.HandsetRows.{handset_stores};
 ghost use Rattle.sms_store.specs.handset.Types.{changes_in, rows_after};
 ghost use Rattle.sms_store.proofs.handset.Lawful.{handset_lawful};
 
-use crate::handset::commit::{
-    write_counters, write_entries, write_last, write_marks, write_outbox,
-};
+use crate::handset::commit::write_counters;
 use crate::handset::counters::CountersRow;
 use crate::handset::founding::{declare, make_tables};
 use crate::keeping::Kept;
 use sms_base::Listed;
 use sms_handset::{Changes, Counters, DiscardedGroup, Entry, LastAccepted, OutEntry, Rows, Setup};
-use sms_store_sql::listing::load;
+use sms_store_sql::listing::{load, write};
 use sms_store_tables::handset::HandsetStore;
 use sqlite::{Alter, Error, Transaction};
 use std::alloc::Global;
@@ -37,10 +35,10 @@ impl Kept for Setup {
         tx: &mut Transaction<'_, S>,
         changes: &Changes,
     ) -> Result<(), Error> {
-        write_entries(alloc, tx, changes.entries.changes())?;
-        write_last(alloc, tx, changes.last.changes())?;
-        write_outbox(alloc, tx, changes.outbox.changes())?;
-        write_marks(alloc, tx, changes.marks.changes())?;
+        write::<HandsetStore, Entry, S>(alloc, tx, changes.entries.changes())?;
+        write::<HandsetStore, LastAccepted, S>(alloc, tx, changes.last.changes())?;
+        write::<HandsetStore, OutEntry, S>(alloc, tx, changes.outbox.changes())?;
+        write::<HandsetStore, DiscardedGroup, S>(alloc, tx, changes.marks.changes())?;
         write_counters(alloc, tx, changes.counters)
     }
 
