@@ -20,7 +20,7 @@ module _ (image : Image) (rows : Rows) (old : Database) (holds : HoldsStore cent
   not_first first =
       let many = as_many_tables centre_stores centre_lawful image rows old holds is found in
       let count : 6 ≡ 7 =
-          sym (ap (λ (schema : Schema). length schema.tables) (first ∙ first_schema_is)) ∙ (many ∙ ap (λ (schema : Schema). length schema.tables) schema_is) in
+      sym (ap (λ (schema : Schema). length schema.tables) (first ∙ first_schema_is)) ∙ (many ∙ ap (λ (schema : Schema). length schema.tables) schema_is) in
       omega (arith, count)
 
   pub migrated_again : (setup : Setup) (s : State) → Migrated setup old s → IsOpenStore (IsStoreWith centre_stores setup) s (record rows { setup = setup })
