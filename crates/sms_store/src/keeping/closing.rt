@@ -31,10 +31,9 @@ impl<P: Kept, D: Disk + Drop> StoreKeep<P, FileStore<D>> {
         ensures refused { IfErr result (λ e. IsClosed (connection_in self) e.1
             × (IsClean (over_files.view e.1) → FailsToClose (connection_in self) e.1 e.0)) }
     {
-        let conn = self.into_connection();
         // Its clause says that the database of an open connection obeys its schema.
-        let _ = conn.schema();
-        conn.close_files()
+        let _ = self.conn.schema();
+        self.conn.close_files()
     }
 }
 
