@@ -14,9 +14,10 @@
 //! - `files`: a store in two files in memory, one of which may stop
 //! - `found`: what a keep holds
 //! - `image`: the octets of a store's two files
-//! - `keeping`: a keep over a connection, and its rows as text
+//! - `keeping`: a centre's stores as they are tried
 //! - `openings`: the opening of a store, stopped anywhere
 //! - `rows`: what the rows of a test are made of
+//! - `sides`: a commit, a load and an opening that are tried, of a centre's store or a handset's
 //! - `stops`: a call stopped anywhere
 //! - `stores`: the keep in memory and the one over a database have equal rows after each commit; a stop leaves the rows before or after
 //! - `trial`: a call on a store that is tried
@@ -28,6 +29,7 @@ mod image;
 pub(crate) mod keeping;
 mod openings;
 pub(crate) mod rows;
+pub(crate) mod sides;
 mod stops;
 pub(crate) mod stores;
 mod trial;

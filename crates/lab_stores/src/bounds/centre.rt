@@ -3,13 +3,13 @@ use crate::bounds::{
     FIRST, FIRST_PAST_31_BITS, LAST, LAST_OF_31_BITS, LONGEST, address, cause_of, moment, text_of,
 };
 use crate::stopping::failure::{Failure, Finding};
-use crate::stopping::keeping::keep_over;
+use crate::stopping::sides::{commit_to, keep_over};
 use crate::stopping::{Made, Trial};
 use sms_base::{FinalState, Listed, MessageId, Octets, Originator, Wish};
 use sms_centre_rows::messages::{MessageRow, PartRow, PriorityRow};
 use sms_centre_rows::reports::{ReportKind, ReportRow};
 use sms_centre_rows::waiting::{HandsetRow, Progress, ReferenceRow, Revision};
-use sms_centre_spec::{Changes, Rows};
+use sms_centre_spec::{Changes, Rows, Setup};
 use sms_concat::{ConcatKey, ConcatReference};
 use sms_rows::keep::{Keep, KeepError};
 use sms_rows::table::Change;
@@ -315,15 +315,6 @@ fn text_in(alloc: Global, rows: &Rows) -> Result<String, Failure> {
     Ok(text)
 }
 
-fn commit_to<S: Alter + Drop>(keep: CentreKeep<S>, changes: &Changes) -> Made<S> {
-    let mut keep = keep;
-    let refusal = keep.commit(changes).err();
-    Made {
-        conn: keep.into_connection(),
-        refusal,
-    }
-}
-
 fn text_from<S: Alter + Drop>(alloc: Global, keep: CentreKeep<S>) -> Result<String, KeepError> {
     let mut keep = keep;
     let rows = keep.load()?;
@@ -335,7 +326,7 @@ fn text_from<S: Alter + Drop>(alloc: Global, keep: CentreKeep<S>) -> Result<Stri
 
 impl Trial for CentreBounds {
     fn make<S: Alter + Drop>(&self, alloc: Global, conn: Connection<S>) -> Option<Made<S>> {
-        match (keep_over(alloc, conn), changes(alloc)) {
+        match (keep_over::<Setup, S>(alloc, conn), changes(alloc)) {
             (Ok(keep), Ok(changes)) => Some(commit_to(keep, &changes)),
             _ => None,
         }
@@ -346,6 +337,6 @@ impl Trial for CentreBounds {
         alloc: Global,
         conn: Connection<S>,
     ) -> Result<String, KeepError> {
-        text_from(alloc, keep_over(alloc, conn)?)
+        text_from(alloc, keep_over::<Setup, S>(alloc, conn)?)
     }
 }

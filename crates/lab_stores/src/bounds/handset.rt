@@ -2,6 +2,7 @@
 use crate::bounds::{FIRST_PAST_31_BITS, LAST, LONGEST, address, cause_of, moment, text_of};
 use crate::handset::setup;
 use crate::stopping::failure::Failure;
+use crate::stopping::sides::commit_to;
 use crate::stopping::{Made, Trial};
 use sms_alphabet::Coding;
 use sms_base::{Address, Octets};
@@ -264,15 +265,6 @@ fn keep_over<S: Alter + Drop>(
             Err((error, _)) => Err(error),
         },
         Err(_) => Err(KeepError::NoMemory),
-    }
-}
-
-fn commit_to<S: Alter + Drop>(keep: HandsetKeep<S>, changes: &Changes) -> Made<S> {
-    let mut keep = keep;
-    let refusal = keep.commit(changes).err();
-    Made {
-        conn: keep.into_connection(),
-        refusal,
     }
 }
 

@@ -4,114 +4,26 @@ ghost use Rattle.sms_handset_draft.specs.Draft.{rows_after};
 ghost use Rattle.sms_handset_draft.specs.Outcome.{changes_in};
 
 use crate::handset::failure::Failure;
-use crate::handset::found::{Found, text_in};
+use crate::handset::found::{Found, text_in, text_of};
 use crate::handset::plays::{COURSE, HELLO};
 use crate::handset::run::{run, setup};
-use crate::stopping::{Image, Made, RowsAround, StopError, Trial, refusal_at_stop, stop_anywhere};
+use crate::stopping::sides::{CommitTrial, LoadTrial, TriedSide};
+use crate::stopping::{Image, RowsAround, StopError, Trial, refusal_at_stop, stop_anywhere};
 use sms_base::OctetView;
 use sms_base::lending::lend;
 use sms_handset::{Changes, Handset, HandsetEvent, Rows, Setup};
 use sms_rows::keep::{Keep, KeepError, Refusals, RowStore};
-use sms_store::{HandsetKeep, HandsetMemoryKeep};
-use sqlite::{Alter, Connection};
+use sms_store::HandsetMemoryKeep;
 use std::alloc::Global;
 use std::io::Print;
 
-// A commit of the changes.
-#[derive(Drop)]
-struct CommitTrial<'a> {
-    setup: Setup,
-    changes: &'a Changes,
-}
-
-fn commit_to<S: Alter + Drop>(keep: HandsetKeep<S>, changes: &Changes) -> Made<S> {
-    let mut keep = keep;
-    let refusal = keep.commit(changes).err();
-    Made {
-        conn: keep.into_connection(),
-        refusal,
-    }
-}
-
-// What a load answers behind a commit that was refused.
-fn refusal_of_load<K: Keep<Rows = Rows, Changes = Changes>>(
-    alloc: Global,
-    keep: &mut K,
-    changes: &Changes,
-) -> Option<KeepError> {
-    match keep.commit(changes) {
-        Ok(()) => None,
-        Err(_) => text_in(alloc, keep).err(),
-    }
-}
-
-fn load_from<S: Alter + Drop>(alloc: Global, keep: HandsetKeep<S>, changes: &Changes) -> Made<S> {
-    let mut keep = keep;
-    let refusal = refusal_of_load(alloc, &mut keep, changes);
-    Made {
-        conn: keep.into_connection(),
-        refusal,
-    }
-}
-
-fn text_of<K: Keep<Rows = Rows, Changes = Changes> + Drop>(
-    alloc: Global,
-    keep: K,
-) -> Result<String, KeepError> {
-    let mut keep = keep;
-    text_in(alloc, &mut keep)
-}
-
-/// The rows of the store that the connection is to, as text.
-pub(crate) fn text_over<S: Alter + Drop>(
-    alloc: Global,
-    conn: Connection<S>,
-    setup: Setup,
-) -> Result<String, KeepError> {
-    match HandsetKeep::over(alloc, conn, setup) {
-        Ok(keep) => text_of(alloc, keep),
-        Err((error, _)) => Err(error),
-    }
-}
-
-impl<'a> Trial for CommitTrial<'a> {
-    fn make<S: Alter + Drop>(&self, alloc: Global, conn: Connection<S>) -> Option<Made<S>> {
-        match HandsetKeep::over(alloc, conn, self.setup) {
-            Ok(keep) => Some(commit_to(keep, self.changes)),
-            Err(_) => None,
-        }
+impl TriedSide for Setup {
+    fn setup(_alloc: Global) -> Result<Setup, KeepError> {
+        setup(COURSE.slots).map_err(|_| KeepError::NoMemory)
     }
 
-    fn rows<S: Alter + Drop>(
-        &self,
-        alloc: Global,
-        conn: Connection<S>,
-    ) -> Result<String, KeepError> {
-        text_over(alloc, conn, self.setup)
-    }
-}
-
-// A load behind such a commit, where that is refused.
-#[derive(Drop)]
-struct LoadTrial<'a> {
-    setup: Setup,
-    changes: &'a Changes,
-}
-
-impl<'a> Trial for LoadTrial<'a> {
-    fn make<S: Alter + Drop>(&self, alloc: Global, conn: Connection<S>) -> Option<Made<S>> {
-        match HandsetKeep::over(alloc, conn, self.setup) {
-            Ok(keep) => Some(load_from(alloc, keep, self.changes)),
-            Err(_) => None,
-        }
-    }
-
-    fn rows<S: Alter + Drop>(
-        &self,
-        alloc: Global,
-        conn: Connection<S>,
-    ) -> Result<String, KeepError> {
-        text_over(alloc, conn, self.setup)
+    fn text(alloc: Global, rows: &Rows) -> Result<String, KeepError> {
+        text_of(alloc, rows)
     }
 }
 
@@ -130,10 +42,7 @@ impl<'a> StoppingKeep<'a> {
         ensures { self.new.refusals ≡ self.old.refusals }
     {
         let alloc = self.rt.alloc();
-        let trial = CommitTrial {
-            setup: self.memory.setup(),
-            changes,
-        };
+        let trial = CommitTrial::<Setup> { changes };
         self.image = stop_anywhere(alloc, &trial, &self.image, wanted)?;
         Ok(())
     }
@@ -232,26 +141,20 @@ enum Call {
     Load,
 }
 
-fn refused_with(
-    alloc: Global,
-    setup: Setup,
-    changes: &Changes,
-    call: Call,
-) -> Result<&'static str, Failure> {
+fn refused_with(alloc: Global, changes: &Changes, call: Call) -> Result<&'static str, Failure> {
     match call {
-        Call::Commit => refused(alloc, &CommitTrial { setup, changes }),
-        Call::Load => refused(alloc, &LoadTrial { setup, changes }),
+        Call::Commit => refused(alloc, &CommitTrial::<Setup> { changes }),
+        Call::Load => refused(alloc, &LoadTrial::<Setup> { changes }),
     }
 }
 
 fn refused_after(alloc: Global, handset: &Handset, call: Call) -> Result<&'static str, Failure> {
-    let setup = setup(COURSE.slots)?;
     match handset.plan(&HandsetEvent::Frame {
         octets: OctetView::of(HELLO),
         tag: None,
     }) {
         Ok(planned) => {
-            let refused = refused_with(alloc, setup, planned.changes(), call);
+            let refused = refused_with(alloc, planned.changes(), call);
             drop(planned);
             refused
         }

@@ -41,7 +41,8 @@ fn numbers_of(alloc: Global, rows: &Rows) -> Result<String, Failure> {
     ).map_err(|_| Failure::NoMemory)
 }
 
-fn text_of(alloc: Global, rows: &Rows) -> Result<String, KeepError> {
+/// Rows as text.
+pub(crate) fn text_of_rows(alloc: Global, rows: &Rows) -> Result<String, KeepError> {
     format!(in alloc; "{rows:?}").map_err(|_| KeepError::NoMemory)
 }
 
@@ -51,11 +52,11 @@ pub(crate) fn text_in<K: Keep<Rows = Rows, Changes = Changes>>(
     keep: &mut K,
 ) -> Result<String, KeepError> {
     let rows = keep.load()?;
-    text_of(alloc, &rows)
+    text_of_rows(alloc, &rows)
 }
 
 fn describe_rows(alloc: Global, rows: &Rows, found: &mut Found) -> Result<(), Failure> {
-    found.rows = text_of(alloc, rows)?;
+    found.rows = text_of_rows(alloc, rows)?;
     found.numbers = numbers_of(alloc, rows)?;
     Ok(())
 }

@@ -1,25 +1,20 @@
-//! A keep over a connection, and its rows as text.
+//! A centre's stores as they are tried.
 use crate::stopping::failure::Failure;
-use crate::stopping::found::text_in;
+use crate::stopping::found::{text_in, text_of_rows};
 use crate::stopping::rows::setup;
-use sms_centre_spec::{Changes, Rows};
+use crate::stopping::sides::TriedSide;
+use sms_centre_spec::{Changes, Rows, Setup};
 use sms_rows::keep::{Keep, KeepError};
-use sms_store::CentreKeep;
-use sqlite::{Alter, Connection};
 use std::alloc::Global;
 use std::io::{self, Print};
 
-/// The keep of the store that the connection is to.
-pub(crate) fn keep_over<S: Alter + Drop>(
-    alloc: Global,
-    conn: Connection<S>,
-) -> Result<CentreKeep<S>, KeepError> {
-    match setup(alloc) {
-        Ok(setup) => match CentreKeep::over(alloc, conn, setup) {
-            Ok(keep) => Ok(keep),
-            Err((error, _)) => Err(error),
-        },
-        Err(_) => Err(KeepError::NoMemory),
+impl TriedSide for Setup {
+    fn setup(alloc: Global) -> Result<Setup, KeepError> {
+        setup(alloc).map_err(|_| KeepError::NoMemory)
+    }
+
+    fn text(alloc: Global, rows: &Rows) -> Result<String, KeepError> {
+        text_of_rows(alloc, rows)
     }
 }
 
@@ -30,17 +25,6 @@ pub(crate) fn text_of<K: Keep<Rows = Rows, Changes = Changes> + Drop>(
 ) -> Result<String, KeepError> {
     let mut keep = keep;
     text_in(alloc, &mut keep)
-}
-
-/// The rows of the store that the connection is to.
-pub(crate) fn text_over<S: Alter + Drop>(
-    alloc: Global,
-    conn: Connection<S>,
-) -> Result<String, KeepError> {
-    match keep_over(alloc, conn) {
-        Ok(keep) => text_of(alloc, keep),
-        Err(error) => Err(error),
-    }
 }
 
 /// Prints what was found, or why nothing was.
