@@ -1,0 +1,66 @@
+-- A service in a group, one step further.
+use Rattle.std.proofs.Common.{◌≡◌, ◌⊎◌, inl, inr, refl, subst, ◌∙◌}
+use Rattle.sms_centre_spec.specs.Draft.{no_changes}
+use Rattle.sms_centre_spec.specs.declared.jobs.job.Job.{Job}
+use Rattle.sms_centre_spec.specs.declared.rows.Changes.{Changes}
+use Rattle.sms_keeper.specs.Fates.{MatchFate}
+use Rattle.sms_keeper.specs.declared.machine.Fate.{Fate}
+use Rattle.sms_keeper.specs.declared.machine.Fate.TheVariants.{Done, NoMemory, Refused}
+use Rattle.sms_keeper.specs.declared.machine.Stimulus.{Stimulus}
+use Rattle.smsc_service.specs.Asking.{UnlessEvent}
+use Rattle.smsc_service.specs.declared.asking.SeatRequest.{SeatRequest}
+use Rattle.smsc_service.specs.declared.asking.SeatRequest.TheVariants.{Event, Nothing, Taken}
+use Rattle.smsc_service.specs.Serving.{Serving, after_for, restarted}
+
+-- what starts again has the rows from before the group
+pub after_rows : (a : SeatRequest) (r : Serving) (stimulus : Stimulus Job) → (after_for a Refused r stimulus).core.rows ≡ r.core.rows
+after_rows (Event event) r stimulus = refl
+after_rows Nothing r stimulus = refl
+after_rows Taken r stimulus = refl
+
+-- what starts again still does so after one item more
+pub after_again : (a : SeatRequest) (r : Serving) (stimulus : Stimulus Job) → r ≡ restarted r.core.rows r.seats
+    → after_for a Refused r stimulus ≡ restarted (after_for a Refused r stimulus).core.rows (after_for a Refused r stimulus).seats
+after_again (Event event) r stimulus is = refl
+after_again Nothing r stimulus is = is
+after_again Taken r stimulus is = is
+
+abbrev pub IsAgain : Changes → Serving → Serving → Type 0
+IsAgain held s r = ((held ≡ no_changes) × (s.seats ≡ r.seats)) ⊎ (r ≡ restarted r.core.rows r.seats)
+
+first_more : (a : SeatRequest) (s r : Serving) (stimulus : Stimulus Job) (fate : Fate) (held now : Changes) → UnlessEvent a ((now ≡ held) × (fate ≡ Done)) → held ≡ no_changes → s.seats ≡ r.seats
+    → IsAgain now (after_for a fate s stimulus) (after_for a Refused r stimulus)
+first_more (Event event) s r stimulus fate held now quiet none same = inr refl
+first_more Nothing s r stimulus fate held now quiet none same = inl (quiet.0 ∙ none, same)
+first_more Taken s r stimulus fate held now quiet none same = inl (quiet.0 ∙ none, same)
+
+-- an item more: nothing happened yet, or the second is what starts again
+pub again_more : (a b : SeatRequest) (s r : Serving) (stimulus : Stimulus Job) (fate : Fate) (held now : Changes) → (s.seats ≡ r.seats → a ≡ b) → UnlessEvent a ((now ≡ held) × (fate ≡ Done)) → IsAgain held s r
+    → IsAgain now (after_for a fate s stimulus) (after_for b Refused r stimulus)
+again_more a b s r stimulus fate held now alike quiet (inl first) =
+    subst (λ (x : SeatRequest). IsAgain now (after_for a fate s stimulus) (after_for x Refused r stimulus)) (alike first.1) (first_more a s r stimulus fate held now quiet first.0 first.1)
+again_more a b s r stimulus fate held now alike quiet (inr again) = inr (after_again b r stimulus again)
+
+refused_first : (a : SeatRequest) (r : Serving) (stimulus : Stimulus Job) (fate : Fate) (quiet : Type 0) → UnlessEvent a (quiet × (fate ≡ Done)) → fate ≡ Refused
+    → after_for a Refused r stimulus ≡ restarted (after_for a Refused r stimulus).core.rows (after_for a Refused r stimulus).seats
+refused_first (Event event) r stimulus fate quiet h is = refl
+refused_first Nothing r stimulus fate quiet h is = let done = h.1 in absurd cc
+refused_first Taken r stimulus fate quiet h is = let done = h.1 in absurd cc
+
+-- after an item that was refused, the second is what starts again
+pub again_refused : (a b : SeatRequest) (s r : Serving) (stimulus : Stimulus Job) (fate : Fate) (held now : Changes) → (s.seats ≡ r.seats → a ≡ b) → UnlessEvent a ((now ≡ held) × (fate ≡ Done)) → fate ≡ Refused
+    → IsAgain held s r → after_for b Refused r stimulus ≡ restarted (after_for b Refused r stimulus).core.rows (after_for b Refused r stimulus).seats
+again_refused a b s r stimulus fate held now alike quiet is (inl first) =
+    subst (λ (x : SeatRequest). after_for x Refused r stimulus ≡ restarted (after_for x Refused r stimulus).core.rows (after_for x Refused r stimulus).seats) (alike first.1)
+    (refused_first a r stimulus fate (now ≡ held) quiet is)
+again_refused a b s r stimulus fate held now alike quiet is (inr again) = after_again b r stimulus again
+
+pub by_fate : {A X B Y : Type 0} (f : Fate) → MatchFate f A B → (A → X) → (f ≡ Refused → B → Y) → MatchFate f X Y
+by_fate Done h f g = f h
+by_fate NoMemory h f g = f h
+by_fate Refused h f g = g refl h
+
+-- where something was to be committed, the second is what starts again
+pub again_of : (held : Changes) (s r : Serving) → (held ≡ no_changes → ⊥) → IsAgain held s r → r ≡ restarted r.core.rows r.seats
+again_of held s r some (inl first) = absurd (some first.0)
+again_of held s r some (inr again) = again

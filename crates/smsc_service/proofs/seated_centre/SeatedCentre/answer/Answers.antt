@@ -1,0 +1,9 @@
+use Rattle.smsc_service.specs.InSeated.{IsLeft, Reaches}
+use Rattle.smsc_service.proofs.ByOctets.{is_step}
+use Rattle.smsc_service.proofs.seated_centre.SeatedCentre.answer.Goals as goal
+
+pub returns-clause-gives : goal.returns-clause-gives
+returns-clause-gives g c = λ s base honest sound made.
+    let seated = c.serve-made.new.self in
+    is_step (Reaches g.K.RowStore.state base seated) (IsLeft g.K.RowStore.state base seated) seated.machine.centre seated.seat_map s c.args.stimulus.now
+    c.args.asked.now c.serve-made.result.fate c.answered.result.fate c.serve-made.result.outs c.answered.result.outs c.answered.ensures.fate (c.serve-made.ensures.gives s base honest sound made) c.answered.ensures.outs

@@ -1,0 +1,39 @@
+use Rattle.std.proofs.Common.{subst, sym}
+use Rattle.sms_keeper.specs.declared.machine.Fate.TheVariants.{Done}
+use Rattle.smsc_service.specs.declared.asking.SeatRequest.{SeatRequest}
+use Rattle.smsc_service.specs.declared.asking.SeatRequest.TheVariants.{Nothing, Taken}
+use Rattle.smsc_service.specs.InSeated.{IsLeft, Reaches}
+use Rattle.smsc_service.specs.Serving.{Serves}
+use Rattle.smsc_service.proofs.ByFate.{was_done, with_fate}
+use Rattle.smsc_service.proofs.seated_centre.SeatedCentre.serve.Goals as goal
+
+pub returns-in-Event-clause-gives : goal.returns-in-Event-clause-gives
+returns-in-Event-clause-gives g c = λ s base honest sound made.
+    let seated = c.happen.new.self in
+    subst (λ (a : SeatRequest). Serves (Reaches g.K.RowStore.state base seated) (IsLeft g.K.RowStore.state base seated) seated.machine.centre seated.seat_map a s c.args.stimulus.now c.happen.result.fate c.happen.result.outs)
+    (sym c.in-Event.is) (c.happen.ensures.gives s base honest sound made)
+
+pub returns-in-Nothing-clause-gives : goal.returns-in-Nothing-clause-gives
+returns-in-Nothing-clause-gives g c = λ s base honest sound made.
+    let seated = c.args.self.now in
+    subst (λ (a : SeatRequest). Serves (Reaches g.K.RowStore.state base seated) (IsLeft g.K.RowStore.state base seated) seated.machine.centre seated.seat_map a s c.args.stimulus.now c.unmade.result.fate c.unmade.result.outs)
+    (sym c.in-Nothing.is)
+    (with_fate (Reaches g.K.RowStore.state base seated) (IsLeft g.K.RowStore.state base seated) seated.machine.centre seated.seat_map s c.args.stimulus.now Nothing c.unmade.result.fate Done c.unmade.result.outs
+    c.unmade.ensures.fate (c.unmade.ensures.outs, made))
+
+pub returns-in-Taken-clause-gives : goal.returns-in-Taken-clause-gives
+returns-in-Taken-clause-gives g c = λ s base honest sound made.
+    let seated = c.args.self.now in
+    subst (λ (a : SeatRequest). Serves (Reaches g.K.RowStore.state base seated) (IsLeft g.K.RowStore.state base seated) seated.machine.centre seated.seat_map a s c.args.stimulus.now c.turned_away.result.fate c.turned_away.result.outs)
+    (sym c.in-Taken.is)
+    (with_fate (Reaches g.K.RowStore.state base seated) (IsLeft g.K.RowStore.state base seated) seated.machine.centre seated.seat_map s c.args.stimulus.now Taken c.turned_away.result.fate Done c.turned_away.result.outs
+    c.turned_away.ensures.fate (c.turned_away.ensures.outs, made))
+
+pub returns-in-Event-clause-refused : goal.returns-in-Event-clause-refused
+returns-in-Event-clause-refused g c = λ s base honest sound made e. c.happen.ensures.refused s base honest sound made e
+
+pub returns-in-Nothing-clause-refused : goal.returns-in-Nothing-clause-refused
+returns-in-Nothing-clause-refused g c = λ s base honest sound made e. was_done _ _ c.unmade.ensures.fate e
+
+pub returns-in-Taken-clause-refused : goal.returns-in-Taken-clause-refused
+returns-in-Taken-clause-refused g c = λ s base honest sound made e. was_done _ _ c.turned_away.ensures.fate e
