@@ -1,6 +1,10 @@
 -- A service in a group, one step further.
-use Rattle.std.proofs.Common.{◌≡◌, ◌⊎◌, inl, inr, refl, subst, ◌∙◌}
-use Rattle.sms_centre_spec.specs.Draft.{no_changes}
+use Rattle.std.proofs.Common.{◌≡◌, ◌⊎◌, ⊎_elim, inl, inr, ap, refl, subst, sym, ◌∙◌}
+use Rattle.sms_rows.specs.keep.KeepState.{KeepState}
+use Rattle.sms_centre.specs.state.CentreState.{Represents}
+use Rattle.sms_centre_group.proofs.Joining.{settled}
+use Rattle.sms_centre_spec.specs.Draft.{Core, no_changes}
+use Rattle.sms_centre_spec.specs.declared.rows.Rows.{Rows}
 use Rattle.sms_centre_spec.specs.declared.jobs.job.Job.{Job}
 use Rattle.sms_centre_spec.specs.declared.rows.Changes.{Changes}
 use Rattle.sms_keeper.specs.Fates.{MatchFate}
@@ -10,6 +14,10 @@ use Rattle.sms_keeper.specs.declared.machine.Stimulus.{Stimulus}
 use Rattle.smsc_service.specs.Asking.{UnlessEvent}
 use Rattle.smsc_service.specs.declared.asking.SeatRequest.{SeatRequest}
 use Rattle.smsc_service.specs.declared.asking.SeatRequest.TheVariants.{Event, Nothing, Taken}
+use Rattle.smsc_service.specs.declared.service.Service.{Service}
+use Rattle.smsc_service.specs.InSeated.{held_by}
+use Rattle.smsc_service.specs.InService.{IsAwaitedBy, IsServedBy, store_in}
+use Rattle.smsc_service.specs.Seats.{Seats, seats_in}
 use Rattle.smsc_service.specs.Serving.{Serving, after_for, restarted}
 
 -- what starts again has the rows from before the group
@@ -64,3 +72,25 @@ by_fate Refused h f g = g refl h
 pub again_of : (held : Changes) (s r : Serving) → (held ≡ no_changes → ⊥) → IsAgain held s r → r ≡ restarted r.core.rows r.seats
 again_of held s r some (inl first) = absurd (some first.0)
 again_of held s r some (inr again) = again
+
+module _ {K : Type 0} (state : K → KeepState Rows) where
+  -- a service between two groups
+  pub stands_on : (service : Service K) (s : Serving) → held_by service.seated ≡ no_changes → (state (store_in service)).holds s.core.rows → Represents s.core service.seated.machine.centre
+      → seats_in service.seated.seat_map ≡ s.seats → seats_in service.resumed ≡ s.seats → IsServedBy state service s
+  stands_on service s none holds centre seats resumed = record {
+    made = record { rows = (holds, settled (held_by service.seated) s.core.rows none); centre = centre; seats = seats };
+    sound = centre.centre.sound.rows;
+    seats = resumed;
+    again = inl (none, refl);
+  }
+
+  -- a service that starts again with the rows of its store
+  pub stands_again : (service now : Service K) (r : Serving) → IsAwaitedBy state service r → held_by now.seated ≡ no_changes
+      → ((state (store_in service)).holds r.core.rows
+      → (state (store_in now)).holds r.core.rows × Represents (restarted r.core.rows (seats_in service.resumed)).core now.seated.machine.centre)
+      → ((state (store_in service)).is_closed → ⊥) → seats_in now.seated.seat_map ≡ seats_in service.resumed → seats_in now.resumed ≡ seats_in service.resumed → IsServedBy state now r
+  stands_again service now r waiting none there not_closed seats resumed =
+      let got = there (⊎_elim (λ (h : (state (store_in service)).holds r.core.rows). h) (λ (h : (state (store_in service)).is_closed). let no : ⊥ = not_closed h in absurd no) waiting.rows) in
+      stands_on now r none got.0
+      (subst (λ (c : Core). Represents c now.seated.machine.centre) (ap (λ (q : Seats). (restarted r.core.rows q).core) waiting.seats ∙ sym (ap (λ (x : Serving). x.core) waiting.again)) got.1)
+      (seats ∙ waiting.seats) (resumed ∙ waiting.seats)

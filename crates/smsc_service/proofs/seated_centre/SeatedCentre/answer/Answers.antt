@@ -7,3 +7,6 @@ returns-clause-gives g c = λ s base honest sound made.
     let seated = c.serve-made.new.self in
     is_step (Reaches g.K.RowStore.state base seated) (IsLeft g.K.RowStore.state base seated) seated.machine.centre seated.seat_map s c.args.stimulus.now
     c.args.asked.now c.serve-made.result.fate c.answered.result.fate c.serve-made.result.outs c.answered.result.outs c.answered.ensures.fate (c.serve-made.ensures.gives s base honest sound made) c.answered.ensures.outs
+
+pub returns-clause-late : goal.returns-clause-late
+returns-clause-late g c = λ e. c.serve-made.ensures.late e

@@ -1,4 +1,4 @@
-use Rattle.std.proofs.Common.{subst, sym}
+use Rattle.std.proofs.Common.{refl, subst, sym}
 use Rattle.sms_keeper.specs.declared.machine.Fate.TheVariants.{Done}
 use Rattle.smsc_service.specs.declared.asking.SeatRequest.{SeatRequest}
 use Rattle.smsc_service.specs.declared.asking.SeatRequest.TheVariants.{Nothing, Taken}
@@ -9,9 +9,9 @@ use Rattle.smsc_service.proofs.seated_centre.SeatedCentre.serve.Goals as goal
 
 pub returns-in-Event-clause-gives : goal.returns-in-Event-clause-gives
 returns-in-Event-clause-gives g c = λ s base honest sound made.
-    let seated = c.happen.new.self in
-    subst (λ (a : SeatRequest). Serves (Reaches g.K.RowStore.state base seated) (IsLeft g.K.RowStore.state base seated) seated.machine.centre seated.seat_map a s c.args.stimulus.now c.happen.result.fate c.happen.result.outs)
-    (sym c.in-Event.is) (c.happen.ensures.gives s base honest sound made)
+    let seated = c.begin.new.self in
+    subst (λ (a : SeatRequest). Serves (Reaches g.K.RowStore.state base seated) (IsLeft g.K.RowStore.state base seated) seated.machine.centre seated.seat_map a s c.args.stimulus.now c.begin.result.fate c.begin.result.outs)
+    (sym c.in-Event.is) (c.begin.ensures.gives s base honest sound made)
 
 pub returns-in-Nothing-clause-gives : goal.returns-in-Nothing-clause-gives
 returns-in-Nothing-clause-gives g c = λ s base honest sound made.
@@ -30,10 +30,19 @@ returns-in-Taken-clause-gives g c = λ s base honest sound made.
     c.turned_away.ensures.fate (c.turned_away.ensures.outs, made))
 
 pub returns-in-Event-clause-refused : goal.returns-in-Event-clause-refused
-returns-in-Event-clause-refused g c = λ s base honest sound made e. c.happen.ensures.refused s base honest sound made e
+returns-in-Event-clause-refused g c = λ s base honest sound made e. c.begin.ensures.refused s base honest sound made e
 
 pub returns-in-Nothing-clause-refused : goal.returns-in-Nothing-clause-refused
 returns-in-Nothing-clause-refused g c = λ s base honest sound made e. was_done _ _ c.unmade.ensures.fate e
 
 pub returns-in-Taken-clause-refused : goal.returns-in-Taken-clause-refused
 returns-in-Taken-clause-refused g c = λ s base honest sound made e. was_done _ _ c.turned_away.ensures.fate e
+
+pub returns-in-Event-clause-late : goal.returns-in-Event-clause-late
+returns-in-Event-clause-late g c = λ e. (c.begin.ensures.late e).1
+
+pub returns-in-Nothing-clause-late : goal.returns-in-Nothing-clause-late
+returns-in-Nothing-clause-late g c = λ e. refl
+
+pub returns-in-Taken-clause-late : goal.returns-in-Taken-clause-late
+returns-in-Taken-clause-late g c = λ e. refl
