@@ -11,7 +11,6 @@ use crate::cutoff::Cutoff;
 use crate::link_board::LinkBoard;
 use crate::service::Service;
 use crate::start_error::StartError;
-use sms_base::lending::lend;
 use sms_centre_spec::bodies::CentreStore;
 use std::alloc::Global;
 use std::sync::Arc;
@@ -32,26 +31,39 @@ fn share_of_board(board: Option<&Arc<LinkBoard>>) -> Result<Option<Arc<LinkBoard
     }
 }
 
-/// Starts a service with the rows of a keep, with nobody at any seat, lends it to the work, and gives what the work gives. Who calls
-/// this owns no service. Where there is a board, the service puts on it how links are. Behind the cutoff it begins nothing.
+// Lends the service to the work, and gives what the work gives, and the keep that the service has then.
+fn lend_service<K: CentreStore + Drop, R, W: FnOnce(&mut Service<K>) -> R>(
+    service: Service<K>,
+    work: W,
+) -> (R, K)
+    requires { W.IsAlwaysCallable work }
+    ensures { (left : _) × FnOnceReturnsAtMut W.FnOnce work service result.0 left × (result.1 ≡ store_in left) }
+{
+    let mut service = service;
+    let given = work(&mut service);
+    (given, service.into_keep())
+}
+
+/// Starts a service with the rows of a keep, with nobody at any seat, and lends it to the work. Gives what the work gives, and the keep back.
+/// Who calls this owns no service. Where there is a board, the service puts on it how links are. Behind the cutoff it begins nothing.
 ///
 /// # Errors
-/// As `Service::start`. The work is not done then.
+/// As `Service::start`. The work is not done then, and the keep is dropped.
 pub fn serve_with<K: CentreStore + Drop, R, W: FnOnce(&mut Service<K>) -> R>(
     alloc: Global,
     keep: K,
     board: Option<&Arc<LinkBoard>>,
     cutoff: &Arc<Cutoff>,
     work: W,
-) -> Result<R, StartError>
+) -> Result<(R, K), StartError>
     requires { W.IsAlwaysCallable work }
-    // What is given is what the work gives of a service on the rows of the keep.
+    // What is given is what the work gives of a service on the rows of the keep, and the keep as the work left it.
     ensures given { IfOk result (λ given. (lent : _) × (left : _)
         × ((rows : RowsOf) → IfHeld rows (K.state keep) (K.state (store_in lent)) (IsServedBy K.state lent (restarted rows nobody)))
-        × WasHonest (K.state keep) (K.state (store_in lent)) × FnOnceReturnsAtMut W.FnOnce work lent given left) }
+        × WasHonest (K.state keep) (K.state (store_in lent)) × FnOnceReturnsAtMut W.FnOnce work lent given.0 left × (given.1 ≡ store_in left)) }
 {
     let board = share_of_board(board)?;
     let cutoff = share_of(cutoff)?;
     let service = Service::start(alloc, keep, board, cutoff)?;
-    Ok(lend(service, work))
+    Ok(lend_service(service, work))
 }

@@ -12,7 +12,7 @@
 //! its replies. Its steps are one history of the centre's definition (`specs/Serving.antt`). Behind its `Cutoff` it begins
 //! no event: each fails as for want of memory. `SeatMap` keeps which
 //! handset's link and which session is at which seat, so that frames and receipts find their seats. `serve_with` owns a
-//! service and lends it, so that no crate above proves how a centre is dropped.
+//! service, lends it and gives the keep back, so that no crate above proves how a centre is dropped.
 //!
 //! - `asking`: what a job asks of the centre
 //! - `causes`: by which causes handsets refused what was delivered

@@ -49,6 +49,15 @@ impl<K: CentreStore + Drop> CentreMachine<K> {
         CentreMachine { keep, centre }
     }
 
+    /// Drops the centre, and gives the store of its rows. What the group changed is let go.
+    pub(crate) fn into_keep(self) -> K
+        ensures { result ≡ store_of (keep_in self) }
+    {
+        let CentreMachine { keep, centre } = self;
+        drop(centre);
+        keep.into_store()
+    }
+
     /// What the event leads to. Nothing has changed yet, but that bodies were read. A handset that the event names has a number.
     pub fn plan(&mut self, event: &CentreEvent<'_>) -> Result<Plan, StepError>
         requires { HasNumber event.now }

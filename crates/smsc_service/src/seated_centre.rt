@@ -2,6 +2,7 @@
 ghost use Rattle.std.specs.Prelude.{◌≡◌, ⊤, true};
 ghost use Rattle.sms_centre.specs.plans.EventOutcome.{IsOutcome};
 ghost use Rattle.sms_centre.specs.Planning.{Fits};
+ghost use Rattle.sms_centre_group.specs.Grouping.{store_of};
 ghost use Rattle.sms_centre_spec.specs.CentreEvent.{happened};
 ghost use Rattle.sms_centre_spec.specs.SoundCore.{HasNumber, IsEvent};
 ghost use Rattle.sms_centre_spec.specs.declared.event.CentreEvent.{CentreEvent as CentreEventOf};
@@ -47,6 +48,17 @@ fn give_up(error: StepError, stimulus: &Stimulus<Job>) -> Made
 }
 
 impl<K: CentreStore + Drop> SeatedCentre<K> {
+    /// Drops the centre and who sits where, and gives the store of the rows.
+    pub(crate) fn into_keep(self) -> K
+        ensures { result ≡ store_of self.machine.keep }
+    {
+        let SeatedCentre {
+            machine, seat_map, ..
+        } = self;
+        drop(seat_map);
+        machine.into_keep()
+    }
+
     // The plan is adopted and its changes are held. The outs may leave once the group is committed.
     fn hold(&mut self, stimulus: &Stimulus<Job>, planned: Plan, outs: Vec<Out<Reply>>) -> Made
         requires { Fits self.old.machine.centre planned }

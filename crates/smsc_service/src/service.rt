@@ -111,6 +111,23 @@ impl<K: CentreStore + Drop> Service<K> {
         Ok(Service::of(alloc, group, centre, seat_map, resumed, board, cutoff))
     }
 
+    /// Ends the service, and gives the keep of its rows.
+    pub(crate) fn into_keep(self) -> K
+        ensures { result ≡ store_in self }
+    {
+        let Service {
+            seated,
+            resumed,
+            board,
+            cutoff,
+            ..
+        } = self;
+        drop(resumed);
+        drop(board);
+        drop(cutoff);
+        seated.into_keep()
+    }
+
     // Puts down how the links are, where a step of the group asked for it and anybody looks.
     fn publish(&self) {
         if !self.shows {

@@ -292,6 +292,43 @@ fn look_again(rt: &HostRuntime, found: &FoundStore) -> Result<(), RunFault> {
     }
 }
 
+// Why the run, which has ended in order, could not leave its store whole.
+fn not_left(fault: RunFault) -> RunFault {
+    match fault {
+        RunFault::Store(fault) => RunFault::NotLeft(fault),
+        fault => fault,
+    }
+}
+
+// The connection that the run had writes what its log holds into FILE, and cuts the log to its head. Then FILE's mark says that no run
+// has it open.
+fn left_whole(
+    rt: &HostRuntime,
+    path: &str,
+    keep: CentreKeep<FileStore<File>>,
+) -> Result<(), RunFault> {
+    let mut files = close_keep(rt, path, keep)?;
+    let ended = closed(&mut files);
+    drop(files);
+    ended.map_err(run_fault)
+}
+
+// Leaves the store by the keep that the run had: nobody else has had the files open meanwhile.
+fn leave_whole(
+    rt: &HostRuntime,
+    found: &FoundStore,
+    keep: CentreKeep<FileStore<File>>,
+) -> Result<(), RunFault> {
+    match look_again(rt, found) {
+        Ok(()) => left_whole(rt, found.paths.file.as_str(), keep).map_err(not_left),
+        Err(fault) => {
+            drop(keep);
+            Err(fault)
+        }
+    }
+}
+
+// Leaves the store of a run whose keep is gone: the files are opened again.
 fn leave(rt: &HostRuntime, found: &FoundStore) -> Result<(), RunFault> {
     let seed = seed_of(rt)?;
     let files = open_files(rt, found.paths.file.as_str())?;
@@ -313,14 +350,14 @@ fn is_of_store(fault: &RunFault) -> bool {
 }
 
 /// Leaves the store of a run that ended so: what its log holds is written into FILE, which is the whole store then, and FILE's mark says
-/// that no run has it open. After a fault of the store both files stay as they are.
+/// that no run has it open. After an end in order the keep of the run does that. After a fault of the store both files stay as they are.
 pub fn leave_after(
     rt: &HostRuntime,
     found: &FoundStore,
-    ended: Result<(), RunFault>,
+    ended: Result<CentreKeep<FileStore<File>>, RunFault>,
 ) -> Result<(), RunFault> {
     match ended {
-        Ok(()) => leave(rt, found),
+        Ok(keep) => leave_whole(rt, found, keep),
         Err(fault) => {
             if !is_of_store(&fault) {
                 let _ = leave(rt, found);

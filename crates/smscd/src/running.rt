@@ -362,7 +362,7 @@ fn serve_found<R: Threads + Wait + Clock + Copy + Send + Sync + 'static, K: Cent
     keep: K,
     found: &FoundStore,
     start: Moment,
-) -> Result<(), RunFault> {
+) -> Result<K, RunFault> {
     say_open_modes(&host, &*parts.log, &found.paths)?;
     say_open_files(&host, &*parts.log, run)?;
     let guard = guard_of(host, found, &parts.orders)?;
@@ -456,19 +456,25 @@ fn observed<'a, K: CentreStore, R: Wait>(
 }
 
 // How the run ended, once the threads beside it have.
-fn end_run<R: Threads + Wait + Copy>(
+fn end_run<R: Threads + Wait + Copy, K: Drop>(
     rt: &R,
     helpers: Helpers,
     watchers: &Watchers<R>,
-    ended: Result<(), ServeFault>,
-) -> Result<(), RunFault> {
+    ended: Result<K, ServeFault>,
+) -> Result<K, RunFault> {
     helpers.end(rt);
     watchers.log.put("info", "event=ended_run");
     if let Some(fault) = watchers.guard.fault() {
+        drop(ended);
         return Err(fault);
     }
-    ended?;
-    Ok(())
+    Ok(ended?)
+}
+
+// The keep itself, once nobody observes it any more.
+fn unobserved<K, T>(observed: ObservedKeep<'_, K, T>) -> K {
+    let ObservedKeep { keep, observer: _ } = observed;
+    keep
 }
 
 // What follows from here on is the same over any keep, and then over any machine, so that its proof need not look into the store or the
@@ -480,10 +486,11 @@ fn serve_open<R: Threads + Wait + Clock + Copy + Send + Sync + 'static, K: Centr
     keep: K,
     ports: Ports<TcpListener>,
     clock: &RunClock<R>,
-) -> Result<(), ServeFault> {
+) -> Result<K, ServeFault> {
     let keep = observed(keep, given);
-    drop(serve(rt, alloc, keep, &OpenGate, clock, ports, given)?);
-    Ok(())
+    let (doors, keep) = serve(rt, alloc, keep, &OpenGate, clock, ports, given)?;
+    drop(doors);
+    Ok(unobserved(keep))
 }
 
 fn serve_ports<R: Threads + Wait + Clock + Copy + Send + Sync + 'static, K: CentreStore + Drop>(
@@ -496,7 +503,7 @@ fn serve_ports<R: Threads + Wait + Clock + Copy + Send + Sync + 'static, K: Cent
     ports: Ports<TcpListener>,
     summary: &Summary,
     clock: &RunClock<R>,
-) -> Result<(), RunFault> {
+) -> Result<K, RunFault> {
     let mut helpers = Helpers::new(host.alloc())?;
     helpers.start_all(host, rt, run, given, part, summary, clock.start)?;
     let ended = serve_open(rt, host.alloc(), given, keep, ports, clock);
@@ -512,7 +519,7 @@ fn serve_keep<R: Threads + Wait + Clock + Copy + Send + Sync + 'static, K: Centr
     keep: K,
     found: &FoundStore,
     start: Moment,
-) -> Result<(), RunFault> {
+) -> Result<K, RunFault> {
     let mut keep = keep;
     let summary = look_at(host.alloc(), &*given.observer, &mut keep, found, start)?;
     let clock = clock_of(rt, summary.newest, run.is_ahead)?;

@@ -22,15 +22,14 @@ module _ {L S : Type 0} (remaining contents : S → Option (List ℕ)) (admitted
       → WasHonest (state keep) (state (store_in lent))
       → IsOneHistory remaining contents admitted reads came doors doors_then gives after (HasHonestStore state left) (IsServedBy state lent) (IsServedBy state left)
       → WasHonest (state (store_in lent)) (state (store_in left))
-      → IsServed remaining contents admitted reads came doors doors_then state keep
+      → IsServed remaining contents admitted reads came doors doors_then state keep (store_in left)
   served state keep lent left doors_then begins so history before = (
-    left,
     (λ is. so (before is)),
     history.0,
     history.1,
     history.2,
     history.3,
-    λ rows is held. let led = history.4 is (restarted rows nobody) (begins rows (before is) held) in (led.0, led.1),
+    λ rows is held. let led = history.4 is (restarted rows nobody) (begins rows (before is) held) in (led.0, (led.1.0, led.1.1.made.rows.0)),
   )
 
   -- So of a run that ended in order: the work is done on the service that is lent, and leaves the service in which the rows end.
@@ -40,10 +39,26 @@ module _ {L S : Type 0} (remaining contents : S → Option (List ℕ)) (admitted
       → shown ≡ lent
       → IfOk ended (λ doors_then. IsOneHistory remaining contents admitted reads came doors doors_then gives after (HasHonestStore state left) (IsServedBy state shown) (IsServedBy state left))
       → WasHonest (state (store_in shown)) (state (store_in left))
-      → IfOk ended (λ doors_then. IsServed remaining contents admitted reads came doors doors_then state keep)
+      → IfOk ended (λ doors_then. IsServed remaining contents admitted reads came doors doors_then state keep (store_in left))
   served_if {K} state keep lent shown left (Ok doors_then) begins so shows history before =
       let begun : HasHonestStore state shown → HasHonestStore state lent = subst (λ (s : Service K). HasHonestStore state s) shows in
       served state keep shown left doors_then
       (λ rows is held. subst (λ (s : Service K). IsServedBy state s (restarted rows nobody)) (sym shows) (begins rows (begun is) held))
       (λ is. so (begun is)) history before
   served_if state keep lent shown left (Err fault) begins so shows history before = tt
+
+  -- So with the keep that is given back.
+  pub served_by : {K F : Type 0} (state : K → KeepState Rows) (keep kept : K) (lent shown left : Service K) (ended : Result (Doors L) F) (given : Result (Doors L × K) F)
+      → ((rows : Rows) → IfHeld rows (state keep) (state (store_in lent)) (IsServedBy state lent (restarted rows nobody)))
+      → WasHonest (state keep) (state (store_in lent))
+      → shown ≡ lent
+      → IfOk ended (λ doors_then. IsOneHistory remaining contents admitted reads came doors doors_then gives after (HasHonestStore state left) (IsServedBy state shown) (IsServedBy state left))
+      → WasHonest (state (store_in shown)) (state (store_in left))
+      → kept ≡ store_in left
+      → IfOk given (λ r. (ended ≡ Ok r.0) × (r.1 ≡ kept))
+      → IfOk given (λ r. IsServed remaining contents admitted reads came doors r.0 state keep r.1)
+  served_by {K} {F} state keep kept lent shown left ended (Ok r) begins so shows history before keeps gives =
+      subst (λ (k : K). IsServed remaining contents admitted reads came doors r.0 state keep k) (sym (gives.1 ∙ keeps))
+      (subst (λ (e : Result (Doors L) F). IfOk e (λ doors_then. IsServed remaining contents admitted reads came doors doors_then state keep (store_in left))) gives.0
+      (served_if state keep lent shown left ended begins so shows history before))
+  served_by state keep kept lent shown left ended (Err fault) begins so shows history before keeps gives = tt

@@ -13,8 +13,6 @@ use Rattle.sms_keeper.specs.declared.machine.Item.{Item}
 use Rattle.sms_keeper.specs.declared.machine.Stimulus.{Stimulus}
 use Rattle.sms_keeper.specs.declared.outs.Out.{Out}
 use Rattle.sms_keeper.specs.History.{IsHistory, IsRising, Leads, answers_in, jobs_of}
-use Rattle.smsc_service.specs.declared.service.Service.{Service}
-use Rattle.smsc_service.specs.InService.{IsServedBy, store_in}
 use Rattle.smsc_service.specs.Seats.{nobody}
 use Rattle.smsc_service.specs.Serving.{Serving, after, gives, restarted}
 use Rattle.smsc_arrivals.specs.Sharing.{of}
@@ -44,13 +42,13 @@ module _ {S : Type 0} (remaining contents : S → Option (List ℕ)) (admitted :
         × (honest → Leads gives after before items behind)
 
     -- What connections asked was run. As long as the store is honest it is one history of the centre's definition on its rows, from nobody at
-    -- any seat on, and leads to what the service represents at its end.
-    abbrev pub IsServed : {K : Type 0} → (K → KeepState Rows) → K → Type 0
-    IsServed {K} state keep =
-        (last : Service K) × WasHonest (state keep) (state (store_in last)) × (arrivals : List (ℕ × Arrival S)) × (items : List (Item Job Reply))
+    -- any seat on, and the keep that is given back holds the rows of its end.
+    abbrev pub IsServed : {K : Type 0} → (K → KeepState Rows) → K → K → Type 0
+    IsServed state keep kept =
+        WasHonest (state keep) (state kept) × (arrivals : List (ℕ × Arrival S)) × (items : List (Item Job Reply))
         × Came came doors doors_then arrivals × WereRun arrivals items
-        × ((rows : Rows) → IfHeld rows (state keep) (state (store_in last))
-        ((end : Serving) × (IsHistory gives after (restarted rows nobody) items end × IsServedBy state last end)))
+        × ((rows : Rows) → IfHeld rows (state keep) (state kept)
+        ((end : Serving) × (IsHistory gives after (restarted rows nobody) items end × (state kept).holds end.core.rows)))
 
 -- why there was no answer
 abbrev pub fault_of : HubFault → ServeFault

@@ -36,10 +36,10 @@ use std::time::Clock;
 // Milliseconds after which the centre begins nothing more once a seat saw an order to stop. It sees one within a second. So much is left of
 // the seven seconds that an endpoint waits for its answers: the commit that is under way ends, each request that waits is refused, and all
 // of them are answered.
-const INTAKE_LIMIT: u64 = 5_000;
+const INTAKE_LIMIT: u64 = 4_000;
 
-// And after which no seat waits for anything any more.
-const STOP_LIMIT: u64 = 8_000;
+// And after which no seat waits for anything any more. What is left of ten seconds is for the threads to end, and for the store.
+const STOP_LIMIT: u64 = 7_000;
 
 /// What the thread of a seat has beside its seat.
 #[derive(Drop)]

@@ -40,11 +40,14 @@ fn open<N: Net<Listener = TcpListener, Stream = TcpStream>>(
     Ok((ports, loopback))
 }
 
-// The listeners are not needed any more.
-fn drop_doors<L: Drop>(served: Result<Doors<L>, ServeFault>) -> Result<(), ServeFault> {
+// Neither the listeners nor the keep is needed any more.
+fn drop_given<L: Drop, K: Drop>(
+    served: Result<(Doors<L>, K), ServeFault>,
+) -> Result<(), ServeFault> {
     match served {
-        Ok(doors) => {
+        Ok((doors, keep)) => {
             drop(doors);
+            drop(keep);
             Ok(())
         }
         Err(fault) => Err(fault),
@@ -86,7 +89,7 @@ pub fn loopback_pair<
         &rt,
         move ||
             requires observer { IsSend T.row }
-        { drop_doors(serve(rt, alloc, keep, gate, clock, ports, given)) },
+        { drop_given(serve(rt, alloc, keep, gate, clock, ports, given)) },
         move || work(loopback),
     );
     Ok(both)

@@ -1,6 +1,6 @@
 //! A run of the server.
 ghost use Rattle.std.specs.Thread.{IsSend};
-ghost use Rattle.std.specs.Prelude.{◌≡◌, ◌<◌, ⊤, ℕ, List, [], IfOk, Option, Some, length, slice_get};
+ghost use Rattle.std.specs.Prelude.{◌≡◌, ◌<◌, ⊤, ℕ, List, [], IfOk, Ok, Option, Some, length, slice_get};
 ghost use Rattle.std.specs.Arc.{arc_value};
 ghost use Rattle.sms_hub.specs.Lasting.{Ran};
 ghost use Rattle.sms_centre_spec.specs.declared.jobs.job.Job.{Job as JobOf};
@@ -248,8 +248,25 @@ where
     }
 }
 
+// What a run that ended in order gives: the listeners, and the keep.
+fn with_keep<L: Drop, K: Drop>(
+    ended: Result<Doors<L>, ServeFault>,
+    keep: K,
+) -> Result<(Doors<L>, K), ServeFault>
+    ensures { IfOk result (λ given. (ended ≡ Ok given.0) × (given.1 ≡ keep)) }
+{
+    match ended {
+        Ok(doors) => Ok((doors, keep)),
+        Err(fault) => {
+            drop(keep);
+            Err(fault)
+        }
+    }
+}
+
 /// Starts a centre with the rows of a keep, and serves the connections of two ports. It ends once as many were served as are given,
-/// or the run is ordered to end. At most 32 are open at once. Those beyond wait unaccepted, and each is accepted as a seat becomes free.
+/// or the run is ordered to end. Then it gives the listeners back, and the keep. At most 32 connections are open at once. Those beyond
+/// wait unaccepted, and each is accepted as a seat becomes free.
 ///
 /// # Errors
 /// The store gave no rows, or they are not sound. A growth, a thread or a file was refused. Or the store refused a step and could not
@@ -269,13 +286,13 @@ pub fn serve<
     clock: &C,
     ports: Ports<L>,
     given: &Given<T>,
-) -> Result<Doors<L>, ServeFault>
+) -> Result<(Doors<L>, K), ServeFault>
 where
     L::Stream: OpenStream + Read + Write + Send + 'static,
     // What its connections asked was run, and is one history of the centre's definition. It begins with the rows of the keep and nobody
-    // at any seat. The connections are those that came at the ports.
-    ensures served { IfOk result (λ doors. IsServed L.Stream.remaining L.Stream.contents
-        (admits (arc_value given.now.accounts) (arc_value given.now.access)) (C.reads clock.now) L.came (doors_of ports) doors K.state keep) }
+    // at any seat. The connections are those that came at the ports. The keep that is given back holds the rows of its end.
+    ensures served { IfOk result (λ ended. IsServed L.Stream.remaining L.Stream.contents
+        (admits (arc_value given.now.accounts) (arc_value given.now.access)) (C.reads clock.now) L.came (doors_of ports) ended.0 K.state keep ended.1) }
 {
     let served = serve_with(
         alloc,
@@ -293,7 +310,7 @@ where
         { serve_machine(rt, alloc, service, gate, clock, ports, given) },
     );
     match served {
-        Ok(ended) => ended,
+        Ok((ended, keep)) => with_keep(ended, keep),
         Err(error) => Err(ServeFault::from(error)),
     }
 }
