@@ -53,7 +53,9 @@ impl<K: CentreStore + Drop> SeatedCentre<K> {
         ensures { result ≡ store_of self.machine.keep }
     {
         let SeatedCentre {
-            machine, seat_map, ..
+            machine,
+            seat_map,
+            ..
         } = self;
         drop(seat_map);
         machine.into_keep()
