@@ -1,8 +1,10 @@
 -- Tables of seats have room for one row more.
-use Rattle.std.proofs.Common.{◌≡◌, ◌<◌, ◌≤◌, ◌+◌, ℕ, suc, Bool, true, false, List, [], ◌∷◌, ◌++◌, length, refl, sym, ap, subst, ◌∙◌, ⊎_elim, arith}
+use Rattle.std.proofs.Common.{◌≡◌, ◌<◌, ◌≤◌, ◌+◌, ℕ, suc, Bool, true, false, List, [], ◌∷◌, ◌++◌, length, take, drop, get_or, refl, sym, ap, subst, ◌∙◌, ⊎_elim, arith}
 use Rattle.std.specs.List.{AllByRecursion}
 use Rattle.std.specs.Prelude.{nat_lt, if◌then◌else◌}
 use Rattle.std.proofs.lemmas.Bool.{cases_eq}
+use Rattle.std.proofs.lemmas.List.{take-append-drop, take_more}
+use Rattle.std.proofs.Math.Seq.{drop-cons}
 use Rattle.sms_rows.specs.table.Table.{AllAbove, Rises, insert, put, without}
 use Rattle.sms_rows.proofs.table.Tables.{insert_behind, without_behind, without_here}
 use Rattle.smsc_service.specs.Room.{AreSeats}
@@ -85,3 +87,11 @@ module _ {A : Type 0} (key : A → ℕ) where
   -- a row with a greater key than all others is put behind them
   pub put_last : (x : A) (xs ys : List A) → Rises key (xs ++ x ∷ ys) → put key x xs ≡ xs ++ x ∷ []
   put_last x xs ys rises = let below = all_below x xs ys rises in ap (λ (l : List A). insert key x l) (without_last x xs below) ∙ insert_last x xs below
+
+  -- of rows in order one more is put
+  pub one_put : (rows : List A) (i : ℕ) (x : A) → i < length rows → x ≡ get_or rows i x → Rises key rows → put key x (take i rows) ≡ take (i + 1) rows
+  one_put rows i x low is rises =
+      let here : x ∷ drop (suc i) rows ≡ drop i rows = ap (λ (y : A). y ∷ drop (suc i) rows) is ∙ sym (drop-cons rows i x low) in
+      let whole : take i rows ++ x ∷ drop (suc i) rows ≡ rows = ap (λ (l : List A). take i rows ++ l) here ∙ take-append-drop i rows in
+      put_last x (take i rows) (drop (suc i) rows) (subst (λ (l : List A). Rises key l) (sym whole) rises)
+      ∙ ap (λ (y : A). take i rows ++ y ∷ []) is ∙ sym (take_more rows i x low)
