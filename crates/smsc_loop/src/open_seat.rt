@@ -15,7 +15,7 @@ use std::time::Duration;
 
 // So many requests of a seat lie in the keeper's queue at most: a session with one request waits for one of each other session, however
 // many these have. With one alone the keeper waits for a session that asks by itself, from each answer to the next request.
-const MOST_IN_QUEUE: usize = 1;
+const MOST_IN_QUEUE: usize = 4;
 
 /// A seat of the hub whose end mark was not put. It counts the answers that it has still to get, and takes its turn: it puts no request
 /// while one of its own is in the keeper's queue.
