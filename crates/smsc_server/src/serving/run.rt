@@ -1,6 +1,6 @@
 //! A run of the server.
 ghost use Rattle.std.specs.Thread.{IsSend};
-ghost use Rattle.std.specs.Prelude.{◌≡◌, ◌<◌, ⊤, ℕ, List, [], IfOk, Ok, Option, Some, length, slice_get};
+ghost use Rattle.std.specs.Prelude.{◌≡◌, ◌<◌, ⊤, ℕ, List, [], Err, IfErr, IfOk, Ok, Option, Some, length, slice_get};
 ghost use Rattle.std.specs.Arc.{arc_value};
 ghost use Rattle.sms_hub.specs.Lasting.{Ran};
 ghost use Rattle.sms_centre_spec.specs.declared.jobs.job.Job.{Job as JobOf};
@@ -253,7 +253,8 @@ fn with_keep<L: Drop, K: Drop>(
     ended: Result<Doors<L>, ServeFault>,
     keep: K,
 ) -> Result<(Doors<L>, K), ServeFault>
-    ensures { IfOk result (λ given. (ended ≡ Ok given.0) × (given.1 ≡ keep)) }
+    ensures given { IfOk result (λ given. (ended ≡ Ok given.0) × (given.1 ≡ keep)) }
+    ensures fault { IfErr result (λ fault. ended ≡ Err fault) }
 {
     match ended {
         Ok(doors) => Ok((doors, keep)),

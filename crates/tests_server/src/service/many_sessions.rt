@@ -188,25 +188,29 @@ fn serves_many<R: Threads + Wait + Copy + Send + 'static>(
 ) -> Result<(), Fail> {
     let store = keep(alloc)?;
     let cutoff = Arc::new(alloc, Cutoff::new())?;
-    serve_with(
+    let (ran, store) = serve_with(
         alloc,
         store,
         None,
         &cutoff,
         |service| runs_many(rt, alloc, service, count),
-    )?
+    )?;
+    drop(store);
+    ran
 }
 
 fn serves_two<R: Threads + Wait + Copy + Send + 'static>(rt: R, alloc: Global) -> Result<(), Fail> {
     let store = keep(alloc)?;
     let cutoff = Arc::new(alloc, Cutoff::new())?;
-    serve_with(
+    let (ran, store) = serve_with(
         alloc,
         store,
         None,
         &cutoff,
         |service| runs_two(rt, alloc, service),
-    )?
+    )?;
+    drop(store);
+    ran
 }
 
 #[test]

@@ -134,7 +134,9 @@ pub(crate) fn plays(alloc: Global, course: &Course) -> Result<(), Fail> {
     let limits = Limits::none();
     let store = Store::new(keep(alloc)?, &limits);
     let cutoff = Arc::new(alloc, Cutoff::new())?;
-    serve_with(alloc, store, None, &cutoff, |service| {
+    let (went, store) = serve_with(alloc, store, None, &cutoff, |service| {
         go(alloc, service, &limits, &cutoff, course)
-    })?
+    })?;
+    drop(store);
+    went
 }

@@ -9,5 +9,5 @@ returns-in-Ok g c =
     let called = given.4 in
     record {
       served = served_by g.L.Stream.Read.remaining g.L.Stream.Write.contents _ _ g.L.Door.came _ g.K.RowStore.state c.args.keep c.in-Ok.keep given.0 called.shown.now called.left.now
-          c.in-Ok.ended c.with_keep.result given.2 given.3 called.shows called.met.0 called.met.1 (given.5 ∙ ap store_in (sym called.leaves)) c.with_keep.ensures.0;
+          c.in-Ok.ended c.with_keep.result given.2 given.3 called.shows called.met.0 called.met.1 (given.5 ∙ ap store_in (sym called.leaves)) c.with_keep.ensures.given;
     }
