@@ -14,3 +14,4 @@ pub mod WholePlay
 pub mod NotSubmitted
 pub mod NotSentUp
 pub mod PiecesJoined
+pub mod SplitTried

@@ -5,3 +5,4 @@ pub mod Happened
 pub mod Played
 pub mod SentUp
 pub mod Pieces
+pub mod SplitText

@@ -7,6 +7,7 @@ ghost use Rattle.sms_world.specs.wrong_plays.Pieces.{EntryWithoutRowLaw, JoinedU
 ghost use Rattle.sms_world.specs.wrong_plays.Played.{LateAloneLaw, LateFrameLaw, LostPartLaw, LostTextLaw, NoReceiptLaw, NotAnsweredLaw, OnePartMoreLaw, OtherHandsetLaw, OtherLimitLaw, OtherOriginatorLaw, OtherProtocolLaw, OtherSourceLaw, OtherSplitLaw, OtherReportLaw, OtherWishLaw, RightFreshLaw, RightReportLaw, RightTimelyLaw, ShortLaw, StaleAloneLaw};
 ghost use Rattle.sms_world.specs.wrong_plays.SentUp.{AloneLaw, CommonLaw, FrameLaw, HandsetLaw, NextLaw, OwnersLaw, ReferenceLaw, RightLaw, SentByOtherLaw, SentOtherTextLaw, SourceLaw, SubmittedTextLaw, TakersLaw, TextLaw, WishLaw};
 ghost use Rattle.sms_world.specs.wrong_plays.Shown.{AcceptedUnknownLaw, BeginningLaw, EntryUnknownLaw, FrameSaysNothingLaw, FrameUnknownLaw, GivenUnknownLaw, GivenUpUnknownLaw, GivenWithoutRowLaw, HolderWithoutRowLaw, MessageUnknownLaw, MessageWithoutRowLaw, NotApartLaw, OpenReportLaw, PartNotGivenLaw, PartUnknownLaw, ReceiptUnknownLaw, ReceiptUnlistedLaw};
+ghost use Rattle.sms_world.specs.wrong_plays.SplitText.{MixedRoundLaw, NoPlaceLaw, OtherContentLaw, OtherPlanLaw, OtherRowLaw, OtherWordsLaw, RightSplitLaw};
 ghost use Rattle.sms_world.specs.wrong_plays.Told.{AcceptedTwiceLaw, FromNoneLaw, GivenTwiceLaw, HeldTwiceLaw, JoinedOfNoneLaw, LineGoneLaw, LineOfNoneLaw, LinesLaw, NeverAcceptedLaw, NobodysLaw, NotGivenLaw, NotListedLaw, NotThereLaw, OtherEndLaw, OtherStateLaw, OtherTextLaw, PartTwiceLaw, ReceiptGoneLaw, ReceiptOfNoneLaw, RightToldLaw, SentElsewhereLaw, SentOfNoneLaw, SplitOfNoneLaw, SystemErrorLaw, ToRecipientLaw, ToldEarlyLaw, ToldOfNoneLaw, TwoReceiptsLaw};
 
 /// A report with a message that nobody submitted. Such a message comes from no event.
@@ -173,13 +174,14 @@ pub fn other_messages_than_submitted_are_refused()
 {}
 
 /// The message of a SUBMIT in a frame that a handset sent is admitted. One under another number is refused, one of a frame that was not sent, and
-/// one with another reference, source, wish, handset or text than the SUBMIT, or with a part more.
+/// one with another reference, source, numbering plan, wish, handset or text than the SUBMIT, or with a part more.
 pub fn other_messages_than_sent_are_refused()
     ensures right { RightLaw }
     ensures next { NextLaw }
     ensures frame { FrameLaw }
     ensures reference { ReferenceLaw }
     ensures source { SourceLaw }
+    ensures address { OtherPlanLaw }
     ensures wish { WishLaw }
     ensures handset { HandsetLaw }
     ensures alone { AloneLaw }
@@ -213,4 +215,15 @@ pub fn other_handsets_are_not_shown()
     ensures report { ReportUnknownLaw }
     ensures row { ReportWithoutRowLaw }
     ensures still { ReportShutLaw }
+{}
+
+/// A text in two parts is admitted as split so. With another text it is refused, and with a part more that has no place in it. Other words that were
+/// joined of it are refused, and a round with a part of another message. So is a message that counts as delivered, and says another thing than its part.
+pub fn other_splits_are_refused()
+    ensures right { RightSplitLaw }
+    ensures text { OtherContentLaw }
+    ensures placed { NoPlaceLaw }
+    ensures words { OtherWordsLaw }
+    ensures whole { MixedRoundLaw }
+    ensures said { OtherRowLaw }
 {}

@@ -1,7 +1,11 @@
 pub mod AnswersAmongReplies
+pub mod BoundSessions
+pub mod CentresAnswers
+pub mod FramesGo
 pub mod HeardEnds
 pub mod LinkWritten
 pub mod PartsWritten
+pub mod ReceiptsGo
 pub mod RequestsArrive
 pub mod RunEvents
 pub mod RunKept

@@ -61,9 +61,9 @@ all_append c (call ∷ one) other =
 -- ---- what a call adds
 
 -- what is to be written grows by the parts, and the answers by theirs
-record Adds (c d : EsmeProgress) (parts : List Part) : Type 0 where
-  said : d.said ≡ c.said ++ octets_of_parts parts
-  answers : d.answers ≡ c.answers ++ answers_in parts
+pub record Adds (c d : EsmeProgress) (parts : List Part) : Type 0 where
+  pub said : d.said ≡ c.said ++ octets_of_parts parts
+  pub answers : d.answers ≡ c.answers ++ answers_in parts
 
 adds_none : (c d : EsmeProgress) → d.said ≡ c.said → d.answers ≡ c.answers → Adds c d []
 adds_none c d e f = record { said = e ∙ sym (append-nil c.said); answers = f ∙ sym (append-nil c.answers) }
@@ -126,7 +126,7 @@ adds_once HandOut c = adds_put (handed_out c.esme) c
 adds_once HandOutAndBack c = adds_put_back (handed_out c.esme) c
 adds_once Tell c = adds_none c _ refl refl
 
-adds_all : (calls : List EsmeCall) (c : EsmeProgress) → Adds c (called_all c calls) (parts_all c calls)
+pub adds_all : (calls : List EsmeCall) (c : EsmeProgress) → Adds c (called_all c calls) (parts_all c calls)
 adds_all [] c = adds_none c c refl refl
 adds_all (call ∷ calls) c =
     let d = called_once c call in
@@ -287,13 +287,13 @@ sent_last : (call : Call) (calls : List Call) (o : Phase) → Moves call Serves 
 sent_last (Sent octets) calls o m away = absurd (away m.1)
 sent_last call calls o m away = refl
 
-record WasServed (v : EsmeView) (calls : List Call) : Type 0 where
-  one : List Call
-  other : List Call
-  parts : calls ≡ one ++ other
-  last : EsmeView
-  run : Runs EsmeDoes v Serves one last Serves
-  none : octets_sent other ≡ []
+pub record WasServed (v : EsmeView) (calls : List Call) : Type 0 where
+  pub one : List Call
+  pub other : List Call
+  pub parts : calls ≡ one ++ other
+  pub last : EsmeView
+  pub run : Runs EsmeDoes v Serves one last Serves
+  pub none : octets_sent other ≡ []
 
 served_next : (call : Call) (calls : List Call) (v w : EsmeView) (q : Phase) (r : Runs EsmeDoes v Serves (call ∷ calls) w q)
     → ((u : EsmeView) → Runs EsmeDoes u Serves calls w q → WasServed u calls) → (r.1 ≡ Serves) ⊎ (r.1 ≡ Serves → ⊥) → WasServed v (call ∷ calls)
@@ -315,18 +315,18 @@ served_next call calls v w q r rest (inr away) = record {
   none = sent_last call calls r.1 r.3 away ∙ none_sent calls r.0 w r.1 q r.4 away;
 }
 
-was_served : (calls : List Call) (v w : EsmeView) (q : Phase) → Runs EsmeDoes v Serves calls w q → WasServed v calls
+pub was_served : (calls : List Call) (v w : EsmeView) (q : Phase) → Runs EsmeDoes v Serves calls w q → WasServed v calls
 was_served [] v w q r = record { one = []; other = []; parts = refl; last = v; run = (refl, refl); none = refl }
 was_served (call ∷ calls) v w q r = served_next call calls v w q r (λ u s. was_served calls u w q s) (is_serving r.1)
 
-runs_both : (u v w : EsmeView) (n o p : Phase) (one other : List Call) → Runs EsmeDoes u n one v o → Runs EsmeDoes v o other w p → Runs EsmeDoes u n (one ++ other) w p
+pub runs_both : (u v w : EsmeView) (n o p : Phase) (one other : List Call) → Runs EsmeDoes u n one v o → Runs EsmeDoes v o other w p → Runs EsmeDoes u n (one ++ other) w p
 runs_both u v w n o p [] other r k =
     subst (λ (x : EsmeView). Runs EsmeDoes x n other w p) r.0 (subst (λ (y : Phase). Runs EsmeDoes v y other w p) r.1 k)
 runs_both u v w n o p (call ∷ one) other r k = (r.0, r.1, r.2, r.3, runs_both r.0 v w r.1 o p one other r.4 k)
 
 -- ---- what is read
 
-reads : (accounts : List Account) (one : List Call) (last : EsmeView) → IsCourseOf accounts one last → (course_of accounts one).esme.wrong_binds ≢ 0
+pub reads : (accounts : List Account) (one : List Call) (last : EsmeView) → IsCourseOf accounts one last → (course_of accounts one).esme.wrong_binds ≢ 0
     → Reads accounts one (course_of accounts one) (parts_all (started accounts) (calls_of one))
 reads accounts one last course some =
     let d = course_of accounts one in

@@ -122,7 +122,7 @@ sessions_fresh accounts [] sessions h = h
 sessions_fresh accounts (b ∷ sittings) sessions h =
     sessions_fresh accounts sittings (with_session (slice_get accounts b.account) b sessions) (session_fresh (slice_get accounts b.account) b sessions h)
 
-restart_sound : (rows : Rows) (seats : Seats) → IsSound rows → AreShort seats.links → IsSoundCore (restarted rows seats).core
+pub restart_sound : (rows : Rows) (seats : Seats) → IsSound rows → AreShort seats.links → IsSoundCore (restarted rows seats).core
 restart_sound rows seats sound short =
     let apart = handsets_apart seats.links [] short ((λ n there. absurd there), tt) in
     let fresh = sessions_fresh rows.setup.accounts seats.sittings [] (record { rises = tt; new = λ s there. absurd there }) in
@@ -131,11 +131,11 @@ restart_sound rows seats sound short =
 
 -- ---- one item
 
-record IsGood (s : Serving) : Type 0 where
+pub record IsGood (s : Serving) : Type 0 where
   pub core : IsSoundCore s.core
   pub short : AreShort s.seats.links
 
-abbrev Stays : Serving → Serving → Type 0
+abbrev pub Stays : Serving → Serving → Type 0
 Stays s t = IsGood t × Keeps s.core.rows t.core.rows
 
 request_stays : (a : SeatRequest) (fate : Fate) (s : Serving) (stimulus : Stimulus Job) → IsGood s → IsAsked stimulus → IfEvent IsEvent a → Stays s (after_for a fate s stimulus)
@@ -150,19 +150,19 @@ request_stays (Event event) Refused s stimulus good is e =
 request_stays Nothing fate s stimulus good is e = (good, keeps_same s.core.rows)
 request_stays Taken fate s stimulus good is e = (good, keeps_same s.core.rows)
 
-item_stays : (s : Serving) (e : Item Job Reply) → IsGood s → IsAsked e.stimulus → Stays s (after s e.stimulus e.fate)
+pub item_stays : (s : Serving) (e : Item Job Reply) → IsGood s → IsAsked e.stimulus → Stays s (after s e.stimulus e.fate)
 item_stays s e good is = request_stays (asked_by s.seats e.stimulus) e.fate s e.stimulus good is (asked_is s.seats e.stimulus is good.short)
 
 -- ---- a run
 
-run_stays : (items : List (Item Job Reply)) (s t : Serving) → IsGood s → AreAsked items → IsHistory gives after s items t → Stays s t
+pub run_stays : (items : List (Item Job Reply)) (s t : Serving) → IsGood s → AreAsked items → IsHistory gives after s items t → Stays s t
 run_stays [] s t good are h = subst (λ (x : Serving). Stays s x) (sym h) (good, keeps_same s.core.rows)
 run_stays (e ∷ items) s t good are h =
     let first = item_stays s e good are.0 in
     let rest = run_stays items (after s e.stimulus e.fate) t first.0 are.1 h.1 in
     (rest.0, keeps_then s.core.rows (after s e.stimulus e.fate).core.rows t.core.rows first.1 rest.1)
 
-asked_parts : (one other : List (Item Job Reply)) → AreAsked (one ++ other) → AreAsked one × AreAsked other
+pub asked_parts : (one other : List (Item Job Reply)) → AreAsked (one ++ other) → AreAsked one × AreAsked other
 asked_parts [] other h = (tt, h)
 asked_parts (e ∷ one) other h = let p = asked_parts one other h.1 in ((h.0, p.0), p.1)
 
@@ -171,19 +171,19 @@ behind : (one other : List (Item Job Reply)) (s m t : Serving) → IsHistory giv
 behind [] other s m t h k = subst (λ (x : Serving). IsHistory gives after x other t) (sym h) k
 behind (e ∷ one) other s m t h k = behind one other (after s e.stimulus e.fate) m t h.1 k.1
 
-between : (one other : List (Item Job Reply)) (s t : Serving) → IsHistory gives after s (one ++ other) t → (m : Serving) × IsHistory gives after s one m × IsHistory gives after m other t
+pub between : (one other : List (Item Job Reply)) (s t : Serving) → IsHistory gives after s (one ++ other) t → (m : Serving) × IsHistory gives after s one m × IsHistory gives after m other t
 between [] other s t h = (s, refl, h)
 between (e ∷ one) other s t h = let m = between one other (after s e.stimulus e.fate) t h.1 in (m.0, (h.0, m.1), m.2)
 
 -- ---- receipts
 
-among_parts : {A : Type 0} (x : A) (xs ys : List A) → Among x (xs ++ ys) → Among x xs ⊎ Among x ys
+pub among_parts : {A : Type 0} (x : A) (xs ys : List A) → Among x (xs ++ ys) → Among x xs ⊎ Among x ys
 among_parts x [] ys there = inr there
 among_parts x (z ∷ zs) ys (inl e) = inl (inl e)
 among_parts x (z ∷ zs) ys (inr there) = ⊎_elim (λ (h : Among x zs). inl (inr h)) (λ (h : Among x ys). inr h) (among_parts x zs ys there)
 
 module _ (seat : ℕ) (end : Final) where
-  no_answer : (asker : ℕ) (o : Option CentreAnswer) → Among (receipt_for seat end) (answer_out asker o) → ⊥
+  pub no_answer : (asker : ℕ) (o : Option CentreAnswer) → Among (receipt_for seat end) (answer_out asker o) → ⊥
   no_answer asker None there = there
   no_answer asker (Some answer) (inl e) = let k : Receipt end ≡ Answer answer = ap (λ (o : Out Reply). o.out) e in absurd cc
   no_answer asker (Some answer) (inr there) = there
@@ -193,29 +193,29 @@ module _ (seat : ℕ) (end : Final) where
   no_frame (Some at) octets (inl e) = let k : Receipt end ≡ FrameOut octets = ap (λ (o : Out Reply). o.out) e in absurd cc
   no_frame (Some at) octets (inr there) = there
 
-  no_frames : (risen : Option (List ℕ)) (asker : ℕ) (links : List LinkSeat) (frames : List Sent) → Among (receipt_for seat end) (frame_outs risen asker links frames) → ⊥
+  pub no_frames : (risen : Option (List ℕ)) (asker : ℕ) (links : List LinkSeat) (frames : List Sent) → Among (receipt_for seat end) (frame_outs risen asker links frames) → ⊥
   no_frames risen asker links [] there = there
   no_frames risen asker links (f ∷ fs) there =
       let to : Option ℕ = seat_for risen asker links f.handset in
       ⊎_elim (λ h. no_frame to f.frame.octets h) (λ h. no_frames risen asker links fs h)
       (among_parts (receipt_for seat end) (frame_out to f.frame.octets) (frame_outs risen asker links fs) there)
 
-  no_failure : (b : Bool) (asker : ℕ) (status : CommandStatus) → Among (receipt_for seat end) (if b then answer_for asker (RefusedBy status) ∷ [] else []) → ⊥
+  pub no_failure : (b : Bool) (asker : ℕ) (status : CommandStatus) → Among (receipt_for seat end) (if b then answer_for asker (RefusedBy status) ∷ [] else []) → ⊥
   no_failure true asker status (inl e) = let k : Receipt end ≡ Answer (RefusedBy status) = ap (λ (o : Out Reply). o.out) e in absurd cc
   no_failure true asker status (inr there) = there
   no_failure false asker status there = there
 
-  none_failed : (stimulus : Stimulus Job) → Among (receipt_for seat end) (failed_by stimulus) → ⊥
+  pub none_failed : (stimulus : Stimulus Job) → Among (receipt_for seat end) (failed_by stimulus) → ⊥
   none_failed (JobOf asker job) there = no_failure (is_request job) asker ESME_RSYSERR there
   none_failed (Tick now) there = there
 
-  none_taken : (stimulus : Stimulus Job) → Among (receipt_for seat end) (taken_by stimulus) → ⊥
+  pub none_taken : (stimulus : Stimulus Job) → Among (receipt_for seat end) (taken_by stimulus) → ⊥
   none_taken (JobOf asker job) (inl e) = let k : Receipt end ≡ TakenOut = ap (λ (o : Out Reply). o.out) e in absurd cc
   none_taken (JobOf asker job) (inr there) = there
   none_taken (Tick now) there = there
 
   -- a message of these rows ended so
-  abbrev IsOf : List MessageRow → Type 0
+  abbrev pub IsOf : List MessageRow → Type 0
   IsOf messages = (id : ℕ) × (row : MessageRow) × (message_at id messages ≡ Some row) × (row.state ≡ Some end.state) × (end ≡ final_of end.state end.done row)
 
   done_is : (m : MessageRow) (state : FinalState) (done : Option ℕ) → ended m state done ≡ Some end → (state ≡ end.state) × (end ≡ final_of end.state end.done m)
@@ -228,7 +228,7 @@ module _ (seat : ℕ) (end : Final) where
   state_is m None is e = absurd cc
   state_is m (Some state) is e = let d = done_is m state m.done e in (is ∙ ap (λ (s : FinalState). Some s) d.0, d.1)
 
-  row_is : (messages : List MessageRow) (id : ℕ) (o : Option MessageRow) → message_at id messages ≡ o → end_of o ≡ Some end → IsOf messages
+  pub row_is : (messages : List MessageRow) (id : ℕ) (o : Option MessageRow) → message_at id messages ≡ o → end_of o ≡ Some end → IsOf messages
   row_is messages id None is e = absurd cc
   row_is messages id (Some m) is e = let s = state_is m m.state refl e in (id, m, is, s.0, s.1)
 

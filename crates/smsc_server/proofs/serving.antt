@@ -1,5 +1,6 @@
 pub mod Crossing
 pub mod Entered
+pub mod Exchanged
 pub mod Limits
 pub mod OneAnswer
 pub mod Ran

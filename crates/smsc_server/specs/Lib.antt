@@ -5,3 +5,7 @@ pub mod Refusals
 pub mod WhatIsRead
 pub mod WhatALinkReads
 pub mod RunPromises
+pub mod Exchanges
+pub mod ReceiptsGiven
+pub mod CentresAnswers
+pub mod FramesGiven

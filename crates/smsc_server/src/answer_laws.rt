@@ -29,6 +29,8 @@ ghost use Rattle.smsc_endpoint.specs.LinkDoes.{LinkDoes};
 ghost use Rattle.smsc_endpoint.specs.LinkView.{LinkView, opened as opened_link};
 ghost use Rattle.smsc_loop.specs.Courses.{Did, Standing};
 ghost use Rattle.smsc_loop.specs.Phases.{Serves};
+ghost use Rattle.smsc_server.specs.CentresAnswers.{AreFor, AreInTurn, ReadsAnswers};
+ghost use Rattle.smsc_server.specs.Exchanges.{Exchange};
 ghost use Rattle.smsc_server.specs.WhatALinkReads.{IsLinkRead};
 ghost use Rattle.smsc_server.specs.WhatIsRead.{IsRead};
 ghost use Rattle.smsc_service.specs.Serving.{Serving, gives};
@@ -67,6 +69,15 @@ pub fn an_application_reads_the_centres_answer()
 pub fn what_an_application_reads()
     ensures { (accounts : List Account) (s t u : Standing EsmeView) → s.view ≡ opened accounts → s.phase ≡ Serves
         → (served : Did EsmeDoes s t) → (left : Did EsmeDoes t u) → IsRead accounts (served.calls ++ left.calls) }
+{}
+
+/// The same of the answers, where no answer is heard before its request was put. Those that were answered, but those that were handed back, are the
+/// first that the seat put. Each has the answer that the centre gave to it, under its own number. One that was handed back is answered
+/// ESME_RTHROTTLED.
+pub fn an_application_reads_answers_to_its_own_requests()
+    ensures { (accounts : List Account) (s t u : Standing EsmeView) → s.view ≡ opened accounts → s.phase ≡ Serves
+        → (served : Did EsmeDoes s t) → (left : Did EsmeDoes t u) → (exchanges : List Exchange) → AreFor (served.calls ++ left.calls) exchanges
+        → AreInTurn 0 (served.calls ++ left.calls) → ReadsAnswers accounts (served.calls ++ left.calls) exchanges }
 {}
 
 /// What a handset reads on a link that was served and then left its seat. What was written are frames behind their lengths: those among the

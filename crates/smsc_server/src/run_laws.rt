@@ -10,6 +10,8 @@ ghost use Rattle.sms_keeper.specs.History.{IsHistory, answers_in, jobs_of};
 ghost use Rattle.sms_keeper.specs.declared.machine.Item.{Item};
 ghost use Rattle.sms_receipt.specs.declared.final_message.Final.{Final};
 ghost use Rattle.smsc_arrivals.specs.declared.arrival.Arrival.{Arrival};
+ghost use Rattle.smsc_server.specs.FramesGiven.{GoToHandsets};
+ghost use Rattle.smsc_server.specs.ReceiptsGiven.{GoToAccounts};
 ghost use Rattle.smsc_server.specs.RunPromises.{AreAsked, IsReported, KeepsPromises};
 ghost use Rattle.smsc_server.specs.serving.Connections.{Admitted};
 ghost use Rattle.smsc_server.specs.serving.Sittings.{SeatDid, replies_to};
@@ -28,6 +30,20 @@ pub fn a_run_keeps_its_promises()
 {
     an_answer_names_a_message();
 }
+
+/// Each receipt that a seat gets in such a run is of a message of the account that is bound there, in a session that receives. The jobs of that seat
+/// alone tell who is bound, but for those for which the centre had no memory.
+pub fn receipts_go_to_their_accounts()
+    ensures { (rows : Rows) (items : List (Item Job Reply)) (last : Serving) → IsSound rows → AreAsked items
+        → IsHistory gives after (restarted rows nobody) items last → GoToAccounts rows items last }
+{}
+
+/// Each frame that a seat gets goes to the handset whose link is at the seat. A job of the seat named it, and the link was not taken down since, but
+/// for want of memory. The centre's definition sends that frame to that handset at that place of the history.
+pub fn frames_go_to_their_handsets()
+    ensures { (rows : Rows) (items : List (Item Job Reply)) (last : Serving)
+        → IsHistory gives after (restarted rows nobody) items last → GoToHandsets (restarted rows nobody) items }
+{}
 
 /// Each receipt that a connection of such a run heard is that of a message, and says the state in which the message is at the end.
 pub fn a_connection_hears_final_states<S: Read + Write>()

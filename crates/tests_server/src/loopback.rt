@@ -5,6 +5,8 @@ mod board;
 #[cfg(test)]
 mod client;
 #[cfg(test)]
+mod doors;
+#[cfg(test)]
 mod handset;
 #[cfg(test)]
 mod held_gate;

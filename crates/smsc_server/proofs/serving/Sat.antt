@@ -26,7 +26,7 @@ record DidAt (calls : List Call) (s t : Seat Job Reply) : Type 0 where
 at_ends : (calls : List Call) (r s t u : Seat Job Reply) → r ≡ s → t ≡ u → DidAt calls r t → DidAt calls s u
 at_ends calls r s t u e f d = subst (λ (x : Seat Job Reply). DidAt calls s x) f (subst (λ (x : Seat Job Reply). DidAt calls x t) e d)
 
-put_join : (a b : List Call) → jobs_put (a ++ b) ≡ jobs_put a ++ jobs_put b
+pub put_join : (a b : List Call) → jobs_put (a ++ b) ≡ jobs_put a ++ jobs_put b
 put_join [] b = refl
 put_join (Timed now went ∷ a) b = put_join a b
 put_join (Told full ∷ a) b = put_join a b
@@ -44,7 +44,7 @@ put_join (PutLast job ∷ a) b = ap (λ (l : List (Option Job)). Some job ∷ l)
 put_join (PutOwn job ∷ a) b = ap (λ (l : List (Option Job)). Some job ∷ l) (put_join a b)
 put_join (Dropped reply ∷ a) b = put_join a b
 
-taken_join : (a b : List Call) → replies_taken (a ++ b) ≡ replies_taken a ++ replies_taken b
+pub taken_join : (a b : List Call) → replies_taken (a ++ b) ≡ replies_taken a ++ replies_taken b
 taken_join [] b = refl
 taken_join (Timed now went ∷ a) b = taken_join a b
 taken_join (Told full ∷ a) b = taken_join a b
@@ -72,7 +72,7 @@ did_at does r s t p q = record {
   seat = seat_trans r.seat s.seat t.seat p.seat_so q.seat_so;
 }
 
-jobs_join : (a b : List (Option Job)) → jobs_among (a ++ b) ≡ jobs_among a ++ jobs_among b
+pub jobs_join : (a b : List (Option Job)) → jobs_among (a ++ b) ≡ jobs_among a ++ jobs_among b
 jobs_join [] b = refl
 jobs_join (None ∷ a) b = jobs_join a b
 jobs_join (Some job ∷ a) b = ap (λ (l : List Job). job ∷ l) (jobs_join a b)

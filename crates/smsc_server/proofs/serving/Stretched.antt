@@ -135,7 +135,7 @@ for_join n (p ∷ a) b = ap (λ (l : List Job). if n == p.0 then p.1 ∷ l else 
 abbrev own_jobs : ℕ → Stimulus Job → List Job
 own_jobs n stimulus = for_seat n (asked_by stimulus)
 
-jobs_first : (n : ℕ) (e : Item Job Reply) (es : List (Item Job Reply)) → jobs_of n (e ∷ es) ≡ own_jobs n e.stimulus ++ jobs_of n es
+pub jobs_first : (n : ℕ) (e : Item Job Reply) (es : List (Item Job Reply)) → jobs_of n (e ∷ es) ≡ own_jobs n e.stimulus ++ jobs_of n es
 jobs_first n e es = for_join n (asked_by e.stimulus) (asked es)
 
 abbrev requests_among : List Job → ℕ

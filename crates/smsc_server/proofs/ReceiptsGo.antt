@@ -1,0 +1,456 @@
+-- Each receipt goes to a seat where the account that submitted the message is bound.
+use Rattle.std.proofs.Common.{◌≡◌, ◌==◌, ◌⊎◌, ◌∙◌, inl, inr, ⊎_elim, ℕ, zero, suc, Bool, true, false, true≢false, List, [], ◌∷◌, ◌++◌, Option, Some, None, Result, Ok, Err, if◌then◌else◌, refl, sym, ap, subst, eq-eqb}
+use Rattle.std.specs.Prelude.{nat_lt, slice_get}
+use Rattle.std.proofs.lemmas.Bool.{cases_Bool, cases_eq, cond-false, cond-true, cond_both, ne_eqb}
+use Rattle.std.proofs.lemmas.Option.{none-some}
+use Rattle.sms_base.specs.Among.{Among}
+use Rattle.sms_base.specs.declared.final_state.FinalState.{FinalState}
+use Rattle.sms_base.specs.declared.originator.Originator.{Originator}
+use Rattle.smpp_pdu.specs.PduReading.{pdu_at}
+use Rattle.smpp_pdu.specs.declared.body.Body.{Body}
+use Rattle.smpp_pdu.specs.declared.body.Body.TheVariants.{SubmitSm, QuerySm, CancelSm}
+use Rattle.smpp_pdu.specs.declared.fault.PduFault.{PduFault}
+use Rattle.smpp_pdu.specs.declared.pdu.Pdu.{Pdu}
+use Rattle.smpp_pdu.specs.declared.status.CommandStatus.{CommandStatus}
+use Rattle.sms_centre_rows.specs.declared.messages.message.MessageRow.{MessageRow}
+use Rattle.sms_centre_rows.specs.declared.reports.delivery.Delivery.{Delivery}
+use Rattle.sms_centre_rows.specs.messages.Messages.{message_at, message_key}
+use Rattle.sms_centre_rows.specs.reports.Receipts.{Session, is_account, session_key}
+use Rattle.sms_centre_spec.specs.CentreEvent.{happened}
+use Rattle.sms_centre_spec.specs.Draft.{Core, core_of, messages_in}
+use Rattle.sms_centre_spec.specs.Finals.{final_of}
+use Rattle.sms_centre_spec.specs.Keeping.{Keeps}
+use Rattle.sms_centre_spec.specs.Requests.{account_at}
+use Rattle.sms_centre_spec.specs.SoundCore.{IsSoundCore}
+use Rattle.sms_centre_spec.specs.SoundRows.{IsSound}
+use Rattle.sms_centre_spec.specs.declared.answer.CentreAnswer.{CentreAnswer}
+use Rattle.sms_centre_spec.specs.declared.event.CentreEvent.{CentreEvent}
+use Rattle.sms_centre_spec.specs.declared.event.CentreEvent.TheVariants.{Submit as SubmitOf, Query as QueryOf, Cancel as CancelOf, Bound as BoundOf, Unbound as UnboundOf, DeliverAnswered as DeliverAnsweredOf, Frame as FrameOf, LinkUp as LinkUpOf, LinkDown as LinkDownOf, Tick as TickOf}
+use Rattle.sms_centre_spec.specs.declared.jobs.job.Job.{Job}
+use Rattle.sms_centre_spec.specs.declared.jobs.job.Job.TheVariants.{Bound, Unbound, Submit, Query, Cancel, DeliverAnswered, LinkUp, LinkDown, Frame}
+use Rattle.sms_centre_spec.specs.declared.jobs.reply.Reply.{Reply}
+use Rattle.sms_centre_spec.specs.declared.jobs.reply.Reply.TheVariants.{Receipt}
+use Rattle.sms_centre_spec.specs.declared.rows.Rows.{Rows}
+use Rattle.sms_centre_spec.proofs.Resting.{happened_rests}
+use Rattle.sms_intake.specs.declared.submission.CentreAccount.{CentreAccount}
+use Rattle.sms_keeper.specs.declared.machine.Fate.{Fate}
+use Rattle.sms_keeper.specs.declared.machine.Fate.TheVariants.{Done, NoMemory, Refused}
+use Rattle.sms_keeper.specs.declared.machine.Item.{Item}
+use Rattle.sms_keeper.specs.declared.machine.Stimulus.{Stimulus}
+use Rattle.sms_keeper.specs.declared.machine.Stimulus.TheVariants.{Job as JobOf, Tick}
+use Rattle.sms_keeper.specs.declared.outs.Out.{Out}
+use Rattle.sms_keeper.specs.History.{IsHistory}
+use Rattle.sms_receipt.specs.declared.final_message.Final.{Final}
+use Rattle.sms_rows.specs.table.Table.{put, without}
+use Rattle.sms_rows.proofs.table.Tables.{among_put, among_without, found_key}
+use Rattle.smsc_service.specs.Asking.{IfEvent, asked, asked_by, link_for, of_handset, question, read_as, submission, withdrawal}
+use Rattle.smsc_service.specs.BoundSession.{sessions_from, with_session}
+use Rattle.smsc_service.specs.Numbers.{is_number}
+use Rattle.smsc_service.specs.Replies.{asker, end_in, end_of, ended, frame_outs, receipt_out, receipt_outs, replies_at, answer_out, risen_by}
+use Rattle.smsc_service.specs.Seats.{Seats, bound_session_key, followed, handset_at, nobody, seat_of}
+use Rattle.smsc_service.specs.Serving.{Serving, after, after_for, followed_by, gives, gives_for, outs_for, refusal_for, restarted, unless_refused}
+use Rattle.smsc_service.specs.declared.asking.SeatRequest.{SeatRequest}
+use Rattle.smsc_service.specs.declared.asking.SeatRequest.TheVariants.{Event, Nothing, Taken}
+use Rattle.smsc_service.specs.declared.seat_map.BoundSession.{BoundSession}
+use Rattle.smsc_server.specs.ReceiptsGiven.{Binding, GoToAccounts, IsOfAccount, bound_after, bound_behind, bound_by, bound_there, if_done}
+use Rattle.smsc_server.specs.RunPromises.{AreAsked, receipt_for}
+use Rattle.smsc_server.proofs.BoundSessions.{Becomes, Each, Sends, StaysBut, StaysSo, sends_of}
+use Rattle.smsc_server.proofs.RunKept.{IsGood, among_parts, asked_parts, between, item_stays, no_answer, no_failure, no_frames, none_failed, none_taken, restart_sound, run_stays}
+
+-- ---- which events bind
+
+abbrev is_binding : CentreEvent → Bool
+is_binding (BoundOf session account receives) = true
+is_binding (UnboundOf session) = true
+is_binding event = false
+
+abbrev BindsNobody : SeatRequest → Type 0
+BindsNobody a = IfEvent (λ (event : CentreEvent). is_binding event ≡ false) a
+
+submission_binds : (account : ℕ) (body : Body) → BindsNobody (submission account body)
+submission_binds account (SubmitSm asked) = refl
+submission_binds account body = tt
+
+question_binds : (account : ℕ) (body : Body) → BindsNobody (question account body)
+question_binds account (QuerySm asked) = refl
+question_binds account body = tt
+
+withdrawal_binds : (account : ℕ) (body : Body) → BindsNobody (withdrawal account body)
+withdrawal_binds account (CancelSm asked) = refl
+withdrawal_binds account body = tt
+
+read_binds : (ask : Body → SeatRequest) → ((body : Body) → BindsNobody (ask body)) → (r : Result Pdu PduFault) → BindsNobody (read_as ask r)
+read_binds ask h (Ok pdu) = h pdu.body
+read_binds ask h (Err fault) = tt
+
+link_binds : (o : Option ℕ) (handset : List ℕ) → BindsNobody (link_for o handset)
+link_binds (Some seat) handset = tt
+link_binds None handset = refl
+
+handset_binds : (event : List ℕ → CentreEvent) → ((handset : List ℕ) → is_binding (event handset) ≡ false) → (o : Option (List ℕ)) → BindsNobody (of_handset event o)
+handset_binds event h None = tt
+handset_binds event h (Some handset) =
+    cond_both (is_number handset) (Event (event handset)) Nothing (λ (a : SeatRequest). BindsNobody a) (λ t. h handset) (λ t. tt)
+
+becomes_same : (accounts : List CentreAccount) (R Q : ℕ → List ℕ → Bool → Type 0) (event : CentreEvent) → is_binding event ≡ false → StaysSo R Q → Becomes event accounts R Q
+becomes_same accounts R Q (BoundOf session account receives) e f = absurd (true≢false e)
+becomes_same accounts R Q (UnboundOf session) e f = absurd (true≢false e)
+becomes_same accounts R Q event e f = f
+
+-- ---- a job that binds nobody
+
+abbrev moved : (ℕ → Option Binding) → Stimulus Job → ℕ → Option Binding
+moved bound stimulus k = bound_there k stimulus (bound k)
+
+both_same : (b : Bool) (o : Option Binding) → (if b then o else o) ≡ o
+both_same true o = refl
+both_same false o = refl
+
+-- of another seat
+elsewhere : (bound : ℕ → Option Binding) (seat k : ℕ) (job : Job) → (k ≡ seat → ⊥) → moved bound (JobOf seat job) k ≡ bound k
+elsewhere bound seat k job ne = cond-false (k == seat) (bound_by job (bound k)) (bound k) (ne_eqb k seat ne)
+
+at_seat : (bound : ℕ → Option Binding) (seat : ℕ) (job : Job) → moved bound (JobOf seat job) seat ≡ bound_by job (bound seat)
+at_seat bound seat job = cond-true (seat == seat) (bound_by job (bound seat)) (bound seat) (eq-eqb seat seat refl)
+
+-- a request of a seat, and whom its job binds
+abbrev IsSame : Seats → ℕ → Job → Type 0
+IsSame seats seat job = BindsNobody (asked seats seat job) × ((o : Option Binding) → bound_by job o ≡ o) × ((followed seat job seats).sittings ≡ seats.sittings)
+
+-- any but bind and unbind
+abbrev IsOther : Job → Type 0
+IsOther (Bound account receives) = ⊥
+IsOther Unbound = ⊥
+IsOther job = Unit {0}
+
+other : (seats : Seats) (seat : ℕ) (job : Job) → IsOther job → IsSame seats seat job
+other seats seat (Bound account receives) h = absurd h
+other seats seat Unbound h = absurd h
+other seats seat (Submit account pdu) h = (read_binds (submission account) (submission_binds account) (pdu_at pdu), (λ o. refl), refl)
+other seats seat (Query account pdu) h = (read_binds (question account) (question_binds account) (pdu_at pdu), (λ o. refl), refl)
+other seats seat (Cancel account pdu) h = (read_binds (withdrawal account) (withdrawal_binds account) (pdu_at pdu), (λ o. refl), refl)
+other seats seat (DeliverAnswered id is_accepted) h = (refl, (λ o. refl), refl)
+other seats seat (LinkUp handset) h = (
+  cond_both (is_number handset) (link_for (seat_of handset seats.links) handset) Nothing (λ (a : SeatRequest). BindsNobody a)
+      (λ t. link_binds (seat_of handset seats.links) handset) (λ t. tt),
+  (λ o. refl),
+  refl,
+)
+other seats seat LinkDown h = (handset_binds (λ (handset : List ℕ). LinkDownOf handset) (λ handset. refl) (handset_at seat seats.links), (λ o. refl), refl)
+other seats seat (Frame octets) h = (handset_binds (λ (handset : List ℕ). FrameOf handset octets None) (λ handset. refl) (handset_at seat seats.links), (λ o. refl), refl)
+
+same_moved : (bound : ℕ → Option Binding) (seats : Seats) (seat k : ℕ) (job : Job) → IsSame seats seat job → moved bound (JobOf seat job) k ≡ bound k
+same_moved bound seats seat k job h = ap (λ (o : Option Binding). if k == seat then o else bound k) (h.1 (bound k)) ∙ both_same (k == seat) (bound k)
+
+event_same : (a b : CentreEvent) → Event a ≡ Event b → a ≡ b
+event_same a b e = cc
+
+no_event : (event : CentreEvent) → Nothing ≡ Event event → ⊥
+no_event event e = cc
+
+place_of : (place : ℕ) (accounts : List CentreAccount) → account_at place accounts ≡ slice_get accounts place
+place_of place [] = refl
+place_of zero (a ∷ accounts) = refl
+place_of (suc place) (a ∷ accounts) = place_of place accounts
+
+module _ (accounts : List CentreAccount) where
+  -- said of a session, by who is bound at each seat
+  abbrev OfBound : (ℕ → Option Binding) → ℕ → List ℕ → Bool → Type 0
+  OfBound bound k name receives =
+      (nat_lt k 32 ≡ true) × (place : ℕ) × (account : CentreAccount)
+      × (bound k ≡ Some (place, receives)) × (slice_get accounts place ≡ Some account) × (account.name ≡ name)
+
+  abbrev AreBound : (ℕ → Option Binding) → List BoundSession → Type 0
+  AreBound bound sittings = (b : BoundSession) → Among b sittings → (nat_lt b.seat 32 ≡ true) × (bound b.seat ≡ Some (b.account, b.receives))
+
+  record Fits (bound : ℕ → Option Binding) (s : Serving) : Type 0 where
+    pub sessions : Each (OfBound bound) s.core.sessions
+    pub sittings : AreBound bound s.seats.sittings
+    pub setup : s.core.rows.setup.accounts ≡ accounts
+
+  of_same : (bound behind : ℕ → Option Binding) (k : ℕ) (name : List ℕ) (receives : Bool) → behind k ≡ bound k → OfBound bound k name receives → OfBound behind k name receives
+  of_same bound behind k name receives e h = (h.0, h.1, h.2, e ∙ h.3, h.4, h.5)
+
+  fits_same : (bound behind : ℕ → Option Binding) (s : Serving) → ((k : ℕ) → nat_lt k 32 ≡ true → behind k ≡ bound k) → Fits bound s → Fits behind s
+  fits_same bound behind s e h = record {
+    sessions = λ x i. let y = h.sessions x i in of_same bound behind x.number x.account x.receives (e x.number y.0) y;
+    sittings = λ b i. let y = h.sittings b i in (y.0, e b.seat y.0 ∙ y.1);
+    setup = h.setup;
+  }
+
+  -- ---- a centre that starts again
+
+  with_each : (bound : ℕ → Option Binding) (o : Option CentreAccount) (b : BoundSession) (sessions : List Session) → slice_get accounts b.account ≡ o
+      → (nat_lt b.seat 32 ≡ true) × (bound b.seat ≡ Some (b.account, b.receives)) → Each (OfBound bound) sessions → Each (OfBound bound) (with_session o b sessions)
+  with_each bound None b sessions at is h = h
+  with_each bound (Some account) b sessions at is h =
+      let new : Session = record { number = b.seat; account = account.name; receives = b.receives; unanswered = [] } in
+      let own : OfBound bound b.seat account.name b.receives = (is.0, b.account, account, is.1, at, refl) in
+      λ x i. ⊎_elim (λ (e : x ≡ new). subst (λ (y : Session). OfBound bound y.number y.account y.receives) (sym e) own) (λ old. h x old.0) (among_put session_key x new sessions i)
+
+  from_each : (bound : ℕ → Option Binding) (sittings : List BoundSession) (sessions : List Session) → AreBound bound sittings → Each (OfBound bound) sessions
+      → Each (OfBound bound) (sessions_from accounts sessions sittings)
+  from_each bound [] sessions are h = h
+  from_each bound (b ∷ sittings) sessions are h =
+      from_each bound sittings (with_session (slice_get accounts b.account) b sessions) (λ x i. are x (inr i))
+      (with_each bound (slice_get accounts b.account) b sessions refl (are b (inl refl)) h)
+
+  restart_fits : (bound : ℕ → Option Binding) (rows : Rows) (seats : Seats) → rows.setup.accounts ≡ accounts → AreBound bound seats.sittings → Fits bound (restarted rows seats)
+  restart_fits bound rows seats e are = record {
+    sessions = subst (λ (l : List CentreAccount). Each (OfBound bound) (sessions_from l [] seats.sittings)) (sym e)
+        (from_each bound seats.sittings [] are (λ x i. absurd i));
+    sittings = are;
+    setup = e;
+  }
+
+  -- ---- one item
+
+  module _ (bound : ℕ → Option Binding) (s : Serving) (fits : Fits bound s) where
+    same_sits : (seat : ℕ) (job : Job) → IsSame s.seats seat job → AreBound (moved bound (JobOf seat job)) (followed seat job s.seats).sittings
+    same_sits seat job h b i =
+        let y = fits.sittings b (subst (λ (l : List BoundSession). Among b l) h.2 i) in (y.0, same_moved bound s.seats seat b.seat job h ∙ y.1)
+
+    -- who sits where behind a job
+    job_sits : (seat : ℕ) (job : Job) → nat_lt seat 32 ≡ true → AreBound (moved bound (JobOf seat job)) (followed seat job s.seats).sittings
+    job_sits seat (Bound account receives) few b i =
+        let new : BoundSession = record { seat = seat; account = account; receives = receives } in
+        ⊎_elim
+        (λ (e : b ≡ new). subst (λ (x : BoundSession). (nat_lt x.seat 32 ≡ true) × (moved bound (JobOf seat (Bound account receives)) x.seat ≡ Some (x.account, x.receives))) (sym e)
+        (few, at_seat bound seat (Bound account receives)))
+        (λ old. let y = fits.sittings b old.0 in (y.0, elsewhere bound seat b.seat (Bound account receives) old.1 ∙ y.1))
+        (among_put bound_session_key b new s.seats.sittings i)
+    job_sits seat Unbound few b i =
+        let old = among_without bound_session_key b seat s.seats.sittings i in
+        let y = fits.sittings b old.0 in (y.0, elsewhere bound seat b.seat Unbound old.1 ∙ y.1)
+    job_sits seat job few b i = same_sits seat job (other s.seats seat job tt) b i
+
+    far_seat : (seat k : ℕ) → nat_lt seat 32 ≡ false → nat_lt k 32 ≡ true → k ≡ seat → ⊥
+    far_seat seat k far few e = true≢false (sym few ∙ (ap (λ (m : ℕ). nat_lt m 32) e ∙ far))
+
+    far_moved : (seat : ℕ) (job : Job) → nat_lt seat 32 ≡ false → (k : ℕ) → nat_lt k 32 ≡ true → moved bound (JobOf seat job) k ≡ bound k
+    far_moved seat job far k few = elsewhere bound seat k job (far_seat seat k far few)
+
+    sits : (stimulus : Stimulus Job) → AreBound (moved bound stimulus) (followed_by stimulus s.seats).sittings
+    sits (Tick now) = fits.sittings
+    sits (JobOf seat job) =
+        cond_both (nat_lt seat 32) (followed seat job s.seats) s.seats (λ (x : Seats). AreBound (moved bound (JobOf seat job)) x.sittings)
+        (λ t. job_sits seat job t)
+        (λ t b i. let y = fits.sittings b i in (y.0, far_moved seat job t b.seat y.0 ∙ y.1))
+
+    -- ---- what an event leads to
+
+    abbrev Leads : Stimulus Job → CentreEvent → Type 0
+    Leads stimulus event = Becomes event s.core.rows.setup.accounts (OfBound bound) (OfBound (moved bound stimulus))
+
+    same_leads : (seat : ℕ) (job : Job) (event : CentreEvent) → IsSame s.seats seat job → asked s.seats seat job ≡ Event event → Leads (JobOf seat job) event
+    same_leads seat job event h e =
+        becomes_same s.core.rows.setup.accounts (OfBound bound) (OfBound (moved bound (JobOf seat job))) event (subst (λ (a : SeatRequest). BindsNobody a) e h.0)
+        (λ k name is x. of_same bound (moved bound (JobOf seat job)) k name is (same_moved bound s.seats seat k job h) x)
+
+    job_leads : (seat : ℕ) (job : Job) (event : CentreEvent) → nat_lt seat 32 ≡ true → asked s.seats seat job ≡ Event event → Leads (JobOf seat job) event
+    job_leads seat (Bound account receives) event few e =
+        subst (λ (x : CentreEvent). Leads (JobOf seat (Bound account receives)) x) (event_same (BoundOf seat account receives) event e) (
+          (λ k name is ne h. of_same bound (moved bound (JobOf seat (Bound account receives))) k name is (elsewhere bound seat k (Bound account receives) ne) h),
+          (λ own at. (
+            few,
+            account,
+            own,
+            at_seat bound seat (Bound account receives),
+            sym (place_of account accounts) ∙ (ap (λ (l : List CentreAccount). account_at account l) (sym fits.setup) ∙ at),
+            refl,
+          )),
+        )
+    job_leads seat Unbound event few e =
+        subst (λ (x : CentreEvent). Leads (JobOf seat Unbound) x) (event_same (UnboundOf seat) event e)
+        (λ k name is ne h. of_same bound (moved bound (JobOf seat Unbound)) k name is (elsewhere bound seat k Unbound ne) h)
+    job_leads seat job event few e = same_leads seat job event (other s.seats seat job tt) e
+
+    leads : (stimulus : Stimulus Job) (event : CentreEvent) → asked_by s.seats stimulus ≡ Event event → Leads stimulus event
+    leads (Tick now) event e =
+        subst (λ (x : CentreEvent). Leads (Tick now) x) (event_same (TickOf now) event e) (λ k name is h. h)
+    leads (JobOf seat job) event e = ⊎_elim
+        (λ (t : nat_lt seat 32 ≡ true). job_leads seat job event t (sym (cond-true (nat_lt seat 32) (asked s.seats seat job) Nothing t) ∙ e))
+        (λ (t : nat_lt seat 32 ≡ false). absurd (no_event event (sym (cond-false (nat_lt seat 32) (asked s.seats seat job) Nothing t) ∙ e)))
+        (cases_Bool (nat_lt seat 32))
+
+    event_sends : IsSoundCore s.core → (stimulus : Stimulus Job) (event : CentreEvent) → asked_by s.seats stimulus ≡ Event event
+        → Sends (messages_in (happened event s.core).store) (OfBound (moved bound stimulus)) (happened event s.core).bindings
+    event_sends sound stimulus event e = sends_of (OfBound bound) (OfBound (moved bound stimulus)) s.core sound fits.sessions event (leads stimulus event e)
+
+    -- ---- what asks no event
+
+    abbrev AsksNone : SeatRequest → Type 0
+    AsksNone (Event event) = ⊥
+    AsksNone Nothing = Unit {0}
+    AsksNone Taken = Unit {0}
+
+    job_unmoved : (seat : ℕ) (job : Job) → AsksNone (asked s.seats seat job) → (k : ℕ) → moved bound (JobOf seat job) k ≡ bound k
+    job_unmoved seat (Bound account receives) none k = absurd none
+    job_unmoved seat Unbound none k = absurd none
+    job_unmoved seat job none k = same_moved bound s.seats seat k job (other s.seats seat job tt)
+
+    unmoved : (stimulus : Stimulus Job) → AsksNone (asked_by s.seats stimulus) → (k : ℕ) → nat_lt k 32 ≡ true → moved bound stimulus k ≡ bound k
+    unmoved (Tick now) none k few = absurd none
+    unmoved (JobOf seat job) none k few = ⊎_elim
+        (λ (t : nat_lt seat 32 ≡ true). job_unmoved seat job (subst AsksNone (cond-true (nat_lt seat 32) (asked s.seats seat job) Nothing t) none) k)
+        (λ (t : nat_lt seat 32 ≡ false). far_moved seat job t k few)
+        (cases_Bool (nat_lt seat 32))
+
+    setup_stays : (event : CentreEvent) → (core_of (happened event s.core)).rows.setup.accounts ≡ accounts
+    setup_stays event = sym (ap (λ (r : Rows). r.setup.accounts) (happened_rests event s.core)) ∙ fits.setup
+
+    abbrev next : Stimulus Job → Fate → ℕ → Option Binding
+    next stimulus fate k = bound_behind k (bound k) stimulus fate
+
+    request_fits : IsSoundCore s.core → (stimulus : Stimulus Job) (a : SeatRequest) (fate : Fate) → asked_by s.seats stimulus ≡ a
+        → Fits (next stimulus fate) (after_for a fate s stimulus)
+    request_fits sound stimulus (Event event) Done e =
+        record { sessions = (event_sends sound stimulus event e).held; sittings = sits stimulus; setup = setup_stays event }
+    request_fits sound stimulus (Event event) NoMemory e = fits
+    request_fits sound stimulus (Event event) Refused e = restart_fits (moved bound stimulus) s.core.rows (followed_by stimulus s.seats) fits.setup (sits stimulus)
+    request_fits sound stimulus Nothing Done e = fits_same bound (moved bound stimulus) s (unmoved stimulus (subst AsksNone (sym e) tt)) fits
+    request_fits sound stimulus Nothing NoMemory e = fits
+    request_fits sound stimulus Nothing Refused e = fits_same bound (moved bound stimulus) s (unmoved stimulus (subst AsksNone (sym e) tt)) fits
+    request_fits sound stimulus Taken Done e = fits_same bound (moved bound stimulus) s (unmoved stimulus (subst AsksNone (sym e) tt)) fits
+    request_fits sound stimulus Taken NoMemory e = fits
+    request_fits sound stimulus Taken Refused e = fits_same bound (moved bound stimulus) s (unmoved stimulus (subst AsksNone (sym e) tt)) fits
+
+    item_fits : IsSoundCore s.core → (e : Item Job Reply) → Fits (next e.stimulus e.fate) (after s e.stimulus e.fate)
+    item_fits sound e = request_fits sound e.stimulus (asked_by s.seats e.stimulus) e.fate refl
+
+  -- ---- a run
+
+  run_fits : (items : List (Item Job Reply)) (bound : ℕ → Option Binding) (s t : Serving) → IsGood s → Fits bound s → AreAsked items → IsHistory gives after s items t
+      → Fits (λ (k : ℕ). bound_after k (bound k) items) t
+  run_fits [] bound s t good fits are h = subst (λ (x : Serving). Fits bound x) (sym h) fits
+  run_fits (e ∷ items) bound s t good fits are h =
+      run_fits items (λ (k : ℕ). bound_behind k (bound k) e.stimulus e.fate) (after s e.stimulus e.fate) t (item_stays s e good are.0).0 (item_fits bound s fits good.core e) are.1 h.1
+
+-- ---- a receipt that is given
+
+-- the delivery that it is
+abbrev IsDelivery : ℕ → Final → List MessageRow → List Delivery → Type 0
+IsDelivery seat end messages ds = (d : Delivery) × Among d ds × (seat ≡ d.session) × (end_of (message_at d.id messages) ≡ Some end)
+
+module _ (seat : ℕ) (end : Final) where
+  one_delivery : (messages : List MessageRow) (session id : ℕ) (o : Option Final) → end_of (message_at id messages) ≡ o → Among (receipt_for seat end) (receipt_out session o)
+      → (seat ≡ session) × (end_of (message_at id messages) ≡ Some end)
+  one_delivery messages session id None is there = absurd there
+  one_delivery messages session id (Some other) is (inl e) =
+      let k : Receipt end ≡ Receipt other = ap (λ (o : Out Reply). o.out) e in
+      let same : other ≡ end = cc in (ap (λ (o : Out Reply). o.seat) e, is ∙ ap (λ (f : Final). Some f) same)
+  one_delivery messages session id (Some other) is (inr there) = absurd there
+
+  a_delivery : (messages : List MessageRow) (ds : List Delivery) → Among (receipt_for seat end) (receipt_outs messages ds) → IsDelivery seat end messages ds
+  a_delivery messages [] there = absurd there
+  a_delivery messages (d ∷ ds) there =
+      ⊎_elim
+      (λ h. let one = one_delivery messages d.session d.id (end_of (message_at d.id messages)) refl h in (d, inl refl, one.0, one.1))
+      (λ h. let x = a_delivery messages ds h in (x.0, inr x.1, x.2, x.3))
+      (among_parts (receipt_for seat end) (receipt_out d.session (end_of (message_at d.id messages))) (receipt_outs messages ds) there)
+
+  replied_delivery : (risen : Option (List ℕ)) (from : ℕ) (s : Serving) (event : CentreEvent)
+      → Among (receipt_for seat end) (replies_at risen from s.seats.links (happened event s.core).answer (happened event s.core).links.frames
+      (messages_in (happened event s.core).store) (happened event s.core).bindings.deliveries)
+      → IsDelivery seat end (messages_in (happened event s.core).store) (happened event s.core).bindings.deliveries
+  replied_delivery risen from s event there =
+      let d = happened event s.core in
+      let first : List (Out Reply) = answer_out from d.answer in
+      let second : List (Out Reply) = frame_outs risen from s.seats.links d.links.frames in
+      let third : List (Out Reply) = receipt_outs (messages_in d.store) d.bindings.deliveries in
+      ⊎_elim
+      (λ h. absurd (⊎_elim (λ k. no_answer seat end from d.answer k) (λ k. no_frames seat end risen from s.seats.links d.links.frames k) (among_parts (receipt_for seat end) first second h)))
+      (λ h. a_delivery (messages_in d.store) d.bindings.deliveries h)
+      (among_parts (receipt_for seat end) (first ++ second) third there)
+
+  module _ (s : Serving) where
+    -- an event was done, and made the delivery
+    abbrev WasSent : Stimulus Job → Fate → Type 0
+    WasSent stimulus fate =
+        (event : CentreEvent) × (asked_by s.seats stimulus ≡ Event event) × (fate ≡ Done)
+        × IsDelivery seat end (messages_in (happened event s.core).store) (happened event s.core).bindings.deliveries
+
+    request_sent : (stimulus : Stimulus Job) (a : SeatRequest) (fate : Fate) (refusal : Option CommandStatus) → asked_by s.seats stimulus ≡ a
+        → Among (receipt_for seat end) (unless_refused fate refusal stimulus (gives_for a fate s stimulus)) → WasSent stimulus fate
+    request_sent stimulus (Event event) Done refusal e there = (event, e, refl, replied_delivery (risen_by stimulus) (asker stimulus) s event there)
+    request_sent stimulus Nothing Done refusal e there = absurd (none_failed seat end stimulus there)
+    request_sent stimulus Taken Done refusal e there = absurd (none_taken seat end stimulus there)
+    request_sent stimulus (Event event) Refused refusal e there = absurd (none_failed seat end stimulus there)
+    request_sent stimulus Nothing Refused refusal e there = absurd (none_failed seat end stimulus there)
+    request_sent stimulus Taken Refused refusal e there = absurd (none_taken seat end stimulus there)
+    request_sent (JobOf from job) a NoMemory (Some status) e there = absurd (no_failure seat end true from status there)
+    request_sent (Tick now) a NoMemory (Some status) e there = absurd there
+    request_sent stimulus (Event event) NoMemory None e there = absurd (none_failed seat end stimulus there)
+    request_sent stimulus Nothing NoMemory None e there = absurd (none_failed seat end stimulus there)
+    request_sent stimulus Taken NoMemory None e there = absurd (none_taken seat end stimulus there)
+
+    was_sent : (stimulus : Stimulus Job) (fate : Fate) → Among (receipt_for seat end) (gives s stimulus fate) → WasSent stimulus fate
+    was_sent stimulus fate there = request_sent stimulus (asked_by s.seats stimulus) fate (refusal_for (asked_by s.seats stimulus) s.core) refl there
+
+-- ---- together
+
+-- a receipt has the number of its message
+ended_id : (m : MessageRow) (state : FinalState) (at : Option ℕ) (end : Final) → ended m state at ≡ Some end → end.id ≡ m.id
+ended_id m state None end e = absurd (none-some end e)
+ended_id m state (Some done) end e = let same : final_of state done m ≡ end = cc in sym (ap (λ (f : Final). f.id) same)
+
+in_id : (m : MessageRow) (o : Option FinalState) (end : Final) → end_in m o ≡ Some end → end.id ≡ m.id
+in_id m None end e = absurd (none-some end e)
+in_id m (Some state) end e = ended_id m state m.done end e
+
+numbered : (m : MessageRow) (id : ℕ) (messages : List MessageRow) {end : Final} → message_at id messages ≡ Some m → end_of (Some m) ≡ Some end → end.id ≡ id
+numbered m id messages {end} at e = in_id m m.state end e ∙ found_key message_key id m messages at
+
+behind_more : (n : ℕ) (o : Option Binding) (one : List (Item Job Reply)) (e : Item Job Reply)
+    → bound_after n o (one ++ e ∷ []) ≡ bound_behind n (bound_after n o one) e.stimulus e.fate
+behind_more n o [] e = refl
+behind_more n o (first ∷ one) e = behind_more n (bound_behind n o first.stimulus first.fate) one e
+
+module _ (accounts : List CentreAccount) (bound : ℕ → Option Binding) (s last : Serving) (fits : Fits accounts bound s) (sound : IsSoundCore s.core) (seat : ℕ) (end : Final) where
+  goes_to_account : (stimulus : Stimulus Job) (fate : Fate) → WasSent seat end s stimulus fate → Keeps (after s stimulus fate).core.rows last.core.rows
+      → IsOfAccount accounts last (bound_behind seat (bound seat) stimulus fate) end
+  goes_to_account stimulus fate sent keeps =
+      let event = sent.0 in
+      let asks = sent.1 in
+      let done = sent.2 in
+      let delivery = sent.3.0 in
+      let messages = messages_in (happened event s.core).store in
+      let kept : Keeps (core_of (happened event s.core)).rows last.core.rows =
+      subst (λ (a : SeatRequest). Keeps (after_for a Done s stimulus).core.rows last.core.rows) asks
+      (subst (λ (f : Fate). Keeps (after s stimulus f).core.rows last.core.rows) done keeps) in
+      let sends = event_sends accounts bound s fits sound stimulus event asks in
+      let g = sends.each delivery sent.3.1 in
+      let h = sends.held g.session g.bound in
+      let m = g.message in
+      let own : end.id ≡ delivery.id = numbered m delivery.id messages g.there (ap end_of (sym g.there) ∙ sent.3.3) in
+      let x = kept.messages delivery.id m g.there in record {
+        place = h.1;
+        bound_so = ap (λ (f : Fate). bound_behind seat (bound seat) stimulus f) done
+            ∙ (ap (λ (k : ℕ). moved bound stimulus k) (sent.3.2 ∙ sym g.number) ∙ (h.3 ∙ ap (λ (b : Bool). Some (h.1, b)) g.receives));
+        account = h.2;
+        account_so = h.4;
+        row = x.0;
+        row_so = ap (λ (k : ℕ). message_at k last.core.rows.messages) own ∙ x.1.0;
+        submitted = ap (λ (name : List ℕ). is_account name x.0.originator) h.5 ∙ (ap (λ (o : Originator). is_account g.session.account o) x.1.1.originator ∙ g.account);
+      }
+
+module _ (rows : Rows) (items : List (Item Job Reply)) (last : Serving) (sound : IsSound rows) (are : AreAsked items)
+    (run : IsHistory gives after (restarted rows nobody) items last) where
+  start_good : IsGood (restarted rows nobody)
+  start_good = record { core = restart_sound rows nobody sound (λ l there. absurd there); short = λ l there. absurd there }
+
+  nobody_fits : Fits rows.setup.accounts (λ (k : ℕ). None) (restarted rows nobody)
+  nobody_fits = record { sessions = λ x i. absurd i; sittings = λ b i. absurd i; setup = refl }
+
+  pub receipts_go : GoToAccounts rows items last
+  receipts_go one other e seat end is there =
+      let accounts = rows.setup.accounts in
+      let parts = asked_parts one (e ∷ other) (subst AreAsked is are) in
+      let m = between one (e ∷ other) (restarted rows nobody) last (subst (λ (l : List (Item Job Reply)). IsHistory gives after (restarted rows nobody) l last) is run) in
+      let good = (run_stays one (restarted rows nobody) m.0 start_good parts.0 m.1).0 in
+      let fits = run_fits accounts one (λ (k : ℕ). None) (restarted rows nobody) m.0 start_good nobody_fits parts.0 m.1 in
+      let next = item_stays m.0 e good parts.1.0 in
+      let keeps = (run_stays other (after m.0 e.stimulus e.fate) last next.0 parts.1.1 m.2.1).1 in
+      subst (λ (o : Option Binding). IsOfAccount accounts last o end) (sym (behind_more seat None one e))
+      (goes_to_account accounts (λ (k : ℕ). bound_after k None one) m.0 last fits good.core seat end e.stimulus e.fate
+      (was_sent seat end m.0 e.stimulus e.fate (subst (λ (l : List (Out Reply)). Among (receipt_for seat end) l) m.2.0 there)) keeps)

@@ -1,0 +1,183 @@
+//! A run over listeners that state what they gave. The connections are of this process alone.
+ghost use Rattle.std.specs.Prelude.{Some};
+
+use crate::clock_and_gate::Open;
+use crate::rows::holds;
+use crate::service::centre::{clock, keep, logins};
+use smsc_endpoint::LinkAccess;
+use smsc_server::{Door, Doors, Event, Given, Observer, Orders, Ports, Side, serve};
+use std::alloc::Global;
+use std::io::{self, ErrorKind, Read, Write};
+use std::net::{
+    Ipv4Addr, OpenListener, OpenStream, Shutdown, SocketAddr, SocketAddrV4, TcpListener,
+};
+use std::os::fd::{AsRawFd, RawFd};
+use std::sync::Arc;
+use std::sync::atomic::{AtomicU32, Ordering};
+use std::test::Fail;
+use std::time::Duration;
+
+/// A connection on which nothing arrives. What is written to it is let go.
+#[derive(Clone, Copy, Debug, PartialEq, Eq)]
+struct Numbered(u32);
+
+impl Read for Numbered {
+    fn read(&mut self, _buf: &mut [u8]) -> io::Result<usize> {
+        Ok(0)
+    }
+}
+
+impl Write for Numbered {
+    fn write(&mut self, buf: &[u8]) -> io::Result<usize> {
+        Ok(buf.len())
+    }
+
+    fn flush(&mut self) -> io::Result<()> {
+        Ok(())
+    }
+}
+
+impl OpenStream for Numbered {
+    fn shutdown(&self, _how: Shutdown) -> io::Result<()> {
+        Ok(())
+    }
+
+    fn set_nodelay(&self, _nodelay: bool) -> io::Result<()> {
+        Ok(())
+    }
+
+    fn set_write_timeout(&self, _dur: Option<Duration>) -> io::Result<()> {
+        Ok(())
+    }
+
+    fn try_clone(&self) -> io::Result<Numbered> {
+        Ok(*self)
+    }
+}
+
+/// A listener that gives some connections and keeps which it gave. It has a port only since a run waits at one.
+#[derive(Drop)]
+struct Listed {
+    port: TcpListener,
+    /// So many are still to be given.
+    left: u16,
+    gave: Vec<(Numbered, SocketAddr)>,
+}
+
+// The address of the connection of that number.
+fn address(number: u16) -> SocketAddr {
+    SocketAddr::V4(SocketAddrV4::new(Ipv4Addr::LOCALHOST, number))
+}
+
+impl Door for Listed {
+    type Stream = Numbered;
+
+    ghost came = { λ l. Some l.gave.items };
+
+    fn accept(&mut self) -> Option<(Numbered, SocketAddr)> {
+        let left = self.left.checked_sub(1)?;
+        let entered = (Numbered(u32::from(self.left)), address(self.left));
+        self.gave.push(entered).ok()?;
+        self.left = left;
+        Some(entered)
+    }
+}
+
+impl OpenListener for Listed {
+    type Stream = Numbered;
+
+    fn accept(&self) -> io::Result<(Numbered, SocketAddr)> {
+        Err(io::Error::from(ErrorKind::WouldBlock))
+    }
+
+    fn set_nonblocking(&self, _nonblocking: bool) -> io::Result<()> {
+        Ok(())
+    }
+}
+
+impl AsRawFd for Listed {
+    fn as_raw_fd(&self) -> RawFd {
+        self.port.as_raw_fd()
+    }
+}
+
+/// Adds the port numbers of those who ended without having said who they are, on each side.
+#[derive(Drop)]
+struct Sums {
+    applications: AtomicU32,
+    links: AtomicU32,
+}
+
+impl Observer for Sums {
+    fn observe(&self, event: &Event) {
+        if let Event::Unknown(side, peer, _) = event {
+            let sum = match side {
+                Side::Application => &self.applications,
+                Side::Handset => &self.links,
+            };
+            sum.fetch_add(u32::from(peer.port()), Ordering::SeqCst);
+        }
+    }
+}
+
+fn listed(rt: &HostRuntime, alloc: Global, left: u16) -> io::Result<Listed> {
+    let port = TcpListener::bind(rt, (Ipv4Addr::LOCALHOST, 0))?;
+    Ok(Listed {
+        port,
+        left,
+        gave: Vec::new(alloc),
+    })
+}
+
+// A run for so many connections.
+fn given(alloc: Global, sessions: u32) -> Result<Given<Sums>, Fail> {
+    let orders = Orders::new(alloc)?;
+    let sums = Sums {
+        applications: AtomicU32::new(0),
+        links: AtomicU32::new(0),
+    };
+    Ok(Given {
+        accounts: logins(alloc)?,
+        access: Arc::new(alloc, LinkAccess::Anyone)?,
+        observer: Arc::new(alloc, sums)?,
+        orders: Arc::new(alloc, orders)?,
+        links: None,
+        sessions: Some(sessions),
+        limits: Vec::new(alloc),
+    })
+}
+
+// Two applications and three handsets come.
+fn run(rt: HostRuntime, alloc: Global, taken: &Given<Sums>) -> Result<Doors<Listed>, Fail> {
+    let applications = listed(&rt, alloc, 2)?;
+    let links = listed(&rt, alloc, 3)?;
+    let ports = Ports::of(&rt, alloc, applications, links)?;
+    let clock = clock()?;
+    match serve(rt, alloc, keep(alloc)?, &Open, &clock, ports, taken) {
+        Ok((doors, keep)) => {
+            drop(keep);
+            Ok(doors)
+        }
+        Err(_) => Err(Fail::new("the run ends with its connections")),
+    }
+}
+
+// It gave the connections of these numbers, in order.
+fn gave(listed: &Listed, numbers: &[u16]) -> bool {
+    listed.gave.len() == numbers.len()
+        && listed.gave.iter().zip(numbers.iter()).all(|(one, number)| *one
+            == (Numbered(u32::from(*number)), address(*number)))
+}
+
+#[test]
+fn a_run_gives_back_which_connections_came(rt: HostRuntime) -> Result<(), Fail> {
+    let alloc = rt.alloc();
+    let taken = given(alloc, 5)?;
+    let doors = run(rt, alloc, &taken)?;
+    holds(gave(&doors.applications, &[2, 1]), "two applications came")?;
+    holds(gave(&doors.links, &[3, 2, 1]), "three handsets came")?;
+    let applications = taken.observer.applications.load(Ordering::SeqCst);
+    let links = taken.observer.links.load(Ordering::SeqCst);
+    holds(applications == 3, "each application had a seat once")?;
+    holds(links == 6, "each handset had a seat once")
+}
