@@ -10,4 +10,5 @@ pub mod Promises
 pub mod Rooms
 pub mod Waiting
 pub mod Owing
+pub mod Owners
 pub mod BindAnswers

@@ -7,14 +7,14 @@ use Rattle.std.proofs.lemmas.Bool.Decides.{eqb_tells}
 use Rattle.std.proofs.lemmas.List.{drop_all, append_assoc, append-nil, take_all}
 use Rattle.smpp_session.specs.declared.account.Account.{Account}
 use Rattle.smpp_session.specs.declared.account.Login.TheVariants.{Known, UnknownName, WrongPassword}
-use Rattle.smpp_session.specs.Logins.{login}
+use Rattle.smpp_session.specs.Logins.{is_own, login}
 use Rattle.smpp_session.specs.Windows.{is_among, is_none, without}
 
 drop_item : {A : Type 0} (xs : List A) (i : ℕ) (a : A) → i < length xs → a ≡ get_or xs i a → drop i xs ≡ a ∷ drop (i + 1) xs
 drop_item xs i a fits is = drop-cons xs i a fits ∙ (ap (λ y. y ∷ drop (suc i) xs) (sym is) ∙ ap (λ (j : ℕ). a ∷ drop j xs) (sym (add-one i)))
 
 pub login_at : (i : ℕ) (n p : List ℕ) (xs : List Account) (a : Account) → i < length xs → a ≡ get_or xs i a
-    → login i n p (drop i xs) ≡ cond (bytes_eq a.name n) (cond (bytes_eq a.password p) (Known i) WrongPassword) (login (i + 1) n p (drop (i + 1) xs))
+    → login i n p (drop i xs) ≡ cond (bytes_eq a.name n) (cond (is_own a.password p) (Known i) WrongPassword) (login (i + 1) n p (drop (i + 1) xs))
 login_at i n p xs a fits is = ap (login i n p) (drop_item xs i a fits is)
 
 pub login_end : (i : ℕ) (n p : List ℕ) (xs : List Account) → length xs ≤ i → login i n p (drop i xs) ≡ UnknownName

@@ -3,6 +3,7 @@ ghost use Rattle.std.specs.Prelude.{◌≡◌, List, Bool, true, slice_set};
 ghost use Rattle.smpp_session.specs.declared.account.Account.{Account as AccountOf};
 ghost use Rattle.smpp_session.specs.Logins.{admitted, is_full, login, none_full};
 
+use crate::password::Password;
 use sms_base::Octets;
 use std::fmt;
 use std::marker::Model;
@@ -12,8 +13,7 @@ use std::marker::Model;
 pub struct Account {
     /// The system_id, up to 15 octets.
     pub name: Octets,
-    /// Up to 8 octets.
-    pub password: Octets,
+    pub password: Password,
 }
 
 // The password is a secret, so it is not shown.
@@ -125,7 +125,7 @@ impl Accounts {
         for place in 0..accounts.len() {
             let account = &accounts[place];
             if account.name.as_slice() == name {
-                if account.password.as_slice() == password {
+                if account.password.is_own(password) {
                     return Login::Known(place);
                 }
                 return Login::WrongPassword;

@@ -1,11 +1,11 @@
 //! Laws of sessions, over their definitions alone.
-ghost use Rattle.std.specs.Prelude.{◌≡◌, ◌++◌, ◌∷◌, List, [], ℕ, map, true, false, None, Some};
+ghost use Rattle.std.specs.Prelude.{◌≡◌, ◌++◌, ◌∷◌, List, [], ℕ, bytes_eq, map, slice_get, true, false, None, Some};
 ghost use Rattle.std.specs.List.{AllByRecursion};
 ghost use Rattle.smpp_pdu.specs.declared.bind.Bind.{Bind as BindOf};
 ghost use Rattle.smpp_session.specs.declared.account.Account.{Account as AccountOf};
 ghost use Rattle.smpp_session.specs.declared.account.Login.TheVariants.{Known, UnknownName, WrongPassword};
 ghost use Rattle.smpp_session.specs.declared.action.BindKind.{BindKind as KindOf};
-ghost use Rattle.smpp_session.specs.Logins.{is_full, login};
+ghost use Rattle.smpp_session.specs.Logins.{is_full, is_own, login};
 ghost use Rattle.smpp_session.specs.declared.action.Action.{Action as ActionOf};
 ghost use Rattle.smpp_session.specs.declared.calling.Call.{Call as CallOf};
 ghost use Rattle.smpp_session.specs.declared.conversation.SessionState.TheVariants.{Closed, Finishing};
@@ -101,6 +101,12 @@ pub fn a_full_account_takes_no_bind()
     ensures wrong { (accounts : List AccountOf) (kind : KindOf) (number : ℕ) (bind : BindOf) (turn : TurnOf)
         → login 0 bind.system_id bind.password accounts ≡ WrongPassword
         → bind_taken accounts kind number bind turn ≡ bind_refused (without_bind_resp kind) ESME_RINVPASWD number bind.system_id turn }
+{}
+
+/// A name and a password are those of an account only where it has that name and the password is its own.
+pub fn only_its_own_password_is_an_accounts()
+    ensures { (accounts : List AccountOf) (name password : List ℕ) (place : ℕ) → login 0 name password accounts ≡ Known place
+        → (account : AccountOf) × (slice_get accounts place ≡ Some account) × (bytes_eq account.name name ≡ true) × (is_own account.password password ≡ true) }
 {}
 
 /// A closed session stays closed and gives nothing, whatever is called.

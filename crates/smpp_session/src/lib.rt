@@ -17,6 +17,7 @@
 //! - `front`: what the untreated octets begin with
 //! - `laws`: laws of sessions
 //! - `numbers`: sequence numbers that wait for their answers
+//! - `password`: passwords, as they are or as what was made of them
 //! - `patience`: how long an endpoint is waited for (7.2)
 //! - `session`: the session and its calls
 //! - `table`: what becomes of a command by the state (2.2, 2.3)
@@ -33,6 +34,7 @@ mod fault;
 mod front;
 pub mod laws;
 mod numbers;
+mod password;
 pub mod patience;
 mod session;
 mod table;
@@ -44,4 +46,5 @@ pub use answer::{Answer, Request};
 pub use calling::{Call, run};
 pub use conversation::SessionState;
 pub use fault::DeliverFault;
+pub use password::{Password, digest_of};
 pub use session::{Outgoing, Session};

@@ -11,3 +11,4 @@ pub mod Places
 pub mod Refusals
 pub mod SecretLines
 pub mod Served
+pub mod TableTexts

@@ -1,4 +1,5 @@
 pub mod About
+pub mod AccountTables
 pub mod Accounts
 pub mod Explaining
 pub mod HandsetWords

@@ -9,6 +9,7 @@
 
 mod about;
 mod account;
+mod account_tables;
 mod accounts;
 mod address;
 mod detail;
@@ -26,6 +27,7 @@ mod sim;
 
 pub use about::{About, VERSION, about_of};
 pub use account::{AccountWords, account_of};
+pub use account_tables::{PasswordWords, TableAccount, TableFault, add_tables};
 pub use accounts::{FileFault, add_lines};
 pub use address::own_address;
 pub use detail::LogDetail;

@@ -34,7 +34,7 @@ fn put_last<R: Wait, G: Endpoint, A: Surroundings>(
             return;
         }
         let _ = hear(rt, seat, endpoint);
-        let _ = put_jobs(rt, seat, endpoint, true);
+        let _ = put_jobs(rt, around, seat, endpoint, true);
         if !endpoint.has_jobs() {
             return;
         }

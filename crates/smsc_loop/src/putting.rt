@@ -6,6 +6,7 @@ ghost use Rattle.smsc_loop.specs.Phases.{Phase, Listens, behind};
 
 use crate::endpoint::Endpoint;
 use crate::open_seat::OpenSeat;
+use crate::surroundings::Surroundings;
 use sms_centre_spec::jobs::{Job, Reply};
 use std::alloc::AllocError;
 use std::sync::Wait;
@@ -52,15 +53,25 @@ fn is_change(job: &Job) -> bool {
     matches!(job, Job::Submit { .. } | Job::Cancel { .. })
 }
 
-// Puts a job, or hands it back. Once the connection has ended no message is taken in, since nobody would be answered.
-fn offer<R: Wait>(rt: &R, seat: &mut OpenSeat, has_ended: bool, job: Job) -> Result<(), Job>
+// Whether the job may be put. Once the connection has ended no message is taken in, since nobody would be answered. Before that a request is
+// one of those that its account may put in a second.
+fn may_put<A: Surroundings>(around: &A, has_ended: bool, job: &Job) -> bool {
+    if has_ended {
+        return !is_change(job);
+    }
+    !job.is_request() || around.admits(job)
+}
+
+// Puts a job that may be put, or hands it back.
+fn offer<R: Wait>(rt: &R, seat: &mut OpenSeat, may_put: bool, job: Job) -> Result<(), Job>
     ensures seat { IsSameSeat seat.old.seat seat.new.seat }
     ensures taken { taken_by seat.new.seat ≡ taken_by seat.old.seat }
     ensures put { MatchResult result
         (λ _. put_by seat.new.seat ≡ put_by seat.old.seat ++ Some job ∷ [])
         (λ back. (back ≡ job) × (put_by seat.new.seat ≡ put_by seat.old.seat)) }
+    ensures refused { may_put ≡ false → put_by seat.new.seat ≡ put_by seat.old.seat }
 {
-    if has_ended && is_change(&job) {
+    if !may_put {
         return Err(job);
     }
     seat.put(rt, job)
@@ -68,8 +79,9 @@ fn offer<R: Wait>(rt: &R, seat: &mut OpenSeat, has_ended: bool, job: Job) -> Res
 
 // Puts the next job of the endpoint. False where there is none, it is not the seat's turn, or the job is to be put again. The endpoint is not
 // asked for a job before its turn, since it answers a request that is handed back with ESME_RTHROTTLED.
-fn put_next<R: Wait, G: Endpoint>(
+fn put_next<R: Wait, G: Endpoint, A: Surroundings>(
     rt: &R,
+    around: &A,
     seat: &mut OpenSeat,
     endpoint: &mut G,
     has_ended: bool,
@@ -83,7 +95,8 @@ fn put_next<R: Wait, G: Endpoint>(
     let Some(job) = endpoint.next_job() else {
         return Ok(false);
     };
-    match offer(rt, seat, has_ended, job) {
+    let may_put = may_put(around, has_ended, &job);
+    match offer(rt, seat, may_put, job) {
         Ok(()) => Ok(true),
         Err(back) => {
             let again = endpoint.handed_back(back)?;
@@ -93,8 +106,9 @@ fn put_next<R: Wait, G: Endpoint>(
 }
 
 /// Puts the jobs of the endpoint, as far as it is the seat's turn, until one is to be put again.
-pub(crate) fn put_jobs<R: Wait, G: Endpoint>(
+pub(crate) fn put_jobs<R: Wait, G: Endpoint, A: Surroundings>(
     rt: &R,
+    around: &A,
     seat: &mut OpenSeat,
     endpoint: &mut G,
     has_ended: bool,
@@ -103,7 +117,7 @@ pub(crate) fn put_jobs<R: Wait, G: Endpoint>(
         (standing endpoint.new (behind (is_ok result) p) a w seat.new.seat) }
 {
     for _ in 0..4096 {
-        if !put_next(rt, seat, endpoint, has_ended)? {
+        if !put_next(rt, around, seat, endpoint, has_ended)? {
             return Ok(());
         }
     }

@@ -106,7 +106,7 @@ fn exchange<R: Wait, G: Endpoint, A: Surroundings>(
 {
     endpoint.at(now)?;
     let heard = hear(rt, seat, endpoint)?;
-    put_jobs(rt, seat, endpoint, false)?;
+    put_jobs(rt, around, seat, endpoint, false)?;
     observe_notes(around, seat.number(), endpoint);
     Ok(heard)
 }

@@ -3,6 +3,7 @@ ghost use Rattle.std.specs.Prelude.{◌≡◌, true};
 
 use crate::note::{Counts, Note};
 use smpp_session::FullAccounts;
+use sms_centre_spec::jobs::Job;
 
 /// What is ordered of the endpoint at a seat.
 #[derive(Clone, Copy, Debug, PartialEq, Eq)]
@@ -39,6 +40,9 @@ pub trait Surroundings {
 
     /// Whether connections wait for a seat.
     fn do_others_wait(&self) -> bool;
+
+    /// Whether a request may be put now: its account has not put as many in this second as it may.
+    fn admits(&self, request: &Job) -> bool;
 
     /// What is ordered of the endpoint at the seat of this number.
     fn order(&self, seat: usize) -> Order;

@@ -4,6 +4,7 @@ pub mod Exchanged
 pub mod Limits
 pub mod OneAnswer
 pub mod Ran
+pub mod RateLaws
 pub mod Sat
 pub mod ShareLists
 pub mod Served

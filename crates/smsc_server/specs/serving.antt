@@ -3,6 +3,7 @@ pub mod Entering
 pub mod KeptSeats
 pub mod PieceEnds
 pub mod Pieces
+pub mod Rates
 pub mod Reading
 pub mod SeatThreads
 pub mod Serving

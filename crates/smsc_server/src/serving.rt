@@ -17,6 +17,7 @@
 //! - `observed_keep`: a keep whose commits are reported
 //! - `orders`: what an operator orders of a run
 //! - `pieces`: the pieces that cross from the reader of a connection to its seat
+//! - `rates`: how many requests of an account are put in a second
 //! - `reading`: the threads that read connections
 //! - `refusing`: a connection that is refused
 //! - `run`: a run
@@ -38,6 +39,7 @@ mod occupancy;
 mod orders;
 mod pieces;
 mod poller;
+mod rates;
 mod reading;
 mod refusing;
 mod run;
@@ -53,5 +55,6 @@ pub use observed_keep::ObservedKeep;
 pub use observer::{Event, Observer};
 pub use occupancy::Seated;
 pub use orders::{Orders, SEATS};
+pub use rates::{Rate, no_account_passes_its_rate};
 pub use run::{serve, serve_machine};
 pub use server::Given;

@@ -4,6 +4,7 @@
 //! carry is not proved.
 //!
 //! - `access`: the access log
+//! - `account_file`: the accounts of a run, from its words and from their file
 //! - `control`: orders of an operator, over a Unix socket
 //! - `lines`: the lines of the log
 //! - `link_secrets`: the secrets of links, from their file
@@ -11,6 +12,7 @@
 //! - `looking`: a look at a store, which changes nothing
 //! - `moments`: moments of this machine's clock, and their text
 //! - `opening`: why a store can't be opened
+//! - `password`: what is written of a password
 //! - `ports`: the ports of a run
 //! - `preparing`: how both files are made ready before a run, and left after it
 //! - `readiness`: what whoever started the server is told of it
@@ -28,6 +30,7 @@
 #![tactic(auto)]
 
 mod access;
+mod account_file;
 mod control;
 mod lines;
 mod link_secrets;
@@ -35,6 +38,7 @@ mod logging;
 mod looking;
 mod moments;
 mod opening;
+mod password;
 mod ports;
 mod preparing;
 mod readiness;
@@ -52,6 +56,7 @@ mod watching;
 
 use crate::control::{Command, OrderFault, order};
 use crate::looking::show_store;
+use crate::password::print_password;
 use crate::run_fault::{Paths, RunFault, USAGE, words_fault};
 use crate::running::run_words;
 use crate::saving::save_store;
@@ -165,6 +170,7 @@ fn paths_of<'a>(asked: &ServerWords<'a>) -> Paths<'a> {
             secrets: "",
             control: *control,
         },
+        ServerWords::Password => no_paths(),
     }
 }
 
@@ -231,5 +237,6 @@ fn do_asked<R: Threads + Wait + Clock + Copy + Send + Sync + 'static>(
             give(&host, control, Command::Stop, wait)
         }
         ServerWords::End { control, seat } => { give(&host, control, Command::End(*seat), WAIT) }
+        ServerWords::Password => print_password(&host),
     }
 }

@@ -73,6 +73,12 @@ pub enum RunFault {
     /// This line of the accounts' file is no account.
     #[error("line {0} is no account")]
     AccountLine(usize),
+    /// The accounts' file has other tables than accounts.
+    #[error("they have another key than account, or that is no [[account]]")]
+    NoTables,
+    /// Every user may read or write the accounts' file, which has this mode.
+    #[error("every user may read or write them (mode {0:o}): chmod 600, or --accounts-open")]
+    OpenToOthers(u32),
     /// There are too many accounts, or one name twice.
     #[error("more than 32 accounts, or a name twice")]
     Accounts,
@@ -142,6 +148,12 @@ pub enum RunFault {
     /// The clock has no moment of the years 2000 to 2099.
     #[error("the clock shows none of the years 2000 to 2099")]
     NoClock,
+    /// Standard input has no password.
+    #[error("a password has up to 8 ASCII characters, on one line")]
+    NoPassword,
+    /// Standard input can't be read.
+    #[error("standard input can't be read: {0}")]
+    Input(io::Error),
     /// Standard output can't be written.
     #[error("standard output can't be written")]
     Output,
@@ -157,6 +169,7 @@ pub const USAGE: &str =
     \u{20}      smscd save --store FILE --to FILE\n\
     \u{20}      smscd stop --control PATH [--wait SECONDS]\n\
     \u{20}      smscd end --control PATH SEAT\n\
+    \u{20}      smscd password\n\
     \u{20}      smscd --help | --version\n\
     \n\
     a run, until it is ordered to stop:\n\
@@ -165,7 +178,8 @@ pub const USAGE: &str =
     \u{20}  --links PORT      handsets link here\n\
     \u{20}  --centre NUMBER   the centre's own number, 1 to 20 digits\n\
     \u{20}  --accounts FILE   accounts, one a line, each as ACCOUNT: NAME:PASSWORD:NUMBER[:SESSIONS]\n\
-    \u{20}                    (SESSIONS at once: 1 to 32, else 4)\n\
+    \u{20}                    (SESSIONS at once: 1 to 32, else 4); or tables [[account]] in TOML\n\
+    \u{20}  --accounts-open   every user may read that file\n\
     \u{20}  --link-secrets FILE\n\
     \u{20}                    secrets of handsets, one a line: NUMBER:SECRET\n\
     \u{20}  --control PATH    a socket for orders\n\
@@ -183,9 +197,11 @@ pub const USAGE: &str =
     orders:\n\
     \u{20}  stop              end in good order; waited for 15 seconds, or SECONDS\n\
     \u{20}  end SEAT          end the connection at that seat, 0 to 31\n\
+    a password, read from standard input:\n\
+    \u{20}  password          prints the salt and the hash of it for a table [[account]]\n\
     \n\
     example:\n\
-    \u{20}  echo bank:Tr0ub4d0:447700900001 > accounts\n\
+    \u{20}  (umask 077; echo bank:Tr0ub4d0:447700900001 > accounts)\n\
     \u{20}  smscd --store centre.store --smpp 2775 --links 2776 --centre 447700900000 --accounts accounts --control orders &\n\
     \u{20}  smscd stop --control orders\n";
 
@@ -224,6 +240,10 @@ fn line_text(alloc: Global, number: usize, path: &str) -> Result<String, AllocEr
     Ok(format!(in alloc; "smscd: line {number} of {path} is no account\n")?)
 }
 
+fn accounts_text(alloc: Global, path: &str, fault: &RunFault) -> Result<String, AllocError> {
+    Ok(format!(in alloc; "smscd: the accounts {path}: {fault}\n")?)
+}
+
 fn no_text(alloc: Global, path: &str) -> Result<String, AllocError> {
     Ok(format!(in alloc; "smscd: the accounts {path} are no text\n")?)
 }
@@ -260,6 +280,9 @@ impl RunFault {
             | RunFault::NoWords
             | RunFault::Accounts
             | RunFault::AccountLine(_)
+            | RunFault::NoTables
+            | RunFault::OpenToOthers(_)
+            | RunFault::NoPassword
             | RunFault::NoText
             | RunFault::SecretLine(_)
             | RunFault::SecretsNoText => 2,
@@ -282,6 +305,7 @@ impl RunFault {
             | RunFault::NotEnded(_)
             | RunFault::NoThread
             | RunFault::NoClock
+            | RunFault::Input(_)
             | RunFault::Output
             | RunFault::Copy(_) => 5,
         }
@@ -292,6 +316,9 @@ impl RunFault {
         match self {
             RunFault::Words(text) => plain(alloc, text.as_str()),
             RunFault::AccountLine(number) => line_text(alloc, *number, paths.accounts),
+            RunFault::NoTables | RunFault::OpenToOthers(_) => {
+                accounts_text(alloc, paths.accounts, self)
+            }
             RunFault::NoText => no_text(alloc, paths.accounts),
             RunFault::NoAccounts(error) => unread_text(alloc, paths.accounts, error),
             RunFault::SecretLine(number) => secret_line_text(alloc, *number, paths.secrets),

@@ -1,6 +1,6 @@
 //! A run of the server.
+use crate::account_file::book_of;
 use crate::control::Control;
-use crate::link_secrets::access_of;
 use crate::logging::{self, Log, LogThread};
 use crate::moments::{now, text_of};
 use crate::opening::{FoundStore, open_store};
@@ -20,20 +20,17 @@ use sms_base::{Address, Moment};
 use sms_centre_spec::numbers::first_number;
 use sms_keeper::Gate;
 use sms_store_files::{LogFinding, LogJudgement};
-use smsc_cli::words::{AccountWords, FileFault, ServerRun, add_lines};
+use smsc_cli::words::{AccountWords, ServerRun};
 use smsc_endpoint::LinkAccess;
-use smsc_server::{Given, ObservedKeep, Orders, Ports, ServeFault, serve};
+use smsc_server::{Given, ObservedKeep, Orders, Ports, Rate, ServeFault, serve};
 use smsc_service::{CentreStore, LinkBoard, Setup};
 use std::alloc::{AllocError, Global};
+use std::io;
 use std::net::TcpListener;
 use std::sync::atomic::{AtomicBool, Ordering};
 use std::sync::{Arc, Wait};
 use std::thread::{self, JoinHandle, Threads};
 use std::time::Clock;
-use std::{fs, io};
-
-// How many accounts there may be.
-const MOST_ACCOUNTS: usize = 32;
 
 // So many seconds the rows may be ahead of the clock.
 const MOST_AHEAD: u64 = 600;
@@ -53,9 +50,7 @@ pub fn run_words<R: Threads + Wait + Clock + Copy + Send + Sync + 'static>(
     run: &ServerRun<'_>,
     accounts: &[AccountWords<'_>],
 ) -> Result<(), RunFault> {
-    let access = access_of(&host, run.link_secrets)?;
-    let mut book = RunAccounts::new(host.alloc(), access);
-    fill(&host, run, accounts, &mut book)?;
+    let book = book_of(&host, run, accounts)?;
     // A run of no connection opens nothing.
     if run.sessions == Some(0) {
         return Ok(());
@@ -64,63 +59,6 @@ pub fn run_words<R: Threads + Wait + Clock + Copy + Send + Sync + 'static>(
         Some(start) => serve_book(host, rt, run, book, start),
         None => Err(RunFault::NoClock),
     }
-}
-
-// ---- accounts
-
-fn fill(
-    host: &HostRuntime,
-    run: &ServerRun<'_>,
-    accounts: &[AccountWords<'_>],
-    book: &mut RunAccounts,
-) -> Result<(), RunFault> {
-    book.add_all(host.alloc(), accounts)?;
-    match run.accounts {
-        Some(path) => add_file(host, path, book),
-        None => Ok(()),
-    }
-}
-
-fn reading_fault(error: io::Error) -> RunFault {
-    match error.kind() {
-        io::ErrorKind::OutOfMemory => RunFault::NoMemory,
-        io::ErrorKind::InvalidData => RunFault::NoText,
-        _ => RunFault::NoAccounts(error),
-    }
-}
-
-fn add_file(host: &HostRuntime, path: &str, book: &mut RunAccounts) -> Result<(), RunFault> {
-    match fs::read_to_string(host, path) {
-        Ok(file) => add_text(host.alloc(), file.as_str(), book),
-        Err(error) => Err(reading_fault(error)),
-    }
-}
-
-fn lines_fault(fault: FileFault) -> RunFault {
-    match fault {
-        FileFault::BadLine(number) => RunFault::AccountLine(number),
-        FileFault::NoMemory => RunFault::NoMemory,
-    }
-}
-
-// The accounts of a file, behind those of the words: 32 at most, no two of one name.
-fn add_text(alloc: Global, file: &str, book: &mut RunAccounts) -> Result<(), RunFault> {
-    let mut more = Vec::new(alloc);
-    add_lines(&mut more, file).map_err(lines_fault)?;
-    add_accounts(alloc, more.as_slice(), book)
-}
-
-fn add_accounts(
-    alloc: Global,
-    more: &[AccountWords<'_>],
-    book: &mut RunAccounts,
-) -> Result<(), RunFault> {
-    let room = MOST_ACCOUNTS.saturating_sub(book.names.len());
-    if more.len() > room || book.has_any(more) {
-        return Err(RunFault::Accounts);
-    }
-    book.add_all(alloc, more)?;
-    Ok(())
 }
 
 // ---- the log
@@ -147,7 +85,9 @@ fn serve_book<R: Threads + Wait + Clock + Copy + Send + Sync + 'static>(
         accounts,
         access,
         limits,
+        rates,
     } = book;
+    let limits = Limits { limits, rates };
     let setup = setup_of(run, start, accounts);
     let names = Arc::new(host.alloc(), names)?;
     let (log, thread) = start_log(host, rt, &names)?;
@@ -164,12 +104,19 @@ fn end_log<R: Threads + Wait + Clock + Copy>(rt: &R, log: Arc<Log<R>>, thread: L
     thread.end(rt);
 }
 
+// How many sessions each account may have, and how many requests it may put in a second.
+#[derive(Drop)]
+struct Limits {
+    limits: Vec<u8>,
+    rates: Vec<Option<Rate>>,
+}
+
 // What a run has beside its store.
 #[derive(Drop)]
 struct RunParts<R: Wait> {
     logins: Accounts,
     access: LinkAccess,
-    limits: Vec<u8>,
+    limits: Limits,
     names: Arc<Vec<String>>,
     log: Arc<Log<R>>,
     orders: Arc<Orders>,
@@ -184,7 +131,7 @@ fn parts_of<R: Wait>(
     alloc: Global,
     logins: Vec<Login>,
     access: LinkAccess,
-    limits: Vec<u8>,
+    limits: Limits,
     names: Arc<Vec<String>>,
     log: &Arc<Log<R>>,
 ) -> Result<RunParts<R>, AllocError> {
@@ -260,6 +207,7 @@ fn given_of<R: Wait + Copy>(
     let accounts = Arc::new(alloc, logins)?;
     let access = Arc::new(alloc, access)?;
     let observer = Arc::new(alloc, watchers)?;
+    let Limits { limits, rates } = limits;
     Ok((
         Given {
             accounts,
@@ -269,6 +217,7 @@ fn given_of<R: Wait + Copy>(
             links,
             sessions: run.sessions,
             limits,
+            rates,
         },
         part,
     ))

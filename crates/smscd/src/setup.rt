@@ -1,10 +1,14 @@
 //! What a run begins with.
-use smpp_session::Account as Login;
+use smpp_session::{Account as Login, Password};
 use sms_base::{Listed, Moment, Octets};
-use smsc_cli::words::{AccountWords, ServerRun};
+use smsc_cli::words::{AccountWords, PasswordWords, ServerRun, TableAccount};
 use smsc_endpoint::LinkAccess;
+use smsc_server::Rate;
 use smsc_service::{CentreAccount, Setup};
 use std::alloc::{AllocError, Global};
+
+// How many accounts there may be.
+const MOST_ACCOUNTS: usize = 32;
 
 /// Who may connect to a run, as each part of it wants it.
 #[derive(Drop)]
@@ -19,26 +23,62 @@ pub struct RunAccounts {
     pub access: LinkAccess,
     /// How many sessions each may have at once.
     pub limits: Vec<u8>,
+    /// How many requests each may put in a second.
+    pub rates: Vec<Option<Rate>>,
 }
 
-fn login_of(alloc: Global, account: &AccountWords<'_>) -> Result<Login, AllocError> {
+fn password_of(alloc: Global, words: PasswordWords<'_>) -> Result<Password, AllocError> {
+    match words {
+        PasswordWords::Plain(password) => {
+            let octets = Octets::copy_of(alloc, password.as_bytes())?;
+            Ok(Password::Plain(octets))
+        }
+        PasswordWords::Salted { salt, digest } => {
+            let salt = Octets::copy_of(alloc, salt.as_bytes())?;
+            Ok(Password::Salted { salt, digest })
+        }
+    }
+}
+
+fn login_of(alloc: Global, account: &TableAccount<'_>) -> Result<Login, AllocError> {
     Ok(Login {
         name: Octets::copy_of(alloc, account.name.as_bytes())?,
-        password: Octets::copy_of(alloc, account.password.as_bytes())?,
+        password: password_of(alloc, account.password)?,
     })
 }
 
-fn name_of(alloc: Global, account: &AccountWords<'_>) -> Result<String, AllocError> {
+fn name_of(alloc: Global, account: &TableAccount<'_>) -> Result<String, AllocError> {
     let mut name = String::new(alloc);
     name.push_str(account.name)?;
     Ok(name)
 }
 
-fn account_of(alloc: Global, account: &AccountWords<'_>) -> Result<CentreAccount, AllocError> {
+fn account_of(alloc: Global, account: &TableAccount<'_>) -> Result<CentreAccount, AllocError> {
     Ok(CentreAccount {
         name: Octets::copy_of(alloc, account.name.as_bytes())?,
         address: account.address,
     })
+}
+
+// The account of a word or a line: it may put as many requests as it likes.
+fn unlimited<'a>(account: &AccountWords<'a>) -> TableAccount<'a> {
+    TableAccount {
+        name: account.name,
+        password: PasswordWords::Plain(account.password),
+        address: account.address,
+        sessions: account.sessions,
+        rate: None,
+        is_suspended: false,
+    }
+}
+
+// A suspended account may have no session.
+fn limit_of(account: &TableAccount<'_>) -> u8 {
+    if account.is_suspended {
+        0
+    } else {
+        account.sessions
+    }
 }
 
 impl RunAccounts {
@@ -50,41 +90,34 @@ impl RunAccounts {
             accounts: Vec::new(alloc),
             access,
             limits: Vec::new(alloc),
+            rates: Vec::new(alloc),
         }
-    }
-
-    fn add(&mut self, alloc: Global, account: &AccountWords<'_>) -> Result<(), AllocError> {
-        self.logins.push(login_of(alloc, account)?)?;
-        self.names.push(name_of(alloc, account)?)?;
-        self.accounts.push(account_of(alloc, account)?)?;
-        self.limits.push(account.sessions)?;
-        Ok(())
-    }
-
-    /// Adds these behind those that are there.
-    pub fn add_all(
-        &mut self,
-        alloc: Global,
-        accounts: &[AccountWords<'_>],
-    ) -> Result<(), AllocError> {
-        for account in accounts {
-            self.add(alloc, account)?;
-        }
-        Ok(())
     }
 
     fn has(&self, name: &str) -> bool {
         self.names.iter().any(|known| known.as_str() == name)
     }
 
-    /// Whether one of these has a name that is there.
-    pub fn has_any(&self, accounts: &[AccountWords<'_>]) -> bool {
-        for account in accounts {
-            if self.has(account.name) {
-                return true;
-            }
+    /// Adds the account behind those that are there. False where there are as many as may be, or one has its name.
+    pub fn add_table(
+        &mut self,
+        alloc: Global,
+        account: &TableAccount<'_>,
+    ) -> Result<bool, AllocError> {
+        if self.names.len() >= MOST_ACCOUNTS || self.has(account.name) {
+            return Ok(false);
         }
-        false
+        self.logins.push(login_of(alloc, account)?)?;
+        self.names.push(name_of(alloc, account)?)?;
+        self.accounts.push(account_of(alloc, account)?)?;
+        self.limits.push(limit_of(account))?;
+        self.rates.push(account.rate.map(Rate::of))?;
+        Ok(true)
+    }
+
+    /// Adds the account of a word or a line, as `add_table` does.
+    pub fn add(&mut self, alloc: Global, account: &AccountWords<'_>) -> Result<bool, AllocError> {
+        self.add_table(alloc, &unlimited(account))
     }
 }
 

@@ -9,6 +9,8 @@ mod exchanges;
 #[cfg(test)]
 mod limits;
 #[cfg(test)]
+mod passwords;
+#[cfg(test)]
 mod secrets;
 #[cfg(test)]
 mod sessions;

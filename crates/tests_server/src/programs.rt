@@ -1,6 +1,8 @@
 //! Tests of what the programs over links use: frames in a stream, owners' lines, words, tables, captures, ladders.
 
 #[cfg(test)]
+mod account_tables;
+#[cfg(test)]
 mod captures;
 #[cfg(test)]
 mod frames;

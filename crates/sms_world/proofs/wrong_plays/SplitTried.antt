@@ -1,6 +1,7 @@
 -- A text in its two parts is split so, and what differs from that is not. A row that says another thing than its part.
-use Rattle.std.proofs.Common.{arith, ◌≡◌, ℕ, zero, suc, List, [], ◌∷◌, true, false, refl, sym, ◌∙◌, ap, subst, inl, inr, ⊎_elim, Result, Ok, Some, None, ◌<◌, ◌≤◌, length}
+use Rattle.std.proofs.Common.{arith, ◌≡◌, ℕ, zero, suc, List, [], ◌∷◌, true, false, refl, sym, ◌∙◌, ap, subst, inl, inr, ⊎_elim, Result, Ok, Option, Some, None, ◌<◌, ◌≤◌, length}
 use Rattle.std.specs.Prelude.{◌⊎◌, ◌++◌, slice_get}
+use Rattle.sms_alphabet.specs.declared.concat_key.ConcatKey.{ConcatKey}
 use Rattle.sms_alphabet.specs.declared.scheme.Coding.TheVariants.{Octets}
 use Rattle.sms_base.specs.Among.{Among}
 use Rattle.sms_base.specs.HandsetNumber.{own_address}
@@ -65,7 +66,7 @@ second_full : IsFull 133 (singles 8) []
 second_full = record { some = eight; within = eight_fit; full = tt }
 
 division : IsDivision 133 (whole_units Octets (zeros 141)) (zeros 133 ∷ zeros 8 ∷ [])
-division = (singles 133 ∷ singles 8 ∷ [], ((first_full, (second_full, tt)), refl, refl))
+division = (singles 133 ∷ singles 8 ∷ [], (first_full, (second_full, tt)), refl, refl)
 
 too_long : 141 ≤ 140 → ⊥
 too_long h = omega (arith, h)
@@ -149,8 +150,16 @@ first_unit unit more ((u ∷ us) ∷ parts) found full all each =
     let same : u ≡ unit ∷ [] = cc in
     (joined us, joined_each parts, sym each ∙ ap (λ (z : List ℕ). (z ++ joined us) ∷ joined_each parts) same)
 
-other_first : (rest : List ℕ) (key key_too : _) → Some first_piece ≡ Some (record { content = record { coding = Octets; dcs = 4; units = 1 ∷ rest }; key = key }) → ⊥
-other_first rest key key_too e = absurd cc
+abbrev units_in : Option PartOf → List ℕ
+units_in None = []
+units_in (Some part) = part.content.units
+
+first_differs : (others rest : List ℕ) → 0 ∷ others ≡ 1 ∷ rest → ⊥
+first_differs others rest e = absurd cc
+
+other_first : (rest : List ℕ) (key : Option ConcatKey)
+    → Some first_piece ≡ Some (record { content = record { coding = Octets; dcs = 4; units = 1 ∷ rest }; key = key }) → ⊥
+other_first rest key e = first_differs (zeros 132) rest (ap (λ (p : Option PartOf). units_in p) e)
 
 same_part : (p q : PartRow) → Some p ≡ Some q → p ≡ q
 same_part p q e = cc
@@ -166,7 +175,7 @@ other_content s =
     x.1.2 ∙ ap (λ (z : List (List ℕ)). numbered other_content_is 7 (length x.1.0) 1 z) f.2 in
     let row = s.carried 0 _ (ap (λ (z : List PartOf). slice_get z 0) is) in
     let its : split_one ≡ row.0 = same_part split_one row.0 row.1.0 in
-    other_first f.0 _ _ (sym one_carried ∙ (ap (λ (z : PartRow). carried_in z.tpdu) its ∙ row.1.1))
+    other_first f.0 _ (sym one_carried ∙ (ap (λ (z : PartRow). carried_in z.tpdu) its ∙ row.1.1))
 
 nowhere : place_in (deliver hello_octets) ≡ None
 unfolding everything

@@ -30,6 +30,7 @@ spelled given texts o run a h = record {
   ahead = h.ahead ∙ ap is_given a.ahead;
   new_store = h.new_store ∙ ap is_given a.new_store;
   accept_loss = h.accept_loss ∙ ap is_given a.accept_loss;
+  accounts_open = h.accounts_open ∙ ap is_given a.accounts_open;
   log = subst (λ v. SpellsLog v run.log) a.log h.log;
 }
 

@@ -1,5 +1,5 @@
 -- The words of the server, by clap's matches of them. The first word is the program's name.
-use Rattle.std.specs.Prelude.{◌≡◌, ℕ, List, [], Bool, true, false, Option, Some, None, MatchBool, bytes_eq, codes, map, option_map}
+use Rattle.std.specs.Prelude.{◌≡◌, ℕ, List, [], Bool, true, false, Option, Some, None, MatchBool, bytes_eq, codes, length, map, option_map}
 use Rattle.clap.specs.Words.{App, Rule, all_of, first_of, matches_of, new_app, new_rule, takes, with_rule}
 use Rattle.clap.specs.declared.builder.action.ArgAction.TheVariants.{Append, Set}
 use Rattle.smsc_cli.specs.words.Accounts.{AddsAll}
@@ -13,7 +13,7 @@ use Rattle.smsc_cli.specs.declared.words.detail.LogDetail.{LogDetail}
 use Rattle.smsc_cli.specs.declared.words.server.Options.{Options}
 use Rattle.smsc_cli.specs.declared.words.server.ServerRun.{ServerRun}
 use Rattle.smsc_cli.specs.declared.words.server.ServerWords.{ServerWords}
-use Rattle.smsc_cli.specs.declared.words.server.ServerWords.TheVariants.{Run, Show, Save, Stop, End}
+use Rattle.smsc_cli.specs.declared.words.server.ServerWords.TheVariants.{Run, Show, Save, Stop, End, Password}
 
 -- words that are arguments themselves, as many as there are
 abbrev pub listed_words : List ℕ → Rule
@@ -38,9 +38,11 @@ abbrev pub more_command : App
 more_command =
     with_rule (with_rule (with_rule paths_command (optional_option (codes "status"))) (flag_option (codes "ahead"))) (optional_option (codes "log"))
 
--- what an operator says of a store that a run would refuse
+-- what an operator says of a store or of accounts that a run would refuse
 abbrev pub store_command : App
-store_command = with_rule (with_rule more_command (flag_option (codes "new-store"))) (flag_option (codes "accept-loss"))
+store_command =
+    with_rule (with_rule (with_rule more_command (flag_option (codes "new-store"))) (flag_option (codes "accept-loss")))
+    (flag_option (codes "accounts-open"))
 
 abbrev pub server_command : App
 server_command = with_rule store_command (listed_words (codes "account"))
@@ -95,6 +97,7 @@ pub record SpelledServer (given : List ℕ → Option (List ℕ)) (run : ServerR
   pub ahead : run.is_ahead ≡ is_given (given (codes "ahead"))
   pub new_store : run.begins_anew ≡ is_given (given (codes "new-store"))
   pub accept_loss : run.accepts_loss ≡ is_given (given (codes "accept-loss"))
+  pub accounts_open : run.opens_accounts ≡ is_given (given (codes "accounts-open"))
   pub log : SpellsLog (given (codes "log")) run.log
 
 -- so where they are these
@@ -111,6 +114,7 @@ pub record SpelledOptions (o : Options) (run : ServerRun) : Type 0 where
   pub ahead : run.is_ahead ≡ is_given (option_map (λ s. s.now) o.ahead)
   pub new_store : run.begins_anew ≡ is_given (option_map (λ s. s.now) o.new_store)
   pub accept_loss : run.accepts_loss ≡ is_given (option_map (λ s. s.now) o.accept_loss)
+  pub accounts_open : run.opens_accounts ≡ is_given (option_map (λ s. s.now) o.accounts_open)
   pub log : SpellsLog (option_map (λ s. s.now) o.log) run.log
 
 abbrev pub IsPortText : List ℕ → Type 0
@@ -145,6 +149,7 @@ pub record AreOptionsOf (given : List ℕ → Option (List ℕ)) (texts : List (
   pub ahead : option_map (λ s. s.now) o.ahead ≡ given (codes "ahead")
   pub new_store : option_map (λ s. s.now) o.new_store ≡ given (codes "new-store")
   pub accept_loss : option_map (λ s. s.now) o.accept_loss ≡ given (codes "accept-loss")
+  pub accounts_open : option_map (λ s. s.now) o.accounts_open ≡ given (codes "accounts-open")
   pub log : option_map (λ s. s.now) o.log ≡ given (codes "log")
   pub words : map (λ s. s.now) o.words.items ≡ texts
 
@@ -155,6 +160,7 @@ AsksToServe words (Show store filter by_handset) = ⊥
 AsksToServe words (Save store to) = ⊥
 AsksToServe words (Stop control wait) = ⊥
 AsksToServe words (End control seat) = ⊥
+AsksToServe words Password = ⊥
 
 abbrev pub AsksToLook : List (List ℕ) → ServerWords → Type 0
 AsksToLook words (Run run accounts) = ⊥
@@ -162,6 +168,7 @@ AsksToLook words (Show store filter by_handset) = SpelledLook (λ name. look_val
 AsksToLook words (Save store to) = ⊥
 AsksToLook words (Stop control wait) = ⊥
 AsksToLook words (End control seat) = ⊥
+AsksToLook words Password = ⊥
 
 abbrev pub AsksToSave : List (List ℕ) → ServerWords → Type 0
 AsksToSave words (Run run accounts) = ⊥
@@ -169,6 +176,7 @@ AsksToSave words (Show store filter by_handset) = ⊥
 AsksToSave words (Save store to) = (save_value (codes "store") words ≡ Some store.now) × (save_value (codes "to") words ≡ Some to.now)
 AsksToSave words (Stop control wait) = ⊥
 AsksToSave words (End control seat) = ⊥
+AsksToSave words Password = ⊥
 
 -- clap takes the words, and they ask for a copy
 pub record AskForSave (words : List (List ℕ)) : Type 0 where
@@ -184,6 +192,7 @@ AsksToStop words (Show store filter by_handset) = ⊥
 AsksToStop words (Save store to) = ⊥
 AsksToStop words (Stop control wait) = (stop_value (codes "control") words ≡ Some control.now) × Wants SpellsCount (stop_value (codes "wait") words) wait
 AsksToStop words (End control seat) = ⊥
+AsksToStop words Password = ⊥
 
 -- these values spell a stop
 abbrev pub SpellsStop : Option (List ℕ) → Option (List ℕ) → Type 0
@@ -200,6 +209,7 @@ AsksToEnd words (Show store filter by_handset) = ⊥
 AsksToEnd words (Save store to) = ⊥
 AsksToEnd words (Stop control wait) = ⊥
 AsksToEnd words (End control seat) = (end_value (codes "control") words ≡ Some control.now) × Gives SpellsCount (end_value (codes "seat") words) seat
+AsksToEnd words Password = ⊥
 
 -- these values spell the end of a connection
 abbrev pub SpellsEnd : Option (List ℕ) → Option (List ℕ) → Type 0
@@ -210,19 +220,32 @@ pub record AskForEnd (words : List (List ℕ)) : Type 0 where
   pub taken : takes end_command words ≡ true
   pub spelled : SpellsEnd (end_value (codes "control") words) (end_value (codes "seat") words)
 
+-- the word that asks what to write of a password stands alone
+abbrev pub AskForPassword : List (List ℕ) → Type 0
+AskForPassword words = length words ≡ 1
+
+abbrev pub AsksForPassword : List (List ℕ) → ServerWords → Type 0
+AsksForPassword words (Run run accounts) = ⊥
+AsksForPassword words (Show store filter by_handset) = ⊥
+AsksForPassword words (Save store to) = ⊥
+AsksForPassword words (Stop control wait) = ⊥
+AsksForPassword words (End control seat) = ⊥
+AsksForPassword words Password = AskForPassword words
+
 -- whether a word is there and is this one
 abbrev pub is_word : List ℕ → Option (List ℕ) → Bool
 is_word wanted None = false
 is_word wanted (Some word) = bytes_eq word wanted
 
--- `show`, `save`, `stop` and `end` as the second word ask for a look, a copy or an order, by the words behind the program's name. All
--- else asks for a run
+-- `show`, `save`, `stop`, `end` and `password` as the second word ask for a look, a copy, an order, or what to write of a password, by the words
+-- behind the program's name. All else asks for a run
 abbrev pub AsksOfServer : Option (List ℕ) → List (List ℕ) → List (List ℕ) → ServerWords → Type 0
 AsksOfServer second words behind asked =
     MatchBool (is_word (codes "show") second) (AsksToLook behind asked)
     (MatchBool (is_word (codes "save") second) (AsksToSave behind asked)
     (MatchBool (is_word (codes "stop") second) (AsksToStop behind asked)
-    (MatchBool (is_word (codes "end") second) (AsksToEnd behind asked) (AsksToServe words asked))))
+    (MatchBool (is_word (codes "end") second) (AsksToEnd behind asked)
+    (MatchBool (is_word (codes "password") second) (AsksForPassword behind asked) (AsksToServe words asked)))))
 
 -- words that ask something of the server
 abbrev pub AskServer : Option (List ℕ) → List (List ℕ) → List (List ℕ) → Type 0
@@ -230,4 +253,5 @@ AskServer second words behind =
     MatchBool (is_word (codes "show") second) (AskForLook behind)
     (MatchBool (is_word (codes "save") second) (AskForSave behind)
     (MatchBool (is_word (codes "stop") second) (AskForStop behind)
-    (MatchBool (is_word (codes "end") second) (AskForEnd behind) (AskForServer words))))
+    (MatchBool (is_word (codes "end") second) (AskForEnd behind)
+    (MatchBool (is_word (codes "password") second) (AskForPassword behind) (AskForServer words)))))

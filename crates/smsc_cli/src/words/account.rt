@@ -21,7 +21,7 @@ pub struct AccountWords<'a> {
 }
 
 // So many, where it says nothing.
-const USUAL_SESSIONS: u8 = 4;
+pub(crate) const USUAL_SESSIONS: u8 = 4;
 
 /// The text before its first colon, and the text behind it.
 pub(crate) fn at_colon<'a>(text: &'a str) -> Option<(&'a str, &'a str)>
@@ -32,7 +32,7 @@ pub(crate) fn at_colon<'a>(text: &'a str) -> Option<(&'a str, &'a str)>
 }
 
 // The text, where it is a name.
-fn name_in<'a>(text: &'a str) -> Option<&'a str>
+pub(crate) fn name_in<'a>(text: &'a str) -> Option<&'a str>
     ensures found { IfSome result (λ name. (name.now ≡ text.entry.now) × IsName text.entry.now) }
     ensures none { IfNone result (¬ IsName text.entry.now) }
 {
@@ -43,7 +43,7 @@ fn name_in<'a>(text: &'a str) -> Option<&'a str>
 }
 
 // The text, where it is a password.
-fn password_in<'a>(text: &'a str) -> Option<&'a str>
+pub(crate) fn password_in<'a>(text: &'a str) -> Option<&'a str>
     ensures found { IfSome result (λ password. (password.now ≡ text.entry.now) × IsPassword text.entry.now) }
     ensures none { IfNone result (¬ IsPassword text.entry.now) }
 {

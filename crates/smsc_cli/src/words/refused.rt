@@ -7,7 +7,7 @@ use crate::words::server::{
     end_command, is_second, run_command, save_command, stop_command, texts_of,
 };
 use crate::words::sim::{is_relay, relay_command};
-use clap::Error;
+use clap::{Command, Error};
 use std::alloc::{AllocError, Global};
 
 const RUN: &[Rule] = &[
@@ -94,6 +94,10 @@ fn order_refused<'a>(alloc: Global, words: &'a [&'a str]) -> Result<Option<Strin
         let command = end_command(alloc)?.override_usage("smscd end --control PATH SEAT");
         let text = explained(alloc, command, &words[1..], &[])?;
         return Ok(Some(or_other(alloc, text, "SEAT is 0 to 31")?));
+    }
+    if is_second(words, "password") {
+        let command = Command::new(alloc, "password").override_usage("smscd password");
+        return explained(alloc, command, &words[1..], &[]);
     }
     run_refused(alloc, words)
 }

@@ -8,7 +8,7 @@ ghost use Rattle.smsc_cli.specs.words.Accounts.{AddsAll};
 ghost use Rattle.smsc_cli.specs.words.SimWords.{Gives, Spells};
 ghost use Rattle.smsc_cli.specs.words.LookWords.{AskForLook, MayBe, Wants};
 ghost use Rattle.smsc_cli.specs.words.Numbers.{IsCount, SpellsCount, SpellsFrom};
-ghost use Rattle.smsc_cli.specs.words.ServerWords.{AreOptionsOf, AskForEnd, AskForSave, AskForServer, AskForStop, AskServer, AsksOfServer, AsksToEnd, AsksToLook, AsksToSave, AsksToServe, AsksToStop, IsPortText, SpelledOptions, SpelledServer, SpellsEnd, SpellsServer, SpellsStop};
+ghost use Rattle.smsc_cli.specs.words.ServerWords.{AreOptionsOf, AskForEnd, AskForPassword, AskForSave, AskForServer, AskForStop, AskServer, AsksForPassword, AsksOfServer, AsksToEnd, AsksToLook, AsksToSave, AsksToServe, AsksToStop, IsPortText, SpelledOptions, SpelledServer, SpellsEnd, SpellsServer, SpellsStop};
 ghost use Rattle.smsc_cli.specs.words.ServerWords.{account_texts, end_command, end_value, is_word, listed, listed_words, more_command, needed_command, paths_command, port_command, save_command, save_value, seat_word, server_command, server_value, store_command, stop_command, stop_value};
 
 use crate::centre_table::Filter;
@@ -50,6 +50,8 @@ pub struct ServerRun<'a> {
     pub begins_anew: bool,
     /// What damage took from the store is given up.
     pub accepts_loss: bool,
+    /// Others may read the files with passwords and secrets.
+    pub opens_accounts: bool,
     /// What the log has besides.
     pub log: LogDetail,
 }
@@ -59,7 +61,7 @@ pub struct ServerRun<'a> {
 pub enum ServerWords<'a> {
     /// `--store FILE --smpp PORT --links PORT --centre NUMBER`, and as wanted `--sessions N`, `--accounts FILE`,
     /// `--link-secrets FILE`, `--control PATH`, `--status PORT`, `--ahead`, `--log WORD`, `--new-store`,
-    /// `--accept-loss` and accounts.
+    /// `--accept-loss`, `--accounts-open` and accounts.
     Run(ServerRun<'a>, Vec<AccountWords<'a>>),
     /// `show --store FILE`, perhaps with options of a filter.
     Show {
@@ -91,6 +93,8 @@ pub enum ServerWords<'a> {
         /// The number of the seat.
         seat: u32,
     },
+    /// `password`.
+    Password,
 }
 
 // The options of a run, as text.
@@ -109,6 +113,7 @@ struct Options<'a> {
     log: Option<&'a str>,
     new_store: Option<&'a str>,
     accept_loss: Option<&'a str>,
+    accounts_open: Option<&'a str>,
     words: Vec<&'a str>,
 }
 
@@ -166,14 +171,15 @@ fn more_command<'a>(alloc: Global) -> Result<Command<'a>, AllocError>
     )
 }
 
-// What an operator says of a store that a run would refuse.
+// What an operator says of a store or of accounts that a run would refuse.
 fn store_command<'a>(alloc: Global) -> Result<Command<'a>, AllocError>
     ensures { IfOk result (λ command. app_of command ≡ store_command) }
 {
-    with_two(
+    with_three(
         more_command(alloc)?,
         flag(alloc, "new-store"),
         flag(alloc, "accept-loss"),
+        flag(alloc, "accounts-open"),
     )
 }
 
@@ -259,6 +265,7 @@ fn options_of<'a>(alloc: Global, matches: &ArgMatches<'a>) -> Result<Options<'a>
         log: matches.get_str("log"),
         new_store: matches.get_str("new-store"),
         accept_loss: matches.get_str("accept-loss"),
+        accounts_open: matches.get_str("accounts-open"),
         words,
     })
 }
@@ -302,6 +309,7 @@ fn run_of<'a>(options: &Options<'a>) -> Option<ServerRun<'a>>
     let is_ahead = is_set(options.ahead);
     let begins_anew = is_set(options.new_store);
     let accepts_loss = is_set(options.accept_loss);
+    let opens_accounts = is_set(options.accounts_open);
     Some(ServerRun {
         store,
         smpp,
@@ -315,6 +323,7 @@ fn run_of<'a>(options: &Options<'a>) -> Option<ServerRun<'a>>
         is_ahead,
         begins_anew,
         accepts_loss,
+        opens_accounts,
         log,
     })
 }
@@ -467,6 +476,18 @@ fn end_asked<'a>(alloc: Global, words: &'a [&'a str]) -> Result<ServerWords<'a>,
     }
 }
 
+// What to write of a password.
+fn password_asked<'a>(words: &[&str]) -> Result<ServerWords<'a>, WordsFault>
+    ensures asked { IfOk result (λ asked. AsksForPassword (map (λ w. w.now) words.now) asked) }
+    ensures good { AskForPassword (map (λ w. w.now) words.now) → IfErr result (λ fault. fault ≡ NoMemory) }
+{
+    if words.len() == 1 {
+        Ok(ServerWords::Password)
+    } else {
+        Err(WordsFault::BadWords)
+    }
+}
+
 fn show_asked<'a>(alloc: Global, words: &'a [&'a str]) -> Result<ServerWords<'a>, WordsFault>
     ensures asked { IfOk result (λ asked. AsksToLook (map (λ w. w.now) words.entry.now) asked) }
     ensures good { AskForLook (map (λ w. w.now) words.entry.now) → IfErr result (λ fault. fault ≡ NoMemory) }
@@ -495,10 +516,11 @@ pub(crate) fn is_second(words: &[&str], wanted: &str) -> bool
 /// What the words, the program's own name first, ask of the server.
 ///
 /// - `--store FILE --smpp PORT --links PORT --centre NUMBER` in any order. Optional are `--sessions N`, `--accounts FILE`,
-///   `--control PATH`, `--status PORT`, `--ahead`, `--log WORD`, `--new-store`, `--accept-loss` and up to 32 words
+///   `--control PATH`, `--status PORT`, `--ahead`, `--log WORD`, `--new-store`, `--accept-loss`,
+///   `--accounts-open` and up to 32 words
 ///   `NAME:PASSWORD:NUMBER` or `NAME:PASSWORD:NUMBER:SESSIONS`, no two of one name
 /// - `show --store FILE`, perhaps with `--id ID`, `--from WHO`, `--to NUMBER`, `--account NAME`, `--state STATE`, `--last N` and `--stuck`
-/// - `save --store FILE --to FILE`, `stop --control PATH`, perhaps with `--wait SECONDS`, `end --control PATH SEAT`
+/// - `save --store FILE --to FILE`, `stop --control PATH`, perhaps with `--wait SECONDS`, `end --control PATH SEAT`, `password`
 ///
 /// The WORD of the log is `messages` or `access`. A FILE or PATH is a path, a PORT 1 to 65535, and a NUMBER 1 to 20 digits 0 to 9. N and SEAT are 0 to 4294967295. The
 /// first two colons of an account end its NAME, 1 to 15 ASCII characters, and its PASSWORD, up to 8. SESSIONS is 1 to 32. All else is bad
@@ -521,6 +543,9 @@ pub fn server_words<'a>(alloc: Global, words: &'a [&'a str]) -> Result<ServerWor
     }
     if is_second(words, "end") {
         return end_asked(alloc, &words[1..]);
+    }
+    if is_second(words, "password") {
+        return password_asked(&words[1..]);
     }
     run_asked(alloc, words)
 }

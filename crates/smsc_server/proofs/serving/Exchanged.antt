@@ -50,8 +50,8 @@ answers_count (Taken ∷ l) = answers_count l
 suc_zero : (n : ℕ) → suc n ≡ 0 → ⊥
 suc_zero n e = omega (arith, e)
 
-zero_one : 0 ≡ 1 → ⊥
-zero_one e = omega (arith, e)
+zero_suc : (n : ℕ) → 0 ≡ suc n → ⊥
+zero_suc n e = omega (arith, e)
 
 none_there : {A : Type 0} (l : List A) → length l ≡ 0 → l ≡ []
 none_there [] e = refl
@@ -64,7 +64,7 @@ record IsExchangedAt (n : ℕ) (stimulus : Stimulus Job) (answers : List CentreA
   pub answered : map answered_in (exchanges_at n stimulus answers) ≡ answers
 
 one_asked : (job : Job) (answers : List CentreAnswer) → length answers ≡ 1 → map asked_in (map (exchange job) answers) ≡ job ∷ []
-one_asked job [] e = absurd (zero_one e)
+one_asked job [] e = absurd (zero_suc zero e)
 one_asked job (answer ∷ []) e = refl
 one_asked job (answer ∷ next ∷ answers) e = absurd (omega (arith, e))
 

@@ -1,14 +1,17 @@
 //! What the threads of a run share.
 use crate::serving::occupancy::{Seated, Seating};
 use crate::serving::orders::{Orders, SEATS};
+use crate::serving::rates::Rates;
 use crossbeam_channel::{Receiver, Sender, bounded};
 use mio::Waker;
 use smpp_session::FullAccounts;
 use sms_base::Digits;
+use sms_centre_spec::jobs::Job;
 use smsc_arrivals::Side;
 use std::alloc::{AllocError, Global};
 use std::sync::atomic::{AtomicBool, Ordering};
 use std::sync::{Arc, Mutex, Wait};
+use std::time::Clock;
 
 // The handset at each seat that has a link.
 #[derive(Drop)]
@@ -78,17 +81,19 @@ pub(crate) struct Board {
     seating: Seating,
     links: Mutex<LinkSeats>,
     turnstile: Turnstile,
+    rates: Rates,
     // Wakes whoever takes connections.
     waker: Waker,
 }
 
 impl Board {
-    /// Nothing has happened yet. The accounts at their places may have so many sessions.
+    /// Nothing has happened yet. The accounts at their places may have so many sessions, and these rates.
     pub(crate) fn new(
         alloc: Global,
         orders: Arc<Orders>,
         waker: Waker,
         limits: &[u8],
+        rates: Rates,
     ) -> Result<Board, AllocError> {
         Ok(Board {
             orders,
@@ -97,6 +102,7 @@ impl Board {
             seating: Seating::new(alloc, limits)?,
             links: Mutex::new(LinkSeats::new(alloc)?),
             turnstile: Turnstile::new(alloc)?,
+            rates,
             waker,
         })
     }
@@ -176,6 +182,11 @@ impl Board {
         if !self.seating.bind(rt, seat, account) {
             let _ = self.orders.end(seat);
         }
+    }
+
+    /// Whether the request is put now, by the rate of its account.
+    pub(crate) fn admit<R: Wait + Clock>(&self, rt: &R, request: &Job) -> bool {
+        self.rates.admit(rt, request)
     }
 
     /// Who sits now.

@@ -155,6 +155,10 @@ impl<'a, R: Wait + Clock, T: Observer> Surroundings for SeatSurroundings<'a, R, 
         self.board.do_others_wait()
     }
 
+    fn admits(&self, request: &Job) -> bool {
+        self.board.admit(self.rt, request)
+    }
+
     fn order(&self, seat: usize) -> Order {
         self.board.orders.of(seat)
     }

@@ -21,6 +21,7 @@ use crate::serving::fault::ServeFault;
 use crate::serving::observer::Observer;
 use crate::serving::orders::{Orders, SEATS};
 use crate::serving::poller::Poller;
+use crate::serving::rates::{Rate, Rates};
 use crate::serving::reading::{Reader, Reading};
 use crate::serving::seat_thread::{SeatThread, start_thread};
 use crossbeam_channel::{Sender, bounded};
@@ -59,6 +60,8 @@ pub struct Given<T> {
     pub sessions: Option<u32>,
     /// How many sessions each account may have at once, by its place. One that has no number here may have one at each seat.
     pub limits: Vec<u8>,
+    /// How many requests each account may put in a second, by its place. One without a rate puts as many as it likes.
+    pub rates: Vec<Option<Rate>>,
 }
 
 /// What the threads of a run share.
@@ -78,13 +81,14 @@ impl<T: Observer + Drop> Shared<T> {
             ≡ admits (arc_value given.now.accounts) (arc_value given.now.access)) }
     {
         let orders = Arc::try_clone(&given.orders)?;
+        let rates = Rates::new(Vec::from_slice(alloc, given.rates.as_slice())?);
         Ok(Shared {
             accounts: Arc::try_clone(&given.accounts)?,
             access: Arc::try_clone(&given.access)?,
             observer: Arc::try_clone(&given.observer)?,
             board: Arc::new(
                 alloc,
-                Board::new(alloc, orders, waker, given.limits.as_slice())?,
+                Board::new(alloc, orders, waker, given.limits.as_slice(), rates)?,
             )?,
             sessions: given.sessions,
         })

@@ -2,7 +2,9 @@
 use crate::formats::call_fault::CallFault;
 use crate::formats::product::{put, put_word};
 use smpp_pdu::CommandStatus;
-use smpp_session::{Account, Accounts, Action, Actions, Answer, Request, Session, SessionState};
+use smpp_session::{
+    Account, Accounts, Action, Actions, Answer, Password, Request, Session, SessionState,
+};
 use sms_base::lending::put as install;
 use sms_base::{Holder, Kind, Octets};
 use sms_control::{Links, Out, Up};
@@ -23,7 +25,7 @@ pub(crate) struct Ends {
 /// One account, app1 with the password secret.
 pub(crate) fn accounts(alloc: Global) -> Result<Arc<Accounts, Global>, AllocError> {
     let name = Octets::copy_of(alloc, b"app1")?;
-    let password = Octets::copy_of(alloc, b"secret")?;
+    let password = Password::Plain(Octets::copy_of(alloc, b"secret")?);
     let mut accounts = Vec::new(alloc);
     accounts.push(Account { name, password })?;
     Ok(Arc::new(alloc, Accounts::from_vec(accounts))?)

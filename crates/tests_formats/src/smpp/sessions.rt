@@ -14,8 +14,8 @@ use crate::smpp::exchanges::{
 use crate::smpp::limits::message;
 use smpp_pdu::{CommandStatus, MessageResp, QuerySmResp};
 use smpp_session::{
-    Account, Accounts, Action, Actions, Answer, Call, DeliverFault, FullAccounts, Request, Session,
-    SessionState, run,
+    Account, Accounts, Action, Actions, Answer, Call, DeliverFault, FullAccounts, Password,
+    Request, Session, SessionState, run,
 };
 use sms_base::{OctetView, Octets};
 use std::alloc::Global;
@@ -25,7 +25,7 @@ use std::thread;
 
 pub(crate) fn account(alloc: Global) -> Result<Account, Fail> {
     let name = Octets::copy_of(alloc, b"app1")?;
-    let password = Octets::copy_of(alloc, b"secret")?;
+    let password = Password::Plain(Octets::copy_of(alloc, b"secret")?);
     Ok(Account { name, password })
 }
 
@@ -254,13 +254,13 @@ const DATA_SM_RESP: [u8; 16] = [
 ];
 
 // The bind with the password Secret, the answer to it, and the answer to a bind of a full account (SMPP v3.4 5.1.3).
-const WRONG_BIND: [u8; 33] = [
+pub(crate) const WRONG_BIND: [u8; 33] = [
     0x00, 0x00, 0x00, 0x21, 0x00, 0x00, 0x00, 0x09, 0x00, 0x00, 0x00, 0x00, 0x00, 0x00, 0x00, 0x01,
     0x61, 0x70, 0x70, 0x31, 0x00, 0x53, 0x65, 0x63, 0x72, 0x65, 0x74, 0x00, 0x00, 0x34, 0x00, 0x00,
     0x00,
 ];
 
-const WRONG_PASSWORD: [u8; 16] = [
+pub(crate) const WRONG_PASSWORD: [u8; 16] = [
     0x00, 0x00, 0x00, 0x10, 0x80, 0x00, 0x00, 0x09, 0x00, 0x00, 0x00, 0x0E, 0x00, 0x00, 0x00, 0x01,
 ];
 

@@ -120,7 +120,7 @@ impl Observer for Sums {
     }
 }
 
-fn listed(rt: &HostRuntime, alloc: Global, left: u16) -> io::Result<Listed> {
+fn opened(rt: &HostRuntime, alloc: Global, left: u16) -> io::Result<Listed> {
     let port = TcpListener::bind(rt, (Ipv4Addr::LOCALHOST, 0))?;
     Ok(Listed {
         port,
@@ -149,8 +149,8 @@ fn given(alloc: Global, sessions: u32) -> Result<Given<Sums>, Fail> {
 
 // Two applications and three handsets come.
 fn run(rt: HostRuntime, alloc: Global, taken: &Given<Sums>) -> Result<Doors<Listed>, Fail> {
-    let applications = listed(&rt, alloc, 2)?;
-    let links = listed(&rt, alloc, 3)?;
+    let applications = opened(&rt, alloc, 2)?;
+    let links = opened(&rt, alloc, 3)?;
     let ports = Ports::of(&rt, alloc, applications, links)?;
     let clock = clock()?;
     match serve(rt, alloc, keep(alloc)?, &Open, &clock, ports, taken) {
@@ -164,9 +164,15 @@ fn run(rt: HostRuntime, alloc: Global, taken: &Given<Sums>) -> Result<Doors<List
 
 // It gave the connections of these numbers, in order.
 fn gave(listed: &Listed, numbers: &[u16]) -> bool {
-    listed.gave.len() == numbers.len()
-        && listed.gave.iter().zip(numbers.iter()).all(|(one, number)| *one
-            == (Numbered(u32::from(*number)), address(*number)))
+    if listed.gave.len() != numbers.len() {
+        return false;
+    }
+    for (one, number) in listed.gave.iter().zip(numbers) {
+        if one.0 != Numbered(u32::from(*number)) || one.1 != address(*number) {
+            return false;
+        }
+    }
+    true
 }
 
 #[test]

@@ -84,6 +84,7 @@ fn given(alloc: Global, sessions: u32, limits: Vec<u8>) -> Result<Given<Silent>,
         links: None,
         sessions: Some(sessions),
         limits,
+        rates: Vec::new(alloc),
     })
 }
 

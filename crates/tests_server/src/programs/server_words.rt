@@ -49,6 +49,7 @@ fn judged(alloc: Global, words: &[&str]) -> &'static str {
             },
         ) => "end",
         Ok(ServerWords::End { .. }) => "end of another",
+        Ok(ServerWords::Password) => "password",
         Err(WordsFault::BadWords) => "bad",
         Err(WordsFault::NoMemory) => "no memory",
     }
@@ -67,6 +68,7 @@ fn is_written(words: &ServerWords<'_>) -> bool {
                 && !run.is_ahead
                 && !run.begins_anew
                 && !run.accepts_loss
+                && !run.opens_accounts
                 && run.log == LogDetail::Runs
                 && is_account(accounts.as_slice())
         }
@@ -202,6 +204,8 @@ const OTHERS: &[(&[&str], &str)] = &[
     (&["smscd", "end", "--control", "c", "31", "32"], "bad"),
     (&["smscd", "end", "--control", "c", "--seat", "31"], "bad"),
     (&["smscd", "end", "--control", "c", "-1"], "bad"),
+    (&["smscd", "password"], "password"),
+    (&["smscd", "password", "secret"], "bad"),
     (
         &[
             "smscd",
@@ -366,6 +370,7 @@ const WHOLE: &[&str] = &[
     "2775",
     "--ahead",
     "--accept-loss",
+    "--accounts-open",
     "--links",
     "2776",
     "--control",
@@ -383,6 +388,7 @@ fn is_whole(words: &ServerWords<'_>) -> bool {
                 && run.status == Some(8080)
                 && run.is_ahead
                 && run.accepts_loss
+                && run.opens_accounts
                 && !run.begins_anew
                 && run.log == LogDetail::Messages
                 && run.sessions.is_none()

@@ -1,6 +1,6 @@
 //! A centre that has no message yet, who may bind, and what applications ask of it.
 use crate::clock_and_gate::Still;
-use smpp_session::{Account, Accounts};
+use smpp_session::{Account, Accounts, Password};
 use sms_base::{Address, Listed, Moment, Octets};
 use sms_store_memory::centre::MemoryKeep;
 use smsc_service::{CentreAccount, Setup};
@@ -72,7 +72,7 @@ pub(crate) fn keep(alloc: Global) -> Result<MemoryKeep, Fail> {
 
 fn login(alloc: Global) -> Result<Account, Fail> {
     let name = Octets::copy_of(alloc, b"app1")?;
-    let password = Octets::copy_of(alloc, b"secret")?;
+    let password = Password::Plain(Octets::copy_of(alloc, b"secret")?);
     Ok(Account { name, password })
 }
 

@@ -86,6 +86,10 @@ impl Surroundings for LastReply {
         false
     }
 
+    fn admits(&self, _request: &Job) -> bool {
+        true
+    }
+
     fn order(&self, _seat: usize) -> Order {
         Order::Stay
     }

@@ -17,6 +17,7 @@ returns-clause-options c = let o = c.in_ok-options.ensures in record {
   ahead = value_found server_command _ _ _ (codes "ahead") refl c.in_ok-command.ensures c.in_ok-matches.ensures.matches o.ahead;
   new_store = value_found server_command _ _ _ (codes "new-store") refl c.in_ok-command.ensures c.in_ok-matches.ensures.matches o.new_store;
   accept_loss = value_found server_command _ _ _ (codes "accept-loss") refl c.in_ok-command.ensures c.in_ok-matches.ensures.matches o.accept_loss;
+  accounts_open = value_found server_command _ _ _ (codes "accounts-open") refl c.in_ok-command.ensures c.in_ok-matches.ensures.matches o.accounts_open;
   log = value_found server_command _ _ _ (codes "log") refl c.in_ok-command.ensures c.in_ok-matches.ensures.matches o.log;
   words = list_found server_command _ _ _ (codes "account") refl c.in_ok-command.ensures c.in_ok-matches.ensures.matches o.words;
 }

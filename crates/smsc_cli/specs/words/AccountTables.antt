@@ -1,0 +1,147 @@
+-- Accounts in TOML: a table `[[account]]` for each, in order.
+use Rattle.std.specs.Prelude.{◌≡◌, ◌≢◌, ◌<◌, ◌≤◌, ◌||◌, ◌&&◌, ℕ, zero, suc, pos, Bool, true, false, List, [], ◌∷◌, ◌++◌, length, Option, Some, None, Ok, IsAscii, option_and_then, bytes_eq, codes}
+use Rattle.std.specs.List.{AllByRecursion}
+use Rattle.hex.specs.Hex.{decode_sized}
+use Rattle.toml.specs.Data.{Data, Items, no_items, item, Members, no_members, member, as_array, as_bool, as_integer, as_str, as_table, get_member}
+use Rattle.smsc_cli.specs.words.Accounts.{IsName, IsPassword, most_accounts, usual_sessions}
+use Rattle.smsc_cli.specs.words.SimWords.{Gives, SpellsNumber}
+use Rattle.smsc_cli.specs.declared.words.account_tables.PasswordWords.{PasswordWords}
+use Rattle.smsc_cli.specs.declared.words.account_tables.PasswordWords.TheVariants.{Plain, Salted}
+use Rattle.smsc_cli.specs.declared.words.account_tables.TableAccount.{TableAccount}
+
+-- ---- keys
+
+-- the keys of a password that is written itself, and of one of which a digest is written
+abbrev pub is_password_key : List ℕ → Bool
+is_password_key key = (bytes_eq key (codes "password") || bytes_eq key (codes "salt")) || bytes_eq key (codes "hash")
+
+-- the keys of what is allowed
+abbrev pub is_limit_key : List ℕ → Bool
+is_limit_key key = (bytes_eq key (codes "sessions") || bytes_eq key (codes "rate")) || bytes_eq key (codes "suspended")
+
+-- the keys that an account may have
+abbrev pub is_account_key : List ℕ → Bool
+is_account_key key = ((bytes_eq key (codes "name") || bytes_eq key (codes "number")) || is_password_key key) || is_limit_key key
+
+-- the key that the whole file may have
+abbrev pub is_file_key : List ℕ → Bool
+is_file_key key = bytes_eq key (codes "account")
+
+abbrev pub are_account_keys : Members → Bool
+are_account_keys no_members = true
+are_account_keys (member key value others) = is_account_key key && are_account_keys others
+
+abbrev pub are_file_keys : Members → Bool
+are_file_keys no_members = true
+are_file_keys (member key value others) = is_file_key key && are_file_keys others
+
+-- the text at a key, where there is one
+abbrev pub text_at : List ℕ → Members → Option (List ℕ)
+text_at key table = option_and_then as_str (get_member key table)
+
+-- ---- values
+
+-- the text is a name, or a password
+abbrev pub SpellsName : List ℕ → List ℕ → Type 0
+SpellsName text name = (name ≡ text) × IsName text
+
+abbrev pub SpellsPassword : List ℕ → List ℕ → Type 0
+SpellsPassword text password = (password ≡ text) × IsPassword text
+
+-- 1 to 64 ASCII characters
+pub record IsSalt (text : List ℕ) : Type 0 where
+  pub some : 0 < length text
+  pub few : length text ≤ 64
+  pub ascii : IsAscii text
+
+abbrev pub SpellsSalt : List ℕ → List ℕ → Type 0
+SpellsSalt text salt = (salt ≡ text) × IsSalt text
+
+-- the text is the 64 hexadecimal digits of these octets
+abbrev pub SpellsDigest : List ℕ → List ℕ → Type 0
+SpellsDigest text digest = decode_sized text 32 ≡ Ok digest
+
+-- The table has the password itself, or a salt and the digest of it and the password. It does not have both.
+abbrev pub SaysPassword : Members → PasswordWords → Type 0
+SaysPassword table (Plain password) =
+    Gives SpellsPassword (text_at (codes "password") table) password.now
+    × (get_member (codes "salt") table ≡ None) × (get_member (codes "hash") table ≡ None)
+SaysPassword table (Salted salt digest) =
+    (get_member (codes "password") table ≡ None)
+    × Gives SpellsSalt (text_at (codes "salt") table) salt.now × Gives SpellsDigest (text_at (codes "hash") table) digest
+
+-- an integer from 1 on that is not above the most
+pub record IsUpTo (most : ℕ) (value : Data) (number : ℕ) : Type 0 where
+  pub integer : as_integer value ≡ Some (pos number)
+  pub some : 1 ≤ number
+  pub few : number ≤ most
+
+-- how many sessions an account may have, 1 to 32: the usual ones where it does not say
+abbrev pub SaysSessions : Option Data → ℕ → Type 0
+SaysSessions None sessions = sessions ≡ usual_sessions
+SaysSessions (Some value) sessions = IsUpTo 32 value sessions
+
+-- how many requests it may put in a second, 1 to 1,000,000: as many as it likes where it does not say
+abbrev pub SaysRate : Option Data → Option ℕ → Type 0
+SaysRate None rate = rate ≡ None
+SaysRate (Some value) None = ⊥
+SaysRate (Some value) (Some rate) = IsUpTo 1_000_000 value rate
+
+-- whether it is suspended: it is not where it does not say
+abbrev pub SaysSuspended : Option Data → Bool → Type 0
+SaysSuspended None suspended = suspended ≡ false
+SaysSuspended (Some value) suspended = as_bool value ≡ Some suspended
+
+-- The table has a name, a password and a number, and perhaps what is allowed. It has no other key.
+pub record SpellsTable (table : Members) (account : TableAccount) : Type 0 where
+  pub known : are_account_keys table ≡ true
+  pub name : Gives SpellsName (text_at (codes "name") table) account.name.now
+  pub password : SaysPassword table account.password
+  pub number : Gives SpellsNumber (text_at (codes "number") table) account.address
+  pub sessions : SaysSessions (get_member (codes "sessions") table) account.sessions
+  pub rate : SaysRate (get_member (codes "rate") table) account.rate
+  pub suspended : SaysSuspended (get_member (codes "suspended") table) account.is_suspended
+
+-- the value is a table of an account
+abbrev pub SpellsValue : Data → TableAccount → Type 0
+SpellsValue value account = (table : Members) × (as_table value ≡ Some table) × SpellsTable table account
+
+-- ---- several
+
+-- no account of these has the name
+abbrev pub IsNewName : List ℕ → List TableAccount → Type 0
+IsNewName name accounts = AllByRecursion (λ (other : TableAccount). other.name.now ≢ name) accounts
+
+abbrev pub HasRoomFor : List ℕ → List TableAccount → Type 0
+HasRoomFor name accounts = IsNewName name accounts × (length accounts < most_accounts)
+
+-- the value is an account that may be added
+pub record AddsValue (value : Data) (old new : List TableAccount) : Type 0 where
+  pub account : TableAccount
+  pub spells : SpellsValue value account
+  pub room : HasRoomFor account.name.now old
+  pub added : new ≡ old ++ account ∷ []
+
+abbrev pub AddsNoValue : Data → List TableAccount → Type 0
+AddsNoValue value old = (account : TableAccount) → SpellsValue value account → HasRoomFor account.name.now old → ⊥
+
+-- each value is one account more, in order
+abbrev pub AddsValues : Items → List TableAccount → List TableAccount → Type 0
+AddsValues no_items old new = new ≡ old
+AddsValues (item value values) old new = (more : List TableAccount) × AddsValue value old more × AddsValues values more new
+
+-- each value before that place is one account more, in order, and the one at that place can't be
+abbrev pub StopsAtValue : ℕ → Items → List TableAccount → List TableAccount → Type 0
+StopsAtValue place no_items old new = ⊥
+StopsAtValue zero (item value values) old new = AddsNoValue value old × (new ≡ old)
+StopsAtValue (suc place) (item value values) old new = (more : List TableAccount) × AddsValue value old more × StopsAtValue place values more new
+
+-- the accounts of a file: none where it has no such key
+abbrev pub values_of : Option Data → Option Items
+values_of None = Some no_items
+values_of (Some value) = as_array value
+
+-- the file has these values for its accounts, and no other key
+pub record HasValues (file : Members) (values : Items) : Type 0 where
+  pub known : are_file_keys file ≡ true
+  pub values_so : values_of (get_member (codes "account") file) ≡ Some values

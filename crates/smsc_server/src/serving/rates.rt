@@ -1,0 +1,135 @@
+//! How many requests of an account are put in a second.
+ghost use Rattle.std.specs.Prelude.{◌≡◌, ◌≤◌, ℕ, List, Option, slice_get};
+ghost use Rattle.smsc_server.specs.serving.Rates.{AreInOrder, admitted, admitted_of, count_put, has_place as has_place_of, new_rate, one_more, put_in as put_in_of, rates_after, second_of as second_of_moment};
+
+use crate::serving::clock::milliseconds;
+use sms_centre_spec::jobs::Job;
+use std::sync::{Mutex, Wait};
+use std::time::Clock;
+
+/// How many requests an account may put in a second of the run's clock, and how many it has put.
+#[derive(Clone, Copy, Debug, PartialEq, Eq)]
+pub struct Rate {
+    /// So many in a second.
+    pub most: u32,
+    /// The last second in which one was put.
+    pub second: u64,
+    /// How many were put in it.
+    pub put: u32,
+}
+
+// The second of a moment.
+fn second_of(now: u64) -> u64
+    ensures { result ≡ second_of_moment now }
+{
+    now / 1000
+}
+
+impl Rate {
+    /// So many requests a second. None was put yet.
+    pub fn of(most: u32) -> Rate
+        ensures { result ≡ new_rate most }
+    {
+        Rate {
+            most,
+            second: 0,
+            put: 0,
+        }
+    }
+
+    // How many were put in that second.
+    fn put_in(&self, second: u64) -> u32
+        ensures { result ≡ put_in_of second self.now }
+    {
+        if self.second < second { 0 } else { self.put }
+    }
+
+    // Whether one more may be put at the moment, in milliseconds.
+    fn has_place(&self, now: u64) -> bool
+        ensures { result ≡ has_place_of now self.now }
+    {
+        self.put_in(second_of(now)) < self.most
+    }
+
+    // One is put at the moment.
+    fn count(&mut self, now: u64)
+        requires { has_place_of now self.old ≡ true }
+        ensures { self.new ≡ one_more now self.old }
+    {
+        let second = second_of(now);
+        self.put = self.put_in(second) + 1;
+        if self.second < second {
+            self.second = second;
+        }
+    }
+
+    // Whether a request is put at the moment.
+    fn admit(&mut self, now: u64) -> bool
+        ensures { (result, self.new) ≡ admitted now self.old }
+    {
+        if !self.has_place(now) {
+            return false;
+        }
+        self.count(now);
+        true
+    }
+}
+
+// The rates of the accounts at their places.
+#[derive(Drop)]
+struct AccountRates {
+    rates: Vec<Option<Rate>>,
+}
+
+impl AccountRates {
+    // Whether a request of the account at that place is put at the moment.
+    fn admit(&mut self, place: usize, now: u64) -> bool
+        ensures said { result ≡ admitted_of (slice_get self.old.rates.items place) now }
+        ensures rates { self.new.rates.items ≡ rates_after (slice_get self.old.rates.items place) place now self.old.rates.items }
+    {
+        match self.rates.get_mut(place) {
+            Some(Some(rate)) => rate.admit(now),
+            Some(None) | None => true,
+        }
+    }
+}
+
+/// The rates of the accounts of a run.
+#[derive(Drop)]
+pub(crate) struct Rates {
+    accounts: Mutex<AccountRates>,
+}
+
+// The account of a request.
+fn account_of(request: &Job) -> Option<u8> {
+    match request {
+        Job::Submit { account, .. } | Job::Query { account, .. } | Job::Cancel { account, .. } => {
+            Some(*account)
+        }
+        _ => None,
+    }
+}
+
+impl Rates {
+    /// These rates; an account without one puts as many as it likes.
+    pub(crate) fn new(rates: Vec<Option<Rate>>) -> Rates {
+        Rates {
+            accounts: Mutex::new(AccountRates { rates }),
+        }
+    }
+
+    /// Whether the request is put now. The clock is read while nobody else asks, so that the moments do not go back.
+    pub(crate) fn admit<R: Wait + Clock>(&self, rt: &R, request: &Job) -> bool {
+        let Some(account) = account_of(request) else {
+            return true;
+        };
+        let mut accounts = self.accounts.lock(rt);
+        let now = milliseconds(rt);
+        accounts.admit(usize::from(account), now)
+    }
+}
+
+/// Of the requests of an account no more than its rate are put in any second, whatever its sessions ask.
+pub fn no_account_passes_its_rate()
+    ensures { (most second : ℕ) (nows : List ℕ) → AreInOrder 0 nows → count_put second (new_rate most) nows ≤ most }
+{}
