@@ -1,4 +1,4 @@
-"""Octets that no side would send, once more: the generator of `smslab_lines::hostile`, and lists of octets by its rules."""
+"""Octets that no side would send, once more: the generator of `lab_lines::hostile`, and lists of octets by its rules."""
 
 
 class Generator:

@@ -8,7 +8,7 @@ import re
 import sys
 
 TOP = os.path.join(os.path.dirname(os.path.abspath(__file__)), "..", "..")
-DATA = os.path.join(TOP, "crates", "smslab", "data")
+DATA = os.path.join(TOP, "crates", "lab", "data")
 
 
 def text_of(*path):

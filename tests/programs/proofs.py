@@ -243,7 +243,7 @@ def comment_above(lines, at):
 
 
 def is_library(crate):
-    return os.path.exists(os.path.join(CRATES, crate, "src", "lib.rt")) and not crate.startswith(("test", "smslab", "lab_", "stopping_"))
+    return os.path.exists(os.path.join(CRATES, crate, "src", "lib.rt")) and not crate.startswith(("test", "lab", "lab_", "stopping_"))
 
 
 def listed_crates():

@@ -1,5 +1,5 @@
 //! Between an endpoint and its seat: replies and jobs.
-ghost use Rattle.std.specs.Prelude.{◌≡◌, ◌++◌, ◌∷◌, [], Some, ℕ, List, Option, is_ok, MatchResult};
+ghost use Rattle.std.specs.Prelude.{◌≡◌, ◌++◌, ◌∷◌, [], Some, ℕ, List, Option, false, is_ok, MatchResult};
 ghost use Rattle.sms_seats.specs.Seats.{IsSameSeat, put_by, taken_by};
 ghost use Rattle.smsc_loop.specs.Courses.{Did, standing};
 ghost use Rattle.smsc_loop.specs.Phases.{Phase, Listens, behind};

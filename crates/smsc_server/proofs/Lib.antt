@@ -6,6 +6,7 @@ pub mod HeardEnds
 pub mod LinkWritten
 pub mod PartsWritten
 pub mod ReceiptsGo
+pub mod ReceiptsWritten
 pub mod RequestsArrive
 pub mod RunEvents
 pub mod RunKept

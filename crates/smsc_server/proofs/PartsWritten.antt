@@ -31,6 +31,7 @@ use Rattle.smsc_endpoint.specs.Responses.{response}
 use Rattle.smsc_endpoint.proofs.EsmeRuns.{begins, progress_holds}
 use Rattle.smsc_endpoint.proofs.LoopCourses.{is_serving, loop_course, moves_away}
 use Rattle.smsc_server.specs.WhatIsRead.{Part, OfTable, OfAnswer, OfReceipt, OfLeaving, OfServer, IsOwn, IsRead, Reads, StandIn, answer_parts, answers_in, course_of, heard_parts, octets_of_part, octets_of_parts, parts_all, parts_once, put_back_parts, receipt_parts, requests_in, taken_back_parts}
+use Rattle.smsc_server.proofs.ReceiptsWritten.{all_append, written_receipts}
 use Rattle.smsc_server.proofs.RequestsArrive.{requests_stand}
 
 -- ---- lists of parts
@@ -51,12 +52,6 @@ answers_append (OfServer octets ∷ xs) ys = answers_append xs ys
 own_append : (xs ys : List Part) → AllByRecursion IsOwn xs → AllByRecursion IsOwn ys → AllByRecursion IsOwn (xs ++ ys)
 own_append [] ys h k = k
 own_append (x ∷ xs) ys h k = (h.0, own_append xs ys h.1 k)
-
-all_append : (c : EsmeProgress) (one other : List EsmeCall) → parts_all c (one ++ other) ≡ parts_all c one ++ parts_all (called_all c one) other
-all_append c [] other = refl
-all_append c (call ∷ one) other =
-    ap (λ (ps : List Part). parts_once c call ++ ps) (all_append (called_once c call) one other)
-    ∙ sym (append_assoc (parts_once c call) (parts_all (called_once c call) one) (parts_all (called_all (called_once c call) one) other))
 
 -- ---- what a call adds
 
@@ -337,6 +332,7 @@ reads accounts one last course some =
       own = own_all one (started accounts);
       requests = subst (λ (os : List ℕ). StandIn (requests_in d.given) os) course.fed
           (subst (λ (acts : List Action). StandIn (requests_in acts) (octets_fed d.calls)) given_is (requests_stand accounts d.calls));
+      receipts = written_receipts one (started accounts);
       answered = ap (λ (l : List Answered). map fresh (map request_of l ++ d.esme.waiting)) (sym adds.answers)
           ∙ (progress.requests ∙ same_all (calls_of one) (started accounts) refl);
     }

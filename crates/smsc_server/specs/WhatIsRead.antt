@@ -1,6 +1,7 @@
 -- What an application reads on its connection, and what each octet of it answers.
 use Rattle.std.specs.Prelude.{◌≡◌, ◌≢◌, ◌⊎◌, ℕ, List, [], ◌∷◌, ◌++◌, Option, Some, None, Bool, true, false, map, ⊤}
 use Rattle.std.specs.List.{AllByRecursion}
+use Rattle.sms_base.specs.Among.{Among}
 use Rattle.smpp_session.specs.declared.account.Account.{Account}
 use Rattle.smpp_session.specs.declared.action.Action.{Action}
 use Rattle.smpp_session.specs.declared.action.Action.TheVariants.{Submit, Query, Cancel}
@@ -12,7 +13,7 @@ use Rattle.sms_centre_spec.specs.declared.jobs.reply.Reply.{Reply}
 use Rattle.sms_centre_spec.specs.declared.jobs.reply.Reply.TheVariants.{Answer, Receipt, Frame, Taken}
 use Rattle.sms_receipt.specs.declared.final_message.Final.{Final}
 use Rattle.sms_receipt.specs.Receipts.{receipt_of}
-use Rattle.smsc_loop.specs.Calls.{Call, octets_sent, octets_taken}
+use Rattle.smsc_loop.specs.Calls.{Call, octets_sent, octets_taken, replies_taken}
 use Rattle.smsc_endpoint.specs.EsmeCalls.{handed_back, handed_out, is_sendable}
 use Rattle.smsc_endpoint.specs.EsmeRuns.{Answered, EsmeCall, EsmeProgress, answered_among, called_all, called_once, fresh, octets_or_none, request_of, requests_from, sends_from, started, throttled_among}
 use Rattle.smsc_endpoint.specs.EsmeRuns.{At, TellFull, Take, Hear, Say, WasSent, Leave, Put, PutBack, Tell}
@@ -73,6 +74,15 @@ abbrev pub answers_in : List Part → List Answered
 answers_in [] = []
 answers_in (part ∷ parts) = answer_in part ++ answers_in parts
 
+-- the messages whose receipts these are
+abbrev pub receipt_in : Part → List Final
+receipt_in (OfReceipt session end) = end ∷ []
+receipt_in part = []
+
+abbrev pub receipts_in : List Part → List Final
+receipts_in [] = []
+receipts_in (part ∷ parts) = receipt_in part ++ receipts_in parts
+
 -- the server says by itself only these
 abbrev pub IsOwn : Part → Type 0
 IsOwn (OfServer octets) = (octets ≡ no_room) ⊎ (octets ≡ enquire_link)
@@ -125,11 +135,13 @@ parts_all c (call ∷ calls) = parts_once c call ++ parts_all (called_once c cal
 
 -- Of the course of these calls of the loop: what was written, and then what still waits to be, is each part one after the other. The requests
 -- that were passed up stand in what arrived. Those that were answered are the first of them: each once, in order, and under its own number.
+-- Each receipt was taken from the seat.
 pub record Reads (accounts : List Account) (calls : List Call) (c : EsmeProgress) (parts : List Part) : Type 0 where
   pub written_so : octets_of_parts parts ≡ octets_sent calls ++ c.esme.outbox.octets
   pub own : AllByRecursion IsOwn parts
   pub requests : StandIn (requests_in c.given) (octets_taken calls)
   pub answered : map fresh (map request_of (answers_in parts) ++ c.esme.waiting) ≡ requests_from c.given
+  pub receipts : (end : Final) → Among end (receipts_in parts) → Among (Receipt end) (replies_taken calls)
 
 abbrev pub course_of : List Account → List Call → EsmeProgress
 course_of accounts calls = called_all (started accounts) (calls_of calls)

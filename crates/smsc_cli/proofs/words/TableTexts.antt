@@ -41,8 +41,8 @@ no_room_for value b old seen has same lacks found t a s room =
 
 pub some_room_for : (value : Data) (b : TableAccount) (old seen : List TableAccount) (has : Bool) → seen ≡ old → has ≡ true → (has ≡ true → HasRoomFor b.name.now seen) → SpellsValue value b
     → AddsNoValue value old → ⊥
-some_room_for value b old seen has same yes found spells none =
-    none b spells (subst (λ (accounts : List TableAccount). HasRoomFor b.name.now accounts) same (found yes))
+some_room_for value b old seen has same is found spells none =
+    none b spells (subst (λ (accounts : List TableAccount). HasRoomFor b.name.now accounts) same (found is))
 
 -- ---- passwords
 

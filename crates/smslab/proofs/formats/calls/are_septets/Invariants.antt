@@ -1,5 +1,0 @@
-use Rattle.std.proofs.Common.{ℕ, ◌<◌, get_or}
-use Rattle.smslab.proofs.formats.calls.are_septets.Given as goal
-
-abbrev pub invariant-loop-octet : goal.invariant-loop-octet
-invariant-loop-octet l = (k : ℕ) → k < l.octet-index → get_or l.octets k 0 < 128
