@@ -27,7 +27,7 @@ use Rattle.smpp_session.specs.declared.conversation.SessionState.TheVariants.{Op
 use Rattle.smpp_session.specs.declared.fault.DeliverFault.{DeliverFault}
 use Rattle.smpp_session.specs.Answers.{is_last}
 use Rattle.smpp_session.specs.Calls.{called, delivering, sending, ran}
-use Rattle.smpp_session.specs.Logins.{admitted, is_full, login}
+use Rattle.smpp_session.specs.Logins.{admitted, is_full, is_own, login}
 use Rattle.smpp_session.specs.Sessions.{SessionView, after_stream, opened, turn_of, fed, delivery_fault, unbinding}
 use Rattle.smpp_session.specs.SessionRun.{StreamProgress, fronted, one_more, stream}
 use Rattle.smpp_session.specs.SessionTable.{judged, judged_fault, status_of_fault, to_answer, to_bind, to_leave, to_submit, to_unbind, refusal, without_bind_resp, priority_of, given, sent, logged_in, bind_taken, delivered, taken, refused, read, judging, by_command, treated, bad_length}
@@ -103,7 +103,7 @@ login_quiet : (accounts : List Account) (kind : BindKind) (n : ℕ) (bind : Bind
 login_quiet [] kind n bind full place name password at = refused_quiet (without_bind_resp kind) ESME_RINVSYSID n bind.system_id at
 login_quiet (account ∷ accounts) kind n bind full place name password at =
     pick (λ l. requests_in (logged_in kind n bind (admitted full l) at.0).actions ≡ requests_in at.0.actions) (bytes_eq account.name name) _ _
-    (pick (λ l. requests_in (logged_in kind n bind (admitted full l) at.0).actions ≡ requests_in at.0.actions) (bytes_eq account.password password) _ _
+    (pick (λ l. requests_in (logged_in kind n bind (admitted full l) at.0).actions ≡ requests_in at.0.actions) (is_own account.password password) _ _
     (pick (λ l. requests_in (logged_in kind n bind l at.0).actions ≡ requests_in at.0.actions) (is_full place full) _ _
     (refused_quiet (without_bind_resp kind) ESME_RBINDFAIL n bind.system_id at) (known_quiet kind n bind place at))
     (refused_quiet (without_bind_resp kind) ESME_RINVPASWD n bind.system_id at))

@@ -155,8 +155,9 @@ impl<'a, R: Wait + Clock, T: Observer> Surroundings for SeatSurroundings<'a, R, 
         self.board.do_others_wait()
     }
 
+    // A link's requests are of no account: it asks nothing by them.
     fn admits(&self, request: &Job) -> bool {
-        self.board.admit(self.rt, request)
+        self.side == Side::Handset || self.board.admit(self.rt, request)
     }
 
     fn order(&self, seat: usize) -> Order {
