@@ -49,10 +49,18 @@ class Volume:
         self.daemons[node] = node.start("glusterd", "--no-daemon", "--log-level", "WARNING", stdout=subprocess.DEVNULL, stderr=subprocess.DEVNULL)
 
     def ask(self, *words, node=None, check=True, seconds=130):
-        return (node or self.nodes[0]).run("gluster", "--mode=script", *words, check=check, seconds=seconds)
+        try:
+            return (node or self.nodes[0]).run("gluster", "--mode=script", *words, check=check, seconds=seconds)
+        except subprocess.TimeoutExpired:
+            # A daemon that is only starting may leave a question without an answer.
+            if check:
+                raise
+            return ""
 
     def make(self):
-        if not nodes.wait_until(lambda: all("Number of Peers" in self.ask("peer", "status", node=node, check=False) for node in self.nodes), 60):
+        def answers(node):
+            return "Number of Peers" in self.ask("peer", "status", node=node, check=False, seconds=20)
+        if not nodes.wait_until(lambda: all(answers(node) for node in self.nodes), 180):
             raise SystemExit("glusterd does not answer")
         for name in ("node2", "node3"):
             self.ask("peer", "probe", name)

@@ -1,9 +1,9 @@
 -- In no second more requests are put than the rate says.
-use Rattle.std.proofs.Common.{◌≡◌, ◌≢◌, ◌≤◌, ◌<◌, ◌+◌, ◌/◌, ℕ, suc, Bool, true, false, cond, eqb, List, [], ◌∷◌, refl, sym, arith}
+use Rattle.std.proofs.Common.{◌≡◌, ◌≢◌, ◌≤◌, ◌<◌, ◌+◌, ◌/◌, ℕ, suc, Bool, true, false, cond, eqb, List, [], ◌∷◌, refl, sym, subst, arith}
 use Rattle.std.specs.Prelude.{◌&&◌, nat_lt}
 use Rattle.std.proofs.lemmas.Bool.{eqb-true, eqb-false, ltb-true, ltb-false}
 use Rattle.smsc_server.specs.declared.serving.rates.Rate.{Rate}
-use Rattle.smsc_server.specs.serving.Rates.{AreInOrder, admitted, count_put, has_place, new_rate, one_more, one_where, second_of}
+use Rattle.smsc_server.specs.serving.Rates.{AreInOrder, count_put, has_place, new_rate, one_more, one_where, second_of}
 
 by_order : {P : Type 0} (a b : ℕ) → (a < b → P) → (a ≡ b → P) → (b < a → P) → P
 by_order {P} a b less same more = first (nat_lt a b) refl where
@@ -17,10 +17,10 @@ by_order {P} a b less same more = first (nat_lt a b) refl where
 
 -- How many of the requests to come may lie in a second: none in one before the last that was counted, in that one so many as are left, and in a later
 -- one so many as may be.
-record AreFew (s second put most n : ℕ) : Type 0 where
-  before : s < second → n ≡ 0
-  here : s ≡ second → n + put ≤ most
-  behind : second < s → n ≤ most
+pub record AreFew (s second put most n : ℕ) : Type 0 where
+  pub before : s < second → n ≡ 0
+  pub here : s ≡ second → n + put ≤ most
+  pub behind : second < s → n ≤ most
 
 -- ---- one more, in a second behind the last that was counted
 
@@ -88,30 +88,37 @@ none_more s rate n few = record {
   behind = λ (l : rate.second < s). let e : n ≤ rate.most = few.behind l in omega (arith, e);
 }
 
-all_few : (s : ℕ) (rate : Rate) (from : ℕ) (nows : List ℕ) → rate.put ≤ rate.most → rate.second ≤ second_of from → AreInOrder from nows → Few s rate (count_put s rate nows)
-all_few s rate from [] fair seen in_order = none_few s rate fair
-all_few s rate from (now ∷ nows) fair seen in_order = by_place (has_place now rate) refl where
-  reached : rate.second ≤ second_of now
-  reached = let earlier : from ≤ now = in_order.0 in omega (arith, seen, earlier)
-
+-- a request at that moment before others, of which the same is known for each rate
+module _ (s : ℕ) (rate : Rate) (now : ℕ) (nows : List ℕ) (fair : rate.put ≤ rate.most) (reached : rate.second ≤ second_of now)
+    (others : (more : Rate) → more.put ≤ more.most → more.second ≤ second_of now → Few s more (count_put s more nows)) where
   by_second : (c : Bool) → nat_lt rate.second (second_of now) ≡ c → nat_lt (cond c 0 rate.put) rate.most ≡ true
       → Few s rate (one_where (eqb (second_of now) s) + count_put s (record { most = rate.most; second = cond c (second_of now) rate.second; put = suc (cond c 0 rate.put) }) nows)
   by_second true e room =
       let more : Rate = record { most = rate.most; second = second_of now; put = 1 } in
       let place : 0 < rate.most = ltb-true 0 rate.most room in
       later_few s (second_of now) rate.second rate.put rate.most (count_put s more nows) fair (ltb-true rate.second (second_of now) e)
-      (all_few s more now nows (omega (arith, place)) (omega arith) in_order.1) (eqb (second_of now) s) refl
+      (others more (omega (arith, place)) (omega arith)) (eqb (second_of now) s) refl
   by_second false e room =
       let more : Rate = record { most = rate.most; second = rate.second; put = suc rate.put } in
       let place : rate.put < rate.most = ltb-true rate.put rate.most room in
       let up : second_of now ≤ rate.second = ltb-false rate.second (second_of now) e in
-      let is : second_of now ≡ rate.second = omega (arith, up, reached) in
-      rw is (same_few s rate.second rate.put rate.most (count_put s more nows) fair (all_few s more now nows (omega (arith, place)) reached in_order.1) (eqb rate.second s) refl)
+      let is : rate.second ≡ second_of now = omega (arith, up, reached) in
+      subst (λ (t : ℕ). Few s rate (one_where (eqb t s) + count_put s more nows)) is
+      (same_few s rate.second rate.put rate.most (count_put s more nows) fair (others more (omega (arith, place)) reached) (eqb rate.second s) refl)
 
   by_place : (b : Bool) → has_place now rate ≡ b
-      → Few s rate (one_where ((cond b (true, one_more now rate) (false, rate)).0 && eqb (second_of now) s) + count_put s (cond b (true, one_more now rate) (false, rate)).1 nows)
+      → Few s rate (one_where (b && eqb (second_of now) s) + count_put s (cond b (one_more now rate) rate) nows)
   by_place true e = by_second (nat_lt rate.second (second_of now)) refl e
-  by_place false e = none_more s rate (count_put s rate nows) (all_few s rate now nows fair reached in_order.1)
+  by_place false e = none_more s rate (count_put s rate nows) (others rate fair reached)
+
+  one_few : Few s rate (count_put s rate (now ∷ nows))
+  one_few = by_place (has_place now rate) refl
+
+all_few : (s : ℕ) (rate : Rate) (from : ℕ) (nows : List ℕ) → rate.put ≤ rate.most → rate.second ≤ second_of from → AreInOrder from nows → Few s rate (count_put s rate nows)
+all_few s rate from [] fair seen in_order = none_few s rate fair
+all_few s rate from (now ∷ nows) fair seen in_order =
+    let earlier : from ≤ now = in_order.0 in
+    one_few s rate now nows fair (omega (arith, seen, earlier)) (λ more put_few known. all_few s more now nows put_few known in_order.1)
 
 -- of an account that has put nothing yet
 pub rate_kept : (most second : ℕ) (nows : List ℕ) → AreInOrder 0 nows → count_put second (new_rate most) nows ≤ most

@@ -1,5 +1,5 @@
 -- How many requests of an account are put in a second.
-use Rattle.std.specs.Prelude.{ℕ, suc, ◌+◌, ◌/◌, ◌≤◌, ◌==◌, ◌&&◌, nat_lt, List, [], ◌∷◌, Bool, true, false, Option, Some, None, slice_get, slice_set, ⊤, if◌then◌else◌}
+use Rattle.std.specs.Prelude.{ℕ, suc, ◌+◌, ◌/◌, ◌≤◌, ◌==◌, ◌&&◌, nat_lt, List, [], ◌∷◌, Bool, true, false, Option, Some, None, slice_set, ⊤, if◌then◌else◌}
 use Rattle.smsc_server.specs.declared.serving.rates.Rate.{Rate}
 
 -- the second of a moment, which is in milliseconds
@@ -20,20 +20,23 @@ has_place now rate = nat_lt (put_in (second_of now) rate) rate.most
 abbrev pub one_more : ℕ → Rate → Rate
 one_more now rate = record { most = rate.most; second = second_at now rate; put = suc (put_in (second_of now) rate) }
 
--- whether a request at that moment is put, and how many there are then
-abbrev pub admitted : ℕ → Rate → Bool × Rate
-admitted now rate = if has_place now rate then (true, one_more now rate) else (false, rate)
+-- behind a request at that moment, which is put where there is a place
+abbrev pub after_request : ℕ → Rate → Rate
+after_request now rate = if has_place now rate then one_more now rate else rate
 
--- by the account's place; one without a rate puts as many as it likes
-abbrev pub admitted_of : Option (Option Rate) → ℕ → Bool
-admitted_of None now = true
-admitted_of (Some None) now = true
-admitted_of (Some (Some rate)) now = (admitted now rate).0
+-- the rate of the account at a place, where it has one
+abbrev pub rate_of : Option (Option Rate) → Option Rate
+rate_of None = None
+rate_of (Some rate) = rate
 
-abbrev pub rates_after : Option (Option Rate) → ℕ → ℕ → List (Option Rate) → List (Option Rate)
-rates_after None place now rates = rates
-rates_after (Some None) place now rates = rates
-rates_after (Some (Some rate)) place now rates = slice_set rates place (Some (admitted now rate).1)
+-- one without a rate puts as many as it likes
+abbrev pub is_admitted : ℕ → Option Rate → Bool
+is_admitted now None = true
+is_admitted now (Some rate) = has_place now rate
+
+abbrev pub rates_after : ℕ → ℕ → Option Rate → List (Option Rate) → List (Option Rate)
+rates_after place now None rates = rates
+rates_after place now (Some rate) rates = slice_set rates place (Some (after_request now rate))
 
 -- ---- over all requests of an account
 
@@ -47,7 +50,7 @@ one_where false = 0
 -- how many of the requests of these moments are put and lie in that second
 abbrev pub count_put : ℕ → Rate → List ℕ → ℕ
 count_put second rate [] = 0
-count_put second rate (now ∷ nows) = one_where ((admitted now rate).0 && (second_of now == second)) + count_put second (admitted now rate).1 nows
+count_put second rate (now ∷ nows) = one_where (has_place now rate && (second_of now == second)) + count_put second (after_request now rate) nows
 
 -- moments that do not go back, the first not before that one
 abbrev pub AreInOrder : ℕ → List ℕ → Type 0

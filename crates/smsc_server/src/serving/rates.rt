@@ -1,6 +1,6 @@
 //! How many requests of an account are put in a second.
-ghost use Rattle.std.specs.Prelude.{◌≡◌, ◌≤◌, ℕ, List, Option, slice_get};
-ghost use Rattle.smsc_server.specs.serving.Rates.{AreInOrder, admitted, admitted_of, count_put, has_place as has_place_of, new_rate, one_more, put_in as put_in_of, rates_after, second_of as second_of_moment};
+ghost use Rattle.std.specs.Prelude.{◌≡◌, ◌≤◌, ℕ, List, Some, true, slice_get, slice_set};
+ghost use Rattle.smsc_server.specs.serving.Rates.{AreInOrder, after_request, count_put, has_place as has_place_of, is_admitted, new_rate, one_more, put_in as put_in_of, rate_of, rates_after, second_of as second_of_moment};
 
 use crate::serving::clock::milliseconds;
 use sms_centre_spec::jobs::Job;
@@ -65,7 +65,8 @@ impl Rate {
 
     // Whether a request is put at the moment.
     fn admit(&mut self, now: u64) -> bool
-        ensures { (result, self.new) ≡ admitted now self.old }
+        ensures said { result ≡ has_place_of now self.old }
+        ensures rate { self.new ≡ after_request now self.old }
     {
         if !self.has_place(now) {
             return false;
@@ -82,15 +83,51 @@ struct AccountRates {
 }
 
 impl AccountRates {
+    fn rate_at(&self, place: usize) -> Option<Rate>
+        ensures { result ≡ rate_of (slice_get self.now.rates.items place) }
+    {
+        match self.rates.get(place) {
+            Some(rate) => *rate,
+            None => None,
+        }
+    }
+
+    fn put(&mut self, place: usize, rate: Rate)
+        ensures { self.new.rates.items ≡ slice_set self.old.rates.items place (Some rate) }
+    {
+        if let Some(old) = self.rates.get_mut(place) {
+            *old = Some(rate);
+        }
+    }
+
+    // Whether a request of the account at that place, which has that rate, is put at the moment.
+    fn admit_one(&mut self, place: usize, rate: Rate, now: u64) -> bool
+        ensures said { result ≡ has_place_of now rate }
+        ensures rates { self.new.rates.items ≡ slice_set self.old.rates.items place (Some (after_request now rate)) }
+    {
+        let mut rate = rate;
+        let is_admitted = rate.admit(now);
+        self.put(place, rate);
+        is_admitted
+    }
+
+    fn admit_by(&mut self, place: usize, rate: Option<Rate>, now: u64) -> bool
+        ensures said { result ≡ is_admitted now rate }
+        ensures rates { self.new.rates.items ≡ rates_after place now rate self.old.rates.items }
+    {
+        match rate {
+            Some(rate) => self.admit_one(place, rate, now),
+            None => true,
+        }
+    }
+
     // Whether a request of the account at that place is put at the moment.
     fn admit(&mut self, place: usize, now: u64) -> bool
-        ensures said { result ≡ admitted_of (slice_get self.old.rates.items place) now }
-        ensures rates { self.new.rates.items ≡ rates_after (slice_get self.old.rates.items place) place now self.old.rates.items }
+        ensures said { result ≡ is_admitted now (rate_of (slice_get self.old.rates.items place)) }
+        ensures rates { self.new.rates.items ≡ rates_after place now (rate_of (slice_get self.old.rates.items place)) self.old.rates.items }
     {
-        match self.rates.get_mut(place) {
-            Some(Some(rate)) => rate.admit(now),
-            Some(None) | None => true,
-        }
+        let rate = self.rate_at(place);
+        self.admit_by(place, rate, now)
     }
 }
 
