@@ -15,11 +15,11 @@ returns-clause-gives g c = λ honest s r standing.
     let stimulus = c.args.stimulus.now in
     let asked = c.asked_by-asked.result in
     let other = asked_by r.seats stimulus in
-    let fate = c.answer.result.fate in
-    let seated = c.answer.new.self in
+    let fate = c.answer-fate.result.fate in
+    let seated = c.answer-fate.new.self in
     let is : asked ≡ asked_by s.seats stimulus = c.asked_by-asked.ensures.asked ∙ ap (λ (q : Seats). asked_by q stimulus) standing.made.seats in
     let alike : s.seats ≡ r.seats → asked ≡ other = λ same. is ∙ ap (λ (q : Seats). asked_by q stimulus) same in
-    let step = c.answer.ensures.gives s r.core.rows honest standing.sound standing.made in
+    let step = c.answer-fate.ensures.gives s r.core.rows honest standing.sound standing.made in
     let rows = after_rows other r stimulus in (
       step.0 ∙ ap (λ (a : SeatRequest). outs_for a fate s stimulus) is,
       c.refused_with_group-if_refused.ensures.outs r standing.seats,
@@ -30,14 +30,14 @@ returns-clause-gives g c = λ honest s r standing.
             sound = subst IsSound (sym rows) standing.sound;
             seats = c.refused_with_group-if_refused.ensures.seats r standing.seats;
             again = subst (λ (a : SeatRequest). IsAgain (held_by seated) (after_for a fate s stimulus) (after_for other Refused r stimulus)) is
-                (again_more asked other s r stimulus fate (held_by c.args.self.now.seated) (held_by seated) alike c.answer.ensures.quiet standing.again);
+                (again_more asked other s r stimulus fate (held_by c.args.self.now.seated) (held_by seated) alike c.answer-fate.ensures.quiet standing.again);
           })
           (λ refused left. record {
             rows = subst (λ (base : Rows). (g.K.RowStore.state _).holds base ⊎ (g.K.RowStore.state _).is_closed) (sym rows) left;
-            again = again_refused asked other s r stimulus fate (held_by c.args.self.now.seated) (held_by seated) alike c.answer.ensures.quiet refused standing.again;
+            again = again_refused asked other s r stimulus fate (held_by c.args.self.now.seated) (held_by seated) alike c.answer-fate.ensures.quiet refused standing.again;
             seats = c.refused_with_group-if_refused.ensures.seats r standing.seats;
           }),
     )
 
 pub returns-clause-refused : goal.returns-clause-refused
-returns-clause-refused g c = λ honest s r standing is. c.answer.ensures.refused s r.core.rows honest standing.sound standing.made is
+returns-clause-refused g c = λ honest s r standing is. c.answer-fate.ensures.refused s r.core.rows honest standing.sound standing.made is
