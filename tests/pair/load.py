@@ -18,6 +18,8 @@ ACCOUNTS = [("bank", "Tr0ub4d0", "447700900001"), ("alerts", "pAss.w0r", "447700
 READER = "447700900101"
 FINAL = {2: "DELIVRD", 3: "EXPIRED", 4: "DELETED", 5: "UNDELIV", 8: "REJECTD"}
 BUSY = "another program has it open"
+# So many seconds a look at the store takes at most.
+LOOK = 2 * int(os.environ.get("PATIENCE", "60"))
 
 
 class Centre:
@@ -204,7 +206,7 @@ def user_data(tpdu):
 def shown(node, store):
     """What a look at the store prints of each message: its number to destination and state."""
     found = {}
-    for line in node.run(PROGRAM, "show", "--store", store, seconds=120).splitlines():
+    for line in node.run(PROGRAM, "show", "--store", store, seconds=LOOK).splitlines():
         words = line.split()
         if len(words) > 3 and words[0].isdigit() and len(words[0]) == 10:
             found[words[0]] = words[1:]

@@ -60,18 +60,6 @@ fn account_of(alloc: Global, account: &TableAccount<'_>) -> Result<CentreAccount
     })
 }
 
-// The account of a word or a line: it may put as many requests as it likes.
-fn unlimited<'a>(account: &AccountWords<'a>) -> TableAccount<'a> {
-    TableAccount {
-        name: account.name,
-        password: PasswordWords::Plain(account.password),
-        address: account.address,
-        sessions: account.sessions,
-        rate: None,
-        is_suspended: false,
-    }
-}
-
 // A suspended account may have no session.
 fn limit_of(account: &TableAccount<'_>) -> u8 {
     if account.is_suspended {
@@ -115,9 +103,17 @@ impl RunAccounts {
         Ok(true)
     }
 
-    /// Adds the account of a word or a line, as `add_table` does.
+    /// Adds the account of a word or a line, as `add_table` does. It has no rate, and is not suspended.
     pub fn add(&mut self, alloc: Global, account: &AccountWords<'_>) -> Result<bool, AllocError> {
-        self.add_table(alloc, &unlimited(account))
+        let table = TableAccount {
+            name: account.name,
+            password: PasswordWords::Plain(account.password),
+            address: account.address,
+            sessions: account.sessions,
+            rate: None,
+            is_suspended: false,
+        };
+        self.add_table(alloc, &table)
     }
 }
 

@@ -5,7 +5,6 @@ mod board;
 #[cfg(test)]
 mod client;
 #[cfg(test)]
-mod doors;
 #[cfg(test)]
 mod handset;
 #[cfg(test)]

@@ -50,7 +50,7 @@ const MORE: &[(&str, bool)] = &[
 
 fn is_so(alloc: Global, more: &str, is_good: bool) -> Result<bool, Fail> {
     let text = format!(in alloc; "{FIRST}{more}\n{SECOND}")?;
-    let wanted = if is_good {
+    let wanted: Result<usize, TableFault> = if is_good {
         Ok(2)
     } else {
         Err(TableFault::BadAccount(1))

@@ -419,11 +419,11 @@ fn server_words_say_what_was_written(rt: HostRuntime) -> Result<(), Fail> {
 // The words of a whole run with one in place of another: its log has no other lines, and its status page has a port.
 const WHOLE_AT: &[(usize, &str, &str)] = &[
     (2, "texts", "bad"),
-    (13, "0", "bad"),
-    (13, "65536", "bad"),
-    (13, "80a", "bad"),
-    (13, "", "bad"),
-    (13, "-1", "bad"),
+    (15, "0", "bad"),
+    (15, "65536", "bad"),
+    (15, "80a", "bad"),
+    (15, "", "bad"),
+    (15, "-1", "bad"),
 ];
 
 fn are_judged(alloc: Global, words: &[&str], rows: &[(usize, &str, &str)]) -> Result<(), Fail> {

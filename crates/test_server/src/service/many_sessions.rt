@@ -188,7 +188,7 @@ fn serves_many<R: Threads + Wait + Copy + Send + 'static>(
 ) -> Result<(), Fail> {
     let store = keep(alloc)?;
     let cutoff = Arc::new(alloc, Cutoff::new())?;
-    let (ran, store) = serve_with(
+    let (went, store) = serve_with(
         alloc,
         store,
         None,
@@ -196,13 +196,13 @@ fn serves_many<R: Threads + Wait + Copy + Send + 'static>(
         |service| runs_many(rt, alloc, service, count),
     )?;
     drop(store);
-    ran
+    went
 }
 
 fn serves_two<R: Threads + Wait + Copy + Send + 'static>(rt: R, alloc: Global) -> Result<(), Fail> {
     let store = keep(alloc)?;
     let cutoff = Arc::new(alloc, Cutoff::new())?;
-    let (ran, store) = serve_with(
+    let (went, store) = serve_with(
         alloc,
         store,
         None,
@@ -210,7 +210,7 @@ fn serves_two<R: Threads + Wait + Copy + Send + 'static>(rt: R, alloc: Global) -
         |service| runs_two(rt, alloc, service),
     )?;
     drop(store);
-    ran
+    went
 }
 
 #[test]

@@ -89,16 +89,12 @@ fn is(body: Option<Octets>, octets: &[u8]) -> bool {
 }
 
 // The octets under a key are these.
-fn reads<K: BodyKeep<Rows = Rows, Changes = Changes>>(
-    keep: &mut K,
-    number: u8,
-    octets: &[u8],
-) -> Result<(), Failure> {
+fn reads<K: BodyKeep>(keep: &mut K, number: u8, octets: &[u8]) -> Result<(), Failure> {
     let body = keep.body(Key::pair(1, number))?;
     holds(is(body, octets), Finding::OtherOctets)
 }
 
-fn reads_all<K: BodyKeep<Rows = Rows, Changes = Changes>>(keep: &mut K) -> Result<(), Failure> {
+fn reads_all<K: BodyKeep>(keep: &mut K) -> Result<(), Failure> {
     reads(keep, 1, HELLO)?;
     reads(keep, 2, NOTHING)?;
     reads(keep, 0, RECEIVED)?;
@@ -107,20 +103,24 @@ fn reads_all<K: BodyKeep<Rows = Rows, Changes = Changes>>(keep: &mut K) -> Resul
 }
 
 // What stands after the course, as the commits say.
-fn is_told<K: BodyKeep<Rows = Rows, Changes = Changes>>(keep: &mut K) -> Result<(), Failure> {
+fn is_told<K: Keep<Rows = Rows, Changes = Changes> + BodyKeep>(
+    keep: &mut K,
+) -> Result<(), Failure> {
     has_rows(keep)?;
     reads_all(keep)
 }
 
 // What stands after the worked script.
-fn is_answered<K: BodyKeep<Rows = Rows, Changes = Changes>>(keep: &mut K) -> Result<(), Failure> {
+fn is_answered<K: Keep<Rows = Rows, Changes = Changes> + BodyKeep>(
+    keep: &mut K,
+) -> Result<(), Failure> {
     let rows = keep.load()?;
     script::has_ended(&rows)?;
     reads(keep, 1, script::HELLO)
 }
 
 // What stands after that commit, where it is the last of its course.
-fn is_at_end<K: BodyKeep<Rows = Rows, Changes = Changes>>(
+fn is_at_end<K: Keep<Rows = Rows, Changes = Changes> + BodyKeep>(
     keep: &mut K,
     last: Option<Commit>,
 ) -> Result<(), Failure> {
@@ -132,7 +132,7 @@ fn is_at_end<K: BodyKeep<Rows = Rows, Changes = Changes>>(
 }
 
 // A centre can stand on what each commit leaves that a centre makes.
-fn judge<K: BodyKeep<Rows = Rows, Changes = Changes>>(
+fn judge<K: Keep<Rows = Rows, Changes = Changes> + BodyKeep>(
     alloc: Global,
     keep: &mut K,
     last: Option<Commit>,
@@ -152,7 +152,7 @@ fn last_of(commits: &[(&str, Commit)], count: usize) -> Option<Commit> {
     }
 }
 
-fn work<K: BodyKeep<Rows = Rows, Changes = Changes>>(
+fn work<K: Keep<Rows = Rows, Changes = Changes> + BodyKeep>(
     alloc: Global,
     keep: &mut K,
     commits: &[(&str, Commit)],
@@ -165,7 +165,7 @@ fn work<K: BodyKeep<Rows = Rows, Changes = Changes>>(
 }
 
 /// Makes so many of the commits over a keep, and says what there is then.
-pub(crate) fn run<K: BodyKeep<Rows = Rows, Changes = Changes> + Drop>(
+pub(crate) fn run<K: Keep<Rows = Rows, Changes = Changes> + BodyKeep + Drop>(
     alloc: Global,
     keep: K,
     commits: &[(&str, Commit)],
