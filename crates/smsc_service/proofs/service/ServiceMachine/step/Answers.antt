@@ -1,4 +1,5 @@
 use Rattle.std.proofs.Common.{◌≡◌, ◌⊎◌, ◌∙◌, ap, sym, subst}
+use Rattle.sms_centre_group.specs.Grouping.{store_of}
 use Rattle.sms_centre_spec.specs.SoundRows.{IsSound}
 use Rattle.sms_centre_spec.specs.declared.rows.Rows.{Rows}
 use Rattle.sms_keeper.specs.declared.machine.Fate.TheVariants.{Refused}
@@ -33,7 +34,7 @@ returns-clause-gives g c = λ honest s r standing.
                 (again_more asked other s r stimulus fate (held_by c.args.self.now.seated) (held_by seated) alike c.answer-fate.ensures.quiet standing.again);
           })
           (λ refused left. record {
-            rows = subst (λ (base : Rows). (g.K.RowStore.state _).holds base ⊎ (g.K.RowStore.state _).is_closed) (sym rows) left;
+            rows = subst (λ (base : Rows). (g.K.RowStore.state (store_of seated.machine.keep)).holds base ⊎ (g.K.RowStore.state (store_of seated.machine.keep)).is_closed) (sym rows) left;
             again = again_refused asked other s r stimulus fate (held_by c.args.self.now.seated) (held_by seated) alike c.answer-fate.ensures.quiet refused standing.again;
             seats = c.refused_with_group-if_refused.ensures.seats r standing.seats;
           }),
