@@ -44,7 +44,6 @@ fn run_term<J: Drop, O: Drop, R: Wait, M: Machine<J, O>, G: Gate, C: Clock, B: R
 ///
 /// # Errors
 /// `MachineFailed` where the machine could not be opened again.
-#[tactic(auto, using(crate::proofs::Lasting::ran_none, crate::proofs::Lasting::ran_more))]
 pub fn run_terms<J: Drop, O: Drop, R: Wait, M: Machine<J, O>, G: Gate, C: Clock, B: Recorder<J, O>>(
     rt: &R,
     alloc: Global,
