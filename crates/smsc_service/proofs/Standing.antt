@@ -1,24 +1,26 @@
 -- A service in a group, one step further.
-use Rattle.std.proofs.Common.{◌≡◌, ◌⊎◌, ⊎_elim, inl, inr, ap, refl, subst, sym, ◌∙◌}
+use Rattle.std.proofs.Common.{◌≡◌, ◌⊎◌, List, ⊎_elim, inl, inr, ap, refl, subst, sym, ◌∙◌}
 use Rattle.sms_rows.specs.keep.KeepState.{KeepState}
 use Rattle.sms_centre.specs.state.CentreState.{Represents}
 use Rattle.sms_centre_group.proofs.Joining.{settled}
 use Rattle.sms_centre_spec.specs.Draft.{Core, no_changes}
 use Rattle.sms_centre_spec.specs.declared.rows.Rows.{Rows}
 use Rattle.sms_centre_spec.specs.declared.jobs.job.Job.{Job}
+use Rattle.sms_centre_spec.specs.declared.jobs.reply.Reply.{Reply}
 use Rattle.sms_centre_spec.specs.declared.rows.Changes.{Changes}
 use Rattle.sms_keeper.specs.Fates.{MatchFate}
 use Rattle.sms_keeper.specs.declared.machine.Fate.{Fate}
 use Rattle.sms_keeper.specs.declared.machine.Fate.TheVariants.{Done, NoMemory, Refused}
 use Rattle.sms_keeper.specs.declared.machine.Stimulus.{Stimulus}
-use Rattle.smsc_service.specs.Asking.{UnlessEvent}
+use Rattle.sms_keeper.specs.declared.outs.Out.{Out}
+use Rattle.smsc_service.specs.Asking.{UnlessEvent, asked_by}
 use Rattle.smsc_service.specs.declared.asking.SeatRequest.{SeatRequest}
 use Rattle.smsc_service.specs.declared.asking.SeatRequest.TheVariants.{Event, Nothing, Taken}
 use Rattle.smsc_service.specs.declared.service.Service.{Service}
 use Rattle.smsc_service.specs.InSeated.{held_by}
 use Rattle.smsc_service.specs.InService.{IsAwaitedBy, IsServedBy, store_in}
 use Rattle.smsc_service.specs.Seats.{Seats, seats_in}
-use Rattle.smsc_service.specs.Serving.{Serving, after_for, restarted}
+use Rattle.smsc_service.specs.Serving.{Serving, after, after_for, gives, gives_for, restarted}
 
 -- what starts again has the rows from before the group
 pub after_rows : (a : SeatRequest) (r : Serving) (stimulus : Stimulus Job) → (after_for a Refused r stimulus).core.rows ≡ r.core.rows
@@ -32,6 +34,16 @@ pub after_again : (a : SeatRequest) (r : Serving) (stimulus : Stimulus Job) → 
 after_again (Event event) r stimulus is = refl
 after_again Nothing r stimulus is = is
 after_again Taken r stimulus is = is
+
+-- what an item gives whose group is refused, by what it asks
+pub refused_gives : (a : SeatRequest) (q : Seats) (r : Serving) (stimulus : Stimulus Job) (outs : List (Out Reply)) → a ≡ asked_by q stimulus → q ≡ r.seats → outs ≡ gives_for a Refused r stimulus
+    → outs ≡ gives r stimulus Refused
+refused_gives a q r stimulus outs is same h = h ∙ ap (λ (x : SeatRequest). gives_for x Refused r stimulus) (is ∙ ap (λ (s : Seats). asked_by s stimulus) same)
+
+-- who sits where after it, by what it asks
+pub refused_seats : (a : SeatRequest) (q now : Seats) (r : Serving) (stimulus : Stimulus Job) → a ≡ asked_by q stimulus → q ≡ r.seats → now ≡ (after_for a Refused r stimulus).seats
+    → now ≡ (after r stimulus Refused).seats
+refused_seats a q now r stimulus is same h = h ∙ ap (λ (x : SeatRequest). (after_for x Refused r stimulus).seats) (is ∙ ap (λ (s : Seats). asked_by s stimulus) same)
 
 abbrev pub IsAgain : Changes → Serving → Serving → Type 0
 IsAgain held s r = ((held ≡ no_changes) × (s.seats ≡ r.seats)) ⊎ (r ≡ restarted r.core.rows r.seats)

@@ -1,4 +1,8 @@
-use Rattle.smsc_service.specs.InSeated.{IsLeft, Reaches}
+use Rattle.std.proofs.Common.{◌≡◌, ◌∙◌, subst, sym}
+use Rattle.sms_keeper.specs.declared.machine.Fate.{Fate}
+use Rattle.sms_keeper.specs.declared.machine.Fate.TheVariants.{Done}
+use Rattle.smsc_service.specs.Asking.{UnlessEvent}
+use Rattle.smsc_service.specs.InSeated.{IsLeft, Reaches, held_by}
 use Rattle.smsc_service.proofs.ByOctets.{is_step}
 use Rattle.smsc_service.proofs.seated_centre.SeatedCentre.answer.Goals as goal
 
@@ -10,3 +14,10 @@ returns-clause-gives g c = λ s base honest sound made.
 
 pub returns-clause-late : goal.returns-clause-late
 returns-clause-late g c = λ e. c.serve-made.ensures.late e
+
+pub returns-clause-refused : goal.returns-clause-refused
+returns-clause-refused g c = λ s base honest sound made e. c.serve-made.ensures.refused s base honest sound made (sym c.answered.ensures.fate ∙ e)
+
+pub returns-clause-quiet : goal.returns-clause-quiet
+returns-clause-quiet g c =
+    subst (λ (f : Fate). UnlessEvent c.args.asked.now ((held_by c.serve-made.new.self ≡ held_by c.args.self.now) × (f ≡ Done))) (sym c.answered.ensures.fate) c.serve-made.ensures.quiet

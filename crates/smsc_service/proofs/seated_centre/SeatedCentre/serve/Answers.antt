@@ -1,8 +1,9 @@
-use Rattle.std.proofs.Common.{refl, subst, sym}
+use Rattle.std.proofs.Common.{◌≡◌, refl, subst, sym}
 use Rattle.sms_keeper.specs.declared.machine.Fate.TheVariants.{Done}
 use Rattle.smsc_service.specs.declared.asking.SeatRequest.{SeatRequest}
 use Rattle.smsc_service.specs.declared.asking.SeatRequest.TheVariants.{Nothing, Taken}
-use Rattle.smsc_service.specs.InSeated.{IsLeft, Reaches}
+use Rattle.smsc_service.specs.Asking.{UnlessEvent}
+use Rattle.smsc_service.specs.InSeated.{IsLeft, Reaches, held_by}
 use Rattle.smsc_service.specs.Serving.{Serves}
 use Rattle.smsc_service.proofs.ByFate.{was_done, with_fate}
 use Rattle.smsc_service.proofs.seated_centre.SeatedCentre.serve.Goals as goal
@@ -46,3 +47,15 @@ returns-in-Nothing-clause-late g c = λ e. refl
 
 pub returns-in-Taken-clause-late : goal.returns-in-Taken-clause-late
 returns-in-Taken-clause-late g c = λ e. refl
+
+pub returns-in-Event-clause-quiet : goal.returns-in-Event-clause-quiet
+returns-in-Event-clause-quiet g c =
+    subst (λ (a : SeatRequest). UnlessEvent a ((held_by c.begin.new.self ≡ held_by c.args.self.now) × (c.begin.result.fate ≡ Done))) (sym c.in-Event.is) tt
+
+pub returns-in-Nothing-clause-quiet : goal.returns-in-Nothing-clause-quiet
+returns-in-Nothing-clause-quiet g c =
+    subst (λ (a : SeatRequest). UnlessEvent a ((held_by c.args.self.now ≡ held_by c.args.self.now) × (c.unmade.result.fate ≡ Done))) (sym c.in-Nothing.is) (refl, c.unmade.ensures.fate)
+
+pub returns-in-Taken-clause-quiet : goal.returns-in-Taken-clause-quiet
+returns-in-Taken-clause-quiet g c =
+    subst (λ (a : SeatRequest). UnlessEvent a ((held_by c.args.self.now ≡ held_by c.args.self.now) × (c.turned_away.result.fate ≡ Done))) (sym c.in-Taken.is) (refl, c.turned_away.ensures.fate)

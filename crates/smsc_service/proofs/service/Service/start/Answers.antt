@@ -21,3 +21,7 @@ returns-clause-served g c = λ rows honest holds.
         (subst (λ (q : Seats). Represents (restarted rows q).core c.in_ok-centre.centre) c.in-Ok.ensures.first there.0))
     (ap (λ (m : SeatMap). seats_in m) c.of.ensures.seat_map ∙ c.in-Ok.ensures.first)
     (ap (λ (m : SeatMap). seats_in m) c.of.ensures.resumed ∙ c.in-Ok.ensures.second)
+
+pub returns-clause-before : goal.returns-clause-before
+returns-clause-before g c = λ honest. subst (λ (k : g.row.K.Denot). (g.K.RowStore.state k).is_honest) c.over-group.ensures.store
+    (c.in_ok-centre.ensures.before (subst (λ (k : GroupKeep g.row.K.Denot). (g.K.RowStore.state (store_of k)).is_honest) c.of.ensures.keep honest))
