@@ -17,5 +17,5 @@ returns-clause-served g c = λ r honest waiting.
     } in
     stands_again g.K.RowStore.state before now r waiting started.held
     (λ holds. let there = started.outcome r.core.rows honest holds in
-        (there.1, subst (λ (x : CentreStateOf). Represents (restarted r.core.rows (seats_in before.resumed)).core x) (sym c.put.ensures) there.0))
+    (there.1, subst (λ (x : CentreStateOf). Represents (restarted r.core.rows (seats_in before.resumed)).core x) (sym c.put.ensures) there.0))
     (λ closed. started.closed honest closed) c.copy_from.ensures refl

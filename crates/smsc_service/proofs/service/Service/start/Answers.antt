@@ -13,12 +13,12 @@ returns-clause-served g c = λ rows honest holds.
     let state = g.K.RowStore.state in
     let started = c.in_ok-centre.ensures in
     let there = started.outcome rows (subst (λ (k : GroupKeep g.row.K.Denot). (state (store_of k)).is_honest) c.of.ensures.keep honest)
-        (subst (λ (k : g.row.K.Denot). (state k).holds rows) (sym c.over-group.ensures.store) holds) in
+    (subst (λ (k : g.row.K.Denot). (state k).holds rows) (sym c.over-group.ensures.store) holds) in
     stands_on state c.of.result (restarted rows nobody)
     (ap (λ (k : GroupKeep g.row.K.Denot). held_in k) c.of.ensures.keep ∙ started.held)
     (subst (λ (k : GroupKeep g.row.K.Denot). (state (store_of k)).holds rows) (sym c.of.ensures.keep) there.1)
     (subst (λ (x : CentreStateOf). Represents (restarted rows nobody).core x) (sym c.of.ensures.centre)
-        (subst (λ (q : Seats). Represents (restarted rows q).core c.in_ok-centre.centre) c.in-Ok.ensures.first there.0))
+    (subst (λ (q : Seats). Represents (restarted rows q).core c.in_ok-centre.centre) c.in-Ok.ensures.first there.0))
     (ap (λ (m : SeatMap). seats_in m) c.of.ensures.seat_map ∙ c.in-Ok.ensures.first)
     (ap (λ (m : SeatMap). seats_in m) c.of.ensures.resumed ∙ c.in-Ok.ensures.second)
 
