@@ -9,7 +9,7 @@ conclude-requires-clause-seats g c = at_kept c.args.opened.keeper c.run_terms.ne
 pub conclude-requires-clause-count : goal.conclude-requires-clause-count
 conclude-requires-clause-count g c = sym (seats_kept c.args.opened.keeper c.run_terms.new.keeper c.in-Ok.ensures.ran.did.hub ∙ c.requires.keeper.seats)
 
-pub returns-in_ok-answers-in-Ok-clause-ran : goal.returns-in-Ok-clause-ran
+pub returns-in_ok-answers-in-Ok-clause-ran : goal.returns-in_ok-answers-in-Ok-clause-ran
 returns-in_ok-answers-in-Ok-clause-ran g c = let ran = c.in-Ok.ensures.ran in
     let all = all_did (g.C.Clock.reads c.args.clock.now) c.args.opened.keeper c.run_terms.new.keeper ran.items (length c.args.opened.threads.items) c.requires.keeper ran.did c.in-Ok.ensures.closed in
     sessions_ran (g.C.Clock.reads c.args.clock.now) g.M.Machine.gives g.M.Machine.after (g.M.Machine.is_honest c.run_terms.new.machine)
