@@ -14,5 +14,5 @@ returns-in_ok-answers-in-Ok-clause-ran g c = let ran = c.in-Ok.ensures.ran in
     let all = all_did (g.C.Clock.reads c.args.clock.now) c.args.opened.keeper c.run_terms.new.keeper ran.items (length c.args.opened.threads.items) c.requires.keeper ran.did c.in-Ok.ensures.closed in
     sessions_ran (g.C.Clock.reads c.args.clock.now) g.M.Machine.gives g.M.Machine.after (g.M.Machine.is_honest c.run_terms.new.machine)
     (λ s. g.M.Machine.stands c.args.machine.now s s) (λ s. g.M.Machine.stands c.run_terms.new.machine s s) (g.B.Recorder.has c.args.recorder.now) (g.B.Recorder.has c.run_terms.new.recorder)
-    c.args.opened.keeper c.run_terms.new.keeper (length c.args.opened.threads.items) c.args.opened.threads.items c.in_ok-answers.answers.items c.requires.keeper ran
-    (c.in_ok-answers.ensures.jobs ran.items all) (c.in_ok-answers.ensures.others ran.items all) (c.in_ok-answers.ensures.answers ran.items all)
+    c.args.opened.keeper c.run_terms.new.keeper (length c.args.opened.threads.items) c.args.opened.threads.items c.in_ok-answers-in-Ok.answers.items c.requires.keeper ran
+    (c.in_ok-answers-in-Ok.ensures.jobs ran.items all) (c.in_ok-answers-in-Ok.ensures.others ran.items all) (c.in_ok-answers-in-Ok.ensures.answers ran.items all)
