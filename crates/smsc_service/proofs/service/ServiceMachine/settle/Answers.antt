@@ -1,4 +1,5 @@
-use Rattle.std.proofs.Common.{◌∙◌, inl, inr, refl, subst, sym}
+use Rattle.std.proofs.Common.{◌∙◌, ap, inl, inr, refl, subst, sym}
+use Rattle.sms_rows.specs.declared.keep.refusals.Refusals.{Refusals}
 use Rattle.sms_centre.specs.state.CentreState.{Represents, CentreStateOf}
 use Rattle.smsc_service.specs.InSeated.{held_by}
 use Rattle.smsc_service.proofs.Standing.{again_of}
@@ -25,3 +26,6 @@ returns-in-Err-clause-settled g c = λ honest s r standing. record {
   again = again_of (held_by c.args.self.now.seated) s r c.in-Err.ensures.asked standing.again;
   seats = standing.seats;
 }
+
+pub returns-in-Err-clause-refused : goal.returns-in-Err-clause-refused
+returns-in-Err-clause-refused g c = ap (λ (r : Refusals). r.calls) c.in-Err.ensures.counted
