@@ -45,6 +45,15 @@ impl<K: CentreStore + Drop> GroupKeep<K> {
         }
     }
 
+    /// The store. What the group changed is let go.
+    pub fn into_store(self) -> K
+        ensures { result ≡ store_of self }
+    {
+        let GroupKeep { store, held, .. } = self;
+        drop(held);
+        store
+    }
+
     /// Makes room for the changes of one event more.
     pub fn make_room(&mut self, changes: &Changes) -> Result<(), AllocError>
         ensures room { OnOk result (HasRoomFor changes.now self.new.held) }

@@ -1,30 +1,52 @@
--- Runs whose histories were let go, one term longer.
-use Rattle.std.proofs.Common.{ℕ, List, [], ◌++◌, refl}
+-- Runs, one term longer.
+use Rattle.std.proofs.Common.{◌≡◌, ℕ, List, [], ◌++◌, refl, sym, subst, append_assoc, append-nil}
+use Rattle.sms_keeper.specs.declared.keeper.End.{End}
+use Rattle.sms_keeper.specs.declared.keeper.End.TheVariants.{AllClosed, Refused}
 use Rattle.sms_keeper.specs.declared.keeper.Keeper.{Keeper}
 use Rattle.sms_keeper.specs.declared.machine.Fate.{Fate}
 use Rattle.sms_keeper.specs.declared.machine.Item.{Item}
 use Rattle.sms_keeper.specs.declared.machine.Stimulus.{Stimulus}
 use Rattle.sms_keeper.specs.declared.outs.Out.{Out}
-use Rattle.sms_keeper.specs.History.{Leads}
-use Rattle.sms_keeper.specs.Keeping.{IsStretch}
+use Rattle.sms_keeper.specs.Groups.{IsTerm}
 use Rattle.sms_hub.specs.Lasting.{Ran}
-use Rattle.sms_keeper.proofs.Stretches.{leads_more, leads_none, same_self, stretch_more, stretch_none}
+use Rattle.sms_keeper.proofs.Stretches.{leads-append, leads_none, same_self, stretch-append, stretch_none}
 
 module _ {J O S : Type 0} (reads : ℕ → Type 0) (gives : S → Stimulus J → Fate → List (Out O)) (after : S → Stimulus J → Fate → S) where
-  -- these items are what was run
-  pub ran_so : (honest : Type 0) (before behind : S → Type 0) (a b : Keeper J O) (items : List (Item J O))
-      → IsStretch reads a items b → (honest → Leads gives after before items behind) → Ran reads gives after honest before behind a b
-  ran_so honest before behind a b items did led = record { items = items; did = did; led = led }
+  -- a term after which all seats have closed
+  pub ran_closed : (honest : Type 0) (before behind resumes : S → Type 0) (told tells : List (Item J O) → Type 0) (a b : Keeper J O) (end : End) → end ≡ AllClosed
+      → IsTerm reads gives after honest before behind resumes told tells a b end → Ran reads gives after honest before behind told tells a b
+  ran_closed honest before behind resumes told tells a b end is term =
+      let t = subst (λ (e : End). IsTerm reads gives after honest before behind resumes told tells a b e) is term in
+      record { items = t.items; did = t.did; led = t.led; recorded = t.recorded }
+
+  -- a term after which the machine was opened again
+  pub ran_refused : (first honest : Type 0) (before behind resumes again : S → Type 0) (told tells later : List (Item J O) → Type 0) (a b : Keeper J O) (end : End) → end ≡ Refused → (honest → first)
+      → IsTerm reads gives after first before behind resumes told tells a b end → (honest → (s : S) → resumes s → again s) → ((items : List (Item J O)) → tells items → later items)
+      → Ran reads gives after honest before again told later a b
+  ran_refused first honest before behind resumes again told tells later a b end is was term opens keeps =
+      let t = subst (λ (e : End). IsTerm reads gives after first before behind resumes told tells a b e) is term in
+      record {
+        items = t.items;
+        did = t.did;
+        led = λ now s there. let x = t.led (was now) s there in (x.0, (x.1.0, opens now x.0 x.1.1));
+        recorded = λ earlier has. keeps (earlier ++ t.items) (t.recorded earlier has);
+      }
 
   -- nothing was run yet
-  pub ran_none : (honest : Type 0) (before : S → Type 0) (a : Keeper J O) → Ran reads gives after honest before before a a
-  ran_none honest before a = record { items = []; did = stretch_none reads a a (same_self a) (λ n. refl) refl refl; led = λ h. leads_none gives after before }
+  pub ran_none : (honest : Type 0) (before : S → Type 0) (told : List (Item J O) → Type 0) (a : Keeper J O) → Ran reads gives after honest before before told told a a
+  ran_none honest before told a = record {
+    items = [];
+    did = stretch_none reads a a (same_self a) (λ n. refl) refl refl;
+    led = λ h. leads_none gives after before;
+    recorded = λ earlier has. subst told (sym (append-nil earlier)) has;
+  }
 
   -- some items, and then some more
-  pub ran_more : (first honest : Type 0) (before between behind : S → Type 0) (a b c : Keeper J O) → (honest → first)
-      → Ran reads gives after first before between a b → Ran reads gives after honest between behind b c → Ran reads gives after honest before behind a c
-  ran_more first honest before between behind a b c so h k = record {
+  pub ran_more : (first honest : Type 0) (before between behind : S → Type 0) (told tells later : List (Item J O) → Type 0) (a b c : Keeper J O) → (honest → first)
+      → Ran reads gives after first before between told tells a b → Ran reads gives after honest between behind tells later b c → Ran reads gives after honest before behind told later a c
+  ran_more first honest before between behind told tells later a b c so h k = record {
     items = h.items ++ k.items;
-    did = stretch_more reads a h.items b k.items c h.items (h.items ++ k.items) h.did k.did refl refl;
-    led = λ is. leads_more gives after before h.items between k.items behind h.items (h.items ++ k.items) (h.led (so is)) (k.led is) refl refl;
+    did = stretch-append reads a h.items b k.items c h.did k.did;
+    led = λ is. leads-append gives after before h.items between k.items behind (h.led (so is)) (k.led is);
+    recorded = λ earlier has. subst later (append_assoc earlier h.items k.items) (k.recorded (earlier ++ h.items) (h.recorded earlier has));
   }

@@ -1,15 +1,19 @@
 -- The sessions of a hub, one more of them, and what the keeper did put together with what they did.
-use Rattle.std.proofs.Common.{◌≡◌, ◌+◌, ◌<◌, ℕ, zero, suc, true, List, [], ◌∷◌, ◌++◌, length, sym, refl, ap, ◌∙◌, subst, append_assoc, append-nil, length-append, arith}
+use Rattle.std.proofs.Common.{◌≡◌, ◌+◌, ◌<◌, ◌≤◌, ℕ, zero, suc, true, List, [], ◌∷◌, ◌++◌, length, sym, refl, ap, ◌∙◌, subst, append_assoc, append-nil, length-append, arith, Option}
 use Rattle.std.proofs.lemmas.List.{length-map}
 use Rattle.std.specs.declared.alloc.Global.{Global}
 use Rattle.std.specs.Prelude.{Vec}
 use Rattle.sms_keeper.specs.declared.keeper.Keeper.{Keeper}
+use Rattle.sms_keeper.specs.declared.machine.Fate.{Fate}
 use Rattle.sms_keeper.specs.declared.machine.Item.{Item}
+use Rattle.sms_keeper.specs.declared.machine.Stimulus.{Stimulus}
+use Rattle.sms_keeper.specs.declared.outs.Out.{Out}
 use Rattle.sms_seats.specs.declared.seat.Seat.{Seat}
 use Rattle.sms_seats.specs.Jobs.{of, has_end}
-use Rattle.sms_keeper.specs.History.{answers_in, each_seat, for_seat, jobs_of, work}
-use Rattle.sms_keeper.specs.Keeping.{given_by, ran_by, seats_of, IsClosed, IsSameHub}
-use Rattle.sms_hub.specs.Running.{SessionThread, AreAt, jobs_for, lists_of}
+use Rattle.sms_keeper.specs.History.{IsRising, answers_in, each_seat, for_seat, jobs_of, work}
+use Rattle.sms_keeper.specs.Keeping.{given_by, last_tick, ran_by, seats_of, IsClosed, IsSameHub}
+use Rattle.sms_hub.specs.Running.{SessionThread, SessionsRan, AreAt, jobs_for, lists_of}
+use Rattle.sms_hub.specs.Lasting.{Ran}
 use Rattle.sms_seats.specs.Seats.{number_of}
 use Rattle.sms_keeper.specs.Seating.{IsAll, IsNewKeeper, IsSeatOf, IsUnchanged}
 use Rattle.sms_keeper.proofs.Histories.{same_length, seat_kept}
@@ -80,11 +84,24 @@ module _ {J O : Type 0} where
       → os ≡ each_seat n (given_by b) → os ≡ each_seat n (λ k. answers_in k h)
   answers_reported a b h n os same all count e = e ∙ each_same n (given_by b) (λ k. answers_in k h) (λ k less. same.given k ∙ all.given k (subst (λ m. k < m) count less))
 
-  -- there are as many threads as lists
-  pub same_count : (ts : List (SessionThread J O)) (ls : List (Vec J Global)) → jobs_for ts ≡ lists_of ls → length ts ≡ length ls
-  same_count ts ls e = sym (length-map ts (λ (t : SessionThread J O). t.promise.jobs.value.items)) ∙ ap length e ∙ length-map ls (λ (v : Vec J Global). v.items)
-
 module _ {O : Type 0} where
   -- there are as many vectors of answers as seats
   pub answer_count : (os : List (Vec O Global)) (n m : ℕ) (f : ℕ → List O) → lists_of os ≡ each_seat n f → n ≡ m → length os ≡ m
   answer_count os n m f e is = sym (length-map os (λ (v : Vec O Global). v.items)) ∙ ap length e ∙ each_length n f ∙ is
+
+module _ {J O S : Type 0} (reads : ℕ → Type 0) (gives : S → Stimulus J → Fate → List (Out O)) (after : S → Stimulus J → Fate → S) where
+  -- what a keeper ran, put together with what the threads of its sessions did
+  pub sessions_ran : (honest : Type 0) (before behind : S → Type 0) (told tells : List (Item J O) → Type 0) (a b : Keeper J O) (seats : ℕ) (ts : List (SessionThread J O)) (os : List (Vec O Global))
+      → IsNewKeeper seats a → (ran : Ran reads gives after honest before behind told tells a b)
+      → each_seat (length ts) (λ n. jobs_of n ran.items) ≡ jobs_for ts → ((n : ℕ) → length ts ≤ n → jobs_of n ran.items ≡ []) → lists_of os ≡ each_seat (length ts) (λ n. answers_in n ran.items)
+      → SessionsRan reads gives after honest before behind told tells (jobs_for ts) (lists_of os)
+  sessions_ran honest before behind told tells a b seats ts os new ran jobs others answers =
+      let many : length (jobs_for ts) ≡ length ts = length-map ts (λ (t : SessionThread J O). t.promise.jobs.value.items) in record {
+        items = ran.items;
+        led = ran.led;
+        ticks = (last_tick b, subst (λ (t : Option ℕ). IsRising reads t ran.items (last_tick b)) new.last ran.did.ticks);
+        jobs = ap (λ n. each_seat n (λ k. jobs_of k ran.items)) many ∙ jobs;
+        others = λ n past. others n (subst (λ m. m ≤ n) many past);
+        answered = answers ∙ ap (λ n. each_seat n (λ k. answers_in k ran.items)) (sym many);
+        recorded = ran.recorded;
+      }

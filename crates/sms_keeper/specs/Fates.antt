@@ -16,6 +16,15 @@ module _ {J O : Type 0} where
   WentOn [] = Unit {0}
   WentOn (e ∷ es) = (e.fate ≢ Refused) × WentOn es
 
-  -- the last item was refused, and none before it
+  -- each item was refused
+  abbrev pub AllRefused : List (Item J O) → Type 0
+  AllRefused [] = Unit {0}
+  AllRefused (e ∷ es) = (e.fate ≡ Refused) × AllRefused es
+
+  -- there are items, and each was refused
+  abbrev pub IsRefused : List (Item J O) → Type 0
+  IsRefused items = (items ≢ []) × AllRefused items
+
+  -- each item of the last group was refused, and none before it
   abbrev pub EndsRefused : List (Item J O) → Type 0
-  EndsRefused items = (before : List (Item J O)) × (last : Item J O) × (items ≡ before ++ last ∷ []) × WentOn before × (last.fate ≡ Refused)
+  EndsRefused items = (before : List (Item J O)) × (group : List (Item J O)) × (items ≡ before ++ group) × WentOn before × IsRefused group

@@ -6,7 +6,6 @@ use Rattle.sms_keeper.specs.declared.machine.Fate.{Fate}
 use Rattle.sms_keeper.specs.declared.machine.Item.{Item}
 use Rattle.sms_keeper.specs.declared.outs.Out.{Out}
 use Rattle.sms_seats.specs.declared.jobs.Letter.{Letter}
-use Rattle.sms_keeper.specs.Fates.{MatchFate}
 
 module _ {J O S : Type 0} (gives : S → Stimulus J → Fate → List (Out O)) (after : S → Stimulus J → Fate → S) where
   -- from the state s the items lead to the state t
@@ -17,10 +16,6 @@ module _ {J O S : Type 0} (gives : S → Stimulus J → Fate → List (Out O)) (
   -- from whatever state there was before them the items lead to the state after them
   abbrev pub Leads : (S → Type 0) → List (Item J O) → (S → Type 0) → Type 0
   Leads before items behind = (s : S) → before s → (t : S) × (IsHistory s items t × behind t)
-
-  -- that lead, where the machine continues as it is, or has to be opened again
-  abbrev pub LeadsBy : Fate → (S → Type 0) → List (Item J O) → (S → Type 0) → (S → Type 0) → Type 0
-  LeadsBy fate before items behind again = MatchFate fate (Leads before items behind) (Leads before items again)
 
 -- a moment after the last tick, if there was one
 abbrev pub IsLater : Option ℕ → ℕ → Type 0

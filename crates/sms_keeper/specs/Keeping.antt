@@ -1,19 +1,21 @@
 -- What contracts see of a keeper.
-use Rattle.std.specs.Prelude.{◌≡◌, ◌<◌, ◌≤◌, ℕ, List, ◌++◌, length, Option}
+use Rattle.std.specs.Prelude.{◌≡◌, ◌<◌, ℕ, List, ◌++◌, Option}
 use Rattle.sms_seats.specs.declared.jobs.Letter.{Letter}
 use Rattle.sms_seats.specs.declared.queues.SeatQueues.{SeatQueues}
 use Rattle.sms_seats.specs.Queues.{IsSameQueues, given_by as given_in, ran_by as ran_in, seats_of as seats_in, slots_in as slots_of, IsClosed as AllClosed}
-use Rattle.sms_keeper.specs.declared.machine.Fate.{Fate}
 use Rattle.sms_keeper.specs.declared.machine.Item.{Item}
 use Rattle.sms_keeper.specs.declared.outs.Out.{Out}
 use Rattle.sms_keeper.specs.declared.keeper.Keeper.{Keeper}
-use Rattle.sms_keeper.specs.Fates.{MatchFate, WentOn, EndsRefused}
 use Rattle.sms_keeper.specs.History.{IsRising, asked, answers_in, outs_to, work}
 
 module _ {J O : Type 0} where
   -- each seat was given the outs for it
   abbrev pub Gave : SeatQueues J O → SeatQueues J O → List (Out O) → Type 0
   Gave a b outs = (n : ℕ) → n < seats_in a → given_in b n ≡ given_in a n ++ outs_to n outs
+
+  -- each seat was given the outs for it in all these items
+  abbrev pub GaveAll : SeatQueues J O → SeatQueues J O → List (Item J O) → Type 0
+  GaveAll a b items = (n : ℕ) → n < seats_in a → given_in b n ≡ given_in a n ++ answers_in n items
 
   -- how many seats the keeper has made
   abbrev pub seats_of : Keeper J O → ℕ
@@ -54,21 +56,3 @@ module _ {J O : Type 0} (reads : ℕ → Type 0) where
     pub ran : work (ran_by b) ≡ work (ran_by a) ++ asked items
     pub given : (k : ℕ) → k < seats_of a → given_by b k ≡ given_by a k ++ answers_in k items
     pub ticks : IsRising reads (last_tick a) items (last_tick b)
-
-  -- What a turn did: at most one item more than before, and at most one job. It also says what those items lead to.
-  pub record IsTurn (leads : List (Item J O) → Type 0) (a : Keeper J O) (before : List (Item J O)) (b : Keeper J O) (now : List (Item J O)) (jobs : ℕ)
-      (fate : Fate) : Type 0 where
-    pub more : List (Item J O)
-    pub written : now ≡ before ++ more
-    pub count : length (asked more) ≡ jobs
-    pub most : jobs ≤ 1
-    pub matches : MatchFate fate (WentOn more) (EndsRefused more)
-    pub did : IsStretch a more b
-    pub led : leads more
-
-  -- What a term did that ended for want of memory: it ran fewer jobs than a whole term. What its items lead to is said.
-  pub record IsShort (leads : List (Item J O) → Type 0) (a b : Keeper J O) : Type 0 where
-    pub items : List (Item J O)
-    pub did : IsStretch a items b
-    pub led : leads items
-    pub few : length (asked items) < 65536

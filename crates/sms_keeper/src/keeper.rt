@@ -1,30 +1,27 @@
 //! The keeper, which owns the other end of each seat's queues.
-use crate::machine::Item;
+use crate::machine::{Step, Stimulus};
 use sms_base::Moment;
 use sms_seats::SeatQueues;
 
+mod asking;
 mod giving;
+mod groups;
 mod seats;
-mod turns;
 
 /// Why a term ended.
 #[derive(Clone, Copy, Debug, PartialEq, Eq)]
 pub enum End {
     /// The end mark of each seat was popped.
     AllClosed,
-    /// 65,536 jobs were run.
-    Full,
     /// The machine's store refused: it has to be opened again.
     Refused,
-    /// A growth between two items was refused.
-    Short,
 }
 
-/// What a term did.
+/// An item whose outs are held until its group is settled.
 #[derive(Drop)]
-pub struct Term<J, O> {
-    pub history: Vec<Item<J, O>>,
-    pub end: End,
+pub(crate) struct HeldItem<J, O> {
+    stimulus: Stimulus<J>,
+    step: Step<O>,
 }
 
 /// Who takes the jobs, asks the machine and gives the answers. It stays with its caller between two terms.

@@ -1,8 +1,9 @@
-//! What the keeper runs, and the history that it writes.
-ghost use Rattle.std.specs.Prelude.{◌≡◌, ℕ, List, OnOk, OnErr};
+//! What the keeper runs, a group of items at a time, and who is told of it.
+ghost use Rattle.std.specs.Prelude.{◌≡◌, ℕ, List, [], ◌∷◌, ◌++◌, MatchResult, OnOk, OnErr};
 ghost use Rattle.sms_keeper.specs.declared.machine.Stimulus.{Stimulus};
 ghost use Rattle.sms_keeper.specs.declared.machine.Fate.{Fate};
 ghost use Rattle.sms_keeper.specs.declared.machine.Fate.TheVariants.{Refused};
+ghost use Rattle.sms_keeper.specs.declared.machine.Item.{Item};
 ghost use Rattle.sms_keeper.specs.declared.outs.Out.{Out};
 ghost use Rattle.sms_keeper.specs.Fates.{MatchFate};
 
@@ -25,7 +26,7 @@ pub enum Fate {
     Done,
     /// There was no memory to plan it: nothing was changed.
     NoMemory,
-    /// The store refused the commit or the read of a body: the machine has to be opened again.
+    /// The store refused the commit of its group, or the read of a body in it: the machine has to be opened again.
     Refused,
 }
 
@@ -37,19 +38,23 @@ pub struct Item<J, O> {
     pub outs: Outs<O>,
 }
 
-/// What a step gives: its outs twice, both made before the commit.
+/// What a step gives once its group is committed, and what it gives if its group is refused.
 #[derive(Drop)]
 pub struct Step<O> {
     pub fate: Fate,
-    pub to_seats: Outs<O>,
-    pub to_history: Outs<O>,
+    pub outs: Outs<O>,
+    pub if_refused: Outs<O>,
 }
+
+/// The store refused the commit of a group.
+#[derive(Drop)]
+pub struct Unsettled;
 
 /// The rows of the machine could not be read.
 #[derive(Drop)]
 pub struct Broken;
 
-/// What a step passes once, between its plan and its commit. The product's returns at once.
+/// What a group passes once, between its last plan and its commit. The product's returns at once.
 pub trait Gate {
     fn pass(&self);
 }
@@ -63,6 +68,40 @@ pub trait Clock {
         ensures { reads self.now result };
 }
 
+/// Who is told what a keeper did.
+pub trait Recorder<J, O> {
+    /// The items that it may have been told of. Of one that keeps nothing they may be any.
+    ghost has: { Self → List (Item J O) → Type 0 };
+
+    /// The group of this item is settled, and its outs are about to be given.
+    fn record(&mut self, item: &Item<J, O>)
+        ensures { (told : List (Item J O)) → has self.old told → has self.new (told ++ item.now ∷ []) };
+
+    /// A group of so many items was given its outs.
+    fn end_group(&mut self, count: usize)
+        ensures { (told : List (Item J O)) → has self.old told → has self.new told };
+
+    /// The machine was opened again after a group that its store refused.
+    fn reopened(&mut self)
+        ensures { (told : List (Item J O)) → has self.old told → has self.new told };
+}
+
+/// A recorder that keeps nothing.
+#[derive(Drop)]
+pub struct NoRecord;
+
+impl<J, O> Recorder<J, O> for NoRecord {
+    ghost use Rattle.std.specs.Prelude.{⊤};
+
+    ghost has = { λ recorder told. ⊤ };
+
+    fn record(&mut self, _item: &Item<J, O>) {}
+
+    fn end_group(&mut self, _count: usize) {}
+
+    fn reopened(&mut self) {}
+}
+
 /// What the keeper runs. Its definition, by `gives` and `after`, says what each stimulus puts out and leads to.
 ///
 /// Its laws hold as long as it is honest: its store returns what was written.
@@ -70,7 +109,9 @@ pub trait Machine<J, O> {
     /// What a machine represents. No value of it is made.
     type State;
 
-    ghost represents: { Self → Self.State → Type 0 };
+    /// In the middle of a group it is the first, and if the group is refused it starts again as the second. Between two
+    /// groups both are one.
+    ghost stands: { Self → Self.State → Self.State → Type 0 };
 
     /// What it represents once it is opened again.
     ghost resumes: { Self → Self.State → Type 0 };
@@ -88,19 +129,26 @@ pub trait Machine<J, O> {
 
     ghost after: { Self.State → Stimulus J → Fate → Self.State };
 
-    /// Plans, passes the gate, commits, and only then gives the outs.
-    fn step<G: Gate>(&mut self, gate: &G, stimulus: &Stimulus<J>) -> Step<O>
-        ensures alike { result.to_seats ≡ result.to_history }
+    /// Plans and adopts. Nothing is committed yet, and nothing may leave. After a step that was refused its whole group is.
+    fn step(&mut self, stimulus: &Stimulus<J>) -> Step<O>
         ensures before { is_honest self.new → is_honest self.old }
-        ensures gives { is_honest self.new → (s : Self.State) → represents self.old s → (result.to_history ≡ gives s stimulus.now result.fate)
+        ensures gives { is_honest self.new → (s r : Self.State) → stands self.old s r
+            → (result.outs ≡ gives s stimulus.now result.fate) × (result.if_refused ≡ gives r stimulus.now Refused)
             × MatchFate result.fate
-            (represents self.new (after s stimulus.now result.fate))
-            (resumes self.new (after s stimulus.now result.fate)) }
-        ensures refused { is_honest self.new → (s : Self.State) → represents self.old s → result.fate ≡ Refused → refuses self.old self.new };
+            (stands self.new (after s stimulus.now result.fate) (after r stimulus.now Refused))
+            (resumes self.new (after r stimulus.now Refused)) }
+        ensures refused { is_honest self.new → (s r : Self.State) → stands self.old s r → result.fate ≡ Refused → refuses self.old self.new };
 
-    /// Recovers the machine from its rows, after a step that was refused.
+    /// Passes the gate, and commits what all steps of the group changed, or nothing.
+    fn settle<G: Gate>(&mut self, gate: &G) -> Result<(), Unsettled>
+        ensures before { is_honest self.new → is_honest self.old }
+        ensures settled { is_honest self.new → (s r : Self.State) → stands self.old s r
+            → MatchResult result (λ done. stands self.new s s) (λ refused. resumes self.new r) }
+        ensures refused { OnErr result (refuses self.old self.new) };
+
+    /// Recovers the machine from its rows, after a group that was refused.
     fn reopen(&mut self) -> Result<(), Broken>
-        ensures ok { is_honest self.new → (s : Self.State) → resumes self.old s → OnOk result (represents self.new s) }
+        ensures ok { is_honest self.new → (s : Self.State) → resumes self.old s → OnOk result (stands self.new s s) }
         ensures before { is_honest self.new → is_honest self.old }
         ensures err { OnErr result (is_broken self.new) };
 }

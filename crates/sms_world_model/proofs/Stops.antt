@@ -5,8 +5,8 @@ use Rattle.sms_world_model.specs.Submission.{Submission}
 use Rattle.sms_world_model.specs.World.{Frame, Sent, Carried, World, OutEntry, give, with_frames}
 use Rattle.sms_world_model.specs.References.{Ticket, part_allocation, CanGiveParts}
 use Rattle.sms_world_model.specs.WorldStep.{enter, Step, Submit, Offer, Take, Take_again, Refuse, Settle, Expire, Delete, Fail, Receipt, Status, Close, Join, Write, Remove, Offer_up, Offer_memory, Repeat_memory, Receive, Reject, Memory_free, Lapse, Acknowledged, Refused, Again, Control, Can, after, Run, end}
-use Rattle.sms_world_model.specs.ScriptRun.{Event, Submitted, Cancelled, Asked, Handed, Tick_centre, Tick_handset, Wrote, Removed, Restarted, Went, Whole, Before, After, Happening, items, Follows, IsExpiry, MayFollow, Reads, AllControl, AllMayFollow, AllWrite, IsOwn, IsInOrder, IsPlayed}
-use Rattle.sms_world_model.specs.Stops.{Leads, IsBeforeOrAfter}
+use Rattle.sms_world_model.specs.ScriptRun.{Event, Submitted, Cancelled, Asked, Handed, Tick_centre, Tick_handset, Wrote, Removed, Restarted, Went, Whole, Before, After, Happening, items, Follows, IsExpiry, MayFollow, Reads, AllControl, AllMayFollow, AllWrite, Belongs, IsOwn, IsInOrder, IsPlayed, Plays, happened}
+use Rattle.sms_world_model.specs.Stops.{AllWent, IsAfterAll, Leads, LeadsWhole, IsBeforeOrAfter}
 use Rattle.sms_world_model.specs.Sides.{IsOfCentre, IsOfHandset, AllOfCentre, AllOfHandset}
 use Rattle.sms_world_model.proofs.Runs.{bag_grows}
 
@@ -383,13 +383,47 @@ centre_stopped_so w event m ss played own run =
     let rest = stop_run w w.bag m ss stop.1 run in
     (acts ss, ((stop.0, acts_centre ss own), rest.0, rest.1))
 
+-- after its store call it leaves the world from after it without its frames
+after_leaves : (w v : World) (event : Event) (m : ℕ) → Leads w (record { event = event; went = After; moment = m }) v
+    → (x : World) × (LeadsWhole w (record { event = event; went = After; moment = m }) x × (v ≡ with_frames w.bag x))
+after_leaves w v event m (ss, (played, run, e)) =
+    let rest = whole_run w w.bag m ss (λ x i. i) run in
+    (end w (items m false ss), ((ss, (played, rest.0, refl)), sym e ∙ rest.1))
+
 stop_leaves_in : (w v : World) (event : Event) (went : Went) (m : ℕ) → ¬ (went ≡ Whole) → Leads w (record { event = event; went = went; moment = m }) v
     → IsBeforeOrAfter w (record { event = event; went = went; moment = m }) v
 stop_leaves_in w v event Whole m n x = absurd (n refl)
 stop_leaves_in w v event Before m n (ss, (none, run, e)) = inl (sym e ∙ ap (λ (l : List Step). end w (items m true l)) none)
-stop_leaves_in w v event After m n (ss, (played, run, e)) =
-    let rest = whole_run w w.bag m ss (λ x i. i) run in
-    inr (end w (items m false ss), ((ss, (played, rest.0, refl)), sym e ∙ rest.1))
+stop_leaves_in w v event After m n leads = inr (after_leaves w v event m leads)
 
 pub stop_leaves : (w v : World) (h : Happening) → ¬ (h.went ≡ Whole) → Leads w h v → IsBeforeOrAfter w h v
 stop_leaves w v h n x = stop_leaves_in w v h.event h.went h.moment n x
+
+-- ---- a group of events
+
+after_event : (w v : World) (event : Event) (went : Went) (m : ℕ) → went ≡ After → Leads w (record { event = event; went = went; moment = m }) v
+    → (x : World) × (LeadsWhole w (record { event = event; went = went; moment = m }) x × (v ≡ with_frames w.bag x))
+after_event w v event Whole m is leads = absurd cc
+after_event w v event Before m is leads = absurd cc
+after_event w v event After m is leads = after_leaves w v event m leads
+
+pub all_after : (w v : World) (group : List Happening) → AllWent After group → Plays w group v → IsAfterAll w group v × (v.bag ≡ w.bag)
+all_after w v [] went plays = (sym plays, ap (λ (x : World). x.bag) (sym plays))
+all_after w v (h ∷ group) went (ss, (belongs, run, plays)) =
+    let y = end w (happened h ss) in
+    let one = after_event w y h.event h.went h.moment went.0 (ss, (belongs, run, refl)) in
+    let rest = all_after y v group went.1 plays in (
+      (one.0, (one.1.0, subst (λ (x : World). IsAfterAll x group v) one.1.1 rest.0)),
+      rest.1 ∙ ap (λ (x : World). x.bag) one.1.1,
+    )
+
+before_event : (w : World) (event : Event) (went : Went) (m : ℕ) (ss : List Step) → went ≡ Before → Belongs w (record { event = event; went = went; moment = m }) went ss
+    → end w (happened (record { event = event; went = went; moment = m }) ss) ≡ w
+before_event w event Whole m ss is belongs = absurd cc
+before_event w event Before m ss is belongs = ap (λ (l : List Step). end w (items m true l)) belongs
+before_event w event After m ss is belongs = absurd cc
+
+pub all_before : (w v : World) (group : List Happening) → AllWent Before group → Plays w group v → v ≡ w
+all_before w v [] went plays = sym plays
+all_before w v (h ∷ group) went (ss, (belongs, run, plays)) =
+    all_before (end w (happened h ss)) v group went.1 plays ∙ before_event w h.event h.went h.moment ss went.0 belongs

@@ -29,8 +29,8 @@ ghost use Rattle.sms_world_model.specs.World.{Allocation, World, empty, with_fra
 ghost use Rattle.sms_world_model.specs.References.{IsEarlier};
 ghost use Rattle.sms_world_model.specs.WorldStep.{Step, Item, Run, end};
 ghost use Rattle.sms_world_model.specs.Premises.{Timely, Fresh, PlaysTimely, PlaysFresh};
-ghost use Rattle.sms_world_model.specs.ScriptRun.{items, Event, Happening, Whole, After, Plays, Restarted};
-ghost use Rattle.sms_world_model.specs.Stops.{Leads, IsBeforeOrAfter};
+ghost use Rattle.sms_world_model.specs.ScriptRun.{items, Event, Happening, Whole, Before, After, Plays, Restarted};
+ghost use Rattle.sms_world_model.specs.Stops.{AllWent, IsAfterAll, Leads, IsBeforeOrAfter};
 ghost use Rattle.sms_world_model.specs.Agreement.{MessagesStay, FinalForGood, ReceiptsAgree, HeldDiffer, HoldersOnce, GivenOnce, FramesDiffer, JoinedEnded, DeliveredAccepted, DeliveredReported, NoPartTwice, SentSubmitted, RoundsOnce, JoinedSubmitted, SplitsWhole, SplitsJoined};
 ghost use Rattle.sms_world_model.specs.LastAllocations.{LastAllocations, RefinesAllocations, WasEarlier, IsLastAllocation};
 ghost use Rattle.sms_world_model.specs.Grouping.{OthersStay, IsPassed, JoinsGroup, Ends, NextIsNew};
@@ -108,6 +108,13 @@ pub fn stop_is_before_or_after()
     ensures leaves { (w v : World) (h : Happening) → ¬ (h.went ≡ Whole) → Leads w h v → IsBeforeOrAfter w h v }
     ensures may { (w x : World) (event : Event) (m : ℕ) → Leads w (record { event = event; went = Whole; moment = m }) x
         → Leads w (record { event = event; went = After; moment = m }) (with_frames w.bag x) }
+{}
+
+/// A stop inside the commit of a group of events is before all of them or after all of them. Before all of them, it leaves the world as it was.
+/// After all of them, it leaves the world from after them, and none of their frames was sent.
+pub fn a_stopped_group_is_before_or_after()
+    ensures before { (w v : World) (group : List Happening) → AllWent Before group → Plays w group v → v ≡ w }
+    ensures after { (w v : World) (group : List Happening) → AllWent After group → Plays w group v → IsAfterAll w group v × (v.bag ≡ w.bag) }
 {}
 
 /// A restart of either side leaves the world as it was.

@@ -18,10 +18,10 @@ answers_in [] = 0
 answers_in (Answer answer ∷ taken) = suc (answers_in taken)
 answers_in (reply ∷ taken) = answers_in taken
 
--- So many requests of a seat lie in the keeper's queue at most. The queue takes the seats' jobs in the order in which they were put, so a seat
--- with one request waits for one of each other seat.
+-- So many requests of a seat are with the keeper at most. It takes the seats' jobs in the order in which they were put, 64 at once. So a seat with
+-- one request waits for four of each other seat, and beside fifteen seats its request is among the next 64.
 abbrev pub most_in_queue : ℕ
-most_in_queue = 1
+most_in_queue = 4
 
 -- Each request that was put has its answer, but for so many.
 abbrev pub TakesTurns : List (Option Job) → List Reply → Type 0

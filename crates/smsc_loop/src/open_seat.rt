@@ -14,9 +14,9 @@ use std::sync::Wait;
 use std::sync::atomic::{AtomicBool, Ordering};
 use std::time::Duration;
 
-// So many requests of a seat lie in the keeper's queue at most: a session with one request waits for one of each other session, however
-// many these have. With one alone the keeper waits for a session that asks by itself, from each answer to the next request.
-const MOST_IN_QUEUE: usize = 1;
+// So many requests of a seat are with the keeper at most. It takes 64 at once: a session with one request beside fifteen others is among the
+// next 64. With fewer of each, a group would have few items, and a commit would be for few requests.
+const MOST_IN_QUEUE: usize = 4;
 
 /// A seat of the hub whose end mark was not put. It counts the answers that it has still to get, and takes its turn: it puts no request
 /// while one of its own is in the keeper's queue.

@@ -14,24 +14,24 @@ use Rattle.sms_keeper.specs.declared.outs.Out.{Out}
 use Rattle.smsc_service.specs.declared.asking.SeatRequest.{SeatRequest}
 use Rattle.smsc_service.specs.declared.asking.SeatRequest.TheVariants.{Event, Nothing, Taken}
 use Rattle.smsc_service.specs.declared.seat_map.SeatMap.{SeatMap}
-use Rattle.smsc_service.specs.Serving.{IsServing, IsWaiting, Serves, Serving, IsStep, after_for, gives_for, refusal_for, short_of, unless_refused}
+use Rattle.smsc_service.specs.Serving.{IsServing, Serves, Serving, IsStep, after_for, gives_for, refusal_for, short_of, unless_refused}
 
-module _ (held : Rows → Type 0) (closed : Type 0) (centre : CentreStateOf) (seat_map : SeatMap) (s : Serving) (stimulus : Stimulus Job) where
+module _ (held : Rows → Type 0) (left : Type 0) (centre : CentreStateOf) (seat_map : SeatMap) (s : Serving) (stimulus : Stimulus Job) where
   -- without memory nothing has changed
   unchanged : (asked : SeatRequest) → after_for asked NoMemory s stimulus ≡ s
   unchanged (Event event) = refl
   unchanged Nothing = refl
   unchanged Taken = refl
 
-  was_short : (asked : SeatRequest) (fate : Fate) → MatchFate fate (IsServing held centre seat_map (after_for asked fate s stimulus)) (IsWaiting held closed seat_map (after_for asked fate s stimulus)) → fate ≡ NoMemory → Represents s.core centre
+  was_short : (asked : SeatRequest) (fate : Fate) → MatchFate fate (IsServing held centre seat_map (after_for asked fate s stimulus)) left → fate ≡ NoMemory → Represents s.core centre
   was_short asked fate there short =
-      let now : MatchFate NoMemory (IsServing held centre seat_map (after_for asked NoMemory s stimulus)) (IsWaiting held closed seat_map (after_for asked NoMemory s stimulus)) =
-      subst (λ (f : Fate). MatchFate f (IsServing held centre seat_map (after_for asked f s stimulus)) (IsWaiting held closed seat_map (after_for asked f s stimulus))) short there in
+      let now : MatchFate NoMemory (IsServing held centre seat_map (after_for asked NoMemory s stimulus)) left =
+      subst (λ (f : Fate). MatchFate f (IsServing held centre seat_map (after_for asked f s stimulus)) left) short there in
       (subst (λ (x : Serving). IsServing held centre seat_map x) (unchanged asked) now).centre
 
-  pub is_step : (asked : SeatRequest) (fate last : Fate) (outs given : List (Out Reply)) → last ≡ fate → Serves held closed centre seat_map asked s stimulus fate outs
-      → ((c : Core) → (fate ≡ NoMemory → Represents c centre) → given ≡ unless_refused fate (refusal_for asked c) stimulus outs) → IsStep held closed centre seat_map asked s stimulus last given
-  is_step asked fate last outs given same serves by = subst (λ (f : Fate). IsStep held closed centre seat_map asked s stimulus f given) (sym same)
+  pub is_step : (asked : SeatRequest) (fate last : Fate) (outs given : List (Out Reply)) → last ≡ fate → Serves held left centre seat_map asked s stimulus fate outs
+      → ((c : Core) → (fate ≡ NoMemory → Represents c centre) → given ≡ unless_refused fate (refusal_for asked c) stimulus outs) → IsStep held left centre seat_map asked s stimulus last given
+  is_step asked fate last outs given same serves by = subst (λ (f : Fate). IsStep held left centre seat_map asked s stimulus f given) (sym same)
       (by s.core (was_short asked fate serves.1) ∙ ap (λ (l : List (Out Reply)). unless_refused fate (refusal_for asked s.core) stimulus l) serves.0, serves.1)
 
 -- by whether its octets refuse it

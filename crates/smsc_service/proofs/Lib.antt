@@ -2,6 +2,8 @@ mod ByFate
 mod ByOctets
 mod Numbers
 mod RokNames
+mod Roomy
 mod Sittings
+mod Standing
 mod Stepped
 mod RepliesOfPlans

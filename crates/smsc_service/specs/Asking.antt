@@ -69,3 +69,9 @@ abbrev pub IfEvent : (CentreEvent → Type 0) → SeatRequest → Type 0
 IfEvent Is (Event event) = Is event
 IfEvent Is Nothing = Unit {0}
 IfEvent Is Taken = Unit {0}
+
+-- where it is no event, the claim
+abbrev pub UnlessEvent : SeatRequest → Type 0 → Type 0
+UnlessEvent (Event event) claim = Unit {0}
+UnlessEvent Nothing claim = claim
+UnlessEvent Taken claim = claim

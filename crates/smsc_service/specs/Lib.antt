@@ -1,5 +1,6 @@
 pub mod Asking
 pub mod InMachine
+pub mod InSeated
 pub mod InService
 pub mod Numbers
 pub mod Room

@@ -14,9 +14,9 @@ pub record Seats : Type 0 where
 abbrev pub nobody : Seats
 nobody = record { links = []; sittings = [] }
 
--- those of a seat map, whatever memory it has
+-- those of a seat map
 abbrev pub seats_in : SeatMap → Seats
-seats_in seat_map = record { links = seat_map.links.rows; sittings = seat_map.sittings.rows }
+seats_in seat_map = record { links = seat_map.links; sittings = seat_map.sittings }
 
 abbrev pub link_key : LinkSeat → ℕ
 link_key link = link.seat

@@ -113,22 +113,20 @@ pub record IsWaiting (held : Rows → Type 0) (closed : Type 0) (seat_map : Seat
   pub again : s ≡ restarted s.core.rows s.seats
   pub seats : seats_in seat_map ≡ s.seats
 
--- The outcome of a stimulus that asks this: what is given, and what is there after it, by its fate.
+-- The outcome of a stimulus that asks this: what is given, and what is there after it, by its fate. After a refusal its group is refused.
 abbrev pub Serves : (Rows → Type 0) → Type 0 → CentreStateOf → SeatMap → SeatRequest → Serving → Stimulus Job → Fate → List (Out Reply) → Type 0
-Serves held closed centre seat_map asked s stimulus fate outs =
-    (outs ≡ gives_for asked fate s stimulus)
-    × MatchFate fate (IsServing held centre seat_map (after_for asked fate s stimulus)) (IsWaiting held closed seat_map (after_for asked fate s stimulus))
+Serves held left centre seat_map asked s stimulus fate outs =
+    (outs ≡ gives_for asked fate s stimulus) × MatchFate fate (IsServing held centre seat_map (after_for asked fate s stimulus)) left
 
 -- What is given and what is there then, where a step without memory is answered by the octets of its request.
 abbrev pub IsStep : (Rows → Type 0) → Type 0 → CentreStateOf → SeatMap → SeatRequest → Serving → Stimulus Job → Fate → List (Out Reply) → Type 0
-IsStep held closed centre seat_map asked s stimulus fate outs =
-    (outs ≡ outs_for asked fate s stimulus)
-    × MatchFate fate (IsServing held centre seat_map (after_for asked fate s stimulus)) (IsWaiting held closed seat_map (after_for asked fate s stimulus))
+IsStep held left centre seat_map asked s stimulus fate outs =
+    (outs ≡ outs_for asked fate s stimulus) × MatchFate fate (IsServing held centre seat_map (after_for asked fate s stimulus)) left
 
 -- ---- what was not planned
 
--- For want of memory nothing changes; after a refused read the job changes who sits where.
-abbrev pub GivesUp : StepError → Fate → Seats → Seats → Seats → Type 0
-GivesUp NoPlan fate seats before followed = (fate ≡ NoMemory) × (seats ≡ before)
-GivesUp NoBody fate seats before followed = (fate ≡ Refused) × (seats ≡ followed)
-GivesUp (Store error) fate seats before followed = (fate ≡ Refused) × (seats ≡ followed)
+-- For want of memory nothing changes; a refused read refuses the group.
+abbrev pub GivesUp : StepError → Fate → Type 0
+GivesUp NoPlan fate = fate ≡ NoMemory
+GivesUp NoBody fate = fate ≡ Refused
+GivesUp (Store error) fate = fate ≡ Refused

@@ -1,5 +1,5 @@
 -- What a step of a centre over its store does.
-use Rattle.std.specs.Prelude.{◌≡◌, ◌⊎◌, Bool, true, false, Result, Ok, Err}
+use Rattle.std.specs.Prelude.{◌≡◌, ◌⊎◌, Result, Ok, Err}
 use Rattle.sms_centre_spec.specs.declared.plan_error.PlanError.{PlanError}
 use Rattle.sms_centre_spec.specs.declared.plan_error.PlanError.TheVariants.{NoBody as NoPlanBody, NoMemory as NoPlanMemory}
 use Rattle.sms_centre_spec.specs.Draft.{Draft}
@@ -21,9 +21,6 @@ step_error_of NoPlanMemory = NoMemory
 abbrev pub OneRefused : Refusals → Refusals → Type 0
 OneRefused before after = after.calls ≡ one_more before.calls
 
-abbrev pub RefusedOne : {Rows : Type 0} → KeepState Rows → KeepState Rows → Type 0
-RefusedOne before after = OneRefused before.refusals after.refusals
-
 -- The plan is that of the draft, and the store holds its rows. Or there was no memory, and it holds them. Or it refused a read, and it
 -- holds them or is closed. It refused nothing else. Nothing was to be committed yet.
 abbrev pub PlansStep : Type 0 → Type 0 → Refusals → Refusals → Draft → Result PlanOf StepError → Type 0
@@ -36,8 +33,3 @@ PlansStep held closed before after d (Err (Store error)) = ⊥
 abbrev pub PlanningOutcome : {Rows : Type 0} → Rows → KeepState Rows → KeepState Rows → Draft → Result PlanOf StepError → Type 0
 PlanningOutcome rows before after d result =
     IfHeld rows before after (PlansStep (after.holds rows) after.is_closed before.refusals after.refusals d result)
-
--- whether a step was carried out, as a result
-abbrev pub as_result : Bool → Result (Unit {0}) (Unit {0})
-as_result true = Ok tt
-as_result false = Err tt

@@ -1,11 +1,12 @@
 //! The centre as the machine of a hub.
 //!
-//! `CentreMachine` has a centre and the keep of its rows. An event is planned, passes the gate, is committed at most
-//! once, is adopted, and only then gives its replies: what leaves was committed. The replies, and the centre after
-//! them, are exactly the definition's. An event that is refused, or finds no memory, leaves the centre unchanged. Without
-//! memory a submit_sm is still refused as its octets refuse it, and every other request fails with ESME_RSYSERR. A
-//! step whose commit was refused leaves the rows in the keep, or a closed keep: then the centre starts again with the
-//! rows.
+//! `CentreMachine` has a centre and the keep of a group. An event is planned, its replies are made, it is adopted, and what it
+//! changes is held. Once the group's events have happened, what they changed passes the gate and is committed at once, and only then
+//! their replies leave: what leaves was committed. The replies, and the centre after them, are exactly the definition's. An
+//! event that finds no memory leaves the centre unchanged. Without memory a submit_sm is still refused as its octets
+//! refuse it, and every other request fails with ESME_RSYSERR. A group whose commit was refused, or a read in it, leaves the rows
+//! from before it in the store, or a closed store: then the centre starts again with the rows, and each request of the
+//! group has failed.
 //!
 //! `Service` is what a hub's keeper runs: it asks the centre for a seat's job, or lets time pass, and gives each seat
 //! its replies. Its steps are one history of the centre's definition (`specs/Serving.antt`). Behind its `Cutoff` it begins
@@ -15,17 +16,19 @@
 //!
 //! - `asking`: what a job asks of the centre
 //! - `causes`: by which causes handsets refused what was delivered
-//! - `copying`: copies of replies
 //! - `cutoff`: whether it is too late to begin anything
 //! - `ends`: the ends of messages
 //! - `seat_map`: which handset and which session is at which seat
 //! - `laws`: laws of the service's steps
 //! - `lending`: a service that is lent
 //! - `link_board`: the links at the seats, as the keeper saw them last
-//! - `machine`: a centre and the keep of its rows
+//! - `machine`: a centre and the keep of a group
+//! - `made`: what came of a stimulus
 //! - `number`: the numbers of handsets
 //! - `relay`: a relay run, which has no seats and no rows
 //! - `restarting`: a centre that starts again
+//! - `seat_table`: rows of the seats of a hub
+//! - `seated_centre`: a centre over its store, with who sits where
 //! - `served`: what a service represents
 //! - `service`: the service and its steps
 //! - `bound_session`: handsets and sessions, as a centre that starts again wants them
@@ -35,24 +38,25 @@
 //! - `step_error`: why a step was not made
 //! - `stimuli`: what a job or tick asks, and what it gives
 //! - `replies`: which seats get which replies of a plan
-//! - `twice`: replies twice, for the seats and for the history
 #![tactic(auto)]
 
 mod asking;
 mod bound_session;
 mod causes;
-mod copying;
 mod cutoff;
 mod ends;
 pub mod laws;
 mod lending;
 mod link_board;
 mod machine;
+mod made;
 mod number;
 pub mod relay;
 mod replies;
 mod restarting;
 mod seat_map;
+mod seat_table;
+mod seated_centre;
 mod served;
 mod service;
 mod short;
@@ -60,11 +64,9 @@ mod shown_links;
 mod start_error;
 mod step_error;
 mod stimuli;
-mod twice;
 
 pub use asking::{SeatRequest, job_asks};
 pub use bound_session::{handsets_of, sessions_of};
-pub use copying::copy_of_outs;
 pub use cutoff::Cutoff;
 pub use lending::serve_with;
 pub use link_board::{CauseCount, LinkBoard};

@@ -3,7 +3,9 @@ ghost use Rattle.std.specs.Prelude.{◌≡◌, IfOk, OnOk};
 ghost use Rattle.sms_rows.specs.keep.StoreOutcome.{StoreOutcome, WasHonest};
 ghost use Rattle.sms_centre.specs.state.CentreState.{Represents};
 ghost use Rattle.sms_centre_spec.specs.bodies.Storing.{IfClosed};
+ghost use Rattle.sms_centre_group.specs.Grouping.{held_in, store_of};
 ghost use Rattle.sms_centre_spec.specs.CentreEvent.{recovered};
+ghost use Rattle.sms_centre_spec.specs.Draft.{no_changes};
 ghost use Rattle.sms_centre_spec.specs.SoundCore.{AreDifferent};
 ghost use Rattle.sms_centre_spec.specs.declared.rows.Rows.{Rows as RowsOf};
 ghost use Rattle.smsc_service.specs.Seats.{seats_in};
@@ -15,6 +17,7 @@ use crate::seat_map::SeatMap;
 use crate::start_error::StartError;
 use sms_base::Digits;
 use sms_centre::{Centre, Rows};
+use sms_centre_group::GroupKeep;
 use sms_centre_spec::bodies::CentreStore;
 use std::alloc::Global;
 
@@ -45,16 +48,18 @@ fn recovered_at(alloc: Global, rows: Rows, seat_map: &SeatMap) -> Result<Centre,
     }
 }
 
-/// The centre that starts again with the rows of the keep, and with the links and sessions of the seat map.
-pub(crate) fn restarted_from<K: CentreStore>(
+/// The centre that starts again with the rows of the store, and with the links and sessions of the seat map. What the group changed is
+/// let go.
+pub(crate) fn restarted_from<K: CentreStore + Drop>(
     alloc: Global,
-    keep: &mut K,
+    keep: &mut GroupKeep<K>,
     seat_map: &SeatMap,
 ) -> Result<Centre, StartError>
     ensures outcome { (rows : RowsOf) → StoreOutcome (λ centre. Represents (restarted rows (seats_in seat_map.now)).core centre) rows rows
-        (K.state keep.old) (K.state keep.new) result }
-    ensures closed { IfClosed (K.state keep.old) (K.state keep.new) (OnOk result ⊥) }
-    ensures before { WasHonest (K.state keep.old) (K.state keep.new) }
+        (K.state (store_of keep.old)) (K.state (store_of keep.new)) result }
+    ensures closed { IfClosed (K.state (store_of keep.old)) (K.state (store_of keep.new)) (OnOk result ⊥) }
+    ensures held { held_in keep.new ≡ no_changes }
+    ensures before { WasHonest (K.state (store_of keep.old)) (K.state (store_of keep.new)) }
 {
     let rows = keep.gather()?;
     recovered_at(alloc, rows, seat_map)

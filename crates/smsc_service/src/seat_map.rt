@@ -1,15 +1,13 @@
 //! Which handset and which session is at which seat.
-ghost use Rattle.std.specs.Prelude.{◌≡◌, OnOk};
-ghost use Rattle.sms_rows.specs.table.Table.{HasRoom};
+ghost use Rattle.std.specs.Prelude.{◌≡◌, ◌<◌, IfOk};
 ghost use Rattle.sms_centre_spec.specs.declared.jobs.job.Job.TheVariants.{LinkUp};
-ghost use Rattle.smsc_service.specs.Room.{IsReady};
 ghost use Rattle.smsc_service.specs.Seats.{followed, handset_at, link_key, nobody, seat_of, seats_in, bound_session_key};
 
 use crate::number::is_same;
+use crate::seat_table::SeatTable;
 use sms_base::Digits;
 use sms_centre_spec::jobs::Job;
-use sms_rows::table::laws::reserve_has_room;
-use sms_rows::table::{Key, Row, Table};
+use sms_rows::table::{Key, Row};
 use std::alloc::{AllocError, Global};
 
 /// The seat of a handset's link.
@@ -43,32 +41,28 @@ impl Row for BoundSession {
     }
 }
 
-/// The links that are up and the sessions that are bound, by their seats.
+/// The links that are up and the sessions that are bound, by their seats. It has room for all seats from the start.
 #[derive(Drop)]
 pub struct SeatMap {
-    pub(crate) links: Table<LinkSeat>,
-    pub(crate) sittings: Table<BoundSession>,
-}
-
-// Makes room for a row more.
-fn make_room<T: Row + Drop>(alloc: Global, table: &mut Table<T>) -> Result<(), AllocError>
-    ensures rows { table.new.rows ≡ table.old.rows }
-    ensures room { OnOk result (HasRoom 1 table.new) }
-{
-    reserve_has_room::<T>();
-    let reserve = table.make_reserve(alloc, 1)?;
-    table.use_reserve(reserve);
-    Ok(())
+    pub(crate) links: SeatTable<LinkSeat>,
+    pub(crate) sittings: SeatTable<BoundSession>,
 }
 
 impl SeatMap {
     /// No link, and nobody is bound.
-    pub fn new(alloc: Global) -> SeatMap
-        ensures { seats_in result ≡ nobody }
+    ///
+    /// # Errors
+    /// There was no memory for all seats.
+    pub fn new(alloc: Global) -> Result<SeatMap, AllocError>
+        ensures { IfOk result (λ seat_map. seats_in seat_map ≡ nobody) }
     {
-        SeatMap {
-            links: Table::new(alloc),
-            sittings: Table::new(alloc),
+        let links = SeatTable::new(alloc)?;
+        match SeatTable::new(alloc) {
+            Ok(sittings) => Ok(SeatMap { links, sittings }),
+            Err(error) => {
+                drop(links);
+                Err(error)
+            }
         }
     }
 
@@ -94,34 +88,24 @@ impl SeatMap {
         None
     }
 
-    /// Makes room, so that what a job changes here takes no memory.
-    pub fn make_room(&mut self, alloc: Global) -> Result<(), AllocError>
-        ensures seats { seats_in self.new ≡ seats_in self.old }
-        ensures room { OnOk result (IsReady self.new) }
-    {
-        make_room(alloc, &mut self.links)?;
-        make_room(alloc, &mut self.sittings)?;
-        Ok(())
-    }
-
     // The link of the handset is put at the seat, if it is nowhere.
     fn raise(&mut self, seat: u32, handset: Digits)
-        requires { IsReady self.old }
+        requires { seat < 32 }
         ensures { seats_in self.new ≡ followed seat (LinkUp handset) (seats_in self.old) }
     {
         match self.seat_of(handset) {
             Some(_) => (),
-            None => self.links.put_ready(LinkSeat { seat, handset }),
+            None => self.links.put(LinkSeat { seat, handset }),
         }
     }
 
-    /// What the job of the seat changes here, without taking memory.
+    /// What the job of the seat changes here.
     pub fn follow(&mut self, seat: u32, job: &Job)
-        requires { IsReady self.old }
+        requires { seat < 32 }
         ensures { seats_in self.new ≡ followed seat job.now (seats_in self.old) }
     {
         match job {
-            Job::Bound { account, receives } => self.sittings.put_ready(BoundSession {
+            Job::Bound { account, receives } => self.sittings.put(BoundSession {
                 seat,
                 account: *account,
                 receives: *receives,
@@ -135,5 +119,13 @@ impl SeatMap {
             }
             _ => (),
         }
+    }
+
+    /// Takes what another one has in place of its own.
+    pub fn copy_from(&mut self, other: &SeatMap)
+        ensures { seats_in self.new ≡ seats_in other.now }
+    {
+        self.links.copy_from(&other.links);
+        self.sittings.copy_from(&other.sittings);
     }
 }

@@ -7,10 +7,11 @@ ghost use Rattle.smsc_service.specs.Replies.{refused_by};
 ghost use Rattle.smsc_service.specs.Serving.{refusal_for as refusal_for_of, refusal_of as refusal_of_event, short_of, unless_refused};
 
 use crate::asking::SeatRequest;
+use crate::made::Made;
 use smpp_pdu::CommandStatus;
 use sms_centre::{Centre, CentreAnswer, CentreEvent};
 use sms_centre_spec::jobs::{Job, Reply};
-use sms_keeper::{Fate, Out, Outs, Step, Stimulus};
+use sms_keeper::{Fate, Out, Outs, Stimulus};
 
 // The status with which its octets refuse the request.
 fn refusal_for(centre: &Centre, asked: &SeatRequest<'_>) -> Option<CommandStatus>
@@ -52,57 +53,46 @@ fn refused_at(status: CommandStatus, stimulus: &Stimulus<Job>) -> Outs<Reply>
     }
 }
 
-// A step that found no memory, whose request is refused with that status.
-fn refused(status: CommandStatus, stimulus: &Stimulus<Job>) -> Step<Reply>
+// What a request comes to that found no memory, and is refused with that status.
+fn refused(status: CommandStatus, stimulus: &Stimulus<Job>) -> Made
     ensures fate { result.fate ≡ NoMemory }
-    ensures seats { result.to_seats ≡ refused_by status stimulus.now }
-    ensures history { result.to_history ≡ refused_by status stimulus.now }
+    ensures outs { result.outs ≡ refused_by status stimulus.now }
 {
-    Step {
+    Made {
         fate: Fate::NoMemory,
-        to_seats: refused_at(status, stimulus),
-        to_history: refused_at(status, stimulus),
+        outs: refused_at(status, stimulus),
     }
 }
 
-// A step that found no memory, answered by the octets of its request where they refuse it.
-fn short(
-    centre: &Centre,
-    asked: &SeatRequest<'_>,
-    stimulus: &Stimulus<Job>,
-    step: Step<Reply>,
-) -> Step<Reply>
-    requires none { step.fate ≡ NoMemory }
-    requires alike { step.to_seats ≡ step.to_history }
+// What found no memory, answered by the octets of its request where they refuse it.
+fn short(centre: &Centre, asked: &SeatRequest<'_>, stimulus: &Stimulus<Job>, made: Made) -> Made
+    requires none { made.fate ≡ NoMemory }
     ensures fate { result.fate ≡ NoMemory }
-    ensures alike { result.to_seats ≡ result.to_history }
-    ensures history { (c : Core) → Represents c centre.now → result.to_history ≡ short_of (refusal_for_of asked.now c) stimulus.now step.to_history }
+    ensures outs { (c : Core) → Represents c centre.now → result.outs ≡ short_of (refusal_for_of asked.now c) stimulus.now made.outs }
 {
     match refusal_for(centre, asked) {
         Some(status) => {
-            drop(step);
+            drop(made);
             refused(status, stimulus)
         }
-        None => step,
+        None => made,
     }
 }
 
-/// The step as it is. One that found no memory is answered by the octets of its request, where they refuse it.
+/// What was made as it is. What found no memory is answered by the octets of its request, where they refuse it.
 pub(crate) fn answered(
     centre: &Centre,
     asked: &SeatRequest<'_>,
     stimulus: &Stimulus<Job>,
-    step: Step<Reply>,
-) -> Step<Reply>
-    requires alike { step.to_seats ≡ step.to_history }
-    ensures fate { result.fate ≡ step.fate }
-    ensures alike { result.to_seats ≡ result.to_history }
-    ensures history { (c : Core) → (step.fate ≡ NoMemory → Represents c centre.now)
-        → result.to_history ≡ unless_refused step.fate (refusal_for_of asked.now c) stimulus.now step.to_history }
+    made: Made,
+) -> Made
+    ensures fate { result.fate ≡ made.fate }
+    ensures outs { (c : Core) → (made.fate ≡ NoMemory → Represents c centre.now)
+        → result.outs ≡ unless_refused made.fate (refusal_for_of asked.now c) stimulus.now made.outs }
 {
-    match step.fate {
-        Fate::NoMemory => short(centre, asked, stimulus, step),
-        Fate::Done => step,
-        Fate::Refused => step,
+    match made.fate {
+        Fate::NoMemory => short(centre, asked, stimulus, made),
+        Fate::Done => made,
+        Fate::Refused => made,
     }
 }

@@ -1,5 +1,5 @@
 //! How the links at the seats are, as a status page shows them.
-ghost use Rattle.std.specs.Prelude.{◌≡◌};
+ghost use Rattle.std.specs.Prelude.{◌≡◌, ◌||◌};
 ghost use Rattle.sms_centre.specs.state.CentreState.{Represents};
 ghost use Rattle.sms_centre_spec.specs.Draft.{Core};
 ghost use Rattle.smsc_service.specs.Seats.{seats_in};
@@ -50,8 +50,15 @@ pub(crate) fn shown_links(centre: &Centre, seat_map: &SeatMap) -> ShownLinks
     shown
 }
 
-/// Whether they are shown after a step: once a second, and when a link is up.
-pub(crate) fn is_shown_after(stimulus: &Stimulus<Job>) -> bool
+/// Whether they are shown after a group of which these steps were made: they were to be shown, or are after this step.
+pub(crate) fn are_shown_after(shows: bool, stimulus: &Stimulus<Job>) -> bool
+    ensures { result ≡ (shows || is_shown_after_of stimulus.now) }
+{
+    shows || is_shown_after(stimulus)
+}
+
+// Whether they are shown after a step: once a second, and when a link is up.
+fn is_shown_after(stimulus: &Stimulus<Job>) -> bool
     ensures { result ≡ is_shown_after_of stimulus.now }
 {
     matches!(

@@ -5,20 +5,20 @@ ghost use Rattle.sms_centre.specs.state.CentreState.{Represents};
 ghost use Rattle.sms_centre_spec.specs.CentreEvent.{happened};
 ghost use Rattle.sms_centre_spec.specs.SoundCore.{HasNumber};
 ghost use Rattle.sms_centre_spec.specs.declared.event.CentreEvent.{CentreEvent as CentreEventOf};
-ghost use Rattle.sms_keeper.specs.declared.machine.Fate.TheVariants.{Done};
+ghost use Rattle.sms_keeper.specs.declared.machine.Fate.TheVariants.{Done, Refused};
 ghost use Rattle.smsc_service.specs.Asking.{IfEvent, asked_by as asked_by_of};
-ghost use Rattle.smsc_service.specs.Room.{IsReady};
 ghost use Rattle.smsc_service.specs.Seats.{seats_in};
-ghost use Rattle.smsc_service.specs.Serving.{Serving, followed_by};
+ghost use Rattle.smsc_service.specs.Serving.{Serving, after, followed_by, gives};
 ghost use Rattle.smsc_service.specs.Replies.{asker, failed_by, risen_by as risen_by_of, taken_by, replies_to};
 
 use crate::asking::{SeatRequest, job_asks};
+use crate::made::Made;
 use crate::replies::{Requester, failed, reply_outs, taken};
 use crate::seat_map::SeatMap;
 use sms_base::Digits;
 use sms_centre::{Centre, CentreEvent, Plan};
 use sms_centre_spec::jobs::{Job, Reply};
-use sms_keeper::{Fate, Out, Outs, Step, Stimulus};
+use sms_keeper::{Fate, Out, Outs, Stimulus};
 use std::alloc::{AllocError, Global};
 
 /// What the stimulus asks of the centre. A hub has 32 seats.
@@ -40,7 +40,6 @@ pub(crate) fn asked_by<'a>(seat_map: &SeatMap, stimulus: &'a Stimulus<Job>) -> S
 
 /// What the stimulus changes of who sits where.
 pub(crate) fn follow(seat_map: &mut SeatMap, stimulus: &Stimulus<Job>)
-    requires { IsReady seat_map.old }
     ensures { seats_in seat_map.new ≡ followed_by stimulus.now (seats_in seat_map.old) }
 {
     if let Stimulus::Job(seat, job) = stimulus {
@@ -99,16 +98,14 @@ fn taken_at(stimulus: &Stimulus<Job>) -> Outs<Reply>
     }
 }
 
-/// What an item gives where a link is taken.
-pub(crate) fn turned_away(stimulus: &Stimulus<Job>) -> Step<Reply>
+/// What an item comes to where a link is taken.
+pub(crate) fn turned_away(stimulus: &Stimulus<Job>) -> Made
     ensures fate { result.fate ≡ Done }
-    ensures seats { result.to_seats ≡ taken_by stimulus.now }
-    ensures history { result.to_history ≡ taken_by stimulus.now }
+    ensures outs { result.outs ≡ taken_by stimulus.now }
 {
-    Step {
+    Made {
         fate: Fate::Done,
-        to_seats: taken_at(stimulus),
-        to_history: taken_at(stimulus),
+        outs: taken_at(stimulus),
     }
 }
 
@@ -121,15 +118,29 @@ fn failed_at(stimulus: &Stimulus<Job>) -> Outs<Reply>
     }
 }
 
-/// What an item gives that was not made.
-pub(crate) fn unmade(fate: Fate, stimulus: &Stimulus<Job>) -> Step<Reply>
+/// What an item comes to that was not made.
+pub(crate) fn unmade(fate: Fate, stimulus: &Stimulus<Job>) -> Made
     ensures fate { result.fate ≡ fate }
-    ensures seats { result.to_seats ≡ failed_by stimulus.now }
-    ensures history { result.to_history ≡ failed_by stimulus.now }
+    ensures outs { result.outs ≡ failed_by stimulus.now }
 {
-    Step {
+    Made {
         fate,
-        to_seats: failed_at(stimulus),
-        to_history: failed_at(stimulus),
+        outs: failed_at(stimulus),
+    }
+}
+
+/// What an item gives whose group is refused, by who sits where if it is. It changes that as its job does.
+pub(crate) fn refused_with_group(seat_map: &mut SeatMap, stimulus: &Stimulus<Job>) -> Outs<Reply>
+    // For whatever centre starts again then.
+    ensures outs { (r : Serving) → seats_in seat_map.old ≡ r.seats → result ≡ gives r stimulus.now Refused }
+    ensures seats { (r : Serving) → seats_in seat_map.old ≡ r.seats → seats_in seat_map.new ≡ (after r stimulus.now Refused).seats }
+{
+    match asked_by(seat_map, stimulus) {
+        SeatRequest::Event(_) => {
+            follow(seat_map, stimulus);
+            failed_at(stimulus)
+        }
+        SeatRequest::Nothing => failed_at(stimulus),
+        SeatRequest::Taken => taken_at(stimulus),
     }
 }

@@ -33,3 +33,6 @@ chain11 o a1 a2 a3 a4 a5 a6 a7 a8 a9 a10 a11 {p1} e1 e2 e3 e4 e5 e6 e7 e8 e9 e10
 
 pub chain12 : (o a1 a2 a3 a4 a5 a6 a7 a8 a9 a10 a11 a12 : List ℕ) {p1 p2 p3 p4 p5 p6 p7 p8 p9 p10 p11 p12 : List ℕ} → p1 ≡ o ++ a1 → p2 ≡ p1 ++ a2 → p3 ≡ p2 ++ a3 → p4 ≡ p3 ++ a4 → p5 ≡ p4 ++ a5 → p6 ≡ p5 ++ a6 → p7 ≡ p6 ++ a7 → p8 ≡ p7 ++ a8 → p9 ≡ p8 ++ a9 → p10 ≡ p9 ++ a10 → p11 ≡ p10 ++ a11 → p12 ≡ p11 ++ a12 → p12 ≡ o ++ (a1 ++ (a2 ++ (a3 ++ (a4 ++ (a5 ++ (a6 ++ (a7 ++ (a8 ++ (a9 ++ (a10 ++ (a11 ++ a12)))))))))))
 chain12 o a1 a2 a3 a4 a5 a6 a7 a8 a9 a10 a11 a12 {p1} e1 e2 e3 e4 e5 e6 e7 e8 e9 e10 e11 e12 = next o a1 (a2 ++ (a3 ++ (a4 ++ (a5 ++ (a6 ++ (a7 ++ (a8 ++ (a9 ++ (a10 ++ (a11 ++ a12)))))))))) e1 (chain11 p1 a2 a3 a4 a5 a6 a7 a8 a9 a10 a11 a12 e2 e3 e4 e5 e6 e7 e8 e9 e10 e11 e12)
+
+pub chain13 : (o a1 a2 a3 a4 a5 a6 a7 a8 a9 a10 a11 a12 a13 : List ℕ) {p1 p2 p3 p4 p5 p6 p7 p8 p9 p10 p11 p12 p13 : List ℕ} → p1 ≡ o ++ a1 → p2 ≡ p1 ++ a2 → p3 ≡ p2 ++ a3 → p4 ≡ p3 ++ a4 → p5 ≡ p4 ++ a5 → p6 ≡ p5 ++ a6 → p7 ≡ p6 ++ a7 → p8 ≡ p7 ++ a8 → p9 ≡ p8 ++ a9 → p10 ≡ p9 ++ a10 → p11 ≡ p10 ++ a11 → p12 ≡ p11 ++ a12 → p13 ≡ p12 ++ a13 → p13 ≡ o ++ (a1 ++ (a2 ++ (a3 ++ (a4 ++ (a5 ++ (a6 ++ (a7 ++ (a8 ++ (a9 ++ (a10 ++ (a11 ++ (a12 ++ a13))))))))))))
+chain13 o a1 a2 a3 a4 a5 a6 a7 a8 a9 a10 a11 a12 a13 {p1} e1 e2 e3 e4 e5 e6 e7 e8 e9 e10 e11 e12 e13 = next o a1 (a2 ++ (a3 ++ (a4 ++ (a5 ++ (a6 ++ (a7 ++ (a8 ++ (a9 ++ (a10 ++ (a11 ++ (a12 ++ a13))))))))))) e1 (chain12 p1 a2 a3 a4 a5 a6 a7 a8 a9 a10 a11 a12 a13 e2 e3 e4 e5 e6 e7 e8 e9 e10 e11 e12 e13)

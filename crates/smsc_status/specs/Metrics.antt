@@ -13,6 +13,7 @@ use Rattle.smsc_status.specs.declared.figures.RefusedSubmits.{RefusedSubmits}
 use Rattle.smsc_status.specs.declared.figures.SessionLine.{SessionLine}
 use Rattle.smsc_status.specs.declared.figures.StatusView.{StatusView}
 use Rattle.smsc_status.specs.declared.figures.StoreFigures.{StoreFigures}
+use Rattle.smsc_status.specs.declared.groups.GroupFigures.{GroupFigures}
 use Rattle.smsc_status.specs.declared.metrics.LinkMetric.{LinkMetric}
 use Rattle.smsc_status.specs.declared.metrics.LinkMetric.TheVariants.{Waiting, Full, UnderWay}
 use Rattle.smsc_status.specs.declared.metrics.SessionMetric.{SessionMetric}
@@ -167,6 +168,18 @@ store_metrics s =
     ++ (metric (codes "smsc_store_log_bytes") (codes "gauge") (codes "Octets of the store's log.")
     ++ plain_sample (codes "smsc_store_log_bytes") s.log))
 
+-- the groups that are no larger than a limit
+abbrev pub group_bucket : List ℕ → ℕ → List ℕ
+group_bucket limit groups = labelled_sample (codes "smsc_group_items_bucket") (codes "le") limit groups
+
+unfoldable pub groups_metrics : GroupFigures → List ℕ
+groups_metrics g =
+    metric (codes "smsc_group_items") (codes "histogram") (codes "How many items were committed at once.")
+    ++ (group_bucket (codes "1") g.of_1 ++ (group_bucket (codes "2") g.up_to_2 ++ (group_bucket (codes "4") g.up_to_4
+    ++ (group_bucket (codes "8") g.up_to_8 ++ (group_bucket (codes "16") g.up_to_16 ++ (group_bucket (codes "32") g.up_to_32
+    ++ (group_bucket (codes "64") g.up_to_64 ++ (group_bucket (codes "+Inf") g.up_to_64
+    ++ (plain_sample (codes "smsc_group_items_sum") g.items ++ plain_sample (codes "smsc_group_items_count") g.up_to_64)))))))))
+
 -- ---- the run
 
 unfoldable pub run_metrics : StatusView → List ℕ
@@ -186,4 +199,5 @@ lost_metrics events lines =
 unfoldable pub metrics_text : StatusView → List ℕ
 metrics_text v =
     run_metrics v ++ (lost_metrics v.lost_events v.lost_lines ++ (counts_metric v.counts ++ (messages_metric v.messages ++ (sessions_metrics v.sessions.now
-    ++ (links_metrics v.links.now ++ (accounts_metrics v.accounts.now ++ (refusals_metrics v ++ (store_metrics v.store ++ commits_metrics v.commits))))))))
+    ++ (links_metrics v.links.now ++ (accounts_metrics v.accounts.now ++ (refusals_metrics v ++ (store_metrics v.store ++ (commits_metrics v.commits
+    ++ groups_metrics v.groups)))))))))

@@ -13,6 +13,7 @@ use Rattle.smsc_status.specs.declared.figures.Sample.{Sample}
 use Rattle.smsc_status.specs.declared.figures.SessionLine.{SessionLine}
 use Rattle.smsc_status.specs.declared.figures.StatusView.{StatusView}
 use Rattle.smsc_status.specs.declared.figures.StoreFigures.{StoreFigures}
+use Rattle.smsc_status.specs.declared.groups.GroupFigures.{GroupFigures}
 use Rattle.smsc_status.specs.declared.page.TheConstants.{HEAD, SESSIONS_HEAD, LINKS_HEAD, ACCOUNTS_HEAD, REFUSALS_HEAD}
 use Rattle.smsc_status.specs.Charts.{chart_text}
 use Rattle.smsc_status.specs.Kinds.{kind_word}
@@ -147,6 +148,13 @@ store_tiles s c samples median most =
     ++ (tile (decimal (commits_a_second samples)) (codes "commits a second") ++ (tile (quantile_text median) (codes "median of a commit")
     ++ (tile (quantile_text most) (codes "99 of 100 commits") ++ (graded_tile c.refused (codes "commits refused") ++ tiles_end))))))
 
+-- how many groups were committed, and how many of them were no larger than that
+unfoldable pub groups_tiles : GroupFigures → List ℕ
+groups_tiles g =
+    tiles_begin (codes "Groups of requests that were committed at once") ++ (tile (decimal g.up_to_64) (codes "groups") ++ (tile (decimal g.of_1) (codes "of 1")
+    ++ (tile (decimal g.up_to_2) (codes "of 2 at most") ++ (tile (decimal g.up_to_4) (codes "of 4 at most") ++ (tile (decimal g.up_to_8) (codes "of 8 at most")
+    ++ (tile (decimal g.up_to_16) (codes "of 16 at most") ++ (tile (decimal g.up_to_32) (codes "of 32 at most") ++ (tile (decimal g.items) (codes "items of all") ++ tiles_end))))))))
+
 -- ---- events
 
 -- an element of the list of events
@@ -180,4 +188,5 @@ unfoldable pub page_text : StatusView → Quantile → Quantile → List ℕ
 page_text v median most =
     HEAD.now ++ (heading_text v ++ (messages_tiles v.messages ++ (charts_text (map (λ (s : Sample). s.submissions) v.samples.now) (map (λ (s : Sample). s.deliveries) v.samples.now)
     ++ (seats_tiles (length v.sessions.now) (length v.links.now) ++ (sessions_table v.sessions.now ++ (links_table v.links.now ++ (accounts_table v.accounts.now
-    ++ (refusals_table v ++ (store_tiles v.store v.commits v.samples.now median most ++ (events_list v ++ foot_text (trim_end v.version.now)))))))))))
+    ++ (refusals_table v ++ (store_tiles v.store v.commits v.samples.now median most ++ (groups_tiles v.groups
+    ++ (events_list v ++ foot_text (trim_end v.version.now))))))))))))

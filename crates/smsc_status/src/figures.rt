@@ -3,6 +3,7 @@ ghost use Rattle.std.specs.Prelude.{◌≡◌};
 ghost use Rattle.smsc_status.specs.Kinds.{kind_word};
 
 use crate::commits::CommitFigures;
+use crate::groups::GroupFigures;
 use sms_base::Moment;
 
 /// How a session is bound.
@@ -163,6 +164,7 @@ pub struct StatusView<'a> {
     pub lost_lines: u64,
     pub store: StoreFigures,
     pub commits: CommitFigures,
+    pub groups: GroupFigures,
 }
 
 impl MessageFigures {

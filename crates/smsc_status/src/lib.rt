@@ -7,6 +7,7 @@
 //! - `chart`: a figure over the last ten minutes, as a line
 //! - `commits`: how long commits take
 //! - `figures`: the figures of a run
+//! - `groups`: how large the groups are that a run commits at once
 //! - `json`: the figures in JSON
 //! - `laws`: laws of what is said of names
 //! - `markup`: text in a page
@@ -26,6 +27,7 @@ mod access;
 mod chart;
 mod commits;
 mod figures;
+mod groups;
 mod json;
 pub mod laws;
 mod markup;
@@ -46,6 +48,7 @@ pub use figures::{
     AccountLine, LinkLine, MessageCounts, MessageFigures, RefusedBinds, RefusedDeliveries,
     RefusedSubmits, Sample, SessionKind, SessionLine, StatusView, StoreFigures,
 };
+pub use groups::GroupFigures;
 pub use requests::{Resource, Wanted, wanted_of};
 pub use responses::response_to;
 pub use series::Series;

@@ -1,6 +1,6 @@
 //! The figures in Prometheus' text format.
 ghost use Rattle.std.specs.Prelude.{◌≡◌, ◌++◌, ◌<◌, IfOk, OnOk, codes, flat_map, string_bytes};
-ghost use Rattle.smsc_status.specs.Metrics.{account_receipts, account_submits, accounts_metrics, binds_sample, bucket, commits_metrics, counts_metric, deliveries_sample, first_buckets, labelled_sample, link_number, link_samples, links_metrics};
+ghost use Rattle.smsc_status.specs.Metrics.{account_receipts, account_submits, accounts_metrics, binds_sample, bucket, commits_metrics, counts_metric, deliveries_sample, first_buckets, group_bucket, groups_metrics, labelled_sample, link_number, link_samples, links_metrics};
 ghost use Rattle.smsc_status.specs.Metrics.{lost_metrics, messages_metric, metric, metrics_text, plain_sample, refusals_metrics, run_metrics, session_number};
 ghost use Rattle.smsc_status.specs.Metrics.{session_sample, session_samples, sessions_metrics, store_metrics, submits_sample, totals};
 
@@ -9,6 +9,7 @@ use crate::figures::{
     AccountLine, LinkLine, MessageCounts, MessageFigures, RefusedBinds, RefusedDeliveries,
     RefusedSubmits, SessionLine, StatusView, StoreFigures,
 };
+use crate::groups::GroupFigures;
 use crate::pieces::{Piece, put_pieces};
 use sms_base::Octets;
 use std::alloc::{AllocError, Global};
@@ -506,6 +507,34 @@ fn put_commits(out: &mut Octets, commits: &CommitFigures) -> Result<(), AllocErr
     put_plain(out, name, commits.refused)
 }
 
+fn put_group_bucket(out: &mut Octets, limit: &[u8], groups: u64) -> Result<(), AllocError>
+    ensures { OnOk result (out.new ≡ out.old ++ group_bucket limit.now groups) }
+{
+    put_labelled(out, b"smsc_group_items_bucket", b"le", limit, groups)
+}
+
+#[tactic(auto, unfolding(crate::specs::Metrics::groups_metrics))]
+fn put_groups(out: &mut Octets, groups: &GroupFigures) -> Result<(), AllocError>
+    ensures { OnOk result (out.new ≡ out.old ++ groups_metrics groups.now) }
+{
+    put_metric(
+        out,
+        b"smsc_group_items",
+        b"histogram",
+        b"How many items were committed at once.",
+    )?;
+    put_group_bucket(out, b"1", groups.of_1)?;
+    put_group_bucket(out, b"2", groups.up_to_2)?;
+    put_group_bucket(out, b"4", groups.up_to_4)?;
+    put_group_bucket(out, b"8", groups.up_to_8)?;
+    put_group_bucket(out, b"16", groups.up_to_16)?;
+    put_group_bucket(out, b"32", groups.up_to_32)?;
+    put_group_bucket(out, b"64", groups.up_to_64)?;
+    put_group_bucket(out, b"+Inf", groups.up_to_64)?;
+    put_plain(out, b"smsc_group_items_sum", groups.items)?;
+    put_plain(out, b"smsc_group_items_count", groups.up_to_64)
+}
+
 #[tactic(auto, unfolding(crate::specs::Metrics::store_metrics))]
 fn put_store(out: &mut Octets, store: &StoreFigures) -> Result<(), AllocError>
     ensures { OnOk result (out.new ≡ out.old ++ store_metrics store.now) }
@@ -572,7 +601,8 @@ fn put_metrics(out: &mut Octets, view: &StatusView<'_>) -> Result<(), AllocError
     put_accounts(out, view.accounts)?;
     put_refusals(out, view)?;
     put_store(out, &view.store)?;
-    put_commits(out, &view.commits)
+    put_commits(out, &view.commits)?;
+    put_groups(out, &view.groups)
 }
 
 /// The figures in Prometheus' text format, version 0.0.4.

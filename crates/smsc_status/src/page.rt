@@ -5,7 +5,7 @@ ghost use Rattle.std.specs.Prelude.{◌≡◌, ◌-◌, ◌++◌, IfOk, OnOk, co
 ghost use Rattle.std.specs.Str.{trim_end};
 ghost use Rattle.smsc_status.specs.Commits.{IsQuantile};
 ghost use Rattle.smsc_status.specs.Page.{account_row, accounts_table, bad_or_not, binds_row, charts_text, deliveries_row, event_item, events_begin, events_end, events_list};
-ghost use Rattle.smsc_status.specs.Page.{foot_text, graded_tile, heading_text, is_nothing_refused as is_nothing_refused_of, link_row, links_table, lost_text, mark, messages_tiles, none_cell, none_row, page_text, refusals_table};
+ghost use Rattle.smsc_status.specs.Page.{foot_text, graded_tile, groups_tiles, heading_text, is_nothing_refused as is_nothing_refused_of, link_row, links_table, lost_text, mark, messages_tiles, none_cell, none_row, page_text, refusals_table};
 ghost use Rattle.smsc_status.specs.Page.{seats_tiles, session_row, sessions_table, store_tiles, submits_row, table_end, tile, tiles_begin, tiles_end, yes_or_no};
 ghost use Rattle.smsc_status.specs.Numbers.{size_text};
 ghost use Rattle.smsc_status.specs.Quantiles.{quantile_text};
@@ -19,6 +19,7 @@ use crate::figures::{
     AccountLine, LinkLine, MessageFigures, RefusedBinds, RefusedDeliveries, RefusedSubmits, Sample,
     SessionLine, StatusView, StoreFigures,
 };
+use crate::groups::GroupFigures;
 use crate::pieces::{Piece, put_pieces};
 use crate::series::commits_a_second;
 use sms_base::Octets;
@@ -560,6 +561,22 @@ fn put_store(
     end_tiles(out)
 }
 
+#[tactic(auto, unfolding(crate::specs::Page::groups_tiles))]
+fn put_groups(out: &mut Octets, groups: &GroupFigures) -> Result<(), AllocError>
+    ensures { OnOk result (out.new ≡ out.old ++ groups_tiles groups.now) }
+{
+    begin_tiles(out, b"Groups of requests that were committed at once")?;
+    put_tile(out, groups.up_to_64, b"groups")?;
+    put_tile(out, groups.of_1, b"of 1")?;
+    put_tile(out, groups.up_to_2, b"of 2 at most")?;
+    put_tile(out, groups.up_to_4, b"of 4 at most")?;
+    put_tile(out, groups.up_to_8, b"of 8 at most")?;
+    put_tile(out, groups.up_to_16, b"of 16 at most")?;
+    put_tile(out, groups.up_to_32, b"of 32 at most")?;
+    put_tile(out, groups.items, b"items of all")?;
+    end_tiles(out)
+}
+
 // ---- events
 
 #[tactic(auto, unfolding(crate::specs::Page::event_item))]
@@ -669,6 +686,7 @@ fn put_page(
     put_accounts(out, view.accounts)?;
     put_refusals(out, view)?;
     put_store(out, &view.store, &view.commits, view.samples, median, most)?;
+    put_groups(out, &view.groups)?;
     put_events(out, view)?;
     put_foot(out, view)
 }

@@ -438,6 +438,7 @@ impl<R: Wait + Clock> Pages<R> {
             lost_lines: self.source.lost_lines.load(Ordering::SeqCst),
             store: self.files,
             commits: counters.commits(),
+            groups: counters.groups(),
         }
     }
 

@@ -143,6 +143,12 @@ impl<R: Wait + Copy + Clock> Observer for Watchers<R> {
         }
     }
 
+    fn end_group(&self, count: usize) {
+        if let Some(feed) = &self.feed {
+            feed.counters.end_group(count);
+        }
+    }
+
     // What is committed is confirmed only if the files are those of the run before the commit and after it.
     fn begin_commit(&self) {
         self.guard.look();

@@ -14,3 +14,5 @@ mod outs;
 mod runs;
 #[cfg(test)]
 mod seats;
+#[cfg(test)]
+mod told;

@@ -1,19 +1,20 @@
 //! A run of up to 32 sessions.
-ghost use Rattle.std.specs.Prelude.{◌≡◌, ◌++◌, ◌∷◌, ◌≤◌, ℕ, Option, None, [], ⊤, true, length, IfOk, IfErr, IfSome, OnOk};
+ghost use Rattle.std.specs.Prelude.{◌≡◌, ◌++◌, ◌∷◌, ◌≤◌, ℕ, List, [], ⊤, true, length, IfOk, IfErr, IfSome, OnOk};
 ghost use Rattle.sms_hub.specs.Faults.{IsTooMany, MatchFault};
-ghost use Rattle.sms_keeper.specs.History.{IsRising, Leads, answers_in, each_seat, for_seat, jobs_of, work};
+ghost use Rattle.sms_keeper.specs.declared.machine.Item.{Item};
+ghost use Rattle.sms_keeper.specs.Groups.{Between};
+ghost use Rattle.sms_keeper.specs.History.{answers_in, each_seat, for_seat, jobs_of, work};
 ghost use Rattle.sms_seats.specs.Jobs.{of, has_end};
 ghost use Rattle.sms_keeper.specs.Keeping.{given_by, ran_by, seats_of, IsClosed};
-ghost use Rattle.sms_hub.specs.Running.{AreAt, IsOpened, jobs_for, lists_of};
+ghost use Rattle.sms_hub.specs.Running.{AreAt, IsOpened, SessionsRan, jobs_for, lists_of};
 ghost use Rattle.sms_seats.specs.Seats.{number_of};
 ghost use Rattle.sms_keeper.specs.Seating.{IsAll, IsSeatOf, IsUnchanged};
 
-use super::ManyRun;
 use super::opened::Opened;
 use super::threads::{SessionThread, settle, start};
 use crate::hub_fault::HubFault;
 use crate::terms::run_terms;
-use sms_keeper::{Clock, Gate, Item, Keeper, Machine};
+use sms_keeper::{Clock, Gate, Keeper, Machine, Recorder};
 use std::alloc::{AllocError, Global};
 use std::sync::atomic::{AtomicBool, Ordering};
 use std::sync::{Arc, Wait};
@@ -151,41 +152,49 @@ fn conclude<J: Drop, O: Drop, R: Threads + Wait>(
     alloc: Global,
     keeper: Keeper<J, O>,
     threads: Vec<SessionThread<J, O>>,
-    history: Vec<Item<J, O>>,
-) -> Result<ManyRun<J, O>, HubFault>
+) -> Result<Vec<Vec<O>>, HubFault>
     requires seats { AreAt keeper 0 threads.items }
-    requires all { IsAll keeper history.items }
+    requires closed { IsClosed keeper }
     requires count { length threads.items ≡ seats_of keeper }
-    ensures history { IfOk result (λ r. r.history ≡ history) }
-    ensures jobs { IfOk result (λ r. each_seat (length threads.items) (λ n. jobs_of n r.history.items) ≡ jobs_for threads.items) }
-    ensures others { IfOk result (λ r. (n : ℕ) → length threads.items ≤ n → jobs_of n r.history.items ≡ []) }
-    ensures answers { IfOk result (λ r. lists_of r.answers.items ≡ each_seat (length threads.items) (λ n. answers_in n r.history.items)) }
+    // Whatever the keeper did.
+    ensures jobs { IfOk result (λ answers. (items : List (Item J O)) → IsAll keeper items
+        → each_seat (length threads.items) (λ n. jobs_of n items) ≡ jobs_for threads.items) }
+    ensures others { IfOk result (λ answers. (items : List (Item J O)) → IsAll keeper items → (n : ℕ) → length threads.items ≤ n → jobs_of n items ≡ []) }
+    ensures answers { IfOk result (λ answers. (items : List (Item J O)) → IsAll keeper items
+        → lists_of answers.items ≡ each_seat (length threads.items) (λ n. answers_in n items)) }
     ensures fault { IfErr result (λ fault. MatchFault fault ⊥ ⊤ ⊥ ⊥) }
 {
     let mut keeper = keeper;
     keeper.know_others();
     match settle_all(rt, alloc, &mut keeper, threads) {
-        Some(answers) => Ok(ManyRun { history, answers }),
+        Some(answers) => Ok(answers),
         None => Err(HubFault::NoMemory),
     }
 }
 
 // Runs the keeper, tells the sessions that it has ended, and puts together what they did.
-fn run_opened<J: Drop, O: Drop, R: Threads + Wait, M: Machine<J, O>, G: Gate, C: Clock>(
+fn run_opened<
+    J: Drop,
+    O: Drop,
+    R: Threads + Wait,
+    M: Machine<J, O>,
+    G: Gate,
+    C: Clock,
+    B: Recorder<J, O>,
+>(
     rt: &R,
     alloc: Global,
     opened: Opened<J, O>,
     machine: &mut M,
     gate: &G,
     clock: &C,
-) -> Result<ManyRun<J, O>, HubFault>
+    recorder: &mut B,
+) -> Result<Vec<Vec<O>>, HubFault>
     requires { IsOpened opened }
-    ensures history { IfOk result (λ r. M.is_honest machine.new → Leads M.gives M.after (M.represents machine.old) r.history.items (M.represents machine.new)) }
+    ensures ran { IfOk result (λ answers. SessionsRan (C.reads clock.now) M.gives M.after (M.is_honest machine.new)
+        (Between (M.stands machine.old)) (Between (M.stands machine.new)) (B.has recorder.old) (B.has recorder.new)
+        (jobs_for opened.threads.items) (lists_of answers.items)) }
     ensures before { M.is_honest machine.new → M.is_honest machine.old }
-    ensures ticks { IfOk result (λ r. (last : Option ℕ) × IsRising (C.reads clock.now) None r.history.items last) }
-    ensures jobs { IfOk result (λ r. each_seat (length opened.threads.items) (λ n. jobs_of n r.history.items) ≡ jobs_for opened.threads.items) }
-    ensures others { IfOk result (λ r. (n : ℕ) → length opened.threads.items ≤ n → jobs_of n r.history.items ≡ []) }
-    ensures answers { IfOk result (λ r. lists_of r.answers.items ≡ each_seat (length opened.threads.items) (λ n. answers_in n r.history.items)) }
     ensures fault { IfErr result (λ fault. MatchFault fault ⊥ ⊤ (M.is_broken machine.new) ⊥) }
 {
     let Opened {
@@ -193,11 +202,11 @@ fn run_opened<J: Drop, O: Drop, R: Threads + Wait, M: Machine<J, O>, G: Gate, C:
         over,
         threads,
     } = opened;
-    match run_terms(rt, alloc, &mut keeper, machine, gate, clock) {
-        Ok(history) => {
+    match run_terms(rt, alloc, &mut keeper, machine, gate, clock, recorder) {
+        Ok(()) => {
             over.store(true, Ordering::SeqCst);
-            let run = conclude(rt, alloc, keeper, threads, history)?;
-            Ok(run)
+            let answers = conclude(rt, alloc, keeper, threads)?;
+            Ok(answers)
         }
         Err(fault) => {
             give_up(rt, &over, threads);
@@ -207,9 +216,9 @@ fn run_opened<J: Drop, O: Drop, R: Threads + Wait, M: Machine<J, O>, G: Gate, C:
 }
 
 /// Runs 1 to 32 lists of jobs, each by a session in a thread of its own, and the keeper in this one. Where it gives an
-/// answer, all lists were run, each in its order and each job once, in one history of the machine. The answers of each
-/// session are its outs in the history. It gives none where the number of lists, which is judged first, a thread,
-/// memory or the machine failed.
+/// answer, all lists were run, each in its order and each job once, in one history of the machine, of which the recorder
+/// was told. The answers of each session are its outs in the history. It gives none where the number of lists, which is
+/// judged first, a thread, memory or the machine failed.
 pub fn many_sessions<
     J: Drop + Send + 'static,
     O: Drop + Send + 'static,
@@ -217,6 +226,7 @@ pub fn many_sessions<
     M: Machine<J, O>,
     G: Gate,
     C: Clock,
+    B: Recorder<J, O>,
 >(
     rt: R,
     alloc: Global,
@@ -224,19 +234,14 @@ pub fn many_sessions<
     machine: &mut M,
     gate: &G,
     clock: &C,
+    recorder: &mut B,
     lists: Vec<Vec<J>>,
-) -> Result<ManyRun<J, O>, HubFault>
+) -> Result<Vec<Vec<O>>, HubFault>
     requires { (1 ≤ slots) × (slots ≤ 1024) }
-
-    // One history of the machine, from what it was to what it is.
-    ensures history { IfOk result (λ r. M.is_honest machine.new → Leads M.gives M.after (M.represents machine.old) r.history.items (M.represents machine.new)) }
+    ensures ran { IfOk result (λ answers. SessionsRan (C.reads clock.now) M.gives M.after (M.is_honest machine.new)
+        (Between (M.stands machine.old)) (Between (M.stands machine.new)) (B.has recorder.old) (B.has recorder.new)
+        (lists_of lists.items) (lists_of answers.items)) }
     ensures before { M.is_honest machine.new → M.is_honest machine.old }
-    ensures ticks { IfOk result (λ r. (last : Option ℕ) × IsRising (C.reads clock.now) None r.history.items last) }
-
-    // In it each list stands whole, and nothing else; each session's answers are all of its outs.
-    ensures jobs { IfOk result (λ r. each_seat (length lists.items) (λ n. jobs_of n r.history.items) ≡ lists_of lists.items) }
-    ensures others { IfOk result (λ r. (n : ℕ) → length lists.items ≤ n → jobs_of n r.history.items ≡ []) }
-    ensures answers { IfOk result (λ r. lists_of r.answers.items ≡ each_seat (length lists.items) (λ n. answers_in n r.history.items)) }
 
     // Too many lists are told first; that the machine failed, only where it could not be opened again.
     ensures many { IsTooMany (length lists.items) → result ≡ Err HubFault.TooManySessions }
@@ -246,6 +251,6 @@ pub fn many_sessions<
         return Err(HubFault::TooManySessions);
     }
     let opened = open_sessions(rt, alloc, slots, lists)?;
-    let run = run_opened(&rt, alloc, opened, machine, gate, clock)?;
-    Ok(run)
+    let answers = run_opened(&rt, alloc, opened, machine, gate, clock, recorder)?;
+    Ok(answers)
 }

@@ -25,7 +25,7 @@ use Rattle.smsc_server.specs.serving.Sittings.{SeatDid}
 use Rattle.smsc_server.proofs.serving.Sat.{did_same}
 
 module _ {T : Type 0} (reads : ℕ → Type 0) (gives : T → Stimulus Job → Fate → List (Out Reply)) (after : T → Stimulus Job → Fate → T) (honest : Type 0)
-    (before behind : T → Type 0) (a b c : Keeper Job Reply) (new : IsNewKeeper 32 a) (ran : Ran reads gives after honest before behind a b) (closed : IsClosed b)
+    (before behind : T → Type 0) (told tells : List (Item Job Reply) → Type 0) (a b c : Keeper Job Reply) (new : IsNewKeeper 32 a) (ran : Ran reads gives after honest before behind told tells a b) (closed : IsClosed b)
     (known : IsUnchanged b c) where
   everything : IsAll b ran.items
   everything = all_did reads a b ran.items 32 new ran.did closed

@@ -29,7 +29,7 @@ module _ {L S : Type 0} (remaining contents : S → Option (List ℕ)) (admitted
     history.1,
     history.2,
     history.3,
-    λ rows is held. let led = history.4 is (restarted rows nobody) (begins rows (before is) held) in (led.0, (led.1.0, led.1.1.rows)),
+    λ rows is held. let led = history.4 is (restarted rows nobody) (begins rows (before is) held) in (led.0, (led.1.0, led.1.1.made.rows.0)),
   )
 
   -- So of a run that ended in order: the work is done on the service that is lent, and leaves the service in which the rows end.

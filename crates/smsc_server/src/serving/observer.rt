@@ -20,7 +20,7 @@ pub enum Event {
     SeatsFull(Seated),
     /// A connection waits at a port, and the system gave no file for it. It is told once a second at most.
     NotAccepted,
-    /// The store refused a step, and the centre started again with its rows.
+    /// The store refused a group, and the centre started again with its rows.
     Reopened,
     /// The store has a new message of this number, to the handset of these digits.
     Accepted(MessageId, Digits),
@@ -35,6 +35,9 @@ pub trait Observer {
 
     /// Takes how much the endpoint at the seat of this number did so far.
     fn watch(&self, _seat: usize, _activity: &Activity) {}
+
+    /// The keeper gave the outs of a group of so many items, at most 64.
+    fn end_group(&self, _count: usize) {}
 
     /// A commit begins.
     fn begin_commit(&self) {}

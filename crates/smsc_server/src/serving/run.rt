@@ -1,10 +1,11 @@
 //! A run of the server.
 ghost use Rattle.std.specs.Thread.{IsSend};
-ghost use Rattle.std.specs.Prelude.{◌≡◌, ◌<◌, ℕ, List, [], Err, IfErr, IfOk, Ok, Option, Some, length, slice_get};
+ghost use Rattle.std.specs.Prelude.{◌≡◌, ◌<◌, ⊤, ℕ, List, [], Err, IfErr, IfOk, Ok, Option, Some, length, slice_get};
 ghost use Rattle.std.specs.Arc.{arc_value};
 ghost use Rattle.sms_hub.specs.Lasting.{Ran};
 ghost use Rattle.sms_centre_spec.specs.declared.jobs.job.Job.{Job as JobOf};
 ghost use Rattle.sms_centre_spec.specs.declared.jobs.reply.Reply.{Reply as ReplyOf};
+ghost use Rattle.sms_keeper.specs.Groups.{Between};
 ghost use Rattle.sms_keeper.specs.History.{for_seat, work};
 ghost use Rattle.sms_keeper.specs.Keeping.{IsClosed, given_by, ran_by, seats_of};
 ghost use Rattle.sms_keeper.specs.Seating.{IsNewKeeper, IsUnchanged};
@@ -33,8 +34,8 @@ use crate::serving::poller::Poller;
 use crate::serving::seat_thread::{SeatThread, give_up, settle_all, take_back_all};
 use crate::serving::server::{Given, SLOTS, Server, Shared, start_entrance};
 use sms_centre_spec::jobs::{Job, Reply};
-use sms_hub::{Hub, Minder, keep_terms};
-use sms_keeper::{Clock, Gate, Keeper, Machine, Seat};
+use sms_hub::{Hub, run_terms};
+use sms_keeper::{Clock, Gate, Item, Keeper, Machine, Recorder, Seat};
 use smsc_arrivals::{Door, Doors};
 use smsc_service::{CentreStore, serve_with};
 use std::alloc::Global;
@@ -44,14 +45,24 @@ use std::sync::Wait;
 use std::thread::Threads;
 use std::time::Clock as SystemClock;
 
-// Tells that the store refused a step.
+// Tells how large groups were, and that the store refused one. It keeps no item.
 #[derive(Drop)]
 struct Watch<'a, T> {
     observer: &'a T,
 }
 
-impl<'a, T: Observer> Minder for Watch<'a, T> {
-    fn reopened(&self) {
+impl<'a, T: Observer> Recorder<Job, Reply> for Watch<'a, T> {
+    ghost use Rattle.std.specs.Prelude.{⊤};
+
+    ghost has = { λ watch told. ⊤ };
+
+    fn record(&mut self, _item: &Item<Job, Reply>) {}
+
+    fn end_group(&mut self, count: usize) {
+        self.observer.end_group(count);
+    }
+
+    fn reopened(&mut self) {
         self.observer.observe(&Event::Reopened);
     }
 }
@@ -67,12 +78,12 @@ fn run_keeper<R: Wait, M: Machine<Job, Reply>, G: Gate, C: Clock, T: Observer>(
     keeper: &mut Keeper<Job, Reply>,
 ) -> Result<(), ServeFault>
     ensures ran { IfOk result (λ _. Ran (C.reads clock.now) M.gives M.after (M.is_honest machine.new)
-        (M.represents machine.old) (M.represents machine.new) keeper.old keeper.new) }
+        (Between (M.stands machine.old)) (Between (M.stands machine.new)) (λ told. ⊤) (λ told. ⊤) keeper.old keeper.new) }
     ensures closed { IfOk result (λ _. IsClosed keeper.new) }
     ensures before { M.is_honest machine.new → M.is_honest machine.old }
 {
-    let watch = Watch { observer };
-    keep_terms(rt, alloc, keeper, machine, gate, clock, &watch)?;
+    let mut watch = Watch { observer };
+    run_terms(rt, alloc, keeper, machine, gate, clock, &mut watch)?;
     Ok(())
 }
 
@@ -133,7 +144,7 @@ fn run_started<
     ensures history { IfOk result (λ doors_then. (admitted : Admitted) (doors : DoorsOf L) → HaveAdmitted admitted server.seats.items
         → HaveEntered L.came doors entrance.promise.entrance.value
         → IsOneHistory S.remaining S.contents admitted (C.reads clock.now) L.came doors doors_then
-        M.gives M.after (M.is_honest machine.new) (M.represents machine.old) (M.represents machine.new)) }
+        M.gives M.after (M.is_honest machine.new) (Between (M.stands machine.old)) (Between (M.stands machine.new))) }
     ensures before { M.is_honest machine.new → M.is_honest machine.old }
 {
     let mut keeper = keeper;
@@ -213,7 +224,7 @@ where
     // What its connections asked was run, and is one history of the machine. They are those that came at the ports.
     ensures history { IfOk result (λ doors. IsOneHistory L.Stream.remaining L.Stream.contents
         (admits (arc_value given.now.accounts) (arc_value given.now.access)) (C.reads clock.now) L.came (doors_of ports) doors
-        M.gives M.after (M.is_honest machine.new) (M.represents machine.old) (M.represents machine.new)) }
+        M.gives M.after (M.is_honest machine.new) (Between (M.stands machine.old)) (Between (M.stands machine.new))) }
     ensures before { M.is_honest machine.new → M.is_honest machine.old }
 {
     let (keeper, seats) = Hub::with_seats(alloc, SLOTS, SEATS)?;

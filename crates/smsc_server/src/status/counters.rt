@@ -4,7 +4,7 @@ use crate::status::accounts::{AccountCounts, AccountTotals};
 use crate::status::refusals::{RefusalTable, Refusals};
 use sms_base::FinalState;
 use smsc_loop::{Activity, Note};
-use smsc_status::{CommitFigures, MessageCounts, PLACES, place_of};
+use smsc_status::{CommitFigures, GroupFigures, MessageCounts, PLACES, place_of};
 use std::alloc::{AllocError, Global};
 use std::sync::atomic::{AtomicU64, Ordering};
 
@@ -36,10 +36,16 @@ pub struct Counters {
     commits: Vec<AtomicU64>,
     micros: AtomicU64,
     refused: AtomicU64,
+    // How many groups had at most so many items as `GROUP_SIZES` says at the same place.
+    groups: Vec<AtomicU64>,
+    items: AtomicU64,
     accounts: AccountTotals,
     submits_refused: RefusalTable,
     binds_refused: RefusalTable,
 }
+
+// A keeper's group has 64 items at most.
+const GROUP_SIZES: [usize; 7] = [1, 2, 4, 8, 16, 32, 64];
 
 fn zero() -> AtomicU64 {
     AtomicU64::new(0)
@@ -65,12 +71,12 @@ fn seat_counters(alloc: Global) -> Result<Vec<SeatCounters>, AllocError> {
     Ok(seats)
 }
 
-fn commit_counters(alloc: Global) -> Result<Vec<AtomicU64>, AllocError> {
-    let mut commits = Vec::with_capacity(alloc, PLACES)?;
-    for _ in 0..PLACES {
-        commits.push(zero())?;
+fn zeros(alloc: Global, count: usize) -> Result<Vec<AtomicU64>, AllocError> {
+    let mut counters = Vec::with_capacity(alloc, count)?;
+    for _ in 0..count {
+        counters.push(zero())?;
     }
-    Ok(commits)
+    Ok(counters)
 }
 
 impl Counters {
@@ -83,9 +89,11 @@ impl Counters {
             expired: zero(),
             deleted: zero(),
             undeliverable: zero(),
-            commits: commit_counters(alloc)?,
+            commits: zeros(alloc, PLACES)?,
             micros: zero(),
             refused: zero(),
+            groups: zeros(alloc, GROUP_SIZES.len())?,
+            items: zero(),
             accounts: AccountTotals::new(alloc)?,
             submits_refused: RefusalTable::new(alloc)?,
             binds_refused: RefusalTable::new(alloc)?,
@@ -140,6 +148,16 @@ impl Counters {
         self.micros.fetch_add(micros, Ordering::SeqCst);
     }
 
+    /// Counts a group of so many items.
+    pub fn end_group(&self, count: usize) {
+        for (counter, size) in self.groups.iter().zip(GROUP_SIZES.iter()) {
+            if count <= *size {
+                one_more(counter);
+            }
+        }
+        self.items.fetch_add(count as u64, Ordering::SeqCst);
+    }
+
     /// Counts a commit that the store refused.
     pub fn commit_refused(&self) {
         one_more(&self.refused);
@@ -186,6 +204,28 @@ impl Counters {
             counts,
             micros: now(&self.micros),
             refused: now(&self.refused),
+        }
+    }
+
+    // How many groups had at most as many items as the size at that place.
+    fn groups_up_to(&self, place: usize) -> u64 {
+        match self.groups.get(place) {
+            Some(counter) => now(counter),
+            None => 0,
+        }
+    }
+
+    /// The groups so far.
+    pub fn groups(&self) -> GroupFigures {
+        GroupFigures {
+            of_1: self.groups_up_to(0),
+            up_to_2: self.groups_up_to(1),
+            up_to_4: self.groups_up_to(2),
+            up_to_8: self.groups_up_to(3),
+            up_to_16: self.groups_up_to(4),
+            up_to_32: self.groups_up_to(5),
+            up_to_64: self.groups_up_to(6),
+            items: now(&self.items),
         }
     }
 

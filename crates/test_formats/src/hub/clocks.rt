@@ -3,9 +3,10 @@ ghost use Rattle.std.specs.Prelude.{◌≡◌, []};
 ghost use Rattle.sms_seats.specs.Seats.{put_by};
 
 use crate::hub::counter::{Counter, Open, Reply};
+use crate::hub::told::Told;
 use crate::rows::holds;
 use sms_base::Moment;
-use sms_hub::{Clock, End, Hub, Item, Keeper, Seat, Stimulus, Term};
+use sms_hub::{Clock, End, Hub, Keeper, Seat};
 use std::alloc::Global;
 use std::sync::Wait;
 use std::sync::atomic::{AtomicU64, Ordering};
@@ -38,15 +39,15 @@ fn put_all<R: Wait>(rt: &R, a: &mut Seat<u32, Reply>, b: &mut Seat<u32, Reply>) 
     first && second && a.try_close(rt) && b.try_close(rt)
 }
 
-// The ticks of a history, in seconds after a moment, in order, and nothing for each job.
-fn is_history(history: &[Item<u32, Reply>], start: Moment, wanted: &[Option<u64>]) -> bool {
-    if history.len() != wanted.len() {
+// The ticks in seconds after a moment, in order, and nothing for each job.
+fn are_ticks(ticks: &[Option<u64>], start: Moment, wanted: &[Option<u64>]) -> bool {
+    if ticks.len() != wanted.len() {
         return false;
     }
-    for place in 0..history.len() {
-        let tick = match &history[place].stimulus {
-            Stimulus::Job(_, _) => None,
-            Stimulus::Tick(moment) => Some(moment.seconds().saturating_sub(start.seconds())),
+    for place in 0..ticks.len() {
+        let tick = match ticks[place] {
+            Some(seconds) => Some(seconds.saturating_sub(start.seconds())),
+            None => None,
         };
         if tick != wanted[place] {
             return false;
@@ -55,15 +56,12 @@ fn is_history(history: &[Item<u32, Reply>], start: Moment, wanted: &[Option<u64>
     true
 }
 
-fn is_wanted(term: &Term<u32, Reply>, start: Moment) -> bool {
-    let wanted = [Some(0u64), None, Some(1), None, Some(2), Some(3)];
-    term.end == End::AllClosed && is_history(term.history.as_slice(), start, &wanted)
-}
-
 fn ticks<R: Wait>(rt: &R, alloc: Global, keeper: &mut Keeper<u32, Reply>, clock: &Moving) -> bool {
     let mut machine = Counter::new(0, true);
-    let term = keeper.run(rt, alloc, &mut machine, &Open, clock);
-    is_wanted(&term, clock.start)
+    let mut told = Told::new(alloc);
+    let end = keeper.run(rt, alloc, &mut machine, &Open, clock, &mut told);
+    let wanted = [Some(0u64), None, Some(1), None, Some(2), Some(3)];
+    end == End::AllClosed && are_ticks(told.ticks.as_slice(), clock.start, &wanted)
 }
 
 // The clock is looked at before each job and each end mark. It shows a later moment at every second look, so that a tick

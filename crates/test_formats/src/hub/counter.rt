@@ -2,7 +2,7 @@
 ghost use Rattle.std.specs.Prelude.{◌≡◌, ◌==◌, if◌then◌else◌, [], ◌∷◌};
 
 use sms_base::Moment;
-use sms_hub::{Broken, Clock, Fate, Gate, Machine, Out, Outs, Step, Stimulus};
+use sms_hub::{Broken, Clock, Fate, Gate, Machine, Out, Outs, Step, Stimulus, Unsettled};
 
 /// What the machine answers.
 #[derive(Clone, Copy, Debug, PartialEq, Eq)]
@@ -13,16 +13,18 @@ pub enum Reply {
     Failed,
 }
 
-/// It adds up the jobs and answers each but 0 with the sum so far. It refuses one job, by its place from 1, and forgets
-/// its sum then.
+/// It adds up the jobs and answers each but 0 with the sum so far. It refuses one job, or the commit of the group that has it, by
+/// its place from 1, and forgets its sum then.
 #[derive(Drop)]
 pub struct Counter {
     pub sum: u64,
-    /// What its store holds, once a job was refused.
+    /// What its store holds.
     pub kept: u64,
     pub jobs: u64,
     /// The place of the job that it refuses, or 0.
     pub refuses: u64,
+    /// The place of the job with whose group it refuses the commit, or 0.
+    pub refuses_commit: u64,
     /// Whether its store can be read again.
     pub opens: bool,
     pub opened: u64,
@@ -36,7 +38,22 @@ impl Counter {
             kept: 0,
             jobs: 0,
             refuses,
+            refuses_commit: 0,
             opens,
+            opened: 0,
+            broken: false,
+        }
+    }
+
+    /// One that refuses the commit of the group with the job of that place.
+    pub fn uncommitted(place: u64) -> Counter {
+        Counter {
+            sum: 0,
+            kept: 0,
+            jobs: 0,
+            refuses: 0,
+            refuses_commit: place,
+            opens: true,
             opened: 0,
             broken: false,
         }
@@ -45,34 +62,32 @@ impl Counter {
 
 impl Counter {
     ghost use Rattle.std.specs.Prelude.{◌≡◌, ◌+◌, ◌%◌, ◌^◌};
+    ghost use Rattle.sms_keeper.specs.declared.machine.Fate.TheVariants.{Refused};
     ghost use Rattle.sms_keeper.specs.declared.machine.Stimulus.TheVariants.{Job};
     ghost use Rattle.sms_keeper.specs.Fates.{MatchFate};
     ghost use Rattle.test_formats.specs.hub.Counting.{sum_after, sums_given};
 
-    // Adds a job up, or refuses it.
-    fn add<G: Gate>(&mut self, gate: &G, seat: usize, job: u32) -> Step<Reply>
-        ensures seats { result.to_seats ≡ sums_given self.old.sum (Job seat job) result.fate }
-        ensures history { result.to_history ≡ sums_given self.old.sum (Job seat job) result.fate }
-        ensures after { MatchFate result.fate
-            (self.new.sum ≡ sum_after self.old.sum (Job seat job) result.fate)
-            (self.new.kept ≡ sum_after self.old.sum (Job seat job) result.fate) }
+    // Adds a job up, or refuses it. Its store holds what it held.
+    fn add(&mut self, seat: usize, job: u32) -> Step<Reply>
+        ensures outs { result.outs ≡ sums_given self.old.sum (Job seat job) result.fate }
+        ensures if_refused { result.if_refused ≡ sums_given self.old.kept (Job seat job) Refused }
+        ensures after { MatchFate result.fate (self.new.sum ≡ sum_after self.old.sum (Job seat job) result.fate) (Unit {0}) }
+        ensures kept { self.new.kept ≡ self.old.kept }
     {
         self.jobs = self.jobs.wrapping_add(1);
         if self.jobs == self.refuses {
-            self.kept = self.sum;
             self.sum = 1000;
             return Step {
                 fate: Fate::Refused,
-                to_seats: answer(seat, Reply::Failed),
-                to_history: answer(seat, Reply::Failed),
+                outs: answer(seat, Reply::Failed),
+                if_refused: answer(seat, Reply::Failed),
             };
         }
-        gate.pass();
         self.sum = self.sum.wrapping_add(u64::from(job));
         Step {
             fate: Fate::Done,
-            to_seats: told(seat, job, self.sum),
-            to_history: told(seat, job, self.sum),
+            outs: told(seat, job, self.sum),
+            if_refused: answer(seat, Reply::Failed),
         }
     }
 }
@@ -99,7 +114,7 @@ impl Machine<u32, Reply> for Counter {
 
     type State = u64;
 
-    ghost represents = { λ m s. m.sum ≡ s };
+    ghost stands = { λ m s r. (m.sum ≡ s) × (m.kept ≡ r) };
 
     ghost resumes = { λ m s. m.kept ≡ s };
 
@@ -113,15 +128,26 @@ impl Machine<u32, Reply> for Counter {
 
     ghost after = { sum_after };
 
-    fn step<G: Gate>(&mut self, gate: &G, stimulus: &Stimulus<u32>) -> Step<Reply> {
+    fn step(&mut self, stimulus: &Stimulus<u32>) -> Step<Reply> {
         match stimulus {
             Stimulus::Tick(_) => Step {
                 fate: Fate::Done,
-                to_seats: Outs::none(),
-                to_history: Outs::none(),
+                outs: Outs::none(),
+                if_refused: Outs::none(),
             },
-            Stimulus::Job(seat, job) => self.add(gate, *seat, *job),
+            Stimulus::Job(seat, job) => self.add(*seat, *job),
         }
+    }
+
+    fn settle<G: Gate>(&mut self, gate: &G) -> Result<(), Unsettled> {
+        gate.pass();
+        if self.refuses_commit != 0 && self.refuses_commit <= self.jobs {
+            self.refuses_commit = 0;
+            self.sum = 1000;
+            return Err(Unsettled);
+        }
+        self.kept = self.sum;
+        Ok(())
     }
 
     fn reopen(&mut self) -> Result<(), Broken> {

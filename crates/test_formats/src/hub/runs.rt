@@ -1,36 +1,13 @@
 //! Runs of lists of jobs, each in a thread of its own.
 use crate::hub::counter::{Counter, Open, Reply, Still};
+use crate::hub::told::Told;
 use crate::rows::holds;
 use sms_base::Moment;
-use sms_hub::{Fate, HubFault, Item, ManyRun, Run, Stimulus, many_sessions, two_sessions};
+use sms_hub::{HubFault, many_sessions, two_sessions};
 use std::alloc::Global;
 use std::sync::Wait;
 use std::test::Fail;
 use std::thread::Threads;
-
-// How many items are jobs.
-fn jobs_in(history: &[Item<u32, Reply>]) -> usize {
-    let mut jobs = 0usize;
-    for item in history {
-        if let Stimulus::Job(_, _) = &item.stimulus {
-            jobs = jobs.wrapping_add(1);
-        }
-    }
-    jobs
-}
-
-// The jobs that were refused, added up, and how many they were.
-fn refused_in(history: &[Item<u32, Reply>]) -> (u64, usize) {
-    let mut sum = 0u64;
-    let mut count = 0usize;
-    for item in history {
-        if let (Stimulus::Job(_, job), Fate::Refused) = (&item.stimulus, item.fate) {
-            sum = sum.wrapping_add(u64::from(*job));
-            count = count.wrapping_add(1);
-        }
-    }
-    (sum, count)
-}
 
 fn failed_in(answers: &[Reply]) -> usize {
     answers
@@ -39,37 +16,44 @@ fn failed_in(answers: &[Reply]) -> usize {
         .count()
 }
 
-// Two lists of jobs, which add up to 36, on a machine that refuses one of them, or none: how they end.
+// The answers of two lists of jobs, which add up to 36, on a machine that refuses one of them, or none.
 fn end_of_two<R: Threads + Wait + Copy + Send + 'static>(
     rt: R,
     alloc: Global,
     machine: &mut Counter,
-) -> Result<Result<Run<u32, Reply>, HubFault>, Fail> {
+    told: &mut Told,
+) -> Result<Result<(Vec<Reply>, Vec<Reply>), HubFault>, Fail> {
     let clock = Still(Moment::from_seconds(1_709_251_198)?);
     let a = vec![in alloc; 1u32, 2, 3]?;
     let b = vec![in alloc; 10u32, 20]?;
-    Ok(two_sessions(rt, alloc, 1, machine, &Open, &clock, a, b))
+    Ok(two_sessions(rt, alloc, 1, machine, &Open, &clock, told, a, b))
 }
 
-// Each of the five jobs is answered: all of them are in the sum, or one was refused, answered so, and the machine opened once again.
-fn are_run(run: &Run<u32, Reply>, machine: &Counter) -> bool {
-    let refusals = if machine.refuses == 0 { 0 } else { 1 };
-    let (missing, count) = refused_in(run.history.as_slice());
-    let first = failed_in(run.answers_a.as_slice());
-    let second = failed_in(run.answers_b.as_slice());
-    run.answers_a.len() == 3
-        && run.answers_b.len() == 2
-        && jobs_in(run.history.as_slice()) == 5
-        && count == refusals
-        && first.wrapping_add(second) == refusals
-        && machine.sum.wrapping_add(missing) == 36
-        && machine.opened == refusals as u64
+// Each of the five jobs is answered. All of them are in the sum, or the group of one was refused: then each job of that group is
+// answered so, and the machine is opened once again.
+fn are_run(run: &(Vec<Reply>, Vec<Reply>), machine: &Counter, told: &Told) -> bool {
+    let refusals = if machine.refuses == 0 { 0u64 } else { 1 };
+    let first = failed_in(run.0.as_slice());
+    let second = failed_in(run.1.as_slice());
+    run.0.len() == 3
+        && run.1.len() == 2
+        && told.jobs == 5
+        && (told.refused == 0) == (refusals == 0)
+        && first.wrapping_add(second) == told.refused
+        && machine.sum.wrapping_add(told.missing) == 36
+        && machine.kept == machine.sum
+        && machine.opened == refusals
+        && told.reopened as u64 == refusals
 }
 
 // A machine that can't be opened again ends the run.
-fn is_two(run: &Result<Run<u32, Reply>, HubFault>, machine: &Counter) -> bool {
+fn is_two(
+    run: &Result<(Vec<Reply>, Vec<Reply>), HubFault>,
+    machine: &Counter,
+    told: &Told,
+) -> bool {
     match run {
-        Ok(run) => machine.opens && are_run(run, machine),
+        Ok(run) => machine.opens && are_run(run, machine, told),
         Err(fault) => !machine.opens && *fault == HubFault::MachineFailed,
     }
 }
@@ -81,8 +65,9 @@ fn runs_two<R: Threads + Wait + Copy + Send + 'static>(
     opens: bool,
 ) -> Result<bool, Fail> {
     let mut machine = Counter::new(refuses, opens);
-    let run = end_of_two(rt, alloc, &mut machine)?;
-    Ok(is_two(&run, &machine))
+    let mut told = Told::new(alloc);
+    let run = end_of_two(rt, alloc, &mut machine, &mut told)?;
+    Ok(is_two(&run, &machine, &told))
 }
 
 // Which of five jobs the machine refuses, and whether it can be opened again then.
@@ -114,14 +99,14 @@ fn lists(alloc: Global, count: u32) -> Result<Vec<Vec<u32>>, Fail> {
 }
 
 // Thirty-two lists are run, and no other number of them here.
-fn are_many(run: &Result<ManyRun<u32, Reply>, HubFault>, count: u32, sum: u64) -> bool {
+fn are_many(run: &Result<Vec<Vec<Reply>>, HubFault>, told: &Told, count: u32, sum: u64) -> bool {
     match run {
-        Ok(run) => {
+        Ok(all) => {
             count == 32
                 && sum == 2080
-                && run.answers.len() == 32
-                && jobs_in(run.history.as_slice()) == 64
-                && run.answers.iter().all(|answers| answers.len() == 2)
+                && all.len() == 32
+                && told.jobs == 64
+                && all.iter().all(|answers| answers.len() == 2)
         }
         Err(fault) => count != 32 && *fault == HubFault::TooManySessions,
     }
@@ -136,8 +121,9 @@ fn runs_many<R: Threads + Wait + Copy + Send + 'static>(
     let clock = Still(Moment::from_seconds(1_709_251_198)?);
     let lists = lists(alloc, count)?;
     let mut machine = Counter::new(0, true);
-    let run = many_sessions(rt, alloc, 1, &mut machine, &Open, &clock, lists);
-    Ok(are_many(&run, count, machine.sum))
+    let mut told = Told::new(alloc);
+    let run = many_sessions(rt, alloc, 1, &mut machine, &Open, &clock, &mut told, lists);
+    Ok(are_many(&run, &told, count, machine.sum))
 }
 
 const COUNTS: &[(u32, &str)] = &[(32, "32 lists"), (0, "no list"), (33, "33 lists")];

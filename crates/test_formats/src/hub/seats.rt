@@ -6,9 +6,10 @@ ghost use Rattle.sms_keeper.specs.Seating.{IsSeatOf};
 
 use crate::hub::counter::{Counter, Open, Reply, Still};
 use crate::hub::gates::Held;
+use crate::hub::told::Told;
 use crate::rows::holds;
 use sms_base::Moment;
-use sms_hub::{End, Hub, HubFault, Keeper, Seat};
+use sms_hub::{End, Hub, HubFault, Keeper, NoRecord, Seat};
 use std::alloc::Global;
 use std::sync::Wait;
 use std::sync::atomic::{AtomicBool, Ordering};
@@ -25,8 +26,8 @@ fn ends_refused<R: Wait>(
     clock: &Still,
 ) -> bool {
     let mut machine = Counter::new(1, true);
-    let term = keeper.run(rt, alloc, &mut machine, &Open, clock);
-    term.end == End::Refused
+    let end = keeper.run(rt, alloc, &mut machine, &Open, clock, &mut NoRecord);
+    end == End::Refused
 }
 
 // A put into the one slot, a job that is handed back, and a put once the keeper has popped.
@@ -82,7 +83,7 @@ fn is_taken<R: Wait + Clock>(rt: &R, seat: &mut Seat<u32, Reply>, job: u32) -> b
     false
 }
 
-// Seat a's job is held at the gate; then seat b's is put; then the gate is opened.
+// Seat a's job is held at the gate; then seat b's is put; then the gate is opened. Nothing leaves before that.
 fn go_on<R: Wait + Clock>(
     rt: &R,
     mut a: Seat<u32, Reply>,
@@ -95,10 +96,11 @@ fn go_on<R: Wait + Clock>(
     let first = is_taken(rt, &mut a, 1);
     let held = is_set(rt, reached);
     let second = is_taken(rt, &mut b, 2);
+    let early = a.take_answer(rt).is_some();
     opened.store(true, Ordering::SeqCst);
     a.close(rt);
     b.close(rt);
-    first && held && second
+    first && held && second && !early
 }
 
 // Whether both seats go on, and the keeper behind them.
@@ -116,9 +118,10 @@ fn both_go_on<R: Threads + Wait + Clock + Sync>(
         reached: &reached,
         opened: &opened,
     };
+    let mut told = Told::new(alloc);
     let (ended, went_on) = join(
         rt,
-        || keeper.run(rt, alloc, machine, &gate, &clock).end == End::AllClosed,
+        || keeper.run(rt, alloc, machine, &gate, &clock, &mut told) == End::AllClosed,
         || -> bool
             requires { (put_by a ≡ []) × (put_by b ≡ []) }
         { go_on(rt, a, b, &reached, &opened) },
@@ -157,43 +160,7 @@ fn put_many<R: Wait>(rt: &R, seat: &mut Seat<u32, Reply>, count: u32)
     }
 }
 
-fn feed<R: Wait>(rt: &R, mut a: Seat<u32, Reply>, mut b: Seat<u32, Reply>)
-    requires { (put_by a ≡ []) × (put_by b ≡ []) }
-{
-    put_many(rt, &mut a, 65537);
-    a.close(rt);
-    b.close(rt);
-}
-
-// The ends of two terms, and how many items the second has.
-fn two_terms<R: Wait>(
-    rt: &R,
-    alloc: Global,
-    keeper: &mut Keeper<u32, Reply>,
-    clock: &Still,
-) -> (End, End, usize) {
-    let mut machine = Counter::new(0, true);
-    let first = keeper.run(rt, alloc, &mut machine, &Open, clock);
-    let second = keeper.run(rt, alloc, &mut machine, &Open, clock);
-    (first.end, second.end, second.history.len())
-}
-
-#[test]
-fn a_term_ends_after_its_most_jobs(rt: HostRuntime) -> Result<(), Fail> {
-    let alloc = rt.alloc();
-    let clock = Still(Moment::from_seconds(1_709_251_198)?);
-    let (mut keeper, a, b) = Hub::new::<u32, Reply>(alloc, 1024)?;
-    let (ends, ()) = join(
-        &rt,
-        || two_terms(&rt, alloc, &mut keeper, &clock),
-        || -> ()
-            requires { (put_by a ≡ []) × (put_by b ≡ []) }
-        { feed(&rt, a, b) },
-    );
-    holds(ends == (End::Full, End::AllClosed, 1), "two terms")
-}
-
-// A term of so many jobs, which were all put before it begins: how it ended, and how many items it wrote.
+// A term of so many jobs without answers, which were all put before it begins: what it tells, and how it ends.
 fn term_of<R: Wait>(
     rt: &R,
     alloc: Global,
@@ -202,32 +169,77 @@ fn term_of<R: Wait>(
     mut b: Seat<u32, Reply>,
     jobs: u32,
     clock: &Still,
-) -> (End, usize)
+) -> (End, Told)
     requires { (put_by a ≡ []) × (put_by b ≡ []) }
 {
     put_many(rt, &mut a, jobs);
     a.close(rt);
     b.close(rt);
     let mut machine = Counter::new(0, true);
-    let term = keeper.run(rt, alloc, &mut machine, &Open, clock);
-    (term.end, term.history.len())
+    let mut told = Told::new(alloc);
+    let end = keeper.run(rt, alloc, &mut machine, &Open, clock, &mut told);
+    (end, told)
 }
 
-fn ends_closed<R: Wait>(rt: &R, alloc: Global, jobs: u32, clock: &Still) -> Result<bool, Fail> {
-    let (keeper, a, b) = Hub::new::<u32, Reply>(alloc, 256)?;
-    let (end, items) = term_of(rt, alloc, keeper, a, b, jobs, clock);
-    // The items are a tick and the jobs.
-    Ok(end == End::AllClosed && items.checked_sub(1) == Some(jobs as usize))
+fn are_groups(told: &Told, jobs: u32, wanted: &[usize]) -> bool {
+    told.jobs == jobs as usize && told.groups.as_slice() == wanted
 }
 
-// The history of a term grows at several of these lengths. While memory is there, no growth is refused, and no term ends Short.
+// What waits is one group, with the tick before it, and 64 items are the most. An end mark is no item, but has a place.
+const GROUPS: &[(u32, &[usize])] = &[
+    (0, &[1]),
+    (1, &[2]),
+    (61, &[62]),
+    (63, &[64]),
+    (64, &[64, 1]),
+    (200, &[64, 64, 64, 9]),
+];
+
 #[test]
-fn no_term_ends_short_while_memory_is_there(rt: HostRuntime) -> Result<(), Fail> {
+fn what_waits_is_a_group_of_at_most_64(rt: HostRuntime) -> Result<(), Fail> {
     let clock = Still(Moment::from_seconds(1_709_251_198)?);
-    for jobs in 0..200u32 {
-        holds(ends_closed(&rt, rt.alloc(), jobs, &clock)?, "a term")?;
+    for (jobs, groups) in GROUPS {
+        let (keeper, a, b) = Hub::new::<u32, Reply>(rt.alloc(), 256)?;
+        let (end, told) = term_of(&rt, rt.alloc(), keeper, a, b, *jobs, &clock);
+        holds(
+            end == End::AllClosed && are_groups(&told, *jobs, groups),
+            "groups",
+        )?;
     }
     Ok(())
+}
+
+// Three jobs in one group, whose commit is refused with the second of them; then a job more.
+fn refuses_all<R: Wait>(
+    rt: &R,
+    alloc: Global,
+    keeper: &mut Keeper<u32, Reply>,
+    a: &mut Seat<u32, Reply>,
+    machine: &mut Counter,
+    clock: &Still,
+) -> bool
+    requires { put_by a.old ≡ [] }
+{
+    let put = a.put(rt, 1) == Ok(()) && a.put(rt, 2) == Ok(()) && a.put(rt, 3) == Ok(());
+    let mut told = Told::new(alloc);
+    let end = keeper.run(rt, alloc, machine, &Open, clock, &mut told);
+    let failed = a.take_answer(rt) == Some(Reply::Failed)
+        && a.take_answer(rt) == Some(Reply::Failed)
+        && a.take_answer(rt) == Some(Reply::Failed)
+        && a.take_answer(rt).is_none();
+    put && end == End::Refused && failed && told.refused == 3 && told.missing == 6
+}
+
+#[test]
+fn each_item_of_a_refused_group_is_refused(rt: HostRuntime) -> Result<(), Fail> {
+    let clock = Still(Moment::from_seconds(1_709_251_198)?);
+    let (mut keeper, mut a, _b) = Hub::new::<u32, Reply>(rt.alloc(), 4)?;
+    let mut machine = Counter::uncommitted(2);
+    holds(
+        refuses_all(&rt, rt.alloc(), &mut keeper, &mut a, &mut machine, &clock),
+        "each of three jobs is refused",
+    )?;
+    holds(machine.kept == 0, "none of them is kept")
 }
 
 // Two jobs of seat a, one of whose answers it takes, and one that it leaves: what the keeper takes back.
@@ -245,12 +257,12 @@ fn taken_back<R: Wait>(
     a.close(rt);
     b.close(rt);
     let mut machine = Counter::new(0, true);
-    let term = keeper.run(rt, alloc, &mut machine, &Open, clock);
+    let end = keeper.run(rt, alloc, &mut machine, &Open, clock, &mut NoRecord);
     a.wait(rt, Duration::from_millis(1));
     let taken = a.take_answer(rt) == Some(Reply::Sum(5));
     let numbers = (a.number(), b.number()) == (0, 1);
     let rest = keeper.take_back(rt, alloc, a).ok()?;
-    if put && term.end == End::AllClosed && taken && numbers {
+    if put && end == End::AllClosed && taken && numbers {
         Some(rest)
     } else {
         None

@@ -2,7 +2,7 @@
 use crate::service::asks::Request;
 use crate::service::store::MANY;
 use crate::service::telling::{ExpectedReply, To};
-use crate::service::turns::{Course, Turn, plays};
+use crate::service::turns::{Asked, Course, Turn, plays};
 use sms_keeper::Fate;
 use std::test::Fail;
 
@@ -193,6 +193,67 @@ const TOO_LATE: &[Turn] = &[
     Turn::Tick(1, Fate::NoMemory, &[]),
 ];
 
+// A session is bound, submits, and the handset comes up, all in one group: the store takes one commit. The part that is offered is read as
+// the group put it, before it is committed.
+const ONE_COMMIT: &[Turn] = &[
+    Turn::Commits(1),
+    Turn::Group(&[
+        Asked(3, Request::Bound, DONE, &[]),
+        Asked(
+            3,
+            Request::Submits,
+            DONE,
+            &[To(3, ExpectedReply::Accepted(1))],
+        ),
+        Asked(
+            5,
+            Request::Rises,
+            DONE,
+            &[To(5, ExpectedReply::Frame(DELIVER))],
+        ),
+    ]),
+    Turn::Commits(0),
+    Turn::Job(
+        3,
+        Request::Submits,
+        Fate::Refused,
+        &[To(3, ExpectedReply::Failed)],
+    ),
+];
+
+// The commit of such a group is refused: each item of it is, the number is given to the next submission, and who sits where is as the
+// jobs left it.
+const GROUP_REFUSED: &[Turn] = &[
+    Turn::Job(6, Request::Rises, DONE, &[]),
+    Turn::Commits(0),
+    Turn::Group(&[
+        Asked(3, Request::Bound, Fate::Refused, &[]),
+        Asked(
+            3,
+            Request::Submits,
+            Fate::Refused,
+            &[To(3, ExpectedReply::Failed)],
+        ),
+        Asked(
+            5,
+            Request::Rises,
+            Fate::Refused,
+            &[To(5, ExpectedReply::Taken)],
+        ),
+        Asked(6, Request::Falls, Fate::Refused, &[]),
+        Asked(5, Request::Rises, Fate::Refused, &[]),
+    ]),
+    Turn::Commits(MANY),
+    Turn::Reopens,
+    Turn::Job(
+        4,
+        Request::Submits,
+        DONE,
+        &[To(4, ExpectedReply::Accepted(1))],
+    ),
+    Turn::Tick(1, DONE, &[To(5, ExpectedReply::Frame(DELIVER))]),
+];
+
 const COURSES: &[Course] = &[
     ("a submission has its answer and its receipt", RECEIPT),
     ("a receipt waits for its account", RECEIPT_WAITS),
@@ -206,6 +267,11 @@ const COURSES: &[Course] = &[
         ACKNOWLEDGEMENT_REFUSED,
     ),
     ("a part whose body is refused goes out later", BODY_REFUSED),
+    ("a group is one commit", ONE_COMMIT),
+    (
+        "each item of a group that is refused is refused",
+        GROUP_REFUSED,
+    ),
     ("where it is too late nothing is begun", TOO_LATE),
 ];
 

@@ -5,8 +5,8 @@ use crate::service::centre::{QUERY, SUBMIT, clock, keep};
 use sms_base::Octets;
 use sms_centre_spec::CentreAnswer;
 use sms_centre_spec::jobs::{Job, Reply};
-use sms_hub::{ManyRun, Run, many_sessions, two_sessions};
-use sms_keeper::{Item, Machine, Stimulus};
+use sms_hub::{many_sessions, two_sessions};
+use sms_keeper::{Item, Machine, Recorder, Stimulus};
 use smsc_service::{Cutoff, serve_with};
 use std::alloc::Global;
 use std::sync::{Arc, Wait};
@@ -73,60 +73,77 @@ fn are_numbers(answers: &[Vec<Reply>], count: usize) -> Result<(), Fail> {
     Ok(())
 }
 
-// How many jobs of the seat were met, a submit first and then a query.
-fn met(met: usize, job: &Job) -> Result<usize, Fail> {
+// ---- what was run
+
+// How many jobs of each seat a recorder was told of, in the order of its list, and whether one was out of it.
+#[derive(Drop)]
+struct Met {
+    counts: Vec<usize>,
+    is_wrong: bool,
+}
+
+// How many jobs of the seat were met with this one, a submit first and then a query.
+fn met_with(met: usize, job: &Job) -> Option<usize> {
     match (met, job) {
-        (0, Job::Submit { .. }) => Ok(1),
-        (1, Job::Query { .. }) => Ok(2),
-        _ => Err(Fail::new("a submit, and then a query")),
+        (0, Job::Submit { .. }) => Some(1),
+        (1, Job::Query { .. }) => Some(2),
+        _ => None,
     }
 }
 
-// The list of the seat stands in the history, in its order.
-fn has_list(history: &[Item<Job, Reply>], seat: usize) -> Result<(), Fail> {
-    let mut count = 0;
-    for item in history {
-        match &item.stimulus {
-            Stimulus::Job(number, job) if *number == seat => count = met(count, job)?,
-            _ => (),
+impl Met {
+    // Of so many seats.
+    fn none(alloc: Global, seats: usize) -> Result<Met, Fail> {
+        let mut counts = Vec::new(alloc);
+        for _ in 0..seats {
+            counts.push(0usize)?;
+        }
+        Ok(Met {
+            counts,
+            is_wrong: false,
+        })
+    }
+
+    fn next(&self, seat: usize, job: &Job) -> Option<usize> {
+        met_with(*self.counts.get(seat)?, job)
+    }
+
+    fn meet(&mut self, seat: usize, job: &Job) {
+        match self.next(seat, job) {
+            Some(count) => {
+                if seat < self.counts.len() {
+                    self.counts[seat] = count;
+                }
+            }
+            None => self.is_wrong = true,
         }
     }
-    holds(count == 2, "its list was run whole")
-}
 
-fn jobs_in(history: &[Item<Job, Reply>]) -> usize {
-    history
-        .iter()
-        .filter(|item| matches!(&item.stimulus, Stimulus::Job(..)))
-        .count()
-}
-
-// The lists of so many sessions and nothing else.
-fn is_history(history: &[Item<Job, Reply>], count: usize) -> Result<(), Fail> {
-    for seat in 0..count {
-        has_list(history, seat)?;
+    // Each list was run whole, in its order, and nothing else.
+    fn is_whole(&self) -> Result<(), Fail> {
+        holds(
+            self.counts.iter().all(|count| *count == 2),
+            "each list was run whole",
+        )?;
+        holds(!self.is_wrong, "a submit, and then a query")
     }
-    holds(
-        jobs_in(history) == count.saturating_mul(2),
-        "two jobs a session",
-    )
 }
 
-fn is_many(run: &ManyRun<Job, Reply>, count: usize) -> Result<(), Fail> {
-    is_history(run.history.as_slice(), count)?;
-    are_numbers(run.answers.as_slice(), count)
-}
+impl Recorder<Job, Reply> for Met {
+    ghost use Rattle.std.specs.Prelude.{⊤};
 
-fn is_two(run: &Run<Job, Reply>) -> Result<(), Fail> {
-    is_history(run.history.as_slice(), 2)?;
-    let numbers = (
-        number_in(run.answers_a.as_slice()),
-        number_in(run.answers_b.as_slice()),
-    );
-    holds(
-        numbers == (Some(1), Some(2)) || numbers == (Some(2), Some(1)),
-        "the numbers 1 and 2",
-    )
+    ghost has = { λ met items. ⊤ };
+
+    fn record(&mut self, item: &Item<Job, Reply>) {
+        match &item.stimulus {
+            Stimulus::Job(seat, job) => self.meet(*seat, job),
+            Stimulus::Tick(_) => (),
+        }
+    }
+
+    fn end_group(&mut self, _count: usize) {}
+
+    fn reopened(&mut self) {}
 }
 
 // ---- runs
@@ -140,8 +157,10 @@ fn runs_many<R: Threads + Wait + Copy + Send + 'static, M: Machine<Job, Reply>>(
 ) -> Result<(), Fail> {
     let clock = clock()?;
     let lists = lists(alloc, count)?;
-    let run = many_sessions(rt, alloc, 1, machine, &Open, &clock, lists)?;
-    is_many(&run, count)
+    let mut met = Met::none(alloc, count)?;
+    let answers = many_sessions(rt, alloc, 1, machine, &Open, &clock, &mut met, lists)?;
+    met.is_whole()?;
+    are_numbers(answers.as_slice(), count)
 }
 
 fn runs_two<R: Threads + Wait + Copy + Send + 'static, M: Machine<Job, Reply>>(
@@ -152,8 +171,14 @@ fn runs_two<R: Threads + Wait + Copy + Send + 'static, M: Machine<Job, Reply>>(
     let clock = clock()?;
     let a = list(alloc)?;
     let b = list(alloc)?;
-    let run = two_sessions(rt, alloc, 1, machine, &Open, &clock, a, b)?;
-    is_two(&run)
+    let mut met = Met::none(alloc, 2)?;
+    let (of_a, of_b) = two_sessions(rt, alloc, 1, machine, &Open, &clock, &mut met, a, b)?;
+    met.is_whole()?;
+    let numbers = (number_in(of_a.as_slice()), number_in(of_b.as_slice()));
+    holds(
+        numbers == (Some(1), Some(2)) || numbers == (Some(2), Some(1)),
+        "the numbers 1 and 2",
+    )
 }
 
 fn serves_many<R: Threads + Wait + Copy + Send + 'static>(

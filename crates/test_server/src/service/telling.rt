@@ -2,7 +2,7 @@
 use smpp_pdu::CommandStatus;
 use sms_centre_spec::CentreAnswer;
 use sms_centre_spec::jobs::Reply;
-use sms_keeper::{Fate, Out, Step};
+use sms_keeper::{Fate, Out, Outs, Step};
 
 /// What a seat is told.
 #[derive(Clone, Copy)]
@@ -45,12 +45,20 @@ fn is_out(out: Option<&Out<Reply>>, to: &To) -> bool {
     }
 }
 
-/// Whether that befell the item, and the seats are told that, in order, and nothing besides.
-pub(crate) fn is_step(step: &Step<Reply>, fate: Fate, told: &[To]) -> bool {
+fn are_outs(outs: &Outs<Reply>, told: &[To]) -> bool {
     for (at, to) in told.iter().enumerate() {
-        if !is_out(step.to_seats.get(at), to) {
+        if !is_out(outs.get(at), to) {
             return false;
         }
     }
-    step.fate == fate && step.to_seats.len() == told.len()
+    outs.len() == told.len()
+}
+
+/// Whether that befell the item once its group was committed or refused, and the seats are told that, in order, and nothing besides.
+pub(crate) fn is_item(step: &Step<Reply>, is_committed: bool, fate: Fate, told: &[To]) -> bool {
+    if is_committed {
+        step.fate == fate && are_outs(&step.outs, told)
+    } else {
+        fate == Fate::Refused && are_outs(&step.if_refused, told)
+    }
 }

@@ -4,19 +4,30 @@ use crate::rows::turn_holds;
 use crate::service::asks::{Request, job, ticks};
 use crate::service::centre::keep;
 use crate::service::store::{Limits, Store};
-use crate::service::telling::{To, is_step};
-use sms_centre_spec::jobs::Job;
-use sms_keeper::{Fate, Machine, Stimulus};
+use crate::service::telling::{To, is_item};
+use sms_centre_spec::jobs::{Job, Reply};
+use sms_keeper::{Fate, Machine, Step, Stimulus};
 use smsc_service::{Cutoff, Service, serve_with};
 use std::alloc::Global;
 use std::sync::Arc;
 use std::test::Fail;
 
+/// What the seat asks, what befalls it, and who is told what, in order.
+#[derive(Clone, Copy)]
+pub(crate) struct Asked(
+    pub(crate) usize,
+    pub(crate) Request,
+    pub(crate) Fate,
+    pub(crate) &'static [To],
+);
+
 /// A turn of a course.
 #[derive(Clone, Copy)]
 pub(crate) enum Turn {
-    /// What the seat asks, what befalls it, and who is told what, in order.
+    /// What the seat asks in a group of its own, what befalls it, and who is told what, in order.
     Job(usize, Request, Fate, &'static [To]),
+    /// What seats ask in one group.
+    Group(&'static [Asked]),
     /// The clock shows so many seconds after the start: what befalls that, and who is told what.
     Tick(u32, Fate, &'static [To]),
     /// The store takes so many commits more.
@@ -38,8 +49,40 @@ fn meets(
     fate: Fate,
     told: &[To],
 ) -> bool {
-    let step = service.step(&Open, &stimulus);
-    is_step(&step, fate, told)
+    let step = service.step(&stimulus);
+    let is_committed = step.fate != Fate::Refused && service.settle(&Open).is_ok();
+    is_item(&step, is_committed, fate, told)
+}
+
+// The steps of a group, in order.
+fn steps_of(
+    alloc: Global,
+    service: &mut Service<Store<'_>>,
+    group: &[Asked],
+) -> Result<Vec<Step<Reply>>, Fail> {
+    let mut steps = Vec::new(alloc);
+    for Asked(seat, asked, _, _) in group {
+        let stimulus = Stimulus::Job(*seat, job(alloc, asked)?);
+        steps.push(service.step(&stimulus))?;
+    }
+    Ok(steps)
+}
+
+// Whether each item of the group is as told, once it is committed or refused.
+fn meets_all(
+    alloc: Global,
+    service: &mut Service<Store<'_>>,
+    group: &[Asked],
+) -> Result<bool, Fail> {
+    let steps = steps_of(alloc, service, group)?;
+    let is_refused = steps.iter().any(|step| step.fate == Fate::Refused);
+    let is_committed = !is_refused && service.settle(&Open).is_ok();
+    for (step, Asked(_, _, fate, told)) in steps.iter().zip(group.iter()) {
+        if !is_item(step, is_committed, *fate, told) {
+            return Ok(false);
+        }
+    }
+    Ok(true)
 }
 
 fn take_turn(
@@ -54,6 +97,7 @@ fn take_turn(
             let job = job(alloc, asked)?;
             Ok(meets(service, Stimulus::Job(*seat, job), *fate, told))
         }
+        Turn::Group(group) => meets_all(alloc, service, group),
         Turn::Tick(seconds, fate, told) => Ok(meets(service, ticks(*seconds)?, *fate, told)),
         Turn::Commits(count) => {
             limits.commits.set(*count);

@@ -1,16 +1,12 @@
 //! A machine that counts what seats ask, answers each request, and sends a frame for each link that is up and for each
 //! frame.
-ghost use Rattle.std.specs.Prelude.{◌≡◌, ◌∷◌, [], IfOk};
-ghost use Rattle.sms_centre_spec.specs.declared.answer.CentreAnswer.TheVariants.{Refused};
-ghost use Rattle.sms_centre_spec.specs.declared.jobs.reply.Reply.TheVariants.{Answer, Frame, Receipt};
-
 use smpp_pdu::CommandStatus;
 use sms_base::Octets;
 use sms_centre_spec::CentreAnswer;
 use sms_centre_spec::jobs::{Job, Reply};
-use sms_keeper::{Broken, Fate, Gate, Machine, Out, Outs, Step, Stimulus};
+use sms_keeper::{Broken, Fate, Gate, Machine, Out, Outs, Step, Stimulus, Unsettled};
 use sms_receipt::Final;
-use std::alloc::{AllocError, Global};
+use std::alloc::Global;
 
 /// The frame that a link is sent: CP-DATA with an RP-DATA of `hello`. Its octets are not looked at.
 pub(crate) const FRAME: &[u8] =
@@ -59,92 +55,51 @@ impl Tally {
     }
 }
 
-fn answer(seat: usize, status: CommandStatus) -> Outs<Reply>
-    ensures { result ≡ record { seat = seat; out = Answer (Refused status) } ∷ [] }
-{
+fn answer(seat: usize, status: CommandStatus) -> Outs<Reply> {
     Outs::one(Out {
         seat,
         out: Reply::Answer(CentreAnswer::Refused(status)),
     })
 }
 
-fn answered(seat: usize, status: CommandStatus) -> Step<Reply>
-    ensures { result.to_seats ≡ result.to_history }
-{
+fn gives(outs: Outs<Reply>) -> Step<Reply> {
     Step {
         fate: Fate::Done,
-        to_seats: answer(seat, status),
-        to_history: answer(seat, status),
+        outs,
+        if_refused: Outs::none(),
     }
 }
 
-fn silent() -> Step<Reply>
-    ensures { result.to_seats ≡ result.to_history }
-{
-    Step {
-        fate: Fate::Done,
-        to_seats: Outs::none(),
-        to_history: Outs::none(),
+// A frame. Without memory none goes.
+fn framed(alloc: Global, seat: usize) -> Outs<Reply> {
+    match Octets::copy_of(alloc, FRAME) {
+        Ok(octets) => Outs::one(Out {
+            seat,
+            out: Reply::Frame(octets),
+        }),
+        Err(_) => Outs::none(),
     }
 }
 
-fn frame(seat: usize, octets: Octets) -> Outs<Reply>
-    ensures { result ≡ record { seat = seat; out = Frame octets } ∷ [] }
-{
-    Outs::one(Out {
-        seat,
-        out: Reply::Frame(octets),
-    })
-}
-
-fn framed(alloc: Global, seat: usize) -> Result<Step<Reply>, AllocError>
-    ensures { IfOk result (λ step. step.to_seats ≡ step.to_history) }
-{
-    let sent = Octets::copy_of(alloc, FRAME)?;
-    let told = Octets::copy_of(alloc, sent.as_slice())?;
-    Ok(Step {
-        fate: Fate::Done,
-        to_seats: frame(seat, sent),
-        to_history: frame(seat, told),
-    })
-}
-
-fn receipt(seat: usize, end: &Final) -> Outs<Reply>
-    ensures { result ≡ record { seat = seat; out = Receipt end.now } ∷ [] }
-{
-    Outs::one(Out {
-        seat,
-        out: Reply::Receipt(*end),
-    })
-}
-
-fn told(seat: usize, end: &Option<Final>) -> Step<Reply>
-    ensures { result.to_seats ≡ result.to_history }
-{
+fn told(seat: usize, end: &Option<Final>) -> Outs<Reply> {
     match end {
-        Some(end) => Step {
-            fate: Fate::Done,
-            to_seats: receipt(seat, end),
-            to_history: receipt(seat, end),
-        },
-        None => silent(),
+        Some(end) => Outs::one(Out {
+            seat,
+            out: Reply::Receipt(*end),
+        }),
+        None => Outs::none(),
     }
 }
 
-// What becomes of a job. Without memory no frame goes.
-fn done(alloc: Global, seat: usize, job: &Job, end: Option<Final>) -> Step<Reply>
-    ensures { result.to_seats ≡ result.to_history }
-{
+// What becomes of a job.
+fn done(alloc: Global, seat: usize, job: &Job, end: Option<Final>) -> Outs<Reply> {
     match job {
         Job::Bound { .. } => told(seat, &end),
         // The loop asks so behind the jobs of an endpoint.
-        Job::Query { .. } => answered(seat, CommandStatus::ESME_RINVMSGID),
-        Job::LinkUp { .. } | Job::Frame { .. } => match framed(alloc, seat) {
-            Ok(step) => step,
-            Err(_) => silent(),
-        },
-        job if job.is_request() => answered(seat, CommandStatus::ESME_RSYSERR),
-        _ => silent(),
+        Job::Query { .. } => answer(seat, CommandStatus::ESME_RINVMSGID),
+        Job::LinkUp { .. } | Job::Frame { .. } => framed(alloc, seat),
+        job if job.is_request() => answer(seat, CommandStatus::ESME_RSYSERR),
+        _ => Outs::none(),
     }
 }
 
@@ -171,7 +126,7 @@ impl Machine<Job, Reply> for Counter {
 
     type State = ();
 
-    ghost represents = { λ m s. ⊤ };
+    ghost stands = { λ m s r. ⊤ };
 
     ghost resumes = { λ m s. ⊤ };
 
@@ -185,15 +140,19 @@ impl Machine<Job, Reply> for Counter {
 
     ghost after = { λ s stimulus fate. s };
 
-    fn step<G: Gate>(&mut self, gate: &G, stimulus: &Stimulus<Job>) -> Step<Reply> {
-        gate.pass();
+    fn step(&mut self, stimulus: &Stimulus<Job>) -> Step<Reply> {
         match stimulus {
-            Stimulus::Tick(_) => silent(),
+            Stimulus::Tick(_) => gives(Outs::none()),
             Stimulus::Job(seat, job) => {
                 self.count(*seat, job);
-                done(self.alloc, *seat, job, self.receipt)
+                gives(done(self.alloc, *seat, job, self.receipt))
             }
         }
+    }
+
+    fn settle<G: Gate>(&mut self, gate: &G) -> Result<(), Unsettled> {
+        gate.pass();
+        Ok(())
     }
 
     fn reopen(&mut self) -> Result<(), Broken> {

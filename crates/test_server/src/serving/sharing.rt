@@ -219,13 +219,15 @@ fn request(alloc: Global) -> Job {
     }
 }
 
-// Nobody answers it: a second request of the seat is handed back, one of another seat is put, and so is a job that has no answer.
+// Nobody answers them: a fifth request of the seat is handed back, one of another seat is put, and so is a job that has no answer.
 fn waits_its_turn<R: Wait>(rt: &R, alloc: Global) -> Result<(), Fail> {
     let mut room = make_room(alloc)?;
-    let first = room.first.put(rt, request(alloc));
-    holds(first.is_ok(), "the first request is put")?;
-    let second = room.first.put(rt, request(alloc));
-    holds(second.is_err(), "the second one waits for its turn")?;
+    for _ in 0..4 {
+        let put = room.first.put(rt, request(alloc));
+        holds(put.is_ok(), "a request is put")?;
+    }
+    let fifth = room.first.put(rt, request(alloc));
+    holds(fifth.is_err(), "the fifth one waits for its turn")?;
     let other = room.second.put(rt, request(alloc));
     holds(other.is_ok(), "another seat has its own turn")?;
     let end = room.first.put(rt, Job::Unbound);
@@ -233,6 +235,6 @@ fn waits_its_turn<R: Wait>(rt: &R, alloc: Global) -> Result<(), Fail> {
 }
 
 #[test]
-fn a_seat_puts_one_request_at_a_time(rt: HostRuntime) -> Result<(), Fail> {
+fn a_seat_puts_four_requests_at_a_time(rt: HostRuntime) -> Result<(), Fail> {
     waits_its_turn(&rt, rt.alloc())
 }

@@ -10,7 +10,7 @@ use smpp_session::{Accounts, FullAccounts};
 use sms_base::lending::lend;
 use sms_centre_spec::jobs::{Job, Reply};
 use sms_hub::Hub;
-use sms_keeper::{End, Keeper};
+use sms_keeper::{End, Keeper, NoRecord};
 use smsc_endpoint::{Esme, LinkAccess, LinkEndpoint};
 use smsc_loop::{Activity, Endpoint, LeaveReason, Note, OpenSeat, Order, Surroundings, serve};
 use std::alloc::Global;
@@ -258,7 +258,7 @@ pub(crate) fn keeps<R: Wait>(
     counter: &mut Counter,
     clock: &Still,
 ) -> bool {
-    keeper.run(rt, alloc, counter, &Open, clock).end == End::AllClosed
+    keeper.run(rt, alloc, counter, &Open, clock, &mut NoRecord) == End::AllClosed
 }
 
 /// Runs both endpoints, and says whether the keeper has run all that they asked.

@@ -2,9 +2,9 @@
 use crate::rows::holds;
 use sms_base::{Moment, Octets};
 use smsc_status::{
-    AccountLine, CommitFigures, MessageCounts, MessageFigures, RefusedBinds, RefusedDeliveries,
-    RefusedSubmits, Resource, SessionKind, SessionLine, StatusView, StoreFigures, Wanted,
-    response_to,
+    AccountLine, CommitFigures, GroupFigures, MessageCounts, MessageFigures, RefusedBinds,
+    RefusedDeliveries, RefusedSubmits, Resource, SessionKind, SessionLine, StatusView,
+    StoreFigures, Wanted, response_to,
 };
 use std::alloc::Global;
 use std::test::Fail;
@@ -71,6 +71,18 @@ const DELIVERIES: &[RefusedDeliveries] = &[RefusedDeliveries {
     count: 6,
 }];
 
+// Groups of 1, 2, 3, 9 and 64 items.
+const GROUPS: GroupFigures = GroupFigures {
+    of_1: 1,
+    up_to_2: 2,
+    up_to_4: 3,
+    up_to_8: 3,
+    up_to_16: 4,
+    up_to_32: 4,
+    up_to_64: 5,
+    items: 79,
+};
+
 fn no_messages() -> (MessageFigures, MessageCounts) {
     let figures = MessageFigures {
         enroute: 1,
@@ -119,6 +131,7 @@ fn view_of<'a>(
             micros: 200,
             refused: 0,
         },
+        groups: GROUPS,
     }
 }
 
@@ -232,6 +245,20 @@ const RESPONSES: &[Row] = &[
         true,
         b"",
         "seconds",
+    ),
+    (
+        METRICS,
+        "smsc_group_items_bucket{le=\"8\"} 3\nsmsc_group_items_bucket{le=\"16\"} 4\nsmsc_group_items_bucket{le=\"32\"} 4\nsmsc_group_items_bucket{le=\"64\"} 5\nsmsc_group_items_bucket{le=\"+Inf\"} 5\nsmsc_group_items_sum 79\nsmsc_group_items_count 5\n",
+        true,
+        b"smsc_group_items_count 5\n",
+        "group sizes",
+    ),
+    (
+        PAGE,
+        "<b>3</b><span>of 8 at most</span>",
+        true,
+        b"",
+        "group sizes in the page",
     ),
     (
         METRICS,

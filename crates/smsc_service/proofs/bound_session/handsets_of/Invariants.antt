@@ -5,4 +5,4 @@ use Rattle.smsc_service.proofs.bound_session.handsets_of.Given as goal
 
 abbrev pub invariant-loop-link : goal.invariant-loop-link
 invariant-loop-link l =
-    (handsets_from l.handsets.items (drop l.link-index l.seat_map.links.rows) ≡ handsets_of l.seat_map.links.rows) × AreNumbers l.handsets.items × AreDifferent l.handsets.items
+    (handsets_from l.handsets.items (drop l.link-index l.seat_map.links) ≡ handsets_of l.seat_map.links) × AreNumbers l.handsets.items × AreDifferent l.handsets.items

@@ -10,7 +10,7 @@ use Rattle.smsc_service.proofs.restarting.restarted_from.Goals as goal
 pub returns-clause-outcome : goal.returns-clause-outcome
 returns-clause-outcome g c = λ rows honest holds.
     let found = c.in_ok-rows.ensures.outcome rows honest holds in
-    made_of (λ (x : CentreStateOf). Represents (restarted rows (seats_in c.args.seat_map.now)).core x) rows (g.K.RowStore.state c.gather.new.self) c.recovered_at.result
+    made_of (λ (x : CentreStateOf). Represents (restarted rows (seats_in c.args.seat_map.now)).core x) rows (g.K.RowStore.state c.gather.new.self.store) c.recovered_at.result
     (subst (λ (r : Rows). IfOk c.recovered_at.result (λ x. Represents (restarted r (seats_in c.args.seat_map.now)).core x)) found.0 c.recovered_at.ensures) found.1
 
 pub returns-in_err-rows-clause-outcome : goal.returns-in_err-rows-clause-outcome

@@ -22,7 +22,7 @@ close_all-requires-clause-closed g c = λ lifetimes bounds. closed_kept c.run_ke
 pub close_all-requires-clause-count : goal.close_all-requires-clause-count
 close_all-requires-clause-count g c = λ lifetimes bounds. (
   ap (λ (v : Vec (SeatThread g.row.S.Denot) Global). length v.items) c.end-threads.ensures ∙ c.requires.count,
-  keeper_count _ _ _ _ _ _ c.args.keeper c.run_keeper-ended.new.keeper c.know_others.new.self c.requires.new c.in-Ok.ensures.ran c.in-Ok.ensures.closed
+  keeper_count _ _ _ _ _ _ _ _ c.args.keeper c.run_keeper-ended.new.keeper c.know_others.new.self c.requires.new c.in-Ok.ensures.ran c.in-Ok.ensures.closed
       c.know_others.ensures.keeper,
 )
 
@@ -37,7 +37,7 @@ close_all-requires-clause-ways g c = λ lifetimes bounds.
 pub returns-in-Ok-clause-history : goal.returns-in-Ok-clause-history
 returns-in-Ok-clause-history g c = λ admitted doors have entered.
     let closed = c.close_all.ensures.did doors (c.join-entrance.ensures.0 doors entered) in
-    one_history _ _ _ _ _ _ c.args.keeper c.run_keeper-ended.new.keeper c.know_others.new.self c.requires.new c.in-Ok.ensures.ran c.in-Ok.ensures.closed
+    one_history _ _ _ _ _ _ _ _ c.args.keeper c.run_keeper-ended.new.keeper c.know_others.new.self c.requires.new c.in-Ok.ensures.ran c.in-Ok.ensures.closed
     c.know_others.ensures.keeper g.S.Read.remaining g.S.Write.contents admitted g.L.Door.came doors _ closed.0 closed.1
     (closed.2 admitted (subst (λ (v : Vec (SeatThread g.row.S.Denot) Global). HaveAdmitted admitted v.items) (sym c.end-threads.ensures) have))
     c.know_others.ensures.none

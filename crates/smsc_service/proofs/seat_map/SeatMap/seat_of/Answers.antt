@@ -11,7 +11,7 @@ returns-then-is_same c =
     let link = c.link-item.result in
     let rest : drop i items ≡ link ∷ drop (i + 1) items = drop-cons items i link c.loop-link-test.true ∙ ap (λ (x : LinkSeat). x ∷ drop (suc i) items) (sym c.link-item.is) ∙ ap (λ (n : ℕ). link ∷ drop n items) (sym (add-one i)) in
     let here = subst (λ (xs : List LinkSeat). drop i xs ≡ link ∷ drop (i + 1) xs) c.as_slice-link-items.ensures.rows rest in
-    sym (cond-true (bytes_eq link.handset c.args.handset) (Some link.seat) (seat_of c.args.handset (drop (i + 1) c.args.self.now.links.rows)) (sym c.is_same.ensures ∙ c.if-is_same.true))
+    sym (cond-true (bytes_eq link.handset c.args.handset) (Some link.seat) (seat_of c.args.handset (drop (i + 1) c.args.self.now.links)) (sym c.is_same.ensures ∙ c.if-is_same.true))
     ∙ ap (λ (xs : List LinkSeat). seat_of c.args.handset xs) (sym here) ∙ c.loop-link.invariant
 
 pub loop-link-preserved : goal.loop-link-preserved
@@ -21,5 +21,5 @@ loop-link-preserved c =
     let link = c.link-item.result in
     let rest : drop i items ≡ link ∷ drop (i + 1) items = drop-cons items i link c.loop-link-test.true ∙ ap (λ (x : LinkSeat). x ∷ drop (suc i) items) (sym c.link-item.is) ∙ ap (λ (n : ℕ). link ∷ drop n items) (sym (add-one i)) in
     let here = subst (λ (xs : List LinkSeat). drop i xs ≡ link ∷ drop (i + 1) xs) c.as_slice-link-items.ensures.rows rest in
-    sym (cond-false (bytes_eq link.handset c.args.handset) (Some link.seat) (seat_of c.args.handset (drop (i + 1) c.args.self.now.links.rows)) (sym c.is_same.ensures ∙ c.if-is_same.false))
+    sym (cond-false (bytes_eq link.handset c.args.handset) (Some link.seat) (seat_of c.args.handset (drop (i + 1) c.args.self.now.links)) (sym c.is_same.ensures ∙ c.if-is_same.false))
     ∙ ap (λ (xs : List LinkSeat). seat_of c.args.handset xs) (sym here) ∙ c.loop-link.invariant

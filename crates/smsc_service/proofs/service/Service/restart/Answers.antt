@@ -1,11 +1,21 @@
-use Rattle.std.proofs.Common.{subst, sym}
-use Rattle.sms_centre.specs.state.CentreState.{CentreStateOf}
-use Rattle.smsc_service.specs.Serving.{IsServing}
-use Rattle.smsc_service.proofs.ByFate.{waits_no_more}
+use Rattle.std.proofs.Common.{refl, subst, sym}
+use Rattle.sms_centre.specs.state.CentreState.{Represents, CentreStateOf}
+use Rattle.smsc_service.specs.Seats.{seats_in}
+use Rattle.smsc_service.specs.Serving.{restarted}
+use Rattle.smsc_service.proofs.Standing.{stands_again}
 use Rattle.smsc_service.proofs.service.Service.restart.Goals as goal
 
 pub returns-clause-served : goal.returns-clause-served
-returns-clause-served g c = λ s honest waiting.
-    subst (λ (x : CentreStateOf). IsServing (g.K.RowStore.state c.restarted_from.new.keep).holds x c.args.self.now.seat_map s) (sym c.put.ensures)
-    (waits_no_more (g.K.RowStore.state c.args.self.now.machine.keep).holds (g.K.RowStore.state c.restarted_from.new.keep).holds (g.K.RowStore.state c.args.self.now.machine.keep).is_closed c.in_ok-centre.centre c.args.self.now.seat_map s waiting
-    (λ rows. let o = c.in_ok-centre.ensures.outcome s.core.rows honest rows in (o.1, o.0)) (λ closed. c.in_ok-centre.ensures.closed honest closed))
+returns-clause-served g c = λ r honest waiting.
+    let before = c.args.self.now in
+    let started = c.in_ok-centre.ensures in
+    let now = record before {
+      seated = record before.seated {
+        machine = record before.seated.machine { keep = c.restarted_from.new.keep; centre = c.put.new.place };
+        seat_map = c.copy_from.new.self;
+      };
+    } in
+    stands_again g.K.RowStore.state before now r waiting started.held
+    (λ holds. let there = started.outcome r.core.rows honest holds in
+    (there.1, subst (λ (x : CentreStateOf). Represents (restarted r.core.rows (seats_in before.resumed)).core x) (sym c.put.ensures) there.0))
+    (λ closed. started.closed honest closed) c.copy_from.ensures refl

@@ -1,7 +1,27 @@
-use Rattle.smsc_service.proofs.ByFate.{starts_as}
+use Rattle.std.proofs.Common.{◌∙◌, ap, subst, sym}
+use Rattle.sms_centre.specs.state.CentreState.{Represents, CentreStateOf}
+use Rattle.sms_centre_group.specs.Grouping.{held_in, store_of}
+use Rattle.sms_centre_group.specs.declared.group_keep.GroupKeep.{GroupKeep}
+use Rattle.smsc_service.specs.declared.seat_map.SeatMap.{SeatMap}
+use Rattle.smsc_service.specs.Seats.{Seats, nobody, seats_in}
+use Rattle.smsc_service.specs.Serving.{restarted}
+use Rattle.smsc_service.proofs.Standing.{stands_on}
 use Rattle.smsc_service.proofs.service.Service.start.Goals as goal
 
 pub returns-clause-served : goal.returns-clause-served
 returns-clause-served g c = λ rows honest holds.
-    starts_as (λ keep. (g.K.RowStore.state keep).is_honest) (λ keep r. (g.K.RowStore.state keep).holds r) c.restarted_from.new.keep c.of.result.machine.keep c.in_ok-centre.centre c.of.result.machine.centre c.of.result.seat_map c.new-seat_map.result rows
-    c.of.ensures.keep c.of.ensures.centre c.of.ensures.seat_map c.new-seat_map.ensures honest (λ kept. let o = c.in_ok-centre.ensures.outcome rows kept holds in (o.1, o.0))
+    let state = g.K.RowStore.state in
+    let started = c.in_ok-centre.ensures in
+    let there = started.outcome rows (subst (λ (k : GroupKeep g.row.K.Denot). (state (store_of k)).is_honest) c.of.ensures.keep honest)
+    (subst (λ (k : g.row.K.Denot). (state k).holds rows) (sym c.over-group.ensures.store) holds) in
+    stands_on state c.of.result (restarted rows nobody)
+    (ap (λ (k : GroupKeep g.row.K.Denot). held_in k) c.of.ensures.keep ∙ started.held)
+    (subst (λ (k : GroupKeep g.row.K.Denot). (state (store_of k)).holds rows) (sym c.of.ensures.keep) there.1)
+    (subst (λ (x : CentreStateOf). Represents (restarted rows nobody).core x) (sym c.of.ensures.centre)
+    (subst (λ (q : Seats). Represents (restarted rows q).core c.in_ok-centre.centre) c.in-Ok.ensures.first there.0))
+    (ap (λ (m : SeatMap). seats_in m) c.of.ensures.seat_map ∙ c.in-Ok.ensures.first)
+    (ap (λ (m : SeatMap). seats_in m) c.of.ensures.resumed ∙ c.in-Ok.ensures.second)
+
+pub returns-clause-before : goal.returns-clause-before
+returns-clause-before g c = λ honest. subst (λ (k : g.row.K.Denot). (g.K.RowStore.state k).is_honest) c.over-group.ensures.store
+    (c.in_ok-centre.ensures.before (subst (λ (k : GroupKeep g.row.K.Denot). (g.K.RowStore.state (store_of k)).is_honest) c.of.ensures.keep honest))

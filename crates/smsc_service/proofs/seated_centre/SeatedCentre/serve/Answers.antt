@@ -1,0 +1,61 @@
+use Rattle.std.proofs.Common.{◌≡◌, refl, subst, sym}
+use Rattle.sms_keeper.specs.declared.machine.Fate.TheVariants.{Done}
+use Rattle.smsc_service.specs.declared.asking.SeatRequest.{SeatRequest}
+use Rattle.smsc_service.specs.declared.asking.SeatRequest.TheVariants.{Nothing, Taken}
+use Rattle.smsc_service.specs.Asking.{UnlessEvent}
+use Rattle.smsc_service.specs.InSeated.{IsLeft, Reaches, held_by}
+use Rattle.smsc_service.specs.Serving.{Serves}
+use Rattle.smsc_service.proofs.ByFate.{was_done, with_fate}
+use Rattle.smsc_service.proofs.seated_centre.SeatedCentre.serve.Goals as goal
+
+pub returns-in-Event-clause-gives : goal.returns-in-Event-clause-gives
+returns-in-Event-clause-gives g c = λ s base honest sound made.
+    let seated = c.begin.new.self in
+    subst (λ (a : SeatRequest). Serves (Reaches g.K.RowStore.state base seated) (IsLeft g.K.RowStore.state base seated) seated.machine.centre seated.seat_map a s c.args.stimulus.now c.begin.result.fate c.begin.result.outs)
+    (sym c.in-Event.is) (c.begin.ensures.gives s base honest sound made)
+
+pub returns-in-Nothing-clause-gives : goal.returns-in-Nothing-clause-gives
+returns-in-Nothing-clause-gives g c = λ s base honest sound made.
+    let seated = c.args.self.now in
+    subst (λ (a : SeatRequest). Serves (Reaches g.K.RowStore.state base seated) (IsLeft g.K.RowStore.state base seated) seated.machine.centre seated.seat_map a s c.args.stimulus.now c.unmade.result.fate c.unmade.result.outs)
+    (sym c.in-Nothing.is)
+    (with_fate (Reaches g.K.RowStore.state base seated) (IsLeft g.K.RowStore.state base seated) seated.machine.centre seated.seat_map s c.args.stimulus.now Nothing c.unmade.result.fate Done c.unmade.result.outs
+    c.unmade.ensures.fate (c.unmade.ensures.outs, made))
+
+pub returns-in-Taken-clause-gives : goal.returns-in-Taken-clause-gives
+returns-in-Taken-clause-gives g c = λ s base honest sound made.
+    let seated = c.args.self.now in
+    subst (λ (a : SeatRequest). Serves (Reaches g.K.RowStore.state base seated) (IsLeft g.K.RowStore.state base seated) seated.machine.centre seated.seat_map a s c.args.stimulus.now c.turned_away.result.fate c.turned_away.result.outs)
+    (sym c.in-Taken.is)
+    (with_fate (Reaches g.K.RowStore.state base seated) (IsLeft g.K.RowStore.state base seated) seated.machine.centre seated.seat_map s c.args.stimulus.now Taken c.turned_away.result.fate Done c.turned_away.result.outs
+    c.turned_away.ensures.fate (c.turned_away.ensures.outs, made))
+
+pub returns-in-Event-clause-refused : goal.returns-in-Event-clause-refused
+returns-in-Event-clause-refused g c = λ s base honest sound made e. c.begin.ensures.refused s base honest sound made e
+
+pub returns-in-Nothing-clause-refused : goal.returns-in-Nothing-clause-refused
+returns-in-Nothing-clause-refused g c = λ s base honest sound made e. was_done _ _ c.unmade.ensures.fate e
+
+pub returns-in-Taken-clause-refused : goal.returns-in-Taken-clause-refused
+returns-in-Taken-clause-refused g c = λ s base honest sound made e. was_done _ _ c.turned_away.ensures.fate e
+
+pub returns-in-Event-clause-late : goal.returns-in-Event-clause-late
+returns-in-Event-clause-late g c = λ e. (c.begin.ensures.late e).1
+
+pub returns-in-Nothing-clause-late : goal.returns-in-Nothing-clause-late
+returns-in-Nothing-clause-late g c = λ e. refl
+
+pub returns-in-Taken-clause-late : goal.returns-in-Taken-clause-late
+returns-in-Taken-clause-late g c = λ e. refl
+
+pub returns-in-Event-clause-quiet : goal.returns-in-Event-clause-quiet
+returns-in-Event-clause-quiet g c =
+    subst (λ (a : SeatRequest). UnlessEvent a ((held_by c.begin.new.self ≡ held_by c.args.self.now) × (c.begin.result.fate ≡ Done))) (sym c.in-Event.is) tt
+
+pub returns-in-Nothing-clause-quiet : goal.returns-in-Nothing-clause-quiet
+returns-in-Nothing-clause-quiet g c =
+    subst (λ (a : SeatRequest). UnlessEvent a ((held_by c.args.self.now ≡ held_by c.args.self.now) × (c.unmade.result.fate ≡ Done))) (sym c.in-Nothing.is) (refl, c.unmade.ensures.fate)
+
+pub returns-in-Taken-clause-quiet : goal.returns-in-Taken-clause-quiet
+returns-in-Taken-clause-quiet g c =
+    subst (λ (a : SeatRequest). UnlessEvent a ((held_by c.args.self.now ≡ held_by c.args.self.now) × (c.turned_away.result.fate ≡ Done))) (sym c.in-Taken.is) (refl, c.turned_away.ensures.fate)
