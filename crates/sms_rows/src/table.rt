@@ -5,15 +5,15 @@
 //! digits and a small number; contracts see it as one number. `TableDraft` is a table within an event: the rows from
 //! before it, and what it changed. It settles into changes with the memory that they need. `adopt` puts them in without
 //! taking more: so a plan is made, is committed, and then can't fail.
-ghost use Rattle.std.specs.Prelude.{◌≡◌, ◌↔◌, ℕ, ◌+◌, ◌*◌, ◌<◌, ◌≤◌, true, [], nat_lt, length, drop, max, vec_capacity, MatchResult, OnOk, OnErr, IsOk, IfOk, IfErr, option_copied};
-ghost use Rattle.sms_rows.specs.table.Table.{HasRoom, IsAt, IsGap, Rises, all_applied, applied, put, row_at, rows_between, rows_from, reserve_for, without};
+ghost use Rattle.std.specs.Prelude.{◌≡◌, ◌↔◌, ℕ, ◌+◌, ◌*◌, ◌<◌, ◌≤◌, not, true, [], nat_lt, length, map, drop, max, vec_capacity, MatchResult, OnOk, OnErr, IsOk, IfOk, IfErr, option_copied};
+ghost use Rattle.sms_rows.specs.table.Table.{HasRoom, IsAt, IsGap, Rises, all_applied, applied, is_there, put, row_at, rows_between, rows_from, reserve_for, without, without_all};
 
 mod change;
 mod draft;
 mod key;
 pub mod laws;
 
-pub use change::Change;
+pub use change::{Change, are_removals};
 pub use draft::{TableDraft, TablePlan, adopt};
 pub use key::Key;
 use std::alloc::{AllocError, Global};
@@ -201,8 +201,32 @@ impl<T: Drop + Row> Table<T> {
         }
     }
 
-    /// Carries out the changes in their order without taking memory.
+    /// Removes the rows that have the key of one of these, whose keys rise. It passes all rows once, and takes no memory.
+    pub fn remove_all<C: Row>(&mut self, others: &[C])
+        requires { Rises C.key others.now }
+        ensures { self.new ≡ record self.old { rows = without_all T.key (map C.key others.now) self.old.rows } }
+    {
+        self.items.retain(
+            |row: &T| -> bool
+                ensures { Rises C.key others.entry.now → result ≡ not (is_there C.key (T.key row.now) others.entry.now) }
+            { !has_key(others, row.key()) },
+        );
+    }
+
+    /// Carries out the changes in their order without taking memory. Removals alone, of keys that rise, cost one pass.
     pub fn apply_all(&mut self, changes: Vec<Change<T>>)
+        requires { HasRoom (length changes.items) self.old }
+        ensures { self.new ≡ record self.old { rows = all_applied T.key changes.items self.old.rows } }
+    {
+        if are_removals(changes.as_slice()) && rises(changes.as_slice()) {
+            self.remove_all(changes.as_slice());
+            drop(changes);
+            return;
+        }
+        self.apply_each(changes);
+    }
+
+    fn apply_each(&mut self, changes: Vec<Change<T>>)
         requires { HasRoom (length changes.items) self.old }
         ensures { self.new ≡ record self.old { rows = all_applied T.key changes.items self.old.rows } }
     {
@@ -272,4 +296,19 @@ pub fn rises<T: Row>(rows: &[T]) -> bool
         }
     }
     true
+}
+
+// Whether one of these rows, whose keys rise, has that key.
+fn has_key<C: Row>(rows: &[C], key: Key) -> bool
+    ensures { Rises C.key rows.now → result ≡ is_there C.key key rows.now }
+{
+    let place = rows.partition_point(
+        |row: &C| -> bool
+            ensures { result ≡ nat_lt (C.key row.now) key }
+        { row.key().number() < key.number() },
+    );
+    if place == rows.len() {
+        return false;
+    }
+    rows[place].key().number() <= key.number()
 }

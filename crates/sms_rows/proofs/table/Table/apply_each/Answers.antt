@@ -2,7 +2,7 @@ use Rattle.std.proofs.Common.{arith, ◌≡◌, ◌∷◌, sym, ◌∙◌, ap, l
 use Rattle.std.specs.Vec.Iter.{into_iter_items}
 use Rattle.sms_rows.specs.table.Table.{all_applied}
 use Rattle.sms_rows.proofs.table.Tables.{length_applied}
-use Rattle.sms_rows.proofs.table.Table.apply_all.Goals as goal
+use Rattle.sms_rows.proofs.table.Table.apply_each.Goals as goal
 
 pub loop-change-preserved : goal.loop-change-preserved
 loop-change-preserved g c =
