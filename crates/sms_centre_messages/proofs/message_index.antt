@@ -1,5 +1,6 @@
 pub mod Entries
 pub mod Forgetting
+pub mod Numbers
 pub mod IndexRepresents
 pub mod PastOnes
 pub mod Places

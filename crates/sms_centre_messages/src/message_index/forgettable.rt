@@ -6,6 +6,7 @@ ghost use Rattle.sms_centre_rows.specs.messages.Messages.{message_key};
 ghost use Rattle.sms_centre_rows.specs.messages.PartEntries.{Few, entry_key};
 ghost use Rattle.sms_centre_rows.specs.declared.messages.message.MessageRow.{MessageRow as MessageRowOf};
 ghost use Rattle.sms_centre_rows.specs.declared.messages.part.PartRow.{PartRow as PartRowOf};
+ghost use Rattle.sms_centre_spec.specs.forgetting.Forget.{first_number};
 ghost use Rattle.sms_centre_spec.specs.forgetting.Forgetting.{has_own_wide, leaves_number};
 ghost use Rattle.sms_centre_messages.specs.message_index.Entries.{message_entry_key};
 ghost use Rattle.sms_centre_messages.specs.message_index.Forgettable.{is_own_wide, own_wide_to};
@@ -38,6 +39,16 @@ impl MessageIndex {
         match self.messages.as_slice().get(place) {
             Some(entry) => self.names.row(alloc, entry),
             None => Ok(None),
+        }
+    }
+
+    /// The number of the message at that place, or 0 where there is none.
+    pub fn number_at(&self, place: usize) -> u64
+        ensures { (ms : List MessageRowOf) (ps : List PartRowOf) → Represents self.now ms ps → result ≡ first_number (drop place ms) }
+    {
+        match self.messages.as_slice().get(place) {
+            Some(entry) => entry.id.number(),
+            None => 0,
         }
     }
 
