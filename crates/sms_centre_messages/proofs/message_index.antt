@@ -2,6 +2,7 @@ pub mod Entries
 pub mod Forgetting
 pub mod Numbers
 pub mod IndexRepresents
+pub mod Passing
 pub mod PastOnes
 pub mod Places
 pub mod PutPlaces

@@ -1,2 +1,3 @@
 pub mod Finding
+mod Passing
 pub mod Registering

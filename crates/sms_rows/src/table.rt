@@ -6,7 +6,7 @@
 //! before it, and what it changed. It settles into changes with the memory that they need. `adopt` puts them in without
 //! taking more: so a plan is made, is committed, and then can't fail.
 ghost use Rattle.std.specs.Prelude.{◌≡◌, ◌↔◌, ℕ, ◌+◌, ◌*◌, ◌<◌, ◌≤◌, not, true, [], nat_lt, length, map, drop, max, vec_capacity, MatchResult, OnOk, OnErr, IsOk, IfOk, IfErr, option_copied};
-ghost use Rattle.sms_rows.specs.table.Table.{HasRoom, IsAt, IsGap, Rises, all_applied, applied, is_there, put, row_at, rows_between, rows_from, reserve_for, without, without_all};
+ghost use Rattle.sms_rows.specs.table.Table.{HasRoom, IsAt, IsGap, IsRange, Rises, all_applied, applied, is_there, put, row_at, rows_between, rows_from, reserve_for, without, without_all};
 
 mod change;
 mod draft;
@@ -201,24 +201,24 @@ impl<T: Drop + Row> Table<T> {
         }
     }
 
-    /// Removes the rows that have the key of one of these, whose keys rise. It passes all rows once, and takes no memory.
+    /// Removes the rows that have the key of one of these. It passes all rows once, and takes no memory.
     pub fn remove_all<C: Row>(&mut self, others: &[C])
-        requires { Rises C.key others.now }
         ensures { self.new ≡ record self.old { rows = without_all T.key (map C.key others.now) self.old.rows } }
     {
+        let range = range_of(others);
         self.items.retain(
             |row: &T| -> bool
-                ensures { Rises C.key others.entry.now → result ≡ not (is_there C.key (T.key row.now) others.entry.now) }
-            { !has_key(others, row.key()) },
+                ensures { IsRange C.key range.low range.high others.entry.now → result ≡ not (is_there C.key (T.key row.now) others.entry.now) }
+            { !is_in(others, range, row.key()) },
         );
     }
 
-    /// Carries out the changes in their order without taking memory. Removals alone, of keys that rise, cost one pass.
+    /// Carries out the changes in their order without taking memory. Removals alone cost one pass.
     pub fn apply_all(&mut self, changes: Vec<Change<T>>)
         requires { HasRoom (length changes.items) self.old }
         ensures { self.new ≡ record self.old { rows = all_applied T.key changes.items self.old.rows } }
     {
-        if are_removals(changes.as_slice()) && rises(changes.as_slice()) {
+        if are_removals(changes.as_slice()) {
             self.remove_all(changes.as_slice());
             drop(changes);
             return;
@@ -298,17 +298,47 @@ pub fn rises<T: Row>(rows: &[T]) -> bool
     true
 }
 
-// Whether one of these rows, whose keys rise, has that key.
-fn has_key<C: Row>(rows: &[C], key: Key) -> bool
-    ensures { Rises C.key rows.now → result ≡ is_there C.key key rows.now }
+// The numbers of keys from one to another.
+#[derive(Clone, Copy, Debug, Drop)]
+struct KeyRange {
+    low: u128,
+    high: u128,
+}
+
+// From the lowest key of these rows to the highest.
+fn range_of<C: Row>(rows: &[C]) -> KeyRange
+    ensures { IsRange C.key result.low result.high rows.now }
 {
-    let place = rows.partition_point(
-        |row: &C| -> bool
-            ensures { result ≡ nat_lt (C.key row.now) key }
-        { row.key().number() < key.number() },
-    );
-    if place == rows.len() {
+    let mut low = u128::MAX;
+    let mut high = 0;
+    for row in rows {
+        let number = row.key().number();
+        low = low.min(number);
+        high = high.max(number);
+    }
+    KeyRange { low, high }
+}
+
+// Whether one of these rows, of keys in that range, has that key.
+fn is_in<C: Row>(rows: &[C], range: KeyRange, key: Key) -> bool
+    ensures { IsRange C.key range.low range.high rows.now → result ≡ is_there C.key key rows.now }
+{
+    if key.number() < range.low {
         return false;
     }
-    rows[place].key().number() <= key.number()
+    if range.high < key.number() {
+        return false;
+    }
+    has_key(rows, key)
+}
+
+fn has_key<C: Row>(rows: &[C], key: Key) -> bool
+    ensures { result ≡ is_there C.key key rows.now }
+{
+    for row in rows {
+        if row.key().number() == key.number() {
+            return true;
+        }
+    }
+    false
 }

@@ -1,5 +1,5 @@
 -- Tables: rows by their keys, in the order of their keys, at most one row a key; and changes of a table.
-use Rattle.std.specs.Prelude.{◌≡◌, ℕ, zero, suc, ◌+◌, ◌*◌, ◌<◌, ◌≤◌, ◌==◌, nat_lt, nat_le, length, is_some, Bool, if◌then◌else◌, Option, Some, None, List, [], ◌∷◌}
+use Rattle.std.specs.Prelude.{◌≡◌, ℕ, zero, suc, ◌+◌, ◌*◌, ◌<◌, ◌≤◌, ◌==◌, nat_lt, nat_le, length, is_some, ◌||◌, Bool, true, false, if◌then◌else◌, Option, Some, None, List, [], ◌∷◌}
 use Rattle.std.specs.List.{AllByRecursion}
 use Rattle.sms_rows.specs.declared.table.change.Change.{Change}
 use Rattle.sms_rows.specs.declared.table.change.Change.TheVariants.{Put, Remove}
@@ -12,6 +12,10 @@ row_at key n (row ∷ rows) = if key row == n then Some row else row_at key n ro
 -- there is a row of that key
 abbrev pub is_there : {A : Type 0} → (A → ℕ) → ℕ → List A → Bool
 is_there key n rows = is_some (row_at key n rows)
+
+-- all their keys are from the one to the other
+abbrev pub IsRange : {A : Type 0} → (A → ℕ) → ℕ → ℕ → List A → Type 0
+IsRange key low high rows = (n : ℕ) → (nat_lt n low || nat_lt high n) ≡ true → is_there key n rows ≡ false
 
 -- the rows from the first one that is not below the key
 abbrev pub rows_from : {A : Type 0} → (A → ℕ) → ℕ → List A → List A

@@ -6,7 +6,7 @@ use Rattle.sms_centre_rows.specs.declared.waiting.revision.Revision.{Revision}
 use Rattle.sms_centre_rows.specs.waiting.Revisions.{all_revised, revised}
 use Rattle.sms_centre_rows.proofs.waiting.Revising.{revised_push}
 use Rattle.sms_centre_reports.specs.report_log.ReportLog.{Represents}
-use Rattle.sms_centre_reports.proofs.report_log.log.ReportLog.apply_all.Goals as goal
+use Rattle.sms_centre_reports.proofs.report_log.log.ReportLog.apply_each.Goals as goal
 
 pub loop-change-preserved : goal.loop-change-preserved
 loop-change-preserved c =
