@@ -1,3 +1,3 @@
 pub mod Finding
-mod Passing
+pub mod Passing
 pub mod Registering
