@@ -1,9 +1,9 @@
 //! Archives of what a centre forgets.
-ghost use Rattle.std.specs.Prelude.{◌≡◌, ◌→◌, Some, OnOk};
+ghost use Rattle.std.specs.Prelude.{◌≡◌, Some, OnOk};
 ghost use Rattle.sms_centre_rows.specs.declared.messages.message.MessageRow.{MessageRow as MessageRowOf};
 ghost use Rattle.sms_centre_rows.specs.messages.Messages.{message_at};
 ghost use Rattle.sms_centre_spec.specs.Draft.{Core};
-ghost use Rattle.sms_centre.specs.Archiving.{AreArchived};
+ghost use Rattle.sms_centre.specs.Archiving.{AreArchived, Stays};
 ghost use Rattle.sms_centre.specs.state.CentreState.{Represents as StateRepresents};
 
 use crate::forget_error::ForgetError;
@@ -27,11 +27,13 @@ pub trait Archive {
     /// Takes a message.
     fn take(&mut self, message: &Message) -> Result<(), NotArchived>
         ensures took { OnOk result (took self.new message.now) }
-        ensures others { (m : MessageRowOf) → took self.old m → took self.new m };
+        ensures others { Stays (took self.old) (took self.new) }
+        ensures kept { Stays (keeps self.old) (keeps self.new) };
 
     /// Writes what it has taken to where it outlasts a stop.
     fn sync(&mut self) -> Result<(), NotArchived>
-        ensures { OnOk result ((m : MessageRowOf) → took self.old m → keeps self.new m) };
+        ensures synced { OnOk result (Stays (took self.old) (keeps self.new)) }
+        ensures kept { Stays (keeps self.old) (keeps self.new) };
 }
 
 /// No archive: what is forgotten is gone.
@@ -56,7 +58,8 @@ impl Archive for NoArchive {
 
 fn take_found<A: Archive>(archive: &mut A, message: Message) -> Result<(), ForgetError>
     ensures took { OnOk result (A.took archive.new message) }
-    ensures others { (m : MessageRowOf) → A.took archive.old m → A.took archive.new m }
+    ensures others { Stays (A.took archive.old) (A.took archive.new) }
+    ensures kept { Stays (A.keeps archive.old) (A.keeps archive.new) }
 {
     let taken = archive.take(&message);
     drop(message);
@@ -75,7 +78,8 @@ fn take<A: Archive>(
 ) -> Result<(), ForgetError>
     ensures took { (c : Core) (m : MessageRowOf) → StateRepresents c state.now → message_at id c.rows.messages ≡ Some m
         → OnOk result (A.took archive.new m) }
-    ensures others { (m : MessageRowOf) → A.took archive.old m → A.took archive.new m }
+    ensures others { Stays (A.took archive.old) (A.took archive.new) }
+    ensures kept { Stays (A.keeps archive.old) (A.keeps archive.new) }
 {
     let found = state.messages.find(alloc, id)?;
     match found {
@@ -90,7 +94,8 @@ fn take_each<A: Archive>(
     archive: &mut A,
     ids: &[MessageId],
 ) -> Result<(), ForgetError>
-    ensures { (c : Core) → StateRepresents c state.now → OnOk result (AreArchived (A.took archive.new) ids.now c.rows.messages) }
+    ensures took { (c : Core) → StateRepresents c state.now → OnOk result (AreArchived (A.took archive.new) ids.now c.rows.messages) }
+    ensures kept { Stays (A.keeps archive.old) (A.keeps archive.new) }
 {
     for id in ids {
         take(alloc, state, archive, *id)?;
@@ -105,7 +110,8 @@ pub(crate) fn archive_all<A: Archive>(
     archive: &mut A,
     ids: &[MessageId],
 ) -> Result<(), ForgetError>
-    ensures { (c : Core) → StateRepresents c state.now → OnOk result (AreArchived (A.keeps archive.new) ids.now c.rows.messages) }
+    ensures archived { (c : Core) → StateRepresents c state.now → OnOk result (AreArchived (A.keeps archive.new) ids.now c.rows.messages) }
+    ensures kept { Stays (A.keeps archive.old) (A.keeps archive.new) }
 {
     if ids.is_empty() {
         return Ok(());

@@ -9,7 +9,7 @@ ghost use Rattle.sms_centre_spec.specs.forgetting.Forget.{forget, going_now, nex
 ghost use Rattle.sms_centre_spec.specs.Requests.{cancel_refusal, octets_refusal, query_refusal};
 ghost use Rattle.sms_centre_spec.specs.SoundCore.{AreDifferent, HasNumber, IsEvent};
 ghost use Rattle.sms_centre_spec.specs.SoundRows.{IsSetup};
-ghost use Rattle.sms_centre.specs.Archiving.{AreArchived};
+ghost use Rattle.sms_centre.specs.Archiving.{AreArchived, Stays};
 ghost use Rattle.sms_centre.specs.Planning.{DefinedOutcome, Fits};
 ghost use Rattle.sms_centre.specs.Stored.{StoresRows};
 ghost use Rattle.sms_centre_rows.specs.messages.Messages.{message_at};
@@ -218,6 +218,7 @@ impl Centre {
         ensures outcome { (c : Core) → Represents c self.now → IfOk result (λ p. IsOutcome (forget before from most c) p.plan) }
         ensures archived { (c : Core) → Represents c self.now
             → OnOk result (AreArchived (A.keeps archive.new) (going_now before from most c) c.rows.messages) }
+        ensures kept { Stays (A.keeps archive.old) (A.keeps archive.new) }
         ensures fits { IfOk result (Fits self.now) }
     {
         plan_forget(self.alloc, &self.centre_state, archive, before, from, most)
@@ -241,6 +242,7 @@ impl Centre {
         // No message goes that the archive does not keep.
         ensures archived { (c : Core) → Represents c self.old
             → OnOk result (AreArchived (A.keeps archive.new) (going_now before from most c) c.rows.messages) }
+        ensures kept { Stays (A.keeps archive.old) (A.keeps archive.new) }
         ensures same { OnErr result (self.new ≡ self.old) }
         ensures before { WasHonest (K.state keep.old) (K.state keep.new) }
     {

@@ -5,6 +5,8 @@ use std::alloc::AllocError;
 /// Why a centre forgot nothing.
 #[derive(Clone, Copy, Debug, PartialEq, Eq, Drop)]
 pub enum ForgetError {
+    /// The rows of the store are not sound.
+    BadRows,
     /// A growth was refused.
     NoMemory,
     /// The archive refused a message.

@@ -13,7 +13,7 @@ ghost use Rattle.sms_centre_spec.specs.forgetting.Forget.{forget as forget_of, g
 ghost use Rattle.sms_centre_spec.specs.forgetting.Forgetting.{bars_reference as bars_reference_of, is_before, is_reported as is_reported_of, may_go as may_go_of};
 ghost use Rattle.sms_centre_draft.specs.CentreDraft.{Represents as DraftRepresents};
 ghost use Rattle.sms_centre_draft.specs.Forgetting.{ArePlaced};
-ghost use Rattle.sms_centre.specs.Archiving.{AreArchived};
+ghost use Rattle.sms_centre.specs.Archiving.{AreArchived, Stays};
 ghost use Rattle.sms_centre.specs.Forgetting.{gone_at};
 ghost use Rattle.sms_centre.specs.Planning.{Fits};
 ghost use Rattle.sms_centre.specs.plans.EventOutcome.{IsOutcome};
@@ -322,6 +322,7 @@ fn forget<A: Archive>(
         → OnOk result (DraftRepresents (forget_of before from most c) draft.new) }
     ensures archived { (c : Core) → DraftRepresents (draft_of c) draft.old → StateRepresents c state.now
         → OnOk result (AreArchived (A.keeps archive.new) (going_now before from most c) c.rows.messages) }
+    ensures kept { Stays (A.keeps archive.old) (A.keeps archive.new) }
 {
     let ids = going(alloc, draft, state, before, from, most)?;
     let done = forget_archived(alloc, state, draft, archive, ids.as_slice());
@@ -340,6 +341,7 @@ fn forget_archived<A: Archive>(
     ensures plan { (before from most : ℕ) (c : Core) → DraftRepresents (draft_of c) draft.old → StateRepresents c state.now
         → ids.now ≡ going_now before from most c → OnOk result (DraftRepresents (forget_of before from most c) draft.new) }
     ensures archived { (c : Core) → StateRepresents c state.now → OnOk result (AreArchived (A.keeps archive.new) ids.now c.rows.messages) }
+    ensures kept { Stays (A.keeps archive.old) (A.keeps archive.new) }
 {
     archive_all(alloc, state, archive, ids)?;
     forget_all(alloc, state, draft, ids)?;
@@ -374,6 +376,7 @@ fn plan_begun<A: Archive>(
         → IfOk result (λ p. IsOutcome (forget_of before from most c) p.plan) }
     ensures archived { (c : Core) → DraftRepresents (draft_of c) draft.entry → StateRepresents c state.now
         → OnOk result (AreArchived (A.keeps archive.new) (going_now before from most c) c.rows.messages) }
+    ensures kept { Stays (A.keeps archive.old) (A.keeps archive.new) }
     ensures fits { IfOk result (Fits state.now) }
 {
     match forget(alloc, state, &mut draft, archive, before, from, most) {
@@ -406,6 +409,7 @@ pub(crate) fn plan_forget<A: Archive>(
     ensures plan { (c : Core) → StateRepresents c state.now → IfOk result (λ p. IsOutcome (forget_of before from most c) p.plan) }
     ensures archived { (c : Core) → StateRepresents c state.now
         → OnOk result (AreArchived (A.keeps archive.new) (going_now before from most c) c.rows.messages) }
+    ensures kept { Stays (A.keeps archive.old) (A.keeps archive.new) }
     ensures fits { IfOk result (Fits state.now) }
 {
     let draft = state.begin(alloc)?;

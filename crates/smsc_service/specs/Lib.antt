@@ -1,4 +1,5 @@
 pub mod Asking
+pub mod Forgetting
 pub mod InMachine
 pub mod InService
 pub mod Numbers
