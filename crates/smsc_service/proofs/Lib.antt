@@ -4,4 +4,5 @@ mod Numbers
 mod RokNames
 mod Sittings
 mod Stepped
+mod Walking
 mod RepliesOfPlans
