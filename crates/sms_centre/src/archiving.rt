@@ -24,8 +24,8 @@ pub trait Archive {
     /// It has the message still after a stop.
     ghost keeps: { Self → MessageRowOf → Type 0 };
 
-    /// Takes a message.
-    fn take(&mut self, message: &Message) -> Result<(), NotArchived>
+    /// Takes a message with so many parts.
+    fn take(&mut self, message: &Message, parts: usize) -> Result<(), NotArchived>
         ensures took { OnOk result (took self.new message.now) }
         ensures others { Stays (took self.old) (took self.new) }
         ensures kept { Stays (keeps self.old) (keeps self.new) };
@@ -47,7 +47,7 @@ impl Archive for NoArchive {
 
     ghost keeps = { λ archive message. ⊤ };
 
-    fn take(&mut self, _message: &Message) -> Result<(), NotArchived> {
+    fn take(&mut self, _message: &Message, _parts: usize) -> Result<(), NotArchived> {
         Ok(())
     }
 
@@ -56,12 +56,16 @@ impl Archive for NoArchive {
     }
 }
 
-fn take_found<A: Archive>(archive: &mut A, message: Message) -> Result<(), ForgetError>
+fn take_found<A: Archive>(
+    archive: &mut A,
+    message: Message,
+    parts: usize,
+) -> Result<(), ForgetError>
     ensures took { OnOk result (A.took archive.new message) }
     ensures others { Stays (A.took archive.old) (A.took archive.new) }
     ensures kept { Stays (A.keeps archive.old) (A.keeps archive.new) }
 {
-    let taken = archive.take(&message);
+    let taken = archive.take(&message, parts);
     drop(message);
     match taken {
         Ok(()) => Ok(()),
@@ -82,8 +86,9 @@ fn take<A: Archive>(
     ensures kept { Stays (A.keeps archive.old) (A.keeps archive.new) }
 {
     let found = state.messages.find(alloc, id)?;
+    let parts = state.messages.count_parts(id);
     match found {
-        Some(message) => take_found(archive, message),
+        Some(message) => take_found(archive, message, parts),
         None => Ok(()),
     }
 }

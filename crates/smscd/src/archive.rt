@@ -84,7 +84,7 @@ fn wish_word(wish: Wish) -> &'static str {
     }
 }
 
-fn line_of(alloc: Global, message: &MessageRow) -> Result<String, AllocError> {
+fn line_of(alloc: Global, message: &MessageRow, parts: usize) -> Result<String, AllocError> {
     let id = message.id.number();
     let origin = origin_text(alloc, &message.originator)?;
     let source = number_text(alloc, &message.source.digits)?;
@@ -94,7 +94,7 @@ fn line_of(alloc: Global, message: &MessageRow) -> Result<String, AllocError> {
     let state = message.state.map_or("", state_word);
     let receipt = wish_word(message.wish);
     Ok(format!(in alloc;
-        "{{\"id\":{id},{origin},\"source\":\"{source}\",\"destination\":\"{destination}\",\"submitted\":\"{submitted}\",\"ended\":\"{ended}\",\"state\":\"{state}\",\"receipt\":\"{receipt}\"}}\n"
+        "{{\"id\":{id},{origin},\"source\":\"{source}\",\"destination\":\"{destination}\",\"submitted\":\"{submitted}\",\"ended\":\"{ended}\",\"parts\":{parts},\"state\":\"{state}\",\"receipt\":\"{receipt}\"}}\n"
     )?)
 }
 
@@ -110,9 +110,9 @@ impl RunArchive {
         })
     }
 
-    fn write(&mut self, message: &MessageRow) -> io::Result<()> {
+    fn write(&mut self, message: &MessageRow, parts: usize) -> io::Result<()> {
         if let Some(file) = &mut self.file {
-            let line = line_of(self.alloc, message)?;
+            let line = line_of(self.alloc, message, parts)?;
             file.write_all(line.as_str().as_bytes())?;
         }
         self.count += 1;
@@ -134,8 +134,8 @@ impl Archive for RunArchive {
 
     ghost keeps = { λ archive message. ⊤ };
 
-    fn take(&mut self, message: &MessageRow) -> Result<(), NotArchived> {
-        self.write(message).map_err(|_| NotArchived)
+    fn take(&mut self, message: &MessageRow, parts: usize) -> Result<(), NotArchived> {
+        self.write(message, parts).map_err(|_| NotArchived)
     }
 
     fn sync(&mut self) -> Result<(), NotArchived> {

@@ -1,6 +1,15 @@
 -- The number of the message at a place.
-use Rattle.std.proofs.Common.{◌≡◌, ℕ, zero, suc, List, [], ◌∷◌, drop, Option, Some, None, refl, sym, ◌∙◌, ap}
+use Rattle.std.proofs.Common.{◌≡◌, ℕ, zero, suc, List, [], ◌∷◌, map, length, drop, Option, Some, None, Bool, true, false, refl, sym, ◌∙◌, ap}
 use Rattle.std.specs.List.{slice_get}
+use Rattle.std.specs.Prelude.{nat_lt, if◌then◌else◌}
+use Rattle.std.proofs.lemmas.List.{length-map}
+use Rattle.sms_rows.specs.table.Keys.{pair_key}
+use Rattle.sms_rows.specs.table.Table.{rows_before, rows_between, rows_from}
+use Rattle.sms_centre_rows.specs.declared.messages.part.PartRow.{PartRow}
+use Rattle.sms_centre_rows.specs.declared.messages.parts.PartEntry.{PartEntry}
+use Rattle.sms_centre_rows.specs.messages.Messages.{part_key}
+use Rattle.sms_centre_rows.specs.messages.PartEntries.{entry_key, part_entry}
+use Rattle.sms_centre_messages.specs.message_index.Forgettable.{count_parts}
 use Rattle.sms_centre_rows.specs.declared.messages.message.MessageRow.{MessageRow}
 use Rattle.sms_centre_spec.specs.forgetting.Forget.{first_number}
 use Rattle.sms_centre_messages.specs.declared.message_index.message_entry.MessageEntry.{MessageEntry}
@@ -25,3 +34,27 @@ numbered names place es ms e are at =
 
 pub unnumbered : (names : NamesOf) (place : ℕ) (es : List MessageEntry) (ms : List MessageRow) → AreEntries names es ms → slice_get es place ≡ None → 0 ≡ first_number (drop place ms)
 unnumbered names place es ms are at = sym (first_behind place ms ∙ ap (λ (o : Option MessageRow). number_of o) (no_row names place es ms are at))
+
+-- ---- how many parts
+
+entries_from : (n : ℕ) (ps : List PartRow) → rows_from entry_key n (map part_entry ps) ≡ map part_entry (rows_from part_key n ps)
+entries_from n [] = refl
+entries_from n (p ∷ ps) = by (nat_lt (part_key p) n) (entries_from n ps) where
+  by : (b : Bool) → rows_from entry_key n (map part_entry ps) ≡ map part_entry (rows_from part_key n ps)
+      → (if b then rows_from entry_key n (map part_entry ps) else part_entry p ∷ map part_entry ps) ≡ map part_entry (if b then rows_from part_key n ps else p ∷ ps)
+  by true e = e
+  by false e = refl
+
+entries_before : (n : ℕ) (ps : List PartRow) → rows_before entry_key n (map part_entry ps) ≡ map part_entry (rows_before part_key n ps)
+entries_before n [] = refl
+entries_before n (p ∷ ps) = by (nat_lt (part_key p) n) (entries_before n ps) where
+  by : (b : Bool) → rows_before entry_key n (map part_entry ps) ≡ map part_entry (rows_before part_key n ps)
+      → (if b then part_entry p ∷ rows_before entry_key n (map part_entry ps) else []) ≡ map part_entry (if b then p ∷ rows_before part_key n ps else [])
+  by true e = ap (λ (l : List PartEntry). part_entry p ∷ l) e
+  by false e = refl
+
+pub counted : (id : ℕ) (ps : List PartRow) → length (rows_between entry_key (pair_key id 0) (pair_key id 255) (map part_entry ps)) ≡ count_parts id ps
+counted id ps =
+    ap (λ (l : List PartEntry). length (rows_before entry_key (pair_key id 255) l)) (entries_from (pair_key id 0) ps)
+    ∙ ap (λ (l : List PartEntry). length l) (entries_before (pair_key id 255) (rows_from part_key (pair_key id 0) ps))
+    ∙ length-map (rows_between part_key (pair_key id 0) (pair_key id 255) ps) part_entry

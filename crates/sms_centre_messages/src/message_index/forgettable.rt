@@ -9,12 +9,13 @@ ghost use Rattle.sms_centre_rows.specs.declared.messages.part.PartRow.{PartRow a
 ghost use Rattle.sms_centre_spec.specs.forgetting.Forget.{first_number};
 ghost use Rattle.sms_centre_spec.specs.forgetting.Forgetting.{has_own_wide, leaves_number};
 ghost use Rattle.sms_centre_messages.specs.message_index.Entries.{message_entry_key};
-ghost use Rattle.sms_centre_messages.specs.message_index.Forgettable.{is_own_wide, own_wide_to};
+ghost use Rattle.sms_centre_messages.specs.message_index.Forgettable.{count_parts, is_own_wide, own_wide_to};
 ghost use Rattle.sms_centre_messages.specs.message_index.MessageIndex.{Represents};
 
 use crate::message_index::index::MessageIndex;
 use crate::message_index::message_entry::MessageEntry;
 use crate::references::own_reference;
+use sms_base::MessageId;
 use sms_centre_rows::messages::MessageRow;
 use sms_rows::table::Key;
 use std::alloc::{AllocError, Global};
@@ -50,6 +51,17 @@ impl MessageIndex {
             Some(entry) => entry.id.number(),
             None => 0,
         }
+    }
+
+    /// How many parts the message has.
+    pub fn count_parts(&self, id: MessageId) -> usize
+        ensures { (ms : List MessageRowOf) (ps : List PartRowOf) → Represents self.now ms ps → result ≡ count_parts id ps }
+    {
+        let number = id.number();
+        let parts = self
+            .parts
+            .rows_between(Key::pair(number, 0), Key::pair(number, 255));
+        parts.len()
     }
 
     /// Whether a later message gives the next number, and was submitted no earlier.
