@@ -299,10 +299,24 @@ pub fn rises<T: Row>(rows: &[T]) -> bool
 }
 
 // The numbers of keys from one to another.
-#[derive(Clone, Copy, Debug, Drop)]
+#[derive(Clone, Copy, Debug)]
 struct KeyRange {
     low: u128,
     high: u128,
+}
+
+fn lower(one: u128, other: u128) -> u128
+    ensures one { result ≤ one }
+    ensures other { result ≤ other }
+{
+    if one < other { one } else { other }
+}
+
+fn higher(one: u128, other: u128) -> u128
+    ensures one { one ≤ result }
+    ensures other { other ≤ result }
+{
+    if one < other { other } else { one }
 }
 
 // From the lowest key of these rows to the highest.
@@ -313,8 +327,8 @@ fn range_of<C: Row>(rows: &[C]) -> KeyRange
     let mut high = 0;
     for row in rows {
         let number = row.key().number();
-        low = low.min(number);
-        high = high.max(number);
+        low = lower(low, number);
+        high = higher(high, number);
     }
     KeyRange { low, high }
 }

@@ -1,8 +1,8 @@
 -- Rows that are removed in one pass.
-use Rattle.std.proofs.Common.{◌≡◌, ℕ, zero, suc, arith, List, [], ◌∷◌, map, Bool, true, false, refl, sym, ◌∙◌, ap, subst, ⊎_elim, Option, Some, None}
-use Rattle.std.specs.Prelude.{◌==◌, is_some, not, if◌then◌else◌}
+use Rattle.std.proofs.Common.{◌≡◌, ◌⊎◌, ℕ, zero, suc, ◌+◌, ◌<◌, ◌≤◌, arith, List, [], ◌∷◌, map, length, drop, get_or, Bool, true, false, refl, sym, ◌∙◌, ap, subst, inl, inr, ⊎_elim, Option, Some, None}
+use Rattle.std.specs.Prelude.{◌==◌, ◌||◌, is_some, nat_lt, not, if◌then◌else◌}
 use Rattle.std.specs.List.{filter}
-use Rattle.std.proofs.lemmas.Bool.{cases_eq, cond-true, cond-false}
+use Rattle.std.proofs.lemmas.Bool.{cases_Bool, cases_eq, cond-true, cond-false, lt-ltb, ltb-true, or_left, or_right}
 use Rattle.sms_rows.specs.table.Table.{AreRemovals, Rises, all_applied, applied, change_key, is_there, row_at, without, without_all}
 use Rattle.sms_rows.specs.declared.table.change.Change.{Change}
 use Rattle.sms_rows.specs.declared.table.change.Change.TheVariants.{Put, Remove}
@@ -50,3 +50,41 @@ module _ {A C : Type 0} (key : A → ℕ) (other : C → ℕ) where
   pub passed : (others : List C) (rows : List A) → filter (λ (x : A). not (is_there other (key x) others)) rows ≡ without_all key (map other others) rows
   passed [] rows = all_stay rows
   passed (o ∷ os) rows = one_out o os rows ∙ passed os (without key (other o) rows)
+
+-- ---- a search row by row
+
+module _ {A : Type 0} (key : A → ℕ) where
+  pub passed_by : (n i : ℕ) (xs : List A) (x : A) → i < length xs → x ≡ get_or xs i x → ¬ (key x ≡ n) → row_at key n (drop i xs) ≡ row_at key n (drop (i + 1) xs)
+  passed_by n i [] x l at ne = absurd (omega (arith, l))
+  passed_by n zero (y ∷ ys) x l at ne = row_behind key n y ys (λ e. ne (ap key at ∙ e))
+  passed_by n (suc i) (y ∷ ys) x l at ne = passed_by n i ys x (omega (arith, l)) at ne
+
+  pub found_by : (n i : ℕ) (xs : List A) (x : A) → i < length xs → x ≡ get_or xs i x → key x ≡ n → is_some (row_at key n (drop i xs)) ≡ true
+  found_by n i [] x l at e = absurd (omega (arith, l))
+  found_by n zero (y ∷ ys) x l at e = ap (λ (o : Option A). is_some o) (row_here key n y ys (sym (ap key at) ∙ e))
+  found_by n (suc i) (y ∷ ys) x l at e = found_by n i ys x (omega (arith, l)) at e
+
+  pub none_left : (n i : ℕ) (xs : List A) → length xs ≤ i → is_some (row_at key n (drop i xs)) ≡ false
+  none_left n zero [] l = refl
+  none_left n (suc i) [] l = refl
+  none_left n zero (x ∷ xs) l = absurd (omega (arith, l))
+  none_left n (suc i) (x ∷ xs) l = none_left n i xs (omega (arith, l))
+
+  -- what is outside of a range was outside of a smaller one, and is not the key that made it larger
+  outside : (n low high k less more : ℕ) → less ≤ low → less ≤ k → high ≤ more → k ≤ more → (nat_lt n less || nat_lt more n) ≡ true
+      → ((nat_lt n low || nat_lt high n) ≡ true) × (k ≡ n → ⊥)
+  outside n low high k less more a b c d e = ⊎_elim
+      (λ (t : nat_lt n less ≡ true).
+      let l : n < less = ltb-true n less t in
+      let is : ((nat_lt n low || nat_lt high n) ≡ true) × (k ≡ n → ⊥) = (or_left (nat_lt n low) (nat_lt high n) (lt-ltb n low (omega (arith, l, a))), λ q. absurd (omega (arith, l, b, q))) in is)
+      (λ (f : nat_lt n less ≡ false).
+      let m : more < n = ltb-true more n (sym (ap (λ (x : Bool). x || nat_lt more n) f) ∙ e) in
+      let is : ((nat_lt n low || nat_lt high n) ≡ true) × (k ≡ n → ⊥) = (or_right (nat_lt n low) (nat_lt high n) (lt-ltb high n (omega (arith, m, c))), λ q. absurd (omega (arith, m, d, q))) in is)
+      (cases_Bool (nat_lt n less))
+
+  pub range_on : (n i low high less more : ℕ) (xs : List A) (x : A) → i < length xs → x ≡ get_or xs i x → less ≤ low → less ≤ key x → high ≤ more → key x ≤ more
+      → ((nat_lt n low || nat_lt high n) ≡ true → is_some (row_at key n (drop i xs)) ≡ false → is_some (row_at key n xs) ≡ false)
+      → (nat_lt n less || nat_lt more n) ≡ true → is_some (row_at key n (drop (i + 1) xs)) ≡ false → is_some (row_at key n xs) ≡ false
+  range_on n i low high less more xs x l at a b c d before out none =
+      let o = outside n low high (key x) less more a b c d out in
+      before o.0 (ap (λ (r : Option A). is_some r) (passed_by n i xs x l at o.1) ∙ none)

@@ -8,7 +8,7 @@ use Rattle.sms_rows.proofs.table.Table.remove_all.Goals as goal
 
 pub invariant_of-self : goal.invariant_of-self
 invariant_of-self g c =
-    let rises = c.args.requires in
-    let kept = filter_same _ (λ x. not (is_there g.C.Row.key (g.T.Row.key x) c.args.others.now)) _ (λ x b f' k. search (rules, rises)) _ _ c.retain.ensures.filtered in
+    let within = c.range_of-range.ensures in
+    let kept = filter_same _ (λ x. not (is_there g.C.Row.key (g.T.Row.key x) c.args.others.now)) _ (λ x b f' k. search (rules, within)) _ _ c.retain.ensures.filtered in
     let same = kept ∙ passed g.T.Row.key g.C.Row.key c.args.others.now c.self.inside.items.items in
     subst (λ l. Rises g.T.Row.key l) (sym same) (rises_without_all g.T.Row.key (map g.C.Row.key c.args.others.now) c.self.inside.items.items c.self.invariant)
