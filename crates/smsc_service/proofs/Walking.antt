@@ -32,13 +32,13 @@ kept_on had has a b c stays first next m among = ⊎_elim
 abbrev pub Step : (Core → Type 0) → (Core → Type 0) → (MessageRow → Type 0) → Core → ℕ → Walked → Type 0
 Step Is Holds has first from w = Is w.core × ((from ≡ w.from) × (Holds w.core × AreKept has first w.core))
 
-pub steps : (Is Holds : Core → Type 0) (had has : MessageRow → Type 0) (before : ℕ) (first : Core) (w : Walked) (from next : ℕ) → from ≡ w.from → next ≡ next_from from 200 w.core.rows.messages
-    → Is (core_of (forget before from 200 w.core)) → Holds (core_of (forget before from 200 w.core)) → ((m : MessageRow) → had m → has m)
-    → AreArchived has (going_now before from 200 w.core) w.core.rows.messages → IsSound w.core.rows → AreKept had first w.core
-    → Step Is Holds has first next (one_on before 200 w)
+pub steps : (Is Holds : Core → Type 0) (had has : MessageRow → Type 0) (before : ℕ) (first : Core) (w : Walked) (from next : ℕ) → from ≡ w.from → next ≡ next_from from 1000 w.core.rows.messages
+    → Is (core_of (forget before from 1000 w.core)) → Holds (core_of (forget before from 1000 w.core)) → ((m : MessageRow) → had m → has m)
+    → AreArchived has (going_now before from 1000 w.core) w.core.rows.messages → IsSound w.core.rows → AreKept had first w.core
+    → Step Is Holds has first next (one_on before 1000 w)
 steps Is Holds had has before first w from next at on is holds stays archived sound kept = (
-  subst (λ (n : ℕ). Is (core_of (forget before n 200 w.core))) at is,
-  on ∙ ap (λ (n : ℕ). next_from n 200 w.core.rows.messages) at,
-  subst (λ (n : ℕ). Holds (core_of (forget before n 200 w.core))) at holds,
-  subst (λ (n : ℕ). AreKept has first (core_of (forget before n 200 w.core))) at (kept_on had has first w.core (core_of (forget before from 200 w.core)) stays kept (kept_once has before from 200 w.core sound archived)),
+  subst (λ (n : ℕ). Is (core_of (forget before n 1000 w.core))) at is,
+  on ∙ ap (λ (n : ℕ). next_from n 1000 w.core.rows.messages) at,
+  subst (λ (n : ℕ). Holds (core_of (forget before n 1000 w.core))) at holds,
+  subst (λ (n : ℕ). AreKept has first (core_of (forget before n 1000 w.core))) at (kept_on had has first w.core (core_of (forget before from 1000 w.core)) stays kept (kept_once has before from 1000 w.core sound archived)),
 )

@@ -14,7 +14,7 @@ use sms_rows::table::Table;
 use std::alloc::Global;
 
 // A call looks at so many messages.
-const MOST: u16 = 200;
+const MOST: u16 = 1000;
 
 fn error_of(error: RecoverError) -> ForgetError {
     match error {
@@ -31,10 +31,10 @@ fn forget_each<K: CentreStore, A: Archive>(
     before: Moment,
 ) -> Result<(), ForgetError>
     ensures walked { (c : Core) → Represents c centre.old → IfHeld c.rows (K.state keep.old) (K.state keep.new)
-        (OnOk result ((n : ℕ) × ((walked before 200 n (from_first c)).from ≡ 0) × (K.state keep.new).holds (walked before 200 n (from_first c)).core.rows
-        × AreKept (A.keeps archive.new) c (walked before 200 n (from_first c)).core)) }
+        (OnOk result ((n : ℕ) × ((walked before 1000 n (from_first c)).from ≡ 0) × (K.state keep.new).holds (walked before 1000 n (from_first c)).core.rows
+        × AreKept (A.keeps archive.new) c (walked before 1000 n (from_first c)).core)) }
     ensures stopped { (c : Core) → Represents c centre.old → IfHeld c.rows (K.state keep.old) (K.state keep.new)
-        (OnErr result ((n : ℕ) × ((K.state keep.new).holds (walked before 200 n (from_first c)).core.rows ⊎ (K.state keep.new).is_closed))) }
+        (OnErr result ((n : ℕ) × ((K.state keep.new).holds (walked before 1000 n (from_first c)).core.rows ⊎ (K.state keep.new).is_closed))) }
     ensures before { WasHonest (K.state keep.old) (K.state keep.new) }
 {
     let mut from = 1;
@@ -63,11 +63,11 @@ pub fn forget_ended<K: CentreStore, A: Archive>(
     before: Moment,
 ) -> Result<(), ForgetError>
     ensures walked { IfHeld rows (K.state keep.old) (K.state keep.new)
-        (OnOk result ((n : ℕ) × ((walked before 200 n (from_first (recovered rows [] []))).from ≡ 0)
-        × (K.state keep.new).holds (walked before 200 n (from_first (recovered rows [] []))).core.rows
-        × AreKept (A.keeps archive.new) (recovered rows [] []) (walked before 200 n (from_first (recovered rows [] []))).core)) }
+        (OnOk result ((n : ℕ) × ((walked before 1000 n (from_first (recovered rows [] []))).from ≡ 0)
+        × (K.state keep.new).holds (walked before 1000 n (from_first (recovered rows [] []))).core.rows
+        × AreKept (A.keeps archive.new) (recovered rows [] []) (walked before 1000 n (from_first (recovered rows [] []))).core)) }
     ensures stopped { IfHeld rows (K.state keep.old) (K.state keep.new)
-        (OnErr result ((n : ℕ) × ((K.state keep.new).holds (walked before 200 n (from_first (recovered rows [] []))).core.rows
+        (OnErr result ((n : ℕ) × ((K.state keep.new).holds (walked before 1000 n (from_first (recovered rows [] []))).core.rows
         ⊎ (K.state keep.new).is_closed))) }
     ensures before { WasHonest (K.state keep.old) (K.state keep.new) }
 {
@@ -85,10 +85,10 @@ fn forget_over<K: CentreStore, A: Archive>(
     before: Moment,
 ) -> Result<(), ForgetError>
     ensures walked { (c : Core) → Represents c centre → IfHeld c.rows (K.state keep.old) (K.state keep.new)
-        (OnOk result ((n : ℕ) × ((walked before 200 n (from_first c)).from ≡ 0) × (K.state keep.new).holds (walked before 200 n (from_first c)).core.rows
-        × AreKept (A.keeps archive.new) c (walked before 200 n (from_first c)).core)) }
+        (OnOk result ((n : ℕ) × ((walked before 1000 n (from_first c)).from ≡ 0) × (K.state keep.new).holds (walked before 1000 n (from_first c)).core.rows
+        × AreKept (A.keeps archive.new) c (walked before 1000 n (from_first c)).core)) }
     ensures stopped { (c : Core) → Represents c centre → IfHeld c.rows (K.state keep.old) (K.state keep.new)
-        (OnErr result ((n : ℕ) × ((K.state keep.new).holds (walked before 200 n (from_first c)).core.rows ⊎ (K.state keep.new).is_closed))) }
+        (OnErr result ((n : ℕ) × ((K.state keep.new).holds (walked before 1000 n (from_first c)).core.rows ⊎ (K.state keep.new).is_closed))) }
     ensures before { WasHonest (K.state keep.old) (K.state keep.new) }
 {
     let mut centre = centre;

@@ -20,10 +20,10 @@ loop-turn-preserved g c = (
   (λ core represents honest holds.
       let n = c.loop-turn.turn in
       let i = c.loop-turn.invariant.0 core represents (c.in_ok-forget.ensures.before honest) holds in
-      let w : Walked = walked c.args.before 200 n (from_first core) in
+      let w : Walked = walked c.args.before 1000 n (from_first core) in
       let on = c.in_ok-forget.ensures.outcome w.core i.0 honest i.2 in
       let more : n + 1 ≡ suc n = omega arith in
-      subst (λ (k : ℕ). Step (λ (x : Core). Represents x c.forget.new.self) (λ (x : Core). (g.K.RowStore.state c.forget.new.keep).holds x.rows) (g.A.Archive.keeps c.forget.new.archive) core c.next_from-next.result (walked c.args.before 200 k (from_first core))) (sym more)
+      subst (λ (k : ℕ). Step (λ (x : Core). Represents x c.forget.new.self) (λ (x : Core). (g.K.RowStore.state c.forget.new.keep).holds x.rows) (g.A.Archive.keeps c.forget.new.archive) core c.next_from-next.result (walked c.args.before 1000 k (from_first core))) (sym more)
       (steps (λ (x : Core). Represents x c.forget.new.self) (λ (x : Core). (g.K.RowStore.state c.forget.new.keep).holds x.rows) (g.A.Archive.keeps c.loop-turn.archive) (g.A.Archive.keeps c.forget.new.archive) c.args.before core w c.loop-turn.from c.next_from-next.result i.1
       (c.next_from-next.ensures w.core i.0) on.0 on.1 c.in_ok-forget.ensures.kept (c.in_ok-forget.ensures.archived w.core i.0) i.0.centre.sound.rows i.3)),
   (λ h. c.loop-turn.invariant.1 (c.in_ok-forget.ensures.before h)),
@@ -33,7 +33,7 @@ pub returns-in_err-forget-clause-stopped : goal.returns-in_err-forget-clause-sto
 returns-in_err-forget-clause-stopped g c = λ core represents honest holds.
     let p = err_from_is_err_and c.from_residual.result c.from_residual.ensures.1 in
     let i = c.loop-turn.invariant.0 core represents (c.in_err-forget.ensures.before honest) holds in
-    rw p.1 (c.loop-turn.turn, c.in_err-forget.ensures.outcome (walked c.args.before 200 c.loop-turn.turn (from_first core)).core i.0 honest i.2)
+    rw p.1 (c.loop-turn.turn, c.in_err-forget.ensures.outcome (walked c.args.before 1000 c.loop-turn.turn (from_first core)).core i.0 honest i.2)
 
 pub returns-clause-stopped : goal.returns-clause-stopped
 returns-clause-stopped g c = λ core represents honest holds.
