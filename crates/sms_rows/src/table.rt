@@ -213,11 +213,15 @@ impl<T: Drop + Row> Table<T> {
         );
     }
 
-    /// Carries out the changes in their order without taking memory. Removals alone cost one pass.
+    /// Carries out the changes in their order without taking memory. Several removals alone cost one pass.
     pub fn apply_all(&mut self, changes: Vec<Change<T>>)
         requires { HasRoom (length changes.items) self.old }
         ensures { self.new ≡ record self.old { rows = all_applied T.key changes.items self.old.rows } }
     {
+        if changes.len() < 2 {
+            self.apply_each(changes);
+            return;
+        }
         if are_removals(changes.as_slice()) {
             self.remove_all(changes.as_slice());
             drop(changes);

@@ -264,12 +264,16 @@ impl MessageIndex {
         }
     }
 
-    // Carries the changes out in their order. Removals alone cost one pass.
+    // Carries the changes out in their order. Several removals alone cost one pass.
     fn apply_all(&mut self, changes: Vec<Change<MessageRow>>)
         requires { HasRoomFor (length changes.items) self.old }
         ensures { (ms : List MessageRowOf) (ps : List PartRowOf) → Represents self.old ms ps
             → Represents self.new (all_applied message_key changes.items ms) ps }
     {
+        if changes.len() < 2 {
+            self.apply_each(changes);
+            return;
+        }
         if are_removals(changes.as_slice()) {
             self.messages.remove_all(changes.as_slice());
             drop(changes);

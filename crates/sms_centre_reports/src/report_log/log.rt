@@ -156,11 +156,15 @@ impl ReportLog {
         self.apply_all(changes);
     }
 
-    // Removals alone cost one pass.
+    // Several removals alone cost one pass.
     fn apply_all(&mut self, changes: &[Revision<ReportRow>])
         requires { HasRoom (length changes.now) self.old }
         ensures { (rows : List ReportRowOf) → Represents self.old rows → Represents self.new (all_revised report_key report_reaching changes.now rows) }
     {
+        if changes.len() < 2 {
+            self.apply_each(changes);
+            return;
+        }
         if only_remove(changes) {
             self.reports.remove_all(changes);
             return;
