@@ -16,7 +16,7 @@ use Rattle.sms_centre.specs.declared.plans.event_outcome.EventOutcome.{EventOutc
 use Rattle.sms_centre.specs.plans.EventOutcome.{IsOutcome}
 
 -- it is the first of them, or one behind it
-pub first_or_behind : (n i : ℕ) (ids : List ℕ) (id : ℕ) → i < length ids → id ≡ get_or ids i id → is_among n (drop i ids) ≡ true → (n ≡ id) ⊎ (is_among n (drop (i + 1) ids) ≡ true)
+pub first_or_behind : (n i : ℕ) (ids : List ℕ) (id : ℕ) → i < length ids → id ≡ get_or ids i id → is_among n (drop i ids) ≡ true → (n ≡ id) ⊎ (is_among n (drop (suc i) ids) ≡ true)
 first_or_behind n i [] id l at e = absurd (omega (arith, l))
 first_or_behind n zero (x ∷ xs) id l at e = by (cases_eq x n) where
   by : (x ≡ n) ⊎ (x ≡ n → ⊥) → (n ≡ id) ⊎ (is_among n xs ≡ true)

@@ -54,7 +54,7 @@ module _ {A C : Type 0} (key : A → ℕ) (other : C → ℕ) where
 -- ---- a search row by row
 
 module _ {A : Type 0} (key : A → ℕ) where
-  pub passed_by : (n i : ℕ) (xs : List A) (x : A) → i < length xs → x ≡ get_or xs i x → ¬ (key x ≡ n) → row_at key n (drop i xs) ≡ row_at key n (drop (i + 1) xs)
+  pub passed_by : (n i : ℕ) (xs : List A) (x : A) → i < length xs → x ≡ get_or xs i x → ¬ (key x ≡ n) → row_at key n (drop i xs) ≡ row_at key n (drop (suc i) xs)
   passed_by n i [] x l at ne = absurd (omega (arith, l))
   passed_by n zero (y ∷ ys) x l at ne = row_behind key n y ys (λ e. ne (ap key at ∙ e))
   passed_by n (suc i) (y ∷ ys) x l at ne = passed_by n i ys x (omega (arith, l)) at ne
@@ -84,7 +84,7 @@ module _ {A : Type 0} (key : A → ℕ) where
 
   pub range_on : (n i low high less more : ℕ) (xs : List A) (x : A) → i < length xs → x ≡ get_or xs i x → less ≤ low → less ≤ key x → high ≤ more → key x ≤ more
       → ((nat_lt n low || nat_lt high n) ≡ true → is_some (row_at key n (drop i xs)) ≡ false → is_some (row_at key n xs) ≡ false)
-      → (nat_lt n less || nat_lt more n) ≡ true → is_some (row_at key n (drop (i + 1) xs)) ≡ false → is_some (row_at key n xs) ≡ false
+      → (nat_lt n less || nat_lt more n) ≡ true → is_some (row_at key n (drop (suc i) xs)) ≡ false → is_some (row_at key n xs) ≡ false
   range_on n i low high less more xs x l at a b c d before out none =
       let o = outside n low high (key x) less more a b c d out in
       before o.0 (ap (λ (r : Option A). is_some r) (passed_by n i xs x l at o.1) ∙ none)

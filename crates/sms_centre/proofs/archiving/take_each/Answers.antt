@@ -1,4 +1,4 @@
-use Rattle.std.proofs.Common.{◌≡◌, ℕ, ◌+◌, drop, true, inl, inr, ⊎_elim, sym, subst, arith}
+use Rattle.std.proofs.Common.{◌≡◌, ℕ, suc, ◌+◌, drop, true, inl, inr, ⊎_elim, sym, subst, arith}
 use Rattle.sms_centre_rows.specs.messages.SplitReferences.{is_among}
 use Rattle.sms_centre.specs.state.CentreState.{CentreStateOf, Represents as StateRepresents}
 use Rattle.sms_centre.proofs.Archived.{first_or_behind, found_by_number, none_behind}
@@ -16,7 +16,9 @@ loop-id-preserved g c = (
       (λ (t : g.A.Archive.took c.loop-id.archive m). inl (c.in_ok-take.ensures.others m t))
       (λ (b : is_among m.id (drop c.loop-id.id-index c.args.ids.now) ≡ true). ⊎_elim
       (λ (q : m.id ≡ c.id-item.result). inl (c.in_ok-take.ensures.took core m stands (found_by_number m c.id-item.result core.rows.messages was.centre.sound.rows.messages.message_keys a q)))
-      (λ (k : is_among m.id (drop (c.loop-id.id-index + 1) c.args.ids.now) ≡ true). inr k)
+      (λ (k : is_among m.id (drop (suc c.loop-id.id-index) c.args.ids.now) ≡ true).
+      let next : suc c.loop-id.id-index ≡ c.loop-id.id-index + 1 = omega arith in
+      inr (subst (λ (n : ℕ). is_among m.id (drop n c.args.ids.now) ≡ true) next k))
       (first_or_behind m.id c.loop-id.id-index c.args.ids.now c.id-item.result c.loop-id-test.true c.id-item.is b))
       (c.loop-id.invariant.0 core stands m a e)),
   (λ m k. c.in_ok-take.ensures.kept m (c.loop-id.invariant.1 m k)),
