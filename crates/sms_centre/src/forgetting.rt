@@ -422,9 +422,5 @@ pub(crate) fn plan_forget<A: Archive>(
 pub(crate) fn next_from(state: &CentreState, from: u64, most: u16) -> u64
     ensures { (c : Core) → StateRepresents c state.now → result ≡ next_from_of from most c.rows.messages }
 {
-    let start = state.messages.place_from(from);
-    match start.checked_add(usize::from(most)) {
-        Some(place) => state.messages.number_at(place),
-        None => 0,
-    }
+    state.messages.number_behind(from, most)
 }

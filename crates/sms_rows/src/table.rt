@@ -139,6 +139,14 @@ impl<T: Drop + Row> Table<T> {
         &rows[..len]
     }
 
+    /// The rows whose keys are not below the one.
+    pub fn rows_from(&self, first: Key) -> &[T]
+        ensures { result.now ≡ rows_from T.key first self.now.rows }
+    {
+        let start = self.start_of(first);
+        &self.items.as_slice()[start..]
+    }
+
     /// The row that the key has after the changes, if there is one.
     pub fn find_after<'a>(&'a self, changes: &'a [Change<T>], key: Key) -> Option<&'a T>
         ensures { option_copied result ≡ row_at T.key key (all_applied T.key changes.entry.now self.entry.now.rows) }

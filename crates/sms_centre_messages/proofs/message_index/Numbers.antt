@@ -1,5 +1,5 @@
 -- The number of the message at a place.
-use Rattle.std.proofs.Common.{◌≡◌, ℕ, zero, suc, List, [], ◌∷◌, map, length, drop, Option, Some, None, Bool, true, false, refl, sym, ◌∙◌, ap}
+use Rattle.std.proofs.Common.{◌≡◌, ℕ, zero, suc, List, [], ◌∷◌, map, length, drop, Option, Some, None, Bool, true, false, refl, sym, ◌∙◌, ap, subst}
 use Rattle.std.specs.List.{slice_get}
 use Rattle.std.specs.Prelude.{nat_lt, if◌then◌else◌}
 use Rattle.std.proofs.lemmas.List.{length-map}
@@ -7,13 +7,14 @@ use Rattle.sms_rows.specs.table.Keys.{pair_key}
 use Rattle.sms_rows.specs.table.Table.{rows_before, rows_between, rows_from}
 use Rattle.sms_centre_rows.specs.declared.messages.part.PartRow.{PartRow}
 use Rattle.sms_centre_rows.specs.declared.messages.parts.PartEntry.{PartEntry}
-use Rattle.sms_centre_rows.specs.messages.Messages.{part_key}
+use Rattle.sms_centre_rows.specs.messages.Messages.{message_key, part_key}
 use Rattle.sms_centre_rows.specs.messages.PartEntries.{entry_key, part_entry}
 use Rattle.sms_centre_messages.specs.message_index.Forgettable.{count_parts}
 use Rattle.sms_centre_rows.specs.declared.messages.message.MessageRow.{MessageRow}
 use Rattle.sms_centre_spec.specs.forgetting.Forget.{first_number}
 use Rattle.sms_centre_messages.specs.declared.message_index.message_entry.MessageEntry.{MessageEntry}
-use Rattle.sms_centre_messages.specs.message_index.Entries.{AreEntries, NamesOf}
+use Rattle.sms_centre_messages.specs.message_index.Entries.{AreEntries, NamesOf, message_entry_key}
+use Rattle.sms_centre_messages.proofs.message_index.Entries.{same_key}
 use Rattle.sms_centre_messages.proofs.message_index.IndexRepresents.{no_row, placed_row}
 
 number_of : Option MessageRow → ℕ
@@ -34,6 +35,18 @@ numbered names place es ms e are at =
 
 pub unnumbered : (names : NamesOf) (place : ℕ) (es : List MessageEntry) (ms : List MessageRow) → AreEntries names es ms → slice_get es place ≡ None → 0 ≡ first_number (drop place ms)
 unnumbered names place es ms are at = sym (first_behind place ms ∙ ap (λ (o : Option MessageRow). number_of o) (no_row names place es ms are at))
+
+pub entries_behind : (names : NamesOf) (n : ℕ) (es : List MessageEntry) (ms : List MessageRow) → AreEntries names es ms → AreEntries names (rows_from message_entry_key n es) (rows_from message_key n ms)
+entries_behind names n [] [] are = are
+entries_behind names n [] (m ∷ ms) are = elim are [ ]
+entries_behind names n (e ∷ es) [] are = elim are [ ]
+entries_behind names n (e ∷ es) (m ∷ ms) are =
+    subst (λ (k : ℕ). AreEntries names (if nat_lt e.id n then rows_from message_entry_key n es else e ∷ es) (if nat_lt k n then rows_from message_key n ms else m ∷ ms)) (same_key names e m are.0)
+    (by (nat_lt e.id n) (entries_behind names n es ms are.1)) where
+      by : (b : Bool) → AreEntries names (rows_from message_entry_key n es) (rows_from message_key n ms)
+          → AreEntries names (if b then rows_from message_entry_key n es else e ∷ es) (if b then rows_from message_key n ms else m ∷ ms)
+      by true h = h
+      by false h = are
 
 -- ---- how many parts
 

@@ -6,7 +6,7 @@ ghost use Rattle.sms_centre_rows.specs.messages.Messages.{message_key};
 ghost use Rattle.sms_centre_rows.specs.messages.PartEntries.{Few, entry_key};
 ghost use Rattle.sms_centre_rows.specs.declared.messages.message.MessageRow.{MessageRow as MessageRowOf};
 ghost use Rattle.sms_centre_rows.specs.declared.messages.part.PartRow.{PartRow as PartRowOf};
-ghost use Rattle.sms_centre_spec.specs.forgetting.Forget.{first_number};
+ghost use Rattle.sms_centre_spec.specs.forgetting.Forget.{next_from};
 ghost use Rattle.sms_centre_spec.specs.forgetting.Forgetting.{has_own_wide, leaves_number};
 ghost use Rattle.sms_centre_messages.specs.message_index.Entries.{message_entry_key};
 ghost use Rattle.sms_centre_messages.specs.message_index.Forgettable.{count_parts, is_own_wide, own_wide_to};
@@ -43,11 +43,15 @@ impl MessageIndex {
         }
     }
 
-    /// The number of the message at that place, or 0 where there is none.
-    pub fn number_at(&self, place: usize) -> u64
-        ensures { (ms : List MessageRowOf) (ps : List PartRowOf) → Represents self.now ms ps → result ≡ first_number (drop place ms) }
+    /// The number of the first message behind so many from that number on, or 0 where there is none.
+    pub fn number_behind(&self, number: u64, most: u16) -> u64
+        ensures { (ms : List MessageRowOf) (ps : List PartRowOf) → Represents self.now ms ps → result ≡ next_from number most ms }
     {
-        match self.messages.as_slice().get(place) {
+        match self
+            .messages
+            .rows_from(Key::of(number))
+            .get(usize::from(most))
+        {
             Some(entry) => entry.id.number(),
             None => 0,
         }
