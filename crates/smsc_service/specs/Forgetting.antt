@@ -3,6 +3,10 @@
 use Rattle.std.specs.Prelude.{◌⊎◌, ℕ, zero, suc, ◌×◌}
 use Rattle.sms_base.specs.Among.{Among}
 use Rattle.sms_centre_rows.specs.declared.messages.message.MessageRow.{MessageRow}
+use Rattle.sms_centre.specs.declared.forget_error.ForgetError.{ForgetError}
+use Rattle.sms_centre.specs.declared.forget_error.ForgetError.TheVariants.{BadRows, NoMemory}
+use Rattle.sms_centre.specs.declared.state.recover_error.RecoverError.{RecoverError}
+use Rattle.sms_centre.specs.declared.state.recover_error.RecoverError.TheVariants.{BadRows as BadRecover, NoMemory as NoRecover}
 use Rattle.sms_centre_spec.specs.Draft.{Core, core_of}
 use Rattle.sms_centre_spec.specs.forgetting.Forget.{forget, next_from}
 
@@ -26,3 +30,8 @@ from_first c = record { from = 1; core = c }
 -- each message is there still, or the archive has it
 abbrev pub AreKept : (MessageRow → Type 0) → Core → Core → Type 0
 AreKept has before after = (m : MessageRow) → Among m before.rows.messages → Among m after.rows.messages ⊎ has m
+
+-- the same cause
+abbrev pub forget_error_of : RecoverError → ForgetError
+forget_error_of BadRecover = BadRows
+forget_error_of NoRecover = NoMemory

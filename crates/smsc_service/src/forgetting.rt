@@ -5,7 +5,7 @@ ghost use Rattle.sms_centre.specs.state.CentreState.{Represents};
 ghost use Rattle.sms_centre_spec.specs.CentreEvent.{recovered};
 ghost use Rattle.sms_centre_spec.specs.Draft.{Core};
 ghost use Rattle.sms_centre_spec.specs.declared.rows.Rows.{Rows as RowsOf};
-ghost use Rattle.smsc_service.specs.Forgetting.{AreKept, from_first, walked};
+ghost use Rattle.smsc_service.specs.Forgetting.{AreKept, forget_error_of, from_first, walked};
 
 use sms_base::Moment;
 use sms_centre::{Archive, Centre, ForgetError, RecoverError, Rows};
@@ -16,7 +16,9 @@ use std::alloc::Global;
 // A call looks at so many messages.
 const MOST: u16 = 1000;
 
-fn error_of(error: RecoverError) -> ForgetError {
+fn error_of(error: RecoverError) -> ForgetError
+    ensures { result ≡ forget_error_of error }
+{
     match error {
         RecoverError::BadRows => ForgetError::BadRows,
         RecoverError::NoMemory => ForgetError::NoMemory,
