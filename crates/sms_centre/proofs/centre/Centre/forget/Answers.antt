@@ -1,4 +1,5 @@
 use Rattle.std.proofs.Common.{◌≡◌, sym, ◌∙◌, ap, subst, inl}
+use Rattle.std.proofs.lemmas.Result.{err_from_is_err_and}
 use Rattle.sms_centre_spec.specs.Draft.{Core, rows_after}
 use Rattle.sms_centre_spec.specs.declared.rows.Changes.{Changes}
 use Rattle.sms_centre_spec.specs.declared.rows.Rows.{Rows}
@@ -16,3 +17,7 @@ returns-in-Ok-clause-outcome g c = λ core represents honest holds. (
 
 pub returns-in-Err-clause-outcome : goal.returns-in-Err-clause-outcome
 returns-in-Err-clause-outcome g c = λ core represents honest holds. c.in-Err.ensures.outcome core.rows honest holds
+
+pub returns-in_err-planned-clause-outcome : goal.returns-in_err-planned-clause-outcome
+returns-in_err-planned-clause-outcome g c = λ core represents honest holds.
+    let p = err_from_is_err_and c.from_residual.result c.from_residual.ensures.1 in rw p.1 (inl holds)
