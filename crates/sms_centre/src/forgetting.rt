@@ -41,7 +41,7 @@ fn has_ended(message: &Message, before: Moment) -> bool
         return false;
     }
     match message.done {
-        Some(done) => done < before,
+        Some(done) => done.seconds() < before.seconds(),
         None => false,
     }
 }

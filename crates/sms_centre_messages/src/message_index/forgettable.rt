@@ -1,5 +1,5 @@
 //! What is asked of a message before it is forgotten.
-ghost use Rattle.std.specs.Prelude.{◌≡◌, List, drop, nat_lt, slice_get, IfOk};
+ghost use Rattle.std.specs.Prelude.{◌≡◌, ◌&&◌, List, drop, nat_le, nat_lt, slice_get, IfOk};
 ghost use Rattle.sms_rows.specs.table.Keys.{pair_key};
 ghost use Rattle.sms_rows.specs.table.Table.{row_at, rows_from};
 ghost use Rattle.sms_centre_rows.specs.messages.Messages.{message_key};
@@ -73,9 +73,7 @@ impl MessageIndex {
         ensures { (ms : List MessageRowOf) (ps : List PartRowOf) → Represents self.now ms ps → result ≡ leaves_number message.now ms }
     {
         match self.messages.as_slice().last() {
-            Some(last) => {
-                message.id.number() < last.id.number() && message.submitted <= last.submitted
-            }
+            Some(last) => is_before(message, last),
             None => false,
         }
     }
@@ -108,4 +106,12 @@ impl MessageIndex {
             None => false,
         }
     }
+}
+
+// Its number is lower than that of the other message, and it was submitted no later.
+fn is_before(message: &MessageRow, last: &MessageEntry) -> bool
+    ensures { result ≡ (nat_lt message.now.id last.now.id && nat_le message.now.submitted last.now.submitted) }
+{
+    message.id.number() < last.id.number()
+        && message.submitted.seconds() <= last.submitted.seconds()
 }

@@ -1,5 +1,6 @@
-use Rattle.std.proofs.Common.{◌≡◌, ◌-◌, List, length, Some, None, sym, ◌∙◌, ap, arith}
+use Rattle.std.proofs.Common.{◌≡◌, ℕ, ◌-◌, List, length, Some, None, sym, ◌∙◌, ap, arith}
 use Rattle.std.specs.List.{slice_get}
+use Rattle.std.specs.Prelude.{◌==◌}
 use Rattle.std.proofs.lemmas.Option.{slice_get_within}
 use Rattle.sms_rows.specs.table.Table.{RowsInMemory}
 use Rattle.sms_centre_reports.specs.declared.report_log.log.LoggedReport.{LoggedReport}
@@ -12,7 +13,9 @@ returns-in-Some c =
     let rs = c.as_slice.result.now in
     let at : slice_get rs (length rs - 1) ≡ Some c.in-Some.last.now = sym c.in-Some.ensures.value in
     let l = slice_get_within rs (length rs - 1) c.in-Some.last.now at in
-    last_of c.args.id (length rs - 1) rs c.in-Some.last.now (omega (arith, l)) at
+    ap (λ (n : ℕ). n == c.number-in-Some.result) c.number.ensures.value
+    ∙ ap (λ (n : ℕ). c.in-Some.last.now.id == n) c.number-in-Some.ensures.value
+    ∙ last_of c.args.id (length rs - 1) rs c.in-Some.last.now (omega (arith, l)) at
     ∙ ap (λ (x : List LoggedReport). is_of_last c.args.id x) (c.as_slice.ensures.rows ∙ ap (λ (t : RowsInMemory LoggedReport). t.rows) c.self.view_is)
 
 pub returns-in-None : goal.returns-in-None
