@@ -14,7 +14,8 @@ returns-in-Some c = λ ms ps h.
     let m = c.args.message.now in
     let count = c.of-last.ensures ∙ ap (λ (key : MessageEnds). counted key c.self.inside.last) c.of.ensures
     ∙ ap (λ (k : ReferenceIndexOf). counted (key_of m.source m.handset 0) k.last) c.self.view_is ∙ h.last m.source m.handset in
-    ap (λ (n : ℕ). not (n == c.in-Some.reference + 1)) count
+    ap (λ (n : ℕ). not (c.of-last.result == n + 1)) c.from.ensures
+    ∙ ap (λ (n : ℕ). not (n == c.in-Some.reference + 1)) count
     ∙ other_last c.in-Some.reference (last_split m.source m.handset None ms)
     ∙ ap (λ (o : Option ℕ). is_split_on o (last_split m.source m.handset None ms)) (sym c.in-Some.is)
 
