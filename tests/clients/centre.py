@@ -19,18 +19,19 @@ def free_port():
 class Centre:
     """A run of the program. `told` has the lines of its standard error."""
 
-    def __init__(self, store, accounts, sessions=4294967295, status=None):
+    def __init__(self, store, accounts, sessions=4294967295, status=None, words=()):
         self.store, self.told = store, []
         self.smpp_port, self.link_port = free_port(), free_port()
         # The list of processes shows no password.
         file = store + ".accounts"
         with open(os.open(file, os.O_WRONLY | os.O_CREAT | os.O_TRUNC, 0o600), "w") as lines:
             lines.writelines(":".join(account) + "\n" for account in accounts)
-        words = [PROGRAM, "--store", store, "--smpp", str(self.smpp_port), "--links", str(self.link_port)]
-        words += ["--centre", NUMBER, "--sessions", str(sessions), "--accounts", file]
+        asked = [PROGRAM, "--store", store, "--smpp", str(self.smpp_port), "--links", str(self.link_port)]
+        asked += ["--centre", NUMBER, "--sessions", str(sessions), "--accounts", file]
         if status:
-            words += ["--status", str(status)]
-        self.process = subprocess.Popen(words, stdout=subprocess.DEVNULL, stderr=subprocess.PIPE, text=True)
+            asked += ["--status", str(status)]
+        asked += list(words)
+        self.process = subprocess.Popen(asked, stdout=subprocess.DEVNULL, stderr=subprocess.PIPE, text=True)
         self.listens = threading.Event()
         self.reader = threading.Thread(target=self.read, daemon=True)
         self.reader.start()

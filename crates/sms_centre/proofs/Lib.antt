@@ -1,4 +1,5 @@
 mod ActsFirst
+mod Archived
 mod AsDefined
 mod MayGo
 mod Forgotten

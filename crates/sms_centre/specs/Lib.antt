@@ -1,4 +1,5 @@
 pub mod Acting
+pub mod Archiving
 pub mod Forgetting
 pub mod Planning
 pub mod Stopping

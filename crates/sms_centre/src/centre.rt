@@ -5,17 +5,18 @@ ghost use Rattle.sms_centre_rows.specs.waiting.SoundAllocations.{IsNumber};
 ghost use Rattle.sms_centre_spec.specs.declared.event.CentreEvent.{CentreEvent as CentreEventOf};
 ghost use Rattle.sms_centre_spec.specs.CentreEvent.{happened, moment_of, recovered, started};
 ghost use Rattle.sms_centre_spec.specs.Draft.{Core, core_of};
-ghost use Rattle.sms_centre_spec.specs.forgetting.Forget.{forget};
+ghost use Rattle.sms_centre_spec.specs.forgetting.Forget.{forget, going_now, next_from};
 ghost use Rattle.sms_centre_spec.specs.Requests.{cancel_refusal, octets_refusal, query_refusal};
 ghost use Rattle.sms_centre_spec.specs.SoundCore.{AreDifferent, HasNumber, IsEvent};
 ghost use Rattle.sms_centre_spec.specs.SoundRows.{IsSetup};
+ghost use Rattle.sms_centre.specs.Archiving.{AreArchived, Stays};
 ghost use Rattle.sms_centre.specs.Planning.{DefinedOutcome, Fits};
 ghost use Rattle.sms_centre.specs.Stored.{StoresRows};
 ghost use Rattle.sms_centre_rows.specs.messages.Messages.{message_at};
 ghost use Rattle.sms_centre_rows.specs.waiting.Links.{line_of};
 ghost use Rattle.sms_centre_queue.specs.queue.Watching.{figures_of};
 ghost use Rattle.sms_centre_spec.specs.SoundRows.{all_for};
-ghost use Rattle.sms_rows.specs.keep.StoreOutcome.{WasHonest};
+ghost use Rattle.sms_rows.specs.keep.StoreOutcome.{StoreOutcome, WasHonest};
 ghost use Rattle.sms_rows.specs.table.Keys.{AllDigits};
 ghost use Rattle.sms_centre_events.specs.offering.Refusing.{ReadingOutcome};
 ghost use Rattle.sms_centre.specs.plans.EventOutcome.{IsOutcome};
@@ -25,8 +26,10 @@ ghost use Rattle.sms_centre.specs.state.CentreState.{Represents};
 
 use crate::acting::is_event;
 use crate::adopting::put_in;
+use crate::archiving::Archive;
 use crate::finishing::plan_of;
-use crate::forgetting::plan_forget;
+use crate::forget_error::ForgetError;
+use crate::forgetting::{next_from, plan_forget};
 use crate::plan::Plan;
 use crate::plans::Outputs;
 use crate::refusing::{cancel_refusal, query_refusal, submit_refusal};
@@ -36,8 +39,10 @@ use sms_base::lending::put;
 use sms_base::{Digits, Listed, MessageId, Moment, Octets};
 use sms_centre_messages::message_index::copy_of_changes;
 use sms_centre_queue::queue::LinkFigures;
+use sms_centre_recovery::commit;
 use sms_centre_reports::sessions::ReceiptSession;
 use sms_centre_rows::messages::MessageRow as Message;
+use sms_centre_spec::bodies::CentreStore;
 use sms_centre_spec::{CentreEvent, Changes, PlanError, Rows};
 use sms_rows::keep::BodyKeep;
 use sms_rows::table::Table;
@@ -199,15 +204,68 @@ impl Centre {
     }
 
     /// What it leads to that the centre forgets. It looks at so many messages, from that number on. Those go that ended before that
-    /// moment and were reported, where nobody can tell but who asks for them. Nothing has changed yet.
+    /// moment and were reported, where nobody can tell but who asks for them. The archive has them then. Nothing else has changed yet.
     ///
     /// # Errors
-    /// A growth was refused.
-    pub fn plan_forget(&self, before: Moment, from: u64, most: u16) -> Result<Plan, AllocError>
+    /// A growth was refused, or the archive refused a message.
+    pub fn plan_forget<A: Archive>(
+        &self,
+        archive: &mut A,
+        before: Moment,
+        from: u64,
+        most: u16,
+    ) -> Result<Plan, ForgetError>
         ensures outcome { (c : Core) → Represents c self.now → IfOk result (λ p. IsOutcome (forget before from most c) p.plan) }
+        ensures archived { (c : Core) → Represents c self.now
+            → OnOk result (AreArchived (A.keeps archive.new) (going_now before from most c) c.rows.messages) }
+        ensures kept { Stays (A.keeps archive.old) (A.keeps archive.new) }
         ensures fits { IfOk result (Fits self.now) }
     {
-        plan_forget(self.alloc, &self.centre_state, before, from, most)
+        plan_forget(self.alloc, &self.centre_state, archive, before, from, most)
+    }
+
+    /// Forgets: what `plan_forget` plans is archived, committed, and put in, in this order.
+    ///
+    /// # Errors
+    /// As `plan_forget`, or the store refused the commit. The centre stays unchanged, and whatever the archive took may be given to it again.
+    pub fn forget<K: CentreStore, A: Archive>(
+        &mut self,
+        keep: &mut K,
+        archive: &mut A,
+        before: Moment,
+        from: u64,
+        most: u16,
+    ) -> Result<(), ForgetError>
+        ensures outcome { (c : Core) → Represents c self.old
+            → StoreOutcome (λ done. Represents (core_of (forget before from most c)) self.new) c.rows (core_of (forget before from most c)).rows
+            (K.state keep.old) (K.state keep.new) result }
+        // No message goes that the archive does not keep.
+        ensures archived { (c : Core) → Represents c self.old
+            → OnOk result (AreArchived (A.keeps archive.new) (going_now before from most c) c.rows.messages) }
+        ensures kept { Stays (A.keeps archive.old) (A.keeps archive.new) }
+        ensures same { OnErr result (self.new ≡ self.old) }
+        ensures before { WasHonest (K.state keep.old) (K.state keep.new) }
+    {
+        let planned = self.plan_forget(archive, before, from, most)?;
+        match commit(keep, planned.changes()) {
+            Ok(()) => {
+                let outputs = self.adopt(planned);
+                drop(outputs);
+                Ok(())
+            }
+            Err(error) => {
+                drop(planned);
+                Err(ForgetError::Store(error))
+            }
+        }
+    }
+
+    /// The number from which the call that follows goes on: of the first message that this one does not look at, or 0 where it looks at
+    /// the last.
+    pub fn next_from(&self, from: u64, most: u16) -> u64
+        ensures { (c : Core) → Represents c self.now → result ≡ next_from from most c.rows.messages }
+    {
+        next_from(&self.centre_state, from, most)
     }
 
     /// The status with which its octets refuse a submit_sm of that account, if they do. It takes no memory: a caller has it also

@@ -8,17 +8,20 @@ ghost use Rattle.sms_centre_rows.specs.reports.Reports.{report_of};
 ghost use Rattle.sms_centre_rows.specs.waiting.Links.{line_of};
 ghost use Rattle.sms_centre_reports.specs.report_log.ByMessage.{reports_between};
 ghost use Rattle.sms_centre_reports.specs.report_log.ReportLog.{Represents as LogRepresents};
-ghost use Rattle.sms_centre_spec.specs.Draft.{Core, draft_of};
-ghost use Rattle.sms_centre_spec.specs.forgetting.Forget.{forget as forget_of, going_now, is_carried as is_carried_of, is_held_for as is_held_for_of, is_on_way as is_on_way_of, may_go_now as may_go_now_of};
+ghost use Rattle.sms_centre_spec.specs.Draft.{Core, Draft, draft_of};
+ghost use Rattle.sms_centre_spec.specs.forgetting.Forget.{forget as forget_of, going_now, is_carried as is_carried_of, is_held_for as is_held_for_of, is_on_way as is_on_way_of, may_go_now as may_go_now_of, next_from as next_from_of};
 ghost use Rattle.sms_centre_spec.specs.forgetting.Forgetting.{bars_reference as bars_reference_of, is_before, is_reported as is_reported_of, may_go as may_go_of};
 ghost use Rattle.sms_centre_draft.specs.CentreDraft.{Represents as DraftRepresents};
 ghost use Rattle.sms_centre_draft.specs.Forgetting.{ArePlaced};
+ghost use Rattle.sms_centre.specs.Archiving.{AreArchived, Stays};
 ghost use Rattle.sms_centre.specs.Forgetting.{gone_at};
 ghost use Rattle.sms_centre.specs.Planning.{Fits};
 ghost use Rattle.sms_centre.specs.plans.EventOutcome.{IsOutcome};
 ghost use Rattle.sms_centre.specs.state.CentreState.{CentreStateOf, Represents as StateRepresents};
 
+use crate::archiving::{Archive, archive_all};
 use crate::finishing::planned;
+use crate::forget_error::ForgetError;
 use crate::plan::Plan;
 use crate::state::CentreState;
 use sms_base::{Carried, Digits, FinalState, Holder, MessageId, Moment};
@@ -306,21 +309,43 @@ fn reports_to(
 
 // ---- the plan
 
-fn forget(
+fn forget<A: Archive>(
     alloc: Global,
     state: &CentreState,
     draft: &mut CentreDraft<'_>,
+    archive: &mut A,
     before: Moment,
     from: u64,
     most: u16,
-) -> Result<(), AllocError>
-    ensures { (c : Core) → DraftRepresents (draft_of c) draft.old → StateRepresents c state.now
+) -> Result<(), ForgetError>
+    ensures plan { (c : Core) → DraftRepresents (draft_of c) draft.old → StateRepresents c state.now
         → OnOk result (DraftRepresents (forget_of before from most c) draft.new) }
+    ensures archived { (c : Core) → DraftRepresents (draft_of c) draft.old → StateRepresents c state.now
+        → OnOk result (AreArchived (A.keeps archive.new) (going_now before from most c) c.rows.messages) }
+    ensures kept { Stays (A.keeps archive.old) (A.keeps archive.new) }
 {
     let ids = going(alloc, draft, state, before, from, most)?;
-    let done = forget_all(alloc, state, draft, ids.as_slice());
+    let done = forget_archived(alloc, state, draft, archive, ids.as_slice());
     drop(ids);
     done
+}
+
+// What is forgotten is archived first.
+fn forget_archived<A: Archive>(
+    alloc: Global,
+    state: &CentreState,
+    draft: &mut CentreDraft<'_>,
+    archive: &mut A,
+    ids: &[MessageId],
+) -> Result<(), ForgetError>
+    ensures plan { (before from most : ℕ) (c : Core) → DraftRepresents (draft_of c) draft.old → StateRepresents c state.now
+        → ids.now ≡ going_now before from most c → OnOk result (DraftRepresents (forget_of before from most c) draft.new) }
+    ensures archived { (c : Core) → StateRepresents c state.now → OnOk result (AreArchived (A.keeps archive.new) ids.now c.rows.messages) }
+    ensures kept { Stays (A.keeps archive.old) (A.keeps archive.new) }
+{
+    archive_all(alloc, state, archive, ids)?;
+    forget_all(alloc, state, draft, ids)?;
+    Ok(())
 }
 
 fn forget_all(
@@ -338,20 +363,24 @@ fn forget_all(
     done
 }
 
-fn plan_begun(
+fn plan_begun<A: Archive>(
     alloc: Global,
     state: &CentreState,
     mut draft: CentreDraft<'_>,
+    archive: &mut A,
     before: Moment,
     from: u64,
     most: u16,
-) -> Result<Plan, AllocError>
+) -> Result<Plan, ForgetError>
     ensures plan { (c : Core) → DraftRepresents (draft_of c) draft.entry → StateRepresents c state.now
         → IfOk result (λ p. IsOutcome (forget_of before from most c) p.plan) }
+    ensures archived { (c : Core) → DraftRepresents (draft_of c) draft.entry → StateRepresents c state.now
+        → OnOk result (AreArchived (A.keeps archive.new) (going_now before from most c) c.rows.messages) }
+    ensures kept { Stays (A.keeps archive.old) (A.keeps archive.new) }
     ensures fits { IfOk result (Fits state.now) }
 {
-    match forget(alloc, state, &mut draft, before, from, most) {
-        Ok(()) => planned(alloc, state, draft),
+    match forget(alloc, state, &mut draft, archive, before, from, most) {
+        Ok(()) => finished(alloc, state, draft),
         Err(error) => {
             drop(draft);
             Err(error)
@@ -359,17 +388,39 @@ fn plan_begun(
     }
 }
 
-/// The plan of forgetting: of the first so many messages from that number on those go that may, and ended before that moment.
-pub(crate) fn plan_forget(
+fn finished(alloc: Global, state: &CentreState, draft: CentreDraft<'_>) -> Result<Plan, ForgetError>
+    ensures plan { (d : Draft) → DraftRepresents d draft.entry → IfOk result (λ p. IsOutcome d p.plan) }
+    ensures fits { IfOk result (Fits state.now) }
+{
+    let plan = planned(alloc, state, draft)?;
+    Ok(plan)
+}
+
+/// The plan of forgetting: of the first so many messages from that number on those go that may, and ended before that moment. The
+/// archive has them then.
+pub(crate) fn plan_forget<A: Archive>(
     alloc: Global,
     state: &CentreState,
+    archive: &mut A,
     before: Moment,
     from: u64,
     most: u16,
-) -> Result<Plan, AllocError>
+) -> Result<Plan, ForgetError>
     ensures plan { (c : Core) → StateRepresents c state.now → IfOk result (λ p. IsOutcome (forget_of before from most c) p.plan) }
+    ensures archived { (c : Core) → StateRepresents c state.now
+        → OnOk result (AreArchived (A.keeps archive.new) (going_now before from most c) c.rows.messages) }
+    ensures kept { Stays (A.keeps archive.old) (A.keeps archive.new) }
     ensures fits { IfOk result (Fits state.now) }
 {
     let draft = state.begin(alloc)?;
-    plan_begun(alloc, state, draft, before, from, most)
+    plan_begun(alloc, state, draft, archive, before, from, most)
+}
+
+// ---- where the next call goes on
+
+/// The number of the first message that a call does not look at, or 0 where it looks at the last.
+pub(crate) fn next_from(state: &CentreState, from: u64, most: u16) -> u64
+    ensures { (c : Core) → StateRepresents c state.now → result ≡ next_from_of from most c.rows.messages }
+{
+    state.messages.number_behind(from, most)
 }

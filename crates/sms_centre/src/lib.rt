@@ -9,8 +9,10 @@
 //!
 //! - `acting`: what an event does by itself
 //! - `adopting`: a plan, put in
+//! - `archiving`: archives of what a centre forgets
 //! - `centre`: the centre and its calls
 //! - `finishing`: what follows an event, and its plan
+//! - `forget_error`: why a centre forgot nothing
 //! - `forgetting`: which messages a centre may forget, and the plan of it
 //! - `laws`: laws of the centre's events
 //! - `lending`: a centre that is lent
@@ -22,8 +24,10 @@
 
 mod acting;
 mod adopting;
+mod archiving;
 mod centre;
 mod finishing;
+mod forget_error;
 mod forgetting;
 pub mod laws;
 mod lending;
@@ -34,7 +38,9 @@ pub mod state;
 
 pub use crate::plans::Outputs;
 pub use crate::state::{RecoverError, first_rows};
+pub use archiving::{Archive, NoArchive, NotArchived};
 pub use centre::Centre;
+pub use forget_error::ForgetError;
 pub use lending::with_centre;
 pub use plan::Plan;
 pub use sms_centre_queue::queue::LinkFigures;

@@ -1,6 +1,8 @@
 pub mod Entries
 pub mod Forgetting
+pub mod Numbers
 pub mod IndexRepresents
+pub mod Passing
 pub mod PastOnes
 pub mod Places
 pub mod PutPlaces

@@ -20,4 +20,4 @@ pub use handset_link::{HandsetLink, Sent};
 pub use progress::Progress;
 pub use queued_part::QueuedPart;
 pub use reference::ReferenceRow;
-pub use revision::Revision;
+pub use revision::{Revision, only_remove};

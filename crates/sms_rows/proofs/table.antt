@@ -1,4 +1,5 @@
 pub mod KeyLaws
 pub mod Places
+pub mod Removals
 pub mod SinceLaws
 pub mod Tables

@@ -5,15 +5,15 @@
 //! digits and a small number; contracts see it as one number. `TableDraft` is a table within an event: the rows from
 //! before it, and what it changed. It settles into changes with the memory that they need. `adopt` puts them in without
 //! taking more: so a plan is made, is committed, and then can't fail.
-ghost use Rattle.std.specs.Prelude.{◌≡◌, ◌↔◌, ℕ, ◌+◌, ◌*◌, ◌<◌, ◌≤◌, true, [], nat_lt, length, drop, max, vec_capacity, MatchResult, OnOk, OnErr, IsOk, IfOk, IfErr, option_copied};
-ghost use Rattle.sms_rows.specs.table.Table.{HasRoom, IsAt, IsGap, Rises, all_applied, applied, put, row_at, rows_between, rows_from, reserve_for, without};
+ghost use Rattle.std.specs.Prelude.{◌≡◌, ◌↔◌, ℕ, ◌+◌, ◌*◌, ◌<◌, ◌≤◌, not, true, [], nat_lt, length, map, drop, max, vec_capacity, MatchResult, OnOk, OnErr, IsOk, IfOk, IfErr, option_copied};
+ghost use Rattle.sms_rows.specs.table.Table.{HasRoom, IsAt, IsGap, IsRange, Rises, all_applied, applied, is_there, put, row_at, rows_between, rows_from, reserve_for, without, without_all};
 
 mod change;
 mod draft;
 mod key;
 pub mod laws;
 
-pub use change::Change;
+pub use change::{Change, are_removals};
 pub use draft::{TableDraft, TablePlan, adopt};
 pub use key::Key;
 use std::alloc::{AllocError, Global};
@@ -139,6 +139,14 @@ impl<T: Drop + Row> Table<T> {
         &rows[..len]
     }
 
+    /// The rows whose keys are not below the one.
+    pub fn rows_from(&self, first: Key) -> &[T]
+        ensures { result.now ≡ rows_from T.key first self.now.rows }
+    {
+        let start = self.start_of(first);
+        &self.items.as_slice()[start..]
+    }
+
     /// The row that the key has after the changes, if there is one.
     pub fn find_after<'a>(&'a self, changes: &'a [Change<T>], key: Key) -> Option<&'a T>
         ensures { option_copied result ≡ row_at T.key key (all_applied T.key changes.entry.now self.entry.now.rows) }
@@ -201,8 +209,36 @@ impl<T: Drop + Row> Table<T> {
         }
     }
 
-    /// Carries out the changes in their order without taking memory.
+    /// Removes the rows that have the key of one of these. It passes all rows once, and takes no memory.
+    pub fn remove_all<C: Row>(&mut self, others: &[C])
+        ensures { self.new ≡ record self.old { rows = without_all T.key (map C.key others.now) self.old.rows } }
+    {
+        let range = range_of(others);
+        self.items.retain(
+            |row: &T| -> bool
+                ensures { IsRange C.key range.low range.high others.entry.now → result ≡ not (is_there C.key (T.key row.now) others.entry.now) }
+            { !is_in(others, range, row.key()) },
+        );
+    }
+
+    /// Carries out the changes in their order without taking memory. Several removals alone cost one pass.
     pub fn apply_all(&mut self, changes: Vec<Change<T>>)
+        requires { HasRoom (length changes.items) self.old }
+        ensures { self.new ≡ record self.old { rows = all_applied T.key changes.items self.old.rows } }
+    {
+        if changes.len() < 2 {
+            self.apply_each(changes);
+            return;
+        }
+        if are_removals(changes.as_slice()) {
+            self.remove_all(changes.as_slice());
+            drop(changes);
+            return;
+        }
+        self.apply_each(changes);
+    }
+
+    fn apply_each(&mut self, changes: Vec<Change<T>>)
         requires { HasRoom (length changes.items) self.old }
         ensures { self.new ≡ record self.old { rows = all_applied T.key changes.items self.old.rows } }
     {
@@ -272,4 +308,63 @@ pub fn rises<T: Row>(rows: &[T]) -> bool
         }
     }
     true
+}
+
+// The numbers of keys from one to another.
+#[derive(Clone, Copy, Debug)]
+struct KeyRange {
+    low: u128,
+    high: u128,
+}
+
+fn lower(one: u128, other: u128) -> u128
+    ensures one { result ≤ one }
+    ensures other { result ≤ other }
+{
+    if one < other { one } else { other }
+}
+
+fn higher(one: u128, other: u128) -> u128
+    ensures one { one ≤ result }
+    ensures other { other ≤ result }
+{
+    if one < other { other } else { one }
+}
+
+// From the lowest key of these rows to the highest.
+fn range_of<C: Row>(rows: &[C]) -> KeyRange
+    ensures { IsRange C.key result.low result.high rows.now }
+{
+    let mut low = u128::MAX;
+    let mut high = 0;
+    for row in rows {
+        let number = row.key().number();
+        low = lower(low, number);
+        high = higher(high, number);
+    }
+    KeyRange { low, high }
+}
+
+// Whether one of these rows, of keys in that range, has that key.
+fn is_in<C: Row>(rows: &[C], range: KeyRange, key: Key) -> bool
+    ensures { IsRange C.key range.low range.high rows.now → result ≡ is_there C.key key rows.now }
+{
+    if key.number() < range.low {
+        return false;
+    }
+    if range.high < key.number() {
+        return false;
+    }
+    has_key(rows, key)
+}
+
+fn has_key<C: Row>(rows: &[C], key: Key) -> bool
+    ensures { result ≡ is_there C.key key rows.now }
+{
+    for row in rows {
+        if row.key().number() == key.number() {
+            return true;
+        }
+    }
+    false
 }

@@ -6,4 +6,5 @@ mod Roomy
 mod Sittings
 mod Standing
 mod Stepped
+mod Walking
 mod RepliesOfPlans

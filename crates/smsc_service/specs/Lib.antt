@@ -1,4 +1,5 @@
 pub mod Asking
+pub mod Forgetting
 pub mod InMachine
 pub mod InSeated
 pub mod InService

@@ -18,6 +18,7 @@
 //! - `causes`: by which causes handsets refused what was delivered
 //! - `cutoff`: whether it is too late to begin anything
 //! - `ends`: the ends of messages
+//! - `forgetting`: what a run forgets as it starts
 //! - `seat_map`: which handset and which session is at which seat
 //! - `laws`: laws of the service's steps
 //! - `lending`: a service that is lent
@@ -45,6 +46,7 @@ mod bound_session;
 mod causes;
 mod cutoff;
 mod ends;
+mod forgetting;
 pub mod laws;
 mod lending;
 mod link_board;
@@ -68,6 +70,7 @@ mod stimuli;
 pub use asking::{SeatRequest, job_asks};
 pub use bound_session::{handsets_of, sessions_of};
 pub use cutoff::Cutoff;
+pub use forgetting::forget_ended;
 pub use lending::serve_with;
 pub use link_board::{CauseCount, LinkBoard};
 pub use machine::CentreMachine;
@@ -75,7 +78,7 @@ pub use replies::{Requester, failed, reply_outs, taken};
 pub use seat_map::{BoundSession, LinkSeat, SeatMap};
 pub use served::Served;
 pub use service::Service;
-pub use sms_centre::Setup;
+pub use sms_centre::{Archive, ForgetError, NotArchived, Setup};
 pub use sms_centre_spec::bodies::CentreStore;
 pub use sms_intake::{AllowedSource, CentreAccount};
 pub use start_error::StartError;

@@ -252,8 +252,8 @@ pub fn refusals_text(
     )?)
 }
 
-// The word of a receipt for an end (SMPP v3.4 appendix B).
-fn state_word(state: FinalState) -> &'static str {
+/// The word of a receipt for an end (SMPP v3.4 appendix B).
+pub fn state_word(state: FinalState) -> &'static str {
     match state {
         FinalState::Delivered => "DELIVRD",
         FinalState::Expired => "EXPIRED",

@@ -5,7 +5,9 @@
 //!
 //! - `access`: the access log
 //! - `account_file`: the accounts of a run, from its words and from their file
+//! - `archive`: the file to which a run writes what it forgets
 //! - `control`: orders of an operator, over a Unix socket
+//! - `forgetting`: what a run forgets as it starts
 //! - `lines`: the lines of the log
 //! - `link_secrets`: the secrets of links, from their file
 //! - `logging`: the log, which a thread of its own writes
@@ -32,7 +34,9 @@
 
 mod access;
 mod account_file;
+mod archive;
 mod control;
+mod forgetting;
 mod lines;
 mod link_secrets;
 mod logging;

@@ -1,6 +1,7 @@
 //! A run of the server.
 use crate::account_file::book_of;
 use crate::control::Control;
+use crate::forgetting::forget_old;
 use crate::logging::{self, Log, LogThread};
 use crate::moments::{now, text_of};
 use crate::opening::{FoundStore, open_store};
@@ -377,9 +378,10 @@ fn say_store<R: Wait + Copy>(
     Ok(())
 }
 
-// Logs what the rows say, and gives it.
+// Logs what the rows say, and gives it. What need not be kept is forgotten.
 fn look_at<R: Wait + Copy, K: CentreStore>(
-    alloc: Global,
+    host: &HostRuntime,
+    run: &ServerRun<'_>,
     watchers: &Watchers<R>,
     keep: &mut K,
     found: &FoundStore,
@@ -388,8 +390,8 @@ fn look_at<R: Wait + Copy, K: CentreStore>(
     let rows = keep.gather()?;
     let summary = summary_of(&rows, start);
     watchers.begin(&rows);
-    drop(rows);
-    say_store(alloc, &*watchers.log, found, &summary)?;
+    say_store(host.alloc(), &*watchers.log, found, &summary)?;
+    forget_old(host, &*watchers.log, run, keep, rows, start, summary.newest)?;
     Ok(summary)
 }
 
@@ -488,7 +490,7 @@ fn serve_keep<R: Threads + Wait + Clock + Copy + Send + Sync + 'static, K: Centr
     start: Moment,
 ) -> Result<K, RunFault> {
     let mut keep = keep;
-    let summary = look_at(host.alloc(), &*given.observer, &mut keep, found, start)?;
+    let summary = look_at(&host, run, &*given.observer, &mut keep, found, start)?;
     let clock = clock_of(rt, summary.newest, run.is_ahead)?;
     let ports = open_ports(&host, run)?;
     serve_ports(host, rt, run, given, beside, keep, ports, &summary, &clock)

@@ -12,7 +12,8 @@ use lab_lines::lines::{Happened, SubstituteKeep, Trouble, alone, handset, print_
 use lab_lines::refusals::{MOST_CALLS, Purse};
 use sms_base::{Digits, Listed, Moment};
 use sms_centre::{
-    Centre, CentreEvent, Outputs, Plan, PlanError, ReceiptSession, RecoverError, Rows, with_centre,
+    Centre, CentreEvent, NoArchive, Outputs, Plan, PlanError, ReceiptSession, RecoverError, Rows,
+    with_centre,
 };
 use sms_rows::keep::Keep;
 use sms_rows::table::Table;
@@ -156,7 +157,9 @@ fn forgets(
     from: u64,
     most: u16,
 ) -> Result<Outputs, Trouble> {
-    let planned = centre.plan_forget(before, from, most)?;
+    let Ok(planned) = centre.plan_forget(&mut NoArchive, before, from, most) else {
+        return Err(Trouble::NoMemory);
+    };
     Ok(adopted(centre, keep, is_kept, planned))
 }
 

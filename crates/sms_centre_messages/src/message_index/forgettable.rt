@@ -6,14 +6,16 @@ ghost use Rattle.sms_centre_rows.specs.messages.Messages.{message_key};
 ghost use Rattle.sms_centre_rows.specs.messages.PartEntries.{Few, entry_key};
 ghost use Rattle.sms_centre_rows.specs.declared.messages.message.MessageRow.{MessageRow as MessageRowOf};
 ghost use Rattle.sms_centre_rows.specs.declared.messages.part.PartRow.{PartRow as PartRowOf};
+ghost use Rattle.sms_centre_spec.specs.forgetting.Forget.{next_from};
 ghost use Rattle.sms_centre_spec.specs.forgetting.Forgetting.{has_own_wide, leaves_number};
 ghost use Rattle.sms_centre_messages.specs.message_index.Entries.{message_entry_key};
-ghost use Rattle.sms_centre_messages.specs.message_index.Forgettable.{is_own_wide, own_wide_to};
+ghost use Rattle.sms_centre_messages.specs.message_index.Forgettable.{count_parts, is_own_wide, own_wide_to};
 ghost use Rattle.sms_centre_messages.specs.message_index.MessageIndex.{Represents};
 
 use crate::message_index::index::MessageIndex;
 use crate::message_index::message_entry::MessageEntry;
 use crate::references::own_reference;
+use sms_base::MessageId;
 use sms_centre_rows::messages::MessageRow;
 use sms_rows::table::Key;
 use std::alloc::{AllocError, Global};
@@ -39,6 +41,31 @@ impl MessageIndex {
             Some(entry) => self.names.row(alloc, entry),
             None => Ok(None),
         }
+    }
+
+    /// The number of the first message behind so many from that number on, or 0 where there is none.
+    pub fn number_behind(&self, number: u64, most: u16) -> u64
+        ensures { (ms : List MessageRowOf) (ps : List PartRowOf) → Represents self.now ms ps → result ≡ next_from number most ms }
+    {
+        match self
+            .messages
+            .rows_from(Key::of(number))
+            .get(usize::from(most))
+        {
+            Some(entry) => entry.id.number(),
+            None => 0,
+        }
+    }
+
+    /// How many parts the message has.
+    pub fn count_parts(&self, id: MessageId) -> usize
+        ensures { (ms : List MessageRowOf) (ps : List PartRowOf) → Represents self.now ms ps → result ≡ count_parts id ps }
+    {
+        let number = id.number();
+        let parts = self
+            .parts
+            .rows_between(Key::pair(number, 0), Key::pair(number, 255));
+        parts.len()
     }
 
     /// Whether a later message gives the next number, and was submitted no earlier.

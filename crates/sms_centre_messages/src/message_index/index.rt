@@ -15,7 +15,7 @@ use crate::message_index::parts_draft::{PartsPlan, adopt_parts};
 use sms_base::{Listed, MessageId, Moment};
 use sms_centre_rows::messages::{MessageRow, PartEntry};
 use sms_rows::expiry::{Deadline, Deadlines, DeadlinesReserve};
-use sms_rows::table::{Change, Key, Table, TableReserve};
+use sms_rows::table::{Change, Key, Table, TableReserve, are_removals};
 use std::alloc::{AllocError, Global};
 use std::marker::Model;
 
@@ -264,8 +264,25 @@ impl MessageIndex {
         }
     }
 
-    // Carries the changes out in their order.
+    // Carries the changes out in their order. Several removals alone cost one pass.
     fn apply_all(&mut self, changes: Vec<Change<MessageRow>>)
+        requires { HasRoomFor (length changes.items) self.old }
+        ensures { (ms : List MessageRowOf) (ps : List PartRowOf) → Represents self.old ms ps
+            → Represents self.new (all_applied message_key changes.items ms) ps }
+    {
+        if changes.len() < 2 {
+            self.apply_each(changes);
+            return;
+        }
+        if are_removals(changes.as_slice()) {
+            self.messages.remove_all(changes.as_slice());
+            drop(changes);
+            return;
+        }
+        self.apply_each(changes);
+    }
+
+    fn apply_each(&mut self, changes: Vec<Change<MessageRow>>)
         requires { HasRoomFor (length changes.items) self.old }
         ensures { (ms : List MessageRowOf) (ps : List PartRowOf) → Represents self.old ms ps
             → Represents self.new (all_applied message_key changes.items ms) ps }

@@ -10,7 +10,7 @@ ghost use Rattle.sms_centre_rows.specs.waiting.Revisions.{all_revised, revised};
 use crate::report_log::by_message::{MessageReport, note};
 use sms_base::MessageId;
 use sms_centre_rows::reports::ReportRow;
-use sms_centre_rows::waiting::Revision;
+use sms_centre_rows::waiting::{Revision, only_remove};
 use sms_rows::table::{Key, Row, Table, TableReserve};
 use std::alloc::{AllocError, Global};
 use std::marker::Model;
@@ -156,7 +156,23 @@ impl ReportLog {
         self.apply_all(changes);
     }
 
+    // Several removals alone cost one pass.
     fn apply_all(&mut self, changes: &[Revision<ReportRow>])
+        requires { HasRoom (length changes.now) self.old }
+        ensures { (rows : List ReportRowOf) → Represents self.old rows → Represents self.new (all_revised report_key report_reaching changes.now rows) }
+    {
+        if changes.len() < 2 {
+            self.apply_each(changes);
+            return;
+        }
+        if only_remove(changes) {
+            self.reports.remove_all(changes);
+            return;
+        }
+        self.apply_each(changes);
+    }
+
+    fn apply_each(&mut self, changes: &[Revision<ReportRow>])
         requires { HasRoom (length changes.now) self.old }
         ensures { (rows : List ReportRowOf) → Represents self.old rows → Represents self.new (all_revised report_key report_reaching changes.now rows) }
     {

@@ -1,6 +1,7 @@
 -- Rows that keep a TPDU, in the middle of an event: those that were there, and the changes since, the newest first. A row is put
 -- whole, or only how far it is changes.
 use Rattle.std.specs.Prelude.{ℕ, ◌==◌, if◌then◌else◌, List, [], ◌∷◌, ◌++◌}
+use Rattle.std.specs.List.{AllByRecursion}
 use Rattle.sms_rows.specs.table.Table.{put, without}
 use Rattle.sms_centre_rows.specs.declared.waiting.progress.Progress.{Progress}
 use Rattle.sms_centre_rows.specs.declared.waiting.revision.Revision.{Revision}
@@ -22,6 +23,22 @@ revised key reaching (Remove n) rows = without key n rows
 abbrev pub all_revised : {A : Type 0} → (A → ℕ) → (Progress → A → A) → List (Revision A) → List A → List A
 all_revised key reaching [] rows = rows
 all_revised key reaching (change ∷ changes) rows = all_revised key reaching changes (revised key reaching change rows)
+
+-- it removes a row
+abbrev pub Removes : {A : Type 0} → Revision A → Type 0
+Removes (Put x) = ⊥
+Removes (Amend n progress) = ⊥
+Removes (Remove n) = Unit {0}
+
+-- each of them does
+abbrev pub OnlyRemove : {A : Type 0} → List (Revision A) → Type 0
+OnlyRemove changes = AllByRecursion (λ change. Removes change) changes
+
+-- the key that a change is of
+abbrev pub revision_key : {A : Type 0} → (A → ℕ) → Revision A → ℕ
+revision_key key (Put x) = key x
+revision_key key (Amend n progress) = n
+revision_key key (Remove n) = n
 
 -- ---- in the middle of an event
 

@@ -1,6 +1,9 @@
 //! What an event changes in a list whose rows keep a TPDU.
+ghost use Rattle.std.specs.Prelude.{◌≡◌, ◌↔◌, true};
+ghost use Rattle.sms_centre_rows.specs.waiting.Revisions.{OnlyRemove, Removes, revision_key};
+
 use crate::waiting::progress::Progress;
-use sms_rows::table::Key;
+use sms_rows::table::{Key, Row};
 
 /// One change of a list whose rows keep a TPDU. Who amends a row needs to know nothing of its TPDU, which stays.
 #[derive(Debug, Drop)]
@@ -11,4 +14,40 @@ pub enum Revision<T: Drop> {
     Amend { key: Key, progress: Progress },
     /// The row of that key is removed.
     Remove(Key),
+}
+
+impl<T: Drop> Revision<T> {
+    fn removes(&self) -> bool
+        ensures { (result ≡ true) ↔ Removes self.now }
+    {
+        match self {
+            Revision::Put(_) => false,
+            Revision::Amend { .. } => false,
+            Revision::Remove(_) => true,
+        }
+    }
+}
+
+impl<T: Drop + Row> Row for Revision<T> {
+    ghost key = { revision_key T.key };
+
+    fn key(&self) -> Key {
+        match self {
+            Revision::Put(row) => row.key(),
+            Revision::Amend { key, .. } => *key,
+            Revision::Remove(key) => *key,
+        }
+    }
+}
+
+/// Whether all of the changes remove rows.
+pub fn only_remove<T: Drop>(changes: &[Revision<T>]) -> bool
+    ensures { (result ≡ true) ↔ OnlyRemove changes.now }
+{
+    for change in changes {
+        if !change.removes() {
+            return false;
+        }
+    }
+    true
 }

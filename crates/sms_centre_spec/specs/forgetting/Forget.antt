@@ -1,13 +1,14 @@
 -- Forgetting as stages of an event, with its changes. It looks at so many messages from a number on, and those that may go leave, each
 -- with its report, its parts and its priority. Nothing is due by it, so nothing follows it.
-use Rattle.std.specs.Prelude.{ℕ, zero, suc, ◌==◌, ◌&&◌, ◌||◌, not, List, [], ◌∷◌, Bool, false, Option, Some, None}
+use Rattle.std.specs.Prelude.{ℕ, zero, suc, ◌==◌, ◌&&◌, ◌||◌, not, drop, List, [], ◌∷◌, Bool, false, Option, Some, None}
 use Rattle.sms_base.specs.declared.carried.Carried.{Carried}
 use Rattle.sms_base.specs.declared.holder.Holder.{Holder}
 use Rattle.sms_base.specs.declared.holder.Holder.TheVariants.{Part, Report, Entry, Memory}
 use Rattle.sms_rows.specs.table.Since.{take_out}
+use Rattle.sms_rows.specs.table.Table.{rows_from}
 use Rattle.sms_centre_rows.specs.declared.messages.message.MessageRow.{MessageRow}
 use Rattle.sms_centre_rows.specs.declared.messages.part.PartRow.{PartRow}
-use Rattle.sms_centre_rows.specs.messages.Messages.{Messages, part_at, part_key, parts_of}
+use Rattle.sms_centre_rows.specs.messages.Messages.{Messages, message_key, part_at, part_key, parts_of}
 use Rattle.sms_centre_rows.specs.messages.SplitReferences.{is_among}
 use Rattle.sms_centre_rows.specs.declared.reports.report.ReportRow.{ReportRow}
 use Rattle.sms_centre_rows.specs.reports.Receipts.{is_unanswered}
@@ -43,6 +44,14 @@ going_now before from most c = going_from (may_go_now before c) from most c.rows
 
 abbrev pub is_going_now : ℕ → ℕ → ℕ → Core → ℕ → Bool
 is_going_now before from most c id = is_among id (going_now before from most c)
+
+-- the number of the first message that is not looked at, or 0 where the last one is
+abbrev pub first_number : List MessageRow → ℕ
+first_number [] = 0
+first_number (m ∷ ms) = m.id
+
+abbrev pub next_from : ℕ → ℕ → List MessageRow → ℕ
+next_from from most ms = first_number (drop most (rows_from message_key from ms))
 
 -- ---- moves of messages, and of reports: one change of one list each
 

@@ -1,5 +1,5 @@
 -- Tables: rows by their keys, in the order of their keys, at most one row a key; and changes of a table.
-use Rattle.std.specs.Prelude.{◌≡◌, ℕ, zero, suc, ◌+◌, ◌*◌, ◌<◌, ◌≤◌, ◌==◌, nat_lt, nat_le, length, if◌then◌else◌, Option, Some, None, List, [], ◌∷◌}
+use Rattle.std.specs.Prelude.{◌≡◌, ℕ, zero, suc, ◌+◌, ◌*◌, ◌<◌, ◌≤◌, ◌==◌, nat_lt, nat_le, length, is_some, ◌||◌, Bool, true, false, if◌then◌else◌, Option, Some, None, List, [], ◌∷◌}
 use Rattle.std.specs.List.{AllByRecursion}
 use Rattle.sms_rows.specs.declared.table.change.Change.{Change}
 use Rattle.sms_rows.specs.declared.table.change.Change.TheVariants.{Put, Remove}
@@ -8,6 +8,14 @@ use Rattle.sms_rows.specs.declared.table.change.Change.TheVariants.{Put, Remove}
 abbrev pub row_at : {A : Type 0} → (A → ℕ) → ℕ → List A → Option A
 row_at key n [] = None
 row_at key n (row ∷ rows) = if key row == n then Some row else row_at key n rows
+
+-- there is a row of that key
+abbrev pub is_there : {A : Type 0} → (A → ℕ) → ℕ → List A → Bool
+is_there key n rows = is_some (row_at key n rows)
+
+-- all their keys are from the one to the other
+abbrev pub IsRange : {A : Type 0} → (A → ℕ) → ℕ → ℕ → List A → Type 0
+IsRange key low high rows = (n : ℕ) → (nat_lt n low || nat_lt high n) ≡ true → is_there key n rows ≡ false
 
 -- the rows from the first one that is not below the key
 abbrev pub rows_from : {A : Type 0} → (A → ℕ) → ℕ → List A → List A
@@ -27,6 +35,11 @@ rows_between key first end rows = rows_before key end (rows_from key first rows)
 abbrev pub without : {A : Type 0} → (A → ℕ) → ℕ → List A → List A
 without key n [] = []
 without key n (row ∷ rows) = if key row == n then without key n rows else row ∷ without key n rows
+
+-- the rows of none of these keys
+abbrev pub without_all : {A : Type 0} → (A → ℕ) → List ℕ → List A → List A
+without_all key [] rows = rows
+without_all key (n ∷ ns) rows = without_all key ns (without key n rows)
 
 -- the row precedes the first row of a greater key
 abbrev pub insert : {A : Type 0} → (A → ℕ) → A → List A → List A
@@ -87,6 +100,15 @@ applied key (Remove n) rows = without key n rows
 abbrev pub all_applied : {A : Type 0} → (A → ℕ) → List (Change A) → List A → List A
 all_applied key [] rows = rows
 all_applied key (change ∷ changes) rows = all_applied key changes (applied key change rows)
+
+-- it removes a row
+abbrev pub IsRemoval : {A : Type 0} → Change A → Type 0
+IsRemoval (Put x) = ⊥
+IsRemoval (Remove n) = Unit {0}
+
+-- each of them does
+abbrev pub AreRemovals : {A : Type 0} → List (Change A) → Type 0
+AreRemovals changes = AllByRecursion (λ change. IsRemoval change) changes
 
 -- the key that a change is of
 abbrev pub change_key : {A : Type 0} → (A → ℕ) → Change A → ℕ

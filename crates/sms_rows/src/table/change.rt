@@ -1,9 +1,9 @@
 //! What an event changes in a table.
-ghost use Rattle.std.specs.Prelude.{◌≡◌, option_copied};
-ghost use Rattle.sms_rows.specs.table.Table.{all_applied, change_key, change_row, row_at};
+ghost use Rattle.std.specs.Prelude.{◌≡◌, ◌↔◌, true, option_copied};
+ghost use Rattle.sms_rows.specs.table.Table.{AreRemovals, IsRemoval, change_key, change_row};
 
+use crate::table::Row;
 use crate::table::key::Key;
-use crate::table::{Row, Table};
 
 /// One change of a table of rows.
 #[derive(Debug, Drop)]
@@ -34,4 +34,35 @@ impl<T: Drop + Row> Change<T> {
             Change::Remove(_) => None,
         }
     }
+}
+
+impl<T: Drop> Change<T> {
+    fn is_removal(&self) -> bool
+        ensures { (result ≡ true) ↔ IsRemoval self.now }
+    {
+        match self {
+            Change::Put(_) => false,
+            Change::Remove(_) => true,
+        }
+    }
+}
+
+impl<T: Drop + Row> Row for Change<T> {
+    ghost key = { change_key T.key };
+
+    fn key(&self) -> Key {
+        Change::key(self)
+    }
+}
+
+/// Whether all of the changes remove rows.
+pub fn are_removals<T: Drop>(changes: &[Change<T>]) -> bool
+    ensures { (result ≡ true) ↔ AreRemovals changes.now }
+{
+    for change in changes {
+        if !change.is_removal() {
+            return false;
+        }
+    }
+    true
 }

@@ -27,6 +27,8 @@ spelled given texts o run a h = record {
   link_secrets = sym a.link_secrets ∙ h.link_secrets;
   control = sym a.control ∙ h.control;
   status = subst (λ v. Wants (SpellsFrom 1) v run.status) a.status h.status;
+  keep = subst (λ v. Wants SpellsCount v run.keep) a.keep h.keep;
+  archive = sym a.archive ∙ h.archive;
   ahead = h.ahead ∙ ap is_given a.ahead;
   new_store = h.new_store ∙ ap is_given a.new_store;
   accept_loss = h.accept_loss ∙ ap is_given a.accept_loss;
@@ -35,9 +37,9 @@ spelled given texts o run a h = record {
 }
 
 pub given_to : (given : List ℕ → Option (List ℕ)) (texts : List (List ℕ)) (o : Options) → AreOptionsOf given texts o
-    → SpellsServer (given (codes "store")) (given (codes "smpp")) (given (codes "links")) (given (codes "centre")) (given (codes "sessions")) (given (codes "status")) (given (codes "log"))
+    → SpellsServer (given (codes "store")) (given (codes "smpp")) (given (codes "links")) (given (codes "centre")) (given (codes "sessions")) (given (codes "status")) (given (codes "keep")) (given (codes "log"))
     → SpellsServer (option_map (λ s. s.now) o.store) (option_map (λ s. s.now) o.smpp) (option_map (λ s. s.now) o.links) (option_map (λ s. s.now) o.centre)
-    (option_map (λ s. s.now) o.sessions) (option_map (λ s. s.now) o.status) (option_map (λ s. s.now) o.log)
+    (option_map (λ s. s.now) o.sessions) (option_map (λ s. s.now) o.status) (option_map (λ s. s.now) o.keep) (option_map (λ s. s.now) o.log)
 given_to given texts o a h = (
   (h.0.0, a.store ∙ h.0.1),
   subst (λ v. Spells IsPort v) (sym a.smpp) h.1,
@@ -45,7 +47,8 @@ given_to given texts o a h = (
   subst (λ v. Spells SpellsNumber v) (sym a.centre) h.3,
   subst (λ v. MayBe IsCountText v) (sym a.sessions) h.4,
   subst (λ v. MayBe IsPortText v) (sym a.status) h.5,
-  subst (λ v. (detail : LogDetail) × SpellsLog v detail) (sym a.log) h.6,
+  subst (λ v. MayBe IsCountText v) (sym a.keep) h.6,
+  subst (λ v. (detail : LogDetail) × SpellsLog v detail) (sym a.log) h.7,
 )
 
 -- ---- what a run's words give
@@ -53,8 +56,8 @@ given_to given texts o a h = (
 module _ (given : List ℕ → Option (List ℕ)) (texts : List (List ℕ)) (o : Options) (are : AreOptionsOf given texts o) where
   pub memory_of_run : {B : Type 0} (r : Result B WordsFault)
       → IfErr r (λ fault. fault ≡ BadWords → (accounts : List AccountWords) → AddsAll (map (λ s. s.now) o.words.items) [] accounts
-      → SpellsServer (option_map (λ s. s.now) o.store) (option_map (λ s. s.now) o.smpp) (option_map (λ s. s.now) o.links) (option_map (λ s. s.now) o.centre) (option_map (λ s. s.now) o.sessions) (option_map (λ s. s.now) o.status) (option_map (λ s. s.now) o.log) → ⊥)
-      → SpellsServer (given (codes "store")) (given (codes "smpp")) (given (codes "links")) (given (codes "centre")) (given (codes "sessions")) (given (codes "status")) (given (codes "log"))
+      → SpellsServer (option_map (λ s. s.now) o.store) (option_map (λ s. s.now) o.smpp) (option_map (λ s. s.now) o.links) (option_map (λ s. s.now) o.centre) (option_map (λ s. s.now) o.sessions) (option_map (λ s. s.now) o.status) (option_map (λ s. s.now) o.keep) (option_map (λ s. s.now) o.log) → ⊥)
+      → SpellsServer (given (codes "store")) (given (codes "smpp")) (given (codes "links")) (given (codes "centre")) (given (codes "sessions")) (given (codes "status")) (given (codes "keep")) (given (codes "log"))
       → (accounts : List AccountWords) → AddsAll texts [] accounts → IfErr r (λ fault. fault ≡ NoMemory)
   memory_of_run (Ok x) h spells accounts added = tt
   memory_of_run (Err fault) h spells accounts added =

@@ -44,8 +44,12 @@ store_command =
     with_rule (with_rule (with_rule more_command (flag_option (codes "new-store"))) (flag_option (codes "accept-loss")))
     (flag_option (codes "accounts-open"))
 
+-- how long ended messages are kept, and where what goes is written
+abbrev pub keeping_command : App
+keeping_command = with_rule (with_rule store_command (optional_option (codes "keep"))) (optional_option (codes "archive"))
+
 abbrev pub server_command : App
-server_command = with_rule store_command (listed_words (codes "account"))
+server_command = with_rule keeping_command (listed_words (codes "account"))
 
 abbrev pub stop_command : App
 stop_command = with_rule (with_rule (new_app (codes "stop")) (required_option (codes "control"))) (optional_option (codes "wait"))
@@ -100,6 +104,8 @@ pub record SpelledServer (given : List ℕ → Option (List ℕ)) (run : ServerR
   pub link_secrets : given (codes "link-secrets") ≡ option_map (λ s. s.now) run.link_secrets
   pub control : given (codes "control") ≡ option_map (λ s. s.now) run.control
   pub status : Wants (SpellsFrom 1) (given (codes "status")) run.status
+  pub keep : Wants SpellsCount (given (codes "keep")) run.keep
+  pub archive : given (codes "archive") ≡ option_map (λ s. s.now) run.archive
   pub ahead : run.is_ahead ≡ is_given (given (codes "ahead"))
   pub new_store : run.begins_anew ≡ is_given (given (codes "new-store"))
   pub accept_loss : run.accepts_loss ≡ is_given (given (codes "accept-loss"))
@@ -117,6 +123,8 @@ pub record SpelledOptions (o : Options) (run : ServerRun) : Type 0 where
   pub link_secrets : option_map (λ s. s.now) o.link_secrets ≡ option_map (λ s. s.now) run.link_secrets
   pub control : option_map (λ s. s.now) o.control ≡ option_map (λ s. s.now) run.control
   pub status : Wants (SpellsFrom 1) (option_map (λ s. s.now) o.status) run.status
+  pub keep : Wants SpellsCount (option_map (λ s. s.now) o.keep) run.keep
+  pub archive : option_map (λ s. s.now) o.archive ≡ option_map (λ s. s.now) run.archive
   pub ahead : run.is_ahead ≡ is_given (option_map (λ s. s.now) o.ahead)
   pub new_store : run.begins_anew ≡ is_given (option_map (λ s. s.now) o.new_store)
   pub accept_loss : run.accepts_loss ≡ is_given (option_map (λ s. s.now) o.accept_loss)
@@ -127,17 +135,19 @@ abbrev pub IsPortText : List ℕ → Type 0
 IsPortText text = (port : ℕ) × IsPort text port
 
 -- the values of these options spell a run
-abbrev pub SpellsServer : Option (List ℕ) → Option (List ℕ) → Option (List ℕ) → Option (List ℕ) → Option (List ℕ) → Option (List ℕ) → Option (List ℕ) → Type 0
-SpellsServer given_store given_smpp given_links given_centre given_sessions given_status given_log =
+abbrev pub SpellsServer : Option (List ℕ) → Option (List ℕ) → Option (List ℕ) → Option (List ℕ) → Option (List ℕ) → Option (List ℕ) → Option (List ℕ)
+    → Option (List ℕ) → Type 0
+SpellsServer given_store given_smpp given_links given_centre given_sessions given_status given_keep given_log =
     HasValue given_store × Spells IsPort given_smpp × Spells IsPort given_links
-    × Spells SpellsNumber given_centre × MayBe IsCountText given_sessions × MayBe IsPortText given_status × ((detail : LogDetail) × SpellsLog given_log detail)
+    × Spells SpellsNumber given_centre × MayBe IsCountText given_sessions × MayBe IsPortText given_status × MayBe IsCountText given_keep
+    × ((detail : LogDetail) × SpellsLog given_log detail)
 
 -- clap takes the words, their options spell a run, and each word that no option takes adds an account
 pub record AskForServer (words : List (List ℕ)) : Type 0 where
   pub taken : takes server_command words ≡ true
   pub spelled : SpellsServer (server_value (codes "store") words) (server_value (codes "smpp") words) (server_value (codes "links") words)
       (server_value (codes "centre") words) (server_value (codes "sessions") words) (server_value (codes "status") words)
-      (server_value (codes "log") words)
+      (server_value (codes "keep") words) (server_value (codes "log") words)
   pub accounts : List AccountWords
   pub added : AddsAll (account_texts words) [] accounts
 
@@ -152,6 +162,8 @@ pub record AreOptionsOf (given : List ℕ → Option (List ℕ)) (texts : List (
   pub link_secrets : option_map (λ s. s.now) o.link_secrets ≡ given (codes "link-secrets")
   pub control : option_map (λ s. s.now) o.control ≡ given (codes "control")
   pub status : option_map (λ s. s.now) o.status ≡ given (codes "status")
+  pub keep : option_map (λ s. s.now) o.keep ≡ given (codes "keep")
+  pub archive : option_map (λ s. s.now) o.archive ≡ given (codes "archive")
   pub ahead : option_map (λ s. s.now) o.ahead ≡ given (codes "ahead")
   pub new_store : option_map (λ s. s.now) o.new_store ≡ given (codes "new-store")
   pub accept_loss : option_map (λ s. s.now) o.accept_loss ≡ given (codes "accept-loss")

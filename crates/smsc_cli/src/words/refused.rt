@@ -16,6 +16,7 @@ const RUN: &[Rule] = &[
     ("centre", Wanted::Number),
     ("sessions", Wanted::Count),
     ("status", Wanted::Port),
+    ("keep", Wanted::Count),
     ("log", Wanted::Log),
 ];
 

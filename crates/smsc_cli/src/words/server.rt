@@ -9,7 +9,7 @@ ghost use Rattle.smsc_cli.specs.words.SimWords.{Gives, Spells};
 ghost use Rattle.smsc_cli.specs.words.LookWords.{AskForLook, MayBe, Wants};
 ghost use Rattle.smsc_cli.specs.words.Numbers.{IsCount, SpellsCount, SpellsFrom};
 ghost use Rattle.smsc_cli.specs.words.ServerWords.{AreOptionsOf, AskForEnd, AskForPassword, AskForReload, AskForSave, AskForServer, AskForStop, AskServer, AsksForPassword, AsksOfServer, AsksToEnd, AsksToLook, AsksToReload, AsksToSave, AsksToServe, AsksToStop, IsPortText, SpelledOptions, SpelledServer, SpellsEnd, SpellsServer, SpellsStop};
-ghost use Rattle.smsc_cli.specs.words.ServerWords.{account_texts, end_command, end_value, is_word, listed, listed_words, more_command, needed_command, paths_command, port_command, reload_command, reload_value, save_command, save_value, seat_word, server_command, server_value, store_command, stop_command, stop_value};
+ghost use Rattle.smsc_cli.specs.words.ServerWords.{account_texts, end_command, end_value, is_word, keeping_command, listed, listed_words, more_command, needed_command, paths_command, port_command, reload_command, reload_value, save_command, save_value, seat_word, server_command, server_value, store_command, stop_command, stop_value};
 
 use crate::centre_table::Filter;
 use crate::words::account::AccountWords;
@@ -44,6 +44,10 @@ pub struct ServerRun<'a> {
     pub control: Option<&'a str>,
     /// The port of the status page, on this machine.
     pub status: Option<u16>,
+    /// Ended messages are kept for so many days; for ever where the words don't say.
+    pub keep: Option<u32>,
+    /// The path of a file to which what is forgotten is written.
+    pub archive: Option<&'a str>,
     /// Rows that are ahead of the clock are right.
     pub is_ahead: bool,
     /// A new store may begin where the log of another one lies.
@@ -61,7 +65,7 @@ pub struct ServerRun<'a> {
 pub enum ServerWords<'a> {
     /// `--store FILE --smpp PORT --links PORT --centre NUMBER`, and as wanted `--sessions N`, `--accounts FILE`,
     /// `--link-secrets FILE`, `--control PATH`, `--status PORT`, `--ahead`, `--log WORD`, `--new-store`,
-    /// `--accept-loss`, `--accounts-open` and accounts.
+    /// `--accept-loss`, `--accounts-open`, `--keep DAYS`, `--archive FILE` and accounts.
     Run(ServerRun<'a>, Vec<AccountWords<'a>>),
     /// `show --store FILE`, perhaps with options of a filter.
     Show {
@@ -114,6 +118,8 @@ struct Options<'a> {
     link_secrets: Option<&'a str>,
     control: Option<&'a str>,
     status: Option<&'a str>,
+    keep: Option<&'a str>,
+    archive: Option<&'a str>,
     ahead: Option<&'a str>,
     log: Option<&'a str>,
     new_store: Option<&'a str>,
@@ -188,11 +194,22 @@ fn store_command<'a>(alloc: Global) -> Result<Command<'a>, AllocError>
     )
 }
 
+// How long ended messages are kept, and where what goes is written.
+fn keeping_command<'a>(alloc: Global) -> Result<Command<'a>, AllocError>
+    ensures { IfOk result (λ command. app_of command ≡ keeping_command) }
+{
+    with_two(
+        store_command(alloc)?,
+        optional(alloc, "keep"),
+        optional(alloc, "archive"),
+    )
+}
+
 /// The command line of a run.
 pub(crate) fn run_command<'a>(alloc: Global) -> Result<Command<'a>, AllocError>
     ensures { IfOk result (λ command. app_of command ≡ server_command) }
 {
-    store_command(alloc)?.arg(account_words(alloc))
+    keeping_command(alloc)?.arg(account_words(alloc))
 }
 
 /// The command line of a copy.
@@ -273,6 +290,8 @@ fn options_of<'a>(alloc: Global, matches: &ArgMatches<'a>) -> Result<Options<'a>
         link_secrets: matches.get_str("link-secrets"),
         control: matches.get_str("control"),
         status: matches.get_str("status"),
+        keep: matches.get_str("keep"),
+        archive: matches.get_str("archive"),
         ahead: matches.get_str("ahead"),
         log: matches.get_str("log"),
         new_store: matches.get_str("new-store"),
@@ -309,7 +328,7 @@ fn run_of<'a>(options: &Options<'a>) -> Option<ServerRun<'a>>
     ensures none { IfNone result (¬ (SpellsServer (option_map (λ s. s.now) options.entry.now.store) (option_map (λ s. s.now) options.entry.now.smpp)
         (option_map (λ s. s.now) options.entry.now.links) (option_map (λ s. s.now) options.entry.now.centre)
         (option_map (λ s. s.now) options.entry.now.sessions) (option_map (λ s. s.now) options.entry.now.status)
-        (option_map (λ s. s.now) options.entry.now.log))) }
+        (option_map (λ s. s.now) options.entry.now.keep) (option_map (λ s. s.now) options.entry.now.log))) }
 {
     let store = options.store?;
     let smpp = port_of(options.smpp?)?;
@@ -317,6 +336,7 @@ fn run_of<'a>(options: &Options<'a>) -> Option<ServerRun<'a>>
     let centre = address_of(options.centre?)?;
     let sessions = optional_count(options.sessions)?;
     let status = status_of(options.status)?;
+    let keep = optional_count(options.keep)?;
     let log = detail_of(options.log)?;
     let is_ahead = is_set(options.ahead);
     let begins_anew = is_set(options.new_store);
@@ -332,6 +352,8 @@ fn run_of<'a>(options: &Options<'a>) -> Option<ServerRun<'a>>
         link_secrets: options.link_secrets,
         control: options.control,
         status,
+        keep,
+        archive: options.archive,
         is_ahead,
         begins_anew,
         accepts_loss,
@@ -352,7 +374,7 @@ fn run_words<'a>(
         ¬ (SpellsServer (option_map (λ s. s.now) options.entry.now.store) (option_map (λ s. s.now) options.entry.now.smpp)
         (option_map (λ s. s.now) options.entry.now.links) (option_map (λ s. s.now) options.entry.now.centre)
         (option_map (λ s. s.now) options.entry.now.sessions) (option_map (λ s. s.now) options.entry.now.status)
-        (option_map (λ s. s.now) options.entry.now.log))) }
+        (option_map (λ s. s.now) options.entry.now.keep) (option_map (λ s. s.now) options.entry.now.log))) }
 {
     let Some(run) = run_of(options) else {
         return Err(WordsFault::BadWords);
@@ -550,13 +572,13 @@ pub(crate) fn is_second(words: &[&str], wanted: &str) -> bool
 ///
 /// - `--store FILE --smpp PORT --links PORT --centre NUMBER` in any order. Optional are `--sessions N`, `--accounts FILE`,
 ///   `--control PATH`, `--status PORT`, `--ahead`, `--log WORD`, `--new-store`, `--accept-loss`,
-///   `--accounts-open` and up to 32 words
+///   `--accounts-open`, `--keep DAYS`, `--archive FILE` and up to 32 words
 ///   `NAME:PASSWORD:NUMBER` or `NAME:PASSWORD:NUMBER:SESSIONS`, no two of one name
 /// - `show --store FILE`, perhaps with `--id ID`, `--from WHO`, `--to NUMBER`, `--account NAME`, `--state STATE`, `--last N` and `--stuck`
 /// - `save --store FILE --to FILE`, `stop --control PATH`, perhaps with `--wait SECONDS`, `end --control PATH SEAT`, `reload --control PATH`,
 ///   `password`
 ///
-/// The WORD of the log is `messages` or `access`. A FILE or PATH is a path, a PORT 1 to 65535, and a NUMBER 1 to 20 digits 0 to 9. N and SEAT are 0 to 4294967295. The
+/// The WORD of the log is `messages` or `access`. A FILE or PATH is a path, a PORT 1 to 65535, and a NUMBER 1 to 20 digits 0 to 9. N, SEAT and DAYS are 0 to 4294967295. The
 /// first two colons of an account end its NAME, 1 to 15 ASCII characters, and its PASSWORD, up to 8. SESSIONS is 1 to 32. All else is bad
 /// words.
 /// Words that ask for something are refused for want of memory alone.

@@ -26,7 +26,11 @@ const WORDS: &[&str] = &[
 // What the words are judged as.
 fn judged(alloc: Global, words: &[&str]) -> &'static str {
     match server_words(alloc, words) {
-        Ok(ServerWords::Run(..)) => "run",
+        Ok(ServerWords::Run(run, _)) => match (run.keep, run.archive) {
+            (None, None) => "run",
+            (Some(7), Some("a")) => "run for 7 days",
+            _ => "run for others",
+        },
         Ok(ServerWords::Show { .. }) => "show",
         Ok(ServerWords::Save { .. }) => "save",
         Ok(
@@ -67,6 +71,8 @@ fn is_written(words: &ServerWords<'_>) -> bool {
                 && run.accounts.is_none()
                 && run.control.is_none()
                 && run.status.is_none()
+                && run.keep.is_none()
+                && run.archive.is_none()
                 && !run.is_ahead
                 && !run.begins_anew
                 && !run.accepts_loss
@@ -185,6 +191,30 @@ const OTHERS: &[(&[&str], &str)] = &[
             "smscd", "--store", "c", "--smpp", "1", "--links", "2", "--centre", "1",
         ],
         "run",
+    ),
+    (
+        &[
+            "smscd",
+            "--store",
+            "c",
+            "--smpp",
+            "1",
+            "--links",
+            "2",
+            "--centre",
+            "1",
+            "--keep",
+            "7",
+            "--archive",
+            "a",
+        ],
+        "run for 7 days",
+    ),
+    (
+        &[
+            "smscd", "--store", "c", "--smpp", "1", "--links", "2", "--centre", "1", "--keep", "-7",
+        ],
+        "bad",
     ),
     (&["smscd", "save", "--store", "a"], "bad"),
     (&["smscd", "save", "--to", "b", "--store", "a"], "save"),

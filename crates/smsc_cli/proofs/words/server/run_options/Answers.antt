@@ -14,6 +14,8 @@ returns-clause-options c = let o = c.in_ok-options.ensures in record {
   link_secrets = value_found server_command _ _ _ (codes "link-secrets") refl c.in_ok-command.ensures c.in_ok-matches.ensures.matches o.link_secrets;
   control = value_found server_command _ _ _ (codes "control") refl c.in_ok-command.ensures c.in_ok-matches.ensures.matches o.control;
   status = value_found server_command _ _ _ (codes "status") refl c.in_ok-command.ensures c.in_ok-matches.ensures.matches o.status;
+  keep = value_found server_command _ _ _ (codes "keep") refl c.in_ok-command.ensures c.in_ok-matches.ensures.matches o.keep;
+  archive = value_found server_command _ _ _ (codes "archive") refl c.in_ok-command.ensures c.in_ok-matches.ensures.matches o.archive;
   ahead = value_found server_command _ _ _ (codes "ahead") refl c.in_ok-command.ensures c.in_ok-matches.ensures.matches o.ahead;
   new_store = value_found server_command _ _ _ (codes "new-store") refl c.in_ok-command.ensures c.in_ok-matches.ensures.matches o.new_store;
   accept_loss = value_found server_command _ _ _ (codes "accept-loss") refl c.in_ok-command.ensures c.in_ok-matches.ensures.matches o.accept_loss;

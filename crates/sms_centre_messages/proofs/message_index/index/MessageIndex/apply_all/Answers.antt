@@ -1,23 +1,19 @@
-use Rattle.std.proofs.Common.{◌≡◌, ℕ, ◌+◌, List, ◌∷◌, length, sym, ◌∙◌, ap, subst, arith}
+use Rattle.std.proofs.Common.{◌≡◌, List, map, sym, ◌∙◌, ap, subst}
+use Rattle.sms_rows.specs.declared.table.change.Change.{Change}
+use Rattle.sms_rows.specs.table.Table.{AreRemovals, RowsInMemory, all_applied, change_key, without_all}
 use Rattle.sms_centre_rows.specs.declared.messages.message.MessageRow.{MessageRow}
 use Rattle.sms_centre_rows.specs.messages.Messages.{message_key}
-use Rattle.sms_rows.specs.declared.table.change.Change.{Change}
-use Rattle.sms_rows.specs.table.Table.{all_applied, applied}
-use Rattle.sms_centre_messages.specs.message_index.MessageIndex.{HasRoomFor}
-use Rattle.std.specs.Vec.Iter.{into_iter_items}
+use Rattle.sms_centre_messages.specs.declared.message_index.message_entry.MessageEntry.{MessageEntry}
+use Rattle.sms_centre_messages.specs.message_index.Entries.{message_entry_key}
+use Rattle.sms_centre_messages.specs.message_index.MessageIndex.{MessageIndexOf, Represents}
+use Rattle.sms_centre_messages.proofs.message_index.Passing.{passed}
 use Rattle.sms_centre_messages.proofs.message_index.index.MessageIndex.apply_all.Goals as goal
 
-pub loop-change-preserved : goal.loop-change-preserved
-loop-change-preserved c =
-    let rest = into_iter_items c.next.new.self in
-    let step : into_iter_items c.loop-change.change-iterator ≡ c.in-Some.change ∷ rest = c.in-Some.ensures.steps.0 in
-    let count = ap (λ (l : List (Change MessageRow)). length l) step in
-    let more : length (into_iter_items c.loop-change.change-iterator) ≡ length rest + 1 = omega (arith, count) in
-    record {
-      can_next = tt;
-      is_finite = tt;
-      room = c.apply.ensures.room (length rest) (subst (λ (n : ℕ). HasRoomFor n c.loop-change.self) more c.loop-change.invariant.room);
-      holds = λ ms ps h.
-          let i = c.loop-change.invariant.holds ms ps h in
-          (applied message_key c.in-Some.change i.0, c.apply.ensures.holds i.0 ps i.1, ap (λ (l : List (Change MessageRow)). all_applied message_key l i.0) (sym step) ∙ i.2);
-    }
+pub returns-then-are_removals : goal.returns-then-are_removals
+returns-then-are_removals c = λ ms ps h.
+    let was : MessageIndexOf = record { names = c.self.inside.names; messages = c.self.inside.messages; parts = c.self.inside.parts; deadlines = c.self.inside.deadlines } in
+    let changes = c.args.changes.items in
+    let only : AreRemovals changes = subst (λ (l : List (Change MessageRow)). AreRemovals l) c.as_slice-are_removals.ensures.value (c.are_removals.ensures.0 c.if-are_removals.true) in
+    subst (λ (t : RowsInMemory MessageEntry). Represents (record was { messages = t }) (all_applied message_key changes ms) ps)
+    (sym (c.remove_all.ensures ∙ ap (λ (l : List (Change MessageRow)). record c.self.inside.messages { rows = without_all message_entry_key (map (λ (x : Change MessageRow). change_key message_key x) l) c.self.inside.messages.rows }) c.as_slice-remove_all.ensures.value))
+    (passed changes was ms ps only (subst (λ (k : MessageIndexOf). Represents k ms ps) (sym c.self.view_is) h))

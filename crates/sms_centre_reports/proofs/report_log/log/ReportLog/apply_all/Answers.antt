@@ -1,26 +1,17 @@
-use Rattle.std.proofs.Common.{List, ◌-◌, length, take, get_or, ◌++◌, ◌∷◌, [], sym, ◌∙◌, ap, subst, arith}
-use Rattle.std.proofs.lemmas.List.{take_more}
+use Rattle.std.proofs.Common.{◌≡◌, List, map, sym, ◌∙◌, ap, subst}
+use Rattle.sms_rows.specs.table.Table.{RowsInMemory, without_all}
 use Rattle.sms_centre_rows.specs.declared.reports.report.ReportRow.{ReportRow}
-use Rattle.sms_centre_rows.specs.reports.Reports.{report_key, report_reaching}
 use Rattle.sms_centre_rows.specs.declared.waiting.revision.Revision.{Revision}
-use Rattle.sms_centre_rows.specs.waiting.Revisions.{all_revised, revised}
-use Rattle.sms_centre_rows.proofs.waiting.Revising.{revised_push}
-use Rattle.sms_centre_reports.specs.report_log.ReportLog.{Represents}
+use Rattle.sms_centre_rows.specs.reports.Reports.{report_key}
+use Rattle.sms_centre_rows.specs.waiting.Revisions.{revision_key}
+use Rattle.sms_centre_reports.specs.declared.report_log.log.LoggedReport.{LoggedReport}
+use Rattle.sms_centre_reports.specs.report_log.ReportLog.{Represents, made_key}
+use Rattle.sms_centre_reports.proofs.report_log.Passing.{passed}
 use Rattle.sms_centre_reports.proofs.report_log.log.ReportLog.apply_all.Goals as goal
 
-pub loop-change-preserved : goal.loop-change-preserved
-loop-change-preserved c =
-    let i = c.loop-change.change-index in
-    let changes = c.args.changes.now in
-    let left = c.loop-change.invariant.0 in
-    let room = c.apply.ensures.room in
-    let capacity = c.apply.ensures.capacity in
-    let inside = c.loop-change-test.true in (
-      omega (arith, left, room, capacity, inside),
-      λ rows h.
-          subst (λ (rs : List ReportRow). Represents c.apply.new.self rs)
-          (sym (ap (λ (cs : List (Revision ReportRow)). all_revised report_key report_reaching cs rows) (take_more changes i c.change-item.result (omega (arith, inside)))
-          ∙ revised_push report_key report_reaching (take i changes) (get_or changes i c.change-item.result) rows
-          ∙ ap (λ (r : Revision ReportRow). revised report_key report_reaching r (all_revised report_key report_reaching (take i changes) rows)) (sym c.change-item.is)))
-          (c.apply.ensures.holds (all_revised report_key report_reaching (take i changes) rows) (c.loop-change.invariant.1 rows h)),
-    )
+pub returns-then-only_remove : goal.returns-then-only_remove
+returns-then-only_remove c = λ rows h.
+    let was : Represents c.self.inside.reports rows = ap (λ (t : RowsInMemory LoggedReport). t.rows) c.self.view_is ∙ h in
+    ap (λ (t : RowsInMemory LoggedReport). t.rows) c.remove_all.ensures
+    ∙ ap (λ (l : List LoggedReport). without_all made_key (map (λ (x : Revision ReportRow). revision_key report_key x) c.args.changes.now) l) was
+    ∙ passed c.args.changes.now rows (c.only_remove.ensures.0 c.if-only_remove.true)

@@ -1,7 +1,7 @@
 use Rattle.std.proofs.Common.{◌≡◌, ◌+◌, ◌≤◌, length}
 use Rattle.std.specs.Vec.Iter.{into_iter_items}
 use Rattle.sms_rows.specs.table.Table.{all_applied}
-use Rattle.sms_rows.proofs.table.Table.apply_all.Given as goal
+use Rattle.sms_rows.proofs.table.Table.apply_each.Given as goal
 
 abbrev pub invariant-loop-change : goal.invariant-loop-change
 invariant-loop-change g l = record {

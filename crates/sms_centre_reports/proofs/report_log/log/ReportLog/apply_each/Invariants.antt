@@ -3,7 +3,7 @@ use Rattle.sms_centre_rows.specs.declared.reports.report.ReportRow.{ReportRow}
 use Rattle.sms_centre_rows.specs.reports.Reports.{report_key, report_reaching}
 use Rattle.sms_centre_rows.specs.waiting.Revisions.{all_revised}
 use Rattle.sms_centre_reports.specs.report_log.ReportLog.{Represents}
-use Rattle.sms_centre_reports.proofs.report_log.log.ReportLog.apply_all.Given as goal
+use Rattle.sms_centre_reports.proofs.report_log.log.ReportLog.apply_each.Given as goal
 
 abbrev pub invariant-loop-change : goal.invariant-loop-change
 invariant-loop-change l =

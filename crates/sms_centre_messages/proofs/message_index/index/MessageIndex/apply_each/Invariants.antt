@@ -5,7 +5,7 @@ use Rattle.sms_centre_rows.specs.declared.messages.part.PartRow.{PartRow}
 use Rattle.sms_centre_rows.specs.messages.Messages.{message_key}
 use Rattle.sms_rows.specs.table.Table.{all_applied}
 use Rattle.sms_centre_messages.specs.message_index.MessageIndex.{HasRoomFor, Represents}
-use Rattle.sms_centre_messages.proofs.message_index.index.MessageIndex.apply_all.Given as goal
+use Rattle.sms_centre_messages.proofs.message_index.index.MessageIndex.apply_each.Given as goal
 
 abbrev pub invariant-loop-change : goal.invariant-loop-change
 invariant-loop-change l = record {

@@ -1,0 +1,82 @@
+//! What a run forgets as it starts.
+use crate::archive::RunArchive;
+use crate::logging::Log;
+use crate::moments::text_of;
+use crate::run_fault::RunFault;
+use sms_base::Moment;
+use sms_centre_spec::Rows;
+use smsc_cli::words::ServerRun;
+use smsc_service::{CentreStore, ForgetError, forget_ended};
+use std::alloc::{AllocError, Global};
+use std::sync::Wait;
+
+// A day has so many seconds.
+const DAY: u64 = 86_400;
+
+// What ended before that moment is not kept, if the words say how long it is. The moment is counted from the newest one of the rows where
+// the clock is ahead of it: a clock that is wrong takes nothing.
+fn before_of(run: &ServerRun<'_>, start: Moment, newest: Moment) -> Option<Moment> {
+    let now = start.seconds().min(newest.seconds());
+    let kept = DAY * u64::from(run.keep?);
+    Moment::from_seconds(now.saturating_sub(kept)).ok()
+}
+
+fn say_forgotten<R: Wait + Copy>(
+    alloc: Global,
+    log: &Log<R>,
+    before: Moment,
+    count: u64,
+) -> Result<(), AllocError> {
+    let before = text_of(alloc, before)?;
+    let text = format!(in alloc; "event=forgotten before={before} messages={count}")?;
+    log.put("info", text.as_str());
+    Ok(())
+}
+
+fn forget_before<R: Wait + Copy, K: CentreStore>(
+    host: &HostRuntime,
+    log: &Log<R>,
+    run: &ServerRun<'_>,
+    keep: &mut K,
+    rows: Rows,
+    before: Moment,
+) -> Result<(), RunFault> {
+    let Ok(mut archive) = RunArchive::open(host, run.archive) else {
+        drop(rows);
+        log.put("warn", "event=not_forgotten reason=archive");
+        return Ok(());
+    };
+    let done = forget_ended(host.alloc(), rows, keep, &mut archive, before);
+    let count = archive.count;
+    drop(archive);
+    match done {
+        Ok(()) => Ok(say_forgotten(host.alloc(), log, before, count)?),
+        Err(ForgetError::NotArchived) => {
+            log.put("warn", "event=not_forgotten reason=archive");
+            Ok(())
+        }
+        Err(ForgetError::BadRows) => Err(RunFault::BadRows),
+        Err(ForgetError::NoMemory) => Err(RunFault::NoMemory),
+        Err(ForgetError::Store(error)) => Err(RunFault::from(error)),
+    }
+}
+
+/// Forgets the messages that ended before the days that the words keep, of these rows of the keep. Each goes to the archive first, if
+/// there is one. Where the archive can't be written nothing goes, and the log says so.
+pub fn forget_old<R: Wait + Copy, K: CentreStore>(
+    host: &HostRuntime,
+    log: &Log<R>,
+    run: &ServerRun<'_>,
+    keep: &mut K,
+    rows: Rows,
+    start: Moment,
+    newest: Moment,
+) -> Result<(), RunFault> {
+    match before_of(run, start, newest) {
+        Some(before) => forget_before(host, log, run, keep, rows, before),
+        None => {
+            drop(rows);
+            Ok(())
+        }
+    }
+}
