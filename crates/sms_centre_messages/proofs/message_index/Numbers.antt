@@ -17,7 +17,7 @@ use Rattle.sms_centre_messages.specs.message_index.Entries.{AreEntries, NamesOf,
 use Rattle.sms_centre_messages.proofs.message_index.Entries.{same_key}
 use Rattle.sms_centre_messages.proofs.message_index.IndexRepresents.{no_row, placed_row}
 
-number_of : Option MessageRow → ℕ
+abbrev number_of : Option MessageRow → ℕ
 number_of None = 0
 number_of (Some m) = m.id
 
