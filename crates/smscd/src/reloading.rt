@@ -8,7 +8,8 @@ use crate::setup::allowance_of;
 use smsc_cli::words::{PasswordWords, ServerRun, TableAccount};
 use smsc_server::{Allowance, Allowances, Orders};
 use std::alloc::{AllocError, Global};
-use std::sync::Arc;
+use std::sync::{Arc, Wait};
+use std::time::Clock;
 use toml::Value;
 
 /// Who reads the accounts' file again.
@@ -157,12 +158,9 @@ impl Reloader {
     }
 
     /// Reads the file again. The run takes over what it allows; where it has a fault nothing changes.
-    pub fn reload(&self, orders: &Orders) -> Result<(), RunFault> {
+    pub fn reload<R: Wait + Clock>(&self, rt: &R, orders: &Orders) -> Result<(), RunFault> {
         let allowed = self.read_again()?;
-        if self
-            .allowances
-            .change(&self.host, orders, allowed.as_slice())
-        {
+        if self.allowances.change(rt, orders, allowed.as_slice()) {
             Ok(())
         } else {
             Err(RunFault::NoOrders)

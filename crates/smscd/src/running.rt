@@ -670,12 +670,17 @@ impl Helpers {
         Control::open(host, path, orders, reloader, over).map_err(control_fault)
     }
 
-    fn start_attending<R: Threads>(&mut self, rt: &R, control: Control) -> Result<(), RunFault> {
+    fn start_attending<R: Threads + Wait + Clock + Copy + Send + Sync + 'static>(
+        &mut self,
+        rt: &R,
+        control: Control,
+    ) -> Result<(), RunFault> {
         let mut control = control;
-        self.keep_thread(thread::spawn(rt, move || control.attend_all()).ok())
+        let own = *rt;
+        self.keep_thread(thread::spawn(rt, move || control.attend_all(&own)).ok())
     }
 
-    fn start_control<R: Threads>(
+    fn start_control<R: Threads + Wait + Clock + Copy + Send + Sync + 'static>(
         &mut self,
         host: HostRuntime,
         rt: &R,
@@ -687,7 +692,7 @@ impl Helpers {
         self.start_attending(rt, control)
     }
 
-    fn start<R: Threads>(
+    fn start<R: Threads + Wait + Clock + Copy + Send + Sync + 'static>(
         &mut self,
         host: HostRuntime,
         rt: &R,
