@@ -1,4 +1,5 @@
 -- Reports that go in one pass.
+use Rattle.std.proofs.lemmas.Bool.{false≢true}
 use Rattle.std.proofs.Common.{◌≡◌, ℕ, List, [], ◌∷◌, map, refl, sym, ◌∙◌, ap}
 use Rattle.sms_rows.specs.table.Table.{without, without_all}
 use Rattle.sms_centre_rows.specs.declared.reports.report.ReportRow.{ReportRow}
@@ -13,7 +14,7 @@ use Rattle.sms_centre_reports.proofs.report_log.Registering.{made_without}
 pub passed : (changes : List (Revision ReportRow)) (rows : List ReportRow) → OnlyRemove changes
     → without_all made_key (map (λ (c : Revision ReportRow). revision_key report_key c) changes) (map made_report rows) ≡ map made_report (all_revised report_key report_reaching changes rows)
 passed [] rows are = refl
-passed (Put x ∷ changes) rows are = absurd are.0
-passed (Amend n progress ∷ changes) rows are = absurd are.0
+passed (Put x ∷ changes) rows are = absurd (false≢true are)
+passed (Amend n progress ∷ changes) rows are = absurd (false≢true are)
 passed (Remove n ∷ changes) rows are =
-    ap (λ (l : List LoggedReport). without_all made_key (map (λ (c : Revision ReportRow). revision_key report_key c) changes) l) (sym (made_without n rows)) ∙ passed changes (without report_key n rows) are.1
+    ap (λ (l : List LoggedReport). without_all made_key (map (λ (c : Revision ReportRow). revision_key report_key c) changes) l) (sym (made_without n rows)) ∙ passed changes (without report_key n rows) are

@@ -1,7 +1,7 @@
 -- Rows that keep a TPDU, in the middle of an event: those that were there, and the changes since, the newest first. A row is put
 -- whole, or only how far it is changes.
-use Rattle.std.specs.Prelude.{ℕ, ◌==◌, if◌then◌else◌, List, [], ◌∷◌, ◌++◌}
-use Rattle.std.specs.List.{AllByRecursion}
+use Rattle.std.specs.Prelude.{◌≡◌, ℕ, ◌==◌, if◌then◌else◌, Bool, true, false, List, [], ◌∷◌, ◌++◌}
+use Rattle.std.specs.List.{list_all}
 use Rattle.sms_rows.specs.table.Table.{put, without}
 use Rattle.sms_centre_rows.specs.declared.waiting.progress.Progress.{Progress}
 use Rattle.sms_centre_rows.specs.declared.waiting.revision.Revision.{Revision}
@@ -25,14 +25,14 @@ all_revised key reaching [] rows = rows
 all_revised key reaching (change ∷ changes) rows = all_revised key reaching changes (revised key reaching change rows)
 
 -- it removes a row
-abbrev pub Removes : {A : Type 0} → Revision A → Type 0
-Removes (Put x) = ⊥
-Removes (Amend n progress) = ⊥
-Removes (Remove n) = Unit {0}
+abbrev pub removes_of : {A : Type 0} → Revision A → Bool
+removes_of (Put x) = false
+removes_of (Amend n progress) = false
+removes_of (Remove n) = true
 
 -- each of them does
 abbrev pub OnlyRemove : {A : Type 0} → List (Revision A) → Type 0
-OnlyRemove changes = AllByRecursion (λ change. Removes change) changes
+OnlyRemove changes = list_all removes_of changes ≡ true
 
 -- the key that a change is of
 abbrev pub revision_key : {A : Type 0} → (A → ℕ) → Revision A → ℕ

@@ -1,6 +1,7 @@
 //! What an event changes in a list whose rows keep a TPDU.
-ghost use Rattle.std.specs.Prelude.{◌≡◌, ◌↔◌, true};
-ghost use Rattle.sms_centre_rows.specs.waiting.Revisions.{OnlyRemove, Removes, revision_key};
+ghost use Rattle.std.specs.Prelude.{◌≡◌};
+ghost use Rattle.std.specs.List.{list_all};
+ghost use Rattle.sms_centre_rows.specs.waiting.Revisions.{removes_of, revision_key};
 
 use crate::waiting::progress::Progress;
 use sms_rows::table::{Key, Row};
@@ -18,7 +19,7 @@ pub enum Revision<T: Drop> {
 
 impl<T: Drop> Revision<T> {
     fn removes(&self) -> bool
-        ensures { (result ≡ true) ↔ Removes self.now }
+        ensures { result ≡ removes_of self.now }
     {
         match self {
             Revision::Put(_) => false,
@@ -42,12 +43,7 @@ impl<T: Drop + Row> Row for Revision<T> {
 
 /// Whether all of the changes remove rows.
 pub fn only_remove<T: Drop>(changes: &[Revision<T>]) -> bool
-    ensures { (result ≡ true) ↔ OnlyRemove changes.now }
+    ensures { result ≡ list_all removes_of changes.now }
 {
-    for change in changes {
-        if !change.removes() {
-            return false;
-        }
-    }
-    true
+    changes.iter().all(|change| change.removes())
 }

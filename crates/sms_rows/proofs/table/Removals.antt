@@ -2,7 +2,7 @@
 use Rattle.std.proofs.Common.{◌≡◌, ◌⊎◌, ℕ, zero, suc, ◌+◌, ◌<◌, ◌≤◌, arith, List, [], ◌∷◌, map, length, drop, get_or, Bool, true, false, refl, sym, ◌∙◌, ap, subst, inl, inr, ⊎_elim, Option, Some, None}
 use Rattle.std.specs.Prelude.{◌==◌, ◌||◌, is_some, nat_lt, not, if◌then◌else◌}
 use Rattle.std.specs.List.{filter}
-use Rattle.std.proofs.lemmas.Bool.{cases_Bool, cases_eq, cond-true, cond-false, lt-ltb, ltb-true, or_left, or_right}
+use Rattle.std.proofs.lemmas.Bool.{false≢true, cases_Bool, cases_eq, cond-true, cond-false, lt-ltb, ltb-true, or_left, or_right}
 use Rattle.sms_rows.specs.table.Table.{AreRemovals, Rises, all_applied, applied, change_key, is_there, row_at, without, without_all}
 use Rattle.sms_rows.specs.declared.table.change.Change.{Change}
 use Rattle.sms_rows.specs.declared.table.change.Change.TheVariants.{Put, Remove}
@@ -12,8 +12,8 @@ module _ {A : Type 0} (key : A → ℕ) where
   -- as changes they are the same
   pub applied_removals : (changes : List (Change A)) (rows : List A) → AreRemovals changes → all_applied key changes rows ≡ without_all key (map (λ (c : Change A). change_key key c) changes) rows
   applied_removals [] rows h = refl
-  applied_removals (Put x ∷ changes) rows h = absurd h.0
-  applied_removals (Remove n ∷ changes) rows h = applied_removals changes (without key n rows) h.1
+  applied_removals (Put x ∷ changes) rows h = absurd (false≢true h)
+  applied_removals (Remove n ∷ changes) rows h = applied_removals changes (without key n rows) h
 
   pub rises_without_all : (ns : List ℕ) (rows : List A) → Rises key rows → Rises key (without_all key ns rows)
   rises_without_all [] rows h = h

@@ -1,6 +1,6 @@
 -- Tables: rows by their keys, in the order of their keys, at most one row a key; and changes of a table.
 use Rattle.std.specs.Prelude.{◌≡◌, ℕ, zero, suc, ◌+◌, ◌*◌, ◌<◌, ◌≤◌, ◌==◌, nat_lt, nat_le, length, is_some, ◌||◌, Bool, true, false, if◌then◌else◌, Option, Some, None, List, [], ◌∷◌}
-use Rattle.std.specs.List.{AllByRecursion}
+use Rattle.std.specs.List.{AllByRecursion, list_all}
 use Rattle.sms_rows.specs.declared.table.change.Change.{Change}
 use Rattle.sms_rows.specs.declared.table.change.Change.TheVariants.{Put, Remove}
 
@@ -102,13 +102,13 @@ all_applied key [] rows = rows
 all_applied key (change ∷ changes) rows = all_applied key changes (applied key change rows)
 
 -- it removes a row
-abbrev pub IsRemoval : {A : Type 0} → Change A → Type 0
-IsRemoval (Put x) = ⊥
-IsRemoval (Remove n) = Unit {0}
+abbrev pub is_removal_of : {A : Type 0} → Change A → Bool
+is_removal_of (Put x) = false
+is_removal_of (Remove n) = true
 
 -- each of them does
 abbrev pub AreRemovals : {A : Type 0} → List (Change A) → Type 0
-AreRemovals changes = AllByRecursion (λ change. IsRemoval change) changes
+AreRemovals changes = list_all is_removal_of changes ≡ true
 
 -- the key that a change is of
 abbrev pub change_key : {A : Type 0} → (A → ℕ) → Change A → ℕ

@@ -1,6 +1,7 @@
 //! What an event changes in a table.
-ghost use Rattle.std.specs.Prelude.{◌≡◌, ◌↔◌, true, option_copied};
-ghost use Rattle.sms_rows.specs.table.Table.{AreRemovals, IsRemoval, change_key, change_row};
+ghost use Rattle.std.specs.Prelude.{◌≡◌, option_copied};
+ghost use Rattle.std.specs.List.{list_all};
+ghost use Rattle.sms_rows.specs.table.Table.{change_key, change_row, is_removal_of};
 
 use crate::table::Row;
 use crate::table::key::Key;
@@ -38,7 +39,7 @@ impl<T: Drop + Row> Change<T> {
 
 impl<T: Drop> Change<T> {
     fn is_removal(&self) -> bool
-        ensures { (result ≡ true) ↔ IsRemoval self.now }
+        ensures { result ≡ is_removal_of self.now }
     {
         match self {
             Change::Put(_) => false,
@@ -57,12 +58,7 @@ impl<T: Drop + Row> Row for Change<T> {
 
 /// Whether all of the changes remove rows.
 pub fn are_removals<T: Drop>(changes: &[Change<T>]) -> bool
-    ensures { (result ≡ true) ↔ AreRemovals changes.now }
+    ensures { result ≡ list_all is_removal_of changes.now }
 {
-    for change in changes {
-        if !change.is_removal() {
-            return false;
-        }
-    }
-    true
+    changes.iter().all(|change| change.is_removal())
 }

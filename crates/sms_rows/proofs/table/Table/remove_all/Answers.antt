@@ -1,4 +1,4 @@
-use Rattle.std.proofs.Common.{rules, ◌≡◌, List, map, refl, sym, ◌∙◌, ap, subst}
+use Rattle.std.proofs.Common.{rules, map, refl, sym, ◌∙◌, ap, subst}
 use Rattle.std.specs.Prelude.{not}
 use Rattle.std.proofs.lemmas.Fn.{filter_same}
 use Rattle.sms_rows.specs.table.Table.{Rises, is_there, without_all}

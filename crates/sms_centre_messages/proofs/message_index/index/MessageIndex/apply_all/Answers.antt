@@ -13,7 +13,7 @@ pub returns-then-are_removals : goal.returns-then-are_removals
 returns-then-are_removals c = λ ms ps h.
     let was : MessageIndexOf = record { names = c.self.inside.names; messages = c.self.inside.messages; parts = c.self.inside.parts; deadlines = c.self.inside.deadlines } in
     let changes = c.args.changes.items in
-    let only : AreRemovals changes = subst (λ (l : List (Change MessageRow)). AreRemovals l) c.as_slice-are_removals.ensures.value (c.are_removals.ensures.0 c.if-are_removals.true) in
+    let only : AreRemovals changes = subst (λ (l : List (Change MessageRow)). AreRemovals l) c.as_slice.ensures.value (sym c.are_removals.ensures ∙ c.if-are_removals.true) in
     subst (λ (t : RowsInMemory MessageEntry). Represents (record was { messages = t }) (all_applied message_key changes ms) ps)
-    (sym (c.remove_all.ensures ∙ ap (λ (l : List (Change MessageRow)). record c.self.inside.messages { rows = without_all message_entry_key (map (λ (x : Change MessageRow). change_key message_key x) l) c.self.inside.messages.rows }) c.as_slice-remove_all.ensures.value))
+    (sym (c.remove_all.ensures ∙ ap (λ (l : List (Change MessageRow)). record c.self.inside.messages { rows = without_all message_entry_key (map (λ (x : Change MessageRow). change_key message_key x) l) c.self.inside.messages.rows }) c.as_slice-then-are_removals.ensures.value))
     (passed changes was ms ps only (subst (λ (k : MessageIndexOf). Represents k ms ps) (sym c.self.view_is) h))

@@ -14,4 +14,4 @@ returns-then-only_remove c = λ rows h.
     let was : Represents c.self.inside.reports rows = ap (λ (t : RowsInMemory LoggedReport). t.rows) c.self.view_is ∙ h in
     ap (λ (t : RowsInMemory LoggedReport). t.rows) c.remove_all.ensures
     ∙ ap (λ (l : List LoggedReport). without_all made_key (map (λ (x : Revision ReportRow). revision_key report_key x) c.args.changes.now) l) was
-    ∙ passed c.args.changes.now rows (c.only_remove.ensures.0 c.if-only_remove.true)
+    ∙ passed c.args.changes.now rows (sym c.only_remove.ensures ∙ c.if-only_remove.true)
