@@ -24,7 +24,7 @@ use sms_keeper::Gate;
 use sms_store_files::{LogFinding, LogJudgement};
 use smsc_cli::words::{AccountWords, ServerRun};
 use smsc_endpoint::LinkAccess;
-use smsc_server::{Allowances, Given, ObservedKeep, Orders, Ports, ServeFault, serve};
+use smsc_server::{Allowance, Allowances, Given, ObservedKeep, Orders, Ports, ServeFault, serve};
 use smsc_service::{CentreStore, LinkBoard, Setup};
 use std::alloc::{AllocError, Global};
 use std::io;
@@ -91,13 +91,7 @@ fn serve_book<R: Threads + Wait + Clock + Copy + Send + Sync + 'static>(
         file,
         of_words,
     } = book;
-    let allowances = Allowances::new(host.alloc(), limits.as_slice(), allowed.as_slice())?;
-    let allowances = Arc::new(host.alloc(), allowances)?;
-    let reloader = Reloader::of(host, run, file, of_words, &allowances)?;
-    let limits = Limits {
-        allowances,
-        reloader,
-    };
+    let limits = limits_of(host, run, limits.as_slice(), allowed.as_slice(), file, of_words)?;
     let setup = setup_of(run, start, accounts);
     let names = Arc::new(host.alloc(), names)?;
     let (log, thread) = start_log(host, rt, &names)?;
@@ -119,6 +113,23 @@ fn end_log<R: Threads + Wait + Clock + Copy>(rt: &R, log: Arc<Log<R>>, thread: L
 struct Limits {
     allowances: Arc<Allowances>,
     reloader: Option<Reloader>,
+}
+
+fn limits_of(
+    host: HostRuntime,
+    run: &ServerRun<'_>,
+    limits: &[u8],
+    allowed: &[Allowance],
+    file: Option<String>,
+    of_words: usize,
+) -> Result<Limits, AllocError> {
+    let allowances = Allowances::new(host.alloc(), limits, allowed)?;
+    let allowances = Arc::new(host.alloc(), allowances)?;
+    let reloader = Reloader::of(host, run, file, of_words, &allowances)?;
+    Ok(Limits {
+        allowances,
+        reloader,
+    })
 }
 
 // What a run has beside its store.
