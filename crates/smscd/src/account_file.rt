@@ -180,6 +180,28 @@ pub fn read_file(host: &HostRuntime, path: &str) -> Result<String, RunFault> {
     fs::read_to_string(host, path).map_err(reading_fault)
 }
 
+fn add_all(
+    alloc: Global,
+    accounts: &[TableAccount<'_>],
+    book: &mut RunAccounts,
+) -> Result<(), RunFault> {
+    for account in accounts {
+        added(book.add_table(alloc, account)?)?;
+    }
+    Ok(())
+}
+
+fn add_spelled(
+    alloc: Global,
+    path: &str,
+    file: &str,
+    document: &Table,
+    book: &mut RunAccounts,
+) -> Result<(), RunFault> {
+    let accounts = accounts_in(alloc, path, file, document)?;
+    add_all(alloc, accounts.as_slice(), book)
+}
+
 fn add_accounts(
     alloc: Global,
     path: &str,
@@ -187,11 +209,9 @@ fn add_accounts(
     book: &mut RunAccounts,
 ) -> Result<(), RunFault> {
     let document = document_of(alloc, path, file)?;
-    let accounts = accounts_in(alloc, path, file, &document)?;
-    for account in accounts.iter() {
-        added(book.add_table(alloc, account)?)?;
-    }
-    Ok(())
+    let added = add_spelled(alloc, path, file, &document, book);
+    drop(document);
+    added
 }
 
 fn add_file(host: &HostRuntime, path: &str, book: &mut RunAccounts) -> Result<(), RunFault> {

@@ -1,12 +1,12 @@
 //! The file to which a run writes what it forgets: a line of JSON a message, and never a text.
-use crate::lines::{number_text, state_word};
+use crate::lines::{number_text, put_quoted, state_word};
 use crate::moments::text_of;
 use sms_base::{Moment, Originator, Wish};
 use sms_centre_rows::messages::MessageRow;
 use smsc_service::{Archive, NotArchived};
 use std::alloc::{AllocError, Global};
 use std::fs::{File, OpenOptions};
-use std::io::{self, Write};
+use std::io::{self, Read, Seek, SeekFrom, Write};
 use std::os::unix::fs::OpenOptionsExt;
 
 // Its owner alone may read and write it.
@@ -21,14 +21,56 @@ pub struct RunArchive {
     pub count: u64,
 }
 
+// Whether the file ends within a line.
+fn is_cut(file: &mut File) -> io::Result<bool> {
+    if file.seek(SeekFrom::End(0))? == 0 {
+        return Ok(false);
+    }
+    file.seek(SeekFrom::End(-1))?;
+    let mut last = [0u8; 1];
+    let count = file.read(&mut last)?;
+    Ok(count == 1 && last[0] != b'\n')
+}
+
+// A line that a full disk or a loss of power has cut off ends here.
+fn end_line(file: &mut File) -> io::Result<()> {
+    if is_cut(file)? {
+        return file.write_all(b"\n");
+    }
+    Ok(())
+}
+
+fn folder_of(path: &str) -> &str {
+    match path.rsplit_once('/') {
+        Some(("", _)) => "/",
+        Some((folder, _)) => folder,
+        None => ".",
+    }
+}
+
+// A new file is there after a loss of power only if the disk has its folder. Some file systems refuse to be asked for that.
+fn sync_folder(rt: &HostRuntime, path: &str) {
+    if let Ok(folder) = File::open(rt, folder_of(path)) {
+        let _ = folder.sync_all();
+    }
+}
+
+fn opened_at(rt: &HostRuntime, path: &str) -> io::Result<File> {
+    let mut file = OpenOptions::new()
+        .read(true)
+        .append(true)
+        .create(true)
+        .mode(PRIVATE)
+        .open(rt, path)?;
+    end_line(&mut file)?;
+    sync_folder(rt, path);
+    Ok(file)
+}
+
 fn opened(rt: &HostRuntime, path: Option<&str>) -> io::Result<Option<File>> {
     match path {
         Some(path) => {
-            let file = OpenOptions::new()
-                .append(true)
-                .create(true)
-                .mode(PRIVATE)
-                .open(rt, path)?;
+            let file = opened_at(rt, path)?;
             Ok(Some(file))
         }
         None => Ok(None),
@@ -36,16 +78,6 @@ fn opened(rt: &HostRuntime, path: Option<&str>) -> io::Result<Option<File>> {
 }
 
 // ---- a line
-
-// A character between quotation marks. A backslash precedes a quotation mark and a backslash; `?` replaces what is no printable ASCII.
-fn put_quoted(text: &mut String, octet: u8) -> Result<(), AllocError> {
-    match octet {
-        b'"' => text.push_str("\\\""),
-        b'\\' => text.push_str("\\\\"),
-        32..=126 => text.push(char::from(octet)),
-        _ => text.push('?'),
-    }
-}
 
 fn quoted(alloc: Global, octets: &[u8]) -> Result<String, AllocError> {
     let mut text = String::new(alloc);
@@ -115,7 +147,7 @@ impl RunArchive {
             let line = line_of(self.alloc, message, parts)?;
             file.write_all(line.as_str().as_bytes())?;
         }
-        self.count += 1;
+        self.count = self.count.saturating_add(1);
         Ok(())
     }
 

@@ -13,10 +13,10 @@ use std::io::{self, Read, Write};
 use std::os::fd::IntoRawFd;
 use std::os::unix::fs::{FileTypeExt, PermissionsExt};
 use std::os::unix::net::{UnixListener, UnixStream};
-use std::sync::Arc;
 use std::sync::atomic::{AtomicBool, Ordering};
+use std::sync::{Arc, Wait};
 use std::thread;
-use std::time::Duration;
+use std::time::{Clock, Duration};
 use thiserror::Error;
 
 // So many thousandths of a second lie between two turns.
@@ -84,8 +84,14 @@ fn reload_text(alloc: Global, path: &str, fault: &RunFault) -> Result<String, Al
 }
 
 // Reads the accounts' file again, and says how that went.
-fn reload(orders: &Orders, alloc: Global, reloader: &Reloader, stream: &mut UnixStream) -> bool {
-    let Err(fault) = reloader.reload(orders) else {
+fn reload<R: Wait + Clock>(
+    rt: &R,
+    orders: &Orders,
+    alloc: Global,
+    reloader: &Reloader,
+    stream: &mut UnixStream,
+) -> bool {
+    let Err(fault) = reloader.reload(rt, orders) else {
         return stream.write_all(DONE).is_ok();
     };
     match reload_text(alloc, reloader.path(), &fault) {
@@ -178,16 +184,17 @@ impl Client {
     }
 
     // Does what the line orders. Only who ordered a stop stays.
-    fn do_line(
+    fn do_line<R: Wait + Clock>(
         &mut self,
         host: &HostRuntime,
+        rt: &R,
         orders: &Orders,
         reloader: &Option<Reloader>,
     ) -> bool {
         let command = self.command();
         match reloader {
             Some(reloader) if command == Some(Command::Reload) => {
-                let _ = reload(orders, host.alloc(), reloader, &mut self.stream);
+                let _ = reload(rt, orders, host.alloc(), reloader, &mut self.stream);
                 false
             }
             _ => self.do_command(host, orders, command),
@@ -212,10 +219,16 @@ impl Client {
     }
 
     // Attends it for a turn, and says whether it stays.
-    fn attend(&mut self, host: &HostRuntime, orders: &Orders, reloader: &Option<Reloader>) -> bool {
+    fn attend<R: Wait + Clock>(
+        &mut self,
+        host: &HostRuntime,
+        rt: &R,
+        orders: &Orders,
+        reloader: &Option<Reloader>,
+    ) -> bool {
         match self.hear() {
             Heard::Left => false,
-            Heard::Line if !self.is_waiting => self.do_line(host, orders, reloader),
+            Heard::Line if !self.is_waiting => self.do_line(host, rt, orders, reloader),
             Heard::Line | Heard::Nothing => self.is_waiting || self.has_time(),
         }
     }
@@ -367,13 +380,13 @@ impl Control {
     }
 
     // Attends the one at this place, if somebody is there.
-    fn attend_at(&mut self, place: usize) {
+    fn attend_at<R: Wait + Clock>(&mut self, rt: &R, place: usize) {
         if place >= self.clients.len() {
             return;
         }
         if let Some(client) = self.clients[place].take() {
             let mut client = client;
-            if client.attend(&self.host, &self.orders, &self.reloader) {
+            if client.attend(&self.host, rt, &self.orders, &self.reloader) {
                 put(&mut self.clients[place], Some(client));
             }
         }
@@ -389,10 +402,10 @@ impl Control {
         }
     }
 
-    fn turn(&mut self) {
+    fn turn<R: Wait + Clock>(&mut self, rt: &R) {
         self.accept_all();
         for place in 0..MOST_CLIENTS {
-            self.attend_at(place);
+            self.attend_at(rt, place);
         }
     }
 
@@ -404,13 +417,13 @@ impl Control {
     }
 
     /// Takes orders until the run has ended.
-    pub fn attend_all(&mut self) {
+    pub fn attend_all<R: Wait + Clock>(&mut self, rt: &R) {
         for _ in 0..u64::MAX {
             if self.over.load(Ordering::SeqCst) {
                 self.end();
                 return;
             }
-            self.turn();
+            self.turn(rt);
             thread::sleep(&self.host, Duration::from_millis(PAUSE));
         }
     }

@@ -78,8 +78,8 @@ fn is_bare(text: &str) -> bool {
             && !matches!(octet, b'"' | b'\\' | b'='))
 }
 
-// An octet between quotation marks; a question mark for one that is no printable ASCII.
-fn put_quoted(text: &mut String, octet: u8) -> Result<(), AllocError> {
+/// An octet between quotation marks; a question mark for one that is no printable ASCII.
+pub fn put_quoted(text: &mut String, octet: u8) -> Result<(), AllocError> {
     match octet {
         b'"' => text.push_str("\\\""),
         b'\\' => text.push_str("\\\\"),

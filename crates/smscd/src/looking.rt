@@ -1,8 +1,9 @@
 //! A look at a store, which changes nothing in it.
+use crate::moments::text_of;
 use crate::opening::system_fault;
 use crate::run_fault::RunFault;
 use crate::stuck::stuck_lines;
-use sms_base::Octets;
+use sms_base::{Moment, Octets};
 use sms_centre_recovery::soundness::RowTables;
 use sms_centre_rows::messages::{MessageRow, PartRow};
 use sms_rows::keep::KeepError;
@@ -10,7 +11,7 @@ use sms_rows::table::{Table, rises};
 use sms_store::look::rows_at;
 use smsc_cli::centre_table::{Filter, ShowError, last_of, selected, show, stuck_table};
 use std::alloc::{AllocError, Global};
-use std::io::Write;
+use std::io::{Print, Write};
 
 fn print_messages(
     rt: &HostRuntime,
@@ -24,6 +25,28 @@ fn print_messages(
         Err(ShowError::BadRows) => Err(RunFault::BadRows),
         Err(ShowError::NoMemory) => Err(RunFault::NoMemory),
         Err(ShowError::Io(_)) => Err(RunFault::Output),
+    }
+}
+
+// When the first message was submitted that the store still has.
+fn oldest_in(messages: &[MessageRow]) -> Option<Moment> {
+    messages.first().map(|message| message.submitted)
+}
+
+fn oldest_text(alloc: Global, oldest: Option<Moment>) -> Result<String, AllocError> {
+    let Some(oldest) = oldest else {
+        return Ok(String::new(alloc));
+    };
+    let oldest = text_of(alloc, oldest)?;
+    Ok(format!(in alloc; "OLDEST  {oldest}\n")?)
+}
+
+// How far back the store goes.
+fn print_oldest(rt: &HostRuntime, oldest: Option<Moment>) -> Result<(), RunFault> {
+    let text = oldest_text(rt.alloc(), oldest)?;
+    match print!(rt; "{text}") {
+        Ok(()) => Ok(()),
+        Err(_) => Err(RunFault::Output),
     }
 }
 
@@ -69,10 +92,11 @@ fn print_tables(
         ..
     } = tables;
     if by_handset {
-        print_stuck(rt, messages.into_vec(), parts.into_vec(), filter)
-    } else {
-        print_messages(rt, messages.into_vec(), parts.into_vec(), filter)
+        return print_stuck(rt, messages.into_vec(), parts.into_vec(), filter);
     }
+    let oldest = oldest_in(messages.as_slice());
+    print_messages(rt, messages.into_vec(), parts.into_vec(), filter)?;
+    print_oldest(rt, oldest)
 }
 
 // Whether a run could start on them.
@@ -107,8 +131,8 @@ fn look_fault(rt: &HostRuntime, path: &str, error: KeepError) -> RunFault {
     }
 }
 
-/// Prints the messages of the store at the path that pass the filter, and how many of them are in each state; or what waits of them,
-/// by handset. Rows on which no run would start are refused.
+/// Prints the messages of the store at the path that pass the filter, how many of them are in each state, and how far back the store
+/// goes; or what waits of them, by handset. Rows on which no run would start are refused.
 pub fn show_store(
     rt: &HostRuntime,
     path: &str,

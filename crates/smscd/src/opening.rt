@@ -1,5 +1,5 @@
 //! How a run opens its store, and why it can't.
-use crate::preparing::{Begun, ready, set_log_aside};
+use crate::preparing::{Begun, put_back, ready, set_log_aside};
 use crate::run_fault::{RunFault, StoreFault};
 use crate::store_files::{StorePaths, is_full, look_at, make_private, octets_at, probe_disk};
 use crate::summary::{Files as FilesFound, files_at};
@@ -226,6 +226,17 @@ fn begins_at(setup: Setup, step: u32) -> Setup {
     }
 }
 
+fn keep_in(
+    rt: &HostRuntime,
+    path: &str,
+    files: Files<File>,
+    setup: Setup,
+) -> Result<CentreKeep<FileStore<File>>, RunFault> {
+    let conn = connect(rt, path, files)?;
+    keep_of(rt, path, conn, setup)
+}
+
+// A database that is refused stays as it is, and so does its mark.
 fn open_keep(
     rt: &HostRuntime,
     run: &ServerRun<'_>,
@@ -235,9 +246,13 @@ fn open_keep(
     let path = paths.file.as_str();
     let files = open_judged(rt, paths, run.begins_anew, setup.start)?;
     let (files, begun) = ready(rt, run, paths, files, setup.start)?;
-    let conn = connect(rt, path, files)?;
-    let keep = keep_of(rt, path, conn, begins_at(setup, begun.step))?;
-    Ok((keep, begun))
+    match keep_in(rt, path, files, begins_at(setup, begun.step)) {
+        Ok(keep) => Ok((keep, begun)),
+        Err(fault) => {
+            put_back(rt, path, &begun);
+            Err(fault)
+        }
+    }
 }
 
 fn look(rt: &HostRuntime, paths: &StorePaths) -> Result<FilesLook, RunFault> {

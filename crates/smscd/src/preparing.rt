@@ -7,6 +7,8 @@ use crate::opening::{FoundStore, connect, database_fault, keep_of, open_files, s
 use crate::run_fault::{RunFault, StoreFault, lost_fault};
 use crate::store_files::{StorePaths, look_at, write_private};
 use sms_base::{Listed, MessageId, Moment};
+use sms_centre_recovery::soundness::RowTables;
+use sms_centre_spec::Rows;
 use sms_centre_spec::numbers::step_after_loss;
 use sms_store::CentreKeep;
 use sms_store_files::{
@@ -160,10 +162,29 @@ fn bare_setup(alloc: Global, run: &ServerRun<'_>, start: Moment) -> Setup {
     }
 }
 
-fn greatest_in<K: CentreStore>(keep: &mut K) -> Result<Option<MessageId>, RunFault> {
+// Refuses rows on which no centre starts.
+fn judge_tables(alloc: Global, tables: &RowTables) -> Result<(), RunFault> {
+    if tables.is_sound(alloc)? {
+        Ok(())
+    } else {
+        Err(RunFault::BadRows)
+    }
+}
+
+fn judge_rows(alloc: Global, rows: Rows) -> Result<(), RunFault> {
+    let Some(tables) = RowTables::of(rows) else {
+        return Err(RunFault::BadRows);
+    };
+    let judged = judge_tables(alloc, &tables);
+    drop(tables);
+    judged
+}
+
+// The greatest number of the keep's rows, which are judged.
+fn greatest_in<K: CentreStore>(alloc: Global, keep: &mut K) -> Result<Option<MessageId>, RunFault> {
     let rows = keep.gather()?;
     let greatest = rows.messages.as_slice().last().map(|message| message.id);
-    drop(rows);
+    judge_rows(alloc, rows)?;
     Ok(greatest)
 }
 
@@ -182,8 +203,8 @@ fn close_keep(
     }
 }
 
-// Opens the database in both files, looks for its greatest number, and closes it. What is no store of a centre is refused and stays as it
-// is; what is none yet becomes one.
+// Opens the database in both files, looks for its greatest number, and closes it. What is no store of a centre, or has rows on which none
+// starts, is refused and stays as it is; what is none yet becomes one.
 fn look_through(
     rt: &HostRuntime,
     path: &str,
@@ -192,7 +213,7 @@ fn look_through(
 ) -> Result<(Files<File>, Option<MessageId>), RunFault> {
     let conn = connect(rt, path, files)?;
     let mut keep = keep_of(rt, path, conn, setup)?;
-    match greatest_in(&mut keep) {
+    match greatest_in(rt.alloc(), &mut keep) {
         Ok(greatest) => Ok((close_keep(rt, path, keep)?, greatest)),
         Err(fault) => {
             drop(keep);
@@ -258,6 +279,33 @@ pub fn ready(
     let (files, step) = stepped(rt, run, paths.file.as_str(), files, finding.mark, start)?;
     let (files, step) = marked(rt, files, step)?;
     Ok((files, Begun { step, finding }))
+}
+
+// ---- a start that is refused
+
+// A run that opened nothing leaves the mark of the one before, where the log has no commit.
+fn closed_again(rt: &HostRuntime, path: &str, step: u32) -> Result<(), RunFault> {
+    let mut files = open_files(rt, path)?;
+    let put = put_closed(rt.alloc(), &mut files, step);
+    drop(files);
+    put.map_err(run_fault)
+}
+
+fn put_closed(alloc: Global, files: &mut Files<File>, step: u32) -> Result<(), FilesFault> {
+    let found = finding_of(alloc, files)?;
+    let mark = Mark::Closed(step);
+    match verdict_of(mark, found.log.finding) {
+        Verdict::Taken if found.mark == Mark::Open(step) => write_mark(files, mark),
+        _ => Ok(()),
+    }
+}
+
+/// Puts back the mark that a run found, once the database was refused that it would have opened. A database that was not left in order was
+/// judged before the run's mark was set, so that this is one which a run has left whole.
+pub fn put_back(rt: &HostRuntime, path: &str, begun: &Begun) {
+    if let Mark::Closed(step) = begun.finding.mark {
+        let _ = closed_again(rt, path, step);
+    }
 }
 
 // ---- the end of a run

@@ -8,8 +8,9 @@ use crate::setup::allowance_of;
 use smsc_cli::words::{PasswordWords, ServerRun, TableAccount};
 use smsc_server::{Allowance, Allowances, Orders};
 use std::alloc::{AllocError, Global};
-use std::sync::Arc;
-use toml::Value;
+use std::sync::{Arc, Wait};
+use std::time::Clock;
+use toml::{Table, Value};
 
 /// Who reads the accounts' file again.
 #[derive(Drop)]
@@ -133,21 +134,48 @@ impl Reloader {
         self.path.as_str()
     }
 
-    // What accounts may do by the text of the file, of which nothing else may have changed.
-    fn allowed_by(&self, file: &str) -> Result<Vec<Allowance>, RunFault> {
-        let alloc = self.host.alloc();
+    // Refuses accounts of the file that are others than those of that document, with which the run began.
+    fn judge_beside(
+        &self,
+        document: &Table,
+        file: &str,
+        accounts: &[TableAccount<'_>],
+    ) -> Result<(), RunFault> {
         let path = self.path.as_str();
-        let document = document_of(alloc, path, file)?;
-        let accounts = accounts_in(alloc, path, file, &document)?;
-        let begun = self.begun.as_str();
-        let before_document = document_of(alloc, path, begun)?;
-        let before = accounts_in(alloc, path, begun, &before_document)?;
-        if let Some(number) = first_other(before.as_slice(), accounts.as_slice()) {
-            return Err(RunFault::OtherAccount(line_at(path, file, number)));
+        let before = accounts_in(self.host.alloc(), path, self.begun.as_str(), document)?;
+        match first_other(before.as_slice(), accounts) {
+            Some(number) => Err(RunFault::OtherAccount(line_at(path, file, number))),
+            None => Ok(()),
         }
-        let mut allowed = Vec::new(alloc);
-        put_allowed(accounts.as_slice(), self.of_words, &mut allowed)?;
+    }
+
+    // Refuses accounts of the file that are others than those with which the run began.
+    fn judge_accounts(&self, file: &str, accounts: &[TableAccount<'_>]) -> Result<(), RunFault> {
+        let begun = self.begun.as_str();
+        let document = document_of(self.host.alloc(), self.path.as_str(), begun)?;
+        let judged = self.judge_beside(&document, file, accounts);
+        drop(document);
+        judged
+    }
+
+    fn allowed_to(&self, accounts: &[TableAccount<'_>]) -> Result<Vec<Allowance>, AllocError> {
+        let mut allowed = Vec::new(self.host.alloc());
+        put_allowed(accounts, self.of_words, &mut allowed)?;
         Ok(allowed)
+    }
+
+    // What the accounts may do that the document spells, of which nothing else may have changed.
+    fn allowed_in(&self, file: &str, document: &Table) -> Result<Vec<Allowance>, RunFault> {
+        let accounts = accounts_in(self.host.alloc(), self.path.as_str(), file, document)?;
+        self.judge_accounts(file, accounts.as_slice())?;
+        Ok(self.allowed_to(accounts.as_slice())?)
+    }
+
+    fn allowed_by(&self, file: &str) -> Result<Vec<Allowance>, RunFault> {
+        let document = document_of(self.host.alloc(), self.path.as_str(), file)?;
+        let allowed = self.allowed_in(file, &document);
+        drop(document);
+        allowed
     }
 
     fn read_again(&self) -> Result<Vec<Allowance>, RunFault> {
@@ -157,12 +185,9 @@ impl Reloader {
     }
 
     /// Reads the file again. The run takes over what it allows; where it has a fault nothing changes.
-    pub fn reload(&self, orders: &Orders) -> Result<(), RunFault> {
+    pub fn reload<R: Wait + Clock>(&self, rt: &R, orders: &Orders) -> Result<(), RunFault> {
         let allowed = self.read_again()?;
-        if self
-            .allowances
-            .change(&self.host, orders, allowed.as_slice())
-        {
+        if self.allowances.change(rt, orders, allowed.as_slice()) {
             Ok(())
         } else {
             Err(RunFault::NoOrders)

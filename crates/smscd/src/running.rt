@@ -14,7 +14,7 @@ use crate::run_fault::RunFault;
 use crate::setup::{RunAccounts, setup_of};
 use crate::status::{self, About, Pages};
 use crate::store_files::{StorePaths, open_mode_at, public_mode_at};
-use crate::summary::{Files, Summary, summary_of};
+use crate::summary::{Files, Summary, left_of, summary_of};
 use crate::watchers::{Source, Watchers, log_alone, log_and_page};
 use crate::watching::{Guard, Watch};
 use smpp_session::{Account as Login, Accounts};
@@ -24,7 +24,7 @@ use sms_keeper::Gate;
 use sms_store_files::{LogFinding, LogJudgement};
 use smsc_cli::words::{AccountWords, ServerRun};
 use smsc_endpoint::LinkAccess;
-use smsc_server::{Allowances, Given, ObservedKeep, Orders, Ports, ServeFault, serve};
+use smsc_server::{Allowance, Allowances, Given, ObservedKeep, Orders, Ports, ServeFault, serve};
 use smsc_service::{CentreStore, LinkBoard, Setup};
 use std::alloc::{AllocError, Global};
 use std::io;
@@ -91,13 +91,14 @@ fn serve_book<R: Threads + Wait + Clock + Copy + Send + Sync + 'static>(
         file,
         of_words,
     } = book;
-    let allowances = Allowances::new(host.alloc(), limits.as_slice(), allowed.as_slice())?;
-    let allowances = Arc::new(host.alloc(), allowances)?;
-    let reloader = Reloader::of(host, run, file, of_words, &allowances)?;
-    let limits = Limits {
-        allowances,
-        reloader,
-    };
+    let limits = limits_of(
+        host,
+        run,
+        limits.as_slice(),
+        allowed.as_slice(),
+        file,
+        of_words,
+    )?;
     let setup = setup_of(run, start, accounts);
     let names = Arc::new(host.alloc(), names)?;
     let (log, thread) = start_log(host, rt, &names)?;
@@ -119,6 +120,23 @@ fn end_log<R: Threads + Wait + Clock + Copy>(rt: &R, log: Arc<Log<R>>, thread: L
 struct Limits {
     allowances: Arc<Allowances>,
     reloader: Option<Reloader>,
+}
+
+fn limits_of(
+    host: HostRuntime,
+    run: &ServerRun<'_>,
+    limits: &[u8],
+    allowed: &[Allowance],
+    file: Option<String>,
+    of_words: usize,
+) -> Result<Limits, AllocError> {
+    let allowances = Allowances::new(host.alloc(), limits, allowed)?;
+    let allowances = Arc::new(host.alloc(), allowances)?;
+    let reloader = Reloader::of(host, run, file, of_words, &allowances)?;
+    Ok(Limits {
+        allowances,
+        reloader,
+    })
 }
 
 // What a run has beside its store.
@@ -378,6 +396,21 @@ fn say_store<R: Wait + Copy>(
     Ok(())
 }
 
+// What the rows say once some were forgotten, if the words say that some may be.
+fn look_behind<K: CentreStore>(
+    run: &ServerRun<'_>,
+    keep: &mut K,
+    summary: Summary,
+) -> Result<Summary, RunFault> {
+    if run.keep.is_none() {
+        return Ok(summary);
+    }
+    let rows = keep.gather()?;
+    let left = left_of(summary, &rows);
+    drop(rows);
+    Ok(left)
+}
+
 // Logs what the rows say, and gives it. What need not be kept is forgotten.
 fn look_at<R: Wait + Copy, K: CentreStore>(
     host: &HostRuntime,
@@ -390,9 +423,18 @@ fn look_at<R: Wait + Copy, K: CentreStore>(
     let rows = keep.gather()?;
     let summary = summary_of(&rows, start);
     watchers.begin(&rows);
-    say_store(host.alloc(), &*watchers.log, found, &summary)?;
-    forget_old(host, &*watchers.log, run, keep, rows, start, summary.newest)?;
-    Ok(summary)
+    let said = say_store(host.alloc(), &*watchers.log, found, &summary);
+    let done = match said {
+        Ok(()) => forget_old(host, &*watchers.log, run, keep, rows, start, summary.newest),
+        Err(_) => {
+            drop(rows);
+            Err(RunFault::NoMemory)
+        }
+    };
+    match done {
+        Ok(()) => look_behind(run, keep, summary),
+        Err(fault) => Err(fault),
+    }
 }
 
 // The clock of the run, once the store was read, which may take long. Its time begins at the time of day, or at the newest moment of the
@@ -670,12 +712,17 @@ impl Helpers {
         Control::open(host, path, orders, reloader, over).map_err(control_fault)
     }
 
-    fn start_attending<R: Threads>(&mut self, rt: &R, control: Control) -> Result<(), RunFault> {
+    fn start_attending<R: Threads + Wait + Clock + Copy + Send + Sync + 'static>(
+        &mut self,
+        rt: &R,
+        control: Control,
+    ) -> Result<(), RunFault> {
         let mut control = control;
-        self.keep_thread(thread::spawn(rt, move || control.attend_all()).ok())
+        let own = *rt;
+        self.keep_thread(thread::spawn(rt, move || control.attend_all(&own)).ok())
     }
 
-    fn start_control<R: Threads>(
+    fn start_control<R: Threads + Wait + Clock + Copy + Send + Sync + 'static>(
         &mut self,
         host: HostRuntime,
         rt: &R,
@@ -687,7 +734,7 @@ impl Helpers {
         self.start_attending(rt, control)
     }
 
-    fn start<R: Threads>(
+    fn start<R: Threads + Wait + Clock + Copy + Send + Sync + 'static>(
         &mut self,
         host: HostRuntime,
         rt: &R,

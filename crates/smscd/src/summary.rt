@@ -50,6 +50,14 @@ pub fn summary_of(rows: &Rows, start: Moment) -> Summary {
     }
 }
 
+/// The same, but for how many messages are in each state: these rows are left of them.
+pub fn left_of(summary: Summary, rows: &Rows) -> Summary {
+    Summary {
+        messages: message_figures(rows.messages.as_slice()),
+        ..summary
+    }
+}
+
 /// What a store's files are before it is opened.
 #[derive(Clone, Copy)]
 pub struct Files {

@@ -5,7 +5,9 @@ use crate::clock_and_gate::Open;
 use crate::rows::holds;
 use crate::service::centre::{clock, keep, logins};
 use smsc_endpoint::LinkAccess;
-use smsc_server::{Door, Doors, Event, Given, Observer, Orders, Ports, Side, serve};
+use smsc_server::{
+    Allowances, Door, Doors, Event, Given, Observer, Orders, Ports, Side, serve,
+};
 use std::alloc::Global;
 use std::io::{self, ErrorKind, Read, Write};
 use std::net::{
@@ -133,6 +135,7 @@ fn opened<R: Net<Listener = TcpListener>>(rt: &R, alloc: Global, left: u16) -> i
 // A run for so many connections.
 fn given(alloc: Global, sessions: u32) -> Result<Given<Sums>, Fail> {
     let orders = Orders::new(alloc)?;
+    let allowances = Allowances::new(alloc, &[], &[])?;
     let sums = Sums {
         applications: AtomicU32::new(0),
         links: AtomicU32::new(0),
@@ -144,8 +147,7 @@ fn given(alloc: Global, sessions: u32) -> Result<Given<Sums>, Fail> {
         orders: Arc::new(alloc, orders)?,
         links: None,
         sessions: Some(sessions),
-        limits: Vec::new(alloc),
-        rates: Vec::new(alloc),
+        allowances: Arc::new(alloc, allowances)?,
     })
 }
 
