@@ -130,11 +130,11 @@ def match_body_struct(s,j):
         i+=1
 
 
-LEFT_OUT = ("test", "lab", "lab_", "stopping_stores", "smscd", "handset", "smsim")
+LEFT_OUT = ("smscd", "handset", "smsim")
 
 
 def is_left_out(crate):
-    return any(crate == word or (word in ("test", "lab", "lab_") and crate.startswith(word)) for word in LEFT_OUT)
+    return crate.startswith("test") or crate in LEFT_OUT
 
 
 def sources():

@@ -9,6 +9,10 @@ import os
 import re
 import sys
 
+sys.dont_write_bytecode = True
+sys.path.insert(0, os.path.join(os.path.dirname(os.path.abspath(__file__)), "..", "..", "bench"))
+from laying import OUTSIDE
+
 TOP = os.path.normpath(os.path.join(os.path.dirname(os.path.abspath(__file__)), "..", ".."))
 CRATES = os.path.join(TOP, "crates")
 # Words of the system, of ports and of other programs, and forms of dates, which no file of the tree has.
@@ -46,17 +50,19 @@ def words_of(paths):
 
 class Tree:
     def __init__(self):
-        self.crates = {name for name in os.listdir(CRATES) if os.path.isdir(os.path.join(CRATES, name, "src"))}
-        sources = [path for path in files_under("crates") if path.endswith((".rt", ".antt"))]
+        # The folder of each crate, also of those whose sources stand outside of crates/ and have other endings.
+        self.crates = {name: os.path.join("crates", name) for name in os.listdir(CRATES) if os.path.isdir(os.path.join(CRATES, name, "src"))}
+        self.crates |= OUTSIDE
+        sources = [path for path in files_under("crates", *OUTSIDE.values()) if path.endswith((".rt", ".antt", ".rattle", ".logic"))]
         scripts = list(files_under("tests", "bench", "demo")) + [os.path.join(TOP, name) for name in ("Makefile", "HANDLES")]
         self.words = words_of(sources + scripts) | {os.path.basename(path) for path in sources}
-        self.words |= {os.path.basename(path).rsplit(".", 1)[0] for path in sources} | self.crates
+        self.words |= {os.path.basename(path).rsplit(".", 1)[0] for path in sources} | set(self.crates)
         self.known = {}
 
     def words_in(self, crate):
         """The words of a crate's sources and specs: its items, their fields and variants, its modules."""
         if crate not in self.known:
-            self.known[crate] = words_of(files_under(f"crates/{crate}/src", f"crates/{crate}/specs"))
+            self.known[crate] = words_of(files_under(f"{self.crates[crate]}/src", f"{self.crates[crate]}/specs"))
         return self.known[crate]
 
     def declares(self, crate, name):
@@ -64,8 +70,8 @@ class Tree:
         return name in self.words_in(crate)
 
     def module(self, crate, names):
-        path = os.path.join(CRATES, crate, "src", *names)
-        return os.path.isdir(path) or os.path.isfile(path + ".rt")
+        path = os.path.join(TOP, self.crates[crate], "src", *names)
+        return os.path.isdir(path) or os.path.isfile(path + ".rt") or os.path.isfile(path + ".rattle")
 
     def fault_of_path(self, names):
         crate, rest = names[0], names[1:]
@@ -74,7 +80,7 @@ class Tree:
                 return f"{crate} has no {rest[0]}"
             absent = [name for name in rest[1:] if not self.declares(crate, name)]
             return f"{crate} has no {absent[0]}" if absent else None
-        if re.match(r"(sms|smsc|smpp|tests)_", crate) and crate not in self.words:
+        if re.match(r"(sms|smsc|smpp|test|lab)_", crate) and crate not in self.words:
             return f"there is no crate {crate}"
         absent = [name for name in names if name not in self.words]
         return f"no word {absent[0]} in the tree" if absent else None

@@ -8,7 +8,7 @@ import re
 import sys
 
 TOP = os.path.join(os.path.dirname(os.path.abspath(__file__)), "..", "..")
-DATA = os.path.join(TOP, "crates", "lab", "data")
+DATA = os.path.join(TOP, "tests", "lab", "data")
 
 
 def text_of(*path):

@@ -149,6 +149,6 @@ pub fn why_no_sim_words<'a>(alloc: Global, words: &'a [&'a str]) -> Result<Strin
     or_other(
         alloc,
         text,
-        "relay, play, ladder, ladder --svg or capture is wanted",
+        "relay, play, ladder, ladder --svg or capture is wanted\n\nUsage: smsim relay|play|ladder|capture",
     )
 }
