@@ -1,6 +1,6 @@
 -- What a run forgets as it starts: calls that look at so many messages each, from the first message on, each from where the one before
 -- it ended.
-use Rattle.std.specs.Prelude.{◌⊎◌, ℕ, zero, suc, ◌×◌}
+use Rattle.std.specs.Prelude.{◌⊎◌, ℕ, zero, suc}
 use Rattle.sms_base.specs.Among.{Among}
 use Rattle.sms_centre_rows.specs.declared.messages.message.MessageRow.{MessageRow}
 use Rattle.sms_centre.specs.declared.forget_error.ForgetError.{ForgetError}

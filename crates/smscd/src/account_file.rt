@@ -125,7 +125,10 @@ fn tables_in<'a>(
     let mut accounts = Vec::new(alloc);
     match add_tables(&mut accounts, document) {
         Ok(()) => Ok(accounts),
-        Err(fault) => Err(tables_fault(file, fault)),
+        Err(fault) => {
+            drop(accounts);
+            Err(tables_fault(file, fault))
+        }
     }
 }
 

@@ -143,8 +143,9 @@ impl RunArchive {
     }
 
     fn write(&mut self, message: &MessageRow, parts: usize) -> io::Result<()> {
+        let alloc = self.alloc;
         if let Some(file) = &mut self.file {
-            let line = line_of(self.alloc, message, parts)?;
+            let line = line_of(alloc, message, parts)?;
             file.write_all(line.as_str().as_bytes())?;
         }
         self.count = self.count.saturating_add(1);

@@ -227,7 +227,10 @@ const WAIT: u32 = 15;
 fn refused(command: Command, text: String) -> RunFault {
     match command {
         Command::Reload => RunFault::NotDone(text),
-        Command::Stop | Command::End(_) => RunFault::Refused,
+        Command::Stop | Command::End(_) => {
+            drop(text);
+            RunFault::Refused
+        }
     }
 }
 

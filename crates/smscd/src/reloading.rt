@@ -119,13 +119,14 @@ impl Reloader {
     ) -> Result<Reloader, AllocError> {
         let mut path = String::new(host.alloc());
         path.push_str(run.accounts.unwrap_or(""))?;
+        let allowances = Arc::try_clone(allowances)?;
         Ok(Reloader {
             host,
             path,
             begun,
             opens_accounts: run.opens_accounts,
             of_words,
-            allowances: Arc::try_clone(allowances)?,
+            allowances,
         })
     }
 

@@ -63,11 +63,11 @@ fn hold(
     alloc: Global,
     group: &mut GroupKeep<MemoryKeep>,
     revision: Revision<PartRow>,
-) -> Result<(), Fail> {
+) -> Result<bool, Fail> {
     let changes = changes_of(alloc, revision)?;
     group.make_room(&changes)?;
     group.hold(changes);
-    Ok(())
+    Ok(true)
 }
 
 // Whether the part of that number has a TPDU of that octet, or none.
@@ -90,37 +90,97 @@ fn committed(group: &mut GroupKeep<MemoryKeep>) -> Result<usize, Fail> {
     }
 }
 
-#[test]
-fn a_group_is_read_before_its_store(rt: HostRuntime) -> Result<(), Fail> {
-    let alloc = rt.alloc();
+// What an event changes of the parts of message 1, and what is seen then.
+#[derive(Clone, Copy)]
+enum Step {
+    // An event puts the part of that number, with a TPDU of that octet.
+    Puts(u8, u8),
+    // So many attempts at the part of that number are noted.
+    Amends(u8, u8),
+    Removes(u8),
+    Flushes,
+    // The part of that number has a TPDU of that octet, or is none.
+    Has(u8, Option<u8>),
+    // So many parts are committed, and what is held is let go.
+    Commits(usize),
+}
+
+fn amended(number: u8, attempts: u8) -> Result<Revision<PartRow>, Fail> {
+    Ok(Revision::Amend {
+        key: key(number)?,
+        progress: progress(attempts)?,
+    })
+}
+
+// Whether the step goes as it says.
+fn goes(alloc: Global, group: &mut GroupKeep<MemoryKeep>, step: &Step) -> Result<bool, Fail> {
+    match step {
+        Step::Puts(number, octet) => {
+            hold(alloc, group, Revision::Put(part(alloc, *number, *octet)?))
+        }
+        Step::Amends(number, attempts) => hold(alloc, group, amended(*number, *attempts)?),
+        Step::Removes(number) => hold(alloc, group, Revision::Remove(key(*number)?)),
+        Step::Flushes => Ok(group.flush() == Ok(())),
+        Step::Has(number, octet) => has(group, *number, *octet),
+        Step::Commits(count) => Ok(committed(group)? == *count),
+    }
+}
+
+// Each course with its steps; a step that fails is named by its course.
+type Course = (&'static str, &'static [Step]);
+
+const COURSES: &[Course] = &[
+    ("a group is read before its store", READ_FIRST),
+    (
+        "a flush commits what all events of a group changed",
+        FLUSHED,
+    ),
+];
+
+const READ_FIRST: &[Step] = &[
+    Step::Has(1, None),
+    Step::Puts(1, 7),
+    Step::Puts(2, 8),
+    Step::Has(1, Some(7)),
+    Step::Flushes,
+    Step::Has(1, Some(7)),
+    Step::Puts(1, 9),
+    Step::Amends(1, 1),
+    Step::Has(1, Some(9)),
+    Step::Has(2, Some(8)),
+];
+
+const FLUSHED: &[Step] = &[
+    Step::Puts(1, 7),
+    Step::Puts(2, 8),
+    Step::Removes(1),
+    Step::Flushes,
+    Step::Commits(1),
+    Step::Puts(3, 9),
+    Step::Commits(1),
+    Step::Flushes,
+    Step::Commits(1),
+];
+
+fn go(alloc: Global, group: &mut GroupKeep<MemoryKeep>, course: &Course) -> Result<(), Fail> {
+    let (name, steps) = course;
+    for step in steps.iter() {
+        holds(goes(alloc, group, step)?, name)?;
+    }
+    Ok(())
+}
+
+fn plays(alloc: Global, course: &Course) -> Result<(), Fail> {
     let mut group = GroupKeep::over(alloc, MemoryKeep::new(alloc, setup(alloc)?));
-    holds(has(&mut group, 1, None)?, "no part")?;
-    hold(alloc, &mut group, Revision::Put(part(alloc, 1, 7)?))?;
-    hold(alloc, &mut group, Revision::Put(part(alloc, 2, 8)?))?;
-    holds(has(&mut group, 1, Some(7))?, "the first part, held")?;
-    holds(group.flush() == Ok(()), "two events are committed")?;
-    holds(has(&mut group, 1, Some(7))?, "the first part, committed")?;
-    hold(alloc, &mut group, Revision::Put(part(alloc, 1, 9)?))?;
-    let amend = Revision::Amend {
-        key: key(1)?,
-        progress: progress(1)?,
-    };
-    hold(alloc, &mut group, amend)?;
-    holds(has(&mut group, 1, Some(9))?, "the newest counts")?;
-    holds(has(&mut group, 2, Some(8))?, "the second part, committed")
+    let went = go(alloc, &mut group, course);
+    drop(group);
+    went
 }
 
 #[test]
-fn a_flush_commits_what_all_events_of_a_group_changed(rt: HostRuntime) -> Result<(), Fail> {
-    let alloc = rt.alloc();
-    let mut group = GroupKeep::over(alloc, MemoryKeep::new(alloc, setup(alloc)?));
-    hold(alloc, &mut group, Revision::Put(part(alloc, 1, 7)?))?;
-    hold(alloc, &mut group, Revision::Put(part(alloc, 2, 8)?))?;
-    hold(alloc, &mut group, Revision::Remove(key(1)?))?;
-    holds(group.flush() == Ok(()), "three events are committed")?;
-    holds(committed(&mut group)? == 1, "one part is left")?;
-    hold(alloc, &mut group, Revision::Put(part(alloc, 3, 9)?))?;
-    holds(committed(&mut group)? == 1, "what is held is let go")?;
-    holds(group.flush() == Ok(()), "nothing is committed")?;
-    holds(committed(&mut group)? == 1, "nothing was held")
+fn groups_go_as_told(rt: HostRuntime) -> Result<(), Fail> {
+    for course in COURSES {
+        plays(rt.alloc(), course)?;
+    }
+    Ok(())
 }

@@ -326,27 +326,33 @@ fn a_source_that_is_not_allowed_is_refused(rt: HostRuntime) -> Result<(), Fail> 
     Ok(())
 }
 
+// A wrong source and a wrong destination, of that esm_class.
+fn status_of(alloc: Global, esm_class: u8) -> Result<Option<CommandStatus>, Fail> {
+    let fields = Fields {
+        esm_class,
+        source: b"447700900003",
+        destination: b"none",
+        ..hello()
+    };
+    match judged(alloc, allowed(alloc)?, &message_of(&fields))? {
+        Err(SmppError::Refused(status)) => Ok(Some(status)),
+        _ => Ok(None),
+    }
+}
+
 // The source is judged behind esm_class and before the destination.
+const IN_TURN: &[(u8, CommandStatus)] = &[
+    (0, CommandStatus::ESME_RINVSRCADR),
+    (4, CommandStatus::ESME_RINVESMCLASS),
+];
+
 #[test]
 fn a_source_is_judged_in_its_turn(rt: HostRuntime) -> Result<(), Fail> {
-    let mut fields = hello();
-    fields.source = b"447700900003";
-    fields.destination = b"none";
-    let refused = judged(rt.alloc(), allowed(rt.alloc())?, &message_of(&fields))?;
-    holds(
-        matches!(
-            refused,
-            Err(SmppError::Refused(CommandStatus::ESME_RINVSRCADR))
-        ),
-        "the source first",
-    )?;
-    fields.esm_class = 4;
-    let refused = judged(rt.alloc(), allowed(rt.alloc())?, &message_of(&fields))?;
-    holds(
-        matches!(
-            refused,
-            Err(SmppError::Refused(CommandStatus::ESME_RINVESMCLASS))
-        ),
-        "esm_class before it",
-    )
+    for (esm_class, status) in IN_TURN {
+        holds(
+            status_of(rt.alloc(), *esm_class)? == Some(*status),
+            "its turn",
+        )?;
+    }
+    Ok(())
 }

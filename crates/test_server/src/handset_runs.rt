@@ -6,5 +6,3 @@ mod failing;
 pub(crate) mod machine;
 #[cfg(test)]
 mod passing;
-#[cfg(test)]
-mod whole;

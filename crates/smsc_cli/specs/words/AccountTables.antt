@@ -128,9 +128,14 @@ SpellsSource text (Number digits) = (digits.now ≡ text) × (is_number_text tex
 SpellsSource text (Prefix digits) = (is_number_text text ≡ false) × (is_prefix text ≡ true) × (digits.now ≡ unstarred text)
 SpellsSource text (Name name) = (is_number_text text ≡ false) × (is_prefix text ≡ false) × (name.now ≡ text) × (is_name_text text ≡ true)
 
+-- a value is a text that is one
+abbrev pub is_text_of_source : Option (List ℕ) → Bool
+is_text_of_source None = false
+is_text_of_source (Some text) = is_source text
+
 abbrev pub AreSources : Items → Type 0
 AreSources no_items = ⊤
-AreSources (item value values) = ((text : List ℕ) × (as_str value ≡ Some text) × (is_source text ≡ true)) × AreSources values
+AreSources (item value values) = (is_text_of_source (as_str value) ≡ true) × AreSources values
 
 -- the sources that an account may give, one at least: any where it does not say
 abbrev pub SaysSources : Option Data → Items → Type 0

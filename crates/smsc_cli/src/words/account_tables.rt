@@ -1,10 +1,12 @@
 //! Accounts in TOML.
 ghost use Rattle.std.specs.Prelude.{◌≡◌, ◌≢◌, ◌↔◌, ◌+◌, ◌<◌, ◌^◌, ℕ, List, Bool, true, false, None, Some, Option, codes, length, option_map, Err, IfNone, IfSome, MatchOption, OnErr, OnOk};
+ghost use Rattle.std.specs.List.{list_all};
 ghost use Rattle.toml.specs.Data.{Items, as_array, as_str, get_member, no_items};
 ghost use Rattle.toml.specs.View.{items_view, table_view, view};
+ghost use Rattle.toml.specs.declared.value.Value.{Value as ValueOf};
 ghost use Rattle.smsc_cli.specs.words.AccountTables.{AddsNoValue, AddsValue, AddsValues, AreSources, HasRoomFor, HasValues, IsNewName, IsSalt, IsUpTo, SaysPassword, SaysRate, SaysSessions, SaysSources, SaysSuspended};
 ghost use Rattle.smsc_cli.specs.words.AccountTables.{SpellsDigest, SpellsName, SpellsPassword, SpellsSalt, SpellsSource, SpellsTable, SpellsValue, StopsAtValue};
-ghost use Rattle.smsc_cli.specs.words.AccountTables.{are_account_keys, are_file_keys, ends_starred, is_name_text as is_name_text_of, is_prefix, is_source as is_source_of, unstarred as unstarred_of, is_account_key as is_account_key_of, is_file_key as is_file_key_of, is_limit_key as is_limit_key_of, is_password_key as is_password_key_of, text_at as text_in};
+ghost use Rattle.smsc_cli.specs.words.AccountTables.{are_account_keys, are_file_keys, ends_starred, is_name_text as is_name_text_of, is_prefix, is_source as is_source_of, is_text_of_source, unstarred as unstarred_of, is_account_key as is_account_key_of, is_file_key as is_file_key_of, is_limit_key as is_limit_key_of, is_password_key as is_password_key_of, text_at as text_in};
 ghost use Rattle.smsc_cli.specs.words.Secrets.{is_number_text as is_number_of};
 ghost use Rattle.smsc_cli.specs.words.SimWords.{Gives, Spells, SpellsNumber};
 ghost use Rattle.smsc_cli.specs.declared.words.account_tables.PasswordWords.{PasswordWords as PasswordWordsOf};
@@ -359,7 +361,7 @@ fn is_source_text(text: &str) -> bool
 }
 
 fn is_source(value: &Value) -> bool
-    ensures { (result ≡ true) ↔ ((text : List ℕ) × (as_str (view value.now) ≡ Some text) × (is_source_of text ≡ true)) }
+    ensures { result ≡ is_text_of_source (as_str (view value.now)) }
 {
     match value.as_str() {
         Some(text) => is_source_text(text),
@@ -367,15 +369,20 @@ fn is_source(value: &Value) -> bool
     }
 }
 
+fn are_all_sources(values: &[Value]) -> bool
+    ensures { result ≡ list_all (λ (value : ValueOf). is_text_of_source (as_str (view value))) values.now }
+{
+    values.iter().all(|value| is_source(value))
+}
+
+#[tactic(auto, using(crate::proofs::words::SourceTexts::all_sources))]
 fn are_sources(values: &[Value]) -> bool
     ensures { (result ≡ true) ↔ AreSources (items_view values.now) }
 {
-    match values.split_first() {
-        Some((first, others)) => is_source(first) && are_sources(others),
-        None => true,
-    }
+    are_all_sources(values)
 }
 
+#[tactic(auto, using(crate::proofs::words::SourceTexts::some_items))]
 fn some_sources(values: &[Value]) -> Option<&[Value]>
     ensures found { IfSome result (λ sources. (sources.now ≡ values.entry.now) × (items_view values.entry.now ≢ no_items) × AreSources (items_view values.entry.now)) }
     ensures none { IfNone result (¬ ((items_view values.entry.now ≢ no_items) × AreSources (items_view values.entry.now))) }

@@ -4,6 +4,7 @@ use crate::rows::holds;
 use sms_base::{Holder, Kind};
 use sms_centre_queue::queue::DeliveryQueue;
 use sms_centre_rows::waiting::QueuedPart;
+use std::alloc::Global;
 use std::test::Fail;
 
 fn load(id: u32, number: u8, priority: u8, seconds: u32) -> Result<QueuedPart, Fail> {
@@ -61,15 +62,6 @@ fn waits_and_goes_on(queue: &mut DeliveryQueue) -> Result<(), Fail> {
     goes_on(queue)
 }
 
-#[test]
-fn what_waits_goes_in_order(rt: HostRuntime) -> Result<(), Fail> {
-    let number = digits("447700900456")?;
-    let mut queue = DeliveryQueue::new(rt.alloc(), number);
-    let waited = waits_and_goes_on(&mut queue);
-    drop(queue);
-    waited
-}
-
 fn put_many(queue: &mut DeliveryQueue) -> Result<(), Fail> {
     for id in 1u32..41 {
         queue.put(load(id, 1, 0, 0)?)?;
@@ -102,15 +94,6 @@ fn stays_beside_a_copy(queue: &mut DeliveryQueue) -> Result<(), Fail> {
     holds(waits(queue, 40, 1)?, "the shelf as it was")
 }
 
-#[test]
-fn a_copy_is_changed_alone(rt: HostRuntime) -> Result<(), Fail> {
-    let number = digits("447700900456")?;
-    let mut queue = DeliveryQueue::new(rt.alloc(), number);
-    let stayed = stays_beside_a_copy(&mut queue);
-    drop(queue);
-    stayed
-}
-
 // The reference that comes next at that time.
 fn next_reference(queue: &DeliveryQueue, seconds: u32) -> Result<Option<u8>, Fail> {
     Ok(queue.next_reference(&queue.row_or_new(1), at(seconds)?))
@@ -133,15 +116,6 @@ fn gives_many(queue: &mut DeliveryQueue) -> Result<(), Fail> {
 fn gives_in_turn(queue: &mut DeliveryQueue) -> Result<(), Fail> {
     gives(queue)?;
     gives_many(queue)
-}
-
-#[test]
-fn references_are_given_in_turn(rt: HostRuntime) -> Result<(), Fail> {
-    let number = digits("447700900456")?;
-    let mut queue = DeliveryQueue::new(rt.alloc(), number);
-    let given = gives_in_turn(&mut queue);
-    drop(queue);
-    given
 }
 
 // How many frames go out as a transaction begins.
@@ -191,11 +165,47 @@ fn goes_in_a_copy(queue: &mut DeliveryQueue) -> Result<(), Fail> {
     holds(!queue.line().is_ready(), "a line that is down")
 }
 
-#[test]
-fn a_line_carries_both_ways(rt: HostRuntime) -> Result<(), Fail> {
+// What a new queue does.
+#[derive(Clone, Copy)]
+enum Course {
+    // What waits goes in order.
+    Waits,
+    // A copy is changed alone.
+    Copies,
+    // References are given in turn.
+    Gives,
+    // Its line carries both ways.
+    Carries,
+}
+
+const COURSES: &[Course] = &[
+    Course::Waits,
+    Course::Copies,
+    Course::Gives,
+    Course::Carries,
+];
+
+fn go(queue: &mut DeliveryQueue, course: Course) -> Result<(), Fail> {
+    match course {
+        Course::Waits => waits_and_goes_on(queue),
+        Course::Copies => stays_beside_a_copy(queue),
+        Course::Gives => gives_in_turn(queue),
+        Course::Carries => goes_in_a_copy(queue),
+    }
+}
+
+fn plays(alloc: Global, course: Course) -> Result<(), Fail> {
     let number = digits("447700900456")?;
-    let mut queue = DeliveryQueue::new(rt.alloc(), number);
-    let gone = goes_in_a_copy(&mut queue);
+    let mut queue = DeliveryQueue::new(alloc, number);
+    let went = go(&mut queue, course);
     drop(queue);
-    gone
+    went
+}
+
+#[test]
+fn queues_go_as_told(rt: HostRuntime) -> Result<(), Fail> {
+    for course in COURSES {
+        plays(rt.alloc(), *course)?;
+    }
+    Ok(())
 }

@@ -181,10 +181,31 @@ fn runs_two<R: Threads + Wait + Copy + Send + 'static, M: Machine<Job, Reply>>(
     )
 }
 
-fn serves_many<R: Threads + Wait + Copy + Send + 'static>(
+// How many sessions a run has, and by which call.
+#[derive(Clone, Copy)]
+enum Sessions {
+    // Two, by `two_sessions`.
+    Two,
+    // So many, by `many_sessions`.
+    Many(usize),
+}
+
+fn runs<R: Threads + Wait + Copy + Send + 'static, M: Machine<Job, Reply>>(
     rt: R,
     alloc: Global,
-    count: usize,
+    machine: &mut M,
+    sessions: Sessions,
+) -> Result<(), Fail> {
+    match sessions {
+        Sessions::Two => runs_two(rt, alloc, machine),
+        Sessions::Many(count) => runs_many(rt, alloc, machine, count),
+    }
+}
+
+fn serves<R: Threads + Wait + Copy + Send + 'static>(
+    rt: R,
+    alloc: Global,
+    sessions: Sessions,
 ) -> Result<(), Fail> {
     let store = keep(alloc)?;
     let cutoff = Arc::new(alloc, Cutoff::new())?;
@@ -193,38 +214,19 @@ fn serves_many<R: Threads + Wait + Copy + Send + 'static>(
         store,
         None,
         &cutoff,
-        |service| runs_many(rt, alloc, service, count),
+        |service| runs(rt, alloc, service, sessions),
     )?;
     drop(store);
     went
 }
 
-fn serves_two<R: Threads + Wait + Copy + Send + 'static>(rt: R, alloc: Global) -> Result<(), Fail> {
-    let store = keep(alloc)?;
-    let cutoff = Arc::new(alloc, Cutoff::new())?;
-    let (went, store) = serve_with(
-        alloc,
-        store,
-        None,
-        &cutoff,
-        |service| runs_two(rt, alloc, service),
-    )?;
-    drop(store);
-    went
-}
+// All of a run have the numbers from 1 on.
+const RUNS: &[Sessions] = &[Sessions::Two, Sessions::Many(2), Sessions::Many(32)];
 
 #[test]
-fn two_sessions_have_the_numbers_1_and_2(rt: HostRuntime) -> Result<(), Fail> {
-    serves_two(rt, rt.alloc())
-}
-
-// So many sessions have the numbers from 1 on.
-const SESSIONS: &[usize] = &[2, 32];
-
-#[test]
-fn many_sessions_have_the_numbers_from_1_on(rt: HostRuntime) -> Result<(), Fail> {
-    for count in SESSIONS {
-        serves_many(rt, rt.alloc(), *count)?;
+fn sessions_have_the_numbers_from_1_on(rt: HostRuntime) -> Result<(), Fail> {
+    for sessions in RUNS {
+        serves(rt, rt.alloc(), *sessions)?;
     }
     Ok(())
 }
