@@ -1,5 +1,5 @@
 -- Messages that an archive takes one by one.
-use Rattle.std.proofs.Common.{◌≡◌, ◌⊎◌, ℕ, zero, suc, ◌+◌, ◌<◌, ◌≤◌, List, [], ◌∷◌, length, drop, get_or, Bool, true, false, true≢false, Some, inl, inr, refl, sym, ◌∙◌, ap, subst, arith}
+use Rattle.std.proofs.Common.{◌≡◌, ◌⊎◌, ℕ, zero, suc, ◌+◌, ◌<◌, ◌≤◌, List, [], ◌∷◌, length, drop, get_or, Result, Ok, Err, OnOk, Bool, true, false, true≢false, Some, inl, inr, refl, sym, ◌∙◌, ap, subst, arith}
 use Rattle.std.specs.Prelude.{◌==◌, ◌||◌}
 use Rattle.std.proofs.lemmas.Bool.{cases_eq, eqb-true, ne_eqb}
 use Rattle.sms_base.specs.Among.{Among}
@@ -36,6 +36,10 @@ found_by_number m id ms rises a e = ap (λ (n : ℕ). message_at n ms) (sym e) �
 pub none_of_none : (n : ℕ) (ids : List ℕ) → length ids ≡ 0 → is_among n ids ≡ true → ⊥
 none_of_none n [] l e = let bad : false ≡ true = e in absurd cc
 none_of_none n (x ∷ xs) l e = absurd (omega (arith, l))
+
+pub on_ok_holds : {A E : Type 0} (r : Result A E) (P : Type 0) → P → OnOk r P
+on_ok_holds (Ok a) P h = h
+on_ok_holds (Err e) P h = tt
 
 -- ---- what is committed
 

@@ -1,6 +1,6 @@
 -- What a centre asks of a message before it forgets it, by the definition's words.
 use Rattle.std.proofs.Common.{◌≡◌, ℕ, zero, suc, ◌+◌, ◌-◌, ◌<◌, ◌≤◌, List, [], ◌∷◌, ◌++◌, map, length, get_or, drop, add-one, Bool, true, false, Option, Some, None, Result, Ok, Err, refl, sym, ◌∙◌, ap, subst, inl, inr, ⊎_elim, eq-eqb, arith}
-use Rattle.std.specs.Prelude.{◌⊎◌, ◌==◌, ◌&&◌, ◌||◌, not, is_none, is_some, nat_lt, slice_get, if◌then◌else◌, IfOk}
+use Rattle.std.specs.Prelude.{◌⊎◌, ◌==◌, ◌&&◌, ◌||◌, not, is_some, nat_lt, slice_get, if◌then◌else◌, IfOk}
 use Rattle.std.proofs.lemmas.Option.{get_or_from_slice_get, slice_get-get_or}
 use Rattle.std.proofs.lemmas.Bool.{cases_Bool, cases_eq, eqb-true, lt-ltb, le-ltb, ne_eqb, or_left, or_right}
 use Rattle.sms_base.specs.Among.{Among}
@@ -44,10 +44,6 @@ same_bool : (a b : Bool) → (a ≡ true → b ≡ true) → (b ≡ true → a �
 same_bool true b f g = sym (f refl)
 same_bool false true f g = g refl
 same_bool false false f g = refl
-
-pub is_there : {A : Type 0} (o : Option A) → is_some o ≡ not (is_none o)
-is_there None = refl
-is_there (Some x) = refl
 
 pub few_parts : (c : Core) → IsSoundCore c → Few c.rows.parts
 few_parts c s = record { keys = s.rows.messages.part_keys; numbers = λ p a. let i = s.rows.messages.each_part p a in (i.first, i.few) }
@@ -222,10 +218,7 @@ going_more goes n ms = ap (λ (k : ℕ). going goes k ms) (add-one n) ∙ next n
 
 pub behind_start : (start n : ℕ) (ms : List MessageRow) → slice_get (drop start ms) n ≡ slice_get ms (start + n)
 behind_start zero n ms = ap (λ (k : ℕ). slice_get ms k) (let e : n ≡ 0 + n = omega arith in e)
-behind_start (suc start) n [] = nothing n
-  where
-    nothing : (k : ℕ) → slice_get [] k ≡ slice_get [] (suc start + k)
-    nothing k = refl
+behind_start (suc start) n [] = refl
 behind_start (suc start) n (m ∷ ms) =
     behind_start start n ms ∙ ap (λ (k : ℕ). slice_get (m ∷ ms) k) (let e : suc (start + n) ≡ suc start + n = omega arith in e)
 
@@ -256,12 +249,16 @@ low_first x (n ∷ ns) d h a = ⊎_elim
 pub high_last : (x : ℕ) (ns : List ℕ) (d : ℕ) → Rises (λ (k : ℕ). k) ns → Among x ns → x ≤ get_or ns (length ns - 1) d
 high_last x [] d h a = absurd a
 high_last x (n ∷ []) d h a = ⊎_elim (λ (e : x ≡ n). omega (arith, e)) (λ (b : Among x []). absurd b) a
-high_last x (n ∷ m ∷ ns) d h a = ⊎_elim
+high_last x (n ∷ m ∷ ns) d h a =
+    let last : suc (length (m ∷ ns) - 1) ≡ length (n ∷ m ∷ ns) - 1 = omega arith in
+    let same : get_or (m ∷ ns) (length (m ∷ ns) - 1) d ≡ get_or (n ∷ m ∷ ns) (length (n ∷ m ∷ ns) - 1) d = ap (λ (k : ℕ). get_or (n ∷ m ∷ ns) k d) last in
+    subst (λ (k : ℕ). x ≤ k) same (⊎_elim
     (λ (e : x ≡ n).
     let l : n < m = h.0.0 in
-    let r = high_last m (m ∷ ns) d h.1 (inl refl) in omega (arith, e, l, r))
+    let r : m ≤ get_or (m ∷ ns) (length (m ∷ ns) - 1) d = high_last m (m ∷ ns) d h.1 (inl refl) in
+    let is : x ≤ get_or (m ∷ ns) (length (m ∷ ns) - 1) d = omega (arith, e, l, r) in is)
     (λ (b : Among x (m ∷ ns)). high_last x (m ∷ ns) d h.1 b)
-    a
+    a)
 
 -- ---- the places of their reports
 

@@ -1,6 +1,5 @@
-use Rattle.std.proofs.Common.{◌≡◌, ℕ, suc, ◌+◌, drop, true, inl, inr, ⊎_elim, sym, subst, arith}
+use Rattle.std.proofs.Common.{◌≡◌, ℕ, suc, ◌+◌, drop, true, inl, inr, ⊎_elim, subst, arith}
 use Rattle.sms_centre_rows.specs.messages.SplitReferences.{is_among}
-use Rattle.sms_centre.specs.state.CentreState.{CentreStateOf, Represents as StateRepresents}
 use Rattle.sms_centre.proofs.Archived.{first_or_behind, found_by_number, none_behind}
 use Rattle.sms_centre.proofs.archiving.take_each.Goals as goal
 
@@ -10,12 +9,10 @@ loop-id-init g c = ((λ core stands m a e. inr e), (λ m k. k))
 pub loop-id-preserved : goal.loop-id-preserved
 loop-id-preserved g c = (
   (λ core stands m a e.
-      let s : CentreStateOf = record { setup = c.state.inside.setup; moment = c.state.inside.moment; messages = c.state.inside.messages; reference_index = c.state.inside.reference_index; queues = c.state.inside.queues; reports = c.state.inside.reports; log = c.state.inside.log; sessions = c.state.inside.sessions } in
-      let was : StateRepresents core s = subst (λ (x : CentreStateOf). StateRepresents core x) (sym c.state.view_is) stands in
       ⊎_elim
       (λ (t : g.A.Archive.took c.loop-id.archive m). inl (c.in_ok-take.ensures.others m t))
       (λ (b : is_among m.id (drop c.loop-id.id-index c.args.ids.now) ≡ true). ⊎_elim
-      (λ (q : m.id ≡ c.id-item.result). inl (c.in_ok-take.ensures.took core m stands (found_by_number m c.id-item.result core.rows.messages was.centre.sound.rows.messages.message_keys a q)))
+      (λ (q : m.id ≡ c.id-item.result). inl (c.in_ok-take.ensures.took core m stands (found_by_number m c.id-item.result core.rows.messages stands.centre.sound.rows.messages.message_keys a q)))
       (λ (k : is_among m.id (drop (suc c.loop-id.id-index) c.args.ids.now) ≡ true).
       let next : suc c.loop-id.id-index ≡ c.loop-id.id-index + 1 = omega arith in
       inr (subst (λ (n : ℕ). is_among m.id (drop n c.args.ids.now) ≡ true) next k))

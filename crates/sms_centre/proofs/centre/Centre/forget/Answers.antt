@@ -11,7 +11,7 @@ returns-in-Ok-clause-outcome g c = λ core represents honest holds. (
   c.adopt-outputs.ensures.forgotten c.args.before c.args.from c.args.most core represents (c.in_ok-planned.ensures.outcome core represents),
   subst (λ (r : Rows). (g.K.RowStore.state c.commit.new.keep).holds r)
       (ap (λ (x : Changes). rows_after x core.rows) c.changes.ensures
-      ∙ rows_left c.args.before c.args.from c.args.most core c.in_ok-planned.value.plan (c.in_ok-planned.ensures.outcome core represents))
+      ∙ rows_left c.args.before c.args.from c.args.most core c.in_ok-planned.planned.plan (c.in_ok-planned.ensures.outcome core represents))
       (c.in-Ok.ensures.outcome core.rows honest holds).1,
 )
 
