@@ -9,7 +9,7 @@ use Rattle.smsc_service.specs.InSeated.{IsMadeBy, held_by}
 use Rattle.smsc_service.specs.Seats.{Seats}
 use Rattle.smsc_service.specs.Serving.{after_for, outs_for}
 use Rattle.smsc_service.proofs.Standing.{IsAgain, after_rows, again_more, again_refused, by_fate}
-use Rattle.smsc_service.proofs.service.ServiceMachine.step.Goals as goal
+use Rattle.smsc_service.proofs.service.ServiceMachineJobReply.step.Goals as goal
 
 pub returns-clause-gives : goal.returns-clause-gives
 returns-clause-gives g c = λ honest s r standing.

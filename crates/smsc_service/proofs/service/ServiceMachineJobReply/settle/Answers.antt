@@ -3,7 +3,7 @@ use Rattle.sms_rows.specs.declared.keep.refusals.Refusals.{Refusals}
 use Rattle.sms_centre.specs.state.CentreState.{Represents, CentreStateOf}
 use Rattle.smsc_service.specs.InSeated.{held_by}
 use Rattle.smsc_service.proofs.Standing.{again_of}
-use Rattle.smsc_service.proofs.service.ServiceMachine.settle.Goals as goal
+use Rattle.smsc_service.proofs.service.ServiceMachineJobReply.settle.Goals as goal
 
 pub returns-in-Ok-clause-settled : goal.returns-in-Ok-clause-settled
 returns-in-Ok-clause-settled g c = λ honest s r standing. record {
