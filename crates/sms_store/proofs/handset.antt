@@ -1,3 +1,4 @@
+pub mod Lawful
 pub mod Loading
 pub mod Refusals
 pub mod Tables

@@ -1,5 +1,4 @@
 pub mod Closing
-pub mod Counted
 pub mod InKeep
 pub mod Opened
 pub mod Refusing
