@@ -1,5 +1,0 @@
-pub mod Closing
-pub mod InKeep
-pub mod Opened
-pub mod Refusing
-pub mod Stores
