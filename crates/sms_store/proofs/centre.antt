@@ -1,9 +1,7 @@
 pub mod BodiesRead
-pub mod LeftNow
 pub mod Loading
-pub mod Raised
-pub mod Refusals
+pub mod Openings
 pub mod Renaming
-pub mod Schemas
+pub mod Stopping
 pub mod TablesMade
 pub mod Turning

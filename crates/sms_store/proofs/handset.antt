@@ -1,4 +1,5 @@
 pub mod Loading
-pub mod Refusals
+pub mod Openings
+pub mod Stopping
 pub mod Tables
 pub mod Turning

@@ -1,3 +1,2 @@
 pub mod centre
 pub mod handset
-pub mod keeping

@@ -1,8 +1,8 @@
 pub mod CentreRows
 pub mod Founding
-pub mod Lawful
+pub mod InKeep
 pub mod Migrating
+pub mod Opened
 pub mod Reading
-pub mod Refusing
 pub mod Stopping
 pub mod Types

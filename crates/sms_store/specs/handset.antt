@@ -2,6 +2,7 @@ pub mod CountersKey
 pub mod CountersList
 pub mod Founding
 pub mod HandsetRows
-pub mod Lawful
-pub mod Refusing
+pub mod InKeep
+pub mod Opened
+pub mod Stopping
 pub mod Types

@@ -8,6 +8,7 @@
 
 mod completing;
 mod handsets;
+mod key;
 mod kind;
 mod messages;
 mod parts;

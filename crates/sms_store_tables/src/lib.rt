@@ -12,6 +12,3 @@
 pub mod amending;
 pub mod centre;
 pub mod handset;
-mod key;
-
-pub use key::integer_of;

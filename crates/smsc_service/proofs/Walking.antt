@@ -30,7 +30,7 @@ kept_on had has a b c stays first next m among = ⊎_elim
 -- ---- one call more
 
 abbrev pub Step : (Core → Type 0) → (Core → Type 0) → (MessageRow → Type 0) → Core → ℕ → Walked → Type 0
-Step Is Holds has first from w = Is w.core × ((from ≡ w.from) × (Holds w.core × AreKept has first w.core))
+Step Is Holds has first from w = Is w.core × (from ≡ w.from) × Holds w.core × AreKept has first w.core
 
 pub steps : (Is Holds : Core → Type 0) (had has : MessageRow → Type 0) (before : ℕ) (first : Core) (w : Walked) (from next : ℕ) → from ≡ w.from → next ≡ next_from from 1000 w.core.rows.messages
     → Is (core_of (forget before from 1000 w.core)) → Holds (core_of (forget before from 1000 w.core)) → ((m : MessageRow) → had m → has m)

@@ -12,7 +12,7 @@ use smsc_cli::words::{
 };
 use std::alloc::Global;
 use std::{fs, io};
-use toml::Table;
+use toml::{Table, Value};
 
 /// Refuses a file of accounts that every user may read or write, unless the words allow that.
 pub fn judge_file(host: &HostRuntime, path: &str, opens_accounts: bool) -> Result<(), RunFault> {
@@ -50,27 +50,36 @@ fn add_words(
     Ok(())
 }
 
-// The accounts of a file of lines. They have no rate, and are not suspended.
-fn lines_in<'a>(alloc: Global, file: &'a str) -> Result<Vec<TableAccount<'a>>, RunFault> {
+// The account as a table would have it. It has no rate, is not suspended, and gives these sources.
+fn table_of<'a>(account: AccountWords<'a>, sources: &'a [Value]) -> TableAccount<'a> {
+    let AccountWords {
+        name,
+        password,
+        address,
+        sessions,
+    } = account;
+    TableAccount {
+        name,
+        password: PasswordWords::Plain(password),
+        address,
+        sessions,
+        rate: None,
+        is_suspended: false,
+        sources,
+    }
+}
+
+// The accounts of a file of lines, each with these sources.
+fn lines_in<'a>(
+    alloc: Global,
+    file: &'a str,
+    sources: &'a [Value],
+) -> Result<Vec<TableAccount<'a>>, RunFault> {
     let mut words = Vec::new(alloc);
     add_lines(&mut words, file).map_err(lines_fault)?;
     let mut accounts = Vec::new(alloc);
     for account in words {
-        let AccountWords {
-            name,
-            password,
-            address,
-            sessions,
-        } = account;
-        accounts.push(TableAccount {
-            name,
-            password: PasswordWords::Plain(password),
-            address,
-            sessions,
-            rate: None,
-            is_suspended: false,
-            sources: &[],
-        })?;
+        accounts.push(table_of(account, sources))?;
     }
     Ok(accounts)
 }
@@ -165,7 +174,7 @@ pub fn accounts_in<'a>(
     if is_toml(path, file) {
         tables_in(alloc, file, document)
     } else {
-        lines_in(alloc, file)
+        lines_in(alloc, file, &[])
     }
 }
 

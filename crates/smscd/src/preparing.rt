@@ -194,7 +194,7 @@ fn close_keep(
     path: &str,
     keep: CentreKeep<FileStore<File>>,
 ) -> Result<Files<File>, RunFault> {
-    match keep.close() {
+    match keep.into_connection().close_files() {
         Ok(files) => Ok(files),
         Err((error, store)) => {
             drop(store.close());

@@ -1,10 +1,10 @@
 -- Texts with an asterisk at their end, and what spells a source.
-use Rattle.std.proofs.Common.{◌≡◌, ℕ, List, [], ◌∷◌, ◌++◌, Bool, true, false, refl, sym, ◌∙◌, ap}
-use Rattle.std.proofs.lemmas.Bool.{ne_eqb}
-use Rattle.std.specs.Prelude.{◌||◌, ◌↔◌, ◌&&◌}
+use Rattle.std.proofs.Common.{◌≡◌, ℕ, List, [], ◌∷◌, ◌++◌, Bool, true, false, length, refl, sym, ◌∙◌, ap, arith}
+use Rattle.std.proofs.lemmas.Bool.{and_from, and_parts, ne_eqb}
+use Rattle.std.specs.Prelude.{◌||◌, ◌↔◌}
 use Rattle.std.specs.List.{list_all}
 use denote.Ref.{Bor}
-use Rattle.toml.specs.Data.{Items, as_str, no_items}
+use Rattle.toml.specs.Data.{as_str, no_items}
 use Rattle.toml.specs.View.{items_view, view}
 use Rattle.toml.specs.declared.value.Value.{Value}
 use Rattle.smsc_cli.specs.words.AccountTables.{AreSources, SpellsSource, ends_starred, is_name_text, is_prefix, is_source, is_text_of_source, unstarred}

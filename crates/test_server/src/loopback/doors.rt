@@ -5,9 +5,7 @@ use crate::clock_and_gate::Open;
 use crate::rows::holds;
 use crate::service::centre::{clock, keep, logins};
 use smsc_endpoint::LinkAccess;
-use smsc_server::{
-    Allowances, Door, Doors, Event, Given, Observer, Orders, Ports, Side, serve,
-};
+use smsc_server::{Allowances, Door, Doors, Event, Given, Observer, Orders, Ports, Side, serve};
 use std::alloc::Global;
 use std::io::{self, ErrorKind, Read, Write};
 use std::net::{

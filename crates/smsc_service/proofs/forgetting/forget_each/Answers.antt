@@ -10,15 +10,19 @@ use Rattle.smsc_service.proofs.forgetting.forget_each.Goals as goal
 pub loop-turn-init : goal.loop-turn-init
 loop-turn-init g c = ((λ core represents honest holds. (represents, refl, holds, (λ m a. inl a))), (λ h. h))
 
-pub returns-then-from-clause-walked : goal.returns-then-from-clause-walked
-returns-then-from-clause-walked g c = λ core represents honest holds.
+pub returns-then-from-eq0-clause-walked : goal.returns-then-from-eq0-clause-walked
+returns-then-from-eq0-clause-walked g c = λ core represents honest holds.
     let i = c.loop-turn.invariant.0 core represents honest holds in
-    (c.loop-turn.turn, sym i.1 ∙ c.if-from.true, i.2, i.3)
+    let none : c.loop-turn.from ≡ 0 = omega (arith, c.if-from-eq0.true) in
+    (c.loop-turn._turn, sym i.1 ∙ none, i.2, i.3)
+
+pub returns-then-from-eq0-clause-before : goal.returns-then-from-eq0-clause-before
+returns-then-from-eq0-clause-before g c = λ h. c.loop-turn.invariant.1 h
 
 pub loop-turn-preserved : goal.loop-turn-preserved
 loop-turn-preserved g c = (
   (λ core represents honest holds.
-      let n = c.loop-turn.turn in
+      let n = c.loop-turn._turn in
       let i = c.loop-turn.invariant.0 core represents (c.in_ok-forget.ensures.before honest) holds in
       let w : Walked = walked c.args.before 1000 n (from_first core) in
       let on = c.in_ok-forget.ensures.outcome w.core i.0 honest i.2 in
@@ -33,9 +37,15 @@ pub returns-in_err-forget-clause-stopped : goal.returns-in_err-forget-clause-sto
 returns-in_err-forget-clause-stopped g c = λ core represents honest holds.
     let p = err_from_is_err_and c.from_residual.result c.from_residual.ensures.1 in
     let i = c.loop-turn.invariant.0 core represents (c.in_err-forget.ensures.before honest) holds in
-    rw p.1 (c.loop-turn.turn, c.in_err-forget.ensures.outcome (walked c.args.before 1000 c.loop-turn.turn (from_first core)).core i.0 honest i.2)
+    rw p.1 (c.loop-turn._turn, c.in_err-forget.ensures.outcome (walked c.args.before 1000 c.loop-turn._turn (from_first core)).core i.0 honest i.2)
 
 pub returns-clause-stopped : goal.returns-clause-stopped
 returns-clause-stopped g c = λ core represents honest holds.
     let i = c.loop-turn.invariant.0 core represents honest holds in
-    (c.loop-turn.turn, inl i.2)
+    (c.loop-turn._turn, inl i.2)
+
+pub returns-in_err-forget-clause-before : goal.returns-in_err-forget-clause-before
+returns-in_err-forget-clause-before g c = λ h. c.loop-turn.invariant.1 (c.in_err-forget.ensures.before h)
+
+pub returns-clause-before : goal.returns-clause-before
+returns-clause-before g c = λ h. c.loop-turn.invariant.1 h

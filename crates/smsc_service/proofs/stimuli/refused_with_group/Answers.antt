@@ -8,7 +8,7 @@ pub returns-in-Event-clause-outs : goal.returns-in-Event-clause-outs
 returns-in-Event-clause-outs c = λ r same. refused_gives _ (seats_in c.args.seat_map.now) r c.args.stimulus.now c.failed_at.result c.in-Event.ensures.asked same c.failed_at.ensures
 
 pub returns-in-Nothing-clause-outs : goal.returns-in-Nothing-clause-outs
-returns-in-Nothing-clause-outs c = λ r same. refused_gives _ (seats_in c.args.seat_map.now) r c.args.stimulus.now c.failed_at-2.result c.in-Nothing.ensures.asked same c.failed_at-2.ensures
+returns-in-Nothing-clause-outs c = λ r same. refused_gives _ (seats_in c.args.seat_map.now) r c.args.stimulus.now c.failed_at-in-Nothing.result c.in-Nothing.ensures.asked same c.failed_at-in-Nothing.ensures
 
 pub returns-in-Taken-clause-outs : goal.returns-in-Taken-clause-outs
 returns-in-Taken-clause-outs c = λ r same. refused_gives _ (seats_in c.args.seat_map.now) r c.args.stimulus.now c.taken_at.result c.in-Taken.ensures.asked same c.taken_at.ensures

@@ -1,5 +1,0 @@
-pub mod Closed
-pub mod Leaving
-pub mod Lists
-pub mod Openings
-pub mod StoresKept

@@ -1,0 +1,53 @@
+-- What a keep of a centre's rows has.
+use Rattle.sqlite_trees.specs.declared.store.Store.{Ghosts}
+use Rattle.sqlite.specs.Held.{Held, state}
+use Rattle.sqlite.specs.State.{State, HasCleanDisk}
+use Rattle.sms_rows.specs.declared.keep.refusals.Refusals.{Refusals}
+use Rattle.sms_rows.specs.keep.KeepState.{KeepState}
+use Rattle.sms_store_sql.specs.declared.listing.closing.Health.{Health}
+use Rattle.sms_store_sql.specs.listing.Closing.{IsShut}
+use Rattle.sms_store_sql.specs.listing.Transaction.{IsOpenStore}
+use Rattle.sms_store.specs.centre.CentreRows.{IsStoreWith}
+use Rattle.sms_store.specs.centre.Types.{Rows, Setup}
+use Rattle.sms_store.specs.declared.centre.keep.CentreKeep.{CentreKeep}
+
+-- the connection to its database
+abbrev pub connection_in : {S : Type 0} → CentreKeep S → Held S
+connection_in keep = keep.conn
+
+-- what that database holds
+abbrev pub state_in : {S : Type 0} → Ghosts S → CentreKeep S → State
+state_in g keep = state g keep.conn
+
+-- the setup with which it was opened, which is not stored
+abbrev pub setup_in : {S : Type 0} → CentreKeep S → Setup
+setup_in keep = keep.setup
+
+-- the calls that it refused
+abbrev pub refusals_in : {S : Type 0} → CentreKeep S → Refusals
+refusals_in keep = keep.refusals
+
+-- what it knows of its connection
+abbrev pub health_in : {S : Type 0} → CentreKeep S → Health
+health_in keep = keep.health
+
+-- the disk has returned what was written
+abbrev pub IsHonest : {S : Type 0} → Ghosts S → CentreKeep S → Type 0
+IsHonest g keep = HasCleanDisk (state_in g keep)
+
+-- its database is the store of these rows
+abbrev pub HoldsRows : {S : Type 0} → Ghosts S → CentreKeep S → Rows → Type 0
+HoldsRows g keep rows = IsOpenStore (IsStoreWith (setup_in keep)) (state_in g keep) rows
+
+-- it is closed, until it is opened again
+abbrev pub IsClosed : {S : Type 0} → Ghosts S → CentreKeep S → Type 0
+IsClosed g keep = IsShut (health_in keep) (state_in g keep)
+
+-- what contracts see of it
+abbrev pub state_of : {S : Type 0} → Ghosts S → CentreKeep S → KeepState Rows
+state_of g keep = record {
+  is_honest = IsHonest g keep;
+  holds = HoldsRows g keep;
+  is_closed = IsClosed g keep;
+  refusals = refusals_in keep;
+}

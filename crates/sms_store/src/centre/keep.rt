@@ -1,0 +1,107 @@
+//! The keep of a centre's rows.
+ghost use Rattle.std.specs.Prelude.{◌≡◌, ◌≢◌, ◌⊎◌, ⊤, Err, IfErr};
+ghost use Rattle.sms_rows.specs.declared.keep.error.KeepError.TheVariants.{Closed, NotThisStore, OldVersion};
+ghost use Rattle.sms_rows.specs.keep.StoreOutcome.{IfHeld, IsCounted, StoreOutcome, WasHonest};
+ghost use Rattle.sms_centre_spec.specs.bodies.Storing.{IfClosed};
+ghost use Rattle.sms_store_sql.specs.listing.Transaction.{MayLeave};
+ghost use Rattle.sms_store.specs.centre.CentreRows.{IsStoreWith};
+ghost use Rattle.sms_store.specs.centre.Types.{Rows as RowsOf, rows_after};
+ghost use Rattle.sms_store.specs.centre.InKeep.{IsClosed, connection_in, setup_in, state_in, state_of};
+ghost use Rattle.sms_store.specs.centre.Stopping.{LeavesBeforeOrAfter, LeavesRows};
+
+use crate::centre::all::All;
+use crate::centre::commit::Commit;
+use sms_centre_spec::{Changes, Rows, Setup};
+use sms_rows::keep::{Keep, KeepError, Refusals, RowStore};
+use sms_store_sql::listing::{Health, look_or_close, transact_or_close};
+use sqlite::{Alter, Connection};
+use std::alloc::Global;
+
+/// The rows of a centre in a database: a file, or memory.
+#[derive(Drop)]
+pub struct CentreKeep<S: Alter> {
+    pub(crate) conn: Connection<S>,
+    // Handed in at the opening, not stored.
+    pub(crate) setup: Setup,
+    pub(crate) alloc: Global,
+    pub(crate) refusals: Refusals,
+    pub(crate) health: Health,
+}
+
+impl<S: Alter> CentreKeep<S> {
+    /// Gives the connection back.
+    pub fn into_connection(self) -> Connection<S>
+        ensures { result ≡ connection_in self }
+    {
+        let CentreKeep {
+            conn,
+            setup: _,
+            alloc: _,
+            refusals: _,
+            health: _,
+        } = self;
+        conn
+    }
+}
+
+impl<S: Alter> RowStore for CentreKeep<S> {
+    type Rows = Rows;
+
+    ghost state = { λ keep. state_of S.Store keep };
+}
+
+impl<S: Alter> Keep for CentreKeep<S> {
+    type Changes = Changes;
+
+    ghost after = { λ changes rows. rows_after changes rows };
+
+    ghost may_leave = { λ keep left. MayLeave (IsStoreWith (setup_in keep)) (state_in S.Store keep) left };
+
+    fn commit(&mut self, changes: &Changes) -> Result<(), KeepError>
+        ensures outcome { (rows : RowsOf) → StoreOutcome (λ done. ⊤) rows (rows_after changes.now rows)
+            (state_of S.Store self.old) (state_of S.Store self.new) result }
+        ensures stop { (rows : RowsOf) → IfHeld rows (state_of S.Store self.old) (state_of S.Store self.new) ((left : RowsOf)
+            → MayLeave (IsStoreWith (setup_in self.new)) (state_in S.Store self.new) left → (left ≡ rows) ⊎ (left ≡ rows_after changes.now rows)) }
+        ensures disk { (rows : RowsOf) → IfHeld rows (state_of S.Store self.old) (state_of S.Store self.new)
+            (LeavesBeforeOrAfter (state_in S.Store self.new) rows (rows_after changes.now rows)) }
+        ensures closed { IfClosed (state_of S.Store self.old) (state_of S.Store self.new) (result ≡ Err Closed) }
+        ensures shut { result ≡ Err Closed → IsClosed S.Store self.new }
+        ensures named { IfErr result (λ error. (error ≢ OldVersion) × (error ≢ NotThisStore)) }
+        ensures before { WasHonest (state_of S.Store self.old) (state_of S.Store self.new) }
+        ensures setup { setup_in self.new ≡ setup_in self.old }
+        ensures counted { IsCounted (state_of S.Store self.old) (state_of S.Store self.new) result }
+    {
+        let work = Commit { changes };
+        match transact_or_close(self.alloc, &mut self.conn, &mut self.health, &work) {
+            Ok(()) => Ok(()),
+            Err(error) => {
+                self.refusals.call();
+                Err(error)
+            }
+        }
+    }
+
+    fn load(&mut self) -> Result<Rows, KeepError>
+        ensures outcome { (rows : RowsOf)
+            → StoreOutcome (λ found. found ≡ rows) rows rows (state_of S.Store self.old) (state_of S.Store self.new) result }
+        ensures stop { (rows : RowsOf) → IfHeld rows (state_of S.Store self.old) (state_of S.Store self.new) ((left : RowsOf)
+            → MayLeave (IsStoreWith (setup_in self.new)) (state_in S.Store self.new) left → left ≡ rows) }
+        ensures disk { (rows : RowsOf) → IfHeld rows (state_of S.Store self.old) (state_of S.Store self.new) (LeavesRows (state_in S.Store self.new) rows) }
+        ensures closed { IfClosed (state_of S.Store self.old) (state_of S.Store self.new) (result ≡ Err Closed) }
+        ensures shut { result ≡ Err Closed → IsClosed S.Store self.new }
+        ensures back { (rows : RowsOf) → IfHeld rows (state_of S.Store self.old) (state_of S.Store self.new) (result ≢ Err NotThisStore) }
+        ensures named { IfErr result (λ error. error ≢ OldVersion) }
+        ensures before { WasHonest (state_of S.Store self.old) (state_of S.Store self.new) }
+        ensures setup { setup_in self.new ≡ setup_in self.old }
+        ensures counted { IsCounted (state_of S.Store self.old) (state_of S.Store self.new) result }
+    {
+        let all = All { setup: &self.setup };
+        match look_or_close(self.alloc, &mut self.conn, &mut self.health, &all) {
+            Ok(rows) => Ok(rows),
+            Err(error) => {
+                self.refusals.call();
+                Err(error)
+            }
+        }
+    }
+}
