@@ -10,6 +10,7 @@ use std::alloc::Global;
 use std::io::{self, ErrorKind, Read, Write};
 use std::net::{
     Ipv4Addr, Net, OpenListener, OpenStream, Shutdown, SocketAddr, SocketAddrV4, TcpListener,
+    TcpStream,
 };
 use std::os::fd::{AsRawFd, RawFd};
 use std::sync::atomic::{AtomicU32, Ordering};
@@ -121,7 +122,11 @@ impl Observer for Sums {
     }
 }
 
-fn opened<R: Net<Listener = TcpListener>>(rt: &R, alloc: Global, left: u16) -> io::Result<Listed> {
+fn opened<R: Net<Listener = TcpListener, Stream = TcpStream>>(
+    rt: &R,
+    alloc: Global,
+    left: u16,
+) -> io::Result<Listed> {
     let port = TcpListener::bind(rt, (Ipv4Addr::LOCALHOST, 0))?;
     Ok(Listed {
         port,
@@ -150,11 +155,15 @@ fn given(alloc: Global, sessions: u32) -> Result<Given<Sums>, Fail> {
 }
 
 // Two applications and three handsets come.
-fn run<R: Net<Listener = TcpListener> + Threads + Wait + Clock + Copy + Send + 'static>(
-    rt: R,
-    alloc: Global,
-    taken: &Given<Sums>,
-) -> Result<Doors<Listed>, Fail> {
+fn run<
+    R: Net<Listener = TcpListener, Stream = TcpStream>
+        + Threads
+        + Wait
+        + Clock
+        + Copy
+        + Send
+        + 'static,
+>(rt: R, alloc: Global, taken: &Given<Sums>) -> Result<Doors<Listed>, Fail> {
     let applications = opened(&rt, alloc, 2)?;
     let links = opened(&rt, alloc, 3)?;
     let ports = Ports::of(&rt, alloc, applications, links)?;
