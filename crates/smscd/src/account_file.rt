@@ -69,6 +69,28 @@ fn table_of<'a>(account: AccountWords<'a>, sources: &'a [Value]) -> TableAccount
     }
 }
 
+fn add_line<'a>(
+    accounts: &mut Vec<TableAccount<'a>>,
+    account: &AccountWords<'a>,
+    sources: &'a [Value],
+) -> Result<(), RunFault> {
+    match accounts.push(table_of(*account, sources)) {
+        Ok(()) => Ok(()),
+        Err(_) => Err(RunFault::NoMemory),
+    }
+}
+
+fn add_each<'a>(
+    accounts: &mut Vec<TableAccount<'a>>,
+    words: &[AccountWords<'a>],
+    sources: &'a [Value],
+) -> Result<(), RunFault> {
+    for account in words {
+        add_line(accounts, account, sources)?;
+    }
+    Ok(())
+}
+
 // The accounts of a file of lines, each with these sources.
 fn lines_in<'a>(
     alloc: Global,
@@ -78,10 +100,13 @@ fn lines_in<'a>(
     let mut words = Vec::new(alloc);
     add_lines(&mut words, file).map_err(lines_fault)?;
     let mut accounts = Vec::new(alloc);
-    for account in words {
-        accounts.push(table_of(account, sources))?;
+    match add_each(&mut accounts, words.as_slice(), sources) {
+        Ok(()) => Ok(accounts),
+        Err(fault) => {
+            drop(accounts);
+            Err(fault)
+        }
     }
-    Ok(accounts)
 }
 
 // ---- TOML
