@@ -51,18 +51,12 @@ fn add_words(
 }
 
 // The account as a table would have it. It has no rate, is not suspended, and gives these sources.
-fn table_of<'a>(account: AccountWords<'a>, sources: &'a [Value]) -> TableAccount<'a> {
-    let AccountWords {
-        name,
-        password,
-        address,
-        sessions,
-    } = account;
+fn table_of<'a>(account: &AccountWords<'a>, sources: &'a [Value]) -> TableAccount<'a> {
     TableAccount {
-        name,
-        password: PasswordWords::Plain(password),
-        address,
-        sessions,
+        name: account.name,
+        password: PasswordWords::Plain(account.password),
+        address: account.address,
+        sessions: account.sessions,
         rate: None,
         is_suspended: false,
         sources,
@@ -74,7 +68,7 @@ fn add_line<'a>(
     account: &AccountWords<'a>,
     sources: &'a [Value],
 ) -> Result<(), RunFault> {
-    match accounts.push(table_of(*account, sources)) {
+    match accounts.push(table_of(account, sources)) {
         Ok(()) => Ok(()),
         Err(_) => Err(RunFault::NoMemory),
     }
