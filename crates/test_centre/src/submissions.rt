@@ -304,7 +304,7 @@ const SOURCES: &[(u8, &[u8], bool)] = &[
     (5, b"Bank1", false),
 ];
 
-fn is_so(alloc: Global, ton: u8, digits: &[u8], is_allowed: bool) -> Result<bool, Fail> {
+fn is_so(alloc: Global, ton: u8, digits: &'static [u8], is_allowed: bool) -> Result<bool, Fail> {
     let mut message = message_of(&hello());
     message.source = SmeAddress {
         ton,
@@ -321,7 +321,7 @@ fn is_so(alloc: Global, ton: u8, digits: &[u8], is_allowed: bool) -> Result<bool
 #[test]
 fn a_source_that_is_not_allowed_is_refused(rt: HostRuntime) -> Result<(), Fail> {
     for (ton, digits, is_allowed) in SOURCES {
-        holds(is_so(rt.alloc(), *ton, digits, *is_allowed)?, "a source")?;
+        holds(is_so(rt.alloc(), *ton, *digits, *is_allowed)?, "a source")?;
     }
     Ok(())
 }
