@@ -1,5 +1,5 @@
+pub mod Lawful
 pub mod Loading
-pub mod Openings
-pub mod Stopping
+pub mod Refusals
 pub mod Tables
 pub mod Turning

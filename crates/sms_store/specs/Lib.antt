@@ -1,2 +1,3 @@
 pub mod centre
 pub mod handset
+pub mod keeping

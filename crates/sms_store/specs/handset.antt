@@ -2,7 +2,5 @@ pub mod CountersKey
 pub mod CountersList
 pub mod Founding
 pub mod HandsetRows
-pub mod InKeep
-pub mod Opened
-pub mod Stopping
+pub mod Refusing
 pub mod Types

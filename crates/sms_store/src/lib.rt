@@ -4,6 +4,7 @@
 //! leaves the rows from before it or from after it. Opening judges the schema, and refuses what is no such store. These
 //! promises are under the disk model of `sqlite_disk`.
 //!
+//! - `keeping`: the keep of either side, how it is opened and what it does
 //! - `centre`: a centre's store
 //! - `handset`: a handset's store
 //! - `look`: a look at a centre's store, which changes nothing
@@ -11,10 +12,11 @@
 
 pub mod centre;
 pub mod handset;
+pub mod keeping;
 pub mod look;
 
-pub use crate::centre::keep::CentreKeep;
-pub use crate::handset::keep::HandsetKeep;
+pub use crate::centre::CentreKeep;
+pub use crate::handset::HandsetKeep;
 pub use sms_rows::keep::{Keep, KeepError};
 pub use sms_store_memory::centre::MemoryKeep as CentreMemoryKeep;
 pub use sms_store_memory::handset::MemoryKeep as HandsetMemoryKeep;

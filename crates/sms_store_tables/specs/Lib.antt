@@ -1,3 +1,8 @@
 pub mod amending
 pub mod centre
 pub mod handset
+pub mod MetaTable
+pub mod TablePlan
+pub mod Tabled
+pub mod Texts
+pub mod TwoColumns

@@ -8,7 +8,6 @@
 
 mod completing;
 mod handsets;
-mod key;
 mod kind;
 mod messages;
 mod parts;

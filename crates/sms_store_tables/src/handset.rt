@@ -7,13 +7,11 @@
 mod discarded;
 mod entries;
 mod group;
-mod key;
 mod kind;
 mod last;
 mod outbox;
 mod schema;
 mod words;
 
-pub use key::{integer, integer_of};
 pub use kind::HandsetStore;
 pub use schema::is_handset_schema;

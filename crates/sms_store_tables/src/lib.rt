@@ -12,3 +12,6 @@
 pub mod amending;
 pub mod centre;
 pub mod handset;
+mod key;
+
+pub use key::integer_of;

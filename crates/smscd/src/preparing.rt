@@ -194,7 +194,7 @@ fn close_keep(
     path: &str,
     keep: CentreKeep<FileStore<File>>,
 ) -> Result<Files<File>, RunFault> {
-    match keep.into_connection().close_files() {
+    match keep.close() {
         Ok(files) => Ok(files),
         Err((error, store)) => {
             drop(store.close());

@@ -8,7 +8,8 @@ use Rattle.sms_rows.specs.table.Table.{row_at}
 use Rattle.sms_centre_rows.specs.messages.Messages.{part_key}
 use Rattle.sms_centre_rows.specs.reports.Reports.{report_of}
 use Rattle.sms_centre_spec.specs.octets.OctetsAt.{octets_at, part_octets, report_octets}
-use Rattle.sms_store.specs.centre.CentreRows.{IsStoreWith}
+use Rattle.sms_store.specs.keeping.Stores.{IsStoreWith}
+use Rattle.sms_store.specs.centre.CentreRows.{centre_stores}
 use Rattle.sms_store.specs.centre.Reading.{FindsPart, FindsReports}
 use Rattle.sms_store.specs.centre.Types.{PartRow, ReportRow, Rows, Setup}
 
@@ -18,7 +19,7 @@ first_report id (r ∷ rs) =
     elim (r.id == id) as (λ b. first_of (cond b (r ∷ filter (λ (x : ReportRow). x.id == id) rs) (filter (λ (x : ReportRow). x.id == id) rs)) ≡ cond b (Some r) (report_of id rs))
     [ true ↦ refl | false ↦ first_report id rs ]
 
-module _ (db : Database) (setup : Setup) (rows : Rows) (is : IsStoreWith setup db rows) (key : ℕ) (octets : Option (List ℕ)) where
+module _ (db : Database) (setup : Setup) (rows : Rows) (is : IsStoreWith centre_stores setup db rows) (key : ℕ) (octets : Option (List ℕ)) where
   pub part_read : (part : Option PartRow) → (key % 256 == 0) ≡ false → FindsPart key db part → octets ≡ part_octets part → octets ≡ octets_at rows key
   part_read part other finds same =
       let here : octets_at rows key ≡ part_octets (row_at part_key key rows.parts) = ap (λ b. cond b (report_octets (report_of (key / 256) rows.reports)) (part_octets (row_at part_key key rows.parts))) other in

@@ -2,7 +2,9 @@
 use Rattle.std.proofs.Common.{◌≡◌, List, sym, subst, ◌∙◌}
 use Rattle.sqlite.specs.Effect.{Database}
 use Rattle.sms_store_sql.specs.listing.Listing.{ListOf, Represents}
-use Rattle.sms_store.specs.centre.CentreRows.{IsStoreWith}
+use Rattle.sms_store.specs.keeping.Stores.{IsStoreWith}
+use Rattle.sms_store.proofs.keeping.Lists.{FindsIn, moved}
+use Rattle.sms_store.specs.centre.CentreRows.{centre_stores}
 use Rattle.sms_store_tables.specs.centre.MessageList.{message_list}
 use Rattle.sms_store_tables.specs.centre.PartList.{part_list}
 use Rattle.sms_store_tables.specs.centre.ReferenceList.{reference_list}
@@ -11,15 +13,8 @@ use Rattle.sms_store_tables.specs.centre.ReportList.{report_list}
 use Rattle.sms_store_tables.specs.centre.PriorityList.{priority_list}
 use Rattle.sms_store.specs.centre.Types.{Rows, Setup, MessageRow, PartRow, ReferenceRow, HandsetRow, ReportRow, PriorityRow}
 
--- a load that finds the list of a tree
-abbrev pub FindsIn : {X : Type 0} → ListOf X → Database → List X → Type 0
-FindsIn {X} l db found = (xs : List X) → Represents l (db.trees l.table.tree) xs → found ≡ xs
-
-pub moved : {X : Type 0} (l : ListOf X) (a b : Database) (xs : List X) → b ≡ a → Represents l (a.trees l.table.tree) xs → Represents l (b.trees l.table.tree) xs
-moved l a b xs same held = subst (λ (d : Database). Represents l (d.trees l.table.tree) xs) (sym same) held
-
 -- the rows that are found are those of the store
-pub found_rows : (setup : Setup) (rows : Rows) (db : Database) → IsStoreWith setup db rows → {b c d e f : Database} → b ≡ db → c ≡ db → d ≡ db → e ≡ db → f ≡ db
+pub found_rows : (setup : Setup) (rows : Rows) (db : Database) → IsStoreWith centre_stores setup db rows → {b c d e f : Database} → b ≡ db → c ≡ db → d ≡ db → e ≡ db → f ≡ db
     → {messages : List MessageRow} {parts : List PartRow} {references : List ReferenceRow} {handsets : List HandsetRow} {reports : List ReportRow} {priorities : List PriorityRow}
     → FindsIn message_list db messages → FindsIn part_list b parts → FindsIn reference_list c references → FindsIn handset_list d handsets → FindsIn report_list e reports → FindsIn priority_list f priorities
     → {ms : List MessageRow} → ms ≡ messages → {ps : List PartRow} → ps ≡ parts → {gs : List ReferenceRow} → gs ≡ references → {hs : List HandsetRow} → hs ≡ handsets → {rs : List ReportRow} → rs ≡ reports → {us : List PriorityRow} → us ≡ priorities → {own : Setup} → own ≡ setup

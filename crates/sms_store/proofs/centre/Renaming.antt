@@ -1,16 +1,17 @@
 -- What is kept of a database of version 1 that was opened.
-use Rattle.std.proofs.Common.{◌≡◌, inl, inr, false, length, Ok, sym, ap, subst, ◌∙◌, arith}
+use Rattle.std.proofs.Common.{◌≡◌, inl, inr, false, Ok, sym, subst, ◌∙◌}
 use Rattle.sqlite.specs.Effect.{Database}
-use Rattle.sqlite.specs.Schema.{Schema}
 use Rattle.sqlite.specs.State.{State, Shows}
 use Rattle.sms_store_sql.specs.listing.Transaction.{Committed}
-use Rattle.sms_store_tables.specs.centre.CentreSchema.{first_schema, centre_schema, schema_is, first_schema_is}
+use Rattle.sms_store_tables.specs.centre.CentreSchema.{first_schema}
 use Rattle.sms_store_migration.specs.Migrating.{Migrates}
 use Rattle.sms_store_migration.specs.Versions.{IsFirstStore}
 use Rattle.sms_store.specs.centre.Migrating.{Migrated}
-use Rattle.sms_store.specs.centre.Opened.{Opened, SaysFirst}
+use Rattle.sms_store.specs.centre.CentreRows.{centre_stores}
+use Rattle.sms_store.specs.centre.Refusing.{SaysFirst}
+use Rattle.sms_store.specs.keeping.Opened.{Opened}
 use Rattle.sms_store.specs.centre.Types.{Setup}
-use Rattle.sms_store.proofs.centre.Openings.{first_differs}
+use Rattle.sms_store.proofs.centre.Lawful.{first_differs, schemas_differ}
 
 -- a look before the change changes nothing of it
 pub raised_then : (a b c : State) → Shows a b a.now a.now false → Committed Migrates b c → Committed Migrates a c
@@ -19,13 +20,8 @@ raised_then a b c shows made = record {
   changed = λ rows is. made.changed rows (subst (λ (d : Database). IsFirstStore d rows) (sym shows.now_is) is);
 }
 
-pub schemas_differ : centre_schema ≡ first_schema → ⊥
-schemas_differ same =
-    let count : 7 ≡ 6 = ap (λ (s : Schema). length s.tables) (sym schema_is ∙ same ∙ first_schema_is) in
-    omega (arith, count)
-
 -- a store that was opened as it is
-pub migrated_opened : (setup : Setup) (old : Database) (new : State) → Opened setup old new → Migrated setup old new
+pub migrated_opened : (setup : Setup) (old : Database) (new : State) → Opened centre_stores setup old new → Migrated setup old new
 migrated_opened setup old new opened = record {
   founded = opened.founded;
   unchanged = opened.unchanged;

@@ -10,7 +10,7 @@ use Rattle.sms_store_sql.specs.schema.Blank.{no_tables}
 use Rattle.sms_store_sql.specs.listing.Inside.{Alters, Ran}
 use Rattle.sms_store_sql.specs.listing.Listing.{ListOf, Represents}
 use Rattle.sms_store_sql.proofs.listing.Making.{makes}
-use Rattle.sms_store_tables.specs.centre.CentreSchema.{with_meta, with_message, with_part, with_reference, with_handset, first_schema, centre_schema, create_meta, create_message, create_part, create_reference, create_handset, create_report, meta_made, message_made, part_made, reference_made, handset_made, report_made, adds_meta, adds_message, adds_part, adds_reference, adds_handset, adds_report}
+use Rattle.sms_store_tables.specs.centre.CentreSchema.{with_meta, with_message, with_part, with_reference, with_handset, first_schema, centre_schema, adds_meta, adds_message, adds_part, adds_reference, adds_handset, adds_report, handset_plan, message_plan, part_plan, reference_plan, report_plan}
 use Rattle.sms_store_tables.specs.centre.MetaList.{meta_list}
 use Rattle.sms_store_tables.specs.centre.MessageList.{message_list}
 use Rattle.sms_store_tables.specs.centre.PartList.{part_list}
@@ -19,24 +19,28 @@ use Rattle.sms_store_tables.specs.centre.HandsetList.{handset_list}
 use Rattle.sms_store_tables.specs.centre.ReportList.{report_list}
 use Rattle.sms_store_tables.specs.centre.PriorityList.{priority_list}
 use Rattle.sms_store_migration.specs.Versions.{centre_meta}
-use Rattle.sms_store.specs.centre.CentreRows.{Founds}
+use Rattle.sms_store.specs.keeping.Stores.{Founds}
+use Rattle.sms_store.specs.centre.CentreRows.{centre_stores}
 use Rattle.sms_store_tables.specs.centre.Completing.{Completes}
 use Rattle.sms_store_migration.proofs.Apart.{free_2, free_4, free_6, free_8, free_10, free_12}
 use Rattle.sms_store.specs.centre.Founding.{HasFirst, HasNext, MakesFirst, MakesNext, Tabulates, Declares}
-use Rattle.sms_store.proofs.centre.Turning.{other}
+use Rattle.sms_store.proofs.keeping.Lists.{holds_none, other_list}
+use Rattle.sms_store_tables.specs.TablePlan.{made}
+use Rattle.sms_store_tables.specs.Texts.{create_text}
+use Rattle.sms_store_tables.specs.MetaTable.{meta_plan}
 
-pub first_made : (a b c d : State) → Ran create_meta [] a b → Ran create_message [] b c → Ran create_part [] c d → MakesFirst a.now d.now
+pub first_made : (a b c d : State) → Ran (create_text meta_plan) [] a b → Ran (create_text message_plan) [] b c → Ran (create_text part_plan) [] c d → MakesFirst a.now d.now
 first_made a b c d p q r has =
-    let one = makes create_meta meta_made no_tables with_meta adds_meta a b p has in
-    let two = makes create_message message_made with_meta with_message adds_message b c q one.schema in
-    let three = makes create_part part_made with_message with_part adds_part c d r two.schema in
+    let one = makes (create_text meta_plan) (made meta_plan) no_tables with_meta adds_meta a b p has in
+    let two = makes (create_text message_plan) (made message_plan) with_meta with_message adds_message b c q one.schema in
+    let three = makes (create_text part_plan) (made part_plan) with_message with_part adds_part c d r two.schema in
     (three.schema, record { meta = three.others.0 ∙ two.others.0 ∙ one.empty; messages = three.others.1.0 ∙ two.empty; parts = three.empty })
 
-pub next_made : (a b c d : State) → Ran create_reference [] a b → Ran create_handset [] b c → Ran create_report [] c d → MakesNext a.now d.now
+pub next_made : (a b c d : State) → Ran (create_text reference_plan) [] a b → Ran (create_text handset_plan) [] b c → Ran (create_text report_plan) [] c d → MakesNext a.now d.now
 next_made a b c d p q r has first =
-    let one = makes create_reference reference_made with_part with_reference adds_reference a b p has in
-    let two = makes create_handset handset_made with_reference with_handset adds_handset b c q one.schema in
-    let three = makes create_report report_made with_handset first_schema adds_report c d r two.schema in (
+    let one = makes (create_text reference_plan) (made reference_plan) with_part with_reference adds_reference a b p has in
+    let two = makes (create_text handset_plan) (made handset_plan) with_reference with_handset adds_handset b c q one.schema in
+    let three = makes (create_text report_plan) (made report_plan) with_handset first_schema adds_report c d r two.schema in (
       three.schema,
       record {
         meta = three.others.0 ∙ two.others.0 ∙ one.others.0 ∙ first.meta;
@@ -66,12 +70,9 @@ tables_made a b c p q has =
       made.empty,
     )
 
-pub holds_none : {X : Type 0} (l : ListOf X) (rows : List Row) → rows ≡ [] → Represents l rows []
-holds_none l rows none = record { entries = []; keyed = tt; stored = none; listed = IsPermutation-refl []; rises = tt; fit = tt }
-
 module _ (a b : State) (p : Alters meta_list (put meta_list.key centre_meta) a b) (has : a.now.schema ≡ centre_schema) where
   blank_still : {X : Type 0} (m : ListOf X) → m.table.tree ≢ 0 → IsNoIndex centre_schema m.table.tree → a.now.trees m.table.tree ≡ [] → Represents m (b.now.trees m.table.tree) []
-  blank_still m apart free none = other meta_list refl (put meta_list.key centre_meta) a b p m [] has apart free (holds_none m _ none)
+  blank_still m apart free none = other_list meta_list centre_schema refl (put meta_list.key centre_meta) a b p m [] has apart free (holds_none m _ none)
 
 pub declared : (a b : State) → Alters meta_list (put meta_list.key centre_meta) a b → Declares a.now b.now
 declared a b p has first next none setup = record {
@@ -85,5 +86,5 @@ declared a b p has first next none setup = record {
   priorities = blank_still a b p has priority_list (λ (e : 12 ≡ 0). omega (arith, e)) free_12 none;
 }
 
-pub founded : (a b c : Database) → Tabulates a b → Declares b c → Founds a c
+pub founded : (a b c : Database) → Tabulates a b → Declares b c → Founds centre_stores a c
 founded a b c p q has = let tables = p has in q tables.0 tables.1 tables.2 tables.3

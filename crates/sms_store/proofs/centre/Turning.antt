@@ -18,116 +18,102 @@ use Rattle.sms_store_tables.specs.centre.HandsetList.{handset_list, handset_is_l
 use Rattle.sms_store_tables.specs.centre.ReportList.{report_list, report_is_list}
 use Rattle.sms_store_tables.specs.centre.PriorityList.{priority_list, priority_is_list}
 use Rattle.sms_store_migration.specs.Versions.{centre_meta}
-use Rattle.sms_store.specs.centre.CentreRows.{IsStoreWith, Turns}
-use Rattle.sms_store.specs.centre.Types.{Rows, Changes, rows_after, Setup, MessageRow, PartRow, ReferenceRow, HandsetRow, ReportRow, PriorityRow}
+use Rattle.sms_store.specs.keeping.Stores.{IsStoreWith, Turns}
+use Rattle.sms_store.specs.centre.CentreRows.{centre_stores}
+use Rattle.sms_store.specs.centre.Types.{Rows, Setup, MessageRow, PartRow, ReferenceRow, HandsetRow, ReportRow, PriorityRow}
 
--- one step after another
-pub turns_then : (a b c : State) (f g : Rows → Rows) → Leads (Turns f) a b → Leads (Turns g) b c → Leads (Turns (λ rows. g (f rows))) a c
-turns_then a b c f g p q = record {
-  inside = record { was_open = p.inside.was_open; is_open = q.inside.is_open; now_is = refl; committed_is = q.inside.committed_is ∙ p.inside.committed_is; mode = q.inside.mode };
-  changed = λ rows h. q.changed (f rows) (p.changed rows h);
-}
-
-module _ {X : Type 0} (l : ListOf X) (here : l.table.schema ≡ centre_schema) (change : List X → List X) (old new : State) (alters : Alters l change old new) where
-  -- every other list is as it was
-  pub other : {Y : Type 0} (m : ListOf Y) (ys : List Y) → old.now.schema ≡ centre_schema → m.table.tree ≢ l.table.tree → IsNoIndex centre_schema m.table.tree
-      → Represents m (old.now.trees m.table.tree) ys → Represents m (new.now.trees m.table.tree) ys
-  other m ys has apart free held =
-      let same = alters.others (has ∙ sym here) m.table.tree apart (subst (λ s. IsNoIndex s m.table.tree) (sym here) free) in
-      subst (λ rows. Represents m rows ys) (sym same) held
-
-pub messages_turn : (change : List MessageRow → List MessageRow) (old new : State) → Alters message_list change old new → Leads (Turns (λ rows. record rows { messages = change rows.messages })) old new
+pub messages_turn : (change : List MessageRow → List MessageRow) (old new : State) → Alters message_list change old new → Leads (Turns centre_stores (λ rows. record rows { messages = change rows.messages })) old new
 messages_turn change old new alters = record {
   inside = alters.inside;
   changed = λ rows h. record {
     schema = alters.schema h.schema;
-    meta = other message_list refl change old new alters meta_list (centre_meta ∷ []) h.schema (λ (e : 0 ≡ 2). omega (arith, e)) free_0 h.meta;
+    meta = other_list message_list centre_schema refl change old new alters meta_list (centre_meta ∷ []) h.schema (λ (e : 0 ≡ 2). omega (arith, e)) free_0 h.meta;
     messages = alters.changed h.schema rows.messages h.messages;
-    parts = other message_list refl change old new alters part_list rows.parts h.schema (λ (e : 4 ≡ 2). omega (arith, e)) free_4 h.parts;
-    references = other message_list refl change old new alters reference_list rows.references h.schema (λ (e : 6 ≡ 2). omega (arith, e)) free_6 h.references;
-    handsets = other message_list refl change old new alters handset_list rows.handsets h.schema (λ (e : 8 ≡ 2). omega (arith, e)) free_8 h.handsets;
-    reports = other message_list refl change old new alters report_list rows.reports h.schema (λ (e : 10 ≡ 2). omega (arith, e)) free_10 h.reports;
-    priorities = other message_list refl change old new alters priority_list rows.priorities h.schema (λ (e : 12 ≡ 2). omega (arith, e)) free_12 h.priorities;
+    parts = other_list message_list centre_schema refl change old new alters part_list rows.parts h.schema (λ (e : 4 ≡ 2). omega (arith, e)) free_4 h.parts;
+    references = other_list message_list centre_schema refl change old new alters reference_list rows.references h.schema (λ (e : 6 ≡ 2). omega (arith, e)) free_6 h.references;
+    handsets = other_list message_list centre_schema refl change old new alters handset_list rows.handsets h.schema (λ (e : 8 ≡ 2). omega (arith, e)) free_8 h.handsets;
+    reports = other_list message_list centre_schema refl change old new alters report_list rows.reports h.schema (λ (e : 10 ≡ 2). omega (arith, e)) free_10 h.reports;
+    priorities = other_list message_list centre_schema refl change old new alters priority_list rows.priorities h.schema (λ (e : 12 ≡ 2). omega (arith, e)) free_12 h.priorities;
   };
 }
 
-pub parts_turn : (change : List PartRow → List PartRow) (old new : State) → Alters part_list change old new → Leads (Turns (λ rows. record rows { parts = change rows.parts })) old new
+pub parts_turn : (change : List PartRow → List PartRow) (old new : State) → Alters part_list change old new → Leads (Turns centre_stores (λ rows. record rows { parts = change rows.parts })) old new
 parts_turn change old new alters = record {
   inside = alters.inside;
   changed = λ rows h. record {
     schema = alters.schema h.schema;
-    meta = other part_list refl change old new alters meta_list (centre_meta ∷ []) h.schema (λ (e : 0 ≡ 4). omega (arith, e)) free_0 h.meta;
-    messages = other part_list refl change old new alters message_list rows.messages h.schema (λ (e : 2 ≡ 4). omega (arith, e)) free_2 h.messages;
+    meta = other_list part_list centre_schema refl change old new alters meta_list (centre_meta ∷ []) h.schema (λ (e : 0 ≡ 4). omega (arith, e)) free_0 h.meta;
+    messages = other_list part_list centre_schema refl change old new alters message_list rows.messages h.schema (λ (e : 2 ≡ 4). omega (arith, e)) free_2 h.messages;
     parts = alters.changed h.schema rows.parts h.parts;
-    references = other part_list refl change old new alters reference_list rows.references h.schema (λ (e : 6 ≡ 4). omega (arith, e)) free_6 h.references;
-    handsets = other part_list refl change old new alters handset_list rows.handsets h.schema (λ (e : 8 ≡ 4). omega (arith, e)) free_8 h.handsets;
-    reports = other part_list refl change old new alters report_list rows.reports h.schema (λ (e : 10 ≡ 4). omega (arith, e)) free_10 h.reports;
-    priorities = other part_list refl change old new alters priority_list rows.priorities h.schema (λ (e : 12 ≡ 4). omega (arith, e)) free_12 h.priorities;
+    references = other_list part_list centre_schema refl change old new alters reference_list rows.references h.schema (λ (e : 6 ≡ 4). omega (arith, e)) free_6 h.references;
+    handsets = other_list part_list centre_schema refl change old new alters handset_list rows.handsets h.schema (λ (e : 8 ≡ 4). omega (arith, e)) free_8 h.handsets;
+    reports = other_list part_list centre_schema refl change old new alters report_list rows.reports h.schema (λ (e : 10 ≡ 4). omega (arith, e)) free_10 h.reports;
+    priorities = other_list part_list centre_schema refl change old new alters priority_list rows.priorities h.schema (λ (e : 12 ≡ 4). omega (arith, e)) free_12 h.priorities;
   };
 }
 
-pub references_turn : (change : List ReferenceRow → List ReferenceRow) (old new : State) → Alters reference_list change old new → Leads (Turns (λ rows. record rows { references = change rows.references })) old new
+pub references_turn : (change : List ReferenceRow → List ReferenceRow) (old new : State) → Alters reference_list change old new → Leads (Turns centre_stores (λ rows. record rows { references = change rows.references })) old new
 references_turn change old new alters = record {
   inside = alters.inside;
   changed = λ rows h. record {
     schema = alters.schema h.schema;
-    meta = other reference_list refl change old new alters meta_list (centre_meta ∷ []) h.schema (λ (e : 0 ≡ 6). omega (arith, e)) free_0 h.meta;
-    messages = other reference_list refl change old new alters message_list rows.messages h.schema (λ (e : 2 ≡ 6). omega (arith, e)) free_2 h.messages;
-    parts = other reference_list refl change old new alters part_list rows.parts h.schema (λ (e : 4 ≡ 6). omega (arith, e)) free_4 h.parts;
+    meta = other_list reference_list centre_schema refl change old new alters meta_list (centre_meta ∷ []) h.schema (λ (e : 0 ≡ 6). omega (arith, e)) free_0 h.meta;
+    messages = other_list reference_list centre_schema refl change old new alters message_list rows.messages h.schema (λ (e : 2 ≡ 6). omega (arith, e)) free_2 h.messages;
+    parts = other_list reference_list centre_schema refl change old new alters part_list rows.parts h.schema (λ (e : 4 ≡ 6). omega (arith, e)) free_4 h.parts;
     references = alters.changed h.schema rows.references h.references;
-    handsets = other reference_list refl change old new alters handset_list rows.handsets h.schema (λ (e : 8 ≡ 6). omega (arith, e)) free_8 h.handsets;
-    reports = other reference_list refl change old new alters report_list rows.reports h.schema (λ (e : 10 ≡ 6). omega (arith, e)) free_10 h.reports;
-    priorities = other reference_list refl change old new alters priority_list rows.priorities h.schema (λ (e : 12 ≡ 6). omega (arith, e)) free_12 h.priorities;
+    handsets = other_list reference_list centre_schema refl change old new alters handset_list rows.handsets h.schema (λ (e : 8 ≡ 6). omega (arith, e)) free_8 h.handsets;
+    reports = other_list reference_list centre_schema refl change old new alters report_list rows.reports h.schema (λ (e : 10 ≡ 6). omega (arith, e)) free_10 h.reports;
+    priorities = other_list reference_list centre_schema refl change old new alters priority_list rows.priorities h.schema (λ (e : 12 ≡ 6). omega (arith, e)) free_12 h.priorities;
   };
 }
 
-pub handsets_turn : (change : List HandsetRow → List HandsetRow) (old new : State) → Alters handset_list change old new → Leads (Turns (λ rows. record rows { handsets = change rows.handsets })) old new
+pub handsets_turn : (change : List HandsetRow → List HandsetRow) (old new : State) → Alters handset_list change old new → Leads (Turns centre_stores (λ rows. record rows { handsets = change rows.handsets })) old new
 handsets_turn change old new alters = record {
   inside = alters.inside;
   changed = λ rows h. record {
     schema = alters.schema h.schema;
-    meta = other handset_list refl change old new alters meta_list (centre_meta ∷ []) h.schema (λ (e : 0 ≡ 8). omega (arith, e)) free_0 h.meta;
-    messages = other handset_list refl change old new alters message_list rows.messages h.schema (λ (e : 2 ≡ 8). omega (arith, e)) free_2 h.messages;
-    parts = other handset_list refl change old new alters part_list rows.parts h.schema (λ (e : 4 ≡ 8). omega (arith, e)) free_4 h.parts;
-    references = other handset_list refl change old new alters reference_list rows.references h.schema (λ (e : 6 ≡ 8). omega (arith, e)) free_6 h.references;
+    meta = other_list handset_list centre_schema refl change old new alters meta_list (centre_meta ∷ []) h.schema (λ (e : 0 ≡ 8). omega (arith, e)) free_0 h.meta;
+    messages = other_list handset_list centre_schema refl change old new alters message_list rows.messages h.schema (λ (e : 2 ≡ 8). omega (arith, e)) free_2 h.messages;
+    parts = other_list handset_list centre_schema refl change old new alters part_list rows.parts h.schema (λ (e : 4 ≡ 8). omega (arith, e)) free_4 h.parts;
+    references = other_list handset_list centre_schema refl change old new alters reference_list rows.references h.schema (λ (e : 6 ≡ 8). omega (arith, e)) free_6 h.references;
     handsets = alters.changed h.schema rows.handsets h.handsets;
-    reports = other handset_list refl change old new alters report_list rows.reports h.schema (λ (e : 10 ≡ 8). omega (arith, e)) free_10 h.reports;
-    priorities = other handset_list refl change old new alters priority_list rows.priorities h.schema (λ (e : 12 ≡ 8). omega (arith, e)) free_12 h.priorities;
+    reports = other_list handset_list centre_schema refl change old new alters report_list rows.reports h.schema (λ (e : 10 ≡ 8). omega (arith, e)) free_10 h.reports;
+    priorities = other_list handset_list centre_schema refl change old new alters priority_list rows.priorities h.schema (λ (e : 12 ≡ 8). omega (arith, e)) free_12 h.priorities;
   };
 }
 
-pub reports_turn : (change : List ReportRow → List ReportRow) (old new : State) → Alters report_list change old new → Leads (Turns (λ rows. record rows { reports = change rows.reports })) old new
+pub reports_turn : (change : List ReportRow → List ReportRow) (old new : State) → Alters report_list change old new → Leads (Turns centre_stores (λ rows. record rows { reports = change rows.reports })) old new
 reports_turn change old new alters = record {
   inside = alters.inside;
   changed = λ rows h. record {
     schema = alters.schema h.schema;
-    meta = other report_list refl change old new alters meta_list (centre_meta ∷ []) h.schema (λ (e : 0 ≡ 10). omega (arith, e)) free_0 h.meta;
-    messages = other report_list refl change old new alters message_list rows.messages h.schema (λ (e : 2 ≡ 10). omega (arith, e)) free_2 h.messages;
-    parts = other report_list refl change old new alters part_list rows.parts h.schema (λ (e : 4 ≡ 10). omega (arith, e)) free_4 h.parts;
-    references = other report_list refl change old new alters reference_list rows.references h.schema (λ (e : 6 ≡ 10). omega (arith, e)) free_6 h.references;
-    handsets = other report_list refl change old new alters handset_list rows.handsets h.schema (λ (e : 8 ≡ 10). omega (arith, e)) free_8 h.handsets;
+    meta = other_list report_list centre_schema refl change old new alters meta_list (centre_meta ∷ []) h.schema (λ (e : 0 ≡ 10). omega (arith, e)) free_0 h.meta;
+    messages = other_list report_list centre_schema refl change old new alters message_list rows.messages h.schema (λ (e : 2 ≡ 10). omega (arith, e)) free_2 h.messages;
+    parts = other_list report_list centre_schema refl change old new alters part_list rows.parts h.schema (λ (e : 4 ≡ 10). omega (arith, e)) free_4 h.parts;
+    references = other_list report_list centre_schema refl change old new alters reference_list rows.references h.schema (λ (e : 6 ≡ 10). omega (arith, e)) free_6 h.references;
+    handsets = other_list report_list centre_schema refl change old new alters handset_list rows.handsets h.schema (λ (e : 8 ≡ 10). omega (arith, e)) free_8 h.handsets;
     reports = alters.changed h.schema rows.reports h.reports;
-    priorities = other report_list refl change old new alters priority_list rows.priorities h.schema (λ (e : 12 ≡ 10). omega (arith, e)) free_12 h.priorities;
+    priorities = other_list report_list centre_schema refl change old new alters priority_list rows.priorities h.schema (λ (e : 12 ≡ 10). omega (arith, e)) free_12 h.priorities;
   };
 }
 
-pub priorities_turn : (change : List PriorityRow → List PriorityRow) (old new : State) → Alters priority_list change old new → Leads (Turns (λ rows. record rows { priorities = change rows.priorities })) old new
+pub priorities_turn : (change : List PriorityRow → List PriorityRow) (old new : State) → Alters priority_list change old new → Leads (Turns centre_stores (λ rows. record rows { priorities = change rows.priorities })) old new
 priorities_turn change old new alters = record {
   inside = alters.inside;
   changed = λ rows h. record {
     schema = alters.schema h.schema;
-    meta = other priority_list refl change old new alters meta_list (centre_meta ∷ []) h.schema (λ (e : 0 ≡ 12). omega (arith, e)) free_0 h.meta;
-    messages = other priority_list refl change old new alters message_list rows.messages h.schema (λ (e : 2 ≡ 12). omega (arith, e)) free_2 h.messages;
-    parts = other priority_list refl change old new alters part_list rows.parts h.schema (λ (e : 4 ≡ 12). omega (arith, e)) free_4 h.parts;
-    references = other priority_list refl change old new alters reference_list rows.references h.schema (λ (e : 6 ≡ 12). omega (arith, e)) free_6 h.references;
-    handsets = other priority_list refl change old new alters handset_list rows.handsets h.schema (λ (e : 8 ≡ 12). omega (arith, e)) free_8 h.handsets;
-    reports = other priority_list refl change old new alters report_list rows.reports h.schema (λ (e : 10 ≡ 12). omega (arith, e)) free_10 h.reports;
+    meta = other_list priority_list centre_schema refl change old new alters meta_list (centre_meta ∷ []) h.schema (λ (e : 0 ≡ 12). omega (arith, e)) free_0 h.meta;
+    messages = other_list priority_list centre_schema refl change old new alters message_list rows.messages h.schema (λ (e : 2 ≡ 12). omega (arith, e)) free_2 h.messages;
+    parts = other_list priority_list centre_schema refl change old new alters part_list rows.parts h.schema (λ (e : 4 ≡ 12). omega (arith, e)) free_4 h.parts;
+    references = other_list priority_list centre_schema refl change old new alters reference_list rows.references h.schema (λ (e : 6 ≡ 12). omega (arith, e)) free_6 h.references;
+    handsets = other_list priority_list centre_schema refl change old new alters handset_list rows.handsets h.schema (λ (e : 8 ≡ 12). omega (arith, e)) free_8 h.handsets;
+    reports = other_list priority_list centre_schema refl change old new alters report_list rows.reports h.schema (λ (e : 10 ≡ 12). omega (arith, e)) free_10 h.reports;
     priorities = alters.changed h.schema rows.priorities h.priorities;
   };
 }
 
 -- a database is the store of one set of rows
-pub store_once : (setup : Setup) → IsOfOne (IsStoreWith setup)
+pub store_once : (setup : Setup) → IsOfOne (IsStoreWith centre_stores setup)
 store_once setup a b r s same p q =
     let messages = holds_once message_list message_is_list _ _ r.messages s.messages (ap (λ (t : Trees). t 2) same) p.0.messages q.0.messages in
     let parts = holds_once part_list part_is_list _ _ r.parts s.parts (ap (λ (t : Trees). t 4) same) p.0.parts q.0.parts in
@@ -137,7 +123,3 @@ store_once setup a b r s same p q =
     let priorities = holds_once priority_list priority_is_list _ _ r.priorities s.priorities (ap (λ (t : Trees). t 12) same) p.0.priorities q.0.priorities in
     let set = p.1 ∙ sym q.1 in
     λ i. record { messages = messages i; parts = parts i; references = references i; handsets = handsets i; reports = reports i; priorities = priorities i; setup = set i }
-
--- the setup is as it was, if the change leaves it
-pub turns_with : (setup : Setup) (changes : Changes) (a b : Database) (rows : Rows) → Turns (rows_after changes) a b → IsStoreWith setup a rows → IsStoreWith setup b (rows_after changes rows)
-turns_with setup changes a b rows turns is = (turns rows is.0, is.1)

@@ -2,7 +2,9 @@
 use Rattle.std.proofs.Common.{◌≡◌, List, [], ◌∷◌, sym, ap, subst, ◌∙◌}
 use Rattle.sqlite.specs.Effect.{Database}
 use Rattle.sms_store_sql.specs.listing.Listing.{ListOf, Represents}
-use Rattle.sms_store.specs.handset.HandsetRows.{IsStoreWith, counters_row}
+use Rattle.sms_store.specs.keeping.Stores.{IsStoreWith}
+use Rattle.sms_store.proofs.keeping.Lists.{FindsIn, moved}
+use Rattle.sms_store.specs.handset.HandsetRows.{handset_stores, counters_row}
 use Rattle.sms_store_tables.specs.handset.EntryList.{entry_list}
 use Rattle.sms_store_tables.specs.handset.LastAcceptedList.{last_list}
 use Rattle.sms_store_tables.specs.handset.OutEntryList.{out_list}
@@ -10,19 +12,12 @@ use Rattle.sms_store_tables.specs.handset.DiscardedGroupList.{mark_list}
 use Rattle.sms_store.specs.handset.CountersList.{count_list}
 use Rattle.sms_store.specs.handset.Types.{Rows, Setup, Entry, LastAccepted, OutEntry, DiscardedGroup, Counters, CountersRow}
 
--- a load that finds the list of a tree
-abbrev pub FindsIn : {X : Type 0} → ListOf X → Database → List X → Type 0
-FindsIn {X} l db found = (xs : List X) → Represents l (db.trees l.table.tree) xs → found ≡ xs
-
-pub moved : {X : Type 0} (l : ListOf X) (a b : Database) (xs : List X) → b ≡ a → Represents l (a.trees l.table.tree) xs → Represents l (b.trees l.table.tree) xs
-moved l a b xs same held = subst (λ (d : Database). Represents l (d.trees l.table.tree) xs) (sym same) held
-
 abbrev first_of : Counters → List CountersRow → Counters
 first_of other [] = other
 first_of other (c ∷ cs) = c.counters
 
 -- the rows that are found are those of the store
-pub found_rows : (setup : Setup) (rows : Rows) (db : Database) → IsStoreWith setup db rows → {b c d e : Database} → b ≡ db → c ≡ db → d ≡ db → e ≡ db
+pub found_rows : (setup : Setup) (rows : Rows) (db : Database) → IsStoreWith handset_stores setup db rows → {b c d e : Database} → b ≡ db → c ≡ db → d ≡ db → e ≡ db
     → {entries : List Entry} {last : List LastAccepted} {outbox : List OutEntry} {marks : List DiscardedGroup} {counted : List CountersRow}
     → FindsIn entry_list db entries → FindsIn last_list b last → FindsIn out_list c outbox → FindsIn mark_list d marks → FindsIn count_list e counted
     → {counters : Counters} → counted ≡ counters_row counters ∷ []

@@ -10,24 +10,15 @@ use Rattle.sms_store_sql.specs.listing.Listing.{ListOf, Represents}
 use Rattle.sms_store_sql.specs.listing.Transaction.{Leads, IsOfOne}
 use Rattle.sms_store_sql.proofs.listing.Once.{holds_once}
 use Rattle.sms_store_tables.specs.handset.HandsetSchema.{handset_schema}
-use Rattle.sms_store.specs.handset.HandsetRows.{IsStoreWith, Turns, counters_row, handset_meta}
+use Rattle.sms_store.specs.keeping.Stores.{IsStoreWith, Turns}
+use Rattle.sms_store.specs.handset.HandsetRows.{handset_stores, counters_row, handset_meta}
 use Rattle.sms_store_tables.specs.handset.MetaList.{meta_list}
 use Rattle.sms_store_tables.specs.handset.EntryList.{entry_list, entry_is_list}
 use Rattle.sms_store_tables.specs.handset.LastAcceptedList.{last_list, last_is_list}
 use Rattle.sms_store_tables.specs.handset.OutEntryList.{out_list, out_is_list}
 use Rattle.sms_store_tables.specs.handset.DiscardedGroupList.{mark_list, mark_is_list}
 use Rattle.sms_store.specs.handset.CountersList.{count_list, count_is_list}
-use Rattle.sms_store.specs.handset.Types.{Rows, Changes, rows_after, Setup, Entry, LastAccepted, OutEntry, DiscardedGroup, Counters, CountersRow}
-
--- steps one after another
-pub turns_none : (s : State) → IsTrue s.is_open → IsTrue s.in_transaction → Leads (Turns (λ rows. rows)) s s
-turns_none s live inside = record { inside = record { was_open = live; is_open = live; now_is = refl; committed_is = refl; mode = inside }; changed = λ rows h. h }
-
-pub turns_then : (a b c : State) (f g : Rows → Rows) → Leads (Turns f) a b → Leads (Turns g) b c → Leads (Turns (λ rows. g (f rows))) a c
-turns_then a b c f g p q = record {
-  inside = record { was_open = p.inside.was_open; is_open = q.inside.is_open; now_is = refl; committed_is = q.inside.committed_is ∙ p.inside.committed_is; mode = q.inside.mode };
-  changed = λ rows h. q.changed (f rows) (p.changed rows h);
-}
+use Rattle.sms_store.specs.handset.Types.{Rows, Setup, Entry, LastAccepted, OutEntry, DiscardedGroup, Counters, CountersRow}
 
 -- no table stands where an index does
 pub free_0 : IsNoIndex handset_schema 0
@@ -48,86 +39,78 @@ free_8 = (λ (e : 1 ≡ 8). omega (arith, e), (λ (e : 3 ≡ 8). omega (arith, e
 pub free_10 : IsNoIndex handset_schema 10
 free_10 = (λ (e : 1 ≡ 10). omega (arith, e), (λ (e : 3 ≡ 10). omega (arith, e), (λ (e : 5 ≡ 10). omega (arith, e), (λ (e : 7 ≡ 10). omega (arith, e), (λ (e : 9 ≡ 10). omega (arith, e), (λ (e : 11 ≡ 10). omega (arith, e), tt))))))
 
-module _ {X : Type 0} (l : ListOf X) (here : l.table.schema ≡ handset_schema) (change : List X → List X) (old new : State) (alters : Alters l change old new) where
-  -- every other list is as it was
-  pub other : {Y : Type 0} (m : ListOf Y) (ys : List Y) → old.now.schema ≡ handset_schema → m.table.tree ≢ l.table.tree → IsNoIndex handset_schema m.table.tree
-      → Represents m (old.now.trees m.table.tree) ys → Represents m (new.now.trees m.table.tree) ys
-  other m ys has apart free held =
-      let same = alters.others (has ∙ sym here) m.table.tree apart (subst (λ s. IsNoIndex s m.table.tree) (sym here) free) in
-      subst (λ rows. Represents m rows ys) (sym same) held
-
-pub entries_turn : (change : List Entry → List Entry) (old new : State) → Alters entry_list change old new → Leads (Turns (λ rows. record rows { entries = change rows.entries })) old new
+pub entries_turn : (change : List Entry → List Entry) (old new : State) → Alters entry_list change old new → Leads (Turns handset_stores (λ rows. record rows { entries = change rows.entries })) old new
 entries_turn change old new alters = record {
   inside = alters.inside;
   changed = λ rows h. record {
     schema = alters.schema h.schema;
-    meta = other entry_list refl change old new alters meta_list (handset_meta ∷ []) h.schema (λ (e : 0 ≡ 2). omega (arith, e)) free_0 h.meta;
+    meta = other_list entry_list handset_schema refl change old new alters meta_list (handset_meta ∷ []) h.schema (λ (e : 0 ≡ 2). omega (arith, e)) free_0 h.meta;
     entries = alters.changed h.schema rows.entries h.entries;
-    last = other entry_list refl change old new alters last_list (rows.last) h.schema (λ (e : 4 ≡ 2). omega (arith, e)) free_4 h.last;
-    outbox = other entry_list refl change old new alters out_list (rows.outbox) h.schema (λ (e : 6 ≡ 2). omega (arith, e)) free_6 h.outbox;
-    marks = other entry_list refl change old new alters mark_list (rows.marks) h.schema (λ (e : 8 ≡ 2). omega (arith, e)) free_8 h.marks;
-    counters = other entry_list refl change old new alters count_list (counters_row rows.counters ∷ []) h.schema (λ (e : 10 ≡ 2). omega (arith, e)) free_10 h.counters;
+    last = other_list entry_list handset_schema refl change old new alters last_list (rows.last) h.schema (λ (e : 4 ≡ 2). omega (arith, e)) free_4 h.last;
+    outbox = other_list entry_list handset_schema refl change old new alters out_list (rows.outbox) h.schema (λ (e : 6 ≡ 2). omega (arith, e)) free_6 h.outbox;
+    marks = other_list entry_list handset_schema refl change old new alters mark_list (rows.marks) h.schema (λ (e : 8 ≡ 2). omega (arith, e)) free_8 h.marks;
+    counters = other_list entry_list handset_schema refl change old new alters count_list (counters_row rows.counters ∷ []) h.schema (λ (e : 10 ≡ 2). omega (arith, e)) free_10 h.counters;
   };
 }
 
-pub last_turn : (change : List LastAccepted → List LastAccepted) (old new : State) → Alters last_list change old new → Leads (Turns (λ rows. record rows { last = change rows.last })) old new
+pub last_turn : (change : List LastAccepted → List LastAccepted) (old new : State) → Alters last_list change old new → Leads (Turns handset_stores (λ rows. record rows { last = change rows.last })) old new
 last_turn change old new alters = record {
   inside = alters.inside;
   changed = λ rows h. record {
     schema = alters.schema h.schema;
-    meta = other last_list refl change old new alters meta_list (handset_meta ∷ []) h.schema (λ (e : 0 ≡ 4). omega (arith, e)) free_0 h.meta;
-    entries = other last_list refl change old new alters entry_list (rows.entries) h.schema (λ (e : 2 ≡ 4). omega (arith, e)) free_2 h.entries;
+    meta = other_list last_list handset_schema refl change old new alters meta_list (handset_meta ∷ []) h.schema (λ (e : 0 ≡ 4). omega (arith, e)) free_0 h.meta;
+    entries = other_list last_list handset_schema refl change old new alters entry_list (rows.entries) h.schema (λ (e : 2 ≡ 4). omega (arith, e)) free_2 h.entries;
     last = alters.changed h.schema rows.last h.last;
-    outbox = other last_list refl change old new alters out_list (rows.outbox) h.schema (λ (e : 6 ≡ 4). omega (arith, e)) free_6 h.outbox;
-    marks = other last_list refl change old new alters mark_list (rows.marks) h.schema (λ (e : 8 ≡ 4). omega (arith, e)) free_8 h.marks;
-    counters = other last_list refl change old new alters count_list (counters_row rows.counters ∷ []) h.schema (λ (e : 10 ≡ 4). omega (arith, e)) free_10 h.counters;
+    outbox = other_list last_list handset_schema refl change old new alters out_list (rows.outbox) h.schema (λ (e : 6 ≡ 4). omega (arith, e)) free_6 h.outbox;
+    marks = other_list last_list handset_schema refl change old new alters mark_list (rows.marks) h.schema (λ (e : 8 ≡ 4). omega (arith, e)) free_8 h.marks;
+    counters = other_list last_list handset_schema refl change old new alters count_list (counters_row rows.counters ∷ []) h.schema (λ (e : 10 ≡ 4). omega (arith, e)) free_10 h.counters;
   };
 }
 
-pub outbox_turn : (change : List OutEntry → List OutEntry) (old new : State) → Alters out_list change old new → Leads (Turns (λ rows. record rows { outbox = change rows.outbox })) old new
+pub outbox_turn : (change : List OutEntry → List OutEntry) (old new : State) → Alters out_list change old new → Leads (Turns handset_stores (λ rows. record rows { outbox = change rows.outbox })) old new
 outbox_turn change old new alters = record {
   inside = alters.inside;
   changed = λ rows h. record {
     schema = alters.schema h.schema;
-    meta = other out_list refl change old new alters meta_list (handset_meta ∷ []) h.schema (λ (e : 0 ≡ 6). omega (arith, e)) free_0 h.meta;
-    entries = other out_list refl change old new alters entry_list (rows.entries) h.schema (λ (e : 2 ≡ 6). omega (arith, e)) free_2 h.entries;
-    last = other out_list refl change old new alters last_list (rows.last) h.schema (λ (e : 4 ≡ 6). omega (arith, e)) free_4 h.last;
+    meta = other_list out_list handset_schema refl change old new alters meta_list (handset_meta ∷ []) h.schema (λ (e : 0 ≡ 6). omega (arith, e)) free_0 h.meta;
+    entries = other_list out_list handset_schema refl change old new alters entry_list (rows.entries) h.schema (λ (e : 2 ≡ 6). omega (arith, e)) free_2 h.entries;
+    last = other_list out_list handset_schema refl change old new alters last_list (rows.last) h.schema (λ (e : 4 ≡ 6). omega (arith, e)) free_4 h.last;
     outbox = alters.changed h.schema rows.outbox h.outbox;
-    marks = other out_list refl change old new alters mark_list (rows.marks) h.schema (λ (e : 8 ≡ 6). omega (arith, e)) free_8 h.marks;
-    counters = other out_list refl change old new alters count_list (counters_row rows.counters ∷ []) h.schema (λ (e : 10 ≡ 6). omega (arith, e)) free_10 h.counters;
+    marks = other_list out_list handset_schema refl change old new alters mark_list (rows.marks) h.schema (λ (e : 8 ≡ 6). omega (arith, e)) free_8 h.marks;
+    counters = other_list out_list handset_schema refl change old new alters count_list (counters_row rows.counters ∷ []) h.schema (λ (e : 10 ≡ 6). omega (arith, e)) free_10 h.counters;
   };
 }
 
-pub marks_turn : (change : List DiscardedGroup → List DiscardedGroup) (old new : State) → Alters mark_list change old new → Leads (Turns (λ rows. record rows { marks = change rows.marks })) old new
+pub marks_turn : (change : List DiscardedGroup → List DiscardedGroup) (old new : State) → Alters mark_list change old new → Leads (Turns handset_stores (λ rows. record rows { marks = change rows.marks })) old new
 marks_turn change old new alters = record {
   inside = alters.inside;
   changed = λ rows h. record {
     schema = alters.schema h.schema;
-    meta = other mark_list refl change old new alters meta_list (handset_meta ∷ []) h.schema (λ (e : 0 ≡ 8). omega (arith, e)) free_0 h.meta;
-    entries = other mark_list refl change old new alters entry_list (rows.entries) h.schema (λ (e : 2 ≡ 8). omega (arith, e)) free_2 h.entries;
-    last = other mark_list refl change old new alters last_list (rows.last) h.schema (λ (e : 4 ≡ 8). omega (arith, e)) free_4 h.last;
-    outbox = other mark_list refl change old new alters out_list (rows.outbox) h.schema (λ (e : 6 ≡ 8). omega (arith, e)) free_6 h.outbox;
+    meta = other_list mark_list handset_schema refl change old new alters meta_list (handset_meta ∷ []) h.schema (λ (e : 0 ≡ 8). omega (arith, e)) free_0 h.meta;
+    entries = other_list mark_list handset_schema refl change old new alters entry_list (rows.entries) h.schema (λ (e : 2 ≡ 8). omega (arith, e)) free_2 h.entries;
+    last = other_list mark_list handset_schema refl change old new alters last_list (rows.last) h.schema (λ (e : 4 ≡ 8). omega (arith, e)) free_4 h.last;
+    outbox = other_list mark_list handset_schema refl change old new alters out_list (rows.outbox) h.schema (λ (e : 6 ≡ 8). omega (arith, e)) free_6 h.outbox;
     marks = alters.changed h.schema rows.marks h.marks;
-    counters = other mark_list refl change old new alters count_list (counters_row rows.counters ∷ []) h.schema (λ (e : 10 ≡ 8). omega (arith, e)) free_10 h.counters;
+    counters = other_list mark_list handset_schema refl change old new alters count_list (counters_row rows.counters ∷ []) h.schema (λ (e : 10 ≡ 8). omega (arith, e)) free_10 h.counters;
   };
 }
 
-pub counters_turn : (c : Counters) (old new : State) → Alters count_list (put count_list.key (counters_row c)) old new → Leads (Turns (λ rows. record rows { counters = c })) old new
+pub counters_turn : (c : Counters) (old new : State) → Alters count_list (put count_list.key (counters_row c)) old new → Leads (Turns handset_stores (λ rows. record rows { counters = c })) old new
 counters_turn c old new alters = record {
   inside = alters.inside;
   changed = λ rows h. record {
     schema = alters.schema h.schema;
-    meta = other count_list refl (put count_list.key (counters_row c)) old new alters meta_list (handset_meta ∷ []) h.schema (λ (e : 0 ≡ 10). omega (arith, e)) free_0 h.meta;
-    entries = other count_list refl (put count_list.key (counters_row c)) old new alters entry_list (rows.entries) h.schema (λ (e : 2 ≡ 10). omega (arith, e)) free_2 h.entries;
-    last = other count_list refl (put count_list.key (counters_row c)) old new alters last_list (rows.last) h.schema (λ (e : 4 ≡ 10). omega (arith, e)) free_4 h.last;
-    outbox = other count_list refl (put count_list.key (counters_row c)) old new alters out_list (rows.outbox) h.schema (λ (e : 6 ≡ 10). omega (arith, e)) free_6 h.outbox;
-    marks = other count_list refl (put count_list.key (counters_row c)) old new alters mark_list (rows.marks) h.schema (λ (e : 8 ≡ 10). omega (arith, e)) free_8 h.marks;
+    meta = other_list count_list handset_schema refl (put count_list.key (counters_row c)) old new alters meta_list (handset_meta ∷ []) h.schema (λ (e : 0 ≡ 10). omega (arith, e)) free_0 h.meta;
+    entries = other_list count_list handset_schema refl (put count_list.key (counters_row c)) old new alters entry_list (rows.entries) h.schema (λ (e : 2 ≡ 10). omega (arith, e)) free_2 h.entries;
+    last = other_list count_list handset_schema refl (put count_list.key (counters_row c)) old new alters last_list (rows.last) h.schema (λ (e : 4 ≡ 10). omega (arith, e)) free_4 h.last;
+    outbox = other_list count_list handset_schema refl (put count_list.key (counters_row c)) old new alters out_list (rows.outbox) h.schema (λ (e : 6 ≡ 10). omega (arith, e)) free_6 h.outbox;
+    marks = other_list count_list handset_schema refl (put count_list.key (counters_row c)) old new alters mark_list (rows.marks) h.schema (λ (e : 8 ≡ 10). omega (arith, e)) free_8 h.marks;
     counters = alters.changed h.schema (counters_row rows.counters ∷ []) h.counters;
   };
 }
 
 -- a database is the store of one set of rows
-pub store_once : (setup : Setup) → IsOfOne (IsStoreWith setup)
+pub store_once : (setup : Setup) → IsOfOne (IsStoreWith handset_stores setup)
 store_once setup a b r s same p q =
     let entries = holds_once entry_list entry_is_list _ _ r.entries s.entries (ap (λ (t : Trees). t 2) same) p.0.entries q.0.entries in
     let last = holds_once last_list last_is_list _ _ r.last s.last (ap (λ (t : Trees). t 4) same) p.0.last q.0.last in
@@ -141,7 +124,3 @@ store_once setup a b r s same p q =
     counted_in : List CountersRow → Counters
     counted_in [] = r.counters
     counted_in (c ∷ cs) = c.counters
-
--- the setup is as it was, if the change leaves it
-pub turns_with : (setup : Setup) (changes : Changes) (a b : Database) (rows : Rows) → Turns (rows_after changes) a b → IsStoreWith setup a rows → IsStoreWith setup b (rows_after changes rows)
-turns_with setup changes a b rows turns is = (turns rows is.0, is.1)

@@ -1,26 +1,21 @@
--- The rows of a centre in its store, of version 2.
-use Rattle.std.specs.Prelude.{◌≡◌}
-use Rattle.sqlite.specs.Effect.{Database}
-use Rattle.sms_store_sql.specs.schema.Blank.{no_tables}
-use Rattle.sms_store_migration.specs.Versions.{IsStore}
+-- What the stores of a centre are, of version 2.
+use Rattle.std.specs.Prelude.{Ok}
+use Rattle.sms_store_tables.specs.centre.CentreSchema.{centre_schema}
+use Rattle.sms_store_migration.specs.Migrating.{migrated}
+use Rattle.sms_store_migration.specs.Versions.{IsStore, IsFirstStore}
+use Rattle.sms_store.specs.keeping.Stores.{StoresOf}
+use Rattle.sms_store.specs.centre.Refusing.{SaysNow, Refuses}
 use Rattle.sms_store.specs.centre.Types.{Rows, Setup, first_rows}
 
--- The database is the store of these rows, and the setup, which is not stored, is this.
-abbrev pub IsStoreWith : Setup → Database → Rows → Type 0
-IsStoreWith setup db rows = IsStore db rows × (rows.setup ≡ setup)
-
--- a change that turns the store of some rows into that of others
-abbrev pub Turns : (Rows → Rows) → Database → Database → Type 0
-Turns change before after = (rows : Rows) → IsStore before rows → IsStore after (change rows)
-
--- an empty database becomes the store of a centre's first rows
-abbrev pub Founds : Database → Database → Type 0
-Founds before after = before.schema ≡ no_tables → (setup : Setup) → IsStore after (first_rows setup)
-
--- the database is the store of some rows with this setup
-abbrev pub HasRows : Setup → Database → Type 0
-HasRows setup db = (rows : Rows) × IsStoreWith setup db rows
-
--- the rows that are found
-abbrev pub FindsRows : Setup → Database → Rows → Type 0
-FindsRows setup db found = (rows : Rows) → IsStoreWith setup db rows → found ≡ rows
+abbrev pub centre_stores : StoresOf Setup Rows
+centre_stores = record {
+  schema = centre_schema;
+  IsStore = IsStore;
+  setup_of = λ rows. rows.setup;
+  with_setup = λ setup rows. record rows { setup = setup };
+  first_rows = first_rows;
+  IsEarlier = IsFirstStore;
+  raised = migrated;
+  IsOurs = λ db. SaysNow 2 (Ok tt) db;
+  Refuses = Refuses 2;
+}

@@ -6,8 +6,9 @@ use Rattle.sms_store_sql.specs.listing.Transaction.{IsOpenStore}
 use Rattle.sms_store_sql.specs.schema.Blank.{no_tables}
 use Rattle.sms_store_migration.specs.Migrating.{migrated}
 use Rattle.sms_store_migration.specs.Versions.{IsFirstStore}
-use Rattle.sms_store.specs.centre.CentreRows.{IsStoreWith}
-use Rattle.sms_store.specs.centre.Opened.{SaysFirst, SaysNow}
+use Rattle.sms_store.specs.keeping.Stores.{IsStoreWith}
+use Rattle.sms_store.specs.centre.CentreRows.{centre_stores}
+use Rattle.sms_store.specs.centre.Refusing.{SaysFirst, SaysNow}
 use Rattle.sms_store.specs.centre.Types.{Rows, Setup, first_rows}
 
 abbrev pub IsFirstStoreWith : Setup → Database → Rows → Type 0
@@ -15,9 +16,9 @@ IsFirstStoreWith setup db rows = IsFirstStore db rows × (rows.setup ≡ setup)
 
 -- what a keep has of the database that it was migrated or opened over
 pub record Migrated (setup : Setup) (old : Database) (new : State) : Type 0 where
-  pub founded : old.schema ≡ no_tables → IsOpenStore (IsStoreWith setup) new (first_rows setup)
-  pub unchanged : (rows : Rows) → IsStoreWith setup old rows → IsOpenStore (IsStoreWith setup) new rows
-  pub raised : (rows : Rows) → IsFirstStoreWith setup old rows → IsOpenStore (IsStoreWith setup) new (migrated rows)
+  pub founded : old.schema ≡ no_tables → IsOpenStore (IsStoreWith centre_stores setup) new (first_rows setup)
+  pub unchanged : (rows : Rows) → IsStoreWith centre_stores setup old rows → IsOpenStore (IsStoreWith centre_stores setup) new rows
+  pub raised : (rows : Rows) → IsFirstStoreWith setup old rows → IsOpenStore (IsStoreWith centre_stores setup) new (migrated rows)
   pub ours : (old.schema ≡ no_tables) ⊎ (SaysNow 2 (Ok tt) old ⊎ SaysFirst 1 (Ok tt) old)
 
 -- the same, whatever the setup

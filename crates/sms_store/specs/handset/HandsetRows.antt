@@ -1,15 +1,16 @@
 -- The rows of a handset in its store.
-use Rattle.std.specs.Prelude.{◌≡◌, [], ◌∷◌}
+use Rattle.std.specs.Prelude.{◌≡◌, [], ◌∷◌, Ok}
 use Rattle.sqlite.specs.Effect.{Database}
 use Rattle.sms_store_sql.specs.listing.Listing.{Represents}
 use Rattle.sms_store_sql.specs.declared.listing.meta.StoreKind.TheVariants.{Handset}
-use Rattle.sms_store_sql.specs.schema.Blank.{no_tables}
 use Rattle.sms_store_tables.specs.handset.HandsetSchema.{handset_schema}
 use Rattle.sms_store_tables.specs.handset.MetaList.{meta_list}
 use Rattle.sms_store_tables.specs.handset.EntryList.{entry_list}
 use Rattle.sms_store_tables.specs.handset.LastAcceptedList.{last_list}
 use Rattle.sms_store_tables.specs.handset.OutEntryList.{out_list}
 use Rattle.sms_store_tables.specs.handset.DiscardedGroupList.{mark_list}
+use Rattle.sms_store.specs.keeping.Stores.{StoresOf}
+use Rattle.sms_store.specs.handset.Refusing.{SaysNow, Refuses}
 use Rattle.sms_store.specs.handset.CountersList.{count_list}
 use Rattle.sms_store.specs.handset.Types.{Rows, Setup, Meta, Counters, CountersRow, first_rows}
 
@@ -30,22 +31,16 @@ pub record IsStore (db : Database) (rows : Rows) : Type 0 where
   pub marks : Represents mark_list (db.trees 8) rows.marks
   pub counters : Represents count_list (db.trees 10) (counters_row rows.counters ∷ [])
 
--- and the setup is this
-abbrev pub IsStoreWith : Setup → Database → Rows → Type 0
-IsStoreWith setup db rows = IsStore db rows × (rows.setup ≡ setup)
-
--- a change that turns the store of some rows into that of others
-abbrev pub Turns : (Rows → Rows) → Database → Database → Type 0
-Turns change before after = (rows : Rows) → IsStore before rows → IsStore after (change rows)
-
--- an empty database becomes the store of a handset's first rows
-abbrev pub Founds : Database → Database → Type 0
-Founds before after = before.schema ≡ no_tables → (setup : Setup) → IsStore after (first_rows setup)
-
--- the database is the store of some rows with this setup
-abbrev pub HasRows : Setup → Database → Type 0
-HasRows setup db = (rows : Rows) × IsStoreWith setup db rows
-
--- the rows that are found
-abbrev pub FindsRows : Setup → Database → Rows → Type 0
-FindsRows setup db found = (rows : Rows) → IsStoreWith setup db rows → found ≡ rows
+-- what a handset's stores are, of which there was no earlier version
+abbrev pub handset_stores : StoresOf Setup Rows
+handset_stores = record {
+  schema = handset_schema;
+  IsStore = IsStore;
+  setup_of = λ rows. rows.setup;
+  with_setup = λ setup rows. record rows { setup = setup };
+  first_rows = first_rows;
+  IsEarlier = λ db rows. ⊥;
+  raised = λ rows. rows;
+  IsOurs = λ db. SaysNow (Ok tt) db;
+  Refuses = Refuses;
+}

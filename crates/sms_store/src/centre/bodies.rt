@@ -8,9 +8,10 @@ ghost use Rattle.sms_store_tables.specs.centre.CentreSchema.{centre_schema};
 ghost use Rattle.sms_store_sql.specs.listing.Finding.{first_of};
 ghost use Rattle.sms_store.specs.centre.Reading.{FindsPart, FindsReports, HasParts, HasReports};
 ghost use Rattle.sms_store.specs.centre.Types.{Rows as RowsOf};
-ghost use Rattle.sms_store.specs.centre.InKeep.{IsClosed, refusals_in, setup_in, state_of};
+ghost use Rattle.sms_store.specs.centre.CentreRows.{centre_stores};
+ghost use Rattle.sms_store.specs.keeping.InKeep.{IsClosed, refusals_in, setup_in, state_of};
 
-use crate::centre::keep::CentreKeep;
+use crate::centre::CentreKeep;
 use sms_base::Octets;
 use sms_centre_rows::messages::PartRow;
 use sms_centre_rows::reports::{ReportKind, ReportRow};
@@ -99,10 +100,10 @@ fn octets_of_first(reports: Vec<ReportRow>) -> Option<Octets>
 impl<S: Alter> CentreKeep<S> {
     fn part_octets(&mut self, key: Key) -> Result<Option<Octets>, KeepError>
         ensures outcome { (rows : RowsOf) → StoreOutcome (λ octets. (key % 256 == 0) ≡ false → octets ≡ octets_at rows key) rows rows
-            (state_of S.Store self.old) (state_of S.Store self.new) result }
-        ensures closed { IfClosed (state_of S.Store self.old) (state_of S.Store self.new) (result ≡ Err Closed) }
+            (state_of centre_stores S.Store self.old) (state_of centre_stores S.Store self.new) result }
+        ensures closed { IfClosed (state_of centre_stores S.Store self.old) (state_of centre_stores S.Store self.new) (result ≡ Err Closed) }
         ensures shut { result ≡ Err Closed → IsClosed S.Store self.new }
-        ensures before { WasHonest (state_of S.Store self.old) (state_of S.Store self.new) }
+        ensures before { WasHonest (state_of centre_stores S.Store self.old) (state_of centre_stores S.Store self.new) }
         ensures setup { setup_in self.new ≡ setup_in self.old }
         ensures same { refusals_in self.new ≡ refusals_in self.old }
     {
@@ -119,10 +120,10 @@ impl<S: Alter> CentreKeep<S> {
 
     fn report_octets(&mut self, key: Key) -> Result<Option<Octets>, KeepError>
         ensures outcome { (rows : RowsOf) → StoreOutcome (λ octets. (key % 256 == 0) ≡ true → octets ≡ octets_at rows key) rows rows
-            (state_of S.Store self.old) (state_of S.Store self.new) result }
-        ensures closed { IfClosed (state_of S.Store self.old) (state_of S.Store self.new) (result ≡ Err Closed) }
+            (state_of centre_stores S.Store self.old) (state_of centre_stores S.Store self.new) result }
+        ensures closed { IfClosed (state_of centre_stores S.Store self.old) (state_of centre_stores S.Store self.new) (result ≡ Err Closed) }
         ensures shut { result ≡ Err Closed → IsClosed S.Store self.new }
-        ensures before { WasHonest (state_of S.Store self.old) (state_of S.Store self.new) }
+        ensures before { WasHonest (state_of centre_stores S.Store self.old) (state_of centre_stores S.Store self.new) }
         ensures setup { setup_in self.new ≡ setup_in self.old }
         ensures same { refusals_in self.new ≡ refusals_in self.old }
     {
@@ -137,10 +138,11 @@ impl<S: Alter> CentreKeep<S> {
 
     fn octets_under(&mut self, key: Key) -> Result<Option<Octets>, KeepError>
         ensures outcome { (rows : RowsOf)
-            → StoreOutcome (λ octets. octets ≡ octets_at rows key) rows rows (state_of S.Store self.old) (state_of S.Store self.new) result }
-        ensures closed { IfClosed (state_of S.Store self.old) (state_of S.Store self.new) (result ≡ Err Closed) }
+            → StoreOutcome (λ octets. octets ≡ octets_at rows key) rows rows (state_of centre_stores S.Store self.old)
+            (state_of centre_stores S.Store self.new) result }
+        ensures closed { IfClosed (state_of centre_stores S.Store self.old) (state_of centre_stores S.Store self.new) (result ≡ Err Closed) }
         ensures shut { result ≡ Err Closed → IsClosed S.Store self.new }
-        ensures before { WasHonest (state_of S.Store self.old) (state_of S.Store self.new) }
+        ensures before { WasHonest (state_of centre_stores S.Store self.old) (state_of centre_stores S.Store self.new) }
         ensures setup { setup_in self.new ≡ setup_in self.old }
         ensures same { refusals_in self.new ≡ refusals_in self.old }
     {
@@ -157,11 +159,12 @@ impl<S: Alter> BodyKeep for CentreKeep<S> {
 
     fn body(&mut self, key: Key) -> Result<Option<Octets>, KeepError>
         ensures outcome { (rows : RowsOf)
-            → StoreOutcome (λ octets. octets ≡ octets_at rows key) rows rows (state_of S.Store self.old) (state_of S.Store self.new) result }
-        ensures closed { IfClosed (state_of S.Store self.old) (state_of S.Store self.new) (result ≡ Err Closed) }
+            → StoreOutcome (λ octets. octets ≡ octets_at rows key) rows rows (state_of centre_stores S.Store self.old)
+            (state_of centre_stores S.Store self.new) result }
+        ensures closed { IfClosed (state_of centre_stores S.Store self.old) (state_of centre_stores S.Store self.new) (result ≡ Err Closed) }
         ensures shut { result ≡ Err Closed → IsClosed S.Store self.new }
-        ensures before { WasHonest (state_of S.Store self.old) (state_of S.Store self.new) }
-        ensures counted { IsReadCounted key (state_of S.Store self.old) (state_of S.Store self.new) result }
+        ensures before { WasHonest (state_of centre_stores S.Store self.old) (state_of centre_stores S.Store self.new) }
+        ensures counted { IsReadCounted key (state_of centre_stores S.Store self.old) (state_of centre_stores S.Store self.new) result }
     {
         match self.octets_under(key) {
             Ok(octets) => {

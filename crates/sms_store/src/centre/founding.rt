@@ -3,29 +3,16 @@ ghost use Rattle.std.specs.Prelude.{◌≡◌};
 ghost use Rattle.sqlite.specs.Held.{state};
 ghost use Rattle.sms_store_sql.specs.listing.Inside.{MakesStep, Keeps, Spares};
 ghost use Rattle.sms_store_sql.specs.listing.Transaction.{Leads};
-ghost use Rattle.sms_store.specs.centre.CentreRows.{Founds};
 ghost use Rattle.sms_store.specs.centre.Founding.{Declares, Tabulates};
 
 use crate::centre::tables::{make_first_tables, make_next_tables};
-use sms_store_sql::listing::{Meta, StoreKind, Work, put};
+use sms_store_sql::listing::{Meta, StoreKind, put};
 use sms_store_tables::centre::{CentreStore, complete_tables};
 use sqlite::{Alter, Error, Transaction};
 use std::alloc::Global;
 
-/// The tables of a new store, and the row that says what it is.
-#[derive(Drop)]
-pub(crate) struct Founding;
-
-impl Work for Founding {
-    ghost changes = { λ work. Founds };
-
-    fn run<S: Alter>(&self, alloc: Global, tx: &mut Transaction<'_, S>) -> Result<(), Error> {
-        make_tables(tx)?;
-        declare(alloc, tx)
-    }
-}
-
-fn make_tables<S: Alter>(tx: &mut Transaction<'_, S>) -> Result<(), Error>
+/// Makes the seven tables and the index of reports.
+pub(crate) fn make_tables<S: Alter>(tx: &mut Transaction<'_, S>) -> Result<(), Error>
     ensures same_reference { tx.new.conn.ghost_name ≡ tx.old.conn.ghost_name }
     ensures done { MakesStep S.Store tx.old.conn.now tx.new.conn.now (Leads Tabulates) result }
     ensures uncommitted { Keeps S.Store tx.old.conn.now tx.new.conn.now }
@@ -36,8 +23,8 @@ fn make_tables<S: Alter>(tx: &mut Transaction<'_, S>) -> Result<(), Error>
     complete_tables(tx)
 }
 
-// What the store is.
-fn declare<S: Alter>(alloc: Global, tx: &mut Transaction<'_, S>) -> Result<(), Error>
+/// Writes what the store is.
+pub(crate) fn declare<S: Alter>(alloc: Global, tx: &mut Transaction<'_, S>) -> Result<(), Error>
     ensures same_reference { tx.new.conn.ghost_name ≡ tx.old.conn.ghost_name }
     ensures done { MakesStep S.Store tx.old.conn.now tx.new.conn.now (Leads Declares) result }
     ensures uncommitted { Keeps S.Store tx.old.conn.now tx.new.conn.now }

@@ -2,7 +2,7 @@
 ghost use Rattle.std.specs.Prelude.{refl};
 ghost use Rattle.sms_centre_spec.proofs.bodies.Bodies.{bodies_given};
 
-use crate::centre::keep::CentreKeep;
+use crate::centre::CentreKeep;
 use sms_centre_spec::Rows;
 use sms_centre_spec::bodies::CentreStore;
 use sms_rows::keep::{Keep, KeepError};

@@ -3,7 +3,8 @@ ghost use Rattle.std.specs.Prelude.{⊤};
 ghost use Rattle.sms_store_tables.specs.centre.CentreSchema.{centre_schema, first_schema};
 ghost use Rattle.sms_store_tables.specs.centre.FirstMetaList.{meta_list as first_list};
 ghost use Rattle.sms_store_tables.specs.centre.MetaList.{meta_list};
-ghost use Rattle.sms_store.specs.centre.Opened.{FindsJudgement};
+ghost use Rattle.sms_store_sql.specs.declared.listing.meta.StoreKind.TheVariants.{Centre};
+ghost use Rattle.sms_store.specs.keeping.Refusing.{FindsJudgement};
 
 use sms_rows::keep::KeepError;
 use sms_store_sql::listing::{Lookup, Meta, StoreKind, judge, load_columns};
@@ -24,7 +25,7 @@ impl Lookup for Said {
 
     ghost has = { λ said db. ⊤ };
 
-    ghost finds = { λ said db found. FindsJudgement meta_list said.version db found };
+    ghost finds = { λ said db found. FindsJudgement meta_list Centre said.version db found };
 
     fn read<S: Alter>(
         &self,
@@ -49,7 +50,7 @@ impl Lookup for SaidFirst {
 
     ghost has = { λ said db. ⊤ };
 
-    ghost finds = { λ said db found. FindsJudgement first_list said.version db found };
+    ghost finds = { λ said db found. FindsJudgement first_list Centre said.version db found };
 
     fn read<S: Alter>(
         &self,

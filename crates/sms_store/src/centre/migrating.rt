@@ -10,12 +10,18 @@ ghost use Rattle.sms_store_migration.specs.Migrating.{Migrates};
 ghost use Rattle.sms_store.specs.centre.Migrating.{IsMigrated, Migrated};
 ghost use Rattle.sms_store_tables.specs.centre.CentreSchema.{first_schema};
 ghost use Rattle.sms_store_tables.specs.centre.FirstMetaList.{meta_list as first_list};
-ghost use Rattle.sms_store.specs.centre.Opened.{IsIn, IsOfNoStore, Refused, Refuses, SaysFirst};
-ghost use Rattle.sms_store.specs.centre.Stopping.{IsAsItWas, LeavesRaised, LeavesStore};
-ghost use Rattle.sms_store.specs.centre.InKeep.{connection_in, setup_in, state_in};
+ghost use Rattle.sms_store_sql.specs.declared.listing.meta.StoreKind.TheVariants.{Centre};
+ghost use Rattle.sms_store.specs.centre.CentreRows.{centre_stores};
+ghost use Rattle.sms_store.specs.centre.Refusing.{Refuses, SaysFirst};
+ghost use Rattle.sms_store.specs.centre.Stopping.{LeavesRaised};
+ghost use Rattle.sms_store.specs.keeping.InKeep.{connection_in, setup_in, state_in};
+ghost use Rattle.sms_store.specs.keeping.Opened.{IsAsItWas, IsIn, IsOfNoStore, LeavesStore};
+ghost use Rattle.sms_store.specs.keeping.Refusing.{RefusesSaid};
 
-use crate::centre::keep::CentreKeep;
-use crate::centre::readying::{judge_first, ready_current};
+use crate::centre::CentreKeep;
+use crate::centre::kind::SaidFirst;
+use crate::centre::readying::ready_current;
+use crate::keeping::{StoreKeep, judge_said};
 use sms_centre_spec::Setup;
 use sms_rows::keep::{KeepError, Refusals};
 use sms_store_migration::raise;
@@ -31,11 +37,11 @@ fn raise_first<S: Alter>(alloc: Global, conn: &mut Connection<S>) -> Result<(), 
     ensures ok { HasCleanDisk (state S.Store conn.new) → (state S.Store conn.old).now.schema ≡ first_schema
         → OnOk result (Committed Migrates (state S.Store conn.old) (state S.Store conn.new) × SaysFirst 1 (Ok tt) (state S.Store conn.old).now) }
     ensures err { HasCleanDisk (state S.Store conn.new) → (state S.Store conn.old).now.schema ≡ first_schema
-        → IfErr result (λ error. Refused first_schema first_list 1 error (state S.Store conn.old).now
+        → IfErr result (λ error. RefusesSaid first_schema first_list Centre 1 error (state S.Store conn.old).now
         × IsAsItWas (state S.Store conn.old) (state S.Store conn.new)) }
-    ensures stop { (state S.Store conn.old).now.schema ≡ first_schema → LeavesStore (state S.Store conn.old) (state S.Store conn.new) }
+    ensures stop { (state S.Store conn.old).now.schema ≡ first_schema → LeavesStore centre_stores (state S.Store conn.old) (state S.Store conn.new) }
 {
-    match judge_first(alloc, conn, 1) {
+    match judge_said::<Setup, SaidFirst, S>(alloc, conn, &SaidFirst { version: 1 }) {
         Ok(()) => raise(alloc, conn),
         Err(error) => Err(error),
     }
@@ -48,7 +54,7 @@ fn ready_raised<S: Alter>(alloc: Global, conn: &mut Connection<S>) -> Result<(),
     ensures ok { HasCleanDisk (state S.Store conn.new) → OnOk result (IsMigrated (state S.Store conn.old).now (state S.Store conn.new)) }
     ensures err { HasCleanDisk (state S.Store conn.new) → IfErr result (λ error. Refuses 1 error (state S.Store conn.old).now
         × IsAsItWas (state S.Store conn.old) (state S.Store conn.new)) }
-    ensures stop { LeavesStore (state S.Store conn.old) (state S.Store conn.new) }
+    ensures stop { LeavesStore centre_stores (state S.Store conn.old) (state S.Store conn.new) }
 {
     if !is_first_schema(conn.schema()) {
         return ready_current(alloc, conn);
@@ -73,11 +79,11 @@ impl<S: Alter + Drop> CentreKeep<S> {
         ensures mode { IfErr result (λ e. conn.in_transaction ≡ false → e.1.in_transaction ≡ false) }
         ensures refused { IfErr result (λ e. HasCleanDisk (state S.Store e.1) → Refuses 1 e.0 (state S.Store conn).now) }
         ensures unchanged { IfErr result (λ e. HasCleanDisk (state S.Store e.1) → IsAsItWas (state S.Store conn) (state S.Store e.1)) }
-        ensures stop { IfErr result (λ e. LeavesStore (state S.Store conn) (state S.Store e.1)) }
+        ensures stop { IfErr result (λ e. LeavesStore centre_stores (state S.Store conn) (state S.Store e.1)) }
     {
         let mut conn = conn;
         match ready_raised(alloc, &mut conn) {
-            Ok(()) => Ok(CentreKeep {
+            Ok(()) => Ok(StoreKeep {
                 conn,
                 setup,
                 alloc,

@@ -6,7 +6,8 @@ ghost use Rattle.sms_store.specs.handset.CountersList.{count_is_list, count_list
 use sms_handset::Counters;
 use sms_rows::table::{Key, Row as Keyed};
 use sms_store_sql::listing::{StoredRow, flag_at, octet_at, run, run_counted, short_at, word_at};
-use sms_store_tables::handset::{HandsetStore, integer_of};
+use sms_store_tables::handset::HandsetStore;
+use sms_store_tables::integer_of;
 use sqlite::{Alter, Error, Row, Transaction, params};
 use std::alloc::Global;
 

@@ -1,32 +1,19 @@
 //! A new store: its tables, what it says of itself, and a handset's first counters.
-ghost use Rattle.std.specs.Prelude.{◌≡◌, IfOk, [], ◌∷◌};
+ghost use Rattle.std.specs.Prelude.{◌≡◌};
 ghost use Rattle.sqlite.specs.Held.{state};
 ghost use Rattle.sms_store_sql.specs.listing.Inside.{MakesStep, Keeps, Spares};
 ghost use Rattle.sms_store_sql.specs.listing.Transaction.{Leads};
-ghost use Rattle.sms_store.specs.handset.HandsetRows.{Founds};
 ghost use Rattle.sms_store.specs.handset.Founding.{Declares, MakesFirst, MakesLast, Tabulates};
 
 use crate::handset::counters::CountersRow;
 use sms_handset::Counters;
-use sms_store_sql::listing::{Meta, StoreKind, Work, put, run};
+use sms_store_sql::listing::{Meta, StoreKind, put, run};
 use sms_store_tables::handset::HandsetStore;
 use sqlite::{Alter, Error, Transaction};
 use std::alloc::Global;
 
-/// The tables and the first rows of a new store.
-#[derive(Drop)]
-pub(crate) struct Founding;
-
-impl Work for Founding {
-    ghost changes = { λ work. Founds };
-
-    fn run<S: Alter>(&self, alloc: Global, tx: &mut Transaction<'_, S>) -> Result<(), Error> {
-        make_tables(tx)?;
-        declare(alloc, tx)
-    }
-}
-
-fn make_tables<S: Alter>(tx: &mut Transaction<'_, S>) -> Result<(), Error>
+/// Makes the six tables.
+pub(crate) fn make_tables<S: Alter>(tx: &mut Transaction<'_, S>) -> Result<(), Error>
     ensures same_reference { tx.new.conn.ghost_name ≡ tx.old.conn.ghost_name }
     ensures done { MakesStep S.Store tx.old.conn.now tx.new.conn.now (Leads Tabulates) result }
     ensures uncommitted { Keeps S.Store tx.old.conn.now tx.new.conn.now }
@@ -82,8 +69,8 @@ fn make_last_tables<S: Alter>(tx: &mut Transaction<'_, S>) -> Result<(), Error>
     )
 }
 
-// What the store is, and the counters of a new handset.
-fn declare<S: Alter>(alloc: Global, tx: &mut Transaction<'_, S>) -> Result<(), Error>
+/// Writes what the store is, and the counters of a new handset.
+pub(crate) fn declare<S: Alter>(alloc: Global, tx: &mut Transaction<'_, S>) -> Result<(), Error>
     ensures same_reference { tx.new.conn.ghost_name ≡ tx.old.conn.ghost_name }
     ensures done { MakesStep S.Store tx.old.conn.now tx.new.conn.now (Leads Declares) result }
     ensures uncommitted { Keeps S.Store tx.old.conn.now tx.new.conn.now }

@@ -1,7 +1,9 @@
 //! What a store says of itself, read in one transaction.
 ghost use Rattle.std.specs.Prelude.{⊤};
 ghost use Rattle.sms_store_tables.specs.handset.HandsetSchema.{handset_schema};
-ghost use Rattle.sms_store.specs.handset.Opened.{FindsJudgement};
+ghost use Rattle.sms_store_sql.specs.declared.listing.meta.StoreKind.TheVariants.{Handset};
+ghost use Rattle.sms_store_tables.specs.handset.MetaList.{meta_list};
+ghost use Rattle.sms_store.specs.keeping.Refusing.{FindsJudgement};
 
 use sms_rows::keep::KeepError;
 use sms_store_sql::listing::{Lookup, Meta, StoreKind, judge, load_columns};
@@ -20,7 +22,7 @@ impl Lookup for Said {
 
     ghost has = { λ said db. ⊤ };
 
-    ghost finds = { λ said db found. FindsJudgement db found };
+    ghost finds = { λ said db found. FindsJudgement meta_list Handset 1 db found };
 
     fn read<S: Alter>(
         &self,

@@ -3,13 +3,14 @@ ghost use Rattle.std.specs.Prelude.{◌≡◌, IfOk};
 ghost use Rattle.sqlite.specs.Held.{state};
 ghost use Rattle.sqlite.specs.State.{HasCleanDisk};
 ghost use Rattle.sms_store_migration.specs.Versions.{IsStore};
-ghost use Rattle.sms_store.specs.centre.CentreRows.{IsStoreWith};
-ghost use Rattle.sms_store.specs.centre.Opened.{Opened};
+ghost use Rattle.sms_store.specs.centre.CentreRows.{centre_stores};
+ghost use Rattle.sms_store.specs.keeping.Opened.{Opened};
+ghost use Rattle.sms_store.specs.keeping.Stores.{IsStoreWith};
 ghost use Rattle.sms_store.specs.centre.Types.{Rows as RowsOf};
 ghost use Rattle.sms_store_sql.specs.listing.Transaction.{IsOpenStore};
-ghost use Rattle.sms_store.specs.centre.InKeep.{setup_in, state_in};
+ghost use Rattle.sms_store.specs.keeping.InKeep.{setup_in, state_in};
 
-use crate::centre::keep::CentreKeep;
+use crate::centre::CentreKeep;
 use sms_centre_spec::{Rows, Setup};
 use sms_rows::keep::{Keep, KeepError};
 use sms_store_tables::centre::{is_centre_schema, is_first_schema};
@@ -29,7 +30,7 @@ fn keep_over<S: Alter + Drop>(
     conn: Connection<S>,
     setup: Setup,
 ) -> Result<CentreKeep<S>, KeepError>
-    ensures opened { IfOk result (λ keep. HasCleanDisk (state_in S.Store keep) → Opened setup (state S.Store conn).now (state_in S.Store keep)) }
+    ensures opened { IfOk result (λ keep. HasCleanDisk (state_in S.Store keep) → Opened centre_stores setup (state S.Store conn).now (state_in S.Store keep)) }
     ensures setup { IfOk result (λ keep. setup_in keep ≡ setup) }
 {
     if is_centre_schema(conn.schema()) || is_first_schema(conn.schema()) {
@@ -46,7 +47,7 @@ fn keep_over<S: Alter + Drop>(
 fn look_in<S: Alter + Drop>(keep: CentreKeep<S>) -> Result<Looked<S>, KeepError>
     ensures clean { IfOk result (λ looked. HasCleanDisk (state S.Store looked.conn) → HasCleanDisk (state_in S.Store keep)) }
     ensures found { IfOk result (λ looked. HasCleanDisk (state S.Store looked.conn) → (rows : RowsOf)
-        → IsOpenStore (IsStoreWith (setup_in keep)) (state_in S.Store keep) rows
+        → IsOpenStore (IsStoreWith centre_stores (setup_in keep)) (state_in S.Store keep) rows
         → (looked.rows ≡ rows) × IsOpenStore IsStore (state S.Store looked.conn) rows) }
 {
     let mut keep = keep;
@@ -65,8 +66,8 @@ pub fn look_over<S: Alter + Drop>(
     setup: Setup,
 ) -> Result<Looked<S>, KeepError>
     // Whatever rows the database is the store of, they are found, and it is the store of them still.
-    ensures found { IfOk result (λ looked. HasCleanDisk (state S.Store looked.conn) → (rows : RowsOf) → IsStoreWith setup (state S.Store conn).now rows
-        → (looked.rows ≡ rows) × IsOpenStore IsStore (state S.Store looked.conn) rows) }
+    ensures found { IfOk result (λ looked. HasCleanDisk (state S.Store looked.conn) → (rows : RowsOf)
+        → IsStoreWith centre_stores setup (state S.Store conn).now rows → (looked.rows ≡ rows) × IsOpenStore IsStore (state S.Store looked.conn) rows) }
 {
     let keep = keep_over(alloc, conn, setup)?;
     let looked = look_in(keep)?;

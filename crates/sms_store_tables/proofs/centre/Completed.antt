@@ -6,9 +6,11 @@ use Rattle.sqlite.specs.State.{State}
 use Rattle.sms_store_sql.specs.listing.Inside.{Ran}
 use Rattle.sms_store_sql.specs.listing.Transaction.{Leads}
 use Rattle.sms_store_sql.proofs.listing.Making.{makes}
-use Rattle.sms_store_tables.specs.centre.CentreSchema.{first_schema, with_priority, centre_schema, create_priority, priority_made, adds_priority, create_report_message, report_definition, report_message_made, adds_report_message}
+use Rattle.sms_store_tables.specs.centre.CentreSchema.{first_schema, with_priority, centre_schema, adds_priority, create_report_message, report_message_made, adds_report_message, priority_plan, report_plan}
 use Rattle.sms_store_tables.proofs.centre.Indexing.{indexes}
 use Rattle.sms_store_tables.specs.centre.Completing.{Completes, IndexesReports, MakesPriority}
+use Rattle.sms_store_tables.specs.TablePlan.{defined, made}
+use Rattle.sms_store_tables.specs.Texts.{create_text}
 
 pub ran_leads : (P : Database → Database → Type 0) (sql : List ℕ) (params : Row) (a b : State) → (Ran sql params a b → P a.now b.now) → Ran sql params a b → Leads P a b
 ran_leads P sql params a b turn h = record { inside = h.inside; changed = turn h }
@@ -20,11 +22,11 @@ leads_then P Q R a b c both p q = record {
   changed = both _ _ _ p.changed q.changed;
 }
 
-pub priority_table_made : (a b : State) → Ran create_priority [] a b → MakesPriority a.now b.now
-priority_table_made a b p has = makes create_priority priority_made first_schema with_priority adds_priority a b p has
+pub priority_table_made : (a b : State) → Ran (create_text priority_plan) [] a b → MakesPriority a.now b.now
+priority_table_made a b p has = makes (create_text priority_plan) (made priority_plan) first_schema with_priority adds_priority a b p has
 
 pub reports_indexed : (a b : State) → Ran create_report_message [] a b → IndexesReports a.now b.now
-reports_indexed a b p has = indexes create_report_message 5 report_definition report_message_made with_priority centre_schema adds_report_message a b p has
+reports_indexed a b p has = indexes create_report_message 5 (defined 10 report_plan) report_message_made with_priority centre_schema adds_report_message a b p has
 
 pub completed : (a b c : Database) → MakesPriority a b → IndexesReports b c → Completes a c
 completed a b c makes_table makes_index has =

@@ -74,6 +74,9 @@ progress_back p = let f = flag_back p.is_done in λ i. record { is_done = f i; a
 abbrev pub progress_columns : Progress → Row
 progress_columns p = flag p.is_done ∷ number p.attempts ∷ number p.due ∷ []
 
+abbrev pub progress_names : List (List ℕ)
+progress_names = codes "is_done" ∷ codes "attempts" ∷ codes "due" ∷ []
+
 -- ---- who submitted a message
 
 abbrev pub account_of : Originator → Value

@@ -2,8 +2,8 @@
 ghost use Rattle.std.specs.Prelude.{refl};
 ghost use Rattle.sms_store_tables.specs.centre.HandsetList.{handset_is_list, handset_list};
 
-use crate::centre::key::integer_of;
 use crate::centre::kind::CentreStore;
+use crate::key::integer_of;
 use sms_centre_rows::waiting::HandsetRow;
 use sms_rows::table::Key;
 use sms_store_sql::listing::{StoredRow, digits_at, octet_at, run, run_counted, text_of, word_at};

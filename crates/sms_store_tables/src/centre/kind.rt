@@ -3,7 +3,7 @@ ghost use Rattle.std.specs.Prelude.{refl};
 ghost use Rattle.sms_store_tables.specs.centre.FirstMetaList.{meta_is_list as first_is_list, meta_list as first_list};
 ghost use Rattle.sms_store_tables.specs.centre.MetaList.{meta_is_list, meta_list};
 
-use crate::centre::key::integer_of;
+use crate::key::integer_of;
 use sms_rows::table::Key;
 use sms_store_sql::listing::{Meta, StoredRow, kind_at, run, run_counted, word_at};
 use sqlite::{Alter, Error, Row, Transaction, params};

@@ -2,12 +2,12 @@
 ghost use Rattle.std.specs.Prelude.{refl};
 ghost use Rattle.sms_store_tables.specs.centre.MessageList.{message_is_list, message_list};
 
-use crate::centre::key::{id_value, integer_of, moment_value};
 use crate::centre::kind::CentreStore;
 use crate::centre::pieces::{
     account_of, id_at, mark_of, originator_at, seconds_of, short_of, state_at, state_word, wish_at,
     wish_word,
 };
+use crate::key::{id_value, integer_of, moment_value};
 use sms_centre_rows::messages::MessageRow;
 use sms_rows::table::Key;
 use sms_store_sql::listing::{

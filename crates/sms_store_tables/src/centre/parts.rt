@@ -5,11 +5,11 @@ ghost use Rattle.sms_store_tables.specs.centre.Pieces.{progress_columns};
 ghost use Rattle.sms_centre_rows.specs.messages.Messages.{part_reaching};
 
 use crate::amending::AmendedRow;
-use crate::centre::key::{id_value, integers_of, moment_value};
 use crate::centre::kind::CentreStore;
 use crate::centre::pieces::{
     bits_of, concat_number_of, concat_total_of, id_at, key_at, number_of, progress_at,
 };
+use crate::key::{id_value, integers_of, moment_value};
 use sms_centre_rows::messages::PartRow;
 use sms_centre_rows::waiting::Progress;
 use sms_rows::table::Key;

@@ -2,9 +2,9 @@
 ghost use Rattle.std.specs.Prelude.{refl};
 ghost use Rattle.sms_store_tables.specs.centre.PriorityList.{priority_is_list, priority_list};
 
-use crate::centre::key::{id_value, integer_of};
 use crate::centre::kind::CentreStore;
 use crate::centre::pieces::id_at;
+use crate::key::{id_value, integer_of};
 use sms_centre_rows::messages::PriorityRow;
 use sms_rows::table::Key;
 use sms_store_sql::listing::{StoredRow, octet_at, run, run_counted};

@@ -2,8 +2,8 @@
 ghost use Rattle.std.specs.Prelude.{refl};
 ghost use Rattle.sms_store_tables.specs.centre.ReferenceList.{reference_is_list, reference_list};
 
-use crate::centre::key::{integers_of, moment_value};
 use crate::centre::kind::CentreStore;
+use crate::key::{integers_of, moment_value};
 use sms_centre_rows::waiting::ReferenceRow;
 use sms_rows::table::Key;
 use sms_store_sql::listing::{StoredRow, moment_at, octet_at, run, run_counted, word_at};

@@ -5,11 +5,11 @@ ghost use Rattle.sms_store_tables.specs.centre.ReportList.{amend_report, find_re
 ghost use Rattle.sms_centre_rows.specs.reports.Reports.{report_reaching};
 
 use crate::amending::AmendedRow;
-use crate::centre::key::{id_value, integer, integer_of, moment_value, place_value};
 use crate::centre::kind::CentreStore;
 use crate::centre::pieces::{
     id_at, kind_reference, kind_tpdu, kind_word, progress_at, report_kind_at,
 };
+use crate::key::{id_value, integer, integer_of, moment_value, place_value};
 use sms_centre_rows::reports::ReportRow;
 use sms_centre_rows::waiting::Progress;
 use sms_rows::table::Key;

@@ -1,7 +1,9 @@
 //! Whether a database has the tables of a centre's store.
 ghost use Rattle.std.specs.Prelude.{◌≡◌, ◌≢◌, false, IsTrue, []};
 ghost use Rattle.sqlite_value.specs.Keys.{plain};
-ghost use Rattle.sms_store_tables.specs.centre.CentreSchema.{centre_indexes, centre_schema, centre_tables, first_indexes, first_schema, first_tables, handset_index, handset_definition, message_index, message_definition, meta_index, meta_definition, part_index, part_definition, priority_index, priority_definition, reference_index, reference_definition, report_index, report_message_index, report_definition};
+ghost use Rattle.sms_store_tables.specs.centre.CentreSchema.{centre_indexes, centre_schema, centre_tables, first_indexes, first_schema, first_tables, handset_plan, message_plan, part_plan, priority_plan, reference_plan, report_message_index, report_plan};
+ghost use Rattle.sms_store_tables.specs.MetaTable.{meta_plan};
+ghost use Rattle.sms_store_tables.specs.TablePlan.{defined, key_index};
 
 use sms_store_sql::schema::{given, is_index, is_table, optional};
 use sqlite_schema::schema::{Index, Kind, Schema, Table};
@@ -22,16 +24,16 @@ fn is_plain_index(index: &Index, name: &str, tree: u32, table: u32, places: &[us
 }
 
 fn is_meta(table: &Table) -> bool
-    ensures yes { IsTrue result → table.now ≡ meta_definition }
-    ensures always { table.now ≡ meta_definition → IsTrue result }
+    ensures yes { IsTrue result → table.now ≡ defined 0 meta_plan }
+    ensures always { table.now ≡ defined 0 meta_plan → IsTrue result }
 {
     let columns = [given("version", Kind::Integer), given("kind", Kind::Text)];
     is_table(table, "meta", 0, &columns, &[1])
 }
 
 fn is_message(table: &Table) -> bool
-    ensures yes { IsTrue result → table.now ≡ message_definition }
-    ensures always { table.now ≡ message_definition → IsTrue result }
+    ensures yes { IsTrue result → table.now ≡ defined 2 message_plan }
+    ensures always { table.now ≡ defined 2 message_plan → IsTrue result }
 {
     let columns = [
         given("id", Kind::Integer),
@@ -54,8 +56,8 @@ fn is_message(table: &Table) -> bool
 }
 
 fn is_part(table: &Table) -> bool
-    ensures yes { IsTrue result → table.now ≡ part_definition }
-    ensures always { table.now ≡ part_definition → IsTrue result }
+    ensures yes { IsTrue result → table.now ≡ defined 4 part_plan }
+    ensures always { table.now ≡ defined 4 part_plan → IsTrue result }
 {
     let columns = [
         given("message", Kind::Integer),
@@ -74,8 +76,8 @@ fn is_part(table: &Table) -> bool
 }
 
 fn is_reference(table: &Table) -> bool
-    ensures yes { IsTrue result → table.now ≡ reference_definition }
-    ensures always { table.now ≡ reference_definition → IsTrue result }
+    ensures yes { IsTrue result → table.now ≡ defined 6 reference_plan }
+    ensures always { table.now ≡ defined 6 reference_plan → IsTrue result }
 {
     let columns = [
         given("place", Kind::Integer),
@@ -86,8 +88,8 @@ fn is_reference(table: &Table) -> bool
 }
 
 fn is_handset(table: &Table) -> bool
-    ensures yes { IsTrue result → table.now ≡ handset_definition }
-    ensures always { table.now ≡ handset_definition → IsTrue result }
+    ensures yes { IsTrue result → table.now ≡ defined 8 handset_plan }
+    ensures always { table.now ≡ defined 8 handset_plan → IsTrue result }
 {
     let columns = [
         given("place", Kind::Integer),
@@ -98,8 +100,8 @@ fn is_handset(table: &Table) -> bool
 }
 
 fn is_report(table: &Table) -> bool
-    ensures yes { IsTrue result → table.now ≡ report_definition }
-    ensures always { table.now ≡ report_definition → IsTrue result }
+    ensures yes { IsTrue result → table.now ≡ defined 10 report_plan }
+    ensures always { table.now ≡ defined 10 report_plan → IsTrue result }
 {
     let columns = [
         given("place", Kind::Integer),
@@ -116,8 +118,8 @@ fn is_report(table: &Table) -> bool
 }
 
 fn is_priority(table: &Table) -> bool
-    ensures yes { IsTrue result → table.now ≡ priority_definition }
-    ensures always { table.now ≡ priority_definition → IsTrue result }
+    ensures yes { IsTrue result → table.now ≡ defined 12 priority_plan }
+    ensures always { table.now ≡ defined 12 priority_plan → IsTrue result }
 {
     let columns = [
         given("message", Kind::Integer),
@@ -135,15 +137,15 @@ fn are_first_tables(
     handset: &Table,
     report: &Table,
 ) -> bool
-    ensures meta { IsTrue result → meta.now ≡ meta_definition }
-    ensures message { IsTrue result → message.now ≡ message_definition }
-    ensures part { IsTrue result → part.now ≡ part_definition }
-    ensures reference { IsTrue result → reference.now ≡ reference_definition }
-    ensures handset { IsTrue result → handset.now ≡ handset_definition }
-    ensures report { IsTrue result → report.now ≡ report_definition }
-    ensures always { meta.now ≡ meta_definition → message.now ≡ message_definition → part.now ≡ part_definition → reference.now ≡ reference_definition
-        → handset.now ≡ handset_definition
-        → report.now ≡ report_definition → IsTrue result }
+    ensures meta { IsTrue result → meta.now ≡ defined 0 meta_plan }
+    ensures message { IsTrue result → message.now ≡ defined 2 message_plan }
+    ensures part { IsTrue result → part.now ≡ defined 4 part_plan }
+    ensures reference { IsTrue result → reference.now ≡ defined 6 reference_plan }
+    ensures handset { IsTrue result → handset.now ≡ defined 8 handset_plan }
+    ensures report { IsTrue result → report.now ≡ defined 10 report_plan }
+    ensures always { meta.now ≡ defined 0 meta_plan → message.now ≡ defined 2 message_plan → part.now ≡ defined 4 part_plan → reference.now ≡ defined 6 reference_plan
+        → handset.now ≡ defined 8 handset_plan
+        → report.now ≡ defined 10 report_plan → IsTrue result }
 {
     if !is_meta(meta) || !is_message(message) || !is_part(part) {
         return false;
@@ -152,10 +154,10 @@ fn are_first_tables(
 }
 
 fn are_first_indexes(meta: &Index, message: &Index, part: &Index) -> bool
-    ensures meta { IsTrue result → meta.now ≡ meta_index }
-    ensures message { IsTrue result → message.now ≡ message_index }
-    ensures part { IsTrue result → part.now ≡ part_index }
-    ensures always { meta.now ≡ meta_index → message.now ≡ message_index → part.now ≡ part_index → IsTrue result }
+    ensures meta { IsTrue result → meta.now ≡ key_index 0 meta_plan }
+    ensures message { IsTrue result → message.now ≡ key_index 2 message_plan }
+    ensures part { IsTrue result → part.now ≡ key_index 4 part_plan }
+    ensures always { meta.now ≡ key_index 0 meta_plan → message.now ≡ key_index 2 message_plan → part.now ≡ key_index 4 part_plan → IsTrue result }
 {
     is_index(meta, "sqlite_autoindex_meta_1", 1, 0, &[1])
         && is_index(message, "sqlite_autoindex_message_1", 3, 2, &[1])
@@ -163,10 +165,10 @@ fn are_first_indexes(meta: &Index, message: &Index, part: &Index) -> bool
 }
 
 fn are_next_indexes(reference: &Index, handset: &Index, report: &Index) -> bool
-    ensures reference { IsTrue result → reference.now ≡ reference_index }
-    ensures handset { IsTrue result → handset.now ≡ handset_index }
-    ensures report { IsTrue result → report.now ≡ report_index }
-    ensures always { reference.now ≡ reference_index → handset.now ≡ handset_index → report.now ≡ report_index → IsTrue result }
+    ensures reference { IsTrue result → reference.now ≡ key_index 6 reference_plan }
+    ensures handset { IsTrue result → handset.now ≡ key_index 8 handset_plan }
+    ensures report { IsTrue result → report.now ≡ key_index 10 report_plan }
+    ensures always { reference.now ≡ key_index 6 reference_plan → handset.now ≡ key_index 8 handset_plan → report.now ≡ key_index 10 report_plan → IsTrue result }
 {
     is_index(
         reference,
@@ -180,9 +182,9 @@ fn are_next_indexes(reference: &Index, handset: &Index, report: &Index) -> bool
 
 // Those of version 2: the second finds the reports of a message, and is for no key.
 fn are_last_indexes(priority: &Index, report_message: &Index) -> bool
-    ensures priority { IsTrue result → priority.now ≡ priority_index }
+    ensures priority { IsTrue result → priority.now ≡ key_index 12 priority_plan }
     ensures report_message { IsTrue result → report_message.now ≡ report_message_index }
-    ensures always { priority.now ≡ priority_index → report_message.now ≡ report_message_index → IsTrue result }
+    ensures always { priority.now ≡ key_index 12 priority_plan → report_message.now ≡ report_message_index → IsTrue result }
 {
     is_index(priority, "sqlite_autoindex_priority_1", 13, 12, &[1])
         && is_plain_index(report_message, "report_message", 14, 10, &[2])

@@ -3,8 +3,8 @@ ghost use Rattle.std.specs.Prelude.{refl};
 ghost use Rattle.sms_store_tables.specs.handset.DiscardedGroupList.{mark_is_list, mark_list};
 
 use crate::handset::group::{bits_of, group_at, number_of};
-use crate::handset::key::integer_of;
 use crate::handset::kind::HandsetStore;
+use crate::key::integer_of;
 use sms_handset_rows::inbox::DiscardedGroup;
 use sms_rows::table::Key;
 use sms_store_sql::listing::{StoredRow, octets_at, run, run_counted, text_of, word_at};

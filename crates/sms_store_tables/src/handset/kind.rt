@@ -2,7 +2,7 @@
 ghost use Rattle.std.specs.Prelude.{refl};
 ghost use Rattle.sms_store_tables.specs.handset.MetaList.{meta_is_list, meta_list};
 
-use crate::handset::key::integer_of;
+use crate::key::integer_of;
 use sms_rows::table::Key;
 use sms_store_sql::listing::{Meta, StoredRow, kind_at, run, run_counted, word_at};
 use sqlite::{Alter, Error, Row, Transaction, params};

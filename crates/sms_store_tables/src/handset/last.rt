@@ -2,8 +2,8 @@
 ghost use Rattle.std.specs.Prelude.{refl};
 ghost use Rattle.sms_store_tables.specs.handset.LastAcceptedList.{last_is_list, last_list};
 
-use crate::handset::key::integer_of;
 use crate::handset::kind::HandsetStore;
+use crate::key::integer_of;
 use sms_handset_rows::inbox::LastAccepted;
 use sms_rows::table::Key;
 use sms_store_sql::listing::{StoredRow, octet_at, octets_at, run, run_counted};

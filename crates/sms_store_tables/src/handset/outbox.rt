@@ -8,9 +8,9 @@ ghost use Rattle.sms_store_sql.specs.listing.Columns.{IsOctet, number, octets_in
 ghost use Rattle.sms_store_sql.specs.listing.Reading.{HasAt, LacksMemory};
 ghost use Rattle.sms_store_tables.specs.handset.OutEntryList.{out_is_list, out_list};
 
-use crate::handset::key::integer_of;
 use crate::handset::kind::HandsetStore;
 use crate::handset::words::{state_at, state_word};
+use crate::key::integer_of;
 use sms_base::Moment;
 use sms_handset_rows::outbox::{OutEntry, SubmitTpdu};
 use sms_rows::table::Key;

@@ -1,21 +1,23 @@
 //! Whether a database has the tables of a handset's store.
 ghost use Rattle.std.specs.Prelude.{◌≡◌, ◌≢◌, false, IsTrue, []};
-ghost use Rattle.sms_store_tables.specs.handset.HandsetSchema.{count_index, count_definition, entry_index, entry_definition, handset_indexes, handset_schema, handset_tables, last_index, last_definition, mark_index, mark_definition, meta_index, meta_definition, out_index, out_definition};
+ghost use Rattle.sms_store_tables.specs.handset.HandsetSchema.{count_plan, entry_plan, handset_indexes, handset_schema, handset_tables, last_plan, mark_plan, out_plan};
+ghost use Rattle.sms_store_tables.specs.MetaTable.{meta_plan};
+ghost use Rattle.sms_store_tables.specs.TablePlan.{defined, key_index};
 
 use sms_store_sql::schema::{given, is_index, is_table, optional};
 use sqlite_schema::schema::{Index, Kind, Schema, Table};
 
 fn is_meta(table: &Table) -> bool
-    ensures yes { IsTrue result → table.now ≡ meta_definition }
-    ensures always { table.now ≡ meta_definition → IsTrue result }
+    ensures yes { IsTrue result → table.now ≡ defined 0 meta_plan }
+    ensures always { table.now ≡ defined 0 meta_plan → IsTrue result }
 {
     let columns = [given("version", Kind::Integer), given("kind", Kind::Text)];
     is_table(table, "meta", 0, &columns, &[1])
 }
 
 fn is_entry(table: &Table) -> bool
-    ensures yes { IsTrue result → table.now ≡ entry_definition }
-    ensures always { table.now ≡ entry_definition → IsTrue result }
+    ensures yes { IsTrue result → table.now ≡ defined 2 entry_plan }
+    ensures always { table.now ≡ defined 2 entry_plan → IsTrue result }
 {
     let columns = [
         given("number", Kind::Integer),
@@ -36,16 +38,16 @@ fn is_entry(table: &Table) -> bool
 }
 
 fn is_last(table: &Table) -> bool
-    ensures yes { IsTrue result → table.now ≡ last_definition }
-    ensures always { table.now ≡ last_definition → IsTrue result }
+    ensures yes { IsTrue result → table.now ≡ defined 4 last_plan }
+    ensures always { table.now ≡ defined 4 last_plan → IsTrue result }
 {
     let columns = [given("reference", Kind::Integer), given("tpdu", Kind::Blob)];
     is_table(table, "last_accepted", 4, &columns, &[1])
 }
 
 fn is_out(table: &Table) -> bool
-    ensures yes { IsTrue result → table.now ≡ out_definition }
-    ensures always { table.now ≡ out_definition → IsTrue result }
+    ensures yes { IsTrue result → table.now ≡ defined 6 out_plan }
+    ensures always { table.now ≡ defined 6 out_plan → IsTrue result }
 {
     let columns = [
         given("number", Kind::Integer),
@@ -66,8 +68,8 @@ fn is_out(table: &Table) -> bool
 }
 
 fn is_mark(table: &Table) -> bool
-    ensures yes { IsTrue result → table.now ≡ mark_definition }
-    ensures always { table.now ≡ mark_definition → IsTrue result }
+    ensures yes { IsTrue result → table.now ≡ defined 8 mark_plan }
+    ensures always { table.now ≡ defined 8 mark_plan → IsTrue result }
 {
     let columns = [
         given("number", Kind::Integer),
@@ -83,8 +85,8 @@ fn is_mark(table: &Table) -> bool
 }
 
 fn is_count(table: &Table) -> bool
-    ensures yes { IsTrue result → table.now ≡ count_definition }
-    ensures always { table.now ≡ count_definition → IsTrue result }
+    ensures yes { IsTrue result → table.now ≡ defined 10 count_plan }
+    ensures always { table.now ≡ defined 10 count_plan → IsTrue result }
 {
     let columns = [
         given("place", Kind::Integer),
@@ -112,10 +114,10 @@ fn are_tables(tables: &[Table]) -> bool
 }
 
 fn are_first_indexes(meta: &Index, entry: &Index, last: &Index) -> bool
-    ensures meta { IsTrue result → meta.now ≡ meta_index }
-    ensures entry { IsTrue result → entry.now ≡ entry_index }
-    ensures last { IsTrue result → last.now ≡ last_index }
-    ensures always { meta.now ≡ meta_index → entry.now ≡ entry_index → last.now ≡ last_index → IsTrue result }
+    ensures meta { IsTrue result → meta.now ≡ key_index 0 meta_plan }
+    ensures entry { IsTrue result → entry.now ≡ key_index 2 entry_plan }
+    ensures last { IsTrue result → last.now ≡ key_index 4 last_plan }
+    ensures always { meta.now ≡ key_index 0 meta_plan → entry.now ≡ key_index 2 entry_plan → last.now ≡ key_index 4 last_plan → IsTrue result }
 {
     is_index(meta, "sqlite_autoindex_meta_1", 1, 0, &[1])
         && is_index(entry, "sqlite_autoindex_entry_1", 3, 2, &[1])
@@ -123,10 +125,10 @@ fn are_first_indexes(meta: &Index, entry: &Index, last: &Index) -> bool
 }
 
 fn are_last_indexes(out: &Index, mark: &Index, count: &Index) -> bool
-    ensures out { IsTrue result → out.now ≡ out_index }
-    ensures mark { IsTrue result → mark.now ≡ mark_index }
-    ensures count { IsTrue result → count.now ≡ count_index }
-    ensures always { out.now ≡ out_index → mark.now ≡ mark_index → count.now ≡ count_index → IsTrue result }
+    ensures out { IsTrue result → out.now ≡ key_index 6 out_plan }
+    ensures mark { IsTrue result → mark.now ≡ key_index 8 mark_plan }
+    ensures count { IsTrue result → count.now ≡ key_index 10 count_plan }
+    ensures always { out.now ≡ key_index 6 out_plan → mark.now ≡ key_index 8 mark_plan → count.now ≡ key_index 10 count_plan → IsTrue result }
 {
     is_index(out, "sqlite_autoindex_outbox_1", 7, 6, &[1])
         && is_index(mark, "sqlite_autoindex_discarded_group_1", 9, 8, &[1])

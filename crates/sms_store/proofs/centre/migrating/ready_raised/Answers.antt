@@ -3,7 +3,7 @@ use Rattle.sqlite.specs.Held.{state}
 use Rattle.sms_store_sql.proofs.listing.Steps.{ok_then}
 use Rattle.sms_store_tables.specs.centre.CentreSchema.{first_schema}
 use Rattle.sms_store.proofs.Answered.{if_err}
-use Rattle.sms_store.proofs.centre.Openings.{refuses_first, refuses_now}
+use Rattle.sms_store.proofs.centre.Refusals.{refuses_first, refuses_now}
 use Rattle.sms_store.proofs.centre.Renaming.{migrated_first, migrated_opened}
 use Rattle.sms_store.proofs.centre.migrating.ready_raised.Goals as goal
 

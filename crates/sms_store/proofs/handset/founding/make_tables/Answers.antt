@@ -3,7 +3,8 @@ use Rattle.sqlite.specs.State.{HasCleanDisk}
 use Rattle.sqlite.specs.Held.{state}
 use Rattle.sms_store_sql.proofs.listing.Steps.{ok_then}
 use Rattle.sms_store.specs.handset.Founding.{MakesFirst, MakesLast, Tabulates}
-use Rattle.sms_store.proofs.handset.Tables.{leads_then, tables_made}
+use Rattle.sms_store.proofs.handset.Tables.{tables_made}
+use Rattle.sms_store_tables.proofs.centre.Completed.{leads_then}
 use Rattle.sms_store.proofs.handset.founding.make_tables.Goals as goal
 
 pub returns-clause-done : goal.returns-clause-done

@@ -1,0 +1,5 @@
+use Rattle.sms_store.proofs.centre.LeftNow.{migrated_again}
+use Rattle.sms_store.proofs.centre.closing.what_was_left_is_not_raised.Goals as goal
+
+pub returns : goal.returns
+returns c image rows setup old s holds is found migrated = migrated_again image rows old holds is found setup s migrated

@@ -1,8 +1,0 @@
-use Rattle.sms_centre_rows.specs.waiting.Revisions.{all_revised}
-use Rattle.sms_store_sql.proofs.listing.Steps.{ok_then}
-use Rattle.sms_store.specs.centre.Types.{report_key, report_reaching}
-use Rattle.sms_store.proofs.centre.Turning.{reports_turn}
-use Rattle.sms_store.proofs.centre.commit.write_reports.Goals as goal
-
-pub returns-clause-done : goal.returns-clause-done
-returns-clause-done g c clean live inside = ok_then c.write_revisions.result (reports_turn (all_revised report_key report_reaching c.args.revisions.now) _ _) (c.write_revisions.ensures.done clean live inside)

@@ -1,0 +1,115 @@
+use Rattle.std.proofs.Common.{arith, ap, rules, ◌∙◌}
+use Rattle.sqlite.specs.Effect.{Database}
+use Rattle.sqlite.specs.State.{HasCleanDisk}
+use Rattle.sqlite.specs.Held.{state}
+use Rattle.sqlite.proofs.Callers.{unchanged_then}
+use Rattle.sms_store.proofs.centre.Loading.{found_rows}
+use Rattle.sms_store.proofs.keeping.Lists.{moved}
+use Rattle.sms_store_tables.specs.centre.PartList.{part_list}
+use Rattle.sms_store_tables.specs.centre.ReferenceList.{reference_list}
+use Rattle.sms_store_tables.specs.centre.HandsetList.{handset_list}
+use Rattle.sms_store_tables.specs.centre.ReportList.{report_list}
+use Rattle.sms_store_tables.specs.centre.PriorityList.{priority_list}
+use Rattle.sms_store.proofs.centre.kept.SetupKept.read.Goals as goal
+
+pub returns-clause-found : goal.returns-clause-found
+returns-clause-found g c clean ours =
+    let at5 : HasCleanDisk (state g.S.Store c.load-5.new.tx.conn.now) = omega (arith, c.load-6.ensures.survives.clean) in
+    let at4 : HasCleanDisk (state g.S.Store c.load-4.new.tx.conn.now) = omega (arith, at5, c.load-5.ensures.survives.clean) in
+    let at3 : HasCleanDisk (state g.S.Store c.load-3.new.tx.conn.now) = omega (arith, at4, c.load-4.ensures.survives.clean) in
+    let at2 : HasCleanDisk (state g.S.Store c.load-2.new.tx.conn.now) = omega (arith, at3, c.load-3.ensures.survives.clean) in
+    let at1 : HasCleanDisk (state g.S.Store c.load.new.tx.conn.now) = omega (arith, at2, c.load-2.ensures.survives.clean) in
+    let schema = λ (d : Database). d.schema in
+    let f1 = c.in_ok-messages.ensures.found at1 ours in
+    let d1 = f1.0.0.now_is in
+    let f2 = c.in_ok-parts.ensures.found at2 (ap schema d1 ∙ ours) in
+    let d2 = f2.0.0.now_is ∙ d1 in
+    let f3 = c.in_ok-references.ensures.found at3 (ap schema d2 ∙ ours) in
+    let d3 = f3.0.0.now_is ∙ d2 in
+    let f4 = c.in_ok-handsets.ensures.found at4 (ap schema d3 ∙ ours) in
+    let d4 = f4.0.0.now_is ∙ d3 in
+    let f5 = c.in_ok-reports.ensures.found at5 (ap schema d4 ∙ ours) in
+    let d5 = f5.0.0.now_is ∙ d4 in
+    let f6 = c.in_ok-priorities.ensures.found clean (ap schema d5 ∙ ours) in
+    let whole = unchanged_then _ _ _ (unchanged_then _ _ _ (unchanged_then _ _ _ (unchanged_then _ _ _ (unchanged_then _ _ _ f1.0 f2.0) f3.0) f4.0) f5.0) f6.0 in
+    (whole, λ rows is. found_rows c.args.self.now rows _ is d1 d2 d3 d4 d5 f1.1 f2.1 f3.1 f4.1 f5.1 f6.1 c.from_vec.ensures c.from_vec-2.ensures c.from_vec-3.ensures c.from_vec-4.ensures c.from_vec-5.ensures c.from_vec-6.ensures c.in_ok-setup.ensures)
+
+pub returns-in_err-messages-clause-back : goal.returns-in_err-messages-clause-back
+returns-in_err-messages-clause-back g c clean ours has =
+    let none = c.in_err-messages.ensures.back clean ours has.0.messages has.1.0.messages in
+    search (rules, none)
+
+pub returns-in_err-parts-clause-back : goal.returns-in_err-parts-clause-back
+returns-in_err-parts-clause-back g c clean ours has =
+    let at1 : HasCleanDisk (state g.S.Store c.load.new.tx.conn.now) = omega (arith, clean, c.load-2.ensures.survives.clean) in
+    let schema = λ (d : Database). d.schema in
+    let f1 = c.in_ok-messages.ensures.found at1 ours in
+    let d1 = f1.0.0.now_is in
+    let none = c.in_err-parts.ensures.back clean (ap schema d1 ∙ ours) has.0.parts (moved part_list _ _ has.0.parts d1 has.1.0.parts) in
+    search (rules, none)
+
+pub returns-in_err-references-clause-back : goal.returns-in_err-references-clause-back
+returns-in_err-references-clause-back g c clean ours has =
+    let at2 : HasCleanDisk (state g.S.Store c.load-2.new.tx.conn.now) = omega (arith, clean, c.load-3.ensures.survives.clean) in
+    let at1 : HasCleanDisk (state g.S.Store c.load.new.tx.conn.now) = omega (arith, at2, c.load-2.ensures.survives.clean) in
+    let schema = λ (d : Database). d.schema in
+    let f1 = c.in_ok-messages.ensures.found at1 ours in
+    let d1 = f1.0.0.now_is in
+    let f2 = c.in_ok-parts.ensures.found at2 (ap schema d1 ∙ ours) in
+    let d2 = f2.0.0.now_is ∙ d1 in
+    let none = c.in_err-references.ensures.back clean (ap schema d2 ∙ ours) has.0.references (moved reference_list _ _ has.0.references d2 has.1.0.references) in
+    search (rules, none)
+
+pub returns-in_err-handsets-clause-back : goal.returns-in_err-handsets-clause-back
+returns-in_err-handsets-clause-back g c clean ours has =
+    let at3 : HasCleanDisk (state g.S.Store c.load-3.new.tx.conn.now) = omega (arith, clean, c.load-4.ensures.survives.clean) in
+    let at2 : HasCleanDisk (state g.S.Store c.load-2.new.tx.conn.now) = omega (arith, at3, c.load-3.ensures.survives.clean) in
+    let at1 : HasCleanDisk (state g.S.Store c.load.new.tx.conn.now) = omega (arith, at2, c.load-2.ensures.survives.clean) in
+    let schema = λ (d : Database). d.schema in
+    let f1 = c.in_ok-messages.ensures.found at1 ours in
+    let d1 = f1.0.0.now_is in
+    let f2 = c.in_ok-parts.ensures.found at2 (ap schema d1 ∙ ours) in
+    let d2 = f2.0.0.now_is ∙ d1 in
+    let f3 = c.in_ok-references.ensures.found at3 (ap schema d2 ∙ ours) in
+    let d3 = f3.0.0.now_is ∙ d2 in
+    let none = c.in_err-handsets.ensures.back clean (ap schema d3 ∙ ours) has.0.handsets (moved handset_list _ _ has.0.handsets d3 has.1.0.handsets) in
+    search (rules, none)
+
+pub returns-in_err-reports-clause-back : goal.returns-in_err-reports-clause-back
+returns-in_err-reports-clause-back g c clean ours has =
+    let at4 : HasCleanDisk (state g.S.Store c.load-4.new.tx.conn.now) = omega (arith, clean, c.load-5.ensures.survives.clean) in
+    let at3 : HasCleanDisk (state g.S.Store c.load-3.new.tx.conn.now) = omega (arith, at4, c.load-4.ensures.survives.clean) in
+    let at2 : HasCleanDisk (state g.S.Store c.load-2.new.tx.conn.now) = omega (arith, at3, c.load-3.ensures.survives.clean) in
+    let at1 : HasCleanDisk (state g.S.Store c.load.new.tx.conn.now) = omega (arith, at2, c.load-2.ensures.survives.clean) in
+    let schema = λ (d : Database). d.schema in
+    let f1 = c.in_ok-messages.ensures.found at1 ours in
+    let d1 = f1.0.0.now_is in
+    let f2 = c.in_ok-parts.ensures.found at2 (ap schema d1 ∙ ours) in
+    let d2 = f2.0.0.now_is ∙ d1 in
+    let f3 = c.in_ok-references.ensures.found at3 (ap schema d2 ∙ ours) in
+    let d3 = f3.0.0.now_is ∙ d2 in
+    let f4 = c.in_ok-handsets.ensures.found at4 (ap schema d3 ∙ ours) in
+    let d4 = f4.0.0.now_is ∙ d3 in
+    let none = c.in_err-reports.ensures.back clean (ap schema d4 ∙ ours) has.0.reports (moved report_list _ _ has.0.reports d4 has.1.0.reports) in
+    search (rules, none)
+
+pub returns-in_err-priorities-clause-back : goal.returns-in_err-priorities-clause-back
+returns-in_err-priorities-clause-back g c clean ours has =
+    let at5 : HasCleanDisk (state g.S.Store c.load-5.new.tx.conn.now) = omega (arith, clean, c.load-6.ensures.survives.clean) in
+    let at4 : HasCleanDisk (state g.S.Store c.load-4.new.tx.conn.now) = omega (arith, at5, c.load-5.ensures.survives.clean) in
+    let at3 : HasCleanDisk (state g.S.Store c.load-3.new.tx.conn.now) = omega (arith, at4, c.load-4.ensures.survives.clean) in
+    let at2 : HasCleanDisk (state g.S.Store c.load-2.new.tx.conn.now) = omega (arith, at3, c.load-3.ensures.survives.clean) in
+    let at1 : HasCleanDisk (state g.S.Store c.load.new.tx.conn.now) = omega (arith, at2, c.load-2.ensures.survives.clean) in
+    let schema = λ (d : Database). d.schema in
+    let f1 = c.in_ok-messages.ensures.found at1 ours in
+    let d1 = f1.0.0.now_is in
+    let f2 = c.in_ok-parts.ensures.found at2 (ap schema d1 ∙ ours) in
+    let d2 = f2.0.0.now_is ∙ d1 in
+    let f3 = c.in_ok-references.ensures.found at3 (ap schema d2 ∙ ours) in
+    let d3 = f3.0.0.now_is ∙ d2 in
+    let f4 = c.in_ok-handsets.ensures.found at4 (ap schema d3 ∙ ours) in
+    let d4 = f4.0.0.now_is ∙ d3 in
+    let f5 = c.in_ok-reports.ensures.found at5 (ap schema d4 ∙ ours) in
+    let d5 = f5.0.0.now_is ∙ d4 in
+    let none = c.in_err-priorities.ensures.back clean (ap schema d5 ∙ ours) has.0.priorities (moved priority_list _ _ has.0.priorities d5 has.1.0.priorities) in
+    search (rules, none)

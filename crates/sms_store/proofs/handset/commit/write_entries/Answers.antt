@@ -1,8 +1,0 @@
-use Rattle.sms_rows.specs.table.Table.{all_applied}
-use Rattle.sms_store_sql.proofs.listing.Steps.{ok_then}
-use Rattle.sms_store.specs.handset.Types.{entry_key}
-use Rattle.sms_store.proofs.handset.Turning.{entries_turn}
-use Rattle.sms_store.proofs.handset.commit.write_entries.Goals as goal
-
-pub returns-clause-done : goal.returns-clause-done
-returns-clause-done g c clean live inside = ok_then c.write.result (entries_turn (all_applied entry_key c.args.changes.now) _ _) (c.write.ensures.done clean live inside)

@@ -1,8 +1,0 @@
-use Rattle.sms_rows.specs.table.Table.{all_applied}
-use Rattle.sms_store_sql.proofs.listing.Steps.{ok_then}
-use Rattle.sms_store.specs.handset.Types.{out_key}
-use Rattle.sms_store.proofs.handset.Turning.{outbox_turn}
-use Rattle.sms_store.proofs.handset.commit.write_outbox.Goals as goal
-
-pub returns-clause-done : goal.returns-clause-done
-returns-clause-done g c clean live inside = ok_then c.write.result (outbox_turn (all_applied out_key c.args.changes.now) _ _) (c.write.ensures.done clean live inside)

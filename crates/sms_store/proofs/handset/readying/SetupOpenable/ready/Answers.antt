@@ -1,0 +1,56 @@
+use Rattle.std.proofs.Common.{◌≡◌, ◌≢◌, inl, refl, rules, Ok}
+use Rattle.sqlite.specs.Held.{state}
+use Rattle.sms_store_sql.proofs.listing.Steps.{ok_then}
+use Rattle.sms_store_sql.specs.declared.listing.meta.StoreKind.TheVariants.{Handset}
+use Rattle.sms_store_sql.specs.schema.Blank.{no_tables}
+use Rattle.sms_store_tables.specs.handset.HandsetSchema.{handset_schema}
+use Rattle.sms_store_tables.specs.handset.MetaList.{meta_list}
+use Rattle.sms_store.specs.handset.HandsetRows.{handset_stores}
+use Rattle.sms_store.specs.handset.Refusing.{IsOld, IsOther}
+use Rattle.sms_store.proofs.Answered.{err_both, if_err}
+use Rattle.sms_store.proofs.handset.Lawful.{handset_lawful}
+use Rattle.sms_store.proofs.handset.Refusals.{refuses_judged}
+use Rattle.sms_store.proofs.keeping.Leaving.{left_alone}
+use Rattle.sms_store.proofs.keeping.Openings.{opened_blank, opened_ours, refuses_otherwise, says_judged}
+use Rattle.sms_store.proofs.handset.readying.SetupOpenable.ready.Goals as goal
+
+pub returns-then-is_blank-clause-ok : goal.returns-then-is_blank-clause-ok
+returns-then-is_blank-clause-ok g c clean =
+    let none : (state g.S.Store c.args.conn.now).now.schema ≡ no_tables = search rules in
+    ok_then c.found.result (λ founded setup. opened_blank handset_stores handset_lawful setup (state g.S.Store c.args.conn.now) (state g.S.Store c.found.new.conn) none (founded setup)) (c.found.ensures.ok clean none)
+
+pub returns-then-is_blank-clause-err : goal.returns-then-is_blank-clause-err
+returns-then-is_blank-clause-err g c clean =
+    err_both c.found.result (λ error other same. (refuses_otherwise IsOld IsOther _ error other, same)) c.found.ensures.named (c.found.ensures.err clean)
+
+pub returns-then-is_blank-clause-stop : goal.returns-then-is_blank-clause-stop
+returns-then-is_blank-clause-stop g c =
+    let none : (state g.S.Store c.args.conn.now).now.schema ≡ no_tables = search rules in
+    c.found.ensures.stop none
+
+pub returns-then-not-is_handset_schema-clause-stop : goal.returns-then-not-is_handset_schema-clause-stop
+returns-then-not-is_handset_schema-clause-stop g c clean left may =
+    let conn = c.args.conn.now in
+    left_alone handset_stores (state g.S.Store conn) left (λ db open_yet earlier. g.met.S.Store.settled conn.store db open_yet earlier) may
+
+pub returns-clause-ok : goal.returns-clause-ok
+returns-clause-ok g c clean =
+    let ours : (state g.S.Store c.args.conn.now).now.schema ≡ handset_schema = search rules in
+    ok_then c.judge_said.result (λ h setup. opened_ours handset_stores handset_lawful setup _ _ ours h.0 (says_judged handset_schema meta_list Handset 1 _ (Ok tt) ours h.1)) (c.judge_said.ensures.ok clean ours)
+
+pub returns-clause-err : goal.returns-clause-err
+returns-clause-err g c clean =
+    let ours : (state g.S.Store c.args.conn.now).now.schema ≡ handset_schema = search rules in
+    if_err c.judge_said.result (λ error h. (refuses_judged _ error ours h.0, h.1)) (c.judge_said.ensures.err clean ours)
+
+pub returns-then-not-is_handset_schema-clause-err : goal.returns-then-not-is_handset_schema-clause-err
+returns-then-not-is_handset_schema-clause-err g c clean =
+    let db = (state g.S.Store c.args.conn.now).now in
+    let some : db.schema ≢ no_tables = search rules in
+    let other : db.schema ≢ handset_schema = search rules in
+    (inl (record { some = some; other = other }), λ settled live. (refl, refl))
+
+pub returns-clause-stop : goal.returns-clause-stop
+returns-clause-stop g c =
+    let ours : (state g.S.Store c.args.conn.now).now.schema ≡ handset_schema = search rules in
+    c.judge_said.ensures.stop ours

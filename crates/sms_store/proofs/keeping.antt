@@ -1,0 +1,5 @@
+pub mod Closed
+pub mod Leaving
+pub mod Lists
+pub mod Openings
+pub mod StoresKept

@@ -1,0 +1,47 @@
+-- Why a database is no centre's store of the wanted version. Where version 2 is wanted, each earlier one is refused as such. Where version
+-- 1 will do, of its tables only those below it. No such store is one with other tables, or one that says another kind or a later
+-- version. One that does not say what it is is none, too.
+use Rattle.std.specs.Prelude.{◌≡◌, ◌≢◌, ◌⊎◌, ℕ, Result, Ok, Err}
+use Rattle.sqlite.specs.Effect.{Database}
+use Rattle.sms_rows.specs.declared.keep.error.KeepError.{KeepError}
+use Rattle.sms_rows.specs.declared.keep.error.KeepError.TheVariants.{OldVersion, NotThisStore}
+use Rattle.sms_store_sql.specs.declared.listing.meta.StoreKind.TheVariants.{Centre}
+use Rattle.sms_store_sql.specs.schema.Blank.{no_tables}
+use Rattle.sms_store_tables.specs.centre.CentreSchema.{centre_schema, first_schema}
+use Rattle.sms_store_tables.specs.centre.MetaList.{meta_list}
+use Rattle.sms_store_tables.specs.centre.FirstMetaList.{meta_list as first_list}
+use Rattle.sms_store.specs.keeping.Refusing.{Says, RefusesBy}
+
+-- it has the tables of version 2, or those of version 1, and what it says of itself is judged so
+abbrev pub SaysNow : ℕ → Result (Unit {0}) KeepError → Database → Type 0
+SaysNow version judgement db = Says centre_schema meta_list Centre version judgement db
+
+abbrev pub SaysFirst : ℕ → Result (Unit {0}) KeepError → Database → Type 0
+SaysFirst version judgement db = Says first_schema first_list Centre version judgement db
+
+-- Why a database without the tables of version 1 is refused. It is no store also where it has tables, which are not those of version
+-- 2.
+abbrev pub IsOldNow : Database → Type 0
+IsOldNow db = SaysNow 2 (Err OldVersion) db
+
+abbrev pub IsOtherNow : Database → Type 0
+IsOtherNow db = ((db.schema ≢ no_tables) × (db.schema ≢ centre_schema)) ⊎ SaysNow 2 (Err NotThisStore) db
+
+abbrev pub RefusesNow : KeepError → Database → Type 0
+RefusesNow error db = RefusesBy IsOldNow IsOtherNow error db
+
+-- it has tables, which are those of no version
+pub record IsForeign (db : Database) : Type 0 where
+  pub some : db.schema ≢ no_tables
+  pub other : db.schema ≢ centre_schema
+  pub other_first : db.schema ≢ first_schema
+
+abbrev pub IsOld : ℕ → Database → Type 0
+IsOld least db = SaysNow 2 (Err OldVersion) db ⊎ SaysFirst least (Err OldVersion) db
+
+abbrev pub IsOther : Database → Type 0
+IsOther db = IsForeign db ⊎ (SaysNow 2 (Err NotThisStore) db ⊎ SaysFirst 1 (Err NotThisStore) db)
+
+-- why a database is refused by one for whom this version will do
+abbrev pub Refuses : ℕ → KeepError → Database → Type 0
+Refuses least error db = RefusesBy (IsOld least) IsOther error db

@@ -1,0 +1,5 @@
+pub mod Closing
+pub mod InKeep
+pub mod Opened
+pub mod Refusing
+pub mod Stores
