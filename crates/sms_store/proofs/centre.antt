@@ -1,9 +1,9 @@
 pub mod BodiesRead
-pub mod Lawful
 pub mod LeftNow
 pub mod Loading
 pub mod Raised
 pub mod Refusals
 pub mod Renaming
+pub mod Schemas
 pub mod TablesMade
 pub mod Turning

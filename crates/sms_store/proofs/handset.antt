@@ -1,4 +1,3 @@
-pub mod Lawful
 pub mod Loading
 pub mod Refusals
 pub mod Tables

@@ -1,5 +1,6 @@
 pub mod CentreRows
 pub mod Founding
+pub mod Lawful
 pub mod Migrating
 pub mod Reading
 pub mod Refusing

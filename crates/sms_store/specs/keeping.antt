@@ -1,4 +1,5 @@
 pub mod Closing
+pub mod Counted
 pub mod InKeep
 pub mod Opened
 pub mod Refusing

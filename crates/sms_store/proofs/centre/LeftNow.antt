@@ -13,7 +13,7 @@ use Rattle.sms_store.specs.centre.CentreRows.{centre_stores}
 use Rattle.sms_store.specs.centre.Migrating.{Migrated}
 use Rattle.sms_store.specs.centre.Types.{Rows, Setup}
 use Rattle.sms_store.proofs.keeping.Closed.{as_many_tables, not_without, still_store}
-use Rattle.sms_store.proofs.centre.Lawful.{centre_lawful}
+use Rattle.sms_store.specs.centre.Lawful.{centre_lawful}
 
 module _ (image : Image) (rows : Rows) (old : Database) (holds : HoldsStore centre_stores image rows) (is : IsDatabase old) (found : IsIn image old) where
   not_first : old.schema ≡ first_schema → ⊥

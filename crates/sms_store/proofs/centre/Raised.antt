@@ -12,7 +12,8 @@ use Rattle.sms_store.specs.centre.CentreRows.{centre_stores}
 use Rattle.sms_store.specs.centre.Migrating.{Migrated}
 use Rattle.sms_store.specs.centre.Stopping.{LeavesRaised}
 use Rattle.sms_store.specs.centre.Types.{Rows, Setup}
-use Rattle.sms_store.proofs.centre.Lawful.{first_differs, schemas_differ}
+use Rattle.sms_store.specs.centre.Lawful.{first_differs}
+use Rattle.sms_store.proofs.centre.Schemas.{schemas_differ}
 use Rattle.sms_store.proofs.keeping.Leaving.{Settles, trees_of}
 
 -- the store was looked at, and then raised

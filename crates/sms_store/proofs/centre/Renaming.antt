@@ -11,7 +11,8 @@ use Rattle.sms_store.specs.centre.CentreRows.{centre_stores}
 use Rattle.sms_store.specs.centre.Refusing.{SaysFirst}
 use Rattle.sms_store.specs.keeping.Opened.{Opened}
 use Rattle.sms_store.specs.centre.Types.{Setup}
-use Rattle.sms_store.proofs.centre.Lawful.{first_differs, schemas_differ}
+use Rattle.sms_store.specs.centre.Lawful.{first_differs}
+use Rattle.sms_store.proofs.centre.Schemas.{schemas_differ}
 
 -- a look before the change changes nothing of it
 pub raised_then : (a b c : State) → Shows a b a.now a.now false → Committed Migrates b c → Committed Migrates a c

@@ -1,26 +1,21 @@
 -- What changes of a list make of the store.
-use Rattle.std.proofs.Common.{◌≡◌, ◌≢◌, List, [], ◌∷◌, refl, sym, subst, ap, ◌∙◌, arith}
-use Rattle.sqlite.specs.Effect.{Database}
-use Rattle.sqlite.specs.Tree.{Trees}
+use Rattle.std.proofs.Common.{◌≡◌, List, [], ◌∷◌, refl, arith}
 use Rattle.sqlite.specs.State.{State}
-use Rattle.sqlite_rules.specs.Edit.{IsNoIndex}
 use Rattle.sms_store_sql.specs.listing.Inside.{Alters}
-use Rattle.sms_store_sql.specs.listing.Listing.{ListOf, Represents}
-use Rattle.sms_store_sql.specs.listing.Transaction.{Leads, IsOfOne}
-use Rattle.sms_store_sql.proofs.listing.Once.{holds_once}
+use Rattle.sms_store_sql.specs.listing.Transaction.{Leads}
 use Rattle.sms_store_migration.proofs.Apart.{free_0, free_2, free_4, free_6, free_8, free_10, free_12}
 use Rattle.sms_store_tables.specs.centre.CentreSchema.{centre_schema}
 use Rattle.sms_store_tables.specs.centre.MetaList.{meta_list}
-use Rattle.sms_store_tables.specs.centre.MessageList.{message_list, message_is_list}
-use Rattle.sms_store_tables.specs.centre.PartList.{part_list, part_is_list}
-use Rattle.sms_store_tables.specs.centre.ReferenceList.{reference_list, reference_is_list}
-use Rattle.sms_store_tables.specs.centre.HandsetList.{handset_list, handset_is_list}
-use Rattle.sms_store_tables.specs.centre.ReportList.{report_list, report_is_list}
-use Rattle.sms_store_tables.specs.centre.PriorityList.{priority_list, priority_is_list}
+use Rattle.sms_store_tables.specs.centre.MessageList.{message_list}
+use Rattle.sms_store_tables.specs.centre.PartList.{part_list}
+use Rattle.sms_store_tables.specs.centre.ReferenceList.{reference_list}
+use Rattle.sms_store_tables.specs.centre.HandsetList.{handset_list}
+use Rattle.sms_store_tables.specs.centre.ReportList.{report_list}
+use Rattle.sms_store_tables.specs.centre.PriorityList.{priority_list}
 use Rattle.sms_store_migration.specs.Versions.{centre_meta}
-use Rattle.sms_store.specs.keeping.Stores.{IsStoreWith, Turns}
+use Rattle.sms_store.specs.keeping.Stores.{Turns}
 use Rattle.sms_store.specs.centre.CentreRows.{centre_stores}
-use Rattle.sms_store.specs.centre.Types.{Rows, Setup, MessageRow, PartRow, ReferenceRow, HandsetRow, ReportRow, PriorityRow}
+use Rattle.sms_store.specs.centre.Types.{MessageRow, PartRow, ReferenceRow, HandsetRow, ReportRow, PriorityRow}
 
 pub messages_turn : (change : List MessageRow → List MessageRow) (old new : State) → Alters message_list change old new → Leads (Turns centre_stores (λ rows. record rows { messages = change rows.messages })) old new
 messages_turn change old new alters = record {
@@ -111,15 +106,3 @@ priorities_turn change old new alters = record {
     priorities = alters.changed h.schema rows.priorities h.priorities;
   };
 }
-
--- a database is the store of one set of rows
-pub store_once : (setup : Setup) → IsOfOne (IsStoreWith centre_stores setup)
-store_once setup a b r s same p q =
-    let messages = holds_once message_list message_is_list _ _ r.messages s.messages (ap (λ (t : Trees). t 2) same) p.0.messages q.0.messages in
-    let parts = holds_once part_list part_is_list _ _ r.parts s.parts (ap (λ (t : Trees). t 4) same) p.0.parts q.0.parts in
-    let references = holds_once reference_list reference_is_list _ _ r.references s.references (ap (λ (t : Trees). t 6) same) p.0.references q.0.references in
-    let handsets = holds_once handset_list handset_is_list _ _ r.handsets s.handsets (ap (λ (t : Trees). t 8) same) p.0.handsets q.0.handsets in
-    let reports = holds_once report_list report_is_list _ _ r.reports s.reports (ap (λ (t : Trees). t 10) same) p.0.reports q.0.reports in
-    let priorities = holds_once priority_list priority_is_list _ _ r.priorities s.priorities (ap (λ (t : Trees). t 12) same) p.0.priorities q.0.priorities in
-    let set = p.1 ∙ sym q.1 in
-    λ i. record { messages = messages i; parts = parts i; references = references i; handsets = handsets i; reports = reports i; priorities = priorities i; setup = set i }

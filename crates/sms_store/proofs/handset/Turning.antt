@@ -1,24 +1,20 @@
 -- What changes of a list make of the store.
-use Rattle.std.proofs.Common.{◌≡◌, ◌≢◌, List, [], ◌∷◌, IsTrue, refl, sym, subst, ap, ◌∙◌, arith}
-use Rattle.sqlite.specs.Effect.{Database}
-use Rattle.sqlite.specs.Tree.{Trees}
+use Rattle.std.proofs.Common.{◌≡◌, List, [], ◌∷◌, refl, arith}
 use Rattle.sqlite.specs.State.{State}
 use Rattle.sqlite_rules.specs.Edit.{IsNoIndex}
 use Rattle.sms_rows.specs.table.Table.{put}
 use Rattle.sms_store_sql.specs.listing.Inside.{Alters}
-use Rattle.sms_store_sql.specs.listing.Listing.{ListOf, Represents}
-use Rattle.sms_store_sql.specs.listing.Transaction.{Leads, IsOfOne}
-use Rattle.sms_store_sql.proofs.listing.Once.{holds_once}
+use Rattle.sms_store_sql.specs.listing.Transaction.{Leads}
 use Rattle.sms_store_tables.specs.handset.HandsetSchema.{handset_schema}
-use Rattle.sms_store.specs.keeping.Stores.{IsStoreWith, Turns}
+use Rattle.sms_store.specs.keeping.Stores.{Turns}
 use Rattle.sms_store.specs.handset.HandsetRows.{handset_stores, counters_row, handset_meta}
 use Rattle.sms_store_tables.specs.handset.MetaList.{meta_list}
-use Rattle.sms_store_tables.specs.handset.EntryList.{entry_list, entry_is_list}
-use Rattle.sms_store_tables.specs.handset.LastAcceptedList.{last_list, last_is_list}
-use Rattle.sms_store_tables.specs.handset.OutEntryList.{out_list, out_is_list}
-use Rattle.sms_store_tables.specs.handset.DiscardedGroupList.{mark_list, mark_is_list}
-use Rattle.sms_store.specs.handset.CountersList.{count_list, count_is_list}
-use Rattle.sms_store.specs.handset.Types.{Rows, Setup, Entry, LastAccepted, OutEntry, DiscardedGroup, Counters, CountersRow}
+use Rattle.sms_store_tables.specs.handset.EntryList.{entry_list}
+use Rattle.sms_store_tables.specs.handset.LastAcceptedList.{last_list}
+use Rattle.sms_store_tables.specs.handset.OutEntryList.{out_list}
+use Rattle.sms_store_tables.specs.handset.DiscardedGroupList.{mark_list}
+use Rattle.sms_store.specs.handset.CountersList.{count_list}
+use Rattle.sms_store.specs.handset.Types.{Entry, LastAccepted, OutEntry, DiscardedGroup, Counters}
 
 -- no table stands where an index does
 pub free_0 : IsNoIndex handset_schema 0
@@ -108,19 +104,3 @@ counters_turn c old new alters = record {
     counters = alters.changed h.schema (counters_row rows.counters ∷ []) h.counters;
   };
 }
-
--- a database is the store of one set of rows
-pub store_once : (setup : Setup) → IsOfOne (IsStoreWith handset_stores setup)
-store_once setup a b r s same p q =
-    let entries = holds_once entry_list entry_is_list _ _ r.entries s.entries (ap (λ (t : Trees). t 2) same) p.0.entries q.0.entries in
-    let last = holds_once last_list last_is_list _ _ r.last s.last (ap (λ (t : Trees). t 4) same) p.0.last q.0.last in
-    let outbox = holds_once out_list out_is_list _ _ r.outbox s.outbox (ap (λ (t : Trees). t 6) same) p.0.outbox q.0.outbox in
-    let marks = holds_once mark_list mark_is_list _ _ r.marks s.marks (ap (λ (t : Trees). t 8) same) p.0.marks q.0.marks in
-    let counted = holds_once count_list count_is_list _ _ (counters_row r.counters ∷ []) (counters_row s.counters ∷ []) (ap (λ (t : Trees). t 10) same) p.0.counters q.0.counters in
-    let counters : r.counters ≡ s.counters = ap counted_in counted in
-    let set = p.1 ∙ sym q.1 in
-    λ i. record { entries = entries i; last = last i; outbox = outbox i; marks = marks i; counters = counters i; setup = set i }
-  where
-    counted_in : List CountersRow → Counters
-    counted_in [] = r.counters
-    counted_in (c ∷ cs) = c.counters

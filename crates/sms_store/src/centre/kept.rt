@@ -2,7 +2,7 @@
 ghost use Rattle.std.specs.Prelude.{refl};
 ghost use Rattle.sms_store.specs.centre.CentreRows.{centre_stores};
 ghost use Rattle.sms_store.specs.centre.Types.{rows_after};
-ghost use Rattle.sms_store.proofs.centre.Lawful.{centre_lawful};
+ghost use Rattle.sms_store.specs.centre.Lawful.{centre_lawful};
 
 use crate::centre::founding::{declare, make_tables};
 use crate::keeping::Kept;

@@ -3,7 +3,7 @@ ghost use Rattle.std.specs.Prelude.{◌≡◌, [], ◌∷◌, IfOk, IsOk, refl};
 ghost use Rattle.sms_store.specs.declared.handset.counters.CountersRow.{CountersRow as CountersRowOf};
 ghost use Rattle.sms_store.specs.handset.HandsetRows.{handset_stores};
 ghost use Rattle.sms_store.specs.handset.Types.{changes_in, rows_after};
-ghost use Rattle.sms_store.proofs.handset.Lawful.{handset_lawful};
+ghost use Rattle.sms_store.specs.handset.Lawful.{handset_lawful};
 
 use crate::handset::commit::write_counters;
 use crate::handset::counters::CountersRow;

@@ -8,7 +8,7 @@ use Rattle.sms_store_sql.specs.declared.listing.meta.StoreKind.TheVariants.{Cent
 use Rattle.sms_store.specs.centre.CentreRows.{centre_stores}
 use Rattle.sms_store.specs.centre.Refusing.{IsOldNow, IsOtherNow}
 use Rattle.sms_store.proofs.Answered.{err_both, if_err}
-use Rattle.sms_store.proofs.centre.Lawful.{centre_lawful}
+use Rattle.sms_store.specs.centre.Lawful.{centre_lawful}
 use Rattle.sms_store.proofs.centre.Refusals.{refuses_now_said}
 use Rattle.sms_store.proofs.keeping.Leaving.{left_alone}
 use Rattle.sms_store.proofs.keeping.Openings.{opened_blank, opened_ours, refuses_found, refuses_otherwise, says_judged}

@@ -8,7 +8,7 @@ use Rattle.sms_store_tables.specs.handset.MetaList.{meta_list}
 use Rattle.sms_store.specs.handset.HandsetRows.{handset_stores}
 use Rattle.sms_store.specs.handset.Refusing.{IsOld, IsOther}
 use Rattle.sms_store.proofs.Answered.{err_both, if_err}
-use Rattle.sms_store.proofs.handset.Lawful.{handset_lawful}
+use Rattle.sms_store.specs.handset.Lawful.{handset_lawful}
 use Rattle.sms_store.proofs.handset.Refusals.{refuses_judged}
 use Rattle.sms_store.proofs.keeping.Leaving.{left_alone}
 use Rattle.sms_store.proofs.keeping.Openings.{opened_blank, opened_ours, refuses_otherwise, says_judged}

@@ -1,28 +1,43 @@
 -- What a centre's stores owe.
-use Rattle.std.proofs.Common.{◌≡◌, [], ◌∷◌, length, refl, sym, ap, subst, ◌∙◌, arith}
+use Rattle.std.specs.Prelude.{◌≡◌, [], ◌∷◌, length, refl}
+use Rattle.std.proofs.Common.{sym, ap, subst, ◌∙◌}
 use Rattle.sqlite.specs.Effect.{Database}
 use Rattle.sqlite.specs.Schema.{Schema}
 use Rattle.sqlite.specs.Tree.{Trees}
 use Rattle.sms_store_sql.specs.listing.Listing.{Represents}
+use Rattle.sms_store_sql.specs.listing.Transaction.{IsOfOne}
 use Rattle.sms_store_sql.specs.schema.Blank.{no_tables}
+use Rattle.sms_store_sql.proofs.listing.Once.{holds_once}
 use Rattle.sms_store_tables.specs.centre.CentreSchema.{centre_schema, first_schema, schema_is, first_schema_is}
 use Rattle.sms_store_tables.specs.centre.MetaList.{meta_list}
-use Rattle.sms_store_tables.specs.centre.MessageList.{message_list}
-use Rattle.sms_store_tables.specs.centre.PartList.{part_list}
-use Rattle.sms_store_tables.specs.centre.ReferenceList.{reference_list}
-use Rattle.sms_store_tables.specs.centre.HandsetList.{handset_list}
-use Rattle.sms_store_tables.specs.centre.ReportList.{report_list}
-use Rattle.sms_store_tables.specs.centre.PriorityList.{priority_list}
+use Rattle.sms_store_tables.specs.centre.MessageList.{message_list, message_is_list}
+use Rattle.sms_store_tables.specs.centre.PartList.{part_list, part_is_list}
+use Rattle.sms_store_tables.specs.centre.ReferenceList.{reference_list, reference_is_list}
+use Rattle.sms_store_tables.specs.centre.HandsetList.{handset_list, handset_is_list}
+use Rattle.sms_store_tables.specs.centre.ReportList.{report_list, report_is_list}
+use Rattle.sms_store_tables.specs.centre.PriorityList.{priority_list, priority_is_list}
 use Rattle.sms_store_migration.specs.Versions.{IsStore, centre_meta}
+use Rattle.sms_store.specs.keeping.Counted.{some_is_not_none}
 use Rattle.sms_store.specs.keeping.Stores.{AreStores, IsStoreWith}
 use Rattle.sms_store.specs.centre.CentreRows.{centre_stores}
 use Rattle.sms_store.specs.centre.Types.{Rows, Setup}
-use Rattle.sms_store.proofs.centre.Turning.{store_once}
+
+-- a database is the store of one set of rows
+pub store_once : (setup : Setup) → IsOfOne (IsStoreWith centre_stores setup)
+store_once setup a b r s same p q =
+    let messages = holds_once message_list message_is_list _ _ r.messages s.messages (ap (λ (t : Trees). t 2) same) p.0.messages q.0.messages in
+    let parts = holds_once part_list part_is_list _ _ r.parts s.parts (ap (λ (t : Trees). t 4) same) p.0.parts q.0.parts in
+    let references = holds_once reference_list reference_is_list _ _ r.references s.references (ap (λ (t : Trees). t 6) same) p.0.references q.0.references in
+    let handsets = holds_once handset_list handset_is_list _ _ r.handsets s.handsets (ap (λ (t : Trees). t 8) same) p.0.handsets q.0.handsets in
+    let reports = holds_once report_list report_is_list _ _ r.reports s.reports (ap (λ (t : Trees). t 10) same) p.0.reports q.0.reports in
+    let priorities = holds_once priority_list priority_is_list _ _ r.priorities s.priorities (ap (λ (t : Trees). t 12) same) p.0.priorities q.0.priorities in
+    let set = p.1 ∙ sym q.1 in
+    λ i. record { messages = messages i; parts = parts i; references = references i; handsets = handsets i; reports = reports i; priorities = priorities i; setup = set i }
 
 some_tables : length centre_schema.tables ≡ 0 → ⊥
 some_tables none =
     let count : 7 ≡ 0 = sym (ap (λ (s : Schema). length s.tables) schema_is) ∙ none in
-    omega (arith, count)
+    some_is_not_none 6 count
 
 -- a store by its trees
 by_trees : (db other : Database) (rows : Rows) (setup : Setup) → other.schema ≡ centre_schema → other.trees ≡ db.trees → IsStore db rows
@@ -42,12 +57,9 @@ by_trees db other rows setup ours same is = (
 )
 
 pub first_differs : no_tables ≡ first_schema → ⊥
-first_differs same = let named = ap (λ (s : Schema). s.tables) (same ∙ first_schema_is) in cc
-
-pub schemas_differ : centre_schema ≡ first_schema → ⊥
-schemas_differ same =
-    let count : 7 ≡ 6 = ap (λ (s : Schema). length s.tables) (sym schema_is ∙ same ∙ first_schema_is) in
-    omega (arith, count)
+first_differs same =
+    let count : 6 ≡ 0 = sym (ap (λ (s : Schema). length s.tables) (same ∙ first_schema_is)) in
+    some_is_not_none 5 count
 
 pub centre_lawful : AreStores centre_stores
 centre_lawful = record {
