@@ -22,8 +22,7 @@ mod outs;
 
 pub use keeper::{End, Keeper};
 pub use machine::{
-    Broken, Clock, Errand, Fate, Gate, Item, Machine, NoRecord, Recorder, Step, Stimulus,
-    Unsettled,
+    Broken, Clock, Errand, Fate, Gate, Item, Machine, NoRecord, Recorder, Step, Stimulus, Unsettled,
 };
 pub use outs::{Out, Outs};
 pub use sms_seats::{Bell, Seat};

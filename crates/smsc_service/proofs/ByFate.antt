@@ -59,7 +59,7 @@ module _ (held : Rows → Type 0) (left : Type 0) (centre : CentreStateOf) (seat
   module _ (before from most : ℕ) (fate : Fate) (outs : List (Out Reply)) where
     -- what may go went
     pub is_forgotten : fate ≡ Done → outs ≡ [] → held (core_of (forget before from most s.core)).rows → Represents (core_of (forget before from most s.core)) centre
-        → seats_in seat_map ≡ followed_by stimulus s.seats → Serves held left centre seat_map (Forget before from most) s stimulus fate outs
+        → seats_in seat_map ≡ s.seats → Serves held left centre seat_map (Forget before from most) s stimulus fate outs
     is_forgotten is outputs rows centre_state seats =
         with_fate (Forget before from most) fate Done outs is (outputs, record { rows = rows; centre = centre_state; seats = seats })
 

@@ -101,9 +101,9 @@ after_for (Event event) NoMemory s stimulus = s
 after_for (Event event) Refused s stimulus = restarted s.core.rows (followed_by stimulus s.seats)
 after_for Nothing fate s stimulus = s
 after_for Taken fate s stimulus = s
-after_for (Forget before from most) Done s stimulus = record { core = core_of (forget before from most s.core); seats = followed_by stimulus s.seats }
+after_for (Forget before from most) Done s stimulus = record { core = core_of (forget before from most s.core); seats = s.seats }
 after_for (Forget before from most) NoMemory s stimulus = s
-after_for (Forget before from most) Refused s stimulus = restarted s.core.rows (followed_by stimulus s.seats)
+after_for (Forget before from most) Refused s stimulus = restarted s.core.rows s.seats
 
 abbrev pub after : Serving → Stimulus Job → Fate → Serving
 after s stimulus fate = after_for (asked_by s.seats stimulus) fate s stimulus

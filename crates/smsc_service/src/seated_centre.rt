@@ -1,5 +1,5 @@
 //! A centre over its store, with who sits where.
-ghost use Rattle.std.specs.Prelude.{◌≡◌, ⊤, ℕ, true, None, [], Option};
+ghost use Rattle.std.specs.Prelude.{◌≡◌, ℕ, true, None};
 ghost use Rattle.sms_centre.specs.plans.EventOutcome.{IsOutcome};
 ghost use Rattle.sms_centre.specs.Archiving.{AreArchived, Stays};
 ghost use Rattle.sms_centre.specs.Planning.{Fits};
@@ -72,8 +72,6 @@ impl<K: CentreStore + Drop> SeatedCentre<K> {
         ensures gives { (event : CentreEventOf) (s : Serving) (base : RowsOf) → IsEvent event → IsOutcome (happened event s.core) planned.plan
             → outs.items ≡ replies_to s.seats stimulus.now (happened event s.core)
             → MakingOutcome K.state base self.old self.new (Event event) s stimulus.now result.fate result.outs }
-        ensures forgets { (before from most : ℕ) (s : Serving) (base : RowsOf) → IsOutcome (forget before from most s.core) planned.plan → outs.items ≡ []
-            → MakingOutcome K.state base self.old self.new (Forget before from most) s stimulus.now result.fate result.outs }
         ensures told { result.fate ≡ Done → result.told ≡ planned.plan.outputs.answer }
     {
         let told = planned.outputs().answer;
@@ -148,6 +146,25 @@ impl<K: CentreStore + Drop> SeatedCentre<K> {
         self.happen(event, stimulus)
     }
 
+    // What is planned to go goes, and nobody hears of it.
+    fn let_go(&mut self, stimulus: &Stimulus<Job>, planned: Plan) -> Made
+        requires { Fits self.old.machine.centre planned }
+        ensures before { IsHonest K.state self.new → IsHonest K.state self.old }
+        ensures refused { result.fate ≡ Refused → RefusedRead self.old self.new }
+        ensures gives { (before from most : ℕ) (s : Serving) (base : RowsOf) → IsOutcome (forget before from most s.core) planned.plan
+            → MakingOutcome K.state base self.old self.new (Forget before from most) s stimulus.now result.fate result.outs }
+        ensures told { result.told ≡ None }
+    {
+        match self.machine.hold(planned) {
+            Ok(_outputs) => Made {
+                fate: Fate::Done,
+                outs: Outs::none(),
+                told: None,
+            },
+            Err(_) => unmade(Fate::NoMemory, stimulus),
+        }
+    }
+
     // The centre forgets, what goes being archived first. Nothing goes where the archive refuses, and nothing changes where it is late.
     fn forget<A: Archive>(
         &mut self,
@@ -163,7 +180,7 @@ impl<K: CentreStore + Drop> SeatedCentre<K> {
         ensures refused { result.fate ≡ Refused → RefusedRead self.old self.new }
         ensures gives { (s : Serving) (base : RowsOf)
             → MakingOutcome K.state base self.old self.new (Forget before from most) s stimulus.now result.fate result.outs }
-        ensures told { (s : Serving) (base : RowsOf) → IfMade K.state base s self.old self.new (result.fate ≡ Done → result.told ≡ None) }
+        ensures told { result.told ≡ None }
         ensures archived { (s : Serving) (base : RowsOf) → IfMade K.state base s self.old self.new
             (result.fate ≡ Done → AreArchived (A.keeps archive.new) (going_now before from most s.core) s.core.rows.messages) }
         ensures kept { Stays (A.keeps archive.old) (A.keeps archive.new) }
@@ -172,10 +189,7 @@ impl<K: CentreStore + Drop> SeatedCentre<K> {
             return unmade(Fate::NoMemory, stimulus);
         }
         match self.machine.plan_forget(archive, before, from, most) {
-            Ok(planned) => {
-                let outs = Vec::new(self.alloc);
-                self.hold(stimulus, planned, outs)
-            }
+            Ok(planned) => self.let_go(stimulus, planned),
             Err(_) => unmade(Fate::NoMemory, stimulus),
         }
     }

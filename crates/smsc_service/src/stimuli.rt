@@ -152,11 +152,12 @@ pub(crate) fn refused_with_group(seat_map: &mut SeatMap, stimulus: &Stimulus<Job
     ensures seats { (r : Serving) → seats_in seat_map.old ≡ r.seats → seats_in seat_map.new ≡ (after r stimulus.now Refused).seats }
 {
     match asked_by(seat_map, stimulus) {
-        SeatRequest::Event(_) | SeatRequest::Forget { .. } => {
+        SeatRequest::Event(_) => {
             follow(seat_map, stimulus);
             failed_at(stimulus)
         }
         SeatRequest::Nothing => failed_at(stimulus),
         SeatRequest::Taken => taken_at(stimulus),
+        SeatRequest::Forget { .. } => failed_at(stimulus),
     }
 }

@@ -1,8 +1,8 @@
 //! A machine that adds up the jobs.
 ghost use Rattle.std.specs.Prelude.{◌≡◌, ◌==◌, if◌then◌else◌, [], ◌∷◌};
 
-use sms_base::Moment;
-use sms_hub::{Broken, Clock, Fate, Gate, Machine, Out, Outs, Step, Stimulus, Unsettled};
+use sms_base::{MessageId, Moment};
+use sms_hub::{Broken, Clock, Errand, Fate, Gate, Machine, Out, Outs, Step, Stimulus, Unsettled};
 
 /// What the machine answers.
 #[derive(Clone, Copy, Debug, PartialEq, Eq)]
@@ -29,6 +29,8 @@ pub struct Counter {
     pub opens: bool,
     pub opened: u64,
     pub broken: bool,
+    /// So many errands it has still.
+    pub errands: u64,
 }
 
 impl Counter {
@@ -42,6 +44,7 @@ impl Counter {
             opens,
             opened: 0,
             broken: false,
+            errands: 0,
         }
     }
 
@@ -56,16 +59,33 @@ impl Counter {
             opens: true,
             opened: 0,
             broken: false,
+            errands: 0,
         }
     }
 }
 
 impl Counter {
-    ghost use Rattle.std.specs.Prelude.{◌≡◌, ◌+◌, ◌%◌, ◌^◌};
-    ghost use Rattle.sms_keeper.specs.declared.machine.Fate.TheVariants.{Refused};
+    ghost use Rattle.std.specs.Prelude.{◌≡◌, ◌+◌, ◌%◌, ◌^◌, []};
+    ghost use Rattle.sms_keeper.specs.declared.machine.Fate.TheVariants.{Done, Refused};
     ghost use Rattle.sms_keeper.specs.declared.machine.Stimulus.TheVariants.{Job};
     ghost use Rattle.sms_keeper.specs.Fates.{MatchFate};
     ghost use Rattle.test_formats.specs.hub.Counting.{sum_after, sums_given};
+
+    // One errand less.
+    fn run_errand(&mut self) -> Step<Reply>
+        ensures outs { result.outs ≡ [] }
+        ensures if_refused { result.if_refused ≡ [] }
+        ensures fate { result.fate ≡ Done }
+        ensures sum { self.new.sum ≡ self.old.sum }
+        ensures kept { self.new.kept ≡ self.old.kept }
+    {
+        self.errands = self.errands.saturating_sub(1);
+        Step {
+            fate: Fate::Done,
+            outs: Outs::none(),
+            if_refused: Outs::none(),
+        }
+    }
 
     // Adds a job up, or refuses it. Its store holds what it held.
     fn add(&mut self, seat: usize, job: u32) -> Step<Reply>
@@ -128,6 +148,13 @@ impl Machine<u32, Reply> for Counter {
 
     ghost after = { sum_after };
 
+    fn errand(&self, _now: Moment) -> Option<Errand> {
+        if self.errands == 0 {
+            return None;
+        }
+        Some(Errand::Retry(MessageId::new(1)?))
+    }
+
     fn step(&mut self, stimulus: &Stimulus<u32>) -> Step<Reply> {
         match stimulus {
             Stimulus::Tick(_) => Step {
@@ -135,6 +162,7 @@ impl Machine<u32, Reply> for Counter {
                 outs: Outs::none(),
                 if_refused: Outs::none(),
             },
+            Stimulus::Own(_) => self.run_errand(),
             Stimulus::Job(seat, job) => self.add(*seat, *job),
         }
     }

@@ -17,7 +17,7 @@ returns-in-Err-clause-gives g c = λ s base honest sound made.
 
 pub returns-in-Ok-clause-gives : goal.returns-in-Ok-clause-gives
 returns-in-Ok-clause-gives g c = λ s base honest sound made.
-    c.hold.ensures.forgets c.args.before c.args.from c.args.most s base (c.in-Ok.ensures.outcome s.core made.centre) refl honest sound made
+    c.let_go.ensures.gives c.args.before c.args.from c.args.most s base (c.in-Ok.ensures.outcome s.core made.centre) honest sound made
 
 pub returns-then-is_late-clause-refused : goal.returns-then-is_late-clause-refused
 returns-then-is_late-clause-refused g c = λ e. was_undone _ _ c.unmade.ensures.fate e
@@ -26,16 +26,7 @@ pub returns-in-Err-clause-refused : goal.returns-in-Err-clause-refused
 returns-in-Err-clause-refused g c = λ e. was_undone _ _ c.unmade-in-Err.ensures.fate e
 
 pub returns-in-Ok-clause-refused : goal.returns-in-Ok-clause-refused
-returns-in-Ok-clause-refused g c = λ e. c.hold.ensures.refused e
-
-pub returns-then-is_late-clause-told : goal.returns-then-is_late-clause-told
-returns-then-is_late-clause-told g c = λ s base honest sound made e. not_done _ _ c.unmade.ensures.fate e
-
-pub returns-in-Err-clause-told : goal.returns-in-Err-clause-told
-returns-in-Err-clause-told g c = λ s base honest sound made e. not_done _ _ c.unmade-in-Err.ensures.fate e
-
-pub returns-in-Ok-clause-told : goal.returns-in-Ok-clause-told
-returns-in-Ok-clause-told g c = λ s base honest sound made e. c.hold.ensures.told e ∙ (c.in-Ok.ensures.outcome s.core made.centre).outputs.answer
+returns-in-Ok-clause-refused g c = λ e. c.let_go.ensures.refused e
 
 pub returns-then-is_late-clause-archived : goal.returns-then-is_late-clause-archived
 returns-then-is_late-clause-archived g c = λ s base honest sound made e. not_done _ _ c.unmade.ensures.fate e

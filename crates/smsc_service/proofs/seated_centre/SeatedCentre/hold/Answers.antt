@@ -3,7 +3,7 @@ use Rattle.sms_centre.specs.declared.plans.event_outcome.Outputs.{Outputs as Out
 use Rattle.smsc_service.specs.InSeated.{IsLeft, Reaches}
 use Rattle.smsc_service.specs.Seats.{Seats}
 use Rattle.smsc_service.specs.Serving.{followed_by}
-use Rattle.smsc_service.proofs.ByFate.{is_done, is_forgotten, is_kept, is_undone, not_done, was_undone}
+use Rattle.smsc_service.proofs.ByFate.{is_done, is_undone, not_done, was_undone}
 use Rattle.smsc_service.proofs.seated_centre.SeatedCentre.hold.Goals as goal
 
 pub returns-in-Ok-clause-gives : goal.returns-in-Ok-clause-gives
@@ -18,20 +18,6 @@ returns-in-Err-clause-gives g c = λ event s base is plan replies honest sound m
     let seated = record c.args.self.now { machine = c.hold.new.self } in
     let held = c.in-Err.ensures.outcome event s.core base is made.centre plan made.rows in
     is_undone (Reaches g.K.RowStore.state base seated) (IsLeft g.K.RowStore.state base seated) c.hold.new.self.centre c.args.self.now.seat_map s c.args.stimulus.now event c.unmade.result.fate _
-    c.unmade.ensures.fate c.unmade.ensures.outs (record { rows = held.rows; centre = held.centre; seats = made.seats })
-
-pub returns-in-Ok-clause-forgets : goal.returns-in-Ok-clause-forgets
-returns-in-Ok-clause-forgets g c = λ before from most s base plan none honest sound made.
-    let seated = record c.args.self.now { machine = c.hold.new.self; seat_map = c.follow.new.seat_map } in
-    let held = c.in-Ok.ensures.forgotten before from most s.core base made.centre plan made.rows in
-    is_forgotten (Reaches g.K.RowStore.state base seated) (IsLeft g.K.RowStore.state base seated) c.hold.new.self.centre c.follow.new.seat_map s c.args.stimulus.now before from most _ _
-    refl (c.from_vec.ensures ∙ none) held.rows held.centre (c.follow.ensures ∙ ap (λ (x : Seats). followed_by c.args.stimulus.now x) made.seats)
-
-pub returns-in-Err-clause-forgets : goal.returns-in-Err-clause-forgets
-returns-in-Err-clause-forgets g c = λ before from most s base plan none honest sound made.
-    let seated = record c.args.self.now { machine = c.hold.new.self } in
-    let held = c.in-Err.ensures.forgotten before from most s.core base made.centre plan made.rows in
-    is_kept (Reaches g.K.RowStore.state base seated) (IsLeft g.K.RowStore.state base seated) c.hold.new.self.centre c.args.self.now.seat_map s c.args.stimulus.now before from most c.unmade.result.fate _
     c.unmade.ensures.fate c.unmade.ensures.outs (record { rows = held.rows; centre = held.centre; seats = made.seats })
 
 pub returns-in-Ok-clause-told : goal.returns-in-Ok-clause-told

@@ -92,7 +92,7 @@ returns-in-Taken-clause-told g c = λ s base honest sound made e.
 
 pub returns-in-Forget-clause-told : goal.returns-in-Forget-clause-told
 returns-in-Forget-clause-told g c = λ s base honest sound made e.
-    subst (λ (a : SeatRequest). c.forget.result.told ≡ answer_of a s.core) (sym c.in-Forget.is) (c.forget.ensures.told s base honest sound made e)
+    subst (λ (a : SeatRequest). c.forget.result.told ≡ answer_of a s.core) (sym c.in-Forget.is) c.forget.ensures.told
 
 pub returns-in-Event-clause-archived : goal.returns-in-Event-clause-archived
 returns-in-Event-clause-archived g c = λ s base honest sound made e.
