@@ -1,7 +1,7 @@
 //! A run of the server.
 use crate::account_file::book_of;
 use crate::control::Control;
-use crate::forgetting::forget_old;
+use crate::forgetting::{LoggedArchive, forget_old, forgetting_of};
 use crate::logging::{self, Log, LogThread};
 use crate::moments::{now, text_of};
 use crate::opening::{FoundStore, open_store};
@@ -25,7 +25,7 @@ use sms_store_files::{LogFinding, LogJudgement};
 use smsc_cli::words::{AccountWords, ServerRun};
 use smsc_endpoint::LinkAccess;
 use smsc_server::{Allowance, Allowances, Given, ObservedKeep, Orders, Ports, ServeFault, serve};
-use smsc_service::{CentreStore, LinkBoard, Setup};
+use smsc_service::{CentreStore, Forgetting, LinkBoard, Setup};
 use std::alloc::{AllocError, Global};
 use std::io;
 use std::net::TcpListener;
@@ -495,11 +495,12 @@ fn serve_open<R: Threads + Wait + Clock + Copy + Send + Sync + 'static, K: Centr
     alloc: Global,
     given: &Given<Watchers<R>>,
     keep: K,
+    forgetting: Forgetting<LoggedArchive<R>>,
     ports: Ports<TcpListener>,
     clock: &RunClock<R>,
 ) -> Result<K, ServeFault> {
     let keep = observed(keep, given);
-    let (doors, keep) = serve(rt, alloc, keep, &OpenGate, clock, ports, given)?;
+    let (doors, keep) = serve(rt, alloc, keep, forgetting, &OpenGate, clock, ports, given)?;
     drop(doors);
     Ok(unobserved(keep))
 }
@@ -515,9 +516,11 @@ fn serve_ports<R: Threads + Wait + Clock + Copy + Send + Sync + 'static, K: Cent
     summary: &Summary,
     clock: &RunClock<R>,
 ) -> Result<K, RunFault> {
+    let log = &given.observer.log;
+    let forgetting = forgetting_of(&host, log, run, clock.start, summary.newest)?;
     let mut helpers = Helpers::new(host.alloc())?;
     helpers.start_all(host, rt, run, given, beside, summary, clock.start)?;
-    let ended = serve_open(rt, host.alloc(), given, keep, ports, clock);
+    let ended = serve_open(rt, host.alloc(), given, keep, forgetting, ports, clock);
     end_run(&rt, helpers, &*given.observer, ended)
 }
 
