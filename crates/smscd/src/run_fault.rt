@@ -182,6 +182,8 @@ pub const USAGE: &str =
     \u{20}      smscd stop --control PATH [--wait SECONDS]\n\
     \u{20}      smscd end --control PATH SEAT\n\
     \u{20}      smscd reload --control PATH\n\
+    \u{20}      smscd retry --control PATH ID\n\
+    \u{20}      smscd cancel --control PATH ID\n\
     \u{20}      smscd password\n\
     \u{20}      smscd --help | --version\n\
     \n\
@@ -213,6 +215,8 @@ pub const USAGE: &str =
     \u{20}  stop              end in good order; waited for 15 seconds, or SECONDS\n\
     \u{20}  end SEAT          end the connection at that seat, 0 to 31\n\
     \u{20}  reload            read the accounts' file again: rate and suspended\n\
+    \u{20}  retry ID          try that message now\n\
+    \u{20}  cancel ID         delete that message: it is reported as deleted\n\
     a password, read from standard input:\n\
     \u{20}  password          prints the salt and the hash of it for a table [[account]]\n\
     \n\

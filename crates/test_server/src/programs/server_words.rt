@@ -2,8 +2,8 @@
 use crate::programs::words::with;
 use crate::rows::holds;
 use smsc_cli::words::{
-    AccountWords, FileFault, LogDetail, ServerWords, WordsFault, add_lines, server_words,
-    why_no_server_words,
+    AccountWords, FileFault, LogDetail, OrderWord, ServerWords, WordsFault, add_lines,
+    server_words, why_no_server_words,
 };
 use std::alloc::Global;
 use std::test::Fail;
@@ -55,6 +55,21 @@ fn judged(alloc: Global, words: &[&str]) -> &'static str {
         Ok(ServerWords::End { .. }) => "end of another",
         Ok(ServerWords::Reload { control: "c" }) => "reload",
         Ok(ServerWords::Reload { .. }) => "reload of another",
+        Ok(
+            ServerWords::Order {
+                control: "c",
+                order: OrderWord::Retry,
+                id,
+            },
+        ) if id.number() == 17 => "retry",
+        Ok(
+            ServerWords::Order {
+                control: "c",
+                order: OrderWord::Cancel,
+                id,
+            },
+        ) if id.number() == 17 => "cancel",
+        Ok(ServerWords::Order { .. }) => "order of another",
         Ok(ServerWords::Password) => "password",
         Err(WordsFault::BadWords) => "bad",
         Err(WordsFault::NoMemory) => "no memory",
@@ -240,6 +255,26 @@ const OTHERS: &[(&[&str], &str)] = &[
     (&["smscd", "reload", "--control", "c"], "reload"),
     (&["smscd", "reload", "--control", "c", "more"], "bad"),
     (&["smscd", "reload", "c"], "bad"),
+    (&["smscd", "retry", "--control", "c"], "bad"),
+    (&["smscd", "retry", "0000000017"], "bad"),
+    (&["smscd", "retry", "0000000017", "--control", "c"], "retry"),
+    (
+        &["smscd", "cancel", "--control", "c", "0000000017"],
+        "cancel",
+    ),
+    (&["smscd", "retry", "--control", "c", "17"], "bad"),
+    (&["smscd", "cancel", "--control", "c", "0000000000"], "bad"),
+    (
+        &[
+            "smscd",
+            "cancel",
+            "--control",
+            "c",
+            "0000000017",
+            "0000000018",
+        ],
+        "bad",
+    ),
     (&["smscd", "password"], "password"),
     (&["smscd", "password", "secret"], "bad"),
     (
