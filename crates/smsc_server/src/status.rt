@@ -21,5 +21,5 @@ pub use client::{Client, Heard};
 pub use counters::Counters;
 pub use pending::{Pending, PendingTable, WaitingHandset};
 pub use refusals::{RefusalTable, Refusals};
-pub use rows::message_figures;
+pub use rows::{NO_MESSAGES, message_figures, with_message};
 pub use seats::SeatTable;
