@@ -60,8 +60,8 @@ struct Tally {
     most_first: BTreeSet<u128>,
 }
 
-// No key of a handset has more bits.
-const HANDSET_BITS: u32 = 80;
+// No key of a handset, which has up to 20 digits, is as great: 16 to the power of 20.
+const HANDSETS: u128 = 1_208_925_819_614_629_174_706_176;
 
 // So many parts wait for a handset at most (TP-MR has eight bits, 3GPP TS 23.040 9.2.3.6).
 const MOST_PARTS: usize = 256;
@@ -69,12 +69,12 @@ const MOST_PARTS: usize = 256;
 // The place of a handset for which so much waits.
 fn place_of(waiting: usize, handset: u128) -> u128 {
     let less = MOST_PARTS.saturating_sub(waiting) as u128;
-    (less << HANDSET_BITS) + handset_at(handset)
+    less * HANDSETS + handset % HANDSETS
 }
 
 // The key of the handset that has the place.
 fn handset_at(place: u128) -> u128 {
-    place % (1u128 << HANDSET_BITS)
+    place % HANDSETS
 }
 
 // The number of the message of that key.
