@@ -112,20 +112,20 @@ links_table links = LINKS_HEAD.now ++ (flat_map link_row links ++ (none_row (len
 -- ---- what is stuck
 
 unfoldable pub whose_text : PendingMessage → List ℕ
-whose_text m = codes " to " ++ (escaped m.handset.now ++ (codes ", submitted " ++ moment_text m.submitted))
+whose_text m = codes " to " ++ (escaped m.handset.now ++ (codes ", submitted " ++ (moment_text m.submitted ++ codes "</p>")))
 
 unfoldable pub pending_text : PendingMessage → List ℕ
 pending_text m = codes "the oldest message that is pending: " ++ (id_text m.id ++ whose_text m)
 
 abbrev pub oldest_text : Option PendingMessage → List ℕ
-oldest_text None = codes "no message is pending"
+oldest_text None = codes "no message is pending</p>"
 oldest_text (Some message) = pending_text message
 
 abbrev pub link_word : Bool → List ℕ
-link_word is_linked = if is_linked then codes "none" else codes "no link"
+link_word is_linked = if is_linked then codes "none</td><td>" else codes "no link</td><td>"
 
 unfoldable pub refusal_text : LastCause → List ℕ
-refusal_text c = codes "RP cause " ++ (decimal c.cause ++ (codes ", " ++ escaped c.reason.now))
+refusal_text c = codes "RP cause " ++ (decimal c.cause ++ (codes ", " ++ (escaped c.reason.now ++ codes "</td><td>")))
 
 -- what the handset said last as it refused something; where it said nothing, whether it has a link
 abbrev pub last_cause_text : Bool → Option LastCause → List ℕ
@@ -147,14 +147,14 @@ stuck_counts l =
 
 unfoldable pub stuck_row : StuckLine → List ℕ
 stuck_row l =
-    stuck_counts l ++ (last_cause_text l.is_linked l.cause ++ (codes "</td><td>" ++ (next_try_text l.is_linked l.due ++ codes "</td></tr>\n")))
+    stuck_counts l ++ (last_cause_text l.is_linked l.cause ++ (next_try_text l.is_linked l.due ++ codes "</td></tr>\n"))
 
 unfoldable pub stuck_table : List StuckLine → List ℕ
 stuck_table lines = STUCK_HEAD.now ++ (flat_map stuck_row lines ++ (none_row (length lines == 0) (codes "6") ++ table_end))
 
 -- the oldest message that is pending, over the handsets for which most waits
 unfoldable pub stuck_text : StatusView → List ℕ
-stuck_text v = codes "<h2>What is stuck</h2><p>" ++ (oldest_text v.oldest ++ (codes "</p>" ++ stuck_table v.stuck.now))
+stuck_text v = codes "<h2>What is stuck</h2><p>" ++ (oldest_text v.oldest ++ stuck_table v.stuck.now)
 
 -- ---- accounts
 

@@ -379,6 +379,7 @@ fn put_whose(out: &mut Octets, message: &PendingMessage<'_>) -> Result<(), Alloc
             Piece::Escaped(message.handset.as_bytes()),
             Piece::Text(b", submitted "),
             Piece::Moment(message.submitted),
+            Piece::Text(b"</p>"),
         ],
     )
 }
@@ -397,14 +398,18 @@ fn put_oldest(out: &mut Octets, oldest: &Option<PendingMessage<'_>>) -> Result<(
 {
     match oldest {
         Some(message) => put_pending(out, message),
-        None => out.append(b"no message is pending"),
+        None => out.append(b"no message is pending</p>"),
     }
 }
 
 fn link_word(is_linked: bool) -> &'static [u8]
     ensures { result.now ≡ link_word_of is_linked }
 {
-    if is_linked { b"none" } else { b"no link" }
+    if is_linked {
+        b"none</td><td>"
+    } else {
+        b"no link</td><td>"
+    }
 }
 
 #[tactic(auto, unfolding(crate::specs::Page::refusal_text))]
@@ -418,6 +423,7 @@ fn put_refusal(out: &mut Octets, cause: LastCause) -> Result<(), AllocError>
             Piece::Number(cause.cause as u64),
             Piece::Text(b", "),
             Piece::Escaped(cause.reason.as_bytes()),
+            Piece::Text(b"</td><td>"),
         ],
     )
 }
@@ -480,7 +486,6 @@ fn put_stuck_line(out: &mut Octets, line: &StuckLine) -> Result<(), AllocError>
 {
     put_stuck_counts(out, line)?;
     put_last_cause(out, line.is_linked, line.cause)?;
-    out.append(b"</td><td>")?;
     put_next_try(out, line.is_linked, line.due)?;
     out.append(b"</td></tr>\n")
 }
@@ -510,7 +515,6 @@ fn put_stuck(out: &mut Octets, view: &StatusView<'_>) -> Result<(), AllocError>
 {
     out.append(b"<h2>What is stuck</h2><p>")?;
     put_oldest(out, &view.oldest)?;
-    out.append(b"</p>")?;
     put_stuck_table(out, view.stuck)
 }
 
