@@ -228,17 +228,17 @@ fn stuck_line(
     })
 }
 
-fn put_stuck(
+fn stuck_lines(
     alloc: Global,
     board: &LinkBoard,
     links: &[LinkLine],
     handsets: &[WaitingHandset],
-    lines: &mut Vec<StuckLine>,
-) -> Result<(), AllocError> {
+) -> Result<Vec<StuckLine>, AllocError> {
+    let mut lines = Vec::new(alloc);
     for waiting in handsets {
         lines.push(stuck_line(alloc, board, links, waiting)?)?;
     }
-    Ok(())
+    Ok(lines)
 }
 
 fn oldest_of(alloc: Global, pending: Option<Pending>) -> Result<Option<Oldest>, AllocError> {
@@ -506,14 +506,9 @@ impl<R: Wait + Clock> Pages<R> {
         let alloc = self.host.alloc();
         let pending = &*self.source.pending;
         let handsets = pending.most(&self.rt, alloc, MOST_STUCK)?;
-        let links = lists.links.as_slice();
-        put_stuck(
-            alloc,
-            &self.about.links,
-            links,
-            handsets.as_slice(),
-            &mut lists.stuck,
-        )?;
+        let board = &self.about.links;
+        let stuck = stuck_lines(alloc, board, lists.links.as_slice(), handsets.as_slice())?;
+        put(&mut lists.stuck, stuck);
         let oldest = oldest_of(alloc, pending.oldest(&self.rt))?;
         put(&mut lists.oldest, oldest);
         Ok(())
