@@ -4,4 +4,4 @@ use Rattle.smsc_server.proofs.serving.Limits.{Tells}
 use Rattle.smsc_server.proofs.serving.allowances.suspended_in.Given as goal
 
 abbrev pub invariant-loop-account : goal.invariant-loop-account
-invariant-loop-account l = Tells (λ (a : ℕ). not (suspends a l.allowed)) l.account l.suspended
+invariant-loop-account l = Tells (λ (a : ℕ). not (suspends a l.fn.allowed)) l.account l.suspended
