@@ -1,4 +1,3 @@
-pub mod Crossing
 pub mod Entered
 pub mod Exchanged
 pub mod Limits

@@ -1,10 +1,7 @@
 pub mod Connections
 pub mod Entering
 pub mod KeptSeats
-pub mod PieceEnds
-pub mod Pieces
 pub mod Rates
-pub mod Reading
 pub mod SeatThreads
 pub mod Serving
 pub mod SessionLimits

@@ -17,9 +17,7 @@
 //! - `loopback`: a server and its clients in one process
 //! - `observed_keep`: a keep whose commits are reported
 //! - `orders`: what an operator orders of a run
-//! - `pieces`: the pieces that cross from the reader of a connection to its seat
 //! - `rates`: how many requests of an account are put in a second
-//! - `reading`: the threads that read connections
 //! - `refusing`: a connection that is refused
 //! - `run`: a run
 //! - `seat_thread`: the threads of the seats, each of which hands its seat back
@@ -39,17 +37,15 @@ mod observed_keep;
 mod observer;
 mod occupancy;
 mod orders;
-mod pieces;
 mod poller;
 mod rates;
-mod reading;
 mod refusing;
 mod run;
 mod seat_thread;
 mod server;
 
 pub use allowances::{Allowance, Allowances};
-pub use clock::{RunClock, milliseconds};
+pub use clock::{Clocks, RunClock, milliseconds};
 pub use connection::Ports;
 pub(crate) use connection::is_later;
 pub use fault::ServeFault;

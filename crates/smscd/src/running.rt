@@ -9,7 +9,6 @@ use crate::ports::{listen, ports_of};
 use crate::preparing::leave_after;
 use crate::readiness;
 use crate::reloading::Reloader;
-use crate::run_clock::{Clocks, RunClock};
 use crate::run_fault::RunFault;
 use crate::setup::{RunAccounts, setup_of};
 use crate::status::{self, About, Pages};
@@ -24,7 +23,9 @@ use sms_keeper::Gate;
 use sms_store_files::{LogFinding, LogJudgement};
 use smsc_cli::words::{AccountWords, ServerRun};
 use smsc_endpoint::LinkAccess;
-use smsc_server::{Allowance, Allowances, Given, ObservedKeep, Orders, Ports, ServeFault, serve};
+use smsc_server::{
+    Allowance, Allowances, Clocks, Given, ObservedKeep, Orders, Ports, RunClock, ServeFault, serve,
+};
 use smsc_service::{CentreStore, LinkBoard, Setup};
 use smsc_status::MessageFigures;
 use std::alloc::{AllocError, Global};

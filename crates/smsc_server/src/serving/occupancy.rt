@@ -38,7 +38,7 @@ pub struct Seated {
 }
 
 // So many accounts may be.
-const MOST_ACCOUNTS: u8 = 32;
+pub(crate) const MOST_ACCOUNTS: u8 = 32;
 
 // Whether a session of that account is bound there.
 fn is_of(account: u8, bound: Option<u8>) -> bool

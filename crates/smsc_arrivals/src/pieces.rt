@@ -5,7 +5,7 @@
 //!
 //! - `calls`: what both ends of the queue do
 //! - `ends`: the two ends
-ghost use Rattle.std.specs.Prelude.{◌≡◌, ◌≤◌, ℕ, List, None, Option, take};
+ghost use Rattle.std.specs.Prelude.{◌≡◌, ◌≤◌, ℕ, List, [], None, Option, take};
 
 use crossbeam_channel::Pass;
 use crossbeam_channel::protocol::{Lesson, Outcome, Protocol, Split};
@@ -15,23 +15,25 @@ use std::marker::{Brand, PhantomData};
 mod calls;
 mod ends;
 
-pub(crate) use calls::open_pieces;
-pub(crate) use ends::{PieceReceiver, PieceSender};
+pub use calls::open_pieces;
+pub use ends::{PieceReceiver, PieceSender};
 
 /// So many octets are read at once.
-pub(crate) const PIECE: usize = 1024;
+pub const PIECE: usize = 1024;
 
 /// Octets that a connection received.
 #[derive(Drop)]
 pub struct Piece {
-    pub(crate) octets: [u8; PIECE],
-    pub(crate) count: usize,
+    pub octets: [u8; PIECE],
+    pub count: usize,
     ghost fits: { count ≤ 1024 },
 }
 
 impl Piece {
     /// No octets.
-    pub(crate) fn none() -> Piece {
+    pub fn none() -> Piece
+        ensures { take result.count result.octets ≡ [] }
+    {
         Piece {
             octets: [0; PIECE],
             count: 0,
@@ -39,7 +41,7 @@ impl Piece {
     }
 
     /// The octets.
-    pub(crate) fn as_slice(&self) -> &[u8]
+    pub fn as_slice(&self) -> &[u8]
         ensures { result.now ≡ take self.now.count self.now.octets }
     {
         &self.octets[..self.count]
@@ -64,7 +66,7 @@ pub struct PiecesView {
 pub struct Crossing;
 
 impl Protocol<Piece, PiecesView> for Crossing {
-    ghost use Rattle.smsc_server.specs.serving.Pieces.{Crosses, joined_view};
+    ghost use Rattle.smsc_arrivals.specs.Pieces.{Crosses, joined_view};
 
     ghost holds = { Crosses };
 
@@ -87,7 +89,7 @@ pub struct Roles<J> {
 
 impl<J: Source> Split<PiecesView> for Roles<J> {
     ghost use Rattle.std.specs.Prelude.{[]};
-    ghost use Rattle.smsc_server.specs.serving.Pieces.{giver_view, taker_view};
+    ghost use Rattle.smsc_arrivals.specs.Pieces.{giver_view, taker_view};
 
     ghost left = { λ v. giver_view J.octets [] };
 
@@ -99,7 +101,7 @@ pub struct Gives;
 
 impl Outcome<Piece, PiecesView> for Gives {
     ghost use Rattle.std.specs.Prelude.{◌≡◌, ◌++◌};
-    ghost use Rattle.smsc_server.specs.serving.Pieces.{giver_view, octets_of};
+    ghost use Rattle.smsc_arrivals.specs.Pieces.{giver_view, octets_of};
 
     ghost then = { λ v x w. w ≡ giver_view v.source (v.given ++ octets_of x) };
 }
@@ -115,7 +117,7 @@ pub struct Takes;
 
 impl Outcome<Piece, PiecesView> for Takes {
     ghost use Rattle.std.specs.Prelude.{◌≡◌, ◌++◌};
-    ghost use Rattle.smsc_server.specs.serving.Pieces.{taker_view, octets_of, IsGivenOf};
+    ghost use Rattle.smsc_arrivals.specs.Pieces.{taker_view, octets_of, IsGivenOf};
 
     ghost then = { λ v x w. (w ≡ taker_view v.source (v.taken ++ octets_of x)) × IsGivenOf v.source (v.taken ++ octets_of x) };
 }

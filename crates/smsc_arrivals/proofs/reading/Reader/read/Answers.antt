@@ -1,5 +1,5 @@
-use Rattle.smsc_server.proofs.serving.Crossing.{gave_next, given_of, read_next}
-use Rattle.smsc_server.proofs.serving.reading.Reader.read.Goals as goal
+use Rattle.smsc_arrivals.proofs.Crossing.{gave_next, given_of, read_next}
+use Rattle.smsc_arrivals.proofs.reading.Reader.read.Goals as goal
 
 pub give-requires : goal.give-requires
 give-requires g c = given_of _ _ _ (read_next _ _ _ _ _ c.loop.invariant c.in-Octets.ensures)

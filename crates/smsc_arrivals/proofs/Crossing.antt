@@ -8,9 +8,9 @@ use Rattle.std.proofs.Transfers.{starts_with_of_append, starts_with_trans}
 use Rattle.std.proofs.Math.Seq.{drop-append_seam}
 use Rattle.crossbeam_channel.specs.Fifo.{Pushes, Pops, Forks}
 use Rattle.sms_seats.proofs.Places.{at_one, set_at, snoc_at}
-use Rattle.smsc_server.specs.declared.serving.pieces.Piece.{Piece}
-use Rattle.smsc_server.specs.declared.serving.pieces.PiecesView.{PiecesView}
-use Rattle.smsc_server.specs.serving.Pieces.{octets_of, octets_in, left_behind, giver_view, taker_view, joined_view, FitsPass, IsGivenOf, IsReadSo, Crosses}
+use Rattle.smsc_arrivals.specs.declared.pieces.Piece.{Piece}
+use Rattle.smsc_arrivals.specs.declared.pieces.PiecesView.{PiecesView}
+use Rattle.smsc_arrivals.specs.Pieces.{octets_of, octets_in, left_behind, giver_view, taker_view, joined_view, FitsPass, IsGivenOf, IsReadSo, Crosses}
 
 octets_last : (items : List Piece) (x : Piece) → octets_in (items ++ x ∷ []) ≡ octets_in items ++ octets_of x
 octets_last [] x = append-nil (octets_of x)

@@ -1,5 +1,5 @@
-use Rattle.smsc_server.proofs.serving.Crossing.{begins, forks}
-use Rattle.smsc_server.proofs.serving.pieces.calls.open_from.Goals as goal
+use Rattle.smsc_arrivals.proofs.Crossing.{begins, forks}
+use Rattle.smsc_arrivals.proofs.pieces.calls.open_from.Goals as goal
 
 pub bounded_with-requires-clause-rule : goal.bounded_with-requires-clause-rule
 bounded_with-requires-clause-rule g c = begins

@@ -2,9 +2,9 @@
 ghost use Rattle.std.specs.Prelude.{◌≡◌};
 ghost use Rattle.crossbeam_channel.specs.Claims.{view, IsSeatAt};
 ghost use Rattle.crossbeam_channel.specs.Ends.{receives_on, sends_on};
-ghost use Rattle.smsc_server.specs.serving.Pieces.{giver_view, taker_view, IsGivenOf};
+ghost use Rattle.smsc_arrivals.specs.Pieces.{giver_view, taker_view, IsGivenOf};
 
-use crate::serving::pieces::{Crossing, Piece, PiecePass, PiecesView};
+use crate::pieces::{Crossing, Piece, PiecePass, PiecesView};
 use crossbeam_channel::{RuledReceiver, RuledSender};
 
 /// The reader's end.

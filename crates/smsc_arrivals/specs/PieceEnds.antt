@@ -1,9 +1,9 @@
 -- What contracts see of the two ends of the queue of a connection's pieces.
 use Rattle.std.specs.Prelude.{ℕ, List, Option}
 use Rattle.crossbeam_channel.specs.Claims.{view}
-use Rattle.smsc_server.specs.declared.serving.pieces.ends.PieceSender.{PieceSender}
-use Rattle.smsc_server.specs.declared.serving.pieces.ends.PieceReceiver.{PieceReceiver}
-use Rattle.smsc_server.specs.serving.Pieces.{left_behind}
+use Rattle.smsc_arrivals.specs.declared.pieces.ends.PieceSender.{PieceSender}
+use Rattle.smsc_arrivals.specs.declared.pieces.ends.PieceReceiver.{PieceReceiver}
+use Rattle.smsc_arrivals.specs.Pieces.{left_behind}
 
 -- what the stream was to give when the queue was opened, where it states that
 abbrev pub source_of : PieceSender → Option (List ℕ)

@@ -1,7 +1,7 @@
 use Rattle.std.proofs.Common.{ap}
 use Rattle.crossbeam_channel.specs.Claims.{view}
-use Rattle.smsc_server.proofs.serving.Crossing.{take_next, takes}
-use Rattle.smsc_server.proofs.serving.pieces.ends.PieceReceiver.take.Goals as goal
+use Rattle.smsc_arrivals.proofs.Crossing.{take_next, takes}
+use Rattle.smsc_arrivals.proofs.pieces.ends.PieceReceiver.take.Goals as goal
 
 pub try_recv_as-requires-clause-rule : goal.try_recv_as-requires-clause-rule
 try_recv_as-requires-clause-rule g c = (takes _ _ (ap (λ v. v.takes) c.args.self.now.takes), λ items views h at. tt)

@@ -1,11 +1,11 @@
 //! What both ends of the queue of a connection's pieces do.
 ghost use Rattle.std.specs.Prelude.{◌≡◌, ◌++◌, [], IfOk, MatchBool, MatchResult};
 ghost use Rattle.std.specs.Io.KnownBytes.{Consumes};
-ghost use Rattle.smsc_server.specs.serving.Pieces.{octets_of, IsGivenOf};
-ghost use Rattle.smsc_server.specs.serving.PieceEnds.{given_by, left_at, source_of};
+ghost use Rattle.smsc_arrivals.specs.Pieces.{octets_of, IsGivenOf};
+ghost use Rattle.smsc_arrivals.specs.PieceEnds.{given_by, left_at, source_of};
 
-use crate::serving::pieces::ends::{PieceReceiver, PieceSender};
-use crate::serving::pieces::{Gives, Piece, Roles, Source, Takes};
+use crate::pieces::ends::{PieceReceiver, PieceSender};
+use crate::pieces::{Gives, Piece, Roles, Source, Takes};
 use crossbeam_channel::{TryRecvError, bounded_with};
 use std::alloc::{AllocError, Global};
 use std::io::Read;
@@ -36,7 +36,7 @@ fn open_from<J: Source, S: Read>(
 }
 
 /// The ends of a new queue for what the stream gives from now on.
-pub(crate) fn open_pieces<S: Read>(
+pub fn open_pieces<S: Read>(
     alloc: Global,
     stream: &S,
 ) -> Result<(PieceSender, PieceReceiver), AllocError>
@@ -48,7 +48,7 @@ pub(crate) fn open_pieces<S: Read>(
 
 impl PieceSender {
     /// Gives the seat a piece, behind those that were given, and waits where there is no room. False where the seat has left.
-    pub(crate) fn give<R: Wait>(&mut self, rt: &R, piece: Piece) -> bool
+    pub fn give<R: Wait>(&mut self, rt: &R, piece: Piece) -> bool
         requires { IsGivenOf (source_of self.old) (given_by self.old ++ octets_of piece) }
         ensures source { source_of self.new ≡ source_of self.old }
         ensures given { MatchBool result
@@ -63,7 +63,7 @@ impl PieceSender {
 
 impl PieceReceiver {
     /// Takes the next piece of what the stream was to give. An error only if there was none at one moment of the call.
-    pub(crate) fn take<R: Wait>(&mut self, rt: &R) -> Result<Piece, TryRecvError>
+    pub fn take<R: Wait>(&mut self, rt: &R) -> Result<Piece, TryRecvError>
         ensures { MatchResult result
             (λ piece. Consumes (left_at self.old) (left_at self.new) (octets_of piece))
             (λ _. left_at self.new ≡ left_at self.old) }

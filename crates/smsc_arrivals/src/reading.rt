@@ -1,31 +1,31 @@
-//! The threads that read connections.
+//! What the thread of a seat reads: one connection after another.
 ghost use Rattle.std.proofs.Props.{props};
-ghost use Rattle.smsc_server.specs.serving.PieceEnds.{given_by, source_of};
-ghost use Rattle.smsc_server.specs.serving.Pieces.{IsReadSo};
-ghost use Rattle.smsc_server.specs.serving.Reading.{HasRead};
+ghost use Rattle.smsc_arrivals.specs.PieceEnds.{given_by, source_of};
+ghost use Rattle.smsc_arrivals.specs.Pieces.{IsReadSo};
+ghost use Rattle.smsc_arrivals.specs.Reading.{HasRead};
 
-use crate::serving::pieces::{PIECE, Piece, PieceSender};
+use crate::pieces::{PIECE, Piece, PieceSender};
 use crossbeam_channel::Receiver;
-use sms_keeper::Bell;
+use sms_seats::Bell;
 use std::io::{self, Read};
 use std::sync::Wait;
 
 /// A connection to be read, and where its octets are put. What was put is what the stream gave since the queue was opened, each octet once and
 /// in order.
 #[derive(Drop)]
-pub(crate) struct Reading<S: Read> {
-    pub(crate) stream: S,
-    pub(crate) pieces: PieceSender,
+pub struct Reading<S: Read> {
+    pub stream: S,
+    pub pieces: PieceSender,
     ghost given: { IsReadSo (source_of pieces) (given_by pieces) (S.remaining stream) } by { Prim.hlevel props },
 }
 
 /// What the thread that reads for a seat has.
 #[derive(Drop)]
-pub(crate) struct Reader<R, S: Read> {
-    pub(crate) rt: R,
+pub struct Reader<R, S: Read> {
+    pub rt: R,
     /// That of the seat.
-    pub(crate) bell: Bell,
-    pub(crate) readings: Receiver<Reading<S>>,
+    pub bell: Bell,
+    pub readings: Receiver<Reading<S>>,
 }
 
 /// What a read gave.
@@ -70,7 +70,7 @@ impl<R: Wait, S: Read + Drop> Reader<R, S> {
     }
 
     /// Reads one connection after another, until there will be none any more.
-    pub(crate) fn read_all(&self) {
+    pub fn read_all(&self) {
         for _ in self.rt.forever() {
             let Ok(reading) = self.readings.recv(&self.rt) else {
                 return;

@@ -4,8 +4,8 @@ use mathlib.Core.Option.{some}
 use lib.ListN.{get_elem?}
 use Rattle.std.specs.Io.{StartsWith}
 use Rattle.std.specs.Option.{ForSome}
-use Rattle.smsc_server.specs.declared.serving.pieces.Piece.{Piece}
-use Rattle.smsc_server.specs.declared.serving.pieces.PiecesView.{PiecesView}
+use Rattle.smsc_arrivals.specs.declared.pieces.Piece.{Piece}
+use Rattle.smsc_arrivals.specs.declared.pieces.PiecesView.{PiecesView}
 
 abbrev pub octets_of : Piece → List ℕ
 octets_of piece = take piece.count piece.octets
