@@ -4,6 +4,7 @@ pub mod Limits
 pub mod OneAnswer
 pub mod Ran
 pub mod RateLaws
+pub mod RateLists
 pub mod Sat
 pub mod ShareLists
 pub mod Served

@@ -10,6 +10,7 @@
 //! - `clock`: the time of a run
 //! - `connection`: the ports, and the wire of a connection that was accepted
 //! - `entrance`: the listeners, and the way from them to the seats
+//! - `link_seats`: which handset has its link at which seat
 //! - `poller`: what wakes the thread that accepts connections
 //! - `fault`: why a run ended early
 //! - `endpoints`: the threads of the seats
@@ -23,6 +24,7 @@
 //! - `seat_thread`: the threads of the seats, each of which hands its seat back
 //! - `occupancy`: which connections may sit at the seats
 //! - `observer`: the observer of a run
+//! - `telling`: what an observer is told
 
 mod accepting;
 mod allowances;
@@ -32,6 +34,7 @@ mod connection;
 mod endpoints;
 mod entrance;
 mod fault;
+mod link_seats;
 mod loopback;
 mod observed_keep;
 mod observer;
@@ -43,6 +46,7 @@ mod refusing;
 mod run;
 mod seat_thread;
 mod server;
+mod telling;
 
 pub use allowances::{Allowance, Allowances};
 pub use clock::{Clocks, RunClock, milliseconds};
