@@ -11,3 +11,4 @@ pub mod CentresAnswers
 pub mod Forgotten
 pub mod FramesGiven
 pub mod RunReads
+pub mod Occupants

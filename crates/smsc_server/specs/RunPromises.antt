@@ -53,11 +53,12 @@ AreAsked (e ∷ items) = IsAsked e.stimulus × AreAsked items
 abbrev pub receipt_for : ℕ → Final → Out Reply
 receipt_for seat end = record { seat = seat; out = Receipt end }
 
--- The row that a message of this number has behind these items, or had as it was forgotten. It is in the state that was reported, and what was
--- reported is of it.
+-- The row that a message of this number has behind these items, or had as it was forgotten. It ended in the state and at the moment
+-- that were reported, and what was reported is of it.
 abbrev pub IsReported : List (Item Job Reply) → Final → Serving → Type 0
 IsReported items end s =
-    (id : ℕ) × (row : MessageRow) × (message_left id s items ≡ Some row) × (row.state ≡ Some end.state) × (end ≡ final_of end.state end.done row)
+    (id : ℕ) × (row : MessageRow) × (message_left id s items ≡ Some row) × (row.state ≡ Some end.state) × (row.done ≡ Some end.done)
+    × (end ≡ final_of end.state end.done row)
 
 -- so it is from some moment of the run on
 abbrev pub WasReported : Serving → List (Item Job Reply) → Final → Type 0

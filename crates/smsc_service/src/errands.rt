@@ -13,7 +13,7 @@ const MOST: u16 = 200;
 const STEP: u64 = 1;
 
 // And between two walks through the messages, and behind a call that was not done.
-const REST: u64 = 60;
+const REST: u64 = 10;
 
 /// What a service forgets as it runs: messages that ended so many seconds ago, each of which goes to the archive first.
 #[derive(Drop)]

@@ -155,8 +155,14 @@ impl<K: CentreStore + Drop, A: Archive + Drop> Service<K, A> {
         let Some(board) = &self.board else {
             return;
         };
+        let Stimulus::Job(seat, job) = stimulus else {
+            return;
+        };
+        if matches!(job, Job::LinkUp { .. }) {
+            board.begin_link(*seat);
+        }
         if let Some(cause) = cause_told_by(stimulus) {
-            board.count(cause);
+            board.count(*seat, cause);
         }
     }
 

@@ -65,27 +65,11 @@ impl Counter {
 }
 
 impl Counter {
-    ghost use Rattle.std.specs.Prelude.{◌≡◌, ◌+◌, ◌%◌, ◌^◌, []};
-    ghost use Rattle.sms_keeper.specs.declared.machine.Fate.TheVariants.{Done, Refused};
+    ghost use Rattle.std.specs.Prelude.{◌≡◌, ◌+◌, ◌%◌, ◌^◌};
+    ghost use Rattle.sms_keeper.specs.declared.machine.Fate.TheVariants.{Refused};
     ghost use Rattle.sms_keeper.specs.declared.machine.Stimulus.TheVariants.{Job};
     ghost use Rattle.sms_keeper.specs.Fates.{MatchFate};
     ghost use Rattle.test_formats.specs.hub.Counting.{sum_after, sums_given};
-
-    // One errand less.
-    fn run_errand(&mut self) -> Step<Reply>
-        ensures outs { result.outs ≡ [] }
-        ensures if_refused { result.if_refused ≡ [] }
-        ensures fate { result.fate ≡ Done }
-        ensures sum { self.new.sum ≡ self.old.sum }
-        ensures kept { self.new.kept ≡ self.old.kept }
-    {
-        self.errands = self.errands.saturating_sub(1);
-        Step {
-            fate: Fate::Done,
-            outs: Outs::none(),
-            if_refused: Outs::none(),
-        }
-    }
 
     // Adds a job up, or refuses it. Its store holds what it held.
     fn add(&mut self, seat: usize, job: u32) -> Step<Reply>
@@ -162,7 +146,14 @@ impl Machine<u32, Reply> for Counter {
                 outs: Outs::none(),
                 if_refused: Outs::none(),
             },
-            Stimulus::Own(_) => self.run_errand(),
+            Stimulus::Own(_) => {
+                self.errands = self.errands.saturating_sub(1);
+                Step {
+                    fate: Fate::Done,
+                    outs: Outs::none(),
+                    if_refused: Outs::none(),
+                }
+            }
             Stimulus::Job(seat, job) => self.add(*seat, *job),
         }
     }
