@@ -10,7 +10,7 @@ ghost use Rattle.sms_base.specs.MessageId.{IsIdText};
 ghost use Rattle.smsc_cli.specs.words.LookWords.{AskForLook, IsIdOf, MayBe, Wants};
 ghost use Rattle.smsc_cli.specs.words.Numbers.{IsCount, SpellsCount, SpellsFrom};
 ghost use Rattle.smsc_cli.specs.words.ServerWords.{AreOptionsOf, AskForEnd, AskForPassword, AskForReload, AskForSave, AskForServer, AskForStop, AskServer, AskToOrder, AsksForPassword, AsksOfServer, AsksToEnd, AsksToLook, AsksToOrder, AsksToReload, AsksToSave, AsksToServe, AsksToStop, IsPortText, SpelledOptions, SpelledServer, SpellsEnd, SpellsOrder, SpellsServer, SpellsStop};
-ghost use Rattle.smsc_cli.specs.words.ServerWords.{account_texts, end_command, end_value, id_word, is_word, keeping_command, listed, listed_words, more_command, needed_command, order_command, order_value, paths_command, port_command, reload_command, reload_value, save_command, save_value, seat_word, server_command, server_value, store_command, stop_command, stop_value, word_of};
+ghost use Rattle.smsc_cli.specs.words.ServerWords.{account_texts, end_command, end_value, id_word, is_word, keeping_command, listed, listed_words, more_command, needed_command, order_command, order_value, paths_command, port_command, reload_command, reload_value, save_command, save_value, seat_word, server_command, server_value, store_command, stop_command, stop_value};
 
 use crate::centre_table::Filter;
 use crate::words::account::AccountWords;
@@ -280,15 +280,6 @@ pub(crate) fn reload_command<'a>(alloc: Global) -> Result<Command<'a>, AllocErro
     Command::new(alloc, "reload").arg(required(alloc, "control"))
 }
 
-fn name_of(order: OrderWord) -> &'static str
-    ensures { result.now ≡ word_of order }
-{
-    match order {
-        OrderWord::Retry => "retry",
-        OrderWord::Cancel => "cancel",
-    }
-}
-
 fn id_word<'a>(alloc: Global) -> Arg<'a>
     ensures rule { rule_of result ≡ id_word }
     ensures local { result.global ≡ false }
@@ -300,11 +291,18 @@ fn id_word<'a>(alloc: Global) -> Arg<'a>
 pub(crate) fn order_command<'a>(alloc: Global, order: OrderWord) -> Result<Command<'a>, AllocError>
     ensures { IfOk result (λ command. app_of command ≡ order_command order) }
 {
-    with_two(
-        Command::new(alloc, name_of(order)),
-        required(alloc, "control"),
-        id_word(alloc),
-    )
+    match order {
+        OrderWord::Retry => with_two(
+            Command::new(alloc, "retry"),
+            required(alloc, "control"),
+            id_word(alloc),
+        ),
+        OrderWord::Cancel => with_two(
+            Command::new(alloc, "cancel"),
+            required(alloc, "control"),
+            id_word(alloc),
+        ),
+    }
 }
 
 /// The words that no option takes, in the matches of the words.
