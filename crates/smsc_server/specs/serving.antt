@@ -2,7 +2,6 @@ pub mod Connections
 pub mod Entering
 pub mod KeptSeats
 pub mod LinkPlaces
-pub mod NoRoom
 pub mod PieceEnds
 pub mod Pieces
 pub mod Rates
