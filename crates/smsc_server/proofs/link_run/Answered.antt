@@ -39,8 +39,8 @@ asked_answer (Discard entry) c = refl
 pub answers_more : (timed : List HandsetEvent) (now : ℕ) (act : OwnersAct) (a b c : Core) (out tick : List ℕ) → Follows timed a b out → Sends (Tick now) b c tick
     → answers_to (timed ++ Tick now ∷ event_of act ∷ []) a ≡ answers_to timed a ++ answer_to (event_of act) c
 answers_more timed now act a b c out tick h s =
-    let then : c ≡ behind (Tick now) b = sends_behind (Tick now) b c tick s in
+    let ticked : c ≡ behind (Tick now) b = sends_behind (Tick now) b c tick s in
     answers_join timed (Tick now ∷ event_of act ∷ []) a b out h
     ∙ ap (λ (l : List ℕ). answers_to timed a ++ l)
     (append-nil (answer_of (event_of act) (behind (Tick now) b))
-    ∙ (asked_answer act (behind (Tick now) b) ∙ ap (λ (core : Core). answer_to (event_of act) core) (sym then)))
+    ∙ (asked_answer act (behind (Tick now) b) ∙ ap (λ (core : Core). answer_to (event_of act) core) (sym ticked)))
