@@ -25,7 +25,7 @@ pub use hub::Hub;
 pub use hub_fault::HubFault;
 pub use run::{many_sessions, two_sessions};
 pub use sms_keeper::{
-    Broken, Clock, End, Fate, Gate, Item, Keeper, Machine, NoRecord, Out, Outs, Recorder, Seat,
-    Step, Stimulus, Unsettled,
+    Broken, Clock, End, Errand, Fate, Gate, Item, Keeper, Machine, NoRecord, Out, Outs, Recorder,
+    Seat, Step, Stimulus, Unsettled,
 };
 pub use terms::run_terms;

@@ -1,7 +1,7 @@
 //! The one keeper of the machine, which runs in groups.
 //!
 //! The keeper asks its machine one job after another, as `sms_seats` hands them over, and a tick where its clock shows a
-//! later moment. It holds what they give. Once nothing waits any more, or 64 items were asked, the machine commits the
+//! later moment. Where the machine has an errand, which no seat put, it asks that before the next job. It holds what they give. Once nothing waits any more, or 64 items were asked, the machine commits the
 //! group, and only then the outs leave, in order. If the machine's store refuses, each item of the group is refused.
 //!
 //! What it ran is one history. Each item's outs are what the machine's definition gives after the items before it. Each
@@ -22,7 +22,7 @@ mod outs;
 
 pub use keeper::{End, Keeper};
 pub use machine::{
-    Broken, Clock, Fate, Gate, Item, Machine, NoRecord, Recorder, Step, Stimulus, Unsettled,
+    Broken, Clock, Errand, Fate, Gate, Item, Machine, NoRecord, Recorder, Step, Stimulus, Unsettled,
 };
 pub use outs::{Out, Outs};
 pub use sms_seats::{Bell, Seat};

@@ -8,7 +8,22 @@ ghost use Rattle.sms_keeper.specs.declared.outs.Out.{Out};
 ghost use Rattle.sms_keeper.specs.Fates.{MatchFate};
 
 use crate::outs::Outs;
-use sms_base::Moment;
+use sms_base::{MessageId, Moment};
+
+/// What the machine is to do that no seat asks.
+#[derive(Clone, Copy, Debug, PartialEq, Eq)]
+pub enum Errand {
+    /// It looks at so many messages, from that number on, and forgets those that may go and ended before that moment.
+    Forget {
+        before: Moment,
+        from: u64,
+        most: u16,
+    },
+    /// Its owner orders that what waits of the message is due now.
+    Retry(MessageId),
+    /// Its owner orders that the message is deleted.
+    Delete(MessageId),
+}
 
 /// What the machine is asked.
 #[derive(Drop)]
@@ -17,6 +32,8 @@ pub enum Stimulus<J> {
     Job(usize, J),
     /// The moment that the clock shows.
     Tick(Moment),
+    /// An errand, which no seat put.
+    Own(Errand),
 }
 
 /// The result of an item.
@@ -128,6 +145,9 @@ pub trait Machine<J, O> {
     ghost gives: { Self.State → Stimulus J → Fate → List (Out O) };
 
     ghost after: { Self.State → Stimulus J → Fate → Self.State };
+
+    /// What it is to do at that moment that no seat asks, if anything. The keeper asks it of the machine at once.
+    fn errand(&self, now: Moment) -> Option<Errand>;
 
     /// Plans and adopts. Nothing is committed yet, and nothing may leave. After a step that was refused its whole group is.
     fn step(&mut self, stimulus: &Stimulus<J>) -> Step<O>

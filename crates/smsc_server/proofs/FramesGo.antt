@@ -26,8 +26,9 @@ use Rattle.sms_centre_spec.specs.jobs.Requests.{is_request}
 use Rattle.sms_keeper.specs.declared.machine.Fate.{Fate}
 use Rattle.sms_keeper.specs.declared.machine.Fate.TheVariants.{Done, NoMemory, Refused}
 use Rattle.sms_keeper.specs.declared.machine.Item.{Item}
+use Rattle.sms_keeper.specs.declared.machine.Errand.{Errand}
 use Rattle.sms_keeper.specs.declared.machine.Stimulus.{Stimulus}
-use Rattle.sms_keeper.specs.declared.machine.Stimulus.TheVariants.{Job as JobOf, Tick}
+use Rattle.sms_keeper.specs.declared.machine.Stimulus.TheVariants.{Job as JobOf, Tick, Own}
 use Rattle.sms_keeper.specs.declared.outs.Out.{Out}
 use Rattle.sms_keeper.specs.History.{IsHistory}
 use Rattle.sms_receipt.specs.declared.final_message.Final.{Final}
@@ -35,11 +36,11 @@ use Rattle.sms_rows.specs.table.Table.{Rises, put, row_at, without}
 use Rattle.sms_rows.proofs.table.Tables.{among_found, among_put, among_without, rises_put, rises_without}
 use Rattle.smsc_service.specs.Asking.{asked, asked_by, link_for, of_handset}
 use Rattle.smsc_service.specs.Numbers.{is_number}
-use Rattle.smsc_service.specs.Replies.{answer_for, answer_out, asker, end_of, failed, failed_by, frame_out, frame_outs, is_that, receipt_out, receipt_outs, replies_at, risen_by, seat_for, taken_by}
+use Rattle.smsc_service.specs.Replies.{answer_for, answer_out, asker, end_of, failed, failed_by, frame_out, frame_outs, is_that, receipt_out, receipt_outs, replies_at, risen_by, seat_for, taken_by, seat_answer}
 use Rattle.smsc_service.specs.Seats.{Seats, followed, handset_at, handset_of, link_key, nobody, raised, seat_of}
 use Rattle.smsc_service.specs.Serving.{Serving, after, after_for, followed_by, gives, gives_for, refusal_for, restarted, unless_refused}
 use Rattle.smsc_service.specs.declared.asking.SeatRequest.{SeatRequest}
-use Rattle.smsc_service.specs.declared.asking.SeatRequest.TheVariants.{Event, Nothing, Taken}
+use Rattle.smsc_service.specs.declared.asking.SeatRequest.TheVariants.{Event, Nothing, Taken, Forget}
 use Rattle.smsc_service.specs.declared.seat_map.LinkSeat.{LinkSeat}
 use Rattle.smsc_server.specs.FramesGiven.{GoToHandsets, IsLinked, IsOfHandset, StaysUp, frame_for}
 use Rattle.smsc_server.proofs.RunKept.{among_parts, between}
@@ -72,11 +73,13 @@ module _ (n : ℕ) (octets : List ℕ) where
   none_failed : (stimulus : Stimulus Job) → Among (frame_for n octets) (failed_by stimulus) → ⊥
   none_failed (JobOf from job) there = no_failure (is_request job) from ESME_RSYSERR there
   none_failed (Tick now) there = there
+  none_failed (Own errand) there = there
 
   none_taken : (stimulus : Stimulus Job) → Among (frame_for n octets) (taken_by stimulus) → ⊥
   none_taken (JobOf from job) (inl e) = let k : FrameOut octets ≡ TakenOut = ap (λ (o : Out Reply). o.out) e in absurd cc
   none_taken (JobOf from job) (inr there) = there
   none_taken (Tick now) there = there
+  none_taken (Own errand) there = there
 
   -- a frame that was sent, to the seat of its handset
   abbrev IsSent : Option (List ℕ) → ℕ → List LinkSeat → List Sent → Type 0
@@ -117,17 +120,21 @@ module _ (n : ℕ) (octets : List ℕ) where
         → Among (frame_for n octets) (unless_refused fate refusal stimulus (gives_for a fate s stimulus)) → WasSent stimulus
     request_sent stimulus (Event event) Done refusal e there =
         let d = happened event s.core in
-        (event, e, replied (risen_by stimulus) (asker stimulus) s.seats.links d.answer d.links.frames (messages_in d.store) d.bindings.deliveries there)
+        (event, e, replied (risen_by stimulus) (asker stimulus) s.seats.links (seat_answer stimulus d.answer) d.links.frames (messages_in d.store) d.bindings.deliveries there)
     request_sent stimulus Nothing Done refusal e there = absurd (none_failed stimulus there)
     request_sent stimulus Taken Done refusal e there = absurd (none_taken stimulus there)
+    request_sent stimulus (Forget before from most) Done refusal e there = absurd there
     request_sent stimulus (Event event) Refused refusal e there = absurd (none_failed stimulus there)
     request_sent stimulus Nothing Refused refusal e there = absurd (none_failed stimulus there)
     request_sent stimulus Taken Refused refusal e there = absurd (none_taken stimulus there)
+    request_sent stimulus (Forget before from most) Refused refusal e there = absurd (none_failed stimulus there)
     request_sent (JobOf from job) a NoMemory (Some status) e there = absurd (no_failure true from status there)
     request_sent (Tick now) a NoMemory (Some status) e there = absurd there
+    request_sent (Own errand) a NoMemory (Some status) e there = absurd there
     request_sent stimulus (Event event) NoMemory None e there = absurd (none_failed stimulus there)
     request_sent stimulus Nothing NoMemory None e there = absurd (none_failed stimulus there)
     request_sent stimulus Taken NoMemory None e there = absurd (none_taken stimulus there)
+    request_sent stimulus (Forget before from most) NoMemory None e there = absurd (none_failed stimulus there)
 
     was_sent : (stimulus : Stimulus Job) (fate : Fate) → Among (frame_for n octets) (gives s stimulus fate) → WasSent stimulus
     was_sent stimulus fate there = request_sent stimulus (asked_by s.seats stimulus) fate (refusal_for (asked_by s.seats stimulus) s.core) refl there
@@ -164,6 +171,7 @@ rises (JobOf seat (DeliverAnswered id is_accepted)) handset e = absurd (true≢f
 rises (JobOf seat LinkDown) handset e = absurd (true≢false (sym e))
 rises (JobOf seat (Frame octets)) handset e = absurd (true≢false (sym e))
 rises (Tick now) handset e = absurd (true≢false (sym e))
+rises (Own errand) handset e = absurd (true≢false (sym e))
 
 abbrev IsNamed : Stimulus Job → List LinkSeat → List ℕ → ℕ → Type 0
 IsNamed stimulus links handset n = (stimulus ≡ JobOf n (LinkUp handset)) ⊎ IsAt handset n links
@@ -273,6 +281,9 @@ module _ (s : Serving) (items : List (Item Job Reply)) (e : Item Job Reply) (h :
   tick_stays : (now : ℕ) → e.stimulus ≡ Tick now → (l : LinkSeat) → Among l s.seats.links → e.stimulus ≡ JobOf l.seat LinkDown → e.fate ≡ NoMemory
   tick_stays now is l i down = let never : Tick now ≡ JobOf l.seat LinkDown = sym is ∙ down in absurd cc
 
+  own_stays : (errand : Errand) → e.stimulus ≡ Own errand → (l : LinkSeat) → Among l s.seats.links → e.stimulus ≡ JobOf l.seat LinkDown → e.fate ≡ NoMemory
+  own_stays errand is l i down = let never : Own errand ≡ JobOf l.seat LinkDown = sym is ∙ down in absurd cc
+
   -- only a number is asked for as a link
   up_number : (event : CentreEvent) (seat : ℕ) (job : Job) → asked s.seats seat job ≡ Event event → (handset : List ℕ) → job ≡ LinkUp handset → is_number handset ≡ true
   up_number event seat job asks handset up = ⊎_elim
@@ -286,6 +297,7 @@ module _ (s : Serving) (items : List (Item Job Reply)) (e : Item Job Reply) (h :
   event_follows : (stimulus : Stimulus Job) (event : CentreEvent) → e.stimulus ≡ stimulus → asked_by s.seats stimulus ≡ Event event
       → AreLinked (items ++ e ∷ []) (followed_by stimulus s.seats).links
   event_follows (Tick now) event is asks = all_stay (tick_stays now is)
+  event_follows (Own errand) event is asks = all_stay (own_stays errand is)
   event_follows (JobOf seat job) event is asks = ⊎_elim
       (λ (t : nat_lt seat 32 ≡ true).
       subst (λ (x : Seats). AreLinked (items ++ e ∷ []) x.links) (sym (cond-true (nat_lt seat 32) (followed seat job s.seats) s.seats t))
@@ -307,12 +319,18 @@ module _ (s : Serving) (items : List (Item Job Reply)) (e : Item Job Reply) (h :
   not_taken : (event : CentreEvent) → Taken ≡ Event event → ⊥
   not_taken event f = cc
 
+  not_forget : (before from most : ℕ) (event : CentreEvent) → Forget before from most ≡ Event event → ⊥
+  not_forget before from most event f = cc
+
   request_links : (a : SeatRequest) (fate : Fate) → asked_by s.seats e.stimulus ≡ a → e.fate ≡ fate → AreLinked (items ++ e ∷ []) (after_for a fate s e.stimulus).seats.links
   request_links (Event event) Done asks f = event_follows e.stimulus event refl asks
   request_links (Event event) NoMemory asks f = all_stay (λ l i down. f)
   request_links (Event event) Refused asks f = event_follows e.stimulus event refl asks
   request_links Nothing fate asks f = all_stay (down_asks Nothing asks not_nothing)
   request_links Taken fate asks f = all_stay (down_asks Taken asks not_taken)
+  request_links (Forget before from most) Done asks f = all_stay (down_asks (Forget before from most) asks (not_forget before from most))
+  request_links (Forget before from most) NoMemory asks f = all_stay (λ l i down. f)
+  request_links (Forget before from most) Refused asks f = all_stay (down_asks (Forget before from most) asks (not_forget before from most))
 
   item_links : AreLinked (items ++ e ∷ []) (after s e.stimulus e.fate).seats.links
   item_links = request_links (asked_by s.seats e.stimulus) e.fate refl refl

@@ -1,6 +1,8 @@
 pub mod AnswersAmongReplies
 pub mod BoundSessions
 pub mod CentresAnswers
+pub mod ForgetAsked
+pub mod Forgotten
 pub mod FramesGo
 pub mod HeardEnds
 pub mod LinkWritten

@@ -8,5 +8,7 @@ pub mod RunPromises
 pub mod Exchanges
 pub mod ReceiptsGiven
 pub mod CentresAnswers
+pub mod Forgotten
 pub mod FramesGiven
 pub mod RunReads
+pub mod Occupants

@@ -11,26 +11,26 @@ use Rattle.smsc_service.specs.InSeated.{IsMadeBy, held_by}
 use Rattle.smsc_service.specs.Seats.{seats_in}
 use Rattle.smsc_service.specs.Serving.{IsWaiting, Serving, restarted}
 
-module _ {K : Type 0} where
+module _ {K A : Type 0} where
   -- the store of its rows
-  abbrev pub store_in : Service K → K
+  abbrev pub store_in : Service K A → K
   store_in service = store_of service.seated.machine.keep
 
   -- the calls that were refused
-  abbrev pub refusals_of : Service K → Refusals
+  abbrev pub refusals_of : Service K A → Refusals
   refusals_of service = service.seated.machine.keep.refusals
 
   -- the rows could not be read when they were last to be
-  abbrev pub IsBroken : Service K → Type 0
+  abbrev pub IsBroken : Service K A → Type 0
   IsBroken service = service.is_broken ≡ true
 
-module _ {K : Type 0} (state : K → KeepState Rows) where
+module _ {K A : Type 0} (state : K → KeepState Rows) where
   -- its store has returned what was written, so far
-  abbrev pub HasHonestStore : Service K → Type 0
+  abbrev pub HasHonestStore : Service K A → Type 0
   HasHonestStore service = (state (store_in service)).is_honest
 
   -- In a group it is the first. If the group is refused it starts again as the second, whose rows the store has.
-  pub record IsStanding (service : Service K) (s r : Serving) : Type 0 where
+  pub record IsStanding (service : Service K A) (s r : Serving) : Type 0 where
     pub made : IsMadeBy state r.core.rows service.seated s
     pub sound : IsSound r.core.rows
     pub seats : seats_in service.resumed ≡ r.seats
@@ -38,13 +38,13 @@ module _ {K : Type 0} (state : K → KeepState Rows) where
     pub again : ((held_by service.seated ≡ no_changes) × (s.seats ≡ r.seats)) ⊎ (r ≡ restarted r.core.rows r.seats)
 
   -- between two groups its store has the rows, and its memory has that centre and those seats
-  abbrev pub IsServedBy : Service K → Serving → Type 0
+  abbrev pub IsServedBy : Service K A → Serving → Type 0
   IsServedBy service s = IsStanding service s s
 
   -- its store has the rows or is closed, its memory has those seats, and it starts again with both
-  abbrev pub IsAwaitedBy : Service K → Serving → Type 0
+  abbrev pub IsAwaitedBy : Service K A → Serving → Type 0
   IsAwaitedBy service r = IsWaiting (state (store_in service)).holds (state (store_in service)).is_closed service.resumed r
 
   -- if the store is honest, and the service was to start again as that before the call
-  abbrev pub IfAwaited : Serving → Service K → Service K → Type 0 → Type 0
+  abbrev pub IfAwaited : Serving → Service K A → Service K A → Type 0 → Type 0
   IfAwaited r before after claim = HasHonestStore after → IsAwaitedBy before r → claim

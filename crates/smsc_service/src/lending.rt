@@ -8,9 +8,12 @@ ghost use Rattle.smsc_service.specs.Serving.{restarted};
 ghost use Rattle.smsc_service.specs.InService.{IsServedBy, store_in};
 
 use crate::cutoff::Cutoff;
+use crate::errands::{Errands, Forgetting};
 use crate::link_board::LinkBoard;
+use crate::order_desk::OrderDesk;
 use crate::service::Service;
 use crate::start_error::StartError;
+use sms_centre::Archive;
 use sms_centre_spec::bodies::CentreStore;
 use std::alloc::Global;
 use std::sync::Arc;
@@ -32,8 +35,8 @@ fn share_of_board(board: Option<&Arc<LinkBoard>>) -> Result<Option<Arc<LinkBoard
 }
 
 // Lends the service to the work, and gives what the work gives, and the keep that the service has then.
-fn lend_service<K: CentreStore + Drop, R, W: FnOnce(&mut Service<K>) -> R>(
-    service: Service<K>,
+fn lend_service<K: CentreStore + Drop, A: Archive + Drop, R, W: FnOnce(&mut Service<K, A>) -> R>(
+    service: Service<K, A>,
     work: W,
 ) -> (R, K)
     requires { W.IsAlwaysCallable work }
@@ -45,15 +48,18 @@ fn lend_service<K: CentreStore + Drop, R, W: FnOnce(&mut Service<K>) -> R>(
 }
 
 /// Starts a service with the rows of a keep, with nobody at any seat, and lends it to the work. Gives what the work gives, and the keep back.
-/// Who calls this owns no service. Where there is a board, the service puts on it how links are. Behind the cutoff it begins nothing.
+/// Who calls this owns no service. Where there is a board, the service puts on it how links are. Behind the cutoff it begins nothing. It does what
+/// is ordered at the desk, and forgets what it is to forget.
 ///
 /// # Errors
 /// As `Service::start`. The work is not done then, and the keep is dropped.
-pub fn serve_with<K: CentreStore + Drop, R, W: FnOnce(&mut Service<K>) -> R>(
+pub fn serve_with<K: CentreStore + Drop, A: Archive + Drop, R, W: FnOnce(&mut Service<K, A>) -> R>(
     alloc: Global,
     keep: K,
     board: Option<&Arc<LinkBoard>>,
     cutoff: &Arc<Cutoff>,
+    desk: &Arc<OrderDesk>,
+    forgetting: Forgetting<A>,
     work: W,
 ) -> Result<(R, K), StartError>
     requires { W.IsAlwaysCallable work }
@@ -64,6 +70,7 @@ pub fn serve_with<K: CentreStore + Drop, R, W: FnOnce(&mut Service<K>) -> R>(
 {
     let board = share_of_board(board)?;
     let cutoff = share_of(cutoff)?;
-    let service = Service::start(alloc, keep, board, cutoff)?;
+    let errands = Errands::new(share_of(desk)?, forgetting);
+    let service = Service::start(alloc, keep, board, cutoff, errands)?;
     Ok(lend_service(service, work))
 }

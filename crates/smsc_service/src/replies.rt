@@ -150,22 +150,23 @@ fn deliver_all(
     Ok(())
 }
 
-/// The replies of a plan, for each seat: the answer to the seat that asked, frames and receipts.
+/// The replies of a plan, for each seat: the answer that is told to the seat that asked, frames and receipts.
 pub fn reply_outs(
     alloc: Global,
     seat_map: &SeatMap,
     asker: &Requester,
     centre: &Centre,
     planned: &Plan,
+    told: Option<CentreAnswer>,
 ) -> Result<Replies, AllocError>
     ensures { (c : Core) → Represents c centre.now
         → IfOk result (λ outs. outs.items ≡ replies_at asker.now.risen asker.now.seat
-        (seats_in seat_map.now).links planned.now.plan.outputs.answer planned.now.plan.outputs.frames
+        (seats_in seat_map.now).links told planned.now.plan.outputs.frames
         (all_applied message_key planned.now.plan.changes.messages c.rows.messages) planned.now.plan.outputs.deliveries) }
 {
     let outputs = planned.outputs();
     let mut outs = Vec::new(alloc);
-    answer(outputs.answer, asker.seat, &mut outs)?;
+    answer(told, asker.seat, &mut outs)?;
     send_all(alloc, seat_map, asker, outputs.frames.as_slice(), &mut outs)?;
     deliver_all(centre, planned, outputs.deliveries.as_slice(), &mut outs)?;
     Ok(outs)

@@ -1,14 +1,19 @@
-//! What a run forgets as it starts.
+//! What a run forgets as it starts, and as it goes on.
 use crate::archive::RunArchive;
 use crate::logging::Log;
 use crate::moments::text_of;
+use crate::opening::FoundStore;
+use crate::preparing::judge_rows;
 use crate::run_fault::RunFault;
 use sms_base::Moment;
+use sms_centre_rows::messages::MessageRow;
 use sms_centre_spec::Rows;
 use smsc_cli::words::ServerRun;
-use smsc_service::{CentreStore, ForgetError, forget_ended};
+use smsc_server::status::NO_MESSAGES;
+use smsc_service::{Archive, CentreStore, ForgetError, Forgetting, NotArchived, forget_ended};
+use smsc_status::MessageFigures;
 use std::alloc::{AllocError, Global};
-use std::sync::Wait;
+use std::sync::{Arc, Wait};
 
 // A day has so many seconds.
 const DAY: u64 = 86_400;
@@ -40,20 +45,24 @@ fn forget_before<R: Wait + Copy, K: CentreStore>(
     keep: &mut K,
     rows: Rows,
     before: Moment,
-) -> Result<(), RunFault> {
+) -> Result<Option<MessageFigures>, RunFault> {
     let Ok(mut archive) = RunArchive::open(host, run.archive) else {
         drop(rows);
         log.put("warn", "event=not_forgotten reason=archive");
-        return Ok(());
+        return Ok(Some(NO_MESSAGES));
     };
     let done = forget_ended(host.alloc(), rows, keep, &mut archive, before);
-    let count = archive.count;
+    let (count, taken) = (archive.count, archive.taken);
     drop(archive);
     match done {
-        Ok(()) => Ok(say_forgotten(host.alloc(), log, before, count)?),
+        Ok(()) => {
+            say_forgotten(host.alloc(), log, before, count)?;
+            Ok(Some(taken))
+        }
+        // Of what the archive took last, some may not have gone.
         Err(ForgetError::NotArchived) => {
             log.put("warn", "event=not_forgotten reason=archive");
-            Ok(())
+            Ok(None)
         }
         Err(ForgetError::BadRows) => Err(RunFault::BadRows),
         Err(ForgetError::NoMemory) => Err(RunFault::NoMemory),
@@ -61,22 +70,108 @@ fn forget_before<R: Wait + Copy, K: CentreStore>(
     }
 }
 
+// Rows of a store that its last run left in order were not judged as it was opened.
+fn judge_unread(host: &HostRuntime, found: &FoundStore, rows: Rows) -> Result<(), RunFault> {
+    if found.begun.is_of_order() {
+        judge_rows(host.alloc(), rows)
+    } else {
+        drop(rows);
+        Ok(())
+    }
+}
+
 /// Forgets the messages that ended before the days that the words keep, of these rows of the keep. Each goes to the archive first, if
-/// there is one. Where the archive can't be written nothing goes, and the log says so.
+/// there is one. Where the archive can't be written nothing more goes, and the log says so. Gives how many went in each state, where
+/// that is known. Rows on which no centre starts are refused.
 pub fn forget_old<R: Wait + Copy, K: CentreStore>(
     host: &HostRuntime,
     log: &Log<R>,
     run: &ServerRun<'_>,
     keep: &mut K,
     rows: Rows,
+    found: &FoundStore,
     start: Moment,
     newest: Moment,
-) -> Result<(), RunFault> {
+) -> Result<Option<MessageFigures>, RunFault> {
     match before_of(run, start, newest) {
         Some(before) => forget_before(host, log, run, keep, rows, before),
         None => {
-            drop(rows);
-            Ok(())
+            judge_unread(host, found, rows)?;
+            Ok(Some(NO_MESSAGES))
         }
     }
+}
+
+/// The archive of a run that goes on. Where it can't be written nothing goes, and the log says so once.
+#[derive(Drop)]
+pub struct LoggedArchive<R: Wait> {
+    // None where it could not be opened.
+    archive: Option<RunArchive>,
+    log: Arc<Log<R>>,
+    is_refused: bool,
+}
+
+impl<R: Wait + Copy> LoggedArchive<R> {
+    fn judge(&mut self, done: Result<(), NotArchived>) -> Result<(), NotArchived> {
+        if done.is_err() && !self.is_refused {
+            self.log.put("warn", "event=not_forgotten reason=archive");
+        }
+        self.is_refused = done.is_err();
+        done
+    }
+}
+
+impl<R: Wait + Copy> Archive for LoggedArchive<R> {
+    ghost use Rattle.std.specs.Prelude.{⊤};
+
+    ghost took = { λ archive message. ⊤ };
+
+    ghost keeps = { λ archive message. ⊤ };
+
+    fn take(&mut self, message: &MessageRow, parts: usize) -> Result<(), NotArchived> {
+        let done = match &mut self.archive {
+            Some(archive) => archive.take(message, parts),
+            None => Err(NotArchived),
+        };
+        self.judge(done)
+    }
+
+    fn sync(&mut self) -> Result<(), NotArchived> {
+        let done = match &mut self.archive {
+            Some(archive) => archive.sync(),
+            None => Err(NotArchived),
+        };
+        self.judge(done)
+    }
+}
+
+// What is kept of messages that have ended, in seconds. The rows may be older than the clock, which may be wrong: so much longer they are kept.
+fn kept_of(run: &ServerRun<'_>, start: Moment, newest: Moment) -> Option<u64> {
+    let behind = start.seconds().saturating_sub(newest.seconds());
+    let kept = DAY * u64::from(run.keep?);
+    Some(kept.saturating_add(behind))
+}
+
+/// What a run forgets as it goes on, by its words. It starts at that moment, and its newest row is of that one.
+pub fn forgetting_of<R: Wait + Copy>(
+    host: &HostRuntime,
+    log: &Arc<Log<R>>,
+    run: &ServerRun<'_>,
+    start: Moment,
+    newest: Moment,
+) -> Result<Forgetting<LoggedArchive<R>>, AllocError> {
+    let log = Arc::try_clone(log)?;
+    let keep = kept_of(run, start, newest);
+    let archive = match keep {
+        Some(_) => RunArchive::open(host, run.archive).ok(),
+        None => None,
+    };
+    Ok(Forgetting {
+        keep,
+        archive: LoggedArchive {
+            archive,
+            log,
+            is_refused: false,
+        },
+    })
 }

@@ -74,7 +74,7 @@ pub enum RunFault {
     #[error("line {0} is no account")]
     AccountLine(usize),
     /// The account at this line of the accounts' file is another than the run began with.
-    #[error("the account at line {0} is another than the run began with: a run takes over rate and suspended alone")]
+    #[error("the account at line {0} is another than the run began with: a run takes over rate, suspended, and that one has gone")]
     OtherAccount(usize),
     /// The run has no file of accounts.
     #[error("the run has no file of accounts")]
@@ -182,6 +182,8 @@ pub const USAGE: &str =
     \u{20}      smscd stop --control PATH [--wait SECONDS]\n\
     \u{20}      smscd end --control PATH SEAT\n\
     \u{20}      smscd reload --control PATH\n\
+    \u{20}      smscd retry --control PATH ID\n\
+    \u{20}      smscd cancel --control PATH ID\n\
     \u{20}      smscd password\n\
     \u{20}      smscd --help | --version\n\
     \n\
@@ -200,7 +202,7 @@ pub const USAGE: &str =
     \u{20}  --log messages    a line as a message is accepted, and one as it ends\n\
     \u{20}  --log access      one line a message at its end: who, to whom, when, how it ended; never a text\n\
     \u{20}  --sessions N      end by itself after N connections\n\
-    \u{20}  --keep DAYS       as it starts, forget the messages that ended before DAYS days; else all are kept\n\
+    \u{20}  --keep DAYS       forget the messages that ended before DAYS days, at the start and as it goes on; else all are kept\n\
     \u{20}  --archive FILE    append what is forgotten to FILE first, a line of JSON a message; never a text\n\
     a store that a run refuses otherwise:\n\
     \u{20}  --ahead           its rows are ahead of the clock, and that is right\n\
@@ -212,7 +214,9 @@ pub const USAGE: &str =
     orders:\n\
     \u{20}  stop              end in good order; waited for 15 seconds, or SECONDS\n\
     \u{20}  end SEAT          end the connection at that seat, 0 to 31\n\
-    \u{20}  reload            read the accounts' file again: rate and suspended\n\
+    \u{20}  reload            read the accounts' file again: rate, suspended, accounts that have gone\n\
+    \u{20}  retry ID          try that message now\n\
+    \u{20}  cancel ID         delete that message: it is reported as deleted\n\
     a password, read from standard input:\n\
     \u{20}  password          prints the salt and the hash of it for a table [[account]]\n\
     \n\

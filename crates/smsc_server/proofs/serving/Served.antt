@@ -17,7 +17,7 @@ use Rattle.smsc_server.specs.serving.Serving.{IsOneHistory, IsServed}
 module _ {L S : Type 0} (remaining contents : S → Option (List ℕ)) (admitted : Admitted) (reads : ℕ → Type 0)
     (came : L → Option (List (S × SocketAddr))) (doors : Doors L) where
   -- One history of a service that was lent is one history from the rows of its keep on.
-  pub served : {K : Type 0} (state : K → KeepState Rows) (keep : K) (lent left : Service K) (doors_then : Doors L)
+  pub served : {K A : Type 0} (state : K → KeepState Rows) (keep : K) (lent left : Service K A) (doors_then : Doors L)
       → ((rows : Rows) → IfHeld rows (state keep) (state (store_in lent)) (IsServedBy state lent (restarted rows nobody)))
       → WasHonest (state keep) (state (store_in lent))
       → IsOneHistory remaining contents admitted reads came doors doors_then gives after (HasHonestStore state left) (IsServedBy state lent) (IsServedBy state left)
@@ -33,22 +33,22 @@ module _ {L S : Type 0} (remaining contents : S → Option (List ℕ)) (admitted
   )
 
   -- So of a run that ended in order: the work is done on the service that is lent, and leaves the service in which the rows end.
-  pub served_if : {K F : Type 0} (state : K → KeepState Rows) (keep : K) (lent shown left : Service K) (ended : Result (Doors L) F)
+  pub served_if : {K A F : Type 0} (state : K → KeepState Rows) (keep : K) (lent shown left : Service K A) (ended : Result (Doors L) F)
       → ((rows : Rows) → IfHeld rows (state keep) (state (store_in lent)) (IsServedBy state lent (restarted rows nobody)))
       → WasHonest (state keep) (state (store_in lent))
       → shown ≡ lent
       → IfOk ended (λ doors_then. IsOneHistory remaining contents admitted reads came doors doors_then gives after (HasHonestStore state left) (IsServedBy state shown) (IsServedBy state left))
       → WasHonest (state (store_in shown)) (state (store_in left))
       → IfOk ended (λ doors_then. IsServed remaining contents admitted reads came doors doors_then state keep (store_in left))
-  served_if {K} state keep lent shown left (Ok doors_then) begins so shows history before =
-      let begun : HasHonestStore state shown → HasHonestStore state lent = subst (λ (s : Service K). HasHonestStore state s) shows in
+  served_if {K} {A} state keep lent shown left (Ok doors_then) begins so shows history before =
+      let begun : HasHonestStore state shown → HasHonestStore state lent = subst (λ (s : Service K A). HasHonestStore state s) shows in
       served state keep shown left doors_then
-      (λ rows is held. subst (λ (s : Service K). IsServedBy state s (restarted rows nobody)) (sym shows) (begins rows (begun is) held))
+      (λ rows is held. subst (λ (s : Service K A). IsServedBy state s (restarted rows nobody)) (sym shows) (begins rows (begun is) held))
       (λ is. so (begun is)) history before
   served_if state keep lent shown left (Err fault) begins so shows history before = tt
 
   -- So with the keep that is given back.
-  pub served_by : {K F : Type 0} (state : K → KeepState Rows) (keep kept : K) (lent shown left : Service K) (ended : Result (Doors L) F) (given : Result (Doors L × K) F)
+  pub served_by : {K A F : Type 0} (state : K → KeepState Rows) (keep kept : K) (lent shown left : Service K A) (ended : Result (Doors L) F) (given : Result (Doors L × K) F)
       → ((rows : Rows) → IfHeld rows (state keep) (state (store_in lent)) (IsServedBy state lent (restarted rows nobody)))
       → WasHonest (state keep) (state (store_in lent))
       → shown ≡ lent
@@ -57,7 +57,7 @@ module _ {L S : Type 0} (remaining contents : S → Option (List ℕ)) (admitted
       → kept ≡ store_in left
       → IfOk given (λ r. (ended ≡ Ok r.0) × (r.1 ≡ kept))
       → IfOk given (λ r. IsServed remaining contents admitted reads came doors r.0 state keep r.1)
-  served_by {K} {F} state keep kept lent shown left ended (Ok r) begins so shows history before keeps gives =
+  served_by {K} {A} {F} state keep kept lent shown left ended (Ok r) begins so shows history before keeps gives =
       subst (λ (k : K). IsServed remaining contents admitted reads came doors r.0 state keep k) (sym (gives.1 ∙ keeps))
       (subst (λ (e : Result (Doors L) F). IfOk e (λ doors_then. IsServed remaining contents admitted reads came doors doors_then state keep (store_in left))) gives.0
       (served_if state keep lent shown left ended begins so shows history before))

@@ -13,7 +13,7 @@ use Rattle.sms_seats.specs.Jobs.{jobs_among}
 use Rattle.sms_keeper.specs.declared.machine.Fate.{Fate}
 use Rattle.sms_keeper.specs.declared.machine.Item.{Item}
 use Rattle.sms_keeper.specs.declared.machine.Stimulus.{Stimulus}
-use Rattle.sms_keeper.specs.declared.machine.Stimulus.TheVariants.{Job as JobOf, Tick}
+use Rattle.sms_keeper.specs.declared.machine.Stimulus.TheVariants.{Job as JobOf, Tick, Own}
 use Rattle.sms_keeper.specs.declared.outs.Out.{Out}
 use Rattle.sms_keeper.specs.History.{IsHistory, answers_in as replies_in, asked, asked_by, for_seat, jobs_of, outs_to}
 use Rattle.smsc_loop.specs.Calls.{Call, jobs_put, replies_taken}
@@ -179,6 +179,7 @@ own_counts n (JobOf seat job) jobs = by_seat (n == seat)
     by_seat true = by_kind (is_request job) (requests_among jobs)
     by_seat false = sym (zero-add (requests_among jobs))
 own_counts n (Tick now) jobs = sym (zero-add (requests_among jobs))
+own_counts n (Own errand) jobs = sym (zero-add (requests_among jobs))
 
 record Cut (n : ℕ) (s : Serving) (items : List (Item Job Reply)) (t : Serving) (jobs : List Job) : Type 0 where
   pub own : List (Item Job Reply)
@@ -262,6 +263,7 @@ IsKind n stimulus = (own_jobs n stimulus ≡ []) ⊎ ((job : Job) × (stimulus �
 
 kind : (n : ℕ) (stimulus : Stimulus Job) → IsKind n stimulus
 kind n (Tick now) = inl refl
+kind n (Own errand) = inl refl
 kind n (JobOf seat job) = by_seat (n == seat) refl
   where
     by_seat : (b : Bool) → (n == seat) ≡ b → IsKind n (JobOf seat job)

@@ -1,6 +1,10 @@
 //! What an operator orders of a run.
+ghost use Rattle.std.specs.Prelude.{◌≡◌};
+ghost use Rattle.smsc_server.specs.serving.SeatOrders.{order_of};
+
+use sms_base::MessageId;
 use smsc_loop::Order;
-use smsc_service::Cutoff;
+use smsc_service::{Cutoff, Order as MessageOrder, OrderDesk, OrderOutcome};
 use std::alloc::{AllocError, Global};
 use std::sync::Arc;
 use std::sync::atomic::{AtomicBool, AtomicU8, Ordering};
@@ -20,6 +24,22 @@ const EMPTY: u8 = 3;
 
 const UNBIND: u8 = 4;
 
+// What is ordered of a seat of that number, in a run that ends at once, or in good order.
+fn order_by(is_cut: bool, is_stopped: bool, number: u8) -> Order
+    ensures { result ≡ order_of is_cut is_stopped number }
+{
+    if is_cut {
+        return Order::End;
+    }
+    match number {
+        END => Order::End,
+        REPLACED => Order::Replaced,
+        UNBIND => Order::Unbind,
+        _ if is_stopped => Order::Unbind,
+        _ => Order::Stay,
+    }
+}
+
 /// What is ordered of a run, by whoever has it: the run looks at it once a second.
 #[derive(Drop)]
 pub struct Orders {
@@ -28,6 +48,8 @@ pub struct Orders {
     cut: AtomicBool,
     // Behind it the centre begins nothing.
     cutoff: Arc<Cutoff>,
+    // Where orders of messages wait for the centre.
+    desk: Arc<OrderDesk>,
 }
 
 impl Orders {
@@ -42,6 +64,7 @@ impl Orders {
             stop: AtomicBool::new(false),
             cut: AtomicBool::new(false),
             cutoff: Arc::new(alloc, Cutoff::new())?,
+            desk: Arc::new(alloc, OrderDesk::new())?,
         })
     }
 
@@ -58,6 +81,20 @@ impl Orders {
     /// What keeps the centre from beginning anything, once the time of a run that is to end is nearly over.
     pub(crate) fn cutoff(&self) -> &Arc<Cutoff> {
         &self.cutoff
+    }
+
+    pub(crate) fn desk(&self) -> &Arc<OrderDesk> {
+        &self.desk
+    }
+
+    /// Orders something of a message. False where another such order is not done yet. One thread alone orders such.
+    pub fn order(&self, order: MessageOrder, id: MessageId) -> bool {
+        self.desk.put(order, id)
+    }
+
+    /// What came of the order of a message, once it is done.
+    pub fn outcome(&self) -> Option<OrderOutcome> {
+        self.desk.outcome()
     }
 
     /// Whether the run is to end.
@@ -118,15 +155,8 @@ impl Orders {
 
     /// What is ordered of the endpoint at the seat of this number.
     pub fn of(&self, seat: usize) -> Order {
-        if self.cut.load(Ordering::SeqCst) {
-            return Order::End;
-        }
-        match self.number(seat) {
-            END => Order::End,
-            REPLACED => Order::Replaced,
-            UNBIND => Order::Unbind,
-            _ if self.stop.load(Ordering::SeqCst) => Order::Unbind,
-            _ => Order::Stay,
-        }
+        let is_cut = self.cut.load(Ordering::SeqCst);
+        let is_stopped = self.stop.load(Ordering::SeqCst);
+        order_by(is_cut, is_stopped, self.number(seat))
     }
 }

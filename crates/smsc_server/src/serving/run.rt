@@ -37,7 +37,7 @@ use sms_centre_spec::jobs::{Job, Reply};
 use sms_hub::{Hub, run_terms};
 use sms_keeper::{Clock, Gate, Item, Keeper, Machine, Recorder, Seat};
 use smsc_arrivals::{Door, Doors};
-use smsc_service::{CentreStore, serve_with};
+use smsc_service::{Archive, CentreStore, Forgetting, serve_with};
 use std::alloc::Global;
 use std::io::{Read, Write};
 use std::net::OpenStream;
@@ -267,7 +267,7 @@ fn with_keep<L: Drop, K: Drop>(
 
 /// Starts a centre with the rows of a keep, and serves the connections of two ports. It ends once as many were served as are given,
 /// or the run is ordered to end. Then it gives the listeners back, and the keep. At most 32 connections are open at once. Those beyond
-/// wait unaccepted, and each is accepted as a seat becomes free.
+/// wait unaccepted, and each is accepted as a seat becomes free. As it runs it forgets what it is to forget.
 ///
 /// # Errors
 /// The store gave no rows, or they are not sound. A growth, a thread or a file was refused. Or the store refused a step and could not
@@ -275,6 +275,7 @@ fn with_keep<L: Drop, K: Drop>(
 pub fn serve<
     R: Threads + Wait + SystemClock + Copy + Send + 'static,
     K: CentreStore + Drop,
+    A: Archive + Drop,
     G: Gate,
     C: Clock,
     L: Door + Drop + Send + 'static,
@@ -283,6 +284,7 @@ pub fn serve<
     rt: R,
     alloc: Global,
     keep: K,
+    forgetting: Forgetting<A>,
     gate: &G,
     clock: &C,
     ports: Ports<L>,
@@ -300,6 +302,8 @@ where
         keep,
         given.links.as_ref(),
         given.orders.cutoff(),
+        given.orders.desk(),
+        forgetting,
         |service|
             requires listener { IsSend L.row }
             requires stream { IsSend L.Stream.row }

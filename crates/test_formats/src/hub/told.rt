@@ -13,6 +13,8 @@ pub struct Told {
     pub refused: usize,
     /// The ticks in order, in seconds since 1970, and nothing for each job.
     pub ticks: Vec<Option<u64>>,
+    /// The places of the errands among all items, from 1.
+    pub errands: Vec<usize>,
     pub groups: Vec<usize>,
     pub reopened: usize,
 }
@@ -26,6 +28,7 @@ impl Told {
             missing: 0,
             refused: 0,
             ticks: Vec::new(alloc),
+            errands: Vec::new(alloc),
             groups: Vec::new(alloc),
             reopened: 0,
         }
@@ -37,6 +40,10 @@ impl Told {
             self.missing = self.missing.wrapping_add(u64::from(job));
             self.refused = self.refused.wrapping_add(1);
         }
+    }
+
+    fn note_errand(&mut self) {
+        let _noted = self.errands.push(self.items);
     }
 
     // Without memory a place is missing, which the tests see.
@@ -58,6 +65,7 @@ impl Recorder<u32, Reply> for Told {
                 self.note_tick(None);
             }
             Stimulus::Tick(moment) => self.note_tick(Some(moment.seconds())),
+            Stimulus::Own(_) => self.note_errand(),
         }
     }
 

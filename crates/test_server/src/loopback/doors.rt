@@ -6,6 +6,7 @@ use crate::rows::holds;
 use crate::service::centre::{clock, keep, logins};
 use smsc_endpoint::LinkAccess;
 use smsc_server::{Allowances, Door, Doors, Event, Given, Observer, Orders, Ports, Side, serve};
+use smsc_service::{Forgetting, NoArchive};
 use std::alloc::Global;
 use std::io::{self, ErrorKind, Read, Write};
 use std::net::{
@@ -168,7 +169,20 @@ fn run<
     let links = opened(&rt, alloc, 3)?;
     let ports = Ports::of(&rt, alloc, applications, links)?;
     let clock = clock()?;
-    match serve(rt, alloc, keep(alloc)?, &Open, &clock, ports, taken) {
+    let forgetting = Forgetting {
+        keep: None,
+        archive: NoArchive,
+    };
+    match serve(
+        rt,
+        alloc,
+        keep(alloc)?,
+        forgetting,
+        &Open,
+        &clock,
+        ports,
+        taken,
+    ) {
         Ok((doors, store)) => {
             drop(store);
             Ok(doors)

@@ -1,10 +1,10 @@
 //! A machine that counts what seats ask, answers each request, and sends a frame for each link that is up and for each
 //! frame.
 use smpp_pdu::CommandStatus;
-use sms_base::Octets;
+use sms_base::{Moment, Octets};
 use sms_centre_spec::CentreAnswer;
 use sms_centre_spec::jobs::{Job, Reply};
-use sms_keeper::{Broken, Fate, Gate, Machine, Out, Outs, Step, Stimulus, Unsettled};
+use sms_keeper::{Broken, Errand, Fate, Gate, Machine, Out, Outs, Step, Stimulus, Unsettled};
 use sms_receipt::Final;
 use std::alloc::Global;
 
@@ -140,9 +140,13 @@ impl Machine<Job, Reply> for Counter {
 
     ghost after = { λ s stimulus fate. s };
 
+    fn errand(&self, _now: Moment) -> Option<Errand> {
+        None
+    }
+
     fn step(&mut self, stimulus: &Stimulus<Job>) -> Step<Reply> {
         match stimulus {
-            Stimulus::Tick(_) => gives(Outs::none()),
+            Stimulus::Tick(_) | Stimulus::Own(_) => gives(Outs::none()),
             Stimulus::Job(seat, job) => {
                 self.count(*seat, job);
                 gives(done(self.alloc, *seat, job, self.receipt))

@@ -17,6 +17,12 @@ pub returns-in-Event-clause-seats : goal.returns-in-Event-clause-seats
 returns-in-Event-clause-seats c = λ r same. refused_seats _ (seats_in c.args.seat_map.now) (seats_in c.follow.new.seat_map) r c.args.stimulus.now c.in-Event.ensures.asked same
     (c.follow.ensures ∙ ap (λ (q : Seats). followed_by c.args.stimulus.now q) same)
 
+pub returns-in-Forget-clause-outs : goal.returns-in-Forget-clause-outs
+returns-in-Forget-clause-outs c = λ r same. refused_gives _ (seats_in c.args.seat_map.now) r c.args.stimulus.now c.failed_at-in-Forget.result c.in-Forget.ensures.asked same c.failed_at-in-Forget.ensures
+
+pub returns-in-Forget-clause-seats : goal.returns-in-Forget-clause-seats
+returns-in-Forget-clause-seats c = λ r same. refused_seats _ (seats_in c.args.seat_map.now) (seats_in c.args.seat_map.now) r c.args.stimulus.now c.in-Forget.ensures.asked same same
+
 pub returns-in-Nothing-clause-seats : goal.returns-in-Nothing-clause-seats
 returns-in-Nothing-clause-seats c = λ r same. refused_seats _ (seats_in c.args.seat_map.now) (seats_in c.args.seat_map.now) r c.args.stimulus.now c.in-Nothing.ensures.asked same same
 
