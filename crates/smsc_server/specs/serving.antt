@@ -1,7 +1,7 @@
 pub mod Connections
 pub mod Entering
 pub mod KeptSeats
-pub mod NoRoom
+pub mod LinkPlaces
 pub mod Rates
 pub mod SeatEvents
 pub mod SeatOrders

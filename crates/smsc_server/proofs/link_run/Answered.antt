@@ -1,6 +1,7 @@
 -- The answers to what an owner asks, one after the other.
-use Rattle.std.proofs.Common.{◌≡◌, ℕ, List, [], ◌∷◌, ◌++◌, Result, Ok, Err, refl, sym, ap, ◌∙◌, append_assoc}
+use Rattle.std.proofs.Common.{◌≡◌, ℕ, List, [], ◌∷◌, ◌++◌, Option, Result, Ok, Err, refl, sym, ap, subst, ◌∙◌, append_assoc}
 use Rattle.std.proofs.lemmas.List.{append-nil}
+use Rattle.std.specs.Io.KnownBytes.{Appends}
 use Rattle.sms_handset.specs.declared.event.HandsetEvent.{HandsetEvent}
 use Rattle.sms_handset.specs.declared.event.HandsetEvent.TheVariants.{Tick}
 use Rattle.sms_handset.specs.declared.refusal.Refusal.{Refusal}
@@ -11,6 +12,9 @@ use Rattle.sms_script.specs.declared.owner.act.OwnersAct.TheVariants.{Write, Del
 use Rattle.smsc_server.specs.link_run.Answering.{answer_of, answers_to, behind, behind_by}
 use Rattle.smsc_server.specs.link_run.Asking.{answer_to, event_of}
 use Rattle.smsc_server.specs.link_run.Run.{Follows, Sends, SendsBy}
+
+pub appends_as : (a b : Option (List ℕ)) (one other : List ℕ) → Appends a b one → one ≡ other → Appends a b other
+appends_as a b one other p e = subst (λ (l : List ℕ). Appends a b l) e p
 
 sends_by_behind : (r : Result Draft Refusal) (a b : Core) (out : List ℕ) → SendsBy r a b out → b ≡ behind_by r a
 sends_by_behind (Ok d) a b out s = s.0
@@ -39,8 +43,8 @@ asked_answer (Discard entry) c = refl
 pub answers_more : (timed : List HandsetEvent) (now : ℕ) (act : OwnersAct) (a b c : Core) (out tick : List ℕ) → Follows timed a b out → Sends (Tick now) b c tick
     → answers_to (timed ++ Tick now ∷ event_of act ∷ []) a ≡ answers_to timed a ++ answer_to (event_of act) c
 answers_more timed now act a b c out tick h s =
-    let then : c ≡ behind (Tick now) b = sends_behind (Tick now) b c tick s in
+    let ticked : c ≡ behind (Tick now) b = sends_behind (Tick now) b c tick s in
     answers_join timed (Tick now ∷ event_of act ∷ []) a b out h
     ∙ ap (λ (l : List ℕ). answers_to timed a ++ l)
     (append-nil (answer_of (event_of act) (behind (Tick now) b))
-    ∙ (asked_answer act (behind (Tick now) b) ∙ ap (λ (core : Core). answer_to (event_of act) core) (sym then)))
+    ∙ (asked_answer act (behind (Tick now) b) ∙ ap (λ (core : Core). answer_to (event_of act) core) (sym ticked)))

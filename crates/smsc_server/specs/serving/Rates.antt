@@ -1,5 +1,5 @@
 -- How many requests of an account are put in a second.
-use Rattle.std.specs.Prelude.{ℕ, suc, ◌+◌, ◌/◌, ◌≤◌, ◌==◌, ◌&&◌, nat_lt, List, [], ◌∷◌, Bool, true, false, Option, Some, None, slice_set, ⊤, if◌then◌else◌}
+use Rattle.std.specs.Prelude.{ℕ, suc, ◌+◌, ◌/◌, ◌≤◌, ◌==◌, ◌&&◌, nat_lt, List, [], ◌∷◌, Bool, true, false, Option, Some, None, slice_get, slice_set, ⊤, if◌then◌else◌}
 use Rattle.sms_centre_spec.specs.declared.jobs.job.Job.{Job}
 use Rattle.sms_centre_spec.specs.declared.jobs.job.Job.TheVariants.{Bound, Unbound, Submit, Query, Cancel, DeliverAnswered, LinkUp, LinkDown, Frame}
 use Rattle.smsc_server.specs.declared.serving.allowances.Allowance.{Allowance}
@@ -53,6 +53,11 @@ limited (Some most) (Some rate) = Some (record rate { most = most })
 -- what an account is allowed that has put nothing yet
 abbrev pub first_rate : Allowance → Option Rate
 first_rate allowance = limited allowance.rate None
+
+-- the account at that place is allowed that from now on
+abbrev pub limited_at : Option Allowance → ℕ → List (Option Rate) → List (Option Rate)
+limited_at None place rates = rates
+limited_at (Some allowance) place rates = slice_set rates place (limited allowance.rate (rate_of (slice_get rates place)))
 
 -- From now on each account is allowed what stands at its place; one of which nothing is said keeps what it has.
 abbrev pub limited_all : List Allowance → List (Option Rate) → List (Option Rate)

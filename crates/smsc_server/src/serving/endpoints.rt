@@ -59,14 +59,14 @@ pub(crate) struct SeatContext<R, S: Read, T> {
 fn ends_intake(passed: u64) -> bool
     ensures { result ≡ ends_intake_after passed }
 {
-    passed >= INTAKE_LIMIT
+    INTAKE_LIMIT <= passed
 }
 
 // Whether no seat waits any more.
 fn ends_waiting(passed: u64) -> bool
     ensures { result ≡ ends_waiting_after passed }
 {
-    passed >= STOP_LIMIT
+    STOP_LIMIT <= passed
 }
 
 // What is round the endpoint of one connection.

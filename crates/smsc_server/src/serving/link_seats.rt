@@ -1,5 +1,6 @@
 //! Which handset has its link at which seat.
-ghost use Rattle.std.specs.Prelude.{◌≡◌, ◌≢◌, ◌↔◌, ℕ, Some, None, IfOk, IfNone, IfSome, replicate, slice_get, slice_set, true};
+ghost use Rattle.std.specs.Prelude.{◌≡◌, ◌≢◌, ℕ, None, IfOk, IfNone, IfSome, bytes_eq, false, replicate, slice_set, true};
+ghost use Rattle.smsc_server.specs.serving.LinkPlaces.{is_at as is_at_of};
 
 use crate::serving::orders::SEATS;
 use sms_base::Digits;
@@ -22,6 +23,12 @@ fn no_links(alloc: Global) -> Result<Vec<Option<Digits>>, AllocError>
     Ok(handsets)
 }
 
+fn is_same(one: &Digits, other: &Digits) -> bool
+    ensures { result ≡ bytes_eq one.now other.now }
+{
+    one.as_slice() == other.as_slice()
+}
+
 impl LinkSeats {
     /// No link.
     pub(crate) fn new(alloc: Global) -> Result<LinkSeats, AllocError>
@@ -42,18 +49,18 @@ impl LinkSeats {
 
     // Whether the handset has its link at the seat.
     fn is_at(&self, seat: usize, handset: &Digits) -> bool
-        ensures { (result ≡ true) ↔ (slice_get self.now.handsets.items seat ≡ Some (Some handset.now)) }
+        ensures { result ≡ is_at_of handset.now seat self.now.handsets.items }
     {
         match self.handsets.get(seat) {
-            Some(Some(other)) => *other == *handset,
+            Some(Some(other)) => is_same(other, handset),
             _ => false,
         }
     }
 
     /// Another seat at which the handset has a link.
     pub(crate) fn other(&self, seat: usize, handset: &Digits) -> Option<usize>
-        ensures some { IfSome result (λ other. (other ≢ seat) × (slice_get self.now.handsets.items other ≡ Some (Some handset.now))) }
-        ensures none { IfNone result ((other : ℕ) → other ≢ seat → slice_get self.now.handsets.items other ≢ Some (Some handset.now)) }
+        ensures some { IfSome result (λ other. (other ≢ seat) × (is_at_of handset.now other self.now.handsets.items ≡ true)) }
+        ensures none { IfNone result ((other : ℕ) → other ≢ seat → is_at_of handset.now other self.now.handsets.items ≡ false) }
     {
         for other in 0..self.handsets.len() {
             if other != seat && self.is_at(other, handset) {

@@ -1,6 +1,6 @@
 //! How many requests of an account are put in a second.
 ghost use Rattle.std.specs.Prelude.{◌≡◌, ◌≤◌, ℕ, List, Some, IfOk, map, true, slice_get, slice_set};
-ghost use Rattle.smsc_server.specs.serving.Rates.{AreInOrder, account_asking, after_request, count_put, first_rate, has_place as has_place_of, is_admitted, limited_all as limited_all_to, new_rate, one_more, limited as limited_to, put_in as put_in_of, rate_of, rates_after, second_of as second_of_moment};
+ghost use Rattle.smsc_server.specs.serving.Rates.{AreInOrder, account_asking, after_request, count_put, first_rate, has_place as has_place_of, is_admitted, limited_all as limited_all_to, limited_at as limited_at_place, new_rate, one_more, limited as limited_to, put_in as put_in_of, rate_of, rates_after, second_of as second_of_moment};
 
 use crate::serving::allowances::Allowance;
 use crate::serving::clock::milliseconds;
@@ -123,12 +123,21 @@ impl AccountRates {
         }
     }
 
+    // The account at that place does what it is allowed, if something is said of it.
+    fn limit_at(&mut self, place: usize, allowed: &[Allowance])
+        ensures { self.new.rates.items ≡ limited_at_place (slice_get allowed.now place) place self.old.rates.items }
+    {
+        if let Some(allowance) = allowed.get(place) {
+            self.limit(place, allowance.rate);
+        }
+    }
+
     // So do all accounts, by their places.
     fn limit_all(&mut self, allowed: &[Allowance])
         ensures { self.new.rates.items ≡ limited_all_to allowed.now self.old.rates.items }
     {
         for place in 0..allowed.len() {
-            self.limit(place, allowed[place].rate);
+            self.limit_at(place, allowed);
         }
     }
 
