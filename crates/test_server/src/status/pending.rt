@@ -7,6 +7,7 @@ use sms_centre_spec::Changes;
 use sms_rows::table::{Change, Key};
 use smsc_server::status::{PendingTable, WaitingHandset};
 use std::alloc::Global;
+use std::sync::Wait;
 use std::test::Fail;
 
 // 2026-11-26T04:46:01Z, and so many seconds.
@@ -18,7 +19,10 @@ fn at(seconds: u64) -> Result<Moment, Fail> {
 }
 
 fn id(number: u64) -> Result<MessageId, Fail> {
-    MessageId::new(number).ok_or(Fail::new("a number"))
+    match MessageId::new(number) {
+        Some(id) => Ok(id),
+        None => Err(Fail::new("a number")),
+    }
 }
 
 fn digits(handset: &str) -> Result<Digits, Fail> {
@@ -186,12 +190,12 @@ fn are_lines(
 }
 
 // Whether the step goes as it says.
-fn goes(rt: &HostRuntime, table: &PendingTable, step: &Step) -> Result<bool, Fail> {
-    let mut changes = no_changes(rt.alloc());
-    put_step(rt.alloc(), &mut changes, step)?;
+fn goes<R: Wait>(rt: &R, alloc: Global, table: &PendingTable, step: &Step) -> Result<bool, Fail> {
+    let mut changes = no_changes(alloc);
+    put_step(alloc, &mut changes, step)?;
     table.take(rt, &changes)?;
     match step {
-        Step::Most(wanted) => are_lines(table.most(rt, rt.alloc(), 2)?.as_slice(), wanted),
+        Step::Most(wanted) => are_lines(table.most(rt, alloc, 2)?.as_slice(), wanted),
         Step::Oldest(wanted) => { Ok(table.oldest(rt).map(|oldest| oldest.id.number()) == *wanted) }
         _ => Ok(true),
     }
@@ -265,7 +269,7 @@ fn what_is_pending_follows_the_commits(rt: HostRuntime) -> Result<(), Fail> {
     for (name, steps) in COURSES {
         let table = PendingTable::new(rt.alloc());
         for (turn, step) in steps.iter().enumerate() {
-            turn_holds(goes(&rt, &table, step)?, name, turn)?;
+            turn_holds(goes(&rt, rt.alloc(), &table, step)?, name, turn)?;
         }
     }
     Ok(())
