@@ -74,7 +74,7 @@ pub enum RunFault {
     #[error("line {0} is no account")]
     AccountLine(usize),
     /// The account at this line of the accounts' file is another than the run began with.
-    #[error("the account at line {0} is another than the run began with: a run takes over rate, suspended, and that one has gone")]
+    #[error("the account at line {0} is another than the run began with: a run takes over password, rate, suspended, and that one has gone")]
     OtherAccount(usize),
     /// The run has no file of accounts.
     #[error("the run has no file of accounts")]
@@ -214,7 +214,7 @@ pub const USAGE: &str =
     orders:\n\
     \u{20}  stop              end in good order; waited for 15 seconds, or SECONDS\n\
     \u{20}  end SEAT          end the connection at that seat, 0 to 31\n\
-    \u{20}  reload            read the accounts' file again: rate, suspended, accounts that have gone\n\
+    \u{20}  reload            read the accounts' file again: password, rate, suspended, accounts that have gone\n\
     \u{20}  retry ID          try that message now\n\
     \u{20}  cancel ID         delete that message: it is reported as deleted\n\
     a password, read from standard input:\n\
