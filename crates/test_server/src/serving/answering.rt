@@ -130,6 +130,8 @@ impl Machine<Job, Reply> for Counter {
 
     ghost resumes = { λ m s. ⊤ };
 
+    ghost fails_as = { λ m s. ⊤ };
+
     ghost is_honest = { λ m. ⊥ };
 
     ghost is_broken = { λ m. ⊤ };
@@ -161,5 +163,9 @@ impl Machine<Job, Reply> for Counter {
 
     fn reopen(&mut self) -> Result<(), Broken> {
         Ok(())
+    }
+
+    fn refuse(&mut self, _stimulus: &Stimulus<Job>) -> Outs<Reply> {
+        Outs::none()
     }
 }
