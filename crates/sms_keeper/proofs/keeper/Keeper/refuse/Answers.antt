@@ -15,3 +15,10 @@ loop-preserved g c = let l = c.loop.invariant in let h = c.refuse_next.ensures i
   before = λ honest. l.before (h.before honest);
   broken = λ broken. h.broken (l.broken broken);
 }
+
+pub loop-preserved-then-not-refuse_next : goal.loop-preserved-then-not-refuse_next
+loop-preserved-then-not-refuse_next g c = let l = c.loop.invariant in let h = c.refuse_next.ensures in record {
+  refused = refusing_more (g.C.Clock.reads c.args.clock.now) g.M.Machine.gives g.M.Machine.after _ _ _ _ _ _ _ _ _ _ _ h.before l.refused h.refused;
+  before = λ honest. l.before (h.before honest);
+  broken = λ broken. h.broken (l.broken broken);
+}

@@ -1,4 +1,4 @@
-use Rattle.std.proofs.Common.{[], ◌∷◌, ◌++◌, ◌∙◌, ap, sym, refl, append-nil, true≢false}
+use Rattle.std.proofs.Common.{◌++◌, ◌∙◌, ap, sym, refl, append-nil, true≢false}
 use Rattle.sms_keeper.specs.declared.machine.Stimulus.TheVariants.{Job, Tick}
 use Rattle.sms_keeper.specs.History.{work, job_of}
 use Rattle.sms_keeper.specs.Keeping.{ran_by}
