@@ -1,14 +1,13 @@
 -- A log that was recovered and finished has its pages in the database file.
-use Rattle.std.proofs.Common.{◌≡◌, ◌⊎◌, inl, inr, ℕ, ◌≤◌, Bool, true, false, List, [], length, take, Option, Some, None, refl, sym, ◌∙◌, ap, subst, arith, min, length-take}
-use Rattle.std.specs.Prelude.{IsTrue}
-use Rattle.std.proofs.lemmas.Bool.{and_from, and_parts, true≢false}
+use Rattle.std.proofs.Common.{◌≡◌, ◌⊎◌, inl, inr, ℕ, List, [], length, take, Option, Some, Result, Ok, Err, refl, sym, ◌∙◌, ap, subst, arith, length-take}
+use Rattle.std.specs.Prelude.{IfOk, IsTrue}
 use Rattle.sqlite_disk.specs.declared.Disk.{Ghosts}
 use Rattle.sqlite_wal.specs.declared.log.Log.{Log}
 use Rattle.sqlite_wal.specs.declared.page_size.PageSize.{PageSize}
 use Rattle.sqlite_wal.specs.Files.{outcomes, seen_image}
 use Rattle.sqlite_wal.specs.Format.{be32}
 use Rattle.sqlite_wal.specs.Log.{files, frames, image, state}
-use Rattle.sqlite_wal.specs.PageSize.{IsPageSize, Names, bytes_of, size_in_file}
+use Rattle.sqlite_wal.specs.PageSize.{Names, bytes_of, size_in_file}
 use Rattle.sqlite_wal.specs.Reads.{AreClean, OnlyReads}
 use Rattle.sqlite_wal.specs.Recovery.{AddsNothing, Image, IsIgnored, Recovers, pages_after}
 use Rattle.sqlite_wal.specs.State.{Keeps}
@@ -21,6 +20,17 @@ use Rattle.sms_store_files.specs.Writing.{IsWrittenBack, NamesSize}
 no_frames : (page_size : ℕ) (log db : List ℕ) → pages_after page_size log db 0 ≡ pages_after page_size [] db 0
 unfolding pages_after
 no_frames page_size log db = refl
+
+-- the size that was found is the one that the files name
+pub size_is : (found : Option PageSize) (size : PageSize) (pair : Image) (named : ℕ) → found ≡ Some size
+    → ((¬ IsIgnored pair.log) → Names found (be32 pair.log 8)) → (IsIgnored pair.log → Names found (size_in_file pair.db)) → NamesSize pair named
+    → bytes_of size ≡ named
+size_is found size pair named is log db (inl by_log) = (subst (λ (f : Option PageSize). Names f named) is (subst (Names found) by_log.1 (log by_log.0))).1
+size_is found size pair named is log db (inr by_file) = (subst (λ (f : Option PageSize). Names f named) is (subst (Names found) by_file.1 (db by_file.0))).1
+
+pub if_ok : {T E : Type 0} {P Q R : T → Type 0} (result : Result T E) → IfOk result P → IfOk result Q → ((x : T) → P x → Q x → R x) → IfOk result R
+if_ok (Ok x) p q f = f x p q
+if_ok (Err e) p q f = tt
 
 module _ {D : Type 0} {g : Ghosts D} where
   none_taken : (it : Log D g) → frames it ≡ 0 → length (take it.durable.frames it.index) ≡ 0
@@ -60,58 +70,19 @@ module _ {D : Type 0} {g : Ghosts D} where
       subst (λ (p : D × D). AddsNothing (state old).page_size (outcomes g (files old).0 (files old).1) (outcomes g p.0 p.1)) (sym back)
       (λ left may. let before = both left (clean', may) in (before.0, before.1.1, before.2))
 
-  -- a log over these files
-  pub back_of_files : (size : ℕ) (it : Log D g) (log db : D) (after : Image) → (state it).page_size ≡ size → files it ≡ (log, db)
-      → IsWrittenBack (state it).page_size (image it) after → IsWrittenBack size (seen_image g log db) after
-  back_of_files size it log db after same over w =
-      subst (λ (n : ℕ). IsWrittenBack n (seen_image g log db) after) same
-      (subst (λ (p : D × D). IsWrittenBack (state it).page_size (seen_image g p.0 p.1) after) over w)
-
-  pub nothing_of_files : (size : ℕ) (it : Log D g) (log db : D) (after : Image → Type 0) → (state it).page_size ≡ size → files it ≡ (log, db)
-      → AddsNothing (state it).page_size (outcomes g (files it).0 (files it).1) after → AddsNothing size (outcomes g log db) after
-  nothing_of_files size it log db after same over a =
-      subst (λ (n : ℕ). AddsNothing n (outcomes g log db) after) same
-      (subst (λ (p : D × D). AddsNothing (state it).page_size (outcomes g p.0 p.1) after) over a)
-
--- ---- files that are only read
+  -- ---- files that are only read
 
   image_same : (log new_log db new_db : D) → OnlyReads g log new_log → OnlyReads g db new_db → seen_image g new_log new_db ≡ seen_image g log db
   image_same log new_log db new_db l d =
       ap (λ (seen : List ℕ). record { log = seen; db = g.seen new_db }) l.seen ∙ ap (λ (seen : List ℕ). record { log = g.seen log; db = seen }) d.seen
 
-  pub clean_before : (log new_log db new_db : D) → OnlyReads g log new_log → OnlyReads g db new_db → AreClean g new_log new_db → AreClean g log db
-  clean_before log new_log db new_db l d clean =
-      let both = and_parts (g.is_clean new_log) (g.is_clean new_db) clean in
-      and_from (g.is_clean log) (g.is_clean db) (l.clean both.0) (d.clean both.1)
-
-  -- the size that was found is the one that the files name
-  found_names : (found : Option PageSize) (image : Image) (size : ℕ) → NamesSize image size → ((¬ IsIgnored image.log) → Names found (be32 image.log 8))
-      → (IsIgnored image.log → Names found (size_in_file image.db)) → Names found size
-  found_names found image size (inl by_log) log file = subst (Names found) by_log.1 (log by_log.0)
-  found_names found image size (inr by_file) log file = subst (Names found) by_file.1 (file by_file.0)
-
   module _ (log new_log db new_db : D) (l : OnlyReads g log new_log) (d : OnlyReads g db new_db) where
-    pub size_is : (size : PageSize) (named : ℕ) → ((¬ IsIgnored (g.seen log)) → Names (Some size) (be32 (g.seen log) 8))
-        → (IsIgnored (g.seen log) → Names (Some size) (size_in_file (g.seen db))) → NamesSize (seen_image g log db) named → (bytes_of size ≡ named) × IsPageSize named
-    size_is size named by_log by_file names =
-        let is = found_names (Some size) (seen_image g log db) named names by_log by_file in
-        (is.1, is.0.0 refl)
-
-    pub none_is : (named : ℕ) → ((¬ IsIgnored (g.seen log)) → Names None (be32 (g.seen log) 8))
-        → (IsIgnored (g.seen log) → Names None (size_in_file (g.seen db))) → NamesSize (seen_image g log db) named → ¬ IsPageSize named
-    none_is named by_log by_file names is =
-        let found = found_names None (seen_image g log db) named names by_log by_file in
-        true≢false (sym (found.0.1 is))
-
     pub back_of_read : (size named : ℕ) (after : Image) → size ≡ named → IsWrittenBack size (seen_image g new_log new_db) after → IsWrittenBack named (seen_image g log db) after
     back_of_read size named after same w =
         subst (λ (n : ℕ). IsWrittenBack n (seen_image g log db) after) same
         (subst (λ (before : Image). IsWrittenBack size before after) (image_same log new_log db new_db l d) w)
 
-    pub left_so : seen_image g new_log new_db ≡ seen_image g log db
-    left_so = image_same log new_log db new_db l d
-
-    pub fewer : (size : ℕ) → AddsNothing size (outcomes g log db) (outcomes g new_log new_db)
+    fewer : (size : ℕ) → AddsNothing size (outcomes g log db) (outcomes g new_log new_db)
     fewer size = AddsNothing-fewer size (outcomes g log db) (outcomes g new_log new_db) (λ left may. (l.crash left.log may.0, d.crash left.db may.1))
 
     pub nothing_of_read : (size named : ℕ) (after : Image → Type 0) → size ≡ named → AddsNothing size (outcomes g new_log new_db) after → AddsNothing named (outcomes g log db) after
