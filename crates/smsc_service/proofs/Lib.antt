@@ -1,6 +1,7 @@
 mod ByFate
 mod ByOctets
 mod Numbers
+mod OrdersTold
 mod RokNames
 mod Roomy
 mod Sittings

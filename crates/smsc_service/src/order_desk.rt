@@ -1,4 +1,7 @@
 //! Where an order of the owner waits for the keeper, and its outcome for whoever ordered.
+ghost use Rattle.std.specs.Prelude.{◌≡◌};
+ghost use Rattle.smsc_service.specs.Outcomes.{number_of as number_of_outcome, outcome_at as outcome_numbered, told_by};
+
 use smpp_pdu::CommandStatus;
 use sms_base::{FinalState, MessageId};
 use sms_centre::{CentreAnswer, Order};
@@ -32,9 +35,10 @@ pub enum OrderOutcome {
     Failed,
 }
 
-/// The outcome that an answer of the centre tells. A cancel_sm of a message that has ended fails with ESME_RCANCELFAIL, and a request of a number
-/// that no message has with ESME_RINVMSGID (SMPP v3.4 5.1.3).
-pub(crate) fn outcome_of(answer: Option<CentreAnswer>) -> OrderOutcome {
+/// The outcome that an answer of the centre tells.
+pub(crate) fn outcome_of(answer: Option<CentreAnswer>) -> OrderOutcome
+    ensures { result ≡ told_by answer }
+{
     match answer {
         Some(CentreAnswer::Queried { state: None, .. }) => OrderOutcome::Waits,
         Some(
@@ -50,7 +54,9 @@ pub(crate) fn outcome_of(answer: Option<CentreAnswer>) -> OrderOutcome {
     }
 }
 
-fn number_of(outcome: OrderOutcome) -> u8 {
+fn number_of(outcome: OrderOutcome) -> u8
+    ensures { result ≡ number_of_outcome outcome }
+{
     match outcome {
         OrderOutcome::Failed => 0,
         OrderOutcome::Waits => 1,
@@ -64,7 +70,9 @@ fn number_of(outcome: OrderOutcome) -> u8 {
     }
 }
 
-fn outcome_at(number: u8) -> OrderOutcome {
+fn outcome_at(number: u8) -> OrderOutcome
+    ensures { result ≡ outcome_numbered number }
+{
     match number {
         1 => OrderOutcome::Waits,
         2 => OrderOutcome::Deleted,

@@ -1,10 +1,12 @@
 //! What a run forgets as it starts, and as it goes on.
 use crate::archive::RunArchive;
+use crate::gone::Gone;
 use crate::logging::Log;
 use crate::moments::text_of;
 use crate::opening::FoundStore;
 use crate::preparing::judge_rows;
 use crate::run_fault::RunFault;
+use crate::watchers::Watchers;
 use sms_base::Moment;
 use sms_centre_rows::messages::MessageRow;
 use sms_centre_spec::Rows;
@@ -108,6 +110,8 @@ pub struct LoggedArchive<R: Wait> {
     // None where it could not be opened.
     archive: Option<RunArchive>,
     log: Arc<Log<R>>,
+    rt: R,
+    gone: Option<Arc<Gone>>,
     is_refused: bool,
 }
 
@@ -118,6 +122,13 @@ impl<R: Wait + Copy> LoggedArchive<R> {
         }
         self.is_refused = done.is_err();
         done
+    }
+
+    // One that finds no room is not counted as it goes.
+    fn note(&self, message: &MessageRow) {
+        if let Some(gone) = &self.gone {
+            let _ = gone.note(&self.rt, message);
+        }
     }
 }
 
@@ -133,6 +144,9 @@ impl<R: Wait + Copy> Archive for LoggedArchive<R> {
             Some(archive) => archive.take(message, parts),
             None => Err(NotArchived),
         };
+        if done.is_ok() {
+            self.note(message);
+        }
         self.judge(done)
     }
 
@@ -155,12 +169,14 @@ fn kept_of(run: &ServerRun<'_>, start: Moment, newest: Moment) -> Option<u64> {
 /// What a run forgets as it goes on, by its words. It starts at that moment, and its newest row is of that one.
 pub fn forgetting_of<R: Wait + Copy>(
     host: &HostRuntime,
-    log: &Arc<Log<R>>,
+    rt: R,
+    watchers: &Watchers<R>,
     run: &ServerRun<'_>,
     start: Moment,
     newest: Moment,
 ) -> Result<Forgetting<LoggedArchive<R>>, AllocError> {
-    let log = Arc::try_clone(log)?;
+    let log = Arc::try_clone(&watchers.log)?;
+    let gone = watchers.gone()?;
     let keep = kept_of(run, start, newest);
     let archive = match keep {
         Some(_) => RunArchive::open(host, run.archive).ok(),
@@ -171,6 +187,8 @@ pub fn forgetting_of<R: Wait + Copy>(
         archive: LoggedArchive {
             archive,
             log,
+            rt,
+            gone,
             is_refused: false,
         },
     })

@@ -36,6 +36,7 @@ mod account_file;
 mod archive;
 mod control;
 mod forgetting;
+mod gone;
 mod lines;
 mod link_secrets;
 mod logging;

@@ -526,8 +526,8 @@ fn serve_ports<R: Threads + Wait + Clock + Copy + Send + Sync + 'static, K: Cent
     summary: &Summary,
     clock: &RunClock<R>,
 ) -> Result<K, RunFault> {
-    let log = &given.observer.log;
-    let forgetting = forgetting_of(&host, log, run, clock.start, summary.newest)?;
+    let watchers = &*given.observer;
+    let forgetting = forgetting_of(&host, rt, watchers, run, clock.start, summary.newest)?;
     let mut helpers = Helpers::new(host.alloc())?;
     helpers.start_all(host, rt, run, given, beside, summary, clock.start)?;
     let ended = serve_open(rt, host.alloc(), given, keep, forgetting, ports, clock);
