@@ -60,12 +60,12 @@ fn ticks<R: Wait>(rt: &R, alloc: Global, keeper: &mut Keeper<u32, Reply>, clock:
     let mut machine = Counter::new(0, true);
     let mut told = Told::new(alloc);
     let end = keeper.run(rt, alloc, &mut machine, &Open, clock, &mut told);
-    let wanted = [Some(0u64), None, Some(1), None, Some(2), Some(3)];
+    let wanted = [Some(0u64), None, Some(1), None, Some(2), Some(3), Some(4)];
     end == End::AllClosed && are_ticks(told.ticks.as_slice(), clock.start, &wanted)
 }
 
-// The clock is looked at before each job and each end mark. It shows a later moment at every second look, so that a tick
-// precedes each of them.
+// The keeper looks at the clock before each job and each end mark, and once more where nothing waits. The clock shows a later
+// moment at every second look, so that a tick precedes each of them.
 #[test]
 fn a_tick_precedes_a_job_where_the_clock_moved(rt: HostRuntime) -> Result<(), Fail> {
     let start = Moment::from_seconds(1_709_251_198)?;
