@@ -94,14 +94,9 @@ fn stuck_lines(alloc: Global) -> Result<Vec<StuckLine>, Fail> {
     Ok(vec![in alloc; away, no_memory, tried]?)
 }
 
-fn oldest() -> Result<PendingMessage<'static>, Fail> {
-    let submitted = moment()?;
+fn oldest() -> Result<MessageId, Fail> {
     match MessageId::new(42) {
-        Some(id) => Ok(PendingMessage {
-            id,
-            handset: "447700900999",
-            submitted,
-        }),
+        Some(id) => Ok(id),
         None => Err(Fail::new("a number")),
     }
 }
@@ -153,7 +148,7 @@ fn view_of<'a>(
     accounts: &'a [AccountLine],
     refused_submits: &'a [RefusedSubmits],
     stuck: &'a [StuckLine],
-    oldest: Option<PendingMessage<'a>>,
+    oldest: MessageId,
     moment: Moment,
 ) -> StatusView<'a> {
     let (messages, counts) = no_messages();
@@ -167,7 +162,11 @@ fn view_of<'a>(
         sessions,
         links: &[],
         stuck,
-        oldest,
+        oldest: Some(PendingMessage {
+            id: oldest,
+            handset: "447700900999",
+            submitted: moment,
+        }),
         accounts,
         refused_submits,
         refused_binds: BINDS,
@@ -205,7 +204,7 @@ fn responded(alloc: Global, wanted: Wanted) -> Result<Octets, Fail> {
         accounts.as_slice(),
         refused.as_slice(),
         stuck.as_slice(),
-        Some(oldest),
+        oldest,
         moment,
     );
     response(alloc, wanted, &view)
