@@ -143,16 +143,18 @@ fn no_messages() -> (MessageFigures, MessageCounts) {
     (figures, counts)
 }
 
-fn view_of<'a>(
-    sessions: &'a [SessionLine],
-    accounts: &'a [AccountLine],
-    refused_submits: &'a [RefusedSubmits],
-    stuck: &'a [StuckLine],
+fn response(
+    alloc: Global,
+    wanted: Wanted,
+    sessions: &[SessionLine],
+    accounts: &[AccountLine],
+    refused_submits: &[RefusedSubmits],
+    stuck: &[StuckLine],
     oldest: MessageId,
     moment: Moment,
-) -> StatusView<'a> {
+) -> Result<Octets, Fail> {
     let (messages, counts) = no_messages();
-    StatusView {
+    let view = StatusView {
         centre: "447700900000",
         version: "proved\n",
         start: moment,
@@ -182,11 +184,8 @@ fn view_of<'a>(
             refused: 0,
         },
         groups: GROUPS,
-    }
-}
-
-fn response(alloc: Global, wanted: Wanted, view: &StatusView<'_>) -> Result<Octets, Fail> {
-    match response_to(alloc, wanted, view)? {
+    };
+    match response_to(alloc, wanted, &view)? {
         Some(octets) => Ok(octets),
         None => Err(Fail::new("a response")),
     }
@@ -199,15 +198,16 @@ fn responded(alloc: Global, wanted: Wanted) -> Result<Octets, Fail> {
     let accounts = vec![in alloc; account_line(alloc)?]?;
     let stuck = stuck_lines(alloc)?;
     let oldest = oldest()?;
-    let view = view_of(
+    response(
+        alloc,
+        wanted,
         sessions.as_slice(),
         accounts.as_slice(),
         refused.as_slice(),
         stuck.as_slice(),
         oldest,
         moment,
-    );
-    response(alloc, wanted, &view)
+    )
 }
 
 fn has(octets: &Octets, text: &str) -> bool {
