@@ -143,13 +143,13 @@ fn no_messages() -> (MessageFigures, MessageCounts) {
     (figures, counts)
 }
 
-fn response(
+fn response<'a>(
     alloc: Global,
     wanted: Wanted,
-    sessions: &[SessionLine],
-    accounts: &[AccountLine],
-    refused_submits: &[RefusedSubmits],
-    stuck: &[StuckLine],
+    sessions: &'a [SessionLine],
+    accounts: &'a [AccountLine],
+    refused_submits: &'a [RefusedSubmits],
+    stuck: &'a [StuckLine],
     oldest: MessageId,
     moment: Moment,
 ) -> Result<Octets, Fail> {
