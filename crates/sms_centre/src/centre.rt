@@ -276,14 +276,15 @@ impl Centre {
         submit_refusal(&self.centre_state, account, message)
     }
 
-    /// The same of a query_sm.
+    /// The status with which a query_sm of that account is refused, if it is. It takes no memory: a caller has it also where
+    /// `plan` finds none.
     pub fn query_refusal(&self, account: u8, query: &QuerySm<'_>) -> Option<CommandStatus>
         ensures { (c : Core) → Represents c self.now → result ≡ query_refusal account query.now c }
     {
         query_refusal(&self.centre_state, account, query)
     }
 
-    /// The same of a cancel_sm.
+    /// The status with which a cancel_sm of that account is refused, if it is. It takes no memory, either.
     pub fn cancel_refusal(&self, account: u8, cancel: &CancelSm<'_>) -> Option<CommandStatus>
         ensures { (c : Core) → Represents c self.now → result ≡ cancel_refusal account cancel.now c }
     {
