@@ -94,14 +94,9 @@ fn stuck_lines(alloc: Global) -> Result<Vec<StuckLine>, Fail> {
     Ok(vec![in alloc; away, no_memory, tried]?)
 }
 
-fn oldest() -> Result<PendingMessage<'static>, Fail> {
-    let submitted = moment()?;
+fn oldest() -> Result<MessageId, Fail> {
     match MessageId::new(42) {
-        Some(id) => Ok(PendingMessage {
-            id,
-            handset: "447700900999",
-            submitted,
-        }),
+        Some(id) => Ok(id),
         None => Err(Fail::new("a number")),
     }
 }
@@ -148,16 +143,18 @@ fn no_messages() -> (MessageFigures, MessageCounts) {
     (figures, counts)
 }
 
-fn view_of<'a>(
+fn response<'a>(
+    alloc: Global,
+    wanted: Wanted,
     sessions: &'a [SessionLine],
     accounts: &'a [AccountLine],
     refused_submits: &'a [RefusedSubmits],
     stuck: &'a [StuckLine],
-    oldest: Option<PendingMessage<'a>>,
+    oldest: MessageId,
     moment: Moment,
-) -> StatusView<'a> {
+) -> Result<Octets, Fail> {
     let (messages, counts) = no_messages();
-    StatusView {
+    let view = StatusView {
         centre: "447700900000",
         version: "proved\n",
         start: moment,
@@ -167,7 +164,11 @@ fn view_of<'a>(
         sessions,
         links: &[],
         stuck,
-        oldest,
+        oldest: Some(PendingMessage {
+            id: oldest,
+            handset: "447700900999",
+            submitted: moment,
+        }),
         accounts,
         refused_submits,
         refused_binds: BINDS,
@@ -183,11 +184,8 @@ fn view_of<'a>(
             refused: 0,
         },
         groups: GROUPS,
-    }
-}
-
-fn response(alloc: Global, wanted: Wanted, view: &StatusView<'_>) -> Result<Octets, Fail> {
-    match response_to(alloc, wanted, view)? {
+    };
+    match response_to(alloc, wanted, &view)? {
         Some(octets) => Ok(octets),
         None => Err(Fail::new("a response")),
     }
@@ -200,15 +198,16 @@ fn responded(alloc: Global, wanted: Wanted) -> Result<Octets, Fail> {
     let accounts = vec![in alloc; account_line(alloc)?]?;
     let stuck = stuck_lines(alloc)?;
     let oldest = oldest()?;
-    let view = view_of(
+    response(
+        alloc,
+        wanted,
         sessions.as_slice(),
         accounts.as_slice(),
         refused.as_slice(),
         stuck.as_slice(),
-        Some(oldest),
+        oldest,
         moment,
-    );
-    response(alloc, wanted, &view)
+    )
 }
 
 fn has(octets: &Octets, text: &str) -> bool {
