@@ -245,7 +245,8 @@ fn going(
     from: u64,
     most: u16,
 ) -> Result<Vec<MessageId>, AllocError>
-    ensures { (c : Core) → DraftRepresents (draft_of c) draft.now → StateRepresents c state.now → IfOk result (λ ids. ids.items ≡ going_now before from most c) }
+    ensures { (c : Core) → DraftRepresents (draft_of c) draft.now → StateRepresents c state.now
+        → IfOk result (λ ids. ids.items ≡ going_now before from most c) }
 {
     let mut ids = Vec::new(alloc);
     match note_each(alloc, draft, state, before, from, most, &mut ids) {

@@ -95,7 +95,8 @@ fn accepted(
     requires submission { IsSubmission submission.now }
     requires units { HasUnits submission.now.text }
     ensures { (d : Draft) → DraftRepresents d draft.old → Knows message_index.now reference_index.now d.store
-        → IfOk result (LeadsTo (accepted_of (next_number_of (rows_of d.store)) (unless_too_much submission.now (accept_of submission.now d.store)) d) d draft.new) }
+        → IfOk result (LeadsTo
+            (accepted_of (next_number_of (rows_of d.store)) (unless_too_much submission.now (accept_of submission.now d.store)) d) d draft.new) }
 {
     let next = next_number(draft, message_index);
     match next {

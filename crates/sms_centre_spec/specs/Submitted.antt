@@ -25,7 +25,8 @@ use Rattle.sms_centre_spec.specs.Consistent.{IsSubmission}
 
 -- what a unit submits to a centre with these accounts
 abbrev pub UnitGives : List CentreAccount → List ℕ → ℕ → Result Rp RelayFault → Type 0
-UnitGives accounts handset moment (Ok (DataUnit reference centre tpdu)) = (u : Submission) → from_read accounts handset moment (tpdu_up_at InData tpdu) ≡ Ok u → IsSubmission u
+UnitGives accounts handset moment (Ok (DataUnit reference centre tpdu)) =
+    (u : Submission) → from_read accounts handset moment (tpdu_up_at InData tpdu) ≡ Ok u → IsSubmission u
 UnitGives accounts handset moment (Ok (AckUnit reference tpdu)) = Unit {0}
 UnitGives accounts handset moment (Ok (ErrorUnit reference cause tpdu)) = Unit {0}
 UnitGives accounts handset moment (Ok (Smma reference)) = Unit {0}
@@ -50,7 +51,8 @@ Gives (Cancel account q) c = Unit {0}
 Gives (Bound session account receives) c = Unit {0}
 Gives (Unbound session) c = Unit {0}
 Gives (DeliverAnswered session id b) c = Unit {0}
-Gives (Frame handset octets tag) c = let l : HandsetLink = line_of handset c.lines in UpGives c.rows.setup.accounts l.handset c.moment (taken octets l.link).out.up
+Gives (Frame handset octets tag) c =
+    let l : HandsetLink = line_of handset c.lines in UpGives c.rows.setup.accounts l.handset c.moment (taken octets l.link).out.up
 Gives (LinkUp handset) c = Unit {0}
 Gives (LinkDown handset) c = Unit {0}
 Gives (Ordered order id) c = Unit {0}

@@ -72,7 +72,8 @@ pub fn bars_stand_for_what_went()
 /// Those that are forgotten are messages that may go, of numbers from that one on, and no more than so many.
 pub fn what_is_forgotten_may_go()
     ensures may { (before from most : ℕ) (rows : Rows) → IsSound rows → MayGo (is_going before from most rows) rows }
-    ensures submitted { (before from most : ℕ) (rows : Rows) (m : MessageRow) → IsSound rows → Among m rows.messages → is_going before from most rows m.id ≡ true
+    ensures submitted { (before from most : ℕ) (rows : Rows) (m : MessageRow) → IsSound rows → Among m rows.messages
+        → is_going before from most rows m.id ≡ true
         → m.submitted ≤ last_submitted 0 rows.messages }
     ensures bare { (before from most : ℕ) (rows : Rows) → IsSound rows → AreBare (is_going before from most rows) rows }
     ensures each { (before from most : ℕ) (rows : Rows) (m : MessageRow) → IsSound rows → Among m rows.messages → is_going before from most rows m.id ≡ true

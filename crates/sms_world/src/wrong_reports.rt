@@ -20,9 +20,10 @@ pub fn right_reports_are_admitted()
     ensures split { TrueSplitLaw }
 {}
 
-/// A message that was DELIVRD and is EXPIRED in a longer report, one whose line is gone there, and a receipt that is. One that has two lines, and one that is there before any
-/// event. One of a submission that was stopped before its store call, and one of a submission that was not answered. An owner's
-/// text as a message to another handset, and one whose frame is of an entry that the text has not.
+/// A message that was DELIVRD and is EXPIRED in a longer report, one whose line is gone there, and a receipt that is. A
+/// message that has two lines, and one that is there before any event. One of a submission that was stopped before its
+/// store call, and one of a submission that was not answered. An owner's text as a message to another handset, and one
+/// whose frame is of an entry that the text has not.
 pub fn wrong_messages_are_refused()
     ensures state { FinalLaw }
     ensures gone { GoneLaw }

@@ -268,7 +268,8 @@ impl DeliveryQueuesDraft {
     ) -> Result<(), AllocError>
         ensures noted { OnOk result (self.new ≡ given_to (or_new_handset placed.old.queue.line.handset self.old.next_place placed.old.queue.row)
             placed.old.queue.row reference now self.old) }
-        ensures placed { OnOk result (placed.new ≡ with_queue (queue_given (or_new_handset placed.old.queue.line.handset self.old.next_place placed.old.queue.row)
+        ensures placed { OnOk result (placed.new ≡ with_queue
+            (queue_given (or_new_handset placed.old.queue.line.handset self.old.next_place placed.old.queue.row)
             reference now placed.old.queue) placed.old) }
     {
         let Some(row) = self.row_for(placed) else {

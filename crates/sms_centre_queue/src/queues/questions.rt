@@ -96,7 +96,8 @@ impl DeliveryQueuesDraft {
     /// handset gets none.
     pub fn next_reference(&self, number: Digits, now: Moment) -> Result<Option<u8>, AllocError>
         requires digits { AllDigits number }
-        ensures reference { IfOk result (λ reference. (g : Allocations) (links : Links) (waiting : List ℕ → List LoadOf) → DraftRepresents g links waiting self.now
+        ensures reference { IfOk result (λ reference. (g : Allocations) (links : Links) (waiting : List ℕ → List LoadOf)
+            → DraftRepresents g links waiting self.now
             → reference ≡ next_reference_of (handset_of number (handsets_of g)) (waiting number) (references_of g) now) }
         // It takes no memory: an error says that the handset is new, and that all places are used up.
         ensures err { IfErr result (λ error. (g : Allocations) (links : Links) (waiting : List ℕ → List LoadOf) → DraftRepresents g links waiting self.now

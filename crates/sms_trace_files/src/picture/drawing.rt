@@ -259,7 +259,8 @@ fn drawn(columns: &Columns, extent: &Extent) -> Extent
 #[tactic(auto, unfolding(crate::specs::picture::Drawing::drawn_between))]
 fn put_between(out: &mut Octets, columns: &Columns, picture: &Picture) -> Result<(), AllocError>
     ensures { OnOk result (out.new ≡ out.old
-        ++ drawn_between columns.now.table.items (record { lanes = columns.now.count; rows = picture.now.extent.rows; longest = picture.now.extent.longest }) picture.now) }
+        ++ drawn_between columns.now.table.items
+            (record { lanes = columns.now.count; rows = picture.now.extent.rows; longest = picture.now.extent.longest }) picture.now) }
 {
     let rows = picture.extent.rows;
     let lanes = picture.lanes.as_slice();
@@ -271,7 +272,8 @@ fn put_between(out: &mut Octets, columns: &Columns, picture: &Picture) -> Result
 #[tactic(auto, unfolding(crate::specs::picture::Drawing::drawn_in_columns))]
 fn put_in_columns(out: &mut Octets, columns: &Columns, picture: &Picture) -> Result<(), AllocError>
     ensures { OnOk result (out.new ≡ out.old
-        ++ drawn_in_columns columns.now.table.items (record { lanes = columns.now.count; rows = picture.now.extent.rows; longest = picture.now.extent.longest }) picture.now) }
+        ++ drawn_in_columns columns.now.table.items
+            (record { lanes = columns.now.count; rows = picture.now.extent.rows; longest = picture.now.extent.longest }) picture.now) }
 {
     let extent = drawn(columns, &picture.extent);
     put_head(out, &extent)?;

@@ -73,7 +73,8 @@ EachStaysLaw = Over (λ script after. (n : ℕ) → n < length script.events →
 -- an answer with a number names the message of that event
 abbrev pub NamedLaw : Type 0
 NamedLaw =
-    Over (λ script after. (a : Answer) (id : ℕ) → Among a (after (length script.events)).answers → a.answered ≡ Accepted id → NamesMessage script.events after a.event id)
+    Over (λ script after. (a : Answer) (id : ℕ) → Among a (after (length script.events)).answers → a.answered ≡ Accepted id
+        → NamesMessage script.events after a.event id)
 
 -- a query_sm finds what the table says
 abbrev pub QueriesLaw : Type 0

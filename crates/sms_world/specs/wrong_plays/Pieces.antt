@@ -75,7 +75,8 @@ JoinedUnknownLaw = ¬ RefinesHandset (record (party handset [] writers_core) { j
 
 abbrev pub EntryWithoutRowLaw : Type 0
 EntryWithoutRowLaw =
-    ¬ RefinesHandset (party writer [] (handset_recovered (first_rows (handset_setup setup of_handset)))) (record empty { outbox = entry_seen writer entry ∷ [] })
+    ¬ RefinesHandset (party writer [] (handset_recovered (first_rows (handset_setup setup of_handset))))
+        (record empty { outbox = entry_seen writer entry ∷ [] })
 
 abbrev pub ReportUnknownLaw : Type 0
 ReportUnknownLaw = ¬ RefinesReports (reports_by (report_row 1 1 Receipt ∷ [])) [] []
