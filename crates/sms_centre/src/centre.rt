@@ -24,7 +24,6 @@ ghost use Rattle.sms_centre_reports.specs.report_log.Reporting.{message_lines, r
 ghost use Rattle.sms_centre.specs.state.Recovering.{AreNew, RefusesRows};
 ghost use Rattle.sms_centre.specs.state.CentreState.{Represents};
 
-use crate::acting::is_event;
 use crate::adopting::put_in;
 use crate::archiving::Archive;
 use crate::finishing::plan_of;
@@ -43,7 +42,7 @@ use sms_centre_recovery::commit;
 use sms_centre_reports::sessions::ReceiptSession;
 use sms_centre_rows::messages::MessageRow as Message;
 use sms_centre_spec::bodies::CentreStore;
-use sms_centre_spec::{CentreEvent, Changes, PlanError, Rows};
+use sms_centre_spec::{CentreEvent, Changes, PlanError, Rows, is_event};
 use sms_rows::keep::BodyKeep;
 use sms_rows::table::Table;
 use sms_script::report::{ReceiptRow, ReportedMessage};

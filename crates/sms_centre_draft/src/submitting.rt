@@ -13,8 +13,8 @@ ghost use Rattle.sms_centre_draft.specs.CentreDraft.{Represents};
 
 use crate::centre_draft::CentreDraft;
 use crate::queues::{give, put};
-use crate::rows::copy_of;
 use sms_base::{MessageId, Moment, Octets};
+use sms_centre_messages::message_index::copy_of_originator;
 use sms_centre_rows::messages::{MessageRow, PartRow, PriorityRow};
 use sms_centre_rows::waiting::{Progress, QueuedPart};
 use sms_concat::ConcatKey;
@@ -40,7 +40,7 @@ fn message_of(
 ) -> Result<MessageRow, AllocError>
     ensures { IfOk result (λ row. row ≡ message_of_submission id now split submission.now) }
 {
-    let originator = copy_of(alloc, &submission.originator)?;
+    let originator = copy_of_originator(alloc, &submission.originator)?;
     Ok(MessageRow {
         id,
         originator,

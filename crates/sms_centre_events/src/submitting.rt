@@ -96,7 +96,7 @@ fn accepted(
     requires units { HasUnits submission.now.text }
     ensures { (d : Draft) → DraftRepresents d draft.old → Knows message_index.now reference_index.now d.store
         → IfOk result (LeadsTo
-            (accepted_of (next_number_of (rows_of d.store)) (unless_too_much submission.now (accept_of submission.now d.store)) d) d draft.new) }
+        (accepted_of (next_number_of (rows_of d.store)) (unless_too_much submission.now (accept_of submission.now d.store)) d) d draft.new) }
 {
     let next = next_number(draft, message_index);
     match next {

@@ -31,8 +31,8 @@ fn header_size(indicator: bool, octets: &[u8]) -> Result<usize, UnpackError>
     }
 }
 
-// The key of the header.
-fn header_key(indicator: bool, octets: &[u8]) -> Option<ConcatKey>
+/// The concatenation key of the header that user data begins with, if it has one.
+pub fn header_key(indicator: bool, octets: &[u8]) -> Option<ConcatKey>
     ensures { result ≡ header_key indicator octets.now }
 {
     if !indicator {

@@ -46,6 +46,7 @@ pub use deliver::deliver_octets;
 pub use handset_intake::from_submit;
 pub use part_bodies::bodies_under;
 pub use refusal::{SmppError, SubmitError, SubmitRefusal};
+pub use smpp_address::{address_in, source_in};
 pub use smpp_front::{Front, front_of};
 pub use smpp_intake::{from_pdu, refusal_of};
 pub use smpp_times::{due_of, limit_of, wish_of};

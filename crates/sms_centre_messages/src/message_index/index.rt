@@ -56,8 +56,13 @@ impl Model for MessageIndexReserve {
 
     ghost Value = { MessageIndexReserveOf };
 
-    ghost view = {
-        λ s. record { parts = s.parts; messages = s.rows.messages; numbers = s.names.numbers; accounts = s.names.accounts; deadlines = s.rows.deadlines } };
+    ghost view = { λ s. record {
+      parts = s.parts;
+      messages = s.rows.messages;
+      numbers = s.names.numbers;
+      accounts = s.names.accounts;
+      deadlines = s.rows.deadlines;
+    } };
 }
 
 impl MessageIndex {

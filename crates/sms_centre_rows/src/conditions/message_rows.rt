@@ -90,7 +90,8 @@ pub fn are_messages(
 
 // ---- parts
 
-fn is_same_address(one: &Address, other: &Address) -> bool
+/// Whether two addresses are the same.
+pub fn is_same_address(one: &Address, other: &Address) -> bool
     ensures { result ≡ is_same_address_of one.now other.now }
 {
     one.ton.number() == other.ton.number()

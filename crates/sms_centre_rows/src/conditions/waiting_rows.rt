@@ -131,7 +131,8 @@ fn part_holds(
 
 // ---- status reports
 
-fn status_reference(report: &ReportRow) -> u8
+/// The reference of the status report, or 0 of what is none.
+pub fn status_reference(report: &ReportRow) -> u8
     ensures { result ≡ status_reference_of report.now.kind }
 {
     match &report.kind {

@@ -4,8 +4,7 @@ ghost use Rattle.std.specs.Str.{chars, is_utf8};
 ghost use Rattle.sms_base.specs.Address.{IsAddress};
 ghost use Rattle.sms_base.specs.Among.{Among};
 ghost use Rattle.sms_base.specs.HandsetNumber.{own_address};
-ghost use Rattle.sms_base.specs.Reading.{AreOctets};
-ghost use Rattle.sms_centre_spec.specs.SoundCore.{HasNumber, IsEvent};
+ghost use Rattle.sms_centre_spec.specs.SoundCore.{IsEvent};
 ghost use Rattle.sms_centre_spec.specs.declared.event.CentreEvent.TheVariants.{Submit as CentreSubmit, Frame as CentreFrame};
 ghost use Rattle.sms_play.specs.growth.Growth.{IsFit, IsCentreEvent};
 ghost use Rattle.sms_handset.specs.HandsetEvent.{deleted as deleted_of, discarded as discarded_of};
@@ -29,6 +28,7 @@ use crate::playing::places::{
     account_place, digits_place, number_at, numbers_entries, party_place,
 };
 use sms_base::{Carried, Digits, Holder, Moment, OctetView, Octets};
+use sms_centre_spec::is_event;
 use sms_handset::{HandsetEvent, TextView};
 use sms_play::staging::frame_at;
 use sms_script::report::Direction;
@@ -54,26 +54,6 @@ fn tag_in(carried: Option<Carried>) -> Option<Holder>
     ensures { result ≡ tag_in_of carried }
 {
     carried.map(|carried| carried.tag)
-}
-
-// Octets are below 256.
-fn are_octets(octets: &[u8])
-    ensures { AreOctets octets.now }
-{}
-
-// What happens at the centre is an event: its octets are octets, and its moment is one that time stamps can write.
-fn is_event(event: &CentreEvent<'_>)
-    requires { HasNumber event.now }
-    ensures { IsEvent event.now }
-{
-    match event {
-        CentreEvent::Frame { octets, .. } => are_octets(octets.as_slice()),
-        CentreEvent::Tick(now) => {
-            // The call tells its range.
-            let _seconds = now.seconds();
-        }
-        _ => (),
-    }
 }
 
 // A frame that is handed over.
