@@ -75,7 +75,7 @@ impl Session {
         }
     }
 
-    /// The state.
+    /// The session's state (SMPP v3.4 2.2).
     pub fn state(&self) -> SessionState
         ensures { result ≡ self.now.conversation.state }
     {

@@ -3,10 +3,10 @@
 pub enum FinalState {
     /// Each part was accepted.
     Delivered,
-    /// Its validity period ended.
+    /// The validity period of the message ended.
     Expired,
-    /// It was cancelled.
+    /// The message was cancelled.
     Deleted,
-    /// It was refused for good.
+    /// The message was refused for good.
     Undeliverable,
 }

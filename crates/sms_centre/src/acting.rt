@@ -25,7 +25,7 @@ use std::alloc::AllocError;
 /// How an event ended.
 #[derive(Clone, Copy, Debug)]
 pub enum EventEnd {
-    /// It is done, with all that it leads to.
+    /// The event is done, with all that it leads to.
     Done,
     /// Numbers or references are free for not all of a submission; a handset's is under that reference. The event is to
     /// begin anew, and refuses it.

@@ -109,7 +109,7 @@ impl Centre {
         Ok(Centre::of(alloc, centre_state)?)
     }
 
-    /// This centre starts again, with these rows in place of what it had, as `recover` says. Where it can't, it stays as it was.
+    /// Starts this centre again, with these rows in place of what it had, as `recover` says. Where it can't, it stays as it was.
     pub fn restart(
         &mut self,
         rows: Rows,
@@ -132,7 +132,7 @@ impl Centre {
         }
     }
 
-    /// This centre starts again on the rows that it has committed, as `recover` would make it of them anew. `moment` is
+    /// Starts this centre again on the rows that it has committed, as `recover` would make it of them anew. `moment` is
     /// the greatest that they have seen. It reads no rows, and costs what handsets and what waits for them do. Where it
     /// can't, it stays unchanged.
     ///
@@ -275,14 +275,14 @@ impl Centre {
         submit_refusal(&self.centre_state, account, message)
     }
 
-    /// The same of a query_sm.
+    /// The status with which its octets refuse a query_sm of that account, if they do. It takes no memory.
     pub fn query_refusal(&self, account: u8, query: &QuerySm<'_>) -> Option<CommandStatus>
         ensures { (c : Core) → Represents c self.now → result ≡ query_refusal account query.now c }
     {
         query_refusal(&self.centre_state, account, query)
     }
 
-    /// The same of a cancel_sm.
+    /// The status with which its octets refuse a cancel_sm of that account, if they do. It takes no memory.
     pub fn cancel_refusal(&self, account: u8, cancel: &CancelSm<'_>) -> Option<CommandStatus>
         ensures { (c : Core) → Represents c self.now → result ≡ cancel_refusal account cancel.now c }
     {

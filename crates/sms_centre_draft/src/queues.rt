@@ -31,7 +31,7 @@ pub(crate) fn withdraw(
     queues.withdraw(number, id)
 }
 
-/// One more waits for the handset, or the one of that message and number waits otherwise.
+/// Lets one more wait for the handset, or the one of that message and number wait otherwise.
 pub(crate) fn put(
     queues: &mut DeliveryQueuesDraft,
     number: Digits,

@@ -33,7 +33,7 @@ use std::alloc::AllocError;
 /// How a submit_sm ended.
 #[derive(Clone, Copy, Debug)]
 pub enum SubmitOutcome {
-    /// It was answered: it is a message now, or was refused.
+    /// The submission was answered: it is a message now, or was refused.
     Answered,
     /// No number or references are free for it, or its account would hold too many: the event is to begin anew, and
     /// refuses it.

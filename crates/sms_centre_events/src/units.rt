@@ -28,7 +28,7 @@ use std::alloc::{AllocError, Global};
 /// How a frame ended.
 #[derive(Clone, Copy, Debug)]
 pub enum FrameOutcome {
-    /// It is done, with all that it leads to.
+    /// The frame is done, with all that it leads to.
     Done,
     /// A SUBMIT under that reference for which no number or references are free: the event is to begin anew, and refuses it.
     Congested(u8),

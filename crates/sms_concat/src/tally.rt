@@ -14,7 +14,7 @@ use sms_base::{Code, code_of};
 pub(crate) struct Tally {
     /// How much a piece has room for.
     room: usize,
-    /// One more than what one part without a header has room for still; 0 where it is passed.
+    /// What a part without a header has room for still, and one more; 0 where it is passed.
     alone: usize,
     /// How many of the 20 parts aren't filled yet.
     parts: u8,

@@ -44,7 +44,7 @@ pub fn a_fault_has_its_reason()
     ensures other { (octets more : List ℕ) (cp : Cp) (fault : CpFault) → cp_at octets ≡ Err fault → fault ≢ Truncated → ¬ IsCp (octets ++ more) cp }
 {}
 
-/// This side has at most one transaction under way: over any calls, as many have ended as began, or one fewer.
+/// A side has at most one transaction of its own under way: over any calls, as many have ended as began, or one fewer.
 pub fn one_begun_at_a_time()
     ensures { (calls : List Call) → (ends calls fresh ≤ begins calls fresh) × (begins calls fresh ≤ ends calls fresh + 1) }
 {}

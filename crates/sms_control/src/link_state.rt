@@ -23,7 +23,7 @@ pub struct Repetition {
 #[derive(Debug, Drop)]
 pub struct Begun {
     pub identifier: TransactionIdentifier,
-    /// Its CP-DATA.
+    /// The CP-DATA of the transaction.
     pub frame: Octets,
     /// None once CP-ACK has arrived.
     pub repetition: Option<Repetition>,
@@ -34,7 +34,7 @@ pub struct Begun {
 /// The answer in a transaction of the other side, until its CP-ACK arrives.
 #[derive(Debug, Drop)]
 pub struct Answer {
-    /// Its CP-DATA.
+    /// The CP-DATA of the transaction.
     pub frame: Octets,
     pub repetition: Repetition,
 }

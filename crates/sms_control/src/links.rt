@@ -13,7 +13,7 @@ use sms_base::{Moment, Octets};
 use std::alloc::{AllocError, Global};
 use std::marker::Model;
 
-/// One side of a link: the transaction that it began and the one that the other side began.
+/// A side of a link: the transaction that it began and the one that the other side began.
 ///
 /// Contracts see it as its `LinkState`. A call that is refused, or that finds no memory, changes nothing.
 #[derive(Debug, Drop)]

@@ -100,7 +100,7 @@ impl<K: Keep<Rows = Rows, Changes = Changes> + Drop> HandsetMachine<K> {
         HandsetMachine { keep, handset }
     }
 
-    /// The handset.
+    /// The handset that the machine runs.
     pub fn handset(&self) -> &Handset
         ensures { result.now ≡ handset_in self.now }
     {

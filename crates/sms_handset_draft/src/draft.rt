@@ -288,7 +288,7 @@ impl<'a> Draft<'a> {
         self.base.groups.at(number)
     }
 
-    /// Its stored parts.
+    /// The stored parts of the group.
     pub fn members_in(&self, there: &'a OpenGroup) -> Members<'a>
         requires untouched { self.now.changes ≡ no_changes }
         requires parts { there.now.parts ≡ stored_parts (members_of there.now.group self.now.rows.entries) }

@@ -12,7 +12,7 @@ use sms_control::{Cp, Frames, Links, Out, TransactionFlag, Up};
 use std::alloc::{AllocError, Global};
 use std::marker::Model;
 
-/// One end of a link, with what its transactions carry.
+/// An end of a link, with what its transactions carry.
 #[derive(Drop)]
 pub struct Link {
     alloc: Global,

@@ -47,7 +47,7 @@ impl Model for PlayedHandset {
 /// What a handset did with an event.
 #[derive(Drop)]
 pub enum HandsetOutcome {
-    /// These frames are sent.
+    /// The handset sends these frames.
     Done(Listed<Outgoing>),
     /// The act of its owner is refused.
     Refused(Refusal),
@@ -163,7 +163,7 @@ impl PlayedHandset {
         })
     }
 
-    /// Its number, which can be written as the address of a handset.
+    /// The handset's number, which can be written as the address of a handset.
     pub fn number(&self) -> Digits
         ensures number { result ≡ self.now.number }
         ensures address { IsAddress (own_address result) }

@@ -150,7 +150,7 @@ impl StoredHandset {
         self.keep.counters().entry
     }
 
-    /// Its greatest moment after the event.
+    /// The handset's greatest moment after the event.
     pub(crate) fn moment_after(&self, event: &HandsetEvent<'_>) -> Moment
         ensures { result ≡ moment_after_of self.now.core.moment event.now }
     {

@@ -115,7 +115,7 @@ impl SessionSoFar {
         Ok(())
     }
 
-    /// It is answered. Where the request is not in the capture, nothing is written.
+    /// Answers the request. Where the request is not in the capture, nothing is written.
     pub fn answer(
         &mut self,
         alloc: Global,
@@ -153,7 +153,7 @@ impl SessionSoFar {
         Ok(())
     }
 
-    /// It accepts the receipt.
+    /// The application accepts the receipt.
     pub fn accept(
         &mut self,
         alloc: Global,

@@ -16,7 +16,7 @@ pub fn messages_of_nobody_are_refused()
     ensures origin { FromNoneLaw }
 {}
 
-/// One message with two lines. A line that is gone in a longer report, another final state there, and a receipt that is gone.
+/// A message with two lines. A line that is gone in a longer report, another final state there, and a receipt that is gone.
 /// A receipt that says DELIVRD of an EXPIRED message, and two receipts of one message.
 pub fn wrong_final_states_are_refused()
     ensures lines { LinesLaw }

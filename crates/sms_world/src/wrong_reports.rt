@@ -55,7 +55,7 @@ pub fn wrong_status_reports_are_refused()
     ensures state { StateLaw }
 {}
 
-/// One number for two submissions. A query_sm that finds DELIVRD of a message under way. A cancel_sm that was answered
+/// A number for two submissions. A query_sm that finds DELIVRD of a message under way. A cancel_sm that was answered
 /// ESME_ROK and deletes nothing, and one that was refused and deletes. A message that a frame deletes. An answer ESME_RSYSERR. Two answers of one event.
 pub fn wrong_answers_are_refused()
     ensures number { NumberLaw }

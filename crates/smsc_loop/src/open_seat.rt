@@ -103,7 +103,7 @@ impl OpenSeat {
         }
     }
 
-    /// Its number, from 0.
+    /// The seat's number, from 0.
     pub fn number(&self) -> usize
         ensures { result ≡ number_of self.now.seat }
     {

@@ -145,7 +145,7 @@ impl DeliveryQueue {
         self.waiting.find(Key::pair(id.number(), number))
     }
 
-    /// One more waits, or the one of that message and number waits otherwise.
+    /// Lets one more wait, or the one of that message and number wait otherwise.
     pub fn put(&mut self, load: QueuedPart) -> Result<(), AllocError>
         ensures { OnOk result (self.new ≡ queue_with load self.old) }
     {

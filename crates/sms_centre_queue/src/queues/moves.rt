@@ -23,7 +23,7 @@ use sms_rows::table::Change;
 use std::alloc::AllocError;
 
 impl DeliveryQueuesDraft {
-    /// One more waits for the handset, or the one of that message and number waits otherwise.
+    /// Lets one more wait for the handset, or the one of that message and number wait otherwise.
     pub fn put(&mut self, number: Digits, load: QueuedPart) -> Result<(), AllocError>
         requires digits { AllDigits number }
         ensures { OnOk result ((g : Allocations) (links : Links) (waiting after : List ℕ → List LoadOf) → DraftRepresents g links waiting self.old

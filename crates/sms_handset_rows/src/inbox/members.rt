@@ -40,7 +40,7 @@ impl<'a> Model for Members<'a> {
 }
 
 impl<'a> Members<'a> {
-    /// Those of the group, by the index of the entries.
+    /// The members of the group, by the index of the entries.
     pub fn of(groups: &'a OpenGroups, entries: &'a Table<Entry>, group: &Group) -> Members<'a>
         requires { Indexes groups.now entries.now.rows }
         ensures { result ≡ members_of group.now entries.entry.now.rows }
@@ -55,7 +55,7 @@ impl<'a> Members<'a> {
         }
     }
 
-    /// Those of an open group that has them, not to be joined.
+    /// The members of an open group that has them, not to be joined.
     pub fn in_group(entries: &'a Table<Entry>, there: &'a OpenGroup) -> Members<'a>
         requires { there.now.parts ≡ stored_parts (members_of there.now.group entries.now.rows) }
         ensures { result ≡ members_of there.entry.now.group entries.entry.now.rows }

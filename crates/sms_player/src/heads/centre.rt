@@ -38,7 +38,7 @@ fn accounts_of(
     Ok(all)
 }
 
-/// Its address.
+/// The centre's address.
 pub(crate) fn centre_of(setup: &Setup<'_>) -> Address
     requires { is_number_of setup.now.centre ≡ true }
     ensures centre { result ≡ own_address setup.now.centre }

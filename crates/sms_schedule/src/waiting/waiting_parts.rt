@@ -132,7 +132,7 @@ impl WaitingParts {
 }
 
 impl WaitingParts {
-    /// One more waits, or the one of that message and number waits otherwise.
+    /// Lets one more wait, or the one of that message and number wait otherwise.
     pub fn put(&mut self, load: QueuedPart) -> Result<(), AllocError>
         ensures { OnOk result (loads_of self.new ≡ put load_key load (loads_of self.old)) }
     {

@@ -36,7 +36,7 @@ pub struct JoinedRow {
     /// The digits or the name of its source.
     pub from: Digits,
     pub coding: JoinedCoding,
-    /// One septet an octet, octets, or the octets of UCS2.
+    /// Septets, one an octet; octets; or the octets of UCS2.
     pub units: Octets,
 }
 
@@ -85,7 +85,7 @@ pub struct GivenRow {
 /// A frame that was sent.
 #[derive(Debug, Drop)]
 pub struct FrameRow {
-    /// Its number, from 1.
+    /// The frame's number, from 1.
     pub number: u64,
     pub direction: Direction,
     pub handset: Digits,

@@ -101,7 +101,7 @@ impl Cause {
         }
     }
 
-    /// Its words; empty for a cause that the standard does not name.
+    /// The words of the cause; empty where the standard does not name it.
     pub fn words(self) -> &'static str
         ensures { result.now ≡ words_of self }
     {
@@ -111,7 +111,7 @@ impl Cause {
         }
     }
 
-    /// Its number.
+    /// The number of the cause.
     pub fn number(self) -> u8
         ensures { result ≡ number_of_cause self }
     {

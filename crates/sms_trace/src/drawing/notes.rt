@@ -164,7 +164,7 @@ fn pdu_note(has_pdu: bool) -> &'static str
 pub struct RequestNote {
     /// The name of its command.
     pub command: &'static str,
-    /// Its sequence number, which its answer bears, too.
+    /// The request's sequence number, which its answer bears, too.
     pub sequence: u32,
     /// Whether there is a PDU of it.
     pub has_pdu: bool,
@@ -176,7 +176,7 @@ pub enum Heading {
     None,
     /// The frame arrived before.
     Again,
-    /// It is a request.
+    /// The PDU is a request.
     Request(RequestNote),
 }
 
