@@ -16,12 +16,12 @@ use crate::report::lines::{
     put_accepted, put_answer, put_frame, put_joined, put_message, put_outbox, put_receipt,
 };
 use crate::report::writing::put_number;
-pub use answers::{Answer, Answered, MessageState};
+pub use answers::{Answer, Answered};
 pub use rows::{
     AcceptedRow, Direction, EntryState, FrameRow, GivenRow, JoinedCoding, JoinedRow, OutboxRow,
-    ReceiptRow, ReportedMessage,
 };
 use sms_base::{Listed, Octets};
+pub use sms_centre_rows::report_lines::{MessageState, ReceiptRow, ReportedMessage};
 use std::alloc::{AllocError, Global};
 
 /// The first event that breaks a premise of the claims.

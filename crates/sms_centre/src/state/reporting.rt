@@ -16,7 +16,7 @@ use crate::state::centre_state::CentreState;
 use sms_base::{FinalState, Listed, MessageId};
 use sms_centre_messages::message_index::{MessageIndex, MessageSummary};
 use sms_centre_reports::report_log::ReportLog;
-use sms_script::report::{MessageState, ReceiptRow, ReportedMessage};
+use sms_centre_rows::report_lines::{MessageState, ReceiptRow, ReportedMessage};
 use std::alloc::{AllocError, Global};
 
 fn state_of(state: Option<FinalState>) -> MessageState

@@ -2,14 +2,14 @@
 ghost use Rattle.std.specs.Prelude.{◌≡◌, ◌++◌, OnOk};
 ghost use Rattle.sms_script.specs.report.ReportText.{status_text, final_text, state_text, coding_text, entry_text, direction_text, answered_text, answer_line, message_line, accepted_line, joined_line, receipt_line, outbox_line, frame_line};
 
-use crate::report::answers::{Answer, Answered, MessageState};
+use crate::report::answers::{Answer, Answered};
 use crate::report::rows::{
-    AcceptedRow, Direction, EntryState, FrameRow, JoinedCoding, JoinedRow, OutboxRow, ReceiptRow,
-    ReportedMessage,
+    AcceptedRow, Direction, EntryState, FrameRow, JoinedCoding, JoinedRow, OutboxRow,
 };
 use crate::report::writing::{put_body, put_characters, put_id, put_number, put_octets};
 use smpp_pdu::CommandStatus;
 use sms_base::{FinalState, Octets};
+use sms_centre_rows::report_lines::{MessageState, ReceiptRow, ReportedMessage};
 use std::alloc::{AllocError, Global};
 
 fn status_text(status: CommandStatus) -> &'static str

@@ -1,9 +1,9 @@
 use Rattle.std.proofs.Common.{arith, ◌≡◌, ℕ, zero, suc, List, [], ◌∷◌, false, refl, sym, ◌∙◌, ap, subst, inl, ⊎_elim, Some, ◌<◌}
 use Rattle.sms_base.specs.Among.{Among}
-use Rattle.sms_script.specs.declared.report.rows.ReportedMessage.{ReportedMessage}
-use Rattle.sms_script.specs.declared.report.rows.ReceiptRow.{ReceiptRow}
-use Rattle.sms_script.specs.declared.report.answers.MessageState.{MessageState}
-use Rattle.sms_script.specs.declared.report.answers.MessageState.TheVariants.{Enroute, Final}
+use Rattle.sms_centre_rows.specs.declared.report_lines.ReportedMessage.{ReportedMessage}
+use Rattle.sms_centre_rows.specs.declared.report_lines.ReceiptRow.{ReceiptRow}
+use Rattle.sms_centre_rows.specs.declared.report_lines.MessageState.{MessageState}
+use Rattle.sms_centre_rows.specs.declared.report_lines.MessageState.TheVariants.{Enroute, Final}
 use Rattle.sms_base.specs.declared.final_state.FinalState.{FinalState}
 use Rattle.sms_base.specs.declared.final_state.FinalState.TheVariants.{Delivered, Deleted}
 use Rattle.std.specs.Prelude.{◌≤◌}

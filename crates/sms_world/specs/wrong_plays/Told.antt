@@ -4,7 +4,7 @@ use Rattle.sms_base.specs.declared.final_state.FinalState.TheVariants.{Delivered
 use Rattle.sms_centre_rows.specs.declared.messages.message.MessageRow.{MessageRow}
 use Rattle.sms_centre_rows.specs.declared.messages.part.PartRow.{PartRow}
 use Rattle.sms_play.specs.answers.AnswerLaws.{HaveNoSystemError}
-use Rattle.sms_script.specs.declared.report.answers.MessageState.TheVariants.{Enroute, Final}
+use Rattle.sms_centre_rows.specs.declared.report_lines.MessageState.TheVariants.{Enroute, Final}
 use Rattle.sms_world.specs.headline.Claims.{AreOnce, ConfirmedAreThere, DeliveredOnce, FinalStays, GivenOnce, HeldDiffer, JoinedWhole, LinesStay, PartsOnce, ReceiptsHaveState, ReceiptsStay, SentSubmitted, StatusReportsAreListed}
 use Rattle.sms_world.specs.headline.Headline.{Headline}
 use Rattle.sms_world.specs.headline.Origins.{AreFromEvents, LinesDelivered, ReportedDelivered}
