@@ -8,9 +8,8 @@ ghost use Rattle.sms_play.specs.PlayState.{numbers_of as numbers_of_parties};
 ghost use Rattle.sms_play.specs.Setups.{are_handsets as are_handsets_of, can_be_played, is_handset as is_handset_of, is_number as is_number_of, parties_of as parties_of_head};
 
 use crate::heads::centre::centre_of;
-use crate::heads::digits::digits_of;
 use sms_base::lending::lend;
-use sms_base::{Digits, Moment};
+use sms_base::{Digits, Moment, digits_of};
 use sms_player_handset::PlayedHandset;
 use sms_script::{HandsetSetup, Setup};
 use std::alloc::{AllocError, Global};
