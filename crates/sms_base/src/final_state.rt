@@ -10,3 +10,20 @@ pub enum FinalState {
     /// The message was refused for good.
     Undeliverable,
 }
+
+impl FinalState {
+    ghost use Rattle.std.specs.Prelude.{◌≡◌};
+    ghost use Rattle.sms_base.specs.FinalWords.{final_word};
+
+    /// The word of a receipt for the state (SMPP v3.4 appendix B).
+    pub fn word(self) -> &'static str
+        ensures { result.now ≡ final_word self }
+    {
+        match self {
+            FinalState::Delivered => "DELIVRD",
+            FinalState::Expired => "EXPIRED",
+            FinalState::Deleted => "DELETED",
+            FinalState::Undeliverable => "UNDELIV",
+        }
+    }
+}

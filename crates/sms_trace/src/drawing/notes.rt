@@ -5,7 +5,7 @@ ghost use Rattle.sms_trace.specs.drawing.Causes.{cause_of_frame};
 ghost use Rattle.sms_trace.specs.drawing.Notes.{again_note, asked_note, bare_word as word_of_bare, behind_note, carried_note, cause_name, cause_note};
 ghost use Rattle.sms_trace.specs.drawing.Notes.{content_note, event_note, frame_note, hex_pair, holder_note, kind_word as word_of_kind, numbered, part_note};
 ghost use Rattle.sms_trace.specs.drawing.Notes.{pdu_note as note_of_pdu, reason_note, receipt_answer_note, receipt_note, reported_word};
-ghost use Rattle.sms_trace.specs.drawing.Notes.{request_note, response_note, state_word as word_of_state};
+ghost use Rattle.sms_trace.specs.drawing.Notes.{request_note, response_note};
 ghost use Rattle.sms_trace.specs.drawing.Shown.{shown_octets};
 
 use crate::drawing::causes::Cause;
@@ -272,22 +272,10 @@ pub fn response_text(
     Ok(out)
 }
 
-// The word of a receipt for a state.
-fn state_word(state: FinalState) -> &'static str
-    ensures { result.now ≡ word_of_state state }
-{
-    match state {
-        FinalState::Delivered => "DELIVRD",
-        FinalState::Expired => "EXPIRED",
-        FinalState::Deleted => "DELETED",
-        FinalState::Undeliverable => "UNDELIV",
-    }
-}
-
 fn found_word(state: MessageState) -> &'static str {
     match state {
         MessageState::Enroute => "ENROUTE",
-        MessageState::Final(state) => state_word(state),
+        MessageState::Final(state) => state.word(),
     }
 }
 
@@ -318,7 +306,7 @@ fn put_state(out: &mut Octets, state: Option<FinalState>) -> Result<(), AllocErr
     ensures { OnOk result (out.new ≡ out.old ++ reported_word state) }
 {
     match state {
-        Some(state) => out.append(state_word(state).as_bytes()),
+        Some(state) => out.append(state.word().as_bytes()),
         None => out.append(b"ENROUTE"),
     }
 }
