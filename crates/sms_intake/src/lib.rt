@@ -41,7 +41,7 @@ mod submit_report;
 mod text_view;
 
 pub use allowed_source::AllowedSource;
-pub use content_view::content_of;
+pub use content_view::{content_of, latin_text};
 pub use deliver::deliver_octets;
 pub use handset_intake::from_submit;
 pub use part_bodies::bodies_under;

@@ -1,5 +1,5 @@
 //! The events of a script.
-ghost use Rattle.std.specs.Prelude.{◌≡◌, ◌<◌, ◌≤◌, ◌^◌, ℕ, true, false, length, string_bytes, Err, IfOk, IfSome, OnOk};
+ghost use Rattle.std.specs.Prelude.{◌≡◌, ◌<◌, ◌≤◌, ◌^◌, ℕ, true, false, length, Err, IfOk, IfSome, OnOk};
 ghost use Rattle.std.specs.Str.{chars, is_utf8};
 ghost use Rattle.sms_base.specs.Address.{IsAddress};
 ghost use Rattle.sms_base.specs.Among.{Among};
@@ -30,11 +30,12 @@ use crate::playing::places::{
 use sms_base::{Carried, Digits, Holder, Moment, OctetView, Octets};
 use sms_centre_spec::is_event;
 use sms_handset::{HandsetEvent, TextView};
+use sms_intake::latin_text;
 use sms_play::staging::frame_at;
 use sms_script::report::Direction;
 use sms_script::requests::{cancel_of, query_of, submit_of};
 use sms_script::{Act, PlayFault, Side, StopPoint, Submission, TextView as TextWord, WorldEvent};
-use std::alloc::{AllocError, Global};
+use std::alloc::AllocError;
 use std::str::from_utf8;
 
 /// What was done, with want of memory as a fault at `event`.
@@ -63,17 +64,6 @@ struct Handed {
     handset: Digits,
     octets: Octets,
     tag: Option<Holder>,
-}
-
-// A character for each octet.
-fn text_of(alloc: Global, octets: &[u8]) -> Result<String, AllocError>
-    ensures { IfOk result (λ text. chars (string_bytes text) ≡ octets.now) }
-{
-    let mut text = String::new(alloc);
-    for octet in octets {
-        text.push(char::from(*octet))?;
-    }
-    Ok(text)
 }
 
 // The octets of a text, as text.
@@ -241,7 +231,7 @@ impl<'a> Playing<'a> {
         ensures { (c : PlayState) (party : Party) (act : ActOf) → Represents c self.old → IsFirstAt place party c.parties → is_answered_act act ≡ true
             → OnOk result (Represents (met_as stop event act (AtHandset party (HandsetWrite (chars text.now) to.now report)) c) self.new) }
     {
-        let to = text_of(self.alloc, to)?;
+        let to = latin_text(self.alloc, to)?;
         let octets = text.octets(self.alloc)?;
         self.write_text(event, stop, place, to.as_str(), report, text_in(&octets))
     }
