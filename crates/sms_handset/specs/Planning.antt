@@ -111,11 +111,11 @@ OfDiscard (Write text to report) P = Unit {0}
 OfDiscard (Delete entry) P = Unit {0}
 OfDiscard (Discard entry) P = P entry
 
--- ---- the draft's rows are the rows with its changes, and nothing else
+-- ---- a draft is the rows, revised by its changes and by nothing else
 
-abbrev pub Rests : Rows → Draft → Type 0
-Rests base d = d.rows ≡ rows_after d.changes base
+abbrev pub IsRevised : Rows → Draft → Type 0
+IsRevised base d = d.rows ≡ rows_after d.changes base
 
-abbrev pub RestsIfDone : Rows → Result Draft Refusal → Type 0
-RestsIfDone base (Ok d) = Rests base d
-RestsIfDone base (Err refusal) = Unit {0}
+abbrev pub IsRevisedIfDone : Rows → Result Draft Refusal → Type 0
+IsRevisedIfDone base (Ok d) = IsRevised base d
+IsRevisedIfDone base (Err refusal) = Unit {0}

@@ -3,7 +3,7 @@ ghost use Rattle.std.specs.Prelude.{◌≡◌, ◌+◌, ◌≤◌, max, Ok, IfEr
 ghost use Rattle.std.specs.Str.{chars};
 ghost use Rattle.sms_handset_draft.specs.Draft.{draft_of, recovered};
 ghost use Rattle.sms_handset.specs.HandsetEvent.{deleted, discarded, frame_received as frame_received_of, tag_of, ticked as ticked_of, wrote};
-ghost use Rattle.sms_handset.specs.Planning.{adopted, Fits, IsPlanOf, Judges, OfDelete, OfDiscard, OfFrame, OfTick, OfWrite, Plans, Rests, Stores};
+ghost use Rattle.sms_handset.specs.Planning.{adopted, Fits, IsPlanOf, Judges, OfDelete, OfDiscard, OfFrame, OfTick, OfWrite, Plans, IsRevised, Stores};
 ghost use Rattle.sms_base.specs.Address.{IsAddress};
 ghost use Rattle.sms_rows.specs.table.Table.{Rises, row_at};
 ghost use Rattle.sms_handset_draft.specs.Regrouping.{Numbered, Regroups};
@@ -242,7 +242,7 @@ impl Handset {
     // The draft's outcome, with memory for the rows that come.
     fn planned(&self, draft: Draft<'_>, regrouping: Regrouping) -> Result<Plan, NoMemory>
         requires groups { Regroups regrouping self.now.core.rows draft.rows }
-        requires rests { Rests self.now.core.rows draft }
+        requires rests { IsRevised self.now.core.rows draft }
         ensures { IfOk result (IsPlanOf draft.entry self.now) }
     {
         // The call tells that the entries stand in order.
