@@ -10,7 +10,7 @@ ghost use Rattle.sms_centre_spec.specs.Requests.{cancel_refusal, octets_refusal,
 ghost use Rattle.sms_centre_spec.specs.SoundCore.{AreDifferent, HasNumber, IsEvent};
 ghost use Rattle.sms_centre_spec.specs.SoundRows.{IsSetup};
 ghost use Rattle.sms_centre.specs.Archiving.{AreArchived, Stays};
-ghost use Rattle.sms_centre.specs.Planning.{DefinedOutcome, Fits};
+ghost use Rattle.sms_centre.specs.Planning.{DefinedOutcome, FitsTheCentre};
 ghost use Rattle.sms_centre.specs.Stored.{StoresRows};
 ghost use Rattle.sms_centre_rows.specs.messages.Messages.{message_at};
 ghost use Rattle.sms_centre_rows.specs.waiting.Links.{line_of};
@@ -188,7 +188,7 @@ impl Centre {
         // So it is what the definition plans with a store that answers all that the event reads but what it refused.
         ensures definition { (c : Core) (rows : B.Rows) → Represents c self.now → StoresRows (B.body_of rows) c.rows
             → DefinedOutcome event.now c rows (B.state bodies.old) (B.state bodies.new) result }
-        ensures fits { IfOk result (Fits self.now) }
+        ensures fits { IfOk result (FitsTheCentre self.now) }
         ensures event { IsEvent event.now }
         ensures before { WasHonest (B.state bodies.old) (B.state bodies.new) }
     {
@@ -218,7 +218,7 @@ impl Centre {
         ensures archived { (c : Core) → Represents c self.now
             → OnOk result (AreArchived (A.keeps archive.new) (going_now before from most c) c.rows.messages) }
         ensures kept { Stays (A.keeps archive.old) (A.keeps archive.new) }
-        ensures fits { IfOk result (Fits self.now) }
+        ensures fits { IfOk result (FitsTheCentre self.now) }
     {
         plan_forget(self.alloc, &self.centre_state, archive, before, from, most)
     }
@@ -291,7 +291,7 @@ impl Centre {
 
     /// Puts the plan of an event or of forgetting into the centre, without taking memory, and gives what leaves.
     pub fn adopt(&mut self, planned: Plan) -> Outputs
-        requires { Fits self.old planned }
+        requires { FitsTheCentre self.old planned }
         ensures outputs { result ≡ planned.plan.outputs }
         ensures centre_state { (event : CentreEventOf) (c : Core) → Represents c self.old → IsEvent event → IsOutcome (happened event c) planned.plan
             → Represents (core_of (happened event c)) self.new }
@@ -310,7 +310,7 @@ impl Centre {
     /// # Errors
     /// A growth was refused: the centre stays unchanged.
     pub fn adopt_uncommitted(&mut self, planned: Plan) -> Result<(Changes, Outputs), AllocError>
-        requires { Fits self.old planned }
+        requires { FitsTheCentre self.old planned }
         ensures changes { IfOk result (λ r. r.0 ≡ planned.plan.changes) }
         ensures outputs { IfOk result (λ r. r.1 ≡ planned.plan.outputs) }
         ensures centre_state { (event : CentreEventOf) (c : Core) → Represents c self.old → IsEvent event → IsOutcome (happened event c) planned.plan

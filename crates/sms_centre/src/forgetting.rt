@@ -15,7 +15,7 @@ ghost use Rattle.sms_centre_draft.specs.CentreDraft.{Represents as DraftRepresen
 ghost use Rattle.sms_centre_draft.specs.Forgetting.{ArePlaced};
 ghost use Rattle.sms_centre.specs.Archiving.{AreArchived, Stays};
 ghost use Rattle.sms_centre.specs.Forgetting.{gone_at};
-ghost use Rattle.sms_centre.specs.Planning.{Fits};
+ghost use Rattle.sms_centre.specs.Planning.{FitsTheCentre};
 ghost use Rattle.sms_centre.specs.plans.EventOutcome.{IsOutcome};
 ghost use Rattle.sms_centre.specs.state.CentreState.{CentreStateOf, Represents as StateRepresents};
 
@@ -378,7 +378,7 @@ fn plan_begun<A: Archive>(
     ensures archived { (c : Core) → DraftRepresents (draft_of c) draft.entry → StateRepresents c state.now
         → OnOk result (AreArchived (A.keeps archive.new) (going_now before from most c) c.rows.messages) }
     ensures kept { Stays (A.keeps archive.old) (A.keeps archive.new) }
-    ensures fits { IfOk result (Fits state.now) }
+    ensures fits { IfOk result (FitsTheCentre state.now) }
 {
     match forget(alloc, state, &mut draft, archive, before, from, most) {
         Ok(()) => finished(alloc, state, draft),
@@ -391,7 +391,7 @@ fn plan_begun<A: Archive>(
 
 fn finished(alloc: Global, state: &CentreState, draft: CentreDraft<'_>) -> Result<Plan, ForgetError>
     ensures plan { (d : Draft) → DraftRepresents d draft.entry → IfOk result (λ p. IsOutcome d p.plan) }
-    ensures fits { IfOk result (Fits state.now) }
+    ensures fits { IfOk result (FitsTheCentre state.now) }
 {
     let plan = planned(alloc, state, draft)?;
     Ok(plan)
@@ -411,7 +411,7 @@ pub(crate) fn plan_forget<A: Archive>(
     ensures archived { (c : Core) → StateRepresents c state.now
         → OnOk result (AreArchived (A.keeps archive.new) (going_now before from most c) c.rows.messages) }
     ensures kept { Stays (A.keeps archive.old) (A.keeps archive.new) }
-    ensures fits { IfOk result (Fits state.now) }
+    ensures fits { IfOk result (FitsTheCentre state.now) }
 {
     let draft = state.begin(alloc)?;
     plan_begun(alloc, state, draft, archive, before, from, most)

@@ -44,16 +44,16 @@ AccountGives None moment m = Unit {0}
 AccountGives (Some account) moment m = (u : Submission) → from_pdu account moment m ≡ Ok u → IsSubmission u
 
 -- and of an event; a tick has a moment
-abbrev pub Gives : CentreEvent → Core → Type 0
-Gives (Submit account m) c = AccountGives (account_at account c.rows.setup.accounts) c.moment m
-Gives (Query account q) c = Unit {0}
-Gives (Cancel account q) c = Unit {0}
-Gives (Bound session account receives) c = Unit {0}
-Gives (Unbound session) c = Unit {0}
-Gives (DeliverAnswered session id b) c = Unit {0}
-Gives (Frame handset octets tag) c =
+abbrev pub EventGives : CentreEvent → Core → Type 0
+EventGives (Submit account m) c = AccountGives (account_at account c.rows.setup.accounts) c.moment m
+EventGives (Query account q) c = Unit {0}
+EventGives (Cancel account q) c = Unit {0}
+EventGives (Bound session account receives) c = Unit {0}
+EventGives (Unbound session) c = Unit {0}
+EventGives (DeliverAnswered session id b) c = Unit {0}
+EventGives (Frame handset octets tag) c =
     let l : HandsetLink = line_of handset c.lines in UpGives c.rows.setup.accounts l.handset c.moment (taken octets l.link).out.up
-Gives (LinkUp handset) c = Unit {0}
-Gives (LinkDown handset) c = Unit {0}
-Gives (Ordered order id) c = Unit {0}
-Gives (Tick now) c = IsMoment now
+EventGives (LinkUp handset) c = Unit {0}
+EventGives (LinkDown handset) c = Unit {0}
+EventGives (Ordered order id) c = Unit {0}
+EventGives (Tick now) c = IsMoment now

@@ -62,11 +62,11 @@ pub record IsPart (part : Part) : Type 0 where
 -- ---- what is read
 
 -- the answer is what it would be with memory, or there was none for what would be read
-abbrev pub Answers : {X : Type 0} → Result X UnpackError → Result X UnpackError → Type 0
-Answers {X} (Ok x) wanted = wanted ≡ Ok x
-Answers {X} (Err NoMemory) wanted = (x : X) × (wanted ≡ Ok x)
-Answers {X} (Err TooShort) wanted = wanted ≡ Err TooShort
-Answers {X} (Err SpareBits) wanted = wanted ≡ Err SpareBits
+abbrev pub AnswersPartRead : {X : Type 0} → Result X UnpackError → Result X UnpackError → Type 0
+AnswersPartRead {X} (Ok x) wanted = wanted ≡ Ok x
+AnswersPartRead {X} (Err NoMemory) wanted = (x : X) × (wanted ≡ Ok x)
+AnswersPartRead {X} (Err TooShort) wanted = wanted ≡ Err TooShort
+AnswersPartRead {X} (Err SpareBits) wanted = wanted ≡ Err SpareBits
 
 -- a test found that something is read, or the fault for which it is not
 abbrev pub Tests : {X : Type 0} → Result (Unit {0}) UnpackError → Result X UnpackError → Type 0

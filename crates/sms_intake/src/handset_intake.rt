@@ -2,7 +2,7 @@
 ghost use Rattle.std.specs.Prelude.{◌≡◌, IfOk, Err};
 ghost use Rattle.sms_tpdu.specs.TpduReading.{up_at};
 ghost use Rattle.sms_tpdu.specs.declared.carrier.Carrier.TheVariants.{InData};
-ghost use Rattle.sms_intake.specs.HandsetIntake.{Answers, from_read, from_submit, is_of_account, is_past, submission_of, wish_of};
+ghost use Rattle.sms_intake.specs.HandsetIntake.{AnswersIntake, from_read, from_submit, is_of_account, is_past, submission_of, wish_of};
 
 use crate::refusal::{SubmitError, SubmitRefusal};
 use crate::submission::{CentreAccount, SinglePart, Submission, Text};
@@ -84,7 +84,7 @@ fn accepted(
     now: Moment,
     submit: &Submit<'_>,
 ) -> Result<Submission, SubmitError>
-    ensures { Answers result (from_submit accounts.now from now submit.now) }
+    ensures { AnswersIntake result (from_submit accounts.now from now submit.now) }
 {
     if !submit.destination_address.names_handset() {
         return Err(SubmitError::Refused(SubmitRefusal::NoHandset));
@@ -110,7 +110,7 @@ pub fn from_submit(
     now: Moment,
     tpdu: &[u8],
 ) -> Result<Submission, SubmitError>
-    ensures { Answers result (from_read accounts.now from now (up_at InData tpdu.now)) }
+    ensures { AnswersIntake result (from_read accounts.now from now (up_at InData tpdu.now)) }
 {
     match read_up(tpdu, Carrier::InData) {
         Ok(Up::Submit(submit)) => accepted(alloc, accounts, from, now, &submit),

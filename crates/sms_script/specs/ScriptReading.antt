@@ -20,9 +20,9 @@ use Rattle.sms_script.specs.declared.line.Line.{Line}
 use Rattle.sms_script.specs.declared.line.Line.TheVariants.{Start, Centre, Account as AccountLine, Handset as HandsetLine, Event}
 
 -- What a call returned, seen by view, and the words that it left are what the reading gives.
-abbrev pub Takes : {X Y : Type 0} → (X → Y) → Result X LineFault → List (List ℕ) → Result (Y × List (List ℕ)) LineFault → Type 0
-Takes view (Ok x) rest read = read ≡ Ok (view x, rest)
-Takes view (Err e) rest read = read ≡ Err e
+abbrev pub TakesWords : {X Y : Type 0} → (X → Y) → Result X LineFault → List (List ℕ) → Result (Y × List (List ℕ)) LineFault → Type 0
+TakesWords view (Ok x) rest read = read ≡ Ok (view x, rest)
+TakesWords view (Err e) rest read = read ≡ Err e
 
 -- ---- words
 

@@ -65,14 +65,14 @@ pub data Step : Type 0 where
 abbrev pub enter : World → Submission → World
 enter w s = record w { table = record { submission = s; state = Pending [] } ∷ w.table }
 
-abbrev pub IsNew : List Message → ℕ → Type 0
-IsNew [] id = Unit {0}
-IsNew (e ∷ es) id = ¬ (e.submission.id ≡ id) × IsNew es id
+abbrev pub IsUnusedId : List Message → ℕ → Type 0
+IsUnusedId [] id = Unit {0}
+IsUnusedId (e ∷ es) id = ¬ (e.submission.id ≡ id) × IsUnusedId es id
 
 -- the id is new, and each part takes a reference
 abbrev pub CanSubmit : World → ℕ → Submission → List Ticket → Type 0
 CanSubmit w moment s tickets =
-    IsNew w.table s.id × (0 < length s.parts) × (length tickets ≡ length s.parts) × CanGiveParts (enter w s) s moment 1 tickets
+    IsUnusedId w.table s.id × (0 < length s.parts) × (length tickets ≡ length s.parts) × CanGiveParts (enter w s) s moment 1 tickets
 
 abbrev pub submitted : World → ℕ → Submission → List Ticket → World
 submitted w moment s tickets =

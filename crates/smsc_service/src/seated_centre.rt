@@ -1,7 +1,7 @@
 //! A centre over its store, with who sits where.
 ghost use Rattle.std.specs.Prelude.{◌≡◌, ⊤, true};
 ghost use Rattle.sms_centre.specs.plans.EventOutcome.{IsOutcome};
-ghost use Rattle.sms_centre.specs.Planning.{Fits};
+ghost use Rattle.sms_centre.specs.Planning.{FitsTheCentre};
 ghost use Rattle.sms_centre_group.specs.Grouping.{store_of};
 ghost use Rattle.sms_centre_spec.specs.CentreEvent.{happened};
 ghost use Rattle.sms_centre_spec.specs.SoundCore.{HasNumber, IsEvent};
@@ -63,7 +63,7 @@ impl<K: CentreStore + Drop> SeatedCentre<K> {
 
     // The plan is adopted and its changes are held. The outs may leave once the group is committed.
     fn hold(&mut self, stimulus: &Stimulus<Job>, planned: Plan, outs: Vec<Out<Reply>>) -> Made
-        requires { Fits self.old.machine.centre planned }
+        requires { FitsTheCentre self.old.machine.centre planned }
         ensures before { IsHonest K.state self.new → IsHonest K.state self.old }
         ensures refused { result.fate ≡ Refused → RefusedRead self.old self.new }
         ensures gives { (event : CentreEventOf) (s : Serving) (base : RowsOf) → IsEvent event → IsOutcome (happened event s.core) planned.plan
@@ -87,7 +87,7 @@ impl<K: CentreStore + Drop> SeatedCentre<K> {
 
     // The replies to the seats are made, and then the plan is adopted.
     fn reply_and_hold(&mut self, stimulus: &Stimulus<Job>, planned: Plan) -> Made
-        requires { Fits self.old.machine.centre planned }
+        requires { FitsTheCentre self.old.machine.centre planned }
         ensures before { IsHonest K.state self.new → IsHonest K.state self.old }
         ensures refused { result.fate ≡ Refused → RefusedRead self.old self.new }
         ensures gives { (event : CentreEventOf) (s : Serving) (base : RowsOf) → IsEvent event → IsOutcome (happened event s.core) planned.plan

@@ -1,7 +1,7 @@
 //! What memory has of messages and parts between two events.
 ghost use Rattle.std.specs.Prelude.{◌≡◌, [], ℕ, ◌+◌, ◌*◌, ◌≤◌, true, List, IfOk, length, max};
 ghost use Rattle.std.specs.List.Sorted.{IsNonDecreasing};
-ghost use Rattle.sms_centre_messages.specs.message_index.MessageIndex.{Applies, CoversPast, Fits, HasRoomFor, Represents, IsStaleFirst, Matches, Notes, PutsIn, Takes, is_ended, past_entry_id, past_id};
+ghost use Rattle.sms_centre_messages.specs.message_index.MessageIndex.{Applies, CoversPast, FitsTheMessages, HasRoomFor, Represents, IsStaleFirst, Matches, Notes, PutsIn, TakesInMessages, is_ended, past_entry_id, past_id};
 ghost use Rattle.sms_centre_rows.specs.messages.Messages.{message_at, message_key, next_id};
 ghost use Rattle.sms_centre_rows.specs.declared.messages.message.MessageRow.{MessageRow as MessageRowOf};
 ghost use Rattle.sms_centre_rows.specs.declared.messages.part.PartRow.{PartRow as PartRowOf};
@@ -129,7 +129,7 @@ impl MessageIndex {
         changes: usize,
         parts: PartsPlan,
     ) -> Result<MessageIndexReserve, AllocError>
-        ensures fits { IfOk result (λ reserve. FitsIn parts self.now.parts → Fits reserve changes self.now) }
+        ensures fits { IfOk result (λ reserve. FitsIn parts self.now.parts → FitsTheMessages reserve changes self.now) }
         ensures parts { IfOk result (λ reserve. reserve.parts ≡ parts) }
     {
         match self.names.make_reserve(alloc, changes) {
@@ -151,7 +151,7 @@ impl MessageIndex {
     ) -> Result<MessageIndexReserve, AllocError>
         requires numbers { Suffices (2 * changes) names.numbers self.now.names.numbers }
         requires accounts { Suffices changes names.accounts self.now.names.accounts }
-        ensures fits { IfOk result (λ reserve. FitsIn parts self.now.parts → Fits reserve changes self.now) }
+        ensures fits { IfOk result (λ reserve. FitsIn parts self.now.parts → FitsTheMessages reserve changes self.now) }
         ensures parts { IfOk result (λ reserve. reserve.parts ≡ parts) }
     {
         match self.make_rows_reserve(alloc, changes) {
@@ -182,10 +182,10 @@ impl MessageIndex {
         }
     }
 
-    // Takes the memory in, and the changes of parts.
+    // TakesInMessages the memory in, and the changes of parts.
     fn take_in(&mut self, reserve: MessageIndexReserve)
         requires { FitsIn reserve.parts self.old.parts }
-        ensures { Takes reserve self.old self.new }
+        ensures { TakesInMessages reserve self.old self.new }
     {
         self.names.use_reserve(reserve.names);
         self.messages.use_reserve(reserve.rows.messages);
@@ -300,7 +300,7 @@ impl MessageIndex {
 
     /// Puts the changes in, without taking memory.
     pub fn adopt(&mut self, reserve: MessageIndexReserve, messages: Listed<Change<MessageRow>>)
-        requires { Fits reserve (length messages) self.old }
+        requires { FitsTheMessages reserve (length messages) self.old }
         ensures { (ms : List MessageRowOf) (ps others : List PartRowOf) → Represents self.old ms ps → Matches reserve ps others
             → Represents self.new (all_applied message_key messages ms) others }
     {

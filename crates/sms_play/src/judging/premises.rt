@@ -1,7 +1,7 @@
 //! Whether the premises of the claims hold at each event.
 ghost use Rattle.std.specs.Prelude.{◌≡◌, ◌&&◌, ◌<◌, ◌≤◌, ◌++◌, ◌∷◌, [], ℕ, nat_eq, List, Option, None, Some, IfOk, OnOk, drop, length, slice_index, if◌then◌else◌};
 ghost use Rattle.sms_play.specs.growth.Growth.{Grows};
-ghost use Rattle.sms_play.specs.judging.Premises.{IsNew, or_first, reused};
+ghost use Rattle.sms_play.specs.judging.Premises.{IsNewPlay, or_first, reused};
 ghost use Rattle.sms_play.specs.judging.Judging.{Judged, Knows, KnowsTo};
 ghost use Rattle.sms_play.specs.judging.Watching.{Watches};
 ghost use Rattle.sms_play.specs.PlayState.{PlayState, frame_at as frame_at_number};
@@ -139,7 +139,7 @@ fn note_looked_at(counts: &mut Vec<usize>, place: usize, count: usize) -> Result
 impl Judge {
     /// Nothing was looked at yet.
     pub fn new(alloc: Global) -> Judge
-        ensures { (c : PlayState) → IsNew c → Judged None c result }
+        ensures { (c : PlayState) → IsNewPlay c → Judged None c result }
     {
         Judge {
             watch: Watch::new(alloc),

@@ -1,6 +1,6 @@
 -- For each claim a report that does not have it, and reports that do.
 use Rattle.std.specs.Prelude.{[], ◌∷◌, None}
-use Rattle.sms_world.specs.headline.PlainHeadline.{Answers, Deliveries, Messages, PlainHeadline, Receipts}
+use Rattle.sms_world.specs.headline.PlainHeadline.{AnswersAreTrue, Deliveries, Messages, PlainHeadline, Receipts}
 use Rattle.sms_world.specs.headline.PlainReport.{AreAscending, CancelsAreTrue, EachJoined, GivenOnce, HaveNoneInCommon, IsSent, NoSystemError, OnlyCancelsDelete, Piece, QueriesAreTrue, Stays, WasDelivered}
 use Rattle.sms_script.specs.declared.event.Act.TheVariants.{Query, Cancel}
 use Rattle.sms_script.specs.declared.event.StopPoint.TheVariants.{After, Before}
@@ -33,7 +33,7 @@ abbrev pub ReceiptsLaw : Type 0
 ReceiptsLaw = ¬ Receipts two_receipts
 
 abbrev pub NumberLaw : Type 0
-NumberLaw = ¬ Answers (submits ∷ submits ∷ []) both_reports both_one
+NumberLaw = ¬ AnswersAreTrue (submits ∷ submits ∷ []) both_reports both_one
 
 -- answered DELIVRD of a message that is under way
 abbrev pub QueryLaw : Type 0
@@ -114,7 +114,7 @@ abbrev pub StatusLaw : Type 0
 StatusLaw = ¬ Receipts unlisted
 
 abbrev pub AscendLaw : Type 0
-AscendLaw = ¬ Answers events (reports twice_answered) twice_answered
+AscendLaw = ¬ AnswersAreTrue events (reports twice_answered) twice_answered
 
 -- a text of two parts is DELIVRD, and its second part was not accepted
 abbrev pub SplitLaw : Type 0
