@@ -1,5 +1,5 @@
 //! A unit that a handset sends up and that opens a transaction.
-ghost use Rattle.std.specs.Prelude.{◌≡◌, IfOk, Ok};
+ghost use Rattle.std.specs.Prelude.{IfOk, Ok};
 ghost use Rattle.sms_relay.specs.Cause.{IsRpCause};
 ghost use Rattle.sms_relay.specs.RelayReading.{up_at};
 ghost use Rattle.sms_tpdu.specs.TpduReading.{up_at as tpdu_up_at};

@@ -1,6 +1,5 @@
 //! Receiving a message: it is stored before it is acknowledged.
 ghost use Rattle.std.specs.Prelude.{◌≡◌, IfOk, OnOk, Some};
-ghost use Rattle.sms_relay.specs.Cause.{IsRpCause};
 ghost use Rattle.sms_relay.specs.RelayReading.{down_at as unit_at};
 ghost use Rattle.sms_tpdu.specs.TpduReading.{down_at};
 ghost use Rattle.sms_tpdu.specs.declared.carrier.Carrier.TheVariants.{InData as Data};
