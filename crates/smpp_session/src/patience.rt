@@ -1,6 +1,7 @@
 //! How long an endpoint is waited for.
 ghost use Rattle.std.specs.Prelude.{◌≡◌, Some, None};
-ghost use Rattle.smpp_session.specs.Patience.{is_within as is_within_of, is_within_some as is_within_some_of, known_verdict as known_verdict_of, silence_of as silence_verdict, since_first as since_first_of, unknown_limit as unknown_limit_of, verdict_of};
+ghost use Rattle.smpp_session.specs.Patience.{is_within as is_within_of, is_within_some as is_within_some_of, known_verdict as known_verdict_of};
+ghost use Rattle.smpp_session.specs.Patience.{silence_of as silence_verdict, since_first as since_first_of, unknown_limit as unknown_limit_of, verdict_of};
 
 // Milliseconds in which a deliver_sm or an enquire_link is answered: response_timer (SMPP v3.4 7.2).
 const RESPONSE_LIMIT: u64 = 60_000;

@@ -1,5 +1,6 @@
 -- Packing of septets into octets, by the value of a number in two bases.
-use Rattle.std.specs.Prelude.{◌≡◌, ℕ, zero, suc, ◌+◌, ◌*◌, ◌/◌, ◌%◌, ◌^◌, ◌<◌, List, [], ◌∷◌, length, All, Result, Ok, Err, nat_lt, ◌==◌, if◌then◌else◌, ◌||◌, not}
+use Rattle.std.specs.Prelude.{◌≡◌, ℕ, zero, suc, ◌+◌, ◌*◌, ◌/◌, ◌%◌, ◌^◌, ◌<◌, List, [], ◌∷◌, length, All, Result, Ok, Err, nat_lt, ◌==◌, if◌then◌else◌, ◌||◌}
+use Rattle.std.specs.Prelude.{not}
 use Rattle.sms_alphabet.specs.declared.unpacking.UnpackError.{UnpackError}
 use Rattle.sms_alphabet.specs.declared.unpacking.UnpackError.TheVariants.{TooShort, SpareBits, NoMemory}
 

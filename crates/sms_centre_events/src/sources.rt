@@ -1,6 +1,7 @@
 //! The destination that an application names.
 ghost use Rattle.std.specs.Prelude.{◌≡◌};
-ghost use Rattle.sms_centre_spec.specs.Requests.{is_no_handset as is_no_handset_of, is_to as is_to_of, names_nobody as names_nobody_of, names_number as names_number_of};
+ghost use Rattle.sms_centre_spec.specs.Requests.{is_no_handset as is_no_handset_of, is_to as is_to_of, names_nobody as names_nobody_of};
+ghost use Rattle.sms_centre_spec.specs.Requests.{names_number as names_number_of};
 
 use smpp_pdu::SmeAddress;
 use sms_base::{Address, Digits};

@@ -9,7 +9,8 @@ ghost use Rattle.sms_centre_spec.specs.Draft.{Draft, Store, in_store, messages_i
 ghost use Rattle.sms_centre_spec.specs.MessageNumbers.{next_number as next_number_of};
 ghost use Rattle.sms_rows.specs.table.Keys.{AllDigits};
 ghost use Rattle.sms_centre_spec.specs.Shares.{unless_too_much};
-ghost use Rattle.sms_centre_spec.specs.Requests.{accepted as accepted_of, refused as refused_of, submission_received as submission_received_of, submit as submit_of, submit_by as submit_by_of};
+ghost use Rattle.sms_centre_spec.specs.Requests.{accepted as accepted_of, refused as refused_of, submission_received as submission_received_of};
+ghost use Rattle.sms_centre_spec.specs.Requests.{submit as submit_of, submit_by as submit_by_of};
 ghost use Rattle.sms_centre_spec.specs.SoundRows.{IsSetup};
 ghost use Rattle.sms_centre_spec.specs.Consistent.{IsSubmission};
 ghost use Rattle.sms_centre_spec.specs.Submitting.{accept as accept_of, accept_as as accept_as_of};

@@ -36,7 +36,8 @@ ghost use Rattle.sms_centre_spec.specs.CentreEvent.{happened, recovered, started
 ghost use Rattle.sms_centre_spec.specs.Requests.{cancel, cancel_refusal, octets_refusal, query, query_refusal, refused, submit};
 ghost use Rattle.sms_centre_spec.specs.Ends.{end};
 ghost use Rattle.sms_centre_spec.specs.Orders.{message_due, parts_among};
-ghost use Rattle.sms_centre_spec.specs.Draft.{Core, Store, core_of, draft_of, handsets_in, messages_in, parts_in, reports_in, waiting_in, with_given, with_message, with_part, with_part_at, with_priority, with_report_at, with_reports};
+ghost use Rattle.sms_centre_spec.specs.Draft.{Core, Store, core_of, draft_of, handsets_in, messages_in, parts_in, reports_in, waiting_in, with_given};
+ghost use Rattle.sms_centre_spec.specs.Draft.{with_message, with_part, with_part_at, with_priority, with_report_at, with_reports};
 ghost use Rattle.sms_centre_spec.specs.Held.{SoundHeld};
 ghost use Rattle.sms_centre_spec.specs.Keeping.{Keeps};
 ghost use Rattle.sms_centre_spec.specs.MessageNumbers.{WasGiven, next_number};

@@ -1,5 +1,6 @@
 -- 3GPP TS 23.040 9.2.3.16 and 9.2.3.24: what TP-UDL counts, and what TP-UD has.
-use Rattle.std.specs.Prelude.{◌≡◌, ℕ, ◌+◌, ◌-◌, ◌/◌, ◌%◌, ◌≤◌, List, [], ◌∷◌, ◌++◌, length, drop, Bool, true, false, Option, Some, None, Result, Ok, Err, nat_lt, if◌then◌else◌}
+use Rattle.std.specs.Prelude.{◌≡◌, ℕ, ◌+◌, ◌-◌, ◌/◌, ◌%◌, ◌≤◌, List, [], ◌∷◌, ◌++◌, length, drop, Bool, true, false, Option, Some, None, Result, Ok, Err}
+use Rattle.std.specs.Prelude.{nat_lt, if◌then◌else◌}
 use Rattle.sms_base.specs.Reading.{◌>>=◌}
 use Rattle.sms_alphabet.specs.Packing.{packed, IsPacking, AreSeptets, unpacked}
 use Rattle.sms_alphabet.specs.DataCodingScheme.{coding_of}
@@ -17,7 +18,8 @@ use Rattle.sms_concat.specs.declared.content.Part.{Part}
 use Rattle.sms_concat.specs.declared.content.UserData.{UserData}
 use Rattle.sms_alphabet.specs.HeaderGrammar.{written}
 use Rattle.sms_alphabet.specs.Concatenation.{IsKey, header_key}
-pub use Rattle.sms_concat.specs.UserDataWriting.{body_octets, content_of, data_length, header_of, header_size, is_there, key_element, nothing_behind, octets_behind, septets_behind, units_behind, user_data_behind}
+pub use Rattle.sms_concat.specs.UserDataWriting.{body_octets, content_of, data_length, header_of, header_size, is_there, key_element, nothing_behind}
+pub use Rattle.sms_concat.specs.UserDataWriting.{octets_behind, septets_behind, units_behind, user_data_behind}
 unfoldable pub use Rattle.sms_concat.specs.UserDataWriting.{part_in}
 
 -- ---- lengths

@@ -1,5 +1,6 @@
 ghost use Rattle.std.specs.Prelude.{◌≡◌, ◌&&◌, IfOk, is_some};
-ghost use Rattle.sms_control.specs.LinkStep.{ack_taken, begun_fired, has_begun as has_begun_of, has_opened as has_opened_of, is_same as is_same_of, opened_fired, opening_of, started, answer_of};
+ghost use Rattle.sms_control.specs.LinkStep.{ack_taken, begun_fired, has_begun as has_begun_of, has_opened as has_opened_of, is_same as is_same_of};
+ghost use Rattle.sms_control.specs.LinkStep.{opened_fired, opening_of, started, answer_of};
 ghost use Rattle.std.specs.Option.{option_map};
 ghost use Rattle.sms_control.specs.Timers.{first_sending};
 ghost use Rattle.sms_control.specs.declared.link_state.Opened.{Opened as OpenedOf};

@@ -3,7 +3,8 @@ ghost use Rattle.std.specs.Prelude.{◌≡◌, ◌+◌, ◌≤◌, max, Ok, IfEr
 ghost use Rattle.std.specs.Str.{chars};
 ghost use Rattle.sms_handset_draft.specs.Draft.{draft_of, recovered};
 ghost use Rattle.sms_handset.specs.HandsetEvent.{deleted, discarded, frame_received as frame_received_of, tag_of, ticked as ticked_of, wrote};
-ghost use Rattle.sms_handset.specs.Planning.{adopted, FitsTheHandset, IsPlanOf, Judges, OfDelete, OfDiscard, OfFrame, OfTick, OfWrite, Plans, IsRevised, Stores};
+ghost use Rattle.sms_handset.specs.Planning.{adopted, FitsTheHandset, IsPlanOf, Judges, OfDelete, OfDiscard, OfFrame, OfTick, OfWrite, Plans, IsRevised};
+ghost use Rattle.sms_handset.specs.Planning.{Stores};
 ghost use Rattle.sms_base.specs.Address.{IsAddress};
 ghost use Rattle.sms_rows.specs.table.Table.{Rises, row_at};
 ghost use Rattle.sms_handset_draft.specs.Regrouping.{Numbered, Regroups};

@@ -6,7 +6,10 @@ ghost use Rattle.sms_tpdu.specs.declared.carrier.Carrier.TheVariants.{InData as 
 ghost use Rattle.sms_handset_draft.specs.Draft.{no_changes};
 ghost use Rattle.sms_handset_draft.specs.GroupChanges.{data_groups, deliver_groups, member_groups, new_part_groups, part_groups, tpdu_groups, unit_groups};
 ghost use Rattle.sms_handset_rows.specs.inbox.Groups.{key_of as key_of_deliver, mark_of, members as members_of};
-ghost use Rattle.sms_handset_draft.specs.Receiving.{accept as accept_of, data_received as data_received_of, deliver_received as deliver_received_of, member_received as member_received_of, new_part_received as new_part_received_of, no_room as no_room_of, note as note_of, part_received as part_received_of, single_received as single_received_of, tpdu_received as tpdu_received_of, unit_received as unit_received_of};
+ghost use Rattle.sms_handset_draft.specs.Receiving.{accept as accept_of, data_received as data_received_of, deliver_received as deliver_received_of};
+ghost use Rattle.sms_handset_draft.specs.Receiving.{member_received as member_received_of, new_part_received as new_part_received_of, no_room as no_room_of};
+ghost use Rattle.sms_handset_draft.specs.Receiving.{note as note_of, part_received as part_received_of, single_received as single_received_of};
+ghost use Rattle.sms_handset_draft.specs.Receiving.{tpdu_received as tpdu_received_of, unit_received as unit_received_of};
 ghost use Rattle.sms_handset_rows.specs.outbox.Reports.{reported as reported_of};
 
 use sms_base::{Holder, Octets};

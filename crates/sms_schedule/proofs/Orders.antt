@@ -50,18 +50,18 @@ behind_falls x y z s t e f k = grind (arith, nat_tests)
 through_rises : (x y z : ℕ) (r s t : Bool) → rises y x r ≡ false → rises z y s ≡ false → (r ≡ false → s ≡ false → t ≡ false) → rises z x t ≡ false
 through_rises x y z r s t h k rest = ⊎_elim
     (λ (e : y ≡ x). ⊎_elim
-        (λ (f : z ≡ y). same_rises z x t (f ∙ e) (rest (rest_rises y x r e h) (rest_rises z y s f k)))
-        (λ (f : z ≡ y → ⊥). behind_rises x y z s t e f k)
-        (cases_eq z y))
+    (λ (f : z ≡ y). same_rises z x t (f ∙ e) (rest (rest_rises y x r e h) (rest_rises z y s f k)))
+    (λ (f : z ≡ y → ⊥). behind_rises x y z s t e f k)
+    (cases_eq z y))
     (λ (e : y ≡ x → ⊥). apart_rises x y z r s t e h k)
     (cases_eq y x)
 
 through_falls : (x y z : ℕ) (r s t : Bool) → falls y x r ≡ false → falls z y s ≡ false → (r ≡ false → s ≡ false → t ≡ false) → falls z x t ≡ false
 through_falls x y z r s t h k rest = ⊎_elim
     (λ (e : y ≡ x). ⊎_elim
-        (λ (f : z ≡ y). same_falls z x t (f ∙ e) (rest (rest_falls y x r e h) (rest_falls z y s f k)))
-        (λ (f : z ≡ y → ⊥). behind_falls x y z s t e f k)
-        (cases_eq z y))
+    (λ (f : z ≡ y). same_falls z x t (f ∙ e) (rest (rest_falls y x r e h) (rest_falls z y s f k)))
+    (λ (f : z ≡ y → ⊥). behind_falls x y z s t e f k)
+    (cases_eq z y))
     (λ (e : y ≡ x → ⊥). apart_falls x y z r s t e h k)
     (cases_eq y x)
 

@@ -1,6 +1,7 @@
 //! Acts, each behind its keyword.
 ghost use Rattle.std.specs.Prelude.{◌≡◌, Option};
-ghost use Rattle.sms_script.specs.ScriptReading.{TakesWords, submission_in, submit_in, urgent_in, query_in, cancel_in, write_in, delete_in, discard_in, deliver_in, tick_in, act_of, act_in};
+ghost use Rattle.sms_script.specs.ScriptReading.{TakesWords, submission_in, submit_in, urgent_in, query_in, cancel_in, write_in, delete_in, discard_in};
+ghost use Rattle.sms_script.specs.ScriptReading.{deliver_in, tick_in, act_of, act_in};
 
 use crate::cutting::Words;
 use crate::event::{Act, Submission};

@@ -2,7 +2,11 @@
 //!
 //! Each clause is about one small literal report of a small script (`specs/wrong_reports`). So each claim is seen to refuse
 //! a wrong report, and to admit a right one.
-ghost use Rattle.sms_world.specs.wrong_reports.Tried.{AcceptedLaw, AscendLaw, CancelLaw, CommonLaw, DeletedLaw, FinalLaw, ForgottenLaw, GivenLaw, GoneLaw, GoodLaw, JoinedLaw, JoinedTwiceLaw, LineLaw, NeverLaw, NumberLaw, OriginLaw, OtherEntryLaw, OtherTextLaw, OwnerLaw, QueryLaw, ReceiptLaw, ReceiptsLaw, RefusedCancelLaw, SentLaw, SplitLaw, StatusLaw, StoppedLaw, SystemErrorLaw, ToldLaw, TrueCancelLaw, TrueOwnerLaw, TrueQueryLaw, TrueSentLaw, TrueSplitLaw, TrueStopLaw, TwiceLaw, UnansweredLaw};
+ghost use Rattle.sms_world.specs.wrong_reports.Tried.{AcceptedLaw, AscendLaw, CancelLaw, CommonLaw, DeletedLaw, FinalLaw, ForgottenLaw, GivenLaw, GoneLaw};
+ghost use Rattle.sms_world.specs.wrong_reports.Tried.{GoodLaw, JoinedLaw, JoinedTwiceLaw, LineLaw, NeverLaw, NumberLaw, OriginLaw, OtherEntryLaw, OtherTextLaw};
+ghost use Rattle.sms_world.specs.wrong_reports.Tried.{OwnerLaw, QueryLaw, ReceiptLaw, ReceiptsLaw, RefusedCancelLaw, SentLaw, SplitLaw, StatusLaw, StoppedLaw};
+ghost use Rattle.sms_world.specs.wrong_reports.Tried.{SystemErrorLaw, ToldLaw, TrueCancelLaw, TrueOwnerLaw, TrueQueryLaw, TrueSentLaw, TrueSplitLaw};
+ghost use Rattle.sms_world.specs.wrong_reports.Tried.{TrueStopLaw, TwiceLaw, UnansweredLaw};
 ghost use Rattle.sms_world.specs.wrong_reports.StatusReports.{DoneLaw, RecipientLaw, ReferenceLaw, RightLaw, StateLaw, SubmittedLaw};
 ghost use Rattle.sms_world.specs.wrong_reports.Worlds.{FreshLaw, InTimeLaw, LateLaw, ReusedLaw};
 

@@ -11,7 +11,8 @@ use Rattle.smpp_session.specs.declared.answer.Request.{Request}
 use Rattle.smpp_session.specs.declared.conversation.Conversation.{Conversation}
 use Rattle.smpp_session.specs.Answers.{answered}
 use Rattle.sms_centre_spec.specs.declared.answer.CentreAnswer.{CentreAnswer}
-use Rattle.sms_centre_spec.specs.declared.answer.CentreAnswer.TheVariants.{Submitted as SubmittedOf, Queried as QueriedOf, Cancelled as CancelledOf, Refused as RefusedOf}
+use Rattle.sms_centre_spec.specs.declared.answer.CentreAnswer.TheVariants.{Submitted as SubmittedOf, Queried as QueriedOf, Cancelled as CancelledOf}
+use Rattle.sms_centre_spec.specs.declared.answer.CentreAnswer.TheVariants.{Refused as RefusedOf}
 use Rattle.sms_receipt.specs.Receipts.{state_number}
 use Rattle.smsc_endpoint.specs.declared.pending.PendingRequest.{PendingRequest}
 

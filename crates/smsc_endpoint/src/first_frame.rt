@@ -4,7 +4,8 @@ ghost use Rattle.std.specs.List.{list_all};
 ghost use Rattle.std.specs.Str.{bytes_eq};
 ghost use Rattle.sms_base.specs.HandsetNumber.{is_decimal};
 ghost use Rattle.smsc_endpoint.specs.FirstFrame.{are_digits as are_digits_of, before_space as before_space_of, behind_space as behind_space_of};
-ghost use Rattle.smsc_endpoint.specs.FirstFrame.{given_by as given_number, is_secret_of as is_secret, next_octet, number_by as number_with, number_of as number_named, refused_by};
+ghost use Rattle.smsc_endpoint.specs.FirstFrame.{given_by as given_number, is_secret_of as is_secret, next_octet, number_by as number_with};
+ghost use Rattle.smsc_endpoint.specs.FirstFrame.{number_of as number_named, refused_by};
 
 use crate::link_access::{LinkAccess, LinkSecret};
 use sms_base::{Digits, digits_of};

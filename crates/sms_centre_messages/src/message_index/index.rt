@@ -1,7 +1,8 @@
 //! What memory has of messages and parts between two events.
 ghost use Rattle.std.specs.Prelude.{◌≡◌, [], ℕ, ◌+◌, ◌*◌, ◌≤◌, true, List, IfOk, length, max};
 ghost use Rattle.std.specs.List.Sorted.{IsNonDecreasing};
-ghost use Rattle.sms_centre_messages.specs.message_index.MessageIndex.{Applies, CoversPast, FitsTheMessages, HasRoomFor, Represents, IsStaleFirst, Matches, Notes, PutsIn, TakesInMessages, is_ended, past_entry_id, past_id};
+ghost use Rattle.sms_centre_messages.specs.message_index.MessageIndex.{Applies, CoversPast, FitsTheMessages, HasRoomFor, Represents, IsStaleFirst, Matches};
+ghost use Rattle.sms_centre_messages.specs.message_index.MessageIndex.{Notes, PutsIn, TakesInMessages, is_ended, past_entry_id, past_id};
 ghost use Rattle.sms_centre_rows.specs.messages.Messages.{message_at, message_key, next_id};
 ghost use Rattle.sms_centre_rows.specs.declared.messages.message.MessageRow.{MessageRow as MessageRowOf};
 ghost use Rattle.sms_centre_rows.specs.declared.messages.part.PartRow.{PartRow as PartRowOf};

@@ -1,7 +1,8 @@
 //! What an event leaves, put in without taking memory.
 ghost use Rattle.std.specs.Prelude.{◌≡◌, ◌+◌, ℕ, List, Some, None, length, option_copied};
 ghost use Rattle.sms_centre_messages.specs.references.ReferenceIndex.{AreFew, IsNewest, Represents};
-ghost use Rattle.sms_centre_messages.specs.references.Moves.{AreMoves, ArePartMoves, ArePartRemovals, AreRemovals, FitsTheReferences, HasRoomFor, IsMove, IsMoveTo, IsPartMove, IsPartRemoval, IsRemoval};
+ghost use Rattle.sms_centre_messages.specs.references.Moves.{AreMoves, ArePartMoves, ArePartRemovals, AreRemovals, FitsTheReferences, HasRoomFor, IsMove};
+ghost use Rattle.sms_centre_messages.specs.references.Moves.{IsMoveTo, IsPartMove, IsPartRemoval, IsRemoval};
 ghost use Rattle.sms_centre_rows.specs.messages.Messages.{message_at, message_key, part_key, part_reaching};
 ghost use Rattle.sms_centre_rows.specs.declared.messages.message.MessageRow.{MessageRow as MessageRowOf};
 ghost use Rattle.sms_centre_rows.specs.declared.messages.part.PartRow.{PartRow as PartRowOf};

@@ -1,6 +1,7 @@
 //! The moment at which a centre starts.
 ghost use Rattle.std.specs.Prelude.{◌≡◌};
-ghost use Rattle.sms_centre_spec.specs.CentreEvent.{after_messages as after_messages_of, after_references as after_references_of, after_reports as after_reports_of, moment_of as moment_of_rows};
+ghost use Rattle.sms_centre_spec.specs.CentreEvent.{after_messages as after_messages_of, after_references as after_references_of};
+ghost use Rattle.sms_centre_spec.specs.CentreEvent.{after_reports as after_reports_of, moment_of as moment_of_rows};
 ghost use Rattle.sms_centre_recovery.specs.soundness.RowsOf.{rows_of};
 
 use crate::soundness::RowTables;

@@ -2,7 +2,8 @@
 ghost use Rattle.std.specs.Prelude.{◌≡◌, ◌++◌, ◌∷◌, [], length, Some, IfOk, option_copied};
 ghost use Rattle.sms_concat.specs.joiner.StepwiseJoining.{Taken};
 ghost use Rattle.sms_handset_rows.specs.declared.inbox.entry.Entry.{Entry as EntryOf};
-ghost use Rattle.sms_handset_rows.specs.inbox.Groups.{first_number as first_number_of, is_among as is_among_of, members as members_of, part_numbers, part_with as part_with_of};
+ghost use Rattle.sms_handset_rows.specs.inbox.Groups.{first_number as first_number_of, is_among as is_among_of, members as members_of, part_numbers};
+ghost use Rattle.sms_handset_rows.specs.inbox.Groups.{part_with as part_with_of};
 ghost use Rattle.sms_handset_rows.specs.inbox.OpenGroups.{entries_of, one_more as one_more_of, stored_parts};
 ghost use Rattle.sms_handset_rows.specs.inbox.OpenIndex.{Indexes, parts_of as parts_of_group};
 ghost use Rattle.sms_handset_rows.specs.inbox.TakenParts.{taken_of};

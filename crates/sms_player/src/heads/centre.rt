@@ -3,7 +3,8 @@ ghost use Rattle.std.specs.Prelude.{◌≡◌, ◌≤◌, [], length, IfOk, true
 ghost use Rattle.sms_base.specs.Address.{IsAddress};
 ghost use Rattle.sms_base.specs.HandsetNumber.{own_address};
 ghost use Rattle.sms_centre_spec.specs.SoundRows.{IsSetup};
-ghost use Rattle.sms_play.specs.Setups.{accounts_of as accounts_of_head, are_accounts as are_accounts_of, can_be_played, centre_setup as centre_setup_of, is_number as is_number_of};
+ghost use Rattle.sms_play.specs.Setups.{accounts_of as accounts_of_head, are_accounts as are_accounts_of, can_be_played, centre_setup as centre_setup_of};
+ghost use Rattle.sms_play.specs.Setups.{is_number as is_number_of};
 
 use sms_base::{Address, Listed, Moment, Octets, digits_of};
 use sms_centre_spec::Setup as CentreSetup;

@@ -9,7 +9,8 @@ ghost use Rattle.sms_centre_spec.specs.declared.event.CentreEvent.TheVariants.{S
 ghost use Rattle.sms_play.specs.growth.Growth.{IsFit, IsCentreEvent};
 ghost use Rattle.sms_handset.specs.HandsetEvent.{deleted as deleted_of, discarded as discarded_of};
 ghost use Rattle.sms_handset.specs.declared.refusal.Refusal.TheVariants.{NoEntry};
-ghost use Rattle.sms_handset.specs.declared.event.HandsetEvent.TheVariants.{Frame as HandsetFrame, Write as HandsetWrite, Delete as HandsetDelete, Discard as HandsetDiscard};
+ghost use Rattle.sms_handset.specs.declared.event.HandsetEvent.TheVariants.{Frame as HandsetFrame, Write as HandsetWrite, Delete as HandsetDelete};
+ghost use Rattle.sms_handset.specs.declared.event.HandsetEvent.TheVariants.{Discard as HandsetDiscard};
 ghost use Rattle.sms_play.specs.PlayState.{PlayState, Party, frame_at as frame_at_number};
 ghost use Rattle.sms_play.specs.Meeting.{AtCentre, AtHandset, account_from, handed_over, is_answered as is_answered_act, meeting_of, tag_in as tag_in_of};
 ghost use Rattle.sms_play.specs.PlayedEvent.{played, restart as restart_of};
@@ -19,7 +20,8 @@ ghost use Rattle.sms_player.specs.playing.Playing.{Hands, IsFrame, LeadsTo, acte
 ghost use Rattle.sms_script.specs.Requests.{submit_of as submit_of_submission};
 ghost use Rattle.sms_script.specs.declared.report.rows.FrameRow.{FrameRow as FrameRowOf};
 ghost use Rattle.sms_script.specs.declared.event.Act.{Act as ActOf};
-ghost use Rattle.sms_script.specs.declared.event.Act.TheVariants.{Submit as ActSubmit, Query as ActQuery, Cancel as ActCancel, Write as ActWrite, Delete as ActDelete, Discard as ActDiscard, Deliver as ActDeliver, Tick as ActTick};
+ghost use Rattle.sms_script.specs.declared.event.Act.TheVariants.{Submit as ActSubmit, Query as ActQuery, Cancel as ActCancel, Write as ActWrite};
+ghost use Rattle.sms_script.specs.declared.event.Act.TheVariants.{Delete as ActDelete, Discard as ActDiscard, Deliver as ActDeliver, Tick as ActTick};
 ghost use Rattle.sms_script.specs.declared.event.Side.TheVariants.{Handset as SideHandset};
 
 use crate::centre::CentreEvent;

@@ -4,7 +4,11 @@ use Rattle.std.specs.Str.{encode_utf8_all}
 use Rattle.hex.specs.Hex.{encode_upper}
 use Rattle.sms_base.specs.FinalWords.{final_word}
 use Rattle.smpp_pdu.specs.declared.status.CommandStatus.{CommandStatus}
-use Rattle.smpp_pdu.specs.declared.status.CommandStatus.TheVariants.{ESME_ROK, ESME_RINVMSGLEN, ESME_RINVCMDLEN, ESME_RINVCMDID, ESME_RINVBNDSTS, ESME_RALYBND, ESME_RSYSERR, ESME_RINVSRCADR, ESME_RINVDSTADR, ESME_RINVMSGID, ESME_RBINDFAIL, ESME_RINVPASWD, ESME_RINVSYSID, ESME_RCANCELFAIL, ESME_RMSGQFUL, ESME_RINVESMCLASS, ESME_RSUBMITFAIL, ESME_RTHROTTLED, ESME_RINVSCHED, ESME_RINVEXPIRY, ESME_RINVOPTPARSTREAM, ESME_ROPTPARNOTALLWD, ESME_RINVPARLEN}
+use Rattle.smpp_pdu.specs.declared.status.CommandStatus.TheVariants.{ESME_ROK, ESME_RINVMSGLEN, ESME_RINVCMDLEN, ESME_RINVCMDID, ESME_RINVBNDSTS, ESME_RALYBND}
+use Rattle.smpp_pdu.specs.declared.status.CommandStatus.TheVariants.{ESME_RSYSERR, ESME_RINVSRCADR, ESME_RINVDSTADR, ESME_RINVMSGID, ESME_RBINDFAIL}
+use Rattle.smpp_pdu.specs.declared.status.CommandStatus.TheVariants.{ESME_RINVPASWD, ESME_RINVSYSID, ESME_RCANCELFAIL, ESME_RMSGQFUL, ESME_RINVESMCLASS}
+use Rattle.smpp_pdu.specs.declared.status.CommandStatus.TheVariants.{ESME_RSUBMITFAIL, ESME_RTHROTTLED, ESME_RINVSCHED, ESME_RINVEXPIRY, ESME_RINVOPTPARSTREAM}
+use Rattle.smpp_pdu.specs.declared.status.CommandStatus.TheVariants.{ESME_ROPTPARNOTALLWD, ESME_RINVPARLEN}
 use Rattle.sms_script.specs.declared.report.answers.Answer.{Answer}
 use Rattle.sms_script.specs.declared.report.answers.Answered.{Answered}
 use Rattle.sms_script.specs.declared.report.answers.Answered.TheVariants.{Accepted, Found, Status, Done, Refused, Stopped}

@@ -1,6 +1,7 @@
 //! The lines of a report.
 ghost use Rattle.std.specs.Prelude.{◌≡◌, ◌++◌, OnOk};
-ghost use Rattle.sms_script.specs.report.ReportText.{status_text, state_text, coding_text, entry_text, direction_text, answered_text, answer_line, message_line, accepted_line, joined_line, receipt_line, outbox_line, frame_line};
+ghost use Rattle.sms_script.specs.report.ReportText.{status_text, state_text, coding_text, entry_text, direction_text, answered_text, answer_line};
+ghost use Rattle.sms_script.specs.report.ReportText.{message_line, accepted_line, joined_line, receipt_line, outbox_line, frame_line};
 
 use crate::report::answers::{Answer, Answered};
 use crate::report::rows::{

@@ -21,7 +21,8 @@ use Rattle.sms_script.specs.declared.setup.Setup.{Setup}
 use Rattle.sms_world.specs.headline.Claims.{AllFresh, AllTimely}
 use Rattle.sms_world.specs.headline.HeadlineLaws.{IsScript, LeadsOn, Of}
 use Rattle.sms_world.specs.headline.PlainHeadline.{PlainHeadline, Receipts}
-use Rattle.sms_world.specs.headline.PlainReport.{AnswersAscend, AreAscending, CancelsAreTrue, EachJoined, GivenOnce, IsOfEvent, IsPartOf, IsSent, NamesMessage, NoSystemError, NoneTwice, OnlyCancelsDelete, QueriesAreTrue, Stays, WasDelivered, compared_lines, is_deliver}
+use Rattle.sms_world.specs.headline.PlainReport.{AnswersAscend, AreAscending, CancelsAreTrue, EachJoined, GivenOnce, IsOfEvent, IsPartOf, IsSent, NamesMessage}
+use Rattle.sms_world.specs.headline.PlainReport.{NoSystemError, NoneTwice, OnlyCancelsDelete, QueriesAreTrue, Stays, WasDelivered, compared_lines, is_deliver}
 use Rattle.sms_world.specs.headline.PlainReports.{HasPlainHeadline, ReportsOf}
 use Rattle.sms_world.specs.headline.TypedEvents.{AreTyped}
 
@@ -74,7 +75,7 @@ EachStaysLaw = Over (λ script after. (n : ℕ) → n < length script.events →
 abbrev pub NamedLaw : Type 0
 NamedLaw =
     Over (λ script after. (a : Answer) (id : ℕ) → Among a (after (length script.events)).answers → a.answered ≡ Accepted id
-        → NamesMessage script.events after a.event id)
+    → NamesMessage script.events after a.event id)
 
 -- a query_sm finds what the table says
 abbrev pub QueriesLaw : Type 0

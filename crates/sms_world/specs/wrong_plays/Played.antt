@@ -29,7 +29,8 @@ use Rattle.sms_world.specs.headline.SplitClaims.{IsSplitOf}
 use Rattle.sms_world.specs.wrong_plays.Happened.{queries}
 use Rattle.sms_world.specs.wrong_plays.Plays.{first, from_application, part_one}
 use Rattle.sms_world.specs.wrong_plays.Shown.{submission}
-use Rattle.sms_world.specs.wrong_reports.Literals.{accepted, answer, deliver, given, handset, hello, hello_octets, line, name, receipt, setup, source, submits, writer, zeros}
+use Rattle.sms_world.specs.wrong_reports.Literals.{accepted, answer, deliver, given, handset, hello, hello_octets, line, name, receipt, setup, source, submits}
+use Rattle.sms_world.specs.wrong_reports.Literals.{writer, zeros}
 use Rattle.sms_world.specs.wrong_reports.Worlds.{first_given, first_of_two}
 use Rattle.sms_world_model.specs.World.{empty}
 use Rattle.sms_world_model.specs.WorldStep.{Step, Submit as SubmitStep}
