@@ -18,6 +18,7 @@ use crate::report::lines::{
 };
 use crate::report::writing::put_number;
 pub use answers::{Answer, Answered};
+pub use lines::state_text;
 pub use rows::{
     AcceptedRow, Direction, EntryState, FrameRow, GivenRow, JoinedCoding, JoinedRow, OutboxRow,
 };

@@ -43,7 +43,8 @@ fn status_text(status: CommandStatus) -> &'static str
     }
 }
 
-fn state_text(state: MessageState) -> &'static str
+/// The word of a message's state: that of a receipt where it ended (SMPP v3.4 appendix B).
+pub fn state_text(state: MessageState) -> &'static str
     ensures { result.now ≡ state_text state }
 {
     match state {

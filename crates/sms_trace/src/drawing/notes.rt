@@ -12,7 +12,7 @@ use crate::drawing::causes::Cause;
 use crate::drawing::shown::{hex_digit, put_shown};
 use sms_base::{Carried, FinalState, Holder, Kind, MessageId, Octets};
 use sms_control::Cp;
-use sms_script::report::{Answered, Direction, FrameRow, MessageState};
+use sms_script::report::{Answered, Direction, FrameRow, state_text};
 use sms_trace_files::numbers::put_number;
 use std::alloc::{AllocError, Global};
 use std::str::from_utf8;
@@ -272,13 +272,6 @@ pub fn response_text(
     Ok(out)
 }
 
-fn found_word(state: MessageState) -> &'static str {
-    match state {
-        MessageState::Enroute => "ENROUTE",
-        MessageState::Final(state) => state.word(),
-    }
-}
-
 /// What a request or an act of an owner is answered.
 pub fn answered_text(alloc: Global, answered: &Answered) -> Result<String, AllocError> {
     match answered {
@@ -287,7 +280,7 @@ pub fn answered_text(alloc: Global, answered: &Answered) -> Result<String, Alloc
             format!(in alloc; "accepted as message {id}")
         }
         Answered::Found(state) => {
-            let state = found_word(*state);
+            let state = state_text(*state);
             format!(in alloc; "{state}")
         }
         Answered::Status(status) => format!(in alloc; "{status:?}"),
