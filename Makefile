@@ -14,7 +14,7 @@ TO = $(DESTDIR)$(PREFIX)
 
 try:
 	@echo 'Builds smsim as it is written and relays crates/smsim/stdin: about two minutes, nothing is proved.'
-	@cd crates/smsim && rt try -- relay --centre 447700900000 --from 447700900123 --now 1709251198 < stdin
+	@cd crates/smsim && ../../demo/waiting rt try -- relay --centre 447700900000 --from 447700900123 --now 1709251198 < stdin
 
 demo:
 	demo/run

@@ -5,6 +5,8 @@
     tests/programs/forms.py oneway     clauses that speak of one outcome alone: a Some without the None, a true without the false, Err of any kind
     tests/programs/forms.py hidden     fields that the Model of a type leaves out, so that no clause can speak of them
     tests/programs/forms.py none       functions without an ensures, but those of a trait's implementation, which have the trait's clauses
+    tests/programs/forms.py ignored    arguments that no clause of a function names, so that a body may take others in their place
+    tests/programs/forms.py left       arguments behind `&mut` of which no clause says what they are after the call, and results that none names
 
 Tests, laboratory and programs are left out. forms.txt has a paragraph a reason: lines that begin with `#` say it, the others are what is right by it.
 """
@@ -205,7 +207,64 @@ def none():
                 yield f"none {path} {name}"
 
 
-FORMS = {"oneway": oneway, "hidden": hidden, "none": none}
+# What a run or a thread is handed, and memory: no value that a contract can name.
+HANDLES = ("alloc", "rt")
+
+
+def parameters_of(head):
+    """The parameters of a function, each as its name and its type; and what stands behind them."""
+    at = re.match(r"(?:const )?(?:unsafe )?fn \w+", head).end()
+    depth = 0
+    while head[at] != "(" or depth:
+        depth += (head[at] == "<") - (head[at] == ">" and head[at - 1] not in "-=")
+        at += 1
+    begin, angles, nest, found = at + 1, 0, 0, []
+    while True:
+        character = head[at]
+        nest += (character in "([{") - (character in ")]}")
+        angles += (character == "<") - (character == ">" and head[at - 1] not in "-=")
+        if nest == 0 or (character == "," and nest == 1 and angles == 0):
+            found.append(head[begin:at].strip())
+            begin = at + 1
+        at += 1
+        if nest == 0:
+            break
+    pairs = []
+    for text in found:
+        if re.match(r"(&('\w+ )?)?(mut )?self$", text):
+            pairs.append(("self", text))
+        elif text:
+            name, kind = text.split(":", 1)
+            pairs.append((name.replace("mut ", "").strip(), kind.strip()))
+    return pairs, head[at:]
+
+
+def with_clauses():
+    for path, text in sources():
+        for name, start, body, _, _ in functions_of(text, path):
+            head = re.sub(r"//[^\n]*", "", text[start:body])
+            if "ensures" in head:
+                yield path, name, *parameters_of(head)
+
+
+def ignored():
+    for path, name, parameters, clauses in with_clauses():
+        for parameter, _ in parameters:
+            if parameter not in HANDLES and not re.search(r"\b" + parameter.lstrip("_") + r"\b", clauses):
+                yield f"ignored {path} {name}: {parameter}"
+
+
+def left():
+    for path, name, parameters, clauses in with_clauses():
+        said = clauses[clauses.find("ensures") :]
+        for parameter, kind in parameters:
+            if re.match(r"&('\w+ )?mut ", kind) and not re.search(r"\b" + parameter + r"\.new\b", said):
+                yield f"left {path} {name}: {parameter}"
+        if "->" in clauses[: clauses.find("ensures")] and not re.search(r"\bresult\b", said):
+            yield f"left {path} {name}: result"
+
+
+FORMS = {"oneway": oneway, "hidden": hidden, "none": none, "ignored": ignored, "left": left}
 
 
 def right_lines():

@@ -1,5 +1,5 @@
 //! The two listeners of a server.
-ghost use Rattle.std.specs.Prelude.{MatchOption};
+ghost use Rattle.std.specs.Prelude.{◌≡◌, IfSome, MatchOption};
 ghost use Rattle.smsc_arrivals.specs.Arriving.{HasCome, HaveNotCome};
 
 use crate::arrival::{Arrival, Side};
@@ -49,9 +49,10 @@ pub struct Doors<L> {
 impl<L: Door> Doors<L> {
     /// Takes the next connection that waits at that side, if there is one.
     pub fn accept(&mut self, side: Side) -> Option<Arrival<L::Stream>>
-        ensures { MatchOption result
+        ensures came { MatchOption result
             (HaveNotCome L.came self.old self.new)
             (λ arrival. HasCome L.came self.old self.new arrival) }
+        ensures side { IfSome result (λ arrival. arrival.side ≡ side) }
     {
         let accepted = match side {
             Side::Application => self.applications.accept(),

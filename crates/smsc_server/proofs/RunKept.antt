@@ -216,21 +216,24 @@ module _ (seat : ℕ) (end : Final) where
 
   -- a message of these rows ended so
   abbrev pub IsOf : List MessageRow → Type 0
-  IsOf messages = (id : ℕ) × (row : MessageRow) × (message_at id messages ≡ Some row) × (row.state ≡ Some end.state) × (end ≡ final_of end.state end.done row)
+  IsOf messages =
+      (id : ℕ) × (row : MessageRow) × (message_at id messages ≡ Some row) × (row.state ≡ Some end.state) × (row.done ≡ Some end.done) × (end ≡ final_of end.state end.done row)
 
-  done_is : (m : MessageRow) (state : FinalState) (done : Option ℕ) → ended m state done ≡ Some end → (state ≡ end.state) × (end ≡ final_of end.state end.done m)
+  done_is : (m : MessageRow) (state : FinalState) (done : Option ℕ) → ended m state done ≡ Some end
+      → (state ≡ end.state) × (done ≡ Some end.done) × (end ≡ final_of end.state end.done m)
   done_is m state None e = absurd cc
   done_is m state (Some done) e =
       let same : final_of state done m ≡ end = cc in
-      (ap (λ (f : Final). f.state) same, sym same ∙ ap (λ (f : Final). final_of f.state f.done m) same)
+      (ap (λ (f : Final). f.state) same, ap (λ (f : Final). Some f.done) same, sym same ∙ ap (λ (f : Final). final_of f.state f.done m) same)
 
-  state_is : (m : MessageRow) (o : Option FinalState) → m.state ≡ o → end_in m o ≡ Some end → (m.state ≡ Some end.state) × (end ≡ final_of end.state end.done m)
+  state_is : (m : MessageRow) (o : Option FinalState) → m.state ≡ o → end_in m o ≡ Some end
+      → (m.state ≡ Some end.state) × (m.done ≡ Some end.done) × (end ≡ final_of end.state end.done m)
   state_is m None is e = absurd cc
-  state_is m (Some state) is e = let d = done_is m state m.done e in (is ∙ ap (λ (s : FinalState). Some s) d.0, d.1)
+  state_is m (Some state) is e = let d = done_is m state m.done e in (is ∙ ap (λ (s : FinalState). Some s) d.0, d.1, d.2)
 
   pub row_is : (messages : List MessageRow) (id : ℕ) (o : Option MessageRow) → message_at id messages ≡ o → end_of o ≡ Some end → IsOf messages
   row_is messages id None is e = absurd cc
-  row_is messages id (Some m) is e = let s = state_is m m.state refl e in (id, m, is, s.0, s.1)
+  row_is messages id (Some m) is e = let s = state_is m m.state refl e in (id, m, is, s.0, s.1, s.2)
 
   receipt_is : (messages : List MessageRow) (session id : ℕ) (o : Option Final) → end_of (message_at id messages) ≡ o → Among (receipt_for seat end) (receipt_out session o) → IsOf messages
   receipt_is messages session id None is there = absurd there
@@ -287,8 +290,14 @@ module _ (seat : ℕ) (end : Final) where
 reported_still : (rows : Rows) (last : Serving) (end : Final) → Keeps rows last.core.rows → IsOf 0 end rows.messages → IsReported last end
 reported_still rows last end keeps h =
     let x = keeps.messages h.0 h.1 h.2 in
-    let same = x.1.1.final end.state h.3 in
-    (h.0, x.0, x.1.0, subst (λ (m : MessageRow). m.state ≡ Some end.state) (sym same) h.3, subst (λ (m : MessageRow). end ≡ final_of end.state end.done m) (sym same) h.4)
+    let same = x.1.1.final end.state h.3 in (
+      h.0,
+      x.0,
+      x.1.0,
+      subst (λ (m : MessageRow). m.state ≡ Some end.state) (sym same) h.3,
+      subst (λ (m : MessageRow). m.done ≡ Some end.done) (sym same) h.4,
+      subst (λ (m : MessageRow). end ≡ final_of end.state end.done m) (sym same) h.5,
+    )
 
 -- the law that an answer names a message of the rows behind it
 abbrev AnswersStand : Type 0

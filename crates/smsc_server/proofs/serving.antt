@@ -1,10 +1,10 @@
-pub mod Crossing
 pub mod Entered
 pub mod Exchanged
 pub mod Limits
 pub mod OneAnswer
 pub mod Ran
 pub mod RateLaws
+pub mod RateLists
 pub mod Sat
 pub mod ShareLists
 pub mod Served

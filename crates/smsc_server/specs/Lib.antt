@@ -10,3 +10,4 @@ pub mod ReceiptsGiven
 pub mod CentresAnswers
 pub mod FramesGiven
 pub mod RunReads
+pub mod Occupants

@@ -50,10 +50,12 @@ AreAsked (e ∷ items) = IsAsked e.stimulus × AreAsked items
 abbrev pub receipt_for : ℕ → Final → Out Reply
 receipt_for seat end = record { seat = seat; out = Receipt end }
 
--- The row that a message of this number has at the end. It is in the state that was reported, and what was reported is of it.
+-- The row that a message of this number has at the end. It ended in the state and at the moment that were reported, and what was reported is
+-- of it.
 abbrev pub IsReported : Serving → Final → Type 0
 IsReported last end =
-    (id : ℕ) × (row : MessageRow) × (message_at id last.core.rows.messages ≡ Some row) × (row.state ≡ Some end.state) × (end ≡ final_of end.state end.done row)
+    (id : ℕ) × (row : MessageRow) × (message_at id last.core.rows.messages ≡ Some row) × (row.state ≡ Some end.state) × (row.done ≡ Some end.done)
+    × (end ≡ final_of end.state end.done row)
 
 -- Of a run of these items, from the one centre to the other.
 pub record KeepsPromises (first : Serving) (items : List (Item Job Reply)) (last : Serving) : Type 0 where

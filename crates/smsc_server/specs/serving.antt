@@ -1,10 +1,10 @@
 pub mod Connections
 pub mod Entering
 pub mod KeptSeats
-pub mod PieceEnds
-pub mod Pieces
+pub mod LinkPlaces
 pub mod Rates
-pub mod Reading
+pub mod SeatEvents
+pub mod SeatOrders
 pub mod SeatThreads
 pub mod Serving
 pub mod SessionLimits

@@ -10,6 +10,7 @@
 //! - `clock`: the time of a run
 //! - `connection`: the ports, and the wire of a connection that was accepted
 //! - `entrance`: the listeners, and the way from them to the seats
+//! - `link_seats`: which handset has its link at which seat
 //! - `poller`: what wakes the thread that accepts connections
 //! - `fault`: why a run ended early
 //! - `endpoints`: the threads of the seats
@@ -17,14 +18,13 @@
 //! - `loopback`: a server and its clients in one process
 //! - `observed_keep`: a keep whose commits are reported
 //! - `orders`: what an operator orders of a run
-//! - `pieces`: the pieces that cross from the reader of a connection to its seat
 //! - `rates`: how many requests of an account are put in a second
-//! - `reading`: the threads that read connections
 //! - `refusing`: a connection that is refused
 //! - `run`: a run
 //! - `seat_thread`: the threads of the seats, each of which hands its seat back
 //! - `occupancy`: which connections may sit at the seats
 //! - `observer`: the observer of a run
+//! - `telling`: what an observer is told
 
 mod accepting;
 mod allowances;
@@ -34,22 +34,22 @@ mod connection;
 mod endpoints;
 mod entrance;
 mod fault;
+mod link_seats;
 mod loopback;
 mod observed_keep;
 mod observer;
 mod occupancy;
 mod orders;
-mod pieces;
 mod poller;
 mod rates;
-mod reading;
 mod refusing;
 mod run;
 mod seat_thread;
 mod server;
+mod telling;
 
 pub use allowances::{Allowance, Allowances};
-pub use clock::{RunClock, milliseconds};
+pub use clock::{Clocks, RunClock, milliseconds};
 pub use connection::Ports;
 pub(crate) use connection::is_later;
 pub use fault::ServeFault;

@@ -2,12 +2,15 @@
 use crate::shown_links::{SEATS, ShownLinks};
 use sms_centre::LinkFigures;
 use std::alloc::{AllocError, Global};
-use std::sync::atomic::{AtomicBool, AtomicU64, AtomicUsize, Ordering};
+use std::sync::atomic::{AtomicBool, AtomicU8, AtomicU64, AtomicUsize, Ordering};
 
 // A cause is a number of seven bits.
 const CAUSE_NUMBERS: u8 = 128;
 
 const CAUSES: usize = CAUSE_NUMBERS as usize;
+
+// No cause has this number.
+const NO_CAUSE: u8 = u8::MAX;
 
 // How a seat is that has no link.
 const NOTHING: LinkFigures = LinkFigures {
@@ -21,6 +24,8 @@ struct LinkPlace {
     waiting: AtomicUsize,
     is_full: AtomicBool,
     is_under_way: AtomicBool,
+    // The last cause by which the handset of the link refused something over it.
+    cause: AtomicU8,
 }
 
 impl LinkPlace {
@@ -65,16 +70,39 @@ impl LinkBoard {
                 waiting: AtomicUsize::new(0),
                 is_full: AtomicBool::new(false),
                 is_under_way: AtomicBool::new(false),
+                cause: AtomicU8::new(NO_CAUSE),
             })?;
         }
         let causes = no_causes(alloc)?;
         Ok(LinkBoard { places, causes })
     }
 
-    /// A handset refused something by this cause.
-    pub(crate) fn count(&self, cause: u8) {
+    /// The handset of the link at the seat of this number refused something by this cause.
+    pub(crate) fn count(&self, seat: usize, cause: u8) {
         if let Some(counter) = self.causes.get(usize::from(cause)) {
             counter.fetch_add(1, Ordering::SeqCst);
+        }
+        self.put_cause(seat, cause);
+    }
+
+    fn put_cause(&self, seat: usize, cause: u8) {
+        if let Some(place) = self.places.get(seat) {
+            place.cause.store(cause, Ordering::SeqCst);
+        }
+    }
+
+    /// Another link is up at the seat of this number.
+    pub(crate) fn begin_link(&self, seat: usize) {
+        self.put_cause(seat, NO_CAUSE);
+    }
+
+    /// The last cause by which the handset of the link at the seat of this number refused something over that link.
+    pub fn last_cause(&self, seat: usize) -> Option<u8> {
+        let cause = self.places.get(seat)?.cause.load(Ordering::SeqCst);
+        if cause < CAUSE_NUMBERS {
+            Some(cause)
+        } else {
+            None
         }
     }
 

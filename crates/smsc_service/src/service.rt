@@ -144,8 +144,14 @@ impl<K: CentreStore + Drop> Service<K> {
         let Some(board) = &self.board else {
             return;
         };
+        let Stimulus::Job(seat, job) = stimulus else {
+            return;
+        };
+        if matches!(job, Job::LinkUp { .. }) {
+            board.begin_link(*seat);
+        }
         if let Some(cause) = cause_told_by(stimulus) {
-            board.count(cause);
+            board.count(*seat, cause);
         }
     }
 

@@ -1,13 +1,15 @@
 -- The figures in JSON (RFC 8259).
-use Rattle.std.specs.Prelude.{ℕ, zero, suc, Bool, List, [], ◌∷◌, ◌++◌, codes, decimal, flat_map, get_or, if◌then◌else◌, string_bytes}
+use Rattle.std.specs.Prelude.{ℕ, zero, suc, Bool, List, [], ◌∷◌, ◌++◌, Option, Some, None, codes, decimal, flat_map, get_or, if◌then◌else◌, string_bytes}
 use Rattle.std.specs.Str.{trim_end}
 use Rattle.smsc_status.specs.declared.commits.CommitFigures.{CommitFigures}
 use Rattle.smsc_status.specs.declared.commits.Quantile.{Quantile}
 use Rattle.smsc_status.specs.declared.commits.TheConstants.{LIMITS}
 use Rattle.smsc_status.specs.declared.figures.AccountLine.{AccountLine}
+use Rattle.smsc_status.specs.declared.figures.LastCause.{LastCause}
 use Rattle.smsc_status.specs.declared.figures.LinkLine.{LinkLine}
 use Rattle.smsc_status.specs.declared.figures.MessageCounts.{MessageCounts}
 use Rattle.smsc_status.specs.declared.figures.MessageFigures.{MessageFigures}
+use Rattle.smsc_status.specs.declared.figures.PendingMessage.{PendingMessage}
 use Rattle.smsc_status.specs.declared.figures.RefusedBinds.{RefusedBinds}
 use Rattle.smsc_status.specs.declared.figures.RefusedDeliveries.{RefusedDeliveries}
 use Rattle.smsc_status.specs.declared.figures.RefusedSubmits.{RefusedSubmits}
@@ -15,6 +17,8 @@ use Rattle.smsc_status.specs.declared.figures.Sample.{Sample}
 use Rattle.smsc_status.specs.declared.figures.SessionLine.{SessionLine}
 use Rattle.smsc_status.specs.declared.figures.StatusView.{StatusView}
 use Rattle.smsc_status.specs.declared.figures.StoreFigures.{StoreFigures}
+use Rattle.smsc_status.specs.declared.figures.StuckLine.{StuckLine}
+use Rattle.sms_base.specs.MessageId.{id_text}
 use Rattle.smsc_status.specs.Commits.{counted}
 use Rattle.smsc_status.specs.Kinds.{kind_word}
 use Rattle.smsc_status.specs.Numbers.{moment_text}
@@ -74,6 +78,46 @@ link_text l =
     codes "{\"seat\":" ++ (decimal l.seat ++ (codes ",\"handset\":" ++ (string (string_bytes l.handset) ++ (codes ",\"since\":\"" ++ (moment_text l.since
     ++ (codes "\",\"waiting\":" ++ (decimal l.waiting ++ (codes ",\"full\":" ++ (truth_text l.is_full ++ (codes ",\"under_way\":" ++ (truth_text l.is_under_way
     ++ codes "}")))))))))))
+
+-- ---- what is stuck
+
+unfoldable pub refusal_text : LastCause → List ℕ
+refusal_text c = codes "{\"cause\":" ++ (decimal c.cause ++ (codes ",\"reason\":\"" ++ (c.reason.now ++ codes "\"}")))
+
+abbrev pub last_cause_text : Option LastCause → List ℕ
+last_cause_text None = codes "null"
+last_cause_text (Some cause) = refusal_text cause
+
+unfoldable pub moment_string : ℕ → List ℕ
+moment_string moment = codes "\"" ++ (moment_text moment ++ codes "\"")
+
+abbrev pub due_text : Option ℕ → List ℕ
+due_text None = codes "null"
+due_text (Some due) = moment_string due
+
+unfoldable pub stuck_counts : StuckLine → List ℕ
+stuck_counts l =
+    codes "{\"handset\":" ++ (string (string_bytes l.handset) ++ (codes ",\"waiting\":" ++ (decimal l.waiting ++ (codes ",\"since\":\"" ++ (moment_text l.since
+    ++ (codes "\",\"failed\":" ++ (decimal l.failed ++ (codes ",\"linked\":" ++ (truth_text l.is_linked ++ codes ",\"last_cause\":")))))))))
+
+unfoldable pub stuck_line : StuckLine → List ℕ
+stuck_line l = stuck_counts l ++ (last_cause_text l.cause ++ (codes ",\"due\":" ++ (due_text l.due ++ codes "}")))
+
+unfoldable pub whose_text : PendingMessage → List ℕ
+whose_text m =
+    codes "\",\"handset\":" ++ (string m.handset.now ++ (codes ",\"submitted\":\"" ++ (moment_text m.submitted ++ codes "\"}")))
+
+unfoldable pub pending_text : PendingMessage → List ℕ
+pending_text m = codes "{\"id\":\"" ++ (id_text m.id ++ whose_text m)
+
+abbrev pub oldest_text : Option PendingMessage → List ℕ
+oldest_text None = codes "null"
+oldest_text (Some message) = pending_text message
+
+-- the handsets for which most waits, and the oldest message that is pending
+unfoldable pub stuck_text : StatusView → List ℕ
+stuck_text v =
+    array_start (codes "stuck") ++ (elements stuck_line v.stuck.now ++ (array_end ++ (codes ",\"oldest\":" ++ oldest_text v.oldest)))
 
 -- ---- accounts
 
@@ -144,5 +188,5 @@ events_text v = array_start (codes "events") ++ (elements (λ event. string (str
 
 unfoldable pub json_text : StatusView → Quantile → Quantile → List ℕ
 json_text v median most =
-    run_text v ++ (messages_text v.messages ++ (counts_text v.counts ++ (lists_text v ++ (accounts_text v.accounts.now ++ (refusals_text v
-    ++ (commits_text v.store v.commits median most ++ (events_text v ++ lost_text v.lost_events v.lost_lines)))))))
+    run_text v ++ (messages_text v.messages ++ (counts_text v.counts ++ (lists_text v ++ (stuck_text v ++ (accounts_text v.accounts.now ++ (refusals_text v
+    ++ (commits_text v.store v.commits median most ++ (events_text v ++ lost_text v.lost_events v.lost_lines))))))))

@@ -1,5 +1,5 @@
 -- The samples of metrics in Prometheus' text format.
-use Rattle.std.specs.Prelude.{ℕ, zero, suc, List, [], ◌++◌, codes, decimal, flat_map, get_or, if◌then◌else◌, length, string_bytes, take}
+use Rattle.std.specs.Prelude.{ℕ, zero, suc, List, [], ◌++◌, Option, Some, None, codes, decimal, flat_map, get_or, if◌then◌else◌, length, string_bytes, take}
 use Rattle.std.specs.Str.{trim_end}
 use Rattle.smsc_status.specs.declared.commits.CommitFigures.{CommitFigures}
 use Rattle.smsc_status.specs.declared.commits.TheConstants.{LIMITS}
@@ -7,6 +7,7 @@ use Rattle.smsc_status.specs.declared.figures.AccountLine.{AccountLine}
 use Rattle.smsc_status.specs.declared.figures.LinkLine.{LinkLine}
 use Rattle.smsc_status.specs.declared.figures.MessageCounts.{MessageCounts}
 use Rattle.smsc_status.specs.declared.figures.MessageFigures.{MessageFigures}
+use Rattle.smsc_status.specs.declared.figures.PendingMessage.{PendingMessage}
 use Rattle.smsc_status.specs.declared.figures.RefusedBinds.{RefusedBinds}
 use Rattle.smsc_status.specs.declared.figures.RefusedDeliveries.{RefusedDeliveries}
 use Rattle.smsc_status.specs.declared.figures.RefusedSubmits.{RefusedSubmits}
@@ -189,6 +190,16 @@ run_metrics v =
     ++ (metric (codes "smsc_start_time_seconds") (codes "gauge") (codes "When the run began, since 1970.")
     ++ plain_sample (codes "smsc_start_time_seconds") v.start))
 
+-- no sample where no message is pending
+abbrev pub oldest_sample : List ℕ → Option PendingMessage → List ℕ
+oldest_sample name None = []
+oldest_sample name (Some message) = plain_sample name message.submitted
+
+unfoldable pub oldest_metric : Option PendingMessage → List ℕ
+oldest_metric oldest =
+    metric (codes "smsc_oldest_pending_time_seconds") (codes "gauge") (codes "When the oldest message that is pending was submitted, since 1970.")
+    ++ oldest_sample (codes "smsc_oldest_pending_time_seconds") oldest
+
 unfoldable pub lost_metrics : ℕ → ℕ → List ℕ
 lost_metrics events lines =
     metric (codes "smsc_status_events_lost_total") (codes "counter") (codes "Events that found no room in the status page's list.")
@@ -198,6 +209,6 @@ lost_metrics events lines =
 
 unfoldable pub metrics_text : StatusView → List ℕ
 metrics_text v =
-    run_metrics v ++ (lost_metrics v.lost_events v.lost_lines ++ (counts_metric v.counts ++ (messages_metric v.messages ++ (sessions_metrics v.sessions.now
-    ++ (links_metrics v.links.now ++ (accounts_metrics v.accounts.now ++ (refusals_metrics v ++ (store_metrics v.store ++ (commits_metrics v.commits
-    ++ groups_metrics v.groups)))))))))
+    run_metrics v ++ (lost_metrics v.lost_events v.lost_lines ++ (counts_metric v.counts ++ (messages_metric v.messages ++ (oldest_metric v.oldest
+    ++ (sessions_metrics v.sessions.now ++ (links_metrics v.links.now ++ (accounts_metrics v.accounts.now ++ (refusals_metrics v ++ (store_metrics v.store
+    ++ (commits_metrics v.commits ++ groups_metrics v.groups))))))))))

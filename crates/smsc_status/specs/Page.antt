@@ -1,11 +1,13 @@
 -- The page, in HTML.
-use Rattle.std.specs.Prelude.{ℕ, ◌-◌, ◌==◌, ◌&&◌, Bool, List, [], ◌∷◌, ◌++◌, codes, decimal, flat_map, if◌then◌else◌, length, map, reverse, string_bytes}
+use Rattle.std.specs.Prelude.{ℕ, ◌-◌, ◌==◌, ◌&&◌, Bool, List, [], ◌∷◌, ◌++◌, Option, Some, None, codes, decimal, flat_map, if◌then◌else◌, length, map, reverse, string_bytes}
 use Rattle.std.specs.Str.{trim_end}
 use Rattle.smsc_status.specs.declared.commits.CommitFigures.{CommitFigures}
 use Rattle.smsc_status.specs.declared.commits.Quantile.{Quantile}
 use Rattle.smsc_status.specs.declared.figures.AccountLine.{AccountLine}
+use Rattle.smsc_status.specs.declared.figures.LastCause.{LastCause}
 use Rattle.smsc_status.specs.declared.figures.LinkLine.{LinkLine}
 use Rattle.smsc_status.specs.declared.figures.MessageFigures.{MessageFigures}
+use Rattle.smsc_status.specs.declared.figures.PendingMessage.{PendingMessage}
 use Rattle.smsc_status.specs.declared.figures.RefusedBinds.{RefusedBinds}
 use Rattle.smsc_status.specs.declared.figures.RefusedDeliveries.{RefusedDeliveries}
 use Rattle.smsc_status.specs.declared.figures.RefusedSubmits.{RefusedSubmits}
@@ -13,8 +15,10 @@ use Rattle.smsc_status.specs.declared.figures.Sample.{Sample}
 use Rattle.smsc_status.specs.declared.figures.SessionLine.{SessionLine}
 use Rattle.smsc_status.specs.declared.figures.StatusView.{StatusView}
 use Rattle.smsc_status.specs.declared.figures.StoreFigures.{StoreFigures}
+use Rattle.smsc_status.specs.declared.figures.StuckLine.{StuckLine}
 use Rattle.smsc_status.specs.declared.groups.GroupFigures.{GroupFigures}
-use Rattle.smsc_status.specs.declared.page.TheConstants.{HEAD, SESSIONS_HEAD, LINKS_HEAD, ACCOUNTS_HEAD, REFUSALS_HEAD}
+use Rattle.smsc_status.specs.declared.page.TheConstants.{HEAD, SESSIONS_HEAD, LINKS_HEAD, STUCK_HEAD, ACCOUNTS_HEAD, REFUSALS_HEAD}
+use Rattle.sms_base.specs.MessageId.{id_text}
 use Rattle.smsc_status.specs.Charts.{chart_text}
 use Rattle.smsc_status.specs.Kinds.{kind_word}
 use Rattle.smsc_status.specs.Markup.{escaped}
@@ -105,6 +109,53 @@ link_row l =
 unfoldable pub links_table : List LinkLine → List ℕ
 links_table links = LINKS_HEAD.now ++ (flat_map link_row links ++ (none_row (length links == 0) (codes "6") ++ table_end))
 
+-- ---- what is stuck
+
+unfoldable pub whose_text : PendingMessage → List ℕ
+whose_text m = codes " to " ++ (escaped m.handset.now ++ (codes ", submitted " ++ (moment_text m.submitted ++ codes "</p>")))
+
+unfoldable pub pending_text : PendingMessage → List ℕ
+pending_text m = codes "the oldest message that is pending: " ++ (id_text m.id ++ whose_text m)
+
+abbrev pub oldest_text : Option PendingMessage → List ℕ
+oldest_text None = codes "no message is pending</p>"
+oldest_text (Some message) = pending_text message
+
+abbrev pub link_word : Bool → List ℕ
+link_word is_linked = if is_linked then codes "none</td><td>" else codes "no link</td><td>"
+
+unfoldable pub refusal_text : LastCause → List ℕ
+refusal_text c = codes "RP cause " ++ (decimal c.cause ++ (codes ", " ++ (escaped c.reason.now ++ codes "</td><td>")))
+
+-- what the handset said last as it refused something; where it said nothing, whether it has a link
+abbrev pub last_cause_text : Bool → Option LastCause → List ℕ
+last_cause_text is_linked None = link_word is_linked
+last_cause_text is_linked (Some cause) = refusal_text cause
+
+abbrev pub wait_word : Bool → List ℕ
+wait_word is_linked = if is_linked then codes "once it has memory" else codes "once it has a link"
+
+-- when something is offered next, or what it waits for
+abbrev pub next_try_text : Bool → Option ℕ → List ℕ
+next_try_text is_linked None = wait_word is_linked
+next_try_text is_linked (Some due) = moment_text due
+
+unfoldable pub stuck_counts : StuckLine → List ℕ
+stuck_counts l =
+    codes "<tr><td>" ++ (escaped (string_bytes l.handset) ++ (codes "</td><td class=\"n\">" ++ (decimal l.waiting ++ (codes "</td><td>" ++ (moment_text l.since
+    ++ (codes "</td><td class=\"n\">" ++ (decimal l.failed ++ codes "</td><td>")))))))
+
+unfoldable pub stuck_row : StuckLine → List ℕ
+stuck_row l =
+    stuck_counts l ++ (last_cause_text l.is_linked l.cause ++ (next_try_text l.is_linked l.due ++ codes "</td></tr>\n"))
+
+unfoldable pub stuck_table : List StuckLine → List ℕ
+stuck_table lines = STUCK_HEAD.now ++ (flat_map stuck_row lines ++ (none_row (length lines == 0) (codes "6") ++ table_end))
+
+-- the oldest message that is pending, over the handsets for which most waits
+unfoldable pub stuck_text : StatusView → List ℕ
+stuck_text v = codes "<h2>What is stuck</h2><p>" ++ (oldest_text v.oldest ++ stuck_table v.stuck.now)
+
 -- ---- accounts
 
 unfoldable pub account_row : AccountLine → List ℕ
@@ -187,6 +238,6 @@ foot_text version =
 unfoldable pub page_text : StatusView → Quantile → Quantile → List ℕ
 page_text v median most =
     HEAD.now ++ (heading_text v ++ (messages_tiles v.messages ++ (charts_text (map (λ (s : Sample). s.submissions) v.samples.now) (map (λ (s : Sample). s.deliveries) v.samples.now)
-    ++ (seats_tiles (length v.sessions.now) (length v.links.now) ++ (sessions_table v.sessions.now ++ (links_table v.links.now ++ (accounts_table v.accounts.now
-    ++ (refusals_table v ++ (store_tiles v.store v.commits v.samples.now median most ++ (groups_tiles v.groups
-    ++ (events_list v ++ foot_text (trim_end v.version.now))))))))))))
+    ++ (seats_tiles (length v.sessions.now) (length v.links.now) ++ (sessions_table v.sessions.now ++ (links_table v.links.now ++ (stuck_text v
+    ++ (accounts_table v.accounts.now ++ (refusals_table v ++ (store_tiles v.store v.commits v.samples.now median most ++ (groups_tiles v.groups
+    ++ (events_list v ++ foot_text (trim_end v.version.now)))))))))))))

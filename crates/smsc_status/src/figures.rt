@@ -4,7 +4,7 @@ ghost use Rattle.smsc_status.specs.Kinds.{kind_word};
 
 use crate::commits::CommitFigures;
 use crate::groups::GroupFigures;
-use sms_base::Moment;
+use sms_base::{MessageId, Moment};
 
 /// How a session is bound.
 #[derive(Clone, Copy)]
@@ -97,6 +97,41 @@ pub struct RefusedDeliveries {
     pub count: u64,
 }
 
+/// A cause by which a handset refused something (3GPP TS 24.011 8.2.5.4), and its name.
+#[derive(Clone, Copy)]
+pub struct LastCause {
+    pub cause: u8,
+    pub reason: &'static str,
+}
+
+/// A handset for which short messages wait.
+#[derive(Drop)]
+pub struct StuckLine {
+    /// The number of the handset.
+    pub handset: String,
+    /// How many short messages wait for it.
+    pub waiting: u64,
+    /// When the oldest of their messages was submitted.
+    pub since: Moment,
+    /// How often the short message was tried in vain that was tried in vain most often.
+    pub failed: u64,
+    /// It has a link.
+    pub is_linked: bool,
+    /// What it said last over its link as it refused something.
+    pub cause: Option<LastCause>,
+    /// When the next of them is offered; none where they wait for a link, or for memory of the handset.
+    pub due: Option<Moment>,
+}
+
+/// A message that is pending.
+#[derive(Clone, Copy)]
+pub struct PendingMessage<'a> {
+    pub id: MessageId,
+    /// The number of its handset.
+    pub handset: &'a str,
+    pub submitted: Moment,
+}
+
 /// How many messages there are in each state.
 #[derive(Clone, Copy, PartialEq, Eq)]
 pub struct MessageFigures {
@@ -148,6 +183,10 @@ pub struct StatusView<'a> {
     pub counts: MessageCounts,
     pub sessions: &'a [SessionLine],
     pub links: &'a [LinkLine],
+    /// The handsets for which most short messages wait, linked or not, that of most first.
+    pub stuck: &'a [StuckLine],
+    /// The oldest message that is pending.
+    pub oldest: Option<PendingMessage<'a>>,
     /// The accounts of which a session did something in this run.
     pub accounts: &'a [AccountLine],
     /// The requests of this run that were refused.

@@ -3,18 +3,20 @@ ghost use Rattle.std.specs.Prelude.{◌≡◌, ◌++◌, IfOk, OnOk, string_byte
 ghost use Rattle.smsc_status.specs.Commits.{IsQuantile};
 ghost use Rattle.smsc_status.specs.Json.{account_text, accounts_text, array_end, array_start, comma, commits_text, counts_text, elements, events_text, first_places, json_text, last_place};
 ghost use Rattle.smsc_status.specs.Json.{link_text, lists_text, lost_text, messages_text, place_text, refusals_text, refused_binds_text, refused_deliveries_text, refused_submits_text, run_text};
+ghost use Rattle.smsc_status.specs.Json.{due_text, last_cause_text, moment_string, oldest_text, pending_text, refusal_text, stuck_counts, stuck_line, stuck_text, whose_text};
 ghost use Rattle.smsc_status.specs.Json.{sample_text, session_text, store_text, truth_text};
 ghost use Rattle.smsc_status.specs.Quoting.{string};
 ghost use Rattle.smsc_status.specs.declared.commits.Quantile.{Quantile as QuantileOf};
 
 use crate::commits::{CommitFigures, LIMITS, Quantile};
 use crate::figures::{
-    AccountLine, LinkLine, MessageCounts, MessageFigures, RefusedBinds, RefusedDeliveries,
-    RefusedSubmits, Sample, SessionLine, StatusView, StoreFigures,
+    AccountLine, LastCause, LinkLine, MessageCounts, MessageFigures, PendingMessage, RefusedBinds,
+    RefusedDeliveries, RefusedSubmits, Sample, SessionLine, StatusView, StoreFigures, StuckLine,
 };
+use crate::numbers::put_id;
 use crate::pieces::{Piece, put_pieces};
 use crate::quoting::put_string;
-use sms_base::Octets;
+use sms_base::{Moment, Octets};
 use std::alloc::{AllocError, Global};
 
 // ---- arrays
@@ -235,6 +237,153 @@ fn put_lists(out: &mut Octets, view: &StatusView<'_>) -> Result<(), AllocError>
     begin_array(out, b"links")?;
     put_links(out, view.links)?;
     end_array(out)
+}
+
+// ---- what is stuck
+
+#[tactic(auto, unfolding(crate::specs::Json::refusal_text))]
+fn put_refusal(out: &mut Octets, cause: LastCause) -> Result<(), AllocError>
+    ensures { OnOk result (out.new ≡ out.old ++ refusal_text cause) }
+{
+    put_pieces(
+        out,
+        &[
+            Piece::Text(b"{\"cause\":"),
+            Piece::Number(cause.cause as u64),
+            Piece::Text(b",\"reason\":\""),
+            Piece::Text(cause.reason.as_bytes()),
+            Piece::Text(b"\"}"),
+        ],
+    )
+}
+
+fn put_last_cause(out: &mut Octets, cause: Option<LastCause>) -> Result<(), AllocError>
+    ensures { OnOk result (out.new ≡ out.old ++ last_cause_text cause) }
+{
+    match cause {
+        Some(cause) => put_refusal(out, cause),
+        None => out.append(b"null"),
+    }
+}
+
+#[tactic(auto, unfolding(crate::specs::Json::moment_string))]
+fn put_moment_string(out: &mut Octets, moment: Moment) -> Result<(), AllocError>
+    ensures { OnOk result (out.new ≡ out.old ++ moment_string moment) }
+{
+    put_pieces(
+        out,
+        &[
+            Piece::Text(b"\""),
+            Piece::Moment(moment),
+            Piece::Text(b"\""),
+        ],
+    )
+}
+
+fn put_due(out: &mut Octets, due: Option<Moment>) -> Result<(), AllocError>
+    ensures { OnOk result (out.new ≡ out.old ++ due_text due) }
+{
+    match due {
+        Some(due) => put_moment_string(out, due),
+        None => out.append(b"null"),
+    }
+}
+
+#[tactic(auto, unfolding(crate::specs::Json::stuck_counts))]
+fn put_stuck_counts<'a>(
+    out: &mut Octets,
+    before: &'a [u8],
+    line: &'a StuckLine,
+) -> Result<(), AllocError>
+    ensures { OnOk result (out.new ≡ out.old ++ (before.now ++ stuck_counts line.now)) }
+{
+    put_pieces(
+        out,
+        &[
+            Piece::Text(before),
+            Piece::Text(b"{\"handset\":"),
+            Piece::Quoted(line.handset.as_bytes()),
+            Piece::Text(b",\"waiting\":"),
+            Piece::Number(line.waiting),
+            Piece::Text(b",\"since\":\""),
+            Piece::Moment(line.since),
+            Piece::Text(b"\",\"failed\":"),
+            Piece::Number(line.failed),
+            Piece::Text(b",\"linked\":"),
+            Piece::Text(truth(line.is_linked)),
+            Piece::Text(b",\"last_cause\":"),
+        ],
+    )
+}
+
+#[tactic(auto, unfolding(crate::specs::Json::stuck_line))]
+fn put_stuck_line<'a>(
+    out: &mut Octets,
+    before: &'a [u8],
+    line: &'a StuckLine,
+) -> Result<(), AllocError>
+    ensures { OnOk result (out.new ≡ out.old ++ (before.now ++ stuck_line line.now)) }
+{
+    put_stuck_counts(out, before, line)?;
+    put_last_cause(out, line.cause)?;
+    out.append(b",\"due\":")?;
+    put_due(out, line.due)?;
+    out.append(b"}")
+}
+
+#[tactic(auto, using(crate::proofs::Elements::one_more, crate::proofs::Elements::none_left))]
+fn put_stuck_lines(out: &mut Octets, lines: &[StuckLine]) -> Result<(), AllocError>
+    ensures { OnOk result (out.new ≡ out.old ++ elements stuck_line lines.now) }
+{
+    for i in 0..lines.len() {
+        put_stuck_line(out, comma_before(i), &lines[i])?;
+    }
+    Ok(())
+}
+
+#[tactic(auto, unfolding(crate::specs::Json::whose_text))]
+fn put_whose(out: &mut Octets, message: &PendingMessage<'_>) -> Result<(), AllocError>
+    ensures { OnOk result (out.new ≡ out.old ++ whose_text message.entry.now) }
+{
+    put_pieces(
+        out,
+        &[
+            Piece::Text(b"\",\"handset\":"),
+            Piece::Quoted(message.handset.as_bytes()),
+            Piece::Text(b",\"submitted\":\""),
+            Piece::Moment(message.submitted),
+            Piece::Text(b"\"}"),
+        ],
+    )
+}
+
+#[tactic(auto, unfolding(crate::specs::Json::pending_text))]
+fn put_pending(out: &mut Octets, message: &PendingMessage<'_>) -> Result<(), AllocError>
+    ensures { OnOk result (out.new ≡ out.old ++ pending_text message.entry.now) }
+{
+    out.append(b"{\"id\":\"")?;
+    put_id(out, message.id)?;
+    put_whose(out, message)
+}
+
+fn put_oldest(out: &mut Octets, oldest: &Option<PendingMessage<'_>>) -> Result<(), AllocError>
+    ensures { OnOk result (out.new ≡ out.old ++ oldest_text oldest.entry.now) }
+{
+    match oldest {
+        Some(message) => put_pending(out, message),
+        None => out.append(b"null"),
+    }
+}
+
+#[tactic(auto, unfolding(crate::specs::Json::stuck_text))]
+fn put_stuck(out: &mut Octets, view: &StatusView<'_>) -> Result<(), AllocError>
+    ensures { OnOk result (out.new ≡ out.old ++ stuck_text view.entry.now) }
+{
+    begin_array(out, b"stuck")?;
+    put_stuck_lines(out, view.stuck)?;
+    end_array(out)?;
+    out.append(b",\"oldest\":")?;
+    put_oldest(out, &view.oldest)
 }
 
 // ---- accounts
@@ -546,6 +695,7 @@ fn put_json(
     put_messages(out, &view.messages)?;
     put_counts(out, &view.counts)?;
     put_lists(out, view)?;
+    put_stuck(out, view)?;
     put_accounts(out, view.accounts)?;
     put_refusals(out, view)?;
     put_commits(out, &view.store, &view.commits, median, most)?;

@@ -45,8 +45,9 @@ mod words;
 pub use access::{AccessLine, access_line};
 pub use commits::{CommitFigures, PLACES, Quantile, place_of};
 pub use figures::{
-    AccountLine, LinkLine, MessageCounts, MessageFigures, RefusedBinds, RefusedDeliveries,
-    RefusedSubmits, Sample, SessionKind, SessionLine, StatusView, StoreFigures,
+    AccountLine, LastCause, LinkLine, MessageCounts, MessageFigures, PendingMessage, RefusedBinds,
+    RefusedDeliveries, RefusedSubmits, Sample, SessionKind, SessionLine, StatusView, StoreFigures,
+    StuckLine,
 };
 pub use groups::GroupFigures;
 pub use requests::{Resource, Wanted, wanted_of};

@@ -1,13 +1,13 @@
 //! The figures in Prometheus' text format.
 ghost use Rattle.std.specs.Prelude.{◌≡◌, ◌++◌, ◌<◌, IfOk, OnOk, codes, flat_map, string_bytes};
 ghost use Rattle.smsc_status.specs.Metrics.{account_receipts, account_submits, accounts_metrics, binds_sample, bucket, commits_metrics, counts_metric, deliveries_sample, first_buckets, group_bucket, groups_metrics, labelled_sample, link_number, link_samples, links_metrics};
-ghost use Rattle.smsc_status.specs.Metrics.{lost_metrics, messages_metric, metric, metrics_text, plain_sample, refusals_metrics, run_metrics, session_number};
+ghost use Rattle.smsc_status.specs.Metrics.{lost_metrics, messages_metric, metric, metrics_text, oldest_metric, oldest_sample, plain_sample, refusals_metrics, run_metrics, session_number};
 ghost use Rattle.smsc_status.specs.Metrics.{session_sample, session_samples, sessions_metrics, store_metrics, submits_sample, totals};
 
 use crate::commits::{CommitFigures, LIMITS};
 use crate::figures::{
-    AccountLine, LinkLine, MessageCounts, MessageFigures, RefusedBinds, RefusedDeliveries,
-    RefusedSubmits, SessionLine, StatusView, StoreFigures,
+    AccountLine, LinkLine, MessageCounts, MessageFigures, PendingMessage, RefusedBinds,
+    RefusedDeliveries, RefusedSubmits, SessionLine, StatusView, StoreFigures,
 };
 use crate::groups::GroupFigures;
 use crate::pieces::{Piece, put_pieces};
@@ -566,6 +566,33 @@ fn put_run(out: &mut Octets, view: &StatusView<'_>) -> Result<(), AllocError>
     put_plain(out, name, view.start.seconds())
 }
 
+fn put_oldest_sample(
+    out: &mut Octets,
+    name: &[u8],
+    oldest: &Option<PendingMessage<'_>>,
+) -> Result<(), AllocError>
+    ensures { OnOk result (out.new ≡ out.old ++ oldest_sample name.now oldest.entry.now) }
+{
+    match oldest {
+        Some(message) => put_plain(out, name, message.submitted.seconds()),
+        None => Ok(()),
+    }
+}
+
+#[tactic(auto, unfolding(crate::specs::Metrics::oldest_metric))]
+fn put_oldest(out: &mut Octets, oldest: &Option<PendingMessage<'_>>) -> Result<(), AllocError>
+    ensures { OnOk result (out.new ≡ out.old ++ oldest_metric oldest.entry.now) }
+{
+    let name = b"smsc_oldest_pending_time_seconds";
+    put_metric(
+        out,
+        name,
+        b"gauge",
+        b"When the oldest message that is pending was submitted, since 1970.",
+    )?;
+    put_oldest_sample(out, name, oldest)
+}
+
 #[tactic(auto, unfolding(crate::specs::Metrics::lost_metrics))]
 fn put_lost(out: &mut Octets, events: u64, lines: u64) -> Result<(), AllocError>
     ensures { OnOk result (out.new ≡ out.old ++ lost_metrics events lines) }
@@ -596,6 +623,7 @@ fn put_metrics(out: &mut Octets, view: &StatusView<'_>) -> Result<(), AllocError
     put_lost(out, view.lost_events, view.lost_lines)?;
     put_counts(out, &view.counts)?;
     put_stored(out, &view.messages)?;
+    put_oldest(out, &view.oldest)?;
     put_sessions(out, view.sessions)?;
     put_links(out, view.links)?;
     put_accounts(out, view.accounts)?;

@@ -1,9 +1,10 @@
 //! Numbers and moments in text.
 ghost use Rattle.std.specs.Prelude.{◌≡◌, ◌++◌, OnOk};
+ghost use Rattle.sms_base.specs.MessageId.{id_text};
 ghost use Rattle.smsc_status.specs.Numbers.{clock_text, date_text, last_digit, milliseconds_text, millionths_text, moment_text, pair, size_text, stamp_text};
 
 use crate::markup::put_number;
-use sms_base::{Moment, Octets};
+use sms_base::{MessageId, Moment, Octets};
 use std::alloc::AllocError;
 
 // Two decimal digits of a semi-octet pair, the low one first (3GPP TS 23.040 9.1.2.3).
@@ -52,6 +53,16 @@ pub(crate) fn put_moment(out: &mut Octets, moment: Moment) -> Result<(), AllocEr
     ensures { OnOk result (out.new ≡ out.old ++ moment_text moment) }
 {
     put_stamp(out, &moment.to_scts())
+}
+
+/// The ten digits of a message's number.
+pub(crate) fn put_id(out: &mut Octets, id: MessageId) -> Result<(), AllocError>
+    ensures { OnOk result (out.new ≡ out.old ++ id_text id) }
+{
+    // It is one to ten digits long.
+    let _range = id.number();
+    let digits = id.digits();
+    out.append(&digits)
 }
 
 // The last digit of a number.

@@ -7,6 +7,7 @@ ghost use Rattle.smsc_status.specs.Commits.{IsQuantile};
 ghost use Rattle.smsc_status.specs.Page.{account_row, accounts_table, bad_or_not, binds_row, charts_text, deliveries_row, event_item, events_begin, events_end, events_list};
 ghost use Rattle.smsc_status.specs.Page.{foot_text, graded_tile, groups_tiles, heading_text, is_nothing_refused as is_nothing_refused_of, link_row, links_table, lost_text, mark, messages_tiles, none_cell, none_row, page_text, refusals_table};
 ghost use Rattle.smsc_status.specs.Page.{seats_tiles, session_row, sessions_table, store_tiles, submits_row, table_end, tile, tiles_begin, tiles_end, yes_or_no};
+ghost use Rattle.smsc_status.specs.Page.{last_cause_text, link_word as link_word_of, next_try_text, oldest_text, pending_text, refusal_text, stuck_counts, stuck_row, stuck_table, stuck_text, wait_word as wait_word_of, whose_text};
 ghost use Rattle.smsc_status.specs.Numbers.{size_text};
 ghost use Rattle.smsc_status.specs.Quantiles.{quantile_text};
 ghost use Rattle.smsc_status.specs.Series.{commits_a_second as commits_a_second_of};
@@ -16,13 +17,14 @@ ghost use Rattle.smsc_status.specs.declared.figures.Sample.{Sample as SampleOf};
 use crate::chart::put_chart;
 use crate::commits::{CommitFigures, Quantile};
 use crate::figures::{
-    AccountLine, LinkLine, MessageFigures, RefusedBinds, RefusedDeliveries, RefusedSubmits, Sample,
-    SessionLine, StatusView, StoreFigures,
+    AccountLine, LastCause, LinkLine, MessageFigures, PendingMessage, RefusedBinds,
+    RefusedDeliveries, RefusedSubmits, Sample, SessionLine, StatusView, StoreFigures, StuckLine,
 };
 use crate::groups::GroupFigures;
+use crate::numbers::put_id;
 use crate::pieces::{Piece, put_pieces};
 use crate::series::commits_a_second;
-use sms_base::Octets;
+use sms_base::{Moment, Octets};
 use std::alloc::{AllocError, Global};
 
 const HEAD: &[u8] =
@@ -50,6 +52,10 @@ const SESSIONS_HEAD: &[u8] =
 const LINKS_HEAD: &[u8] =
     b"<h2>Links</h2><p class=\"more\">a wide table: drag it sideways</p><div class=\"wide\"><table><tr><th>handset</th><th class=\"n\">waiting</th><th>full</th><th>under way</th><th>since</th>\
 <th class=\"n\">seat</th></tr>\n";
+
+const STUCK_HEAD: &[u8] =
+    b"<p class=\"more\">a wide table: drag it sideways</p><div class=\"wide\"><table><tr><th>handset</th><th class=\"n\">waiting</th><th>since</th>\
+<th class=\"n\">failed</th><th>last cause</th><th>next try</th></tr>\n";
 
 const ACCOUNTS_HEAD: &[u8] =
     b"<h2>Accounts, since the run began</h2><div class=\"wide\"><table><tr><th>account</th><th class=\"n\">submits</th><th class=\"n\">receipts</th></tr>\n";
@@ -358,6 +364,158 @@ fn put_links(out: &mut Octets, links: &[LinkLine]) -> Result<(), AllocError>
     put_link_rows(out, links)?;
     put_none(out, links.is_empty(), b"6")?;
     end_table(out)
+}
+
+// ---- what is stuck
+
+#[tactic(auto, unfolding(crate::specs::Page::whose_text))]
+fn put_whose(out: &mut Octets, message: &PendingMessage<'_>) -> Result<(), AllocError>
+    ensures { OnOk result (out.new ≡ out.old ++ whose_text message.entry.now) }
+{
+    put_pieces(
+        out,
+        &[
+            Piece::Text(b" to "),
+            Piece::Escaped(message.handset.as_bytes()),
+            Piece::Text(b", submitted "),
+            Piece::Moment(message.submitted),
+            Piece::Text(b"</p>"),
+        ],
+    )
+}
+
+#[tactic(auto, unfolding(crate::specs::Page::pending_text))]
+fn put_pending(out: &mut Octets, message: &PendingMessage<'_>) -> Result<(), AllocError>
+    ensures { OnOk result (out.new ≡ out.old ++ pending_text message.entry.now) }
+{
+    out.append(b"the oldest message that is pending: ")?;
+    put_id(out, message.id)?;
+    put_whose(out, message)
+}
+
+fn put_oldest(out: &mut Octets, oldest: &Option<PendingMessage<'_>>) -> Result<(), AllocError>
+    ensures { OnOk result (out.new ≡ out.old ++ oldest_text oldest.entry.now) }
+{
+    match oldest {
+        Some(message) => put_pending(out, message),
+        None => out.append(b"no message is pending</p>"),
+    }
+}
+
+fn link_word(is_linked: bool) -> &'static [u8]
+    ensures { result.now ≡ link_word_of is_linked }
+{
+    if is_linked {
+        b"none</td><td>"
+    } else {
+        b"no link</td><td>"
+    }
+}
+
+#[tactic(auto, unfolding(crate::specs::Page::refusal_text))]
+fn put_refusal(out: &mut Octets, cause: LastCause) -> Result<(), AllocError>
+    ensures { OnOk result (out.new ≡ out.old ++ refusal_text cause) }
+{
+    put_pieces(
+        out,
+        &[
+            Piece::Text(b"RP cause "),
+            Piece::Number(cause.cause as u64),
+            Piece::Text(b", "),
+            Piece::Escaped(cause.reason.as_bytes()),
+            Piece::Text(b"</td><td>"),
+        ],
+    )
+}
+
+fn put_last_cause(
+    out: &mut Octets,
+    is_linked: bool,
+    cause: Option<LastCause>,
+) -> Result<(), AllocError>
+    ensures { OnOk result (out.new ≡ out.old ++ last_cause_text is_linked cause) }
+{
+    match cause {
+        Some(cause) => put_refusal(out, cause),
+        None => out.append(link_word(is_linked)),
+    }
+}
+
+fn wait_word(is_linked: bool) -> &'static [u8]
+    ensures { result.now ≡ wait_word_of is_linked }
+{
+    if is_linked {
+        b"once it has memory"
+    } else {
+        b"once it has a link"
+    }
+}
+
+fn put_next_try(out: &mut Octets, is_linked: bool, due: Option<Moment>) -> Result<(), AllocError>
+    ensures { OnOk result (out.new ≡ out.old ++ next_try_text is_linked due) }
+{
+    match due {
+        Some(due) => put_pieces(out, &[Piece::Moment(due)]),
+        None => out.append(wait_word(is_linked)),
+    }
+}
+
+#[tactic(auto, unfolding(crate::specs::Page::stuck_counts))]
+fn put_stuck_counts(out: &mut Octets, line: &StuckLine) -> Result<(), AllocError>
+    ensures { OnOk result (out.new ≡ out.old ++ stuck_counts line.now) }
+{
+    put_pieces(
+        out,
+        &[
+            Piece::Text(b"<tr><td>"),
+            Piece::Escaped(line.handset.as_bytes()),
+            Piece::Text(b"</td><td class=\"n\">"),
+            Piece::Number(line.waiting),
+            Piece::Text(b"</td><td>"),
+            Piece::Moment(line.since),
+            Piece::Text(b"</td><td class=\"n\">"),
+            Piece::Number(line.failed),
+            Piece::Text(b"</td><td>"),
+        ],
+    )
+}
+
+#[tactic(auto, unfolding(crate::specs::Page::stuck_row))]
+fn put_stuck_line(out: &mut Octets, line: &StuckLine) -> Result<(), AllocError>
+    ensures { OnOk result (out.new ≡ out.old ++ stuck_row line.now) }
+{
+    put_stuck_counts(out, line)?;
+    put_last_cause(out, line.is_linked, line.cause)?;
+    put_next_try(out, line.is_linked, line.due)?;
+    out.append(b"</td></tr>\n")
+}
+
+fn put_stuck_rows(out: &mut Octets, lines: &[StuckLine]) -> Result<(), AllocError>
+    ensures { OnOk result (out.new ≡ out.old ++ flat_map stuck_row lines.now) }
+{
+    for line in lines {
+        put_stuck_line(out, line)?;
+    }
+    Ok(())
+}
+
+#[tactic(auto, unfolding(crate::specs::Page::stuck_table))]
+fn put_stuck_table(out: &mut Octets, lines: &[StuckLine]) -> Result<(), AllocError>
+    ensures { OnOk result (out.new ≡ out.old ++ stuck_table lines.now) }
+{
+    out.append(STUCK_HEAD)?;
+    put_stuck_rows(out, lines)?;
+    put_none(out, lines.is_empty(), b"6")?;
+    end_table(out)
+}
+
+#[tactic(auto, unfolding(crate::specs::Page::stuck_text))]
+fn put_stuck(out: &mut Octets, view: &StatusView<'_>) -> Result<(), AllocError>
+    ensures { OnOk result (out.new ≡ out.old ++ stuck_text view.entry.now) }
+{
+    out.append(b"<h2>What is stuck</h2><p>")?;
+    put_oldest(out, &view.oldest)?;
+    put_stuck_table(out, view.stuck)
 }
 
 // ---- accounts
@@ -683,6 +841,7 @@ fn put_page(
     put_seats(out, view.sessions.len() as u64, view.links.len() as u64)?;
     put_sessions(out, view.sessions)?;
     put_links(out, view.links)?;
+    put_stuck(out, view)?;
     put_accounts(out, view.accounts)?;
     put_refusals(out, view)?;
     put_store(out, &view.store, &view.commits, view.samples, median, most)?;

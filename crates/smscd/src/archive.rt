@@ -3,7 +3,9 @@ use crate::lines::{number_text, put_quoted, state_word};
 use crate::moments::text_of;
 use sms_base::{Moment, Originator, Wish};
 use sms_centre_rows::messages::MessageRow;
+use smsc_server::status::{NO_MESSAGES, with_message};
 use smsc_service::{Archive, NotArchived};
+use smsc_status::MessageFigures;
 use std::alloc::{AllocError, Global};
 use std::fs::{File, OpenOptions};
 use std::io::{self, Read, Seek, SeekFrom, Write};
@@ -19,6 +21,8 @@ pub struct RunArchive {
     file: Option<File>,
     /// So many messages were taken.
     pub count: u64,
+    /// In how many of each state.
+    pub taken: MessageFigures,
 }
 
 // Whether the file ends within a line.
@@ -139,6 +143,7 @@ impl RunArchive {
             alloc: rt.alloc(),
             file: opened(rt, path)?,
             count: 0,
+            taken: NO_MESSAGES,
         })
     }
 
@@ -149,6 +154,7 @@ impl RunArchive {
             file.write_all(line.as_str().as_bytes())?;
         }
         self.count = self.count.saturating_add(1);
+        self.taken = with_message(self.taken, message.state);
         Ok(())
     }
 

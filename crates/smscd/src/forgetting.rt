@@ -2,11 +2,15 @@
 use crate::archive::RunArchive;
 use crate::logging::Log;
 use crate::moments::text_of;
+use crate::opening::FoundStore;
+use crate::preparing::judge_rows;
 use crate::run_fault::RunFault;
 use sms_base::Moment;
 use sms_centre_spec::Rows;
 use smsc_cli::words::ServerRun;
+use smsc_server::status::NO_MESSAGES;
 use smsc_service::{CentreStore, ForgetError, forget_ended};
+use smsc_status::MessageFigures;
 use std::alloc::{AllocError, Global};
 use std::sync::Wait;
 
@@ -40,20 +44,24 @@ fn forget_before<R: Wait + Copy, K: CentreStore>(
     keep: &mut K,
     rows: Rows,
     before: Moment,
-) -> Result<(), RunFault> {
+) -> Result<Option<MessageFigures>, RunFault> {
     let Ok(mut archive) = RunArchive::open(host, run.archive) else {
         drop(rows);
         log.put("warn", "event=not_forgotten reason=archive");
-        return Ok(());
+        return Ok(Some(NO_MESSAGES));
     };
     let done = forget_ended(host.alloc(), rows, keep, &mut archive, before);
-    let count = archive.count;
+    let (count, taken) = (archive.count, archive.taken);
     drop(archive);
     match done {
-        Ok(()) => Ok(say_forgotten(host.alloc(), log, before, count)?),
+        Ok(()) => {
+            say_forgotten(host.alloc(), log, before, count)?;
+            Ok(Some(taken))
+        }
+        // Of what the archive took last, some may not have gone.
         Err(ForgetError::NotArchived) => {
             log.put("warn", "event=not_forgotten reason=archive");
-            Ok(())
+            Ok(None)
         }
         Err(ForgetError::BadRows) => Err(RunFault::BadRows),
         Err(ForgetError::NoMemory) => Err(RunFault::NoMemory),
@@ -61,22 +69,34 @@ fn forget_before<R: Wait + Copy, K: CentreStore>(
     }
 }
 
+// Rows of a store that its last run left in order were not judged as it was opened.
+fn judge_unread(host: &HostRuntime, found: &FoundStore, rows: Rows) -> Result<(), RunFault> {
+    if found.begun.is_of_order() {
+        judge_rows(host.alloc(), rows)
+    } else {
+        drop(rows);
+        Ok(())
+    }
+}
+
 /// Forgets the messages that ended before the days that the words keep, of these rows of the keep. Each goes to the archive first, if
-/// there is one. Where the archive can't be written nothing goes, and the log says so.
+/// there is one. Where the archive can't be written nothing more goes, and the log says so. Gives how many went in each state, where
+/// that is known. Rows on which no centre starts are refused.
 pub fn forget_old<R: Wait + Copy, K: CentreStore>(
     host: &HostRuntime,
     log: &Log<R>,
     run: &ServerRun<'_>,
     keep: &mut K,
     rows: Rows,
+    found: &FoundStore,
     start: Moment,
     newest: Moment,
-) -> Result<(), RunFault> {
+) -> Result<Option<MessageFigures>, RunFault> {
     match before_of(run, start, newest) {
         Some(before) => forget_before(host, log, run, keep, rows, before),
         None => {
-            drop(rows);
-            Ok(())
+            judge_unread(host, found, rows)?;
+            Ok(Some(NO_MESSAGES))
         }
     }
 }

@@ -19,7 +19,6 @@
 //! - `preparing`: how both files are made ready before a run, and left after it
 //! - `readiness`: what whoever started the server is told of it
 //! - `reloading`: the accounts' file, read again as the run goes on
-//! - `run_clock`: the time of a run
 //! - `run_fault`: why a run ended early
 //! - `running`: a run of the server
 //! - `saving`: a copy of a store
@@ -48,7 +47,6 @@ mod ports;
 mod preparing;
 mod readiness;
 mod reloading;
-mod run_clock;
 mod run_fault;
 mod running;
 mod saving;

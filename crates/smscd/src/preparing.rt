@@ -41,6 +41,11 @@ impl Begun {
             Mark::Open(_) => "cut_off",
         }
     }
+
+    /// Whether it ended in order.
+    pub fn is_of_order(&self) -> bool {
+        matches!(self.finding.mark, Mark::Closed(_))
+    }
 }
 
 fn files_fault(fault: FilesFault) -> StoreFault {
@@ -162,7 +167,6 @@ fn bare_setup(alloc: Global, run: &ServerRun<'_>, start: Moment) -> Setup {
     }
 }
 
-// Refuses rows on which no centre starts.
 fn judge_tables(alloc: Global, tables: &RowTables) -> Result<(), RunFault> {
     if tables.is_sound(alloc)? {
         Ok(())
@@ -171,7 +175,8 @@ fn judge_tables(alloc: Global, tables: &RowTables) -> Result<(), RunFault> {
     }
 }
 
-fn judge_rows(alloc: Global, rows: Rows) -> Result<(), RunFault> {
+/// Refuses rows on which no centre starts.
+pub fn judge_rows(alloc: Global, rows: Rows) -> Result<(), RunFault> {
     let Some(tables) = RowTables::of(rows) else {
         return Err(RunFault::BadRows);
     };

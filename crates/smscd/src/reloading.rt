@@ -1,7 +1,8 @@
 //! The accounts' file, read again as the run goes on.
 //!
-//! A run takes over what accounts may do: their rates, and which are suspended. All else of an account it has from its start. So a file
-//! that says something else of an account changes nothing, as one with a fault does.
+//! A run takes over what accounts may do: their rates, and which are suspended. An account that has gone from the file is suspended until it
+//! comes again. All else of an account a run has from its start. So a file that says something else of an account, or has a new one, changes
+//! nothing, as one with a fault does.
 use crate::account_file::{accounts_in, document_of, judge_file, line_at, read_file};
 use crate::run_fault::RunFault;
 use crate::setup::allowance_of;
@@ -58,25 +59,54 @@ fn is_same(before: &TableAccount<'_>, now: &TableAccount<'_>) -> bool {
         && are_same_sources(before.sources, now.sources)
 }
 
-// The number of the first account that is another, from 1; one too many or too few where all that are there are the same.
+// The first account of that name, if there is one.
+fn named<'b, 'a>(accounts: &'b [TableAccount<'a>], name: &str) -> Option<&'b TableAccount<'a>> {
+    accounts.iter().find(|account| account.name == name)
+}
+
+fn count_named(accounts: &[TableAccount<'_>], name: &str) -> usize {
+    accounts
+        .iter()
+        .filter(|account| account.name == name)
+        .count()
+}
+
+// Whether the run began with that account.
+fn is_known(before: &[TableAccount<'_>], now: &TableAccount<'_>) -> bool {
+    match named(before, now.name) {
+        Some(before) => is_same(before, now),
+        None => false,
+    }
+}
+
+// The number of the first account with which the run did not begin, or whose name another one has too, from 1.
 fn first_other(before: &[TableAccount<'_>], now: &[TableAccount<'_>]) -> Option<usize> {
     let mut number = 0usize;
-    for (before, now) in before.iter().zip(now.iter()) {
+    for account in now {
         number = number.saturating_add(1);
-        if !is_same(before, now) {
+        if !is_known(before, account) || count_named(now, account.name) > 1 {
             return Some(number);
         }
     }
-    if before.len() == now.len() {
-        return None;
-    }
-    Some(number.saturating_add(1))
+    None
 }
 
 // ---- what the file allows
 
+// What an account may do that was in the file; no session of it is bound once it is there no more.
+fn allowance_in(before: &TableAccount<'_>, now: Option<&TableAccount<'_>>) -> Allowance {
+    match now {
+        Some(now) => allowance_of(now),
+        None => Allowance {
+            is_suspended: true,
+            rate: before.rate,
+        },
+    }
+}
+
 fn put_allowed(
-    accounts: &[TableAccount<'_>],
+    before: &[TableAccount<'_>],
+    now: &[TableAccount<'_>],
     of_words: usize,
     allowed: &mut Vec<Allowance>,
 ) -> Result<(), AllocError> {
@@ -86,8 +116,8 @@ fn put_allowed(
             rate: None,
         })?;
     }
-    for account in accounts {
-        allowed.push(allowance_of(account))?;
+    for account in before {
+        allowed.push(allowance_in(account, named(now, account.name)))?;
     }
     Ok(())
 }
@@ -135,41 +165,48 @@ impl Reloader {
         self.path.as_str()
     }
 
-    // Refuses accounts of the file that are others than those of that document, with which the run began.
-    fn judge_beside(
+    fn allowed_to(
+        &self,
+        before: &[TableAccount<'_>],
+        now: &[TableAccount<'_>],
+    ) -> Result<Vec<Allowance>, AllocError> {
+        let mut allowed = Vec::new(self.host.alloc());
+        put_allowed(before, now, self.of_words, &mut allowed)?;
+        Ok(allowed)
+    }
+
+    // What the accounts may do by these of the file. Each has to be one of that document, with which the run began.
+    fn allowed_beside(
         &self,
         document: &Table,
         file: &str,
         accounts: &[TableAccount<'_>],
-    ) -> Result<(), RunFault> {
+    ) -> Result<Vec<Allowance>, RunFault> {
         let path = self.path.as_str();
         let before = accounts_in(self.host.alloc(), path, self.begun.as_str(), document)?;
         match first_other(before.as_slice(), accounts) {
             Some(number) => Err(RunFault::OtherAccount(line_at(path, file, number))),
-            None => Ok(()),
+            None => Ok(self.allowed_to(before.as_slice(), accounts)?),
         }
     }
 
-    // Refuses accounts of the file that are others than those with which the run began.
-    fn judge_accounts(&self, file: &str, accounts: &[TableAccount<'_>]) -> Result<(), RunFault> {
+    // What the accounts may do by these of the file, of which nothing else may have changed since the run began.
+    fn allowed_since(
+        &self,
+        file: &str,
+        accounts: &[TableAccount<'_>],
+    ) -> Result<Vec<Allowance>, RunFault> {
         let begun = self.begun.as_str();
         let document = document_of(self.host.alloc(), self.path.as_str(), begun)?;
-        let judged = self.judge_beside(&document, file, accounts);
+        let allowed = self.allowed_beside(&document, file, accounts);
         drop(document);
-        judged
+        allowed
     }
 
-    fn allowed_to(&self, accounts: &[TableAccount<'_>]) -> Result<Vec<Allowance>, AllocError> {
-        let mut allowed = Vec::new(self.host.alloc());
-        put_allowed(accounts, self.of_words, &mut allowed)?;
-        Ok(allowed)
-    }
-
-    // What the accounts may do that the document spells, of which nothing else may have changed.
+    // What the accounts may do by those that the document spells.
     fn allowed_in(&self, file: &str, document: &Table) -> Result<Vec<Allowance>, RunFault> {
         let accounts = accounts_in(self.host.alloc(), self.path.as_str(), file, document)?;
-        self.judge_accounts(file, accounts.as_slice())?;
-        Ok(self.allowed_to(accounts.as_slice())?)
+        self.allowed_since(file, accounts.as_slice())
     }
 
     fn allowed_by(&self, file: &str) -> Result<Vec<Allowance>, RunFault> {

@@ -74,7 +74,7 @@ pub enum RunFault {
     #[error("line {0} is no account")]
     AccountLine(usize),
     /// The account at this line of the accounts' file is another than the run began with.
-    #[error("the account at line {0} is another than the run began with: a run takes over rate and suspended alone")]
+    #[error("the account at line {0} is another than the run began with: a run takes over rate, suspended, and that one has gone")]
     OtherAccount(usize),
     /// The run has no file of accounts.
     #[error("the run has no file of accounts")]
@@ -212,7 +212,7 @@ pub const USAGE: &str =
     orders:\n\
     \u{20}  stop              end in good order; waited for 15 seconds, or SECONDS\n\
     \u{20}  end SEAT          end the connection at that seat, 0 to 31\n\
-    \u{20}  reload            read the accounts' file again: rate and suspended\n\
+    \u{20}  reload            read the accounts' file again: rate, suspended, accounts that have gone\n\
     a password, read from standard input:\n\
     \u{20}  password          prints the salt and the hash of it for a table [[account]]\n\
     \n\

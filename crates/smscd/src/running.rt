@@ -9,12 +9,11 @@ use crate::ports::{listen, ports_of};
 use crate::preparing::leave_after;
 use crate::readiness;
 use crate::reloading::Reloader;
-use crate::run_clock::{Clocks, RunClock};
 use crate::run_fault::RunFault;
 use crate::setup::{RunAccounts, setup_of};
 use crate::status::{self, About, Pages};
 use crate::store_files::{StorePaths, open_mode_at, public_mode_at};
-use crate::summary::{Files, Summary, left_of, summary_of};
+use crate::summary::{Files, Summary, left_in, left_of, summary_of};
 use crate::watchers::{Source, Watchers, log_alone, log_and_page};
 use crate::watching::{Guard, Watch};
 use smpp_session::{Account as Login, Accounts};
@@ -24,8 +23,11 @@ use sms_keeper::Gate;
 use sms_store_files::{LogFinding, LogJudgement};
 use smsc_cli::words::{AccountWords, ServerRun};
 use smsc_endpoint::LinkAccess;
-use smsc_server::{Allowance, Allowances, Given, ObservedKeep, Orders, Ports, ServeFault, serve};
+use smsc_server::{
+    Allowance, Allowances, Clocks, Given, ObservedKeep, Orders, Ports, RunClock, ServeFault, serve,
+};
 use smsc_service::{CentreStore, LinkBoard, Setup};
+use smsc_status::MessageFigures;
 use std::alloc::{AllocError, Global};
 use std::io;
 use std::net::TcpListener;
@@ -396,17 +398,17 @@ fn say_store<R: Wait + Copy>(
     Ok(())
 }
 
-// What the rows say once some were forgotten, if the words say that some may be.
+// What the rows say once so many were forgotten. Where that is not known they are read again.
 fn look_behind<K: CentreStore>(
-    run: &ServerRun<'_>,
     keep: &mut K,
     summary: Summary,
+    gone: Option<MessageFigures>,
 ) -> Result<Summary, RunFault> {
-    if run.keep.is_none() {
-        return Ok(summary);
+    if let Some(gone) = gone {
+        return Ok(left_of(summary, &gone));
     }
     let rows = keep.gather()?;
-    let left = left_of(summary, &rows);
+    let left = left_in(summary, &rows);
     drop(rows);
     Ok(left)
 }
@@ -425,14 +427,17 @@ fn look_at<R: Wait + Copy, K: CentreStore>(
     watchers.begin(&rows);
     let said = say_store(host.alloc(), &*watchers.log, found, &summary);
     let done = match said {
-        Ok(()) => forget_old(host, &*watchers.log, run, keep, rows, start, summary.newest),
+        Ok(()) => {
+            let log = &*watchers.log;
+            forget_old(host, log, run, keep, rows, found, start, summary.newest)
+        }
         Err(_) => {
             drop(rows);
             Err(RunFault::NoMemory)
         }
     };
     match done {
-        Ok(()) => look_behind(run, keep, summary),
+        Ok(gone) => look_behind(keep, summary, gone),
         Err(fault) => Err(fault),
     }
 }

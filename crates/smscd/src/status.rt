@@ -2,20 +2,23 @@
 //!
 //! It reads numbers that the run counts and takes the events that the run leaves for it. It never opens the store: it
 //! asks the system how long its files are.
-use crate::lines::{cause_word, line_of, refusal_word};
+use crate::lines::{cause_word, line_of, number_text, refusal_word};
 use crate::moments::{now, text_of};
 use crate::ports::listen;
 use crate::store_files::{StorePaths, octets_at};
 use crate::watchers::{Source, is_of_messages};
 use sms_base::lending::put;
-use sms_base::{Moment, Octets};
+use sms_base::{MessageId, Moment, Octets};
 use smsc_cli::words::VERSION;
-use smsc_server::status::{AccountCounts, Client, Heard, Refusals, SeatTable};
+use smsc_server::status::{
+    AccountCounts, Client, Heard, Pending, Refusals, SeatTable, WaitingHandset,
+};
 use smsc_server::{Event, milliseconds};
 use smsc_service::{CauseCount, LinkBoard};
 use smsc_status::{
-    AccountLine, LinkLine, MessageFigures, RefusedBinds, RefusedDeliveries, RefusedSubmits, Sample,
-    Series, SessionLine, StatusView, StoreFigures, Wanted, response_to,
+    AccountLine, LastCause, LinkLine, MessageFigures, PendingMessage, RefusedBinds,
+    RefusedDeliveries, RefusedSubmits, Sample, Series, SessionLine, StatusView, StoreFigures,
+    StuckLine, Wanted, response_to,
 };
 use std::alloc::{AllocError, Global};
 use std::collections::VecDeque;
@@ -32,6 +35,9 @@ const MOST_CLIENTS: usize = 4;
 const MOST_EVENTS: usize = 100;
 
 const MOST_OF_MESSAGES: usize = 30;
+
+// The page has so many handsets for which something waits.
+const MOST_STUCK: usize = 20;
 
 // So many events are taken in one turn.
 const MOST_TAKEN: u32 = 4096;
@@ -138,11 +144,21 @@ fn timed(alloc: Global, moment: Moment, text: &str) -> Result<String, AllocError
     Ok(format!(in alloc; "{time} {text}")?)
 }
 
+// The oldest message that is pending.
+#[derive(Drop)]
+struct Oldest {
+    id: MessageId,
+    handset: String,
+    submitted: Moment,
+}
+
 // What a page lists.
 #[derive(Drop)]
 struct Lists {
     sessions: Vec<SessionLine>,
     links: Vec<LinkLine>,
+    stuck: Vec<StuckLine>,
+    oldest: Option<Oldest>,
     accounts: Vec<AccountLine>,
     refused_submits: Vec<RefusedSubmits>,
     refused_binds: Vec<RefusedBinds>,
@@ -156,6 +172,8 @@ impl Lists {
         Lists {
             sessions: Vec::new(alloc),
             links: Vec::new(alloc),
+            stuck: Vec::new(alloc),
+            oldest: None,
             accounts: Vec::new(alloc),
             refused_submits: Vec::new(alloc),
             refused_binds: Vec::new(alloc),
@@ -163,6 +181,86 @@ impl Lists {
             samples: Vec::new(alloc),
             lines: Vec::new(alloc),
         }
+    }
+}
+
+// ---- what is stuck
+
+fn link_of<'a>(links: &'a [LinkLine], handset: &str) -> Option<&'a LinkLine> {
+    links.iter().find(|link| link.handset.as_str() == handset)
+}
+
+fn cause_of(board: &LinkBoard, link: Option<&LinkLine>) -> Option<LastCause> {
+    let cause = board.last_cause(link?.seat)?;
+    Some(LastCause {
+        cause,
+        reason: cause_word(cause),
+    })
+}
+
+// When something is offered next over the link, if there is one; none where the handset has no memory.
+fn due_of(due: Moment, link: Option<&LinkLine>) -> Option<Moment> {
+    match link {
+        Some(link) if !link.is_full => Some(due),
+        _ => None,
+    }
+}
+
+fn stuck_line(
+    alloc: Global,
+    board: &LinkBoard,
+    links: &[LinkLine],
+    waiting: &WaitingHandset,
+) -> Result<StuckLine, AllocError> {
+    let handset = number_text(alloc, &waiting.handset)?;
+    let link = link_of(links, handset.as_str());
+    let is_linked = link.is_some();
+    let cause = cause_of(board, link);
+    let due = due_of(waiting.due, link);
+    Ok(StuckLine {
+        handset,
+        waiting: waiting.waiting,
+        since: waiting.since,
+        failed: u64::from(waiting.failed),
+        is_linked,
+        cause,
+        due,
+    })
+}
+
+fn stuck_lines(
+    alloc: Global,
+    board: &LinkBoard,
+    links: &[LinkLine],
+    handsets: &[WaitingHandset],
+) -> Result<Vec<StuckLine>, AllocError> {
+    let mut lines = Vec::new(alloc);
+    for waiting in handsets {
+        lines.push(stuck_line(alloc, board, links, waiting)?)?;
+    }
+    Ok(lines)
+}
+
+fn oldest_of(alloc: Global, pending: Option<Pending>) -> Result<Option<Oldest>, AllocError> {
+    let Some(pending) = pending else {
+        return Ok(None);
+    };
+    let handset = number_text(alloc, &pending.handset)?;
+    Ok(Some(Oldest {
+        id: pending.id,
+        handset,
+        submitted: pending.submitted,
+    }))
+}
+
+fn shown_oldest(oldest: &Option<Oldest>) -> Option<PendingMessage<'_>> {
+    match oldest {
+        Some(oldest) => Some(PendingMessage {
+            id: oldest.id,
+            handset: oldest.handset.as_str(),
+            submitted: oldest.submitted,
+        }),
+        None => None,
     }
 }
 
@@ -392,18 +490,36 @@ impl<R: Wait + Clock> Pages<R> {
 // ---- clients
 
 impl<R: Wait + Clock> Pages<R> {
-    fn put_lists(&self, lists: &mut Lists) -> Result<(), AllocError> {
+    fn put_seats(&self, lists: &mut Lists) -> Result<(), AllocError> {
         let alloc = self.host.alloc();
         let names = self.about.names.as_slice();
-        let counters = &*self.source.counters;
-        put(
-            &mut lists.sessions,
-            self.table.sessions(alloc, names, counters)?,
-        );
+        let sessions = self.table.sessions(alloc, names, &*self.source.counters)?;
+        put(&mut lists.sessions, sessions);
         let mut links = self.table.links(alloc, &self.about.links)?;
         // Those for whom most waits come first.
         links.sort_by_key(|link| u64::MAX - link.waiting)?;
         put(&mut lists.links, links);
+        Ok(())
+    }
+
+    fn put_pending(&self, lists: &mut Lists) -> Result<(), AllocError> {
+        let alloc = self.host.alloc();
+        let pending = &*self.source.pending;
+        let handsets = pending.most(&self.rt, alloc, MOST_STUCK)?;
+        let board = &self.about.links;
+        let stuck = stuck_lines(alloc, board, lists.links.as_slice(), handsets.as_slice())?;
+        put(&mut lists.stuck, stuck);
+        let oldest = oldest_of(alloc, pending.oldest(&self.rt))?;
+        put(&mut lists.oldest, oldest);
+        Ok(())
+    }
+
+    fn put_lists(&self, lists: &mut Lists) -> Result<(), AllocError> {
+        let alloc = self.host.alloc();
+        let names = self.about.names.as_slice();
+        let counters = &*self.source.counters;
+        self.put_seats(lists)?;
+        self.put_pending(lists)?;
         let accounts = counters.accounts(alloc)?;
         put_accounts(alloc, names, accounts.as_slice(), &mut lists.accounts)?;
         let submits = counters.submits_refused(alloc)?;
@@ -428,6 +544,8 @@ impl<R: Wait + Clock> Pages<R> {
             counts,
             sessions: lists.sessions.as_slice(),
             links: lists.links.as_slice(),
+            stuck: lists.stuck.as_slice(),
+            oldest: shown_oldest(&lists.oldest),
             accounts: lists.accounts.as_slice(),
             refused_submits: lists.refused_submits.as_slice(),
             refused_binds: lists.refused_binds.as_slice(),

@@ -50,8 +50,27 @@ pub fn summary_of(rows: &Rows, start: Moment) -> Summary {
     }
 }
 
-/// The same, but for how many messages are in each state: these rows are left of them.
-pub fn left_of(summary: Summary, rows: &Rows) -> Summary {
+// How many messages are left in each state once these are gone.
+fn without(all: &MessageFigures, gone: &MessageFigures) -> MessageFigures {
+    MessageFigures {
+        enroute: all.enroute.saturating_sub(gone.enroute),
+        delivered: all.delivered.saturating_sub(gone.delivered),
+        expired: all.expired.saturating_sub(gone.expired),
+        deleted: all.deleted.saturating_sub(gone.deleted),
+        undeliverable: all.undeliverable.saturating_sub(gone.undeliverable),
+    }
+}
+
+/// The same, but for how many messages are in each state: these are gone.
+pub fn left_of(summary: Summary, gone: &MessageFigures) -> Summary {
+    Summary {
+        messages: without(&summary.messages, gone),
+        ..summary
+    }
+}
+
+/// The same, but for how many messages are in each state: these rows are left.
+pub fn left_in(summary: Summary, rows: &Rows) -> Summary {
     Summary {
         messages: message_figures(rows.messages.as_slice()),
         ..summary

@@ -7,7 +7,7 @@ use sms_centre_spec::{Changes, Rows};
 use sms_rows::keep::KeepError;
 use smsc_cli::words::LogDetail;
 use smsc_loop::{Activity, Note};
-use smsc_server::status::Counters;
+use smsc_server::status::{Counters, PendingTable};
 use smsc_server::{Event, Observer};
 use std::alloc::{AllocError, Global};
 use std::sync::atomic::{AtomicU64, Ordering};
@@ -22,6 +22,7 @@ const MOST_EVENTS: usize = 4096;
 struct Feed<R> {
     rt: R,
     counters: Arc<Counters>,
+    pending: Arc<PendingTable>,
     // What changes who sits where.
     seats: Sender<Event>,
     // That a message was accepted, or has ended.
@@ -35,6 +36,7 @@ struct Feed<R> {
 #[derive(Drop)]
 pub struct Source {
     pub counters: Arc<Counters>,
+    pub pending: Arc<PendingTable>,
     pub seats: Receiver<Event>,
     pub messages: Receiver<Event>,
     pub others: Receiver<Event>,
@@ -118,11 +120,31 @@ impl<R: Wait + Clock> Feed<R> {
     }
 }
 
+impl<R: Wait> Feed<R> {
+    // What is pending is counted where there is no memory for it.
+    fn note(&self, noted: Result<(), AllocError>) {
+        if noted.is_err() {
+            self.lost.fetch_add(1, Ordering::SeqCst);
+        }
+    }
+
+    fn begin(&self, rows: &Rows) {
+        self.note(self.pending.begin(&self.rt, rows));
+    }
+
+    fn committed(&self, changes: &Changes) {
+        self.note(self.pending.take(&self.rt, changes));
+    }
+}
+
 impl<R: Wait> Watchers<R> {
     /// The run begins with these rows.
     pub fn begin(&self, rows: &Rows) {
         if let Some(access) = &self.access {
             access.begin(&self.rt, rows);
+        }
+        if let Some(feed) = &self.feed {
+            feed.begin(rows);
         }
     }
 }
@@ -172,6 +194,9 @@ impl<R: Wait + Copy + Clock> Observer for Watchers<R> {
             let took = self.took.load(Ordering::SeqCst);
             access.take(&self.rt, self.alloc, &*self.log, changes, took);
         }
+        if let Some(feed) = &self.feed {
+            feed.committed(changes);
+        }
     }
 }
 
@@ -184,9 +209,11 @@ fn source_of(
 ) -> Result<Source, AllocError> {
     let counters = Counters::new(alloc)?;
     let counters = Arc::new(alloc, counters)?;
+    let pending = Arc::new(alloc, PendingTable::new(alloc))?;
     let lost = Arc::new(alloc, AtomicU64::new(0))?;
     Ok(Source {
         counters,
+        pending,
         seats,
         messages,
         others,
@@ -203,10 +230,12 @@ fn feed_of<R: Copy>(
     others: Sender<Event>,
 ) -> Result<Feed<R>, AllocError> {
     let counters = Arc::try_clone(&source.counters)?;
+    let pending = Arc::try_clone(&source.pending)?;
     let lost = Arc::try_clone(&source.lost)?;
     Ok(Feed {
         rt,
         counters,
+        pending,
         seats,
         messages,
         others,

@@ -5,6 +5,7 @@
 //! fails, a session that was bound is unbound once, and a link that was up is down once. The other session has all its
 //! answers. A full queue loses no job, and a connection at a used seat gets nothing of the one before. A ring of a seat's bell
 //! is noticed, whether its thread waits by then or not.
+//! The clock of a run goes on from the time of day, or from the newest moment of the rows.
 
 #[cfg(test)]
 mod answering;
@@ -14,6 +15,8 @@ mod failing;
 mod leaving;
 #[cfg(test)]
 mod ringing;
+#[cfg(test)]
+mod run_clock;
 #[cfg(test)]
 mod sharing;
 #[cfg(test)]

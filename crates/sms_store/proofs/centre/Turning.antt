@@ -14,6 +14,7 @@ use Rattle.sms_store_tables.specs.centre.ReportList.{report_list}
 use Rattle.sms_store_tables.specs.centre.PriorityList.{priority_list}
 use Rattle.sms_store_migration.specs.Versions.{centre_meta}
 use Rattle.sms_store.specs.keeping.Stores.{Turns}
+use Rattle.sms_store.proofs.keeping.Lists.{other_list}
 use Rattle.sms_store.specs.centre.CentreRows.{centre_stores}
 use Rattle.sms_store.specs.centre.Types.{MessageRow, PartRow, ReferenceRow, HandsetRow, ReportRow, PriorityRow}
 

@@ -7,6 +7,7 @@ use Rattle.sms_store_sql.specs.listing.Inside.{Alters}
 use Rattle.sms_store_sql.specs.listing.Transaction.{Leads}
 use Rattle.sms_store_tables.specs.handset.HandsetSchema.{handset_schema}
 use Rattle.sms_store.specs.keeping.Stores.{Turns}
+use Rattle.sms_store.proofs.keeping.Lists.{other_list}
 use Rattle.sms_store.specs.handset.HandsetRows.{handset_stores, counters_row, handset_meta}
 use Rattle.sms_store_tables.specs.handset.MetaList.{meta_list}
 use Rattle.sms_store_tables.specs.handset.EntryList.{entry_list}

@@ -2,19 +2,18 @@
 ghost use Rattle.std.specs.Prelude.{IfErr, IfOk, IsTrue};
 ghost use Rattle.sqlite.specs.Effect.{Database, IsDatabase};
 ghost use Rattle.sqlite.specs.Files.{FailsToClose, IsClosed, over_files};
-ghost use Rattle.sqlite.specs.State.{State};
 ghost use Rattle.sqlite_trees.specs.View.{IsClean};
 ghost use Rattle.sqlite_wal.specs.Reads.{AreClean};
 ghost use Rattle.sqlite_wal.specs.Recovery.{Image};
 ghost use Rattle.sms_store_sql.specs.listing.Transaction.{IsOpenStore};
 ghost use Rattle.sms_store.specs.keeping.Closing.{HoldsStore, IsWhole};
-ghost use Rattle.sms_store.specs.keeping.InKeep.{HoldsRows, connection_in};
+ghost use Rattle.sms_store.specs.keeping.InKeep.{HoldsRows, connection_in, state_in};
 ghost use Rattle.sms_store.specs.keeping.Opened.{IsIn, Opened};
 ghost use Rattle.sms_store.specs.keeping.Stores.{IsStoreWith};
 
 use crate::keeping::keep::StoreKeep;
 use crate::keeping::sides::Kept;
-use sqlite::{Error, FileStore, Files};
+use sqlite::{Alter, Error, FileStore, Files};
 use sqlite_disk::Disk;
 
 impl<P: Kept, D: Disk + Drop> StoreKeep<P, FileStore<D>> {
@@ -38,7 +37,8 @@ impl<P: Kept, D: Disk + Drop> StoreKeep<P, FileStore<D>> {
 }
 
 /// A keep that is opened over files which hold the store of some rows has these rows, with the setup that is handed in.
-pub fn what_was_left_is_found<P: Kept>()
-    ensures { (image : Image) (rows : P.Rows) (setup : P) (old : Database) (s : State) → HoldsStore P.stores image rows → IsDatabase old → IsIn image old
-        → Opened P.stores setup old s → IsOpenStore (IsStoreWith P.stores setup) s (P.stores.with_setup setup rows) }
+pub fn what_was_left_is_found<P: Kept, S: Alter>(keep: &StoreKeep<P, S>)
+    ensures { (image : Image) (rows : P.Rows) (setup : P) (old : Database) → HoldsStore P.stores image rows → IsDatabase old → IsIn image old
+        → Opened P.stores setup old (state_in S.Store keep.now)
+        → IsOpenStore (IsStoreWith P.stores setup) (state_in S.Store keep.now) (P.stores.with_setup setup rows) }
 {}

@@ -4,7 +4,7 @@ use Rattle.std.proofs.lemmas.Bool.{ltb-true}
 use Rattle.std.proofs.lemmas.Bool.Decides.{eqb_tells}
 use Rattle.std.proofs.lemmas.List.{length-set, length-replicate}
 use Rattle.smpp_session.specs.Logins.{is_full}
-use Rattle.smsc_server.specs.serving.SessionLimits.{AreWithin, count_of, full_where, has_room, is_of, limit_of, may_have_more}
+use Rattle.smsc_server.specs.serving.SessionLimits.{AreWithin, count_of, full_where, has_room, is_of, limit_of}
 
 abbrev one_if : Bool → ℕ
 one_if true = 1
@@ -103,45 +103,49 @@ none_is zero account = refl
 none_is (suc n) zero = refl
 none_is (suc n) (suc account) = none_is n account
 
--- of so many accounts it is told which are full, and of the others none
-pub record Tells (suspended : List Bool) (limits : List ℕ) (seats : List (Option ℕ)) (count : ℕ) (full : List Bool) : Type 0 where
+pub not_not : (b : Bool) → not (not b) ≡ b
+not_not true = refl
+not_not false = refl
+
+-- of so many accounts it is told which are full, those that may have none more, and of the others none
+pub record Tells (may : ℕ → Bool) (count : ℕ) (full : List Bool) : Type 0 where
   pub size : length full ≡ 32
-  pub told : (account : ℕ) → account < count → is_full account full ≡ not (may_have_more account suspended limits seats)
+  pub told : (account : ℕ) → account < count → is_full account full ≡ not (may account)
   pub rest : (account : ℕ) → count ≤ account → is_full account full ≡ false
 
-pub tells_none : (suspended : List Bool) (limits : List ℕ) (seats : List (Option ℕ)) → Tells suspended limits seats 0 (replicate 32 false)
-tells_none suspended limits seats = record { size = length-replicate 32 false; told = λ account h. absurd (omega (arith, h)); rest = λ account h. none_is 32 account }
+pub tells_none : (may : ℕ → Bool) → Tells may 0 (replicate 32 false)
+tells_none may = record { size = length-replicate 32 false; told = λ account h. absurd (omega (arith, h)); rest = λ account h. none_is 32 account }
 
-module _ (suspended : List Bool) (limits : List ℕ) (seats : List (Option ℕ)) (count : ℕ) (full : List Bool) (t : Tells suspended limits seats count full) where
-  tells_full : count < 32 → may_have_more count suspended limits seats ≡ false → Tells suspended limits seats (count + 1) (set full count true)
+module _ (may : ℕ → Bool) (count : ℕ) (full : List Bool) (t : Tells may count full) where
+  tells_full : count < 32 → may count ≡ false → Tells may (count + 1) (set full count true)
   tells_full fits room = record {
     size = length-set full count true ∙ t.size;
     told = λ account h. by_test account h (eqb account count) refl;
     rest = λ account h. put_other full count account (λ e. omega (arith, h, e)) ∙ t.rest account (omega (arith, h));
   } where
-    by_test : (account : ℕ) → account < count + 1 → (b : Bool) → eqb account count ≡ b → is_full account (set full count true) ≡ not (may_have_more account suspended limits seats)
+    by_test : (account : ℕ) → account < count + 1 → (b : Bool) → eqb account count ≡ b → is_full account (set full count true) ≡ not (may account)
     by_test account h true e =
         let same : count ≡ account = sym (equal account count e) in
-        subst (λ (a : ℕ). is_full a (set full count true) ≡ not (may_have_more a suspended limits seats)) same
+        subst (λ (a : ℕ). is_full a (set full count true) ≡ not (may a)) same
         (put_full full count (let size = t.size in omega (arith, fits, size)) ∙ ap not (sym room))
     by_test account h false e =
         let apart : account ≢ count = differ account count e in
         put_other full count account (λ is. apart (sym is)) ∙ t.told account (omega (arith, h, apart))
 
-  tells_room : may_have_more count suspended limits seats ≡ true → Tells suspended limits seats (count + 1) full
+  tells_room : may count ≡ true → Tells may (count + 1) full
   tells_room room = record {
     size = t.size;
     told = λ account h. by_test account h (eqb account count) refl;
     rest = λ account h. t.rest account (omega (arith, h));
   } where
-    by_test : (account : ℕ) → account < count + 1 → (b : Bool) → eqb account count ≡ b → is_full account full ≡ not (may_have_more account suspended limits seats)
+    by_test : (account : ℕ) → account < count + 1 → (b : Bool) → eqb account count ≡ b → is_full account full ≡ not (may account)
     by_test account h true e =
         let same : count ≡ account = sym (equal account count e) in
-        subst (λ (a : ℕ). is_full a full ≡ not (may_have_more a suspended limits seats)) same (t.rest count (omega arith) ∙ ap not (sym room))
+        subst (λ (a : ℕ). is_full a full ≡ not (may a)) same (t.rest count (omega arith) ∙ ap not (sym room))
     by_test account h false e = let apart : account ≢ count = differ account count e in t.told account (omega (arith, h, apart))
 
-  pub tells_next : count < 32 → Tells suspended limits seats (count + 1) (full_where (may_have_more count suspended limits seats) count full)
-  tells_next fits = by_test (may_have_more count suspended limits seats) refl where
-    by_test : (b : Bool) → may_have_more count suspended limits seats ≡ b → Tells suspended limits seats (count + 1) (full_where b count full)
+  pub tells_next : count < 32 → Tells may (count + 1) (full_where (may count) count full)
+  tells_next fits = by_test (may count) refl where
+    by_test : (b : Bool) → may count ≡ b → Tells may (count + 1) (full_where b count full)
     by_test true e = tells_room e
     by_test false e = tells_full fits e

@@ -6,6 +6,7 @@ use Rattle.sms_base.specs.declared.address.Address.{Address}
 use Rattle.sms_link.specs.framing.Framing.{framed}
 use Rattle.sms_handset_draft.specs.Draft.{Core}
 use Rattle.sms_handset.specs.declared.event.HandsetEvent.{HandsetEvent}
+use Rattle.smsc_server.specs.link_run.Answering.{answers_to}
 use Rattle.smsc_server.specs.link_run.Run.{Meets}
 use Rattle.smsc_server.specs.link_run.Turns.{AreTimed, Attended}
 use Rattle.smsc_server.specs.declared.link_run.run.RunEnd.{RunEnd}
@@ -20,10 +21,10 @@ with_secret (Some secret) number = number ++ 0x20 ∷ secret
 abbrev pub greeting : Address → Option (List ℕ) → List ℕ
 greeting number secret = with_secret secret (encode_utf8_all number.digits)
 
--- The number as the first frame, with its secret if it has one. Then what the owner asked is met, each behind a tick, and then each turn of
--- the link: a tick, and the frames that were whole when it was read.
+-- The number as the first frame, with its secret if it has one. Then what the owner asked is met, each behind a tick, and answered, and then each
+-- turn of the link: a tick, and the frames that were whole when it was read.
 pub record IsRunDone (reads : ℕ → Type 0) (asked : List HandsetEvent) (number : Address) (secret : Option (List ℕ)) (before after : Core)
-    (had has held holds : Option (List ℕ)) : Type 0 where
+    (had has held holds told tells : Option (List ℕ)) : Type 0 where
   pub greeted : Option (List ℕ)
   pub number_so : Appends held greeted (framed (greeting number secret))
   pub timed : List HandsetEvent
@@ -31,10 +32,12 @@ pub record IsRunDone (reads : ℕ → Type 0) (asked : List HandsetEvent) (numbe
   pub between : Core
   pub sent : Option (List ℕ)
   pub asked_met : Meets timed before between greeted sent
+  pub answered_so : Appends told tells (answers_to timed before)
   pub rest : List ℕ
   pub attended : Attended reads had has rest between after sent holds
 
 abbrev pub IsRun : (ℕ → Type 0) → List HandsetEvent → Address → Option (List ℕ) → Core → Core → Option (List ℕ) → Option (List ℕ) → Option (List ℕ)
-    → Option (List ℕ) → RunEnd → Type 0
-IsRun reads asked number secret before after had has held holds Done = IsRunDone reads asked number secret before after had has held holds
-IsRun reads asked number secret before after had has held holds Broken = Unit {0}
+    → Option (List ℕ) → Option (List ℕ) → Option (List ℕ) → RunEnd → Type 0
+IsRun reads asked number secret before after had has held holds told tells Done =
+    IsRunDone reads asked number secret before after had has held holds told tells
+IsRun reads asked number secret before after had has held holds told tells Broken = Unit {0}

@@ -21,7 +21,7 @@ use Rattle.smsc_arrivals.specs.declared.arrival.Arrival.{Arrival}
 use Rattle.smsc_arrivals.specs.declared.arrival.Side.{Side}
 use Rattle.smsc_arrivals.specs.declared.arrival.Side.TheVariants.{Application, Handset}
 use Rattle.smsc_server.specs.declared.serving.connection.Socket.{Socket}
-use Rattle.smsc_server.specs.serving.PieceEnds.{left_at}
+use Rattle.smsc_arrivals.specs.PieceEnds.{left_at}
 
 -- who may bind, and who may have the link of a number
 pub record Admitted : Type 0 where

@@ -1,5 +1,8 @@
 -- How many requests of an account are put in a second.
-use Rattle.std.specs.Prelude.{ℕ, suc, ◌+◌, ◌/◌, ◌≤◌, ◌==◌, ◌&&◌, nat_lt, List, [], ◌∷◌, Bool, true, false, Option, Some, None, slice_set, ⊤, if◌then◌else◌}
+use Rattle.std.specs.Prelude.{ℕ, suc, ◌+◌, ◌/◌, ◌≤◌, ◌==◌, ◌&&◌, nat_lt, List, [], ◌∷◌, Bool, true, false, Option, Some, None, slice_get, slice_set, ⊤, if◌then◌else◌}
+use Rattle.sms_centre_spec.specs.declared.jobs.job.Job.{Job}
+use Rattle.sms_centre_spec.specs.declared.jobs.job.Job.TheVariants.{Bound, Unbound, Submit, Query, Cancel, DeliverAnswered, LinkUp, LinkDown, Frame}
+use Rattle.smsc_server.specs.declared.serving.allowances.Allowance.{Allowance}
 use Rattle.smsc_server.specs.declared.serving.rates.Rate.{Rate}
 
 -- the second of a moment, which is in milliseconds
@@ -46,6 +49,33 @@ abbrev pub limited : Option ℕ → Option Rate → Option Rate
 limited None rate = None
 limited (Some most) None = Some (new_rate most)
 limited (Some most) (Some rate) = Some (record rate { most = most })
+
+-- what an account is allowed that has put nothing yet
+abbrev pub first_rate : Allowance → Option Rate
+first_rate allowance = limited allowance.rate None
+
+-- the account at that place is allowed that from now on
+abbrev pub limited_at : Option Allowance → ℕ → List (Option Rate) → List (Option Rate)
+limited_at None place rates = rates
+limited_at (Some allowance) place rates = slice_set rates place (limited allowance.rate (rate_of (slice_get rates place)))
+
+-- From now on each account is allowed what stands at its place; one of which nothing is said keeps what it has.
+abbrev pub limited_all : List Allowance → List (Option Rate) → List (Option Rate)
+limited_all allowed [] = []
+limited_all [] (rate ∷ rates) = rate ∷ rates
+limited_all (allowance ∷ allowed) (rate ∷ rates) = limited allowance.rate rate ∷ limited_all allowed rates
+
+-- the account whose request it is; what is no request is of none
+abbrev pub account_asking : Job → Option ℕ
+account_asking (Bound account receives) = None
+account_asking Unbound = None
+account_asking (Submit account pdu) = Some account
+account_asking (Query account pdu) = Some account
+account_asking (Cancel account pdu) = Some account
+account_asking (DeliverAnswered id is_accepted) = None
+account_asking (LinkUp handset) = None
+account_asking LinkDown = None
+account_asking (Frame octets) = None
 
 -- ---- over all requests of an account
 

@@ -1,6 +1,7 @@
 -- How many sessions of each account are bound at the seats of a run, and how many may be.
 use Rattle.std.specs.Prelude.{ℕ, ◌≤◌, ◌==◌, ◌&&◌, not, nat_lt, suc, List, [], ◌∷◌, Option, Some, None, Bool, true, false, slice_get, slice_set, if◌then◌else◌}
 use Rattle.smpp_session.specs.Logins.{is_full}
+use Rattle.smsc_server.specs.declared.serving.allowances.Allowance.{Allowance}
 
 -- by the account that is bound at each seat, if there is one
 abbrev pub is_of : ℕ → Option ℕ → Bool
@@ -39,6 +40,14 @@ bound_at seat (Some account) limits seats = bound_where (has_room account limits
 abbrev pub may_be_bound : Option ℕ → List ℕ → List (Option ℕ) → Bool
 may_be_bound None limits seats = true
 may_be_bound (Some account) limits seats = has_room account limits seats
+
+-- whether an account may have no session, by what the accounts at their places may do
+abbrev pub is_barred : Option Allowance → Bool
+is_barred None = false
+is_barred (Some allowance) = allowance.is_suspended
+
+abbrev pub suspends : ℕ → List Allowance → Bool
+suspends account allowed = is_barred (slice_get allowed account)
 
 -- a suspended account may have none more
 abbrev pub may_have_more : ℕ → List Bool → List ℕ → List (Option ℕ) → Bool

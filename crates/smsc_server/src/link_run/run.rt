@@ -1,8 +1,9 @@
 //! The run.
 ghost use Rattle.std.specs.Prelude.{◌≡◌, ◌≤◌, ◌∷◌, ◌++◌, [], ℕ, List, length, map, option_map, false, IfOk, OnOk};
-ghost use Rattle.std.specs.Io.KnownBytes.{Consumes};
+ghost use Rattle.std.specs.Io.KnownBytes.{Appends, Consumes};
 ghost use Rattle.sms_link.specs.framing.Framing.{joined};
 ghost use Rattle.sms_handset.specs.machine.Stepping.{MakesTheChanges};
+ghost use Rattle.smsc_server.specs.link_run.Answering.{answers_to};
 ghost use Rattle.smsc_server.specs.link_run.Asking.{event_of};
 ghost use Rattle.sms_handset.specs.declared.event.HandsetEvent.TheVariants.{Tick as TickOf};
 ghost use Rattle.sms_handset.specs.declared.event.HandsetEvent.{HandsetEvent as EventOf};
@@ -107,7 +108,8 @@ fn act_all<K: Keep<Rows = Rows, Changes = Changes> + Drop, W: Write, A: Write, C
 ) -> Result<(), LinkStop>
     requires { MakesTheChanges K.after }
     ensures { OnOk result ((timed : List EventOf) × AreTimed (C.reads clock.now) (map event_of acts.now) timed
-        × Meets timed (core_in machine.old) (core_in machine.new) (W.contents link.old) (W.contents link.new)) }
+        × Meets timed (core_in machine.old) (core_in machine.new) (W.contents link.old) (W.contents link.new)
+        × Appends (A.contents answers.old) (A.contents answers.new) (answers_to timed (core_in machine.old))) }
 {
     for asked in acts {
         tick(alloc, machine, clock.now(), link)?;
@@ -149,9 +151,10 @@ pub fn run_handset<
 ) -> Result<RunEnd, RunError>
     requires { MakesTheChanges K.after }
     // What is on the link behind the first frame is what the definition puts there for what the owner asked, and then for the
-    // frames that were read. Before each act, and at each read, is one tick. The handset is the one that all these lead to.
+    // frames that were read. Before each act, and at each read, is one tick. The handset is the one that all these lead to. The answers are
+    // those of the acts, by how the handset is then.
     ensures { IfOk result (IsRun (C.reads clock.now) (map event_of acts.now) number.now (option_map (λ s. s.now) secret.entry) (core_in machine.old) (core_in machine.new) (R.remaining link_in.old)
-        (R.remaining link_in.new) (W.contents link_out.old) (W.contents link_out.new)) }
+        (R.remaining link_in.new) (W.contents link_out.old) (W.contents link_out.new) (A.contents answers.old) (A.contents answers.new)) }
 {
     match run(
         alloc, machine, number, secret, acts, link_in, link_out, answers, clock, frames,
@@ -176,7 +179,7 @@ fn run<K: Keep<Rows = Rows, Changes = Changes> + Drop, R: Read, W: Write, A: Wri
 ) -> Result<(), LinkStop>
     requires { MakesTheChanges K.after }
     ensures { OnOk result (IsRunDone (C.reads clock.now) (map event_of acts.now) number.now (option_map (λ s. s.now) secret.entry) (core_in machine.old) (core_in machine.new) (R.remaining link_in.old)
-        (R.remaining link_in.new) (W.contents link_out.old) (W.contents link_out.new)) }
+        (R.remaining link_in.new) (W.contents link_out.old) (W.contents link_out.new) (A.contents answers.old) (A.contents answers.new)) }
 {
     greet(alloc, link_out, number.digits.as_slice(), secret)?;
     act_all(alloc, machine, acts, link_out, answers, clock)?;

@@ -1,5 +1,9 @@
 //! What the accounts of a run may do for now.
-use crate::serving::occupancy::Bound;
+ghost use Rattle.std.specs.Prelude.{◌≡◌, ◌<◌, ℕ, not};
+ghost use Rattle.smpp_session.specs.Logins.{is_full};
+ghost use Rattle.smsc_server.specs.serving.SessionLimits.{full_where, suspends};
+
+use crate::serving::occupancy::{Bound, MOST_ACCOUNTS};
 use crate::serving::orders::{Orders, SEATS};
 use crate::serving::rates::Rates;
 use crossbeam_channel::{Receiver, Sender, bounded};
@@ -62,15 +66,35 @@ pub struct Allowances {
     turnstile: Turnstile,
 }
 
+// Whether the account at that place is suspended.
+fn is_suspended(allowed: &[Allowance], account: u8) -> bool
+    ensures { result ≡ suspends account allowed.now }
+{
+    match allowed.get(usize::from(account)) {
+        Some(allowance) => allowance.is_suspended,
+        None => false,
+    }
+}
+
+// Those accounts, and this one too where it is suspended.
+fn with_account(full: FullAccounts, account: u8, is_suspended: bool) -> FullAccounts
+    ensures { result ≡ full_where (not is_suspended) account full }
+{
+    if !is_suspended {
+        return full;
+    }
+    let mut full = full;
+    full.put(usize::from(account));
+    full
+}
+
 // Which accounts are suspended.
-fn suspended_in(allowed: &[Allowance]) -> FullAccounts {
+fn suspended_in(allowed: &[Allowance]) -> FullAccounts
+    ensures { (account : ℕ) → account < 32 → is_full account result ≡ suspends account allowed.now }
+{
     let mut suspended = FullAccounts::none();
-    let mut place = 0usize;
-    for allowance in allowed {
-        if allowance.is_suspended {
-            suspended.put(place);
-        }
-        place = place.saturating_add(1);
+    for account in 0..MOST_ACCOUNTS {
+        suspended = with_account(suspended, account, is_suspended(allowed, account));
     }
     suspended
 }

@@ -1,7 +1,8 @@
 //! What the threads of a run share.
 use crate::serving::allowances::Allowances;
+use crate::serving::link_seats::LinkSeats;
 use crate::serving::occupancy::{Seated, Seating};
-use crate::serving::orders::{Orders, SEATS};
+use crate::serving::orders::Orders;
 use mio::Waker;
 use smpp_session::FullAccounts;
 use sms_base::Digits;
@@ -11,39 +12,6 @@ use std::alloc::{AllocError, Global};
 use std::sync::atomic::{AtomicBool, Ordering};
 use std::sync::{Arc, Mutex, Wait};
 use std::time::Clock;
-
-// The handset at each seat that has a link.
-#[derive(Drop)]
-struct LinkSeats {
-    handsets: Vec<Option<Digits>>,
-}
-
-impl LinkSeats {
-    // No link.
-    fn new(alloc: Global) -> Result<LinkSeats, AllocError> {
-        let mut handsets = Vec::with_capacity(alloc, SEATS)?;
-        for _ in 0..SEATS {
-            handsets.push(None)?;
-        }
-        Ok(LinkSeats { handsets })
-    }
-
-    fn put(&mut self, seat: usize, handset: Option<Digits>) {
-        if seat < self.handsets.len() {
-            self.handsets[seat] = handset;
-        }
-    }
-
-    // Where else the handset has a link.
-    fn other(&self, seat: usize, handset: &Digits) -> Option<usize> {
-        for other in 0..self.handsets.len() {
-            if other != seat && self.handsets[other] == Some(*handset) {
-                return Some(other);
-            }
-        }
-        None
-    }
-}
 
 /// What the threads of a run share.
 #[derive(Drop)]

@@ -1,16 +1,14 @@
 //! The ports, and the wire of a connection that was accepted.
 ghost use Rattle.std.specs.Prelude.{◌≡◌, false, IfOk};
 ghost use Rattle.smsc_server.specs.serving.Entering.{doors_of};
-ghost use Rattle.smsc_server.specs.serving.PieceEnds.{left_at};
-ghost use Rattle.smsc_server.specs.serving.Pieces.{octets_of};
+ghost use Rattle.smsc_arrivals.specs.PieceEnds.{left_at};
+ghost use Rattle.smsc_arrivals.specs.Pieces.{octets_of};
 
-use crate::serving::pieces::{Piece, PieceReceiver, open_pieces};
 use crate::serving::poller::Poller;
-use crate::serving::reading::Reading;
 use crate::serving::refusing::refuse;
 use crossbeam_channel::TryRecvError;
 use mio::Waker;
-use smsc_arrivals::{Doors, Side};
+use smsc_arrivals::{Doors, Piece, PieceReceiver, Reading, Side, open_pieces};
 use smsc_loop::{Found, LeaveReason, Wire};
 use std::alloc::Global;
 use std::io::{self, Read, Write};

@@ -8,6 +8,7 @@ ghost use Rattle.sms_seats.specs.Seats.{IsSameSeat, put_by, taken_by};
 ghost use Rattle.smsc_loop.specs.Owing.{IsCleared};
 ghost use Rattle.smsc_arrivals.specs.Ways.{IsSameTaker, taken_by as items_taken};
 ghost use Rattle.smsc_arrivals.specs.declared.arrival.Side.TheVariants.{Application as ForApplication, Handset as ForHandset};
+ghost use Rattle.smsc_server.specs.serving.SeatEvents.{ends_intake as ends_intake_after, ends_waiting as ends_waiting_after};
 ghost use Rattle.smsc_server.specs.serving.Connections.{HasSat, IsOpened, admits, arrival_of};
 ghost use Rattle.smsc_server.specs.serving.Entering.{arrivals_among};
 ghost use Rattle.smsc_server.specs.serving.Sittings.{HaveSat, IsHandedBack};
@@ -16,14 +17,14 @@ use crate::serving::board::Board;
 use crate::serving::clock::milliseconds;
 use crate::serving::connection::Socket;
 use crate::serving::entrance::{ArrivalTaker, next_arrival};
-use crate::serving::observer::{Event, Observer};
-use crate::serving::reading::Reading;
+use crate::serving::observer::Observer;
 use crate::serving::refusing::no_room;
+use crate::serving::telling::{NO_ACCOUNT, account_in, event_of_note};
 use crossbeam_channel::Sender;
 use smpp_session::{Accounts, FullAccounts};
 use sms_centre_spec::jobs::{Job, Reply};
 use sms_keeper::Seat;
-use smsc_arrivals::{Arrival, Side};
+use smsc_arrivals::{Arrival, Reading, Side};
 use smsc_endpoint::{Esme, LinkAccess, LinkEndpoint};
 use smsc_loop::{Activity, Counts, LeaveReason, Note, OpenSeat, Order, Surroundings, Wire, serve};
 use std::alloc::Global;
@@ -54,8 +55,19 @@ pub(crate) struct SeatContext<R, S: Read, T> {
     pub(crate) readings: Sender<Reading<S>>,
 }
 
-// There are fewer accounts.
-const NO_ACCOUNT: u8 = 255;
+// Whether the centre begins nothing more, so many milliseconds behind an order to stop.
+fn ends_intake(passed: u64) -> bool
+    ensures { result ≡ ends_intake_after passed }
+{
+    INTAKE_LIMIT <= passed
+}
+
+// Whether no seat waits any more.
+fn ends_waiting(passed: u64) -> bool
+    ensures { result ≡ ends_waiting_after passed }
+{
+    STOP_LIMIT <= passed
+}
 
 // What is round the endpoint of one connection.
 #[derive(Drop)]
@@ -100,10 +112,7 @@ impl<'a, R: Wait + Clock, T: Observer> SeatSurroundings<'a, R, T> {
 
     // The place of the account that was bound last.
     fn last_account(&self) -> Option<u8> {
-        match self.account.load(Ordering::SeqCst) {
-            NO_ACCOUNT => None,
-            account => Some(account),
-        }
+        account_in(self.account.load(Ordering::SeqCst))
     }
 
     // Whether the endpoint may be bound yet.
@@ -133,10 +142,10 @@ impl<'a, R: Wait + Clock, T: Observer> SeatSurroundings<'a, R, T> {
     // Whether the run was ordered to end so long ago that no seat waits any more. Before that the centre begins nothing more.
     fn is_late(&self) -> bool {
         let passed = self.ending_for();
-        if passed >= INTAKE_LIMIT {
+        if ends_intake(passed) {
             self.board.orders.cutoff().pass();
         }
-        passed >= STOP_LIMIT
+        ends_waiting(passed)
     }
 }
 
@@ -180,18 +189,16 @@ impl<'a, R: Wait + Clock, T: Observer> Surroundings for SeatSurroundings<'a, R, 
 
     fn observe(&self, seat: usize, note: Note) {
         self.follow(seat, &note);
-        match note {
-            Note::SubmitRefused(status) => self
-                .observer
-                .observe(&Event::SubmitRefused(self.last_account(), status)),
-            Note::Ended(why, _) if !self.is_known.load(Ordering::SeqCst) => {
-                self.observer
-                    .observe(&Event::Unknown(self.side, self.peer, why));
-            }
-            note => self
-                .observer
-                .observe(&Event::Endpoint(seat, self.peer, note)),
-        }
+        let is_known = self.is_known.load(Ordering::SeqCst);
+        let event = event_of_note(
+            seat,
+            self.side,
+            self.peer,
+            is_known,
+            self.last_account(),
+            note,
+        );
+        self.observer.observe(&event);
     }
 
     fn watch(&self, seat: usize, activity: &Activity) {

@@ -1,7 +1,7 @@
 //! A keep whose commits are reported.
-use crate::serving::observer::{Event, Observer};
+use crate::serving::observer::Observer;
+use crate::serving::telling::event_of_message;
 use sms_base::Octets;
-use sms_centre_rows::messages::MessageRow;
 use sms_centre_spec::bodies::CentreStore;
 use sms_centre_spec::{Changes, Rows};
 use sms_rows::keep::{BodyKeep, Keep, KeepError, RowStore};
@@ -17,14 +17,6 @@ pub struct ObservedKeep<'a, K, T> {
     pub observer: Option<&'a T>,
 }
 
-// A message is put twice: as it is accepted, and as it ends.
-fn report<T: Observer>(observer: &T, message: &MessageRow) {
-    match message.state {
-        Some(state) => observer.observe(&Event::Final(message.id, state)),
-        None => observer.observe(&Event::Accepted(message.id, message.handset)),
-    }
-}
-
 fn report_all<T: Observer>(observer: Option<&T>, changes: &Changes) {
     let Some(observer) = observer else {
         return;
@@ -32,7 +24,7 @@ fn report_all<T: Observer>(observer: Option<&T>, changes: &Changes) {
     observer.committed(changes);
     for change in changes.messages.as_slice() {
         if let Change::Put(message) = change {
-            report(observer, message);
+            observer.observe(&event_of_message(message));
         }
     }
 }

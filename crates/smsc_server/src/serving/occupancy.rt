@@ -38,7 +38,7 @@ pub struct Seated {
 }
 
 // So many accounts may be.
-const MOST_ACCOUNTS: u8 = 32;
+pub(crate) const MOST_ACCOUNTS: u8 = 32;
 
 // Whether a session of that account is bound there.
 fn is_of(account: u8, bound: Option<u8>) -> bool
@@ -84,7 +84,11 @@ impl Bound {
         alloc: Global,
         limits: &[u8],
         suspended: FullAccounts,
-    ) -> Result<Bound, AllocError> {
+    ) -> Result<Bound, AllocError>
+        ensures accounts { IfOk result (λ bound. bound.accounts.items ≡ replicate 32 None) }
+        ensures limits { IfOk result (λ bound. bound.limits.items ≡ limits.now) }
+        ensures suspended { IfOk result (λ bound. bound.suspended ≡ suspended) }
+    {
         let accounts = none_bound(alloc)?;
         let mut all = Vec::new(alloc);
         all.extend_from_slice(limits)?;

@@ -1,4 +1,7 @@
 //! What an operator orders of a run.
+ghost use Rattle.std.specs.Prelude.{◌≡◌};
+ghost use Rattle.smsc_server.specs.serving.SeatOrders.{order_of};
+
 use smsc_loop::Order;
 use smsc_service::Cutoff;
 use std::alloc::{AllocError, Global};
@@ -19,6 +22,22 @@ const REPLACED: u8 = 2;
 const EMPTY: u8 = 3;
 
 const UNBIND: u8 = 4;
+
+// What is ordered of a seat of that number, in a run that ends at once, or in good order.
+fn order_by(is_cut: bool, is_stopped: bool, number: u8) -> Order
+    ensures { result ≡ order_of is_cut is_stopped number }
+{
+    if is_cut {
+        return Order::End;
+    }
+    match number {
+        END => Order::End,
+        REPLACED => Order::Replaced,
+        UNBIND => Order::Unbind,
+        _ if is_stopped => Order::Unbind,
+        _ => Order::Stay,
+    }
+}
 
 /// What is ordered of a run, by whoever has it: the run looks at it once a second.
 #[derive(Drop)]
@@ -118,15 +137,8 @@ impl Orders {
 
     /// What is ordered of the endpoint at the seat of this number.
     pub fn of(&self, seat: usize) -> Order {
-        if self.cut.load(Ordering::SeqCst) {
-            return Order::End;
-        }
-        match self.number(seat) {
-            END => Order::End,
-            REPLACED => Order::Replaced,
-            UNBIND => Order::Unbind,
-            _ if self.stop.load(Ordering::SeqCst) => Order::Unbind,
-            _ => Order::Stay,
-        }
+        let is_cut = self.cut.load(Ordering::SeqCst);
+        let is_stopped = self.stop.load(Ordering::SeqCst);
+        order_by(is_cut, is_stopped, self.number(seat))
     }
 }

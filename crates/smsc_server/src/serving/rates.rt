@@ -1,6 +1,6 @@
 //! How many requests of an account are put in a second.
-ghost use Rattle.std.specs.Prelude.{◌≡◌, ◌≤◌, ℕ, List, Some, true, slice_get, slice_set};
-ghost use Rattle.smsc_server.specs.serving.Rates.{AreInOrder, after_request, count_put, has_place as has_place_of, is_admitted, new_rate, one_more, limited as limited_to, put_in as put_in_of, rate_of, rates_after, second_of as second_of_moment};
+ghost use Rattle.std.specs.Prelude.{◌≡◌, ◌≤◌, ℕ, List, Some, IfOk, map, true, slice_get, slice_set};
+ghost use Rattle.smsc_server.specs.serving.Rates.{AreInOrder, account_asking, after_request, count_put, first_rate, has_place as has_place_of, is_admitted, limited_all as limited_all_to, limited_at as limited_at_place, new_rate, one_more, limited as limited_to, put_in as put_in_of, rate_of, rates_after, second_of as second_of_moment};
 
 use crate::serving::allowances::Allowance;
 use crate::serving::clock::milliseconds;
@@ -123,12 +123,21 @@ impl AccountRates {
         }
     }
 
-    // So do all accounts, by their places.
-    fn limit_all(&mut self, allowed: &[Allowance]) {
-        let mut place = 0usize;
-        for allowance in allowed {
+    // The account at that place does what it is allowed, if something is said of it.
+    fn limit_at(&mut self, place: usize, allowed: &[Allowance])
+        ensures { self.new.rates.items ≡ limited_at_place (slice_get allowed.now place) place self.old.rates.items }
+    {
+        if let Some(allowance) = allowed.get(place) {
             self.limit(place, allowance.rate);
-            place = place.saturating_add(1);
+        }
+    }
+
+    // So do all accounts, by their places.
+    fn limit_all(&mut self, allowed: &[Allowance])
+        ensures { self.new.rates.items ≡ limited_all_to allowed.now self.old.rates.items }
+    {
+        for place in 0..allowed.len() {
+            self.limit_at(place, allowed);
         }
     }
 
@@ -169,8 +178,21 @@ pub(crate) struct Rates {
     accounts: Mutex<AccountRates>,
 }
 
+// The rates that accounts are allowed. None has put anything yet.
+fn new_rates(alloc: Global, allowed: &[Allowance]) -> Result<Vec<Option<Rate>>, AllocError>
+    ensures { IfOk result (λ rates. rates.items ≡ map first_rate allowed.now) }
+{
+    let mut rates = Vec::with_capacity(alloc, allowed.len())?;
+    for allowance in allowed {
+        rates.push(limited(allowance.rate, None))?;
+    }
+    Ok(rates)
+}
+
 // The account of a request.
-fn account_of(request: &Job) -> Option<u8> {
+fn account_of(request: &Job) -> Option<u8>
+    ensures { result ≡ account_asking request.now }
+{
     match request {
         Job::Submit { account, .. } | Job::Query { account, .. } | Job::Cancel { account, .. } => {
             Some(*account)
@@ -182,10 +204,7 @@ fn account_of(request: &Job) -> Option<u8> {
 impl Rates {
     /// The rates that accounts are allowed. None has put anything yet.
     pub(crate) fn new(alloc: Global, allowed: &[Allowance]) -> Result<Rates, AllocError> {
-        let mut rates = Vec::with_capacity(alloc, allowed.len())?;
-        for allowance in allowed {
-            rates.push(limited(allowance.rate, None))?;
-        }
+        let rates = new_rates(alloc, allowed)?;
         Ok(Rates {
             accounts: Mutex::new(AccountRates { rates }),
         })

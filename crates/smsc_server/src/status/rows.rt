@@ -3,7 +3,17 @@ use sms_base::FinalState;
 use sms_centre_rows::messages::MessageRow;
 use smsc_status::MessageFigures;
 
-fn with_one(figures: MessageFigures, state: Option<FinalState>) -> MessageFigures {
+/// No message is in any state.
+pub const NO_MESSAGES: MessageFigures = MessageFigures {
+    enroute: 0,
+    delivered: 0,
+    expired: 0,
+    deleted: 0,
+    undeliverable: 0,
+};
+
+/// One more message is in this state.
+pub fn with_message(figures: MessageFigures, state: Option<FinalState>) -> MessageFigures {
     let mut figures = figures;
     match state {
         None => figures.enroute = figures.enroute.saturating_add(1),
@@ -19,15 +29,9 @@ fn with_one(figures: MessageFigures, state: Option<FinalState>) -> MessageFigure
 
 /// How many of the messages are in each state.
 pub fn message_figures(messages: &[MessageRow]) -> MessageFigures {
-    let mut figures = MessageFigures {
-        enroute: 0,
-        delivered: 0,
-        expired: 0,
-        deleted: 0,
-        undeliverable: 0,
-    };
+    let mut figures = NO_MESSAGES;
     for message in messages {
-        figures = with_one(figures, message.state);
+        figures = with_message(figures, message.state);
     }
     figures
 }

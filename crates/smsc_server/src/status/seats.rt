@@ -1,4 +1,8 @@
 //! Who sits at each seat, as the events of a run say one after the other.
+ghost use Rattle.std.specs.Prelude.{◌≡◌, IfOk, replicate};
+ghost use Rattle.smsc_server.specs.Occupants.{kind_shown, occupant_behind, seated_at};
+ghost use Rattle.smsc_server.specs.declared.status.seats.Occupant.TheVariants.{Unknown as NobodyKnown};
+
 use crate::serving::{Event, SEATS};
 use crate::status::counters::Counters;
 use smpp_session::BindKind;
@@ -25,7 +29,9 @@ pub struct SeatTable {
     seats: Vec<Occupant>,
 }
 
-fn kind_of(kind: BindKind) -> SessionKind {
+fn kind_of(kind: BindKind) -> SessionKind
+    ensures { result ≡ kind_shown kind }
+{
     match kind {
         BindKind::Transmitter => SessionKind::Transmitter,
         BindKind::Receiver => SessionKind::Receiver,
@@ -34,7 +40,9 @@ fn kind_of(kind: BindKind) -> SessionKind {
 }
 
 // Who sits there once this happened; none where that changes nothing.
-fn occupant_by(note: &Note, now: Moment) -> Option<Occupant> {
+fn occupant_by(note: &Note, now: Moment) -> Option<Occupant>
+    ensures { result ≡ occupant_behind now note.now }
+{
     match note {
         Note::Bound(account, kind) => Some(Occupant::Session(*account, kind_of(*kind), now)),
         Note::LinkUp(handset) => Some(Occupant::Link(*handset, now)),
@@ -60,24 +68,47 @@ fn name_text(alloc: Global, names: &[String], account: u8) -> Result<String, All
     Ok(text)
 }
 
+// Nobody at any seat.
+fn no_occupants(alloc: Global) -> Result<Vec<Occupant>, AllocError>
+    ensures { IfOk result (λ seats. seats.items ≡ replicate 32 NobodyKnown) }
+{
+    let mut seats = Vec::with_capacity(alloc, SEATS)?;
+    for _ in 0..SEATS {
+        seats.push(Occupant::Unknown)?;
+    }
+    Ok(seats)
+}
+
 impl SeatTable {
     /// Nobody sits anywhere.
     pub fn new(alloc: Global) -> Result<SeatTable, AllocError> {
-        let mut seats = Vec::with_capacity(alloc, SEATS)?;
-        for _ in 0..SEATS {
-            seats.push(Occupant::Unknown)?;
-        }
+        let seats = no_occupants(alloc)?;
         Ok(SeatTable { seats })
+    }
+
+    // From now on this one sits there, if somebody does by what happened.
+    fn put(&mut self, seat: usize, occupant: Option<Occupant>)
+        ensures { self.new.seats.items ≡ seated_at seat occupant self.old.seats.items }
+    {
+        if let Some(occupant) = occupant {
+            if let Some(place) = self.seats.get_mut(seat) {
+                *place = occupant;
+            }
+        }
+    }
+
+    // Takes what happened to the endpoint at a seat.
+    fn take_note(&mut self, seat: usize, note: &Note, now: Moment)
+        ensures { self.new.seats.items ≡ seated_at seat (occupant_behind now note.now) self.old.seats.items }
+    {
+        let occupant = occupant_by(note, now);
+        self.put(seat, occupant);
     }
 
     /// Takes what happened.
     pub fn take(&mut self, event: &Event, now: Moment) {
         if let Event::Endpoint(seat, _, note) = event {
-            if let Some(occupant) = occupant_by(note, now) {
-                if *seat < self.seats.len() {
-                    self.seats[*seat] = occupant;
-                }
-            }
+            self.take_note(*seat, note, now);
         }
     }
 

@@ -52,7 +52,7 @@ const MORE: &[(&str, bool)] = &[
     ("password = \"a\"\nsources = []", false),
     ("password = \"a\"\nsources = [5]", false),
     ("password = \"a\"\nsources = [\"\"]", false),
-    ("password = \"a\"\nsources = [\"*\"]", false),
+    ("password = \"a\"\nsources = [\"*\"]", true),
     ("password = \"a\"\nsources = [\"TwelveLetter\"]", false),
     ("salt = \"b\"", false),
 ];

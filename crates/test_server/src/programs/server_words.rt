@@ -2,8 +2,8 @@
 use crate::programs::words::with;
 use crate::rows::holds;
 use smsc_cli::words::{
-    AccountWords, FileFault, LogDetail, ServerWords, WordsFault, add_lines, server_words,
-    why_no_server_words,
+    AccountWords, FileFault, LogDetail, ServerRun, ServerWords, WordsFault, add_lines,
+    server_words, why_no_server_words,
 };
 use std::alloc::Global;
 use std::test::Fail;
@@ -23,39 +23,45 @@ const WORDS: &[&str] = &[
     "app1:secret:447700900001",
 ];
 
+// What a run's words say of messages that have ended.
+fn run_of(run: &ServerRun<'_>) -> &'static str {
+    match (run.keep, run.archive) {
+        (None, None) => "run",
+        (Some(7), Some("a")) => "run for 7 days",
+        _ => "run for others",
+    }
+}
+
+// What the words ask for.
+fn asked(words: &ServerWords<'_>) -> &'static str {
+    match words {
+        ServerWords::Run(run, _) => run_of(run),
+        ServerWords::Show { .. } => "show",
+        ServerWords::Save { .. } => "save",
+        ServerWords::Stop {
+            control: "c",
+            wait: None,
+        } => "stop",
+        ServerWords::Stop {
+            control: "c",
+            wait: Some(40),
+        } => "stop in 40",
+        ServerWords::Stop { .. } => "stop of another",
+        ServerWords::End {
+            control: "c",
+            seat: 31,
+        } => "end",
+        ServerWords::End { .. } => "end of another",
+        ServerWords::Reload { control: "c" } => "reload",
+        ServerWords::Reload { .. } => "reload of another",
+        ServerWords::Password => "password",
+    }
+}
+
 // What the words are judged as.
 fn judged(alloc: Global, words: &[&str]) -> &'static str {
     match server_words(alloc, words) {
-        Ok(ServerWords::Run(run, _)) => match (run.keep, run.archive) {
-            (None, None) => "run",
-            (Some(7), Some("a")) => "run for 7 days",
-            _ => "run for others",
-        },
-        Ok(ServerWords::Show { .. }) => "show",
-        Ok(ServerWords::Save { .. }) => "save",
-        Ok(
-            ServerWords::Stop {
-                control: "c",
-                wait: None,
-            },
-        ) => "stop",
-        Ok(
-            ServerWords::Stop {
-                control: "c",
-                wait: Some(40),
-            },
-        ) => "stop in 40",
-        Ok(ServerWords::Stop { .. }) => "stop of another",
-        Ok(
-            ServerWords::End {
-                control: "c",
-                seat: 31,
-            },
-        ) => "end",
-        Ok(ServerWords::End { .. }) => "end of another",
-        Ok(ServerWords::Reload { control: "c" }) => "reload",
-        Ok(ServerWords::Reload { .. }) => "reload of another",
-        Ok(ServerWords::Password) => "password",
+        Ok(words) => asked(&words),
         Err(WordsFault::BadWords) => "bad",
         Err(WordsFault::NoMemory) => "no memory",
     }

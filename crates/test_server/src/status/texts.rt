@@ -1,10 +1,10 @@
 //! Names from outside, in the page, in the metrics and in the JSON, and the bodies of responses.
 use crate::rows::holds;
-use sms_base::{Moment, Octets};
+use sms_base::{MessageId, Moment, Octets};
 use smsc_status::{
-    AccountLine, CommitFigures, GroupFigures, MessageCounts, MessageFigures, RefusedBinds,
-    RefusedDeliveries, RefusedSubmits, Resource, SessionKind, SessionLine, StatusView,
-    StoreFigures, Wanted, response_to,
+    AccountLine, CommitFigures, GroupFigures, LastCause, MessageCounts, MessageFigures,
+    PendingMessage, RefusedBinds, RefusedDeliveries, RefusedSubmits, Resource, SessionKind,
+    SessionLine, StatusView, StoreFigures, StuckLine, Wanted, response_to,
 };
 use std::alloc::Global;
 use std::test::Fail;
@@ -59,6 +59,53 @@ fn refused(alloc: Global) -> Result<RefusedSubmits, Fail> {
     })
 }
 
+// What waits for a handset of that number.
+fn stuck_line(
+    alloc: Global,
+    handset: &str,
+    is_linked: bool,
+    cause: Option<LastCause>,
+    due: Option<Moment>,
+) -> Result<StuckLine, Fail> {
+    let since = moment()?;
+    let mut number = String::new(alloc);
+    number.push_str(handset)?;
+    Ok(StuckLine {
+        handset: number,
+        waiting: 12,
+        since,
+        failed: 3,
+        is_linked,
+        cause,
+        due,
+    })
+}
+
+// One without a link, one whose memory is full, and one that is tried again.
+fn stuck_lines(alloc: Global) -> Result<Vec<StuckLine>, Fail> {
+    let due = moment()?;
+    let full = LastCause {
+        cause: 22,
+        reason: "memory capacity exceeded",
+    };
+    let away = stuck_line(alloc, "447700900999", false, None, None)?;
+    let no_memory = stuck_line(alloc, "447700900998", true, Some(full), None)?;
+    let tried = stuck_line(alloc, "447700900997", true, None, Some(due))?;
+    Ok(vec![in alloc; away, no_memory, tried]?)
+}
+
+fn oldest() -> Result<PendingMessage<'static>, Fail> {
+    let submitted = moment()?;
+    match MessageId::new(42) {
+        Some(id) => Ok(PendingMessage {
+            id,
+            handset: "447700900999",
+            submitted,
+        }),
+        None => Err(Fail::new("a number")),
+    }
+}
+
 const BINDS: &[RefusedBinds] = &[RefusedBinds {
     reason: "wrong_password",
     count: 2,
@@ -105,6 +152,8 @@ fn view_of<'a>(
     sessions: &'a [SessionLine],
     accounts: &'a [AccountLine],
     refused_submits: &'a [RefusedSubmits],
+    stuck: &'a [StuckLine],
+    oldest: Option<PendingMessage<'a>>,
     moment: Moment,
 ) -> StatusView<'a> {
     let (messages, counts) = no_messages();
@@ -117,6 +166,8 @@ fn view_of<'a>(
         counts,
         sessions,
         links: &[],
+        stuck,
+        oldest,
         accounts,
         refused_submits,
         refused_binds: BINDS,
@@ -147,10 +198,14 @@ fn responded(alloc: Global, wanted: Wanted) -> Result<Octets, Fail> {
     let sessions = vec![in alloc; session(alloc)?]?;
     let refused = vec![in alloc; refused(alloc)?]?;
     let accounts = vec![in alloc; account_line(alloc)?]?;
+    let stuck = stuck_lines(alloc)?;
+    let oldest = oldest()?;
     let view = view_of(
         sessions.as_slice(),
         accounts.as_slice(),
         refused.as_slice(),
+        stuck.as_slice(),
+        Some(oldest),
         moment,
     );
     response(alloc, wanted, &view)
@@ -280,6 +335,62 @@ const RESPONSES: &[Row] = &[
         true,
         b"",
         "refused requests in the page",
+    ),
+    (
+        PAGE,
+        "<h2>What is stuck</h2><p>the oldest message that is pending: 0000000042 to 447700900999, submitted 2026-11-26T04:46:01Z</p>",
+        true,
+        b"",
+        "the oldest pending message in the page",
+    ),
+    (
+        PAGE,
+        "<tr><td>447700900999</td><td class=\"n\">12</td><td>2026-11-26T04:46:01Z</td><td class=\"n\">3</td><td>no link</td><td>once it has a link</td></tr>\n",
+        true,
+        b"",
+        "a handset without a link",
+    ),
+    (
+        PAGE,
+        "<td class=\"n\">3</td><td>RP cause 22, memory capacity exceeded</td><td>once it has memory</td></tr>\n",
+        true,
+        b"",
+        "a handset without memory",
+    ),
+    (
+        PAGE,
+        "<td class=\"n\">3</td><td>none</td><td>2026-11-26T04:46:01Z</td></tr>\n",
+        true,
+        b"",
+        "a handset that is tried again",
+    ),
+    (
+        METRICS,
+        "\nsmsc_oldest_pending_time_seconds 1795668361\n",
+        true,
+        b"",
+        "the oldest pending message in the metrics",
+    ),
+    (
+        JSON,
+        "\"stuck\":[{\"handset\":\"447700900999\",\"waiting\":12,\"since\":\"2026-11-26T04:46:01Z\",\"failed\":3,\"linked\":false,\"last_cause\":null,\"due\":null},{",
+        true,
+        b"",
+        "a handset without a link in the JSON",
+    ),
+    (
+        JSON,
+        "\"linked\":true,\"last_cause\":{\"cause\":22,\"reason\":\"memory capacity exceeded\"},\"due\":null},{",
+        true,
+        b"",
+        "a handset without memory in the JSON",
+    ),
+    (
+        JSON,
+        "\"last_cause\":null,\"due\":\"2026-11-26T04:46:01Z\"}],\"oldest\":{\"id\":\"0000000042\",\"handset\":\"447700900999\",\"submitted\":\"2026-11-26T04:46:01Z\"},\"accounts\":[",
+        true,
+        b"",
+        "the oldest pending message in the JSON",
     ),
     (
         PAGE,

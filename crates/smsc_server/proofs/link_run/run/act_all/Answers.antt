@@ -1,15 +1,17 @@
-use Rattle.std.proofs.Common.{◌≡◌, ◌+◌, List, [], ◌∷◌, ◌++◌, map, drop, refl, sym, ap, subst, ◌∙◌, append_assoc, append-nil, arith}
+use Rattle.std.proofs.Common.{◌≡◌, ◌+◌, ℕ, List, [], ◌∷◌, ◌++◌, map, drop, refl, sym, ap, subst, ◌∙◌, append_assoc, append-nil, arith}
 use Rattle.std.proofs.Math.ListN.{drop_of_length-le}
 use Rattle.sms_handset.specs.declared.event.HandsetEvent.{HandsetEvent}
 use Rattle.smsc_server.specs.link_run.Turns.{AreTimed}
 use Rattle.sms_handset.specs.declared.event.HandsetEvent.TheVariants.{Tick}
 use Rattle.sms_script.specs.declared.owner.act.OwnersAct.{OwnersAct}
 use Rattle.smsc_server.specs.link_run.Asking.{event_of}
-use Rattle.smsc_server.proofs.link_run.Courses.{act_at, meets_join, meets_none, meets_one, timed_more}
+use Rattle.std.specs.Io.KnownBytes.{Appends}
+use Rattle.smsc_server.proofs.link_run.Answered.{answers_more}
+use Rattle.smsc_server.proofs.link_run.Courses.{act_at, appends_join, appends_none, meets_join, meets_none, meets_one, timed_more}
 use Rattle.smsc_server.proofs.link_run.run.act_all.Goals as goal
 
 pub loop-asked-init : goal.loop-asked-init
-loop-asked-init g c = ([], [], (refl, refl, meets_none _ _))
+loop-asked-init g c = ([], [], (refl, refl, meets_none _ _, appends_none _))
 
 pub loop-asked-preserved : goal.loop-asked-preserved
 loop-asked-preserved g c =
@@ -28,6 +30,8 @@ loop-asked-preserved g c =
         append_assoc before.0 (event_of asked ∷ []) (map event_of behind) ∙ (ap (λ (l : List OwnersAct). before.0 ++ map event_of l) (sym next) ∙ before.2.0),
         timed_more _ before.0 before.1 c.now.result (event_of asked) before.2.1 c.now.ensures,
         meets_join before.1 (Tick c.now.result ∷ event_of asked ∷ []) _ _ _ _ _ _ before.2.2 met,
+        subst (λ (k : List ℕ). Appends _ _ k) (sym (answers_more before.1 c.now.result asked _ _ _ _ _ before.2.2.1.0 ticked.1.0))
+            (appends_join _ _ _ _ _ before.2.3 c.in_ok-act.ensures.answers),
       ),
     )
 
@@ -38,4 +42,4 @@ returns g c =
     let all : l.0 ≡ map event_of acts =
     sym (append-nil l.0)
     ∙ (ap (λ (k : List OwnersAct). l.0 ++ map event_of k) (sym (drop_of_length-le acts (omega (arith, c.loop-asked-test.false)))) ∙ l.2.0) in
-    (l.1, subst (λ (k : List HandsetEvent). AreTimed (g.C.Clock.reads c.args.clock.now) k l.1) all l.2.1, l.2.2)
+    (l.1, subst (λ (k : List HandsetEvent). AreTimed (g.C.Clock.reads c.args.clock.now) k l.1) all l.2.1, l.2.2, l.2.3)

@@ -1,5 +1,7 @@
 use Rattle.std.proofs.Common.{◌≡◌, ◌++◌, List, map, drop}
+use Rattle.std.specs.Io.KnownBytes.{Appends}
 use Rattle.sms_handset.specs.declared.event.HandsetEvent.{HandsetEvent}
+use Rattle.smsc_server.specs.link_run.Answering.{answers_to}
 use Rattle.smsc_server.specs.link_run.Asking.{event_of}
 use Rattle.smsc_server.specs.link_run.Run.{Meets}
 use Rattle.smsc_server.specs.link_run.Turns.{AreTimed}
@@ -10,4 +12,5 @@ abbrev pub invariant-loop-asked : goal.invariant-loop-asked
 invariant-loop-asked g l =
     (done : List HandsetEvent) × (timed : List HandsetEvent) × ((done ++ map event_of (drop l.asked-index l.acts) ≡ map event_of l.acts)
     × AreTimed (g.C.Clock.reads l.clock) done timed
-    × Meets timed (core_in l.fn.machine) (core_in l.machine) (g.W.Write.contents l.fn.link) (g.W.Write.contents l.link))
+    × Meets timed (core_in l.fn.machine) (core_in l.machine) (g.W.Write.contents l.fn.link) (g.W.Write.contents l.link)
+    × Appends (g.A.Write.contents l.fn.answers) (g.A.Write.contents l.answers) (answers_to timed (core_in l.fn.machine)))

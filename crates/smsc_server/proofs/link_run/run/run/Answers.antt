@@ -21,6 +21,7 @@ returns g c =
       between = _;
       sent = _;
       asked_met = asked.2;
+      answered_so = asked.3;
       rest = a.0;
       attended = a.1;
     })

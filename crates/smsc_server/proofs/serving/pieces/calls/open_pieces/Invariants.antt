@@ -1,4 +1,0 @@
-use Rattle.smsc_server.proofs.serving.pieces.calls.open_pieces.Given as goal
-
-abbrev pub ghosts-open_from : goal.ghosts-open_from
-ghosts-open_from g a = record { octets = g.S.Read.remaining a.stream.now }

@@ -1,6 +1,0 @@
-use Rattle.smsc_server.specs.serving.PieceEnds.{given_by, source_of}
-use Rattle.smsc_server.specs.serving.Pieces.{IsReadSo}
-use Rattle.smsc_server.proofs.serving.reading.Reader.read.Given as goal
-
-abbrev pub invariant-loop : goal.invariant-loop
-invariant-loop g l = IsReadSo (source_of l.pieces) (given_by l.pieces) (g.S.Read.remaining l.stream)
