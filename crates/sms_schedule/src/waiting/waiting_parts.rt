@@ -109,7 +109,10 @@ impl WaitingParts {
     /// What waits is in the order of messages and numbers, and each of them waits once. So `next` is what the laws say.
     pub fn is_ordered(&self)
         ensures { Rises load_key (loads_of self.now) }
-    {}
+    {
+        // Its rows are what is kept in both places.
+        let _newer = self.newer.as_slice();
+    }
 
     /// Of all that is due, the first to be offered.
     pub fn next(&self, now: Moment) -> Option<QueuedPart>
