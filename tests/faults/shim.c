@@ -6,7 +6,8 @@
  *   FAULT_LOST        a store's disk is lost (statx of a path that ends in .store or -wal gives EIO);
  *   FAULT_UNLOGGED    standard error takes nothing (write to it gives ENOSPC);
  *   FAULT_SLOW        a store's log opens slowly (open of a path that ends in -wal takes five seconds);
- *   FAULT_SLOW_DISK   the disk takes a tenth of a second for a commit (fdatasync and fsync).
+ *   FAULT_SLOW_DISK   the disk takes a tenth of a second for a commit (fdatasync and fsync);
+ *   FAULT_STUCK_DISK  it takes five seconds.
  * Each is the path of such a file. */
 #define _GNU_SOURCE
 #include <errno.h>
@@ -79,6 +80,8 @@ static void turn_disk(void)
 
 	if (is_so("FAULT_SLOW_DISK"))
 		nanosleep(&tenth, NULL);
+	if (is_so("FAULT_STUCK_DISK"))
+		sleep(5);
 }
 
 int fdatasync(int file)

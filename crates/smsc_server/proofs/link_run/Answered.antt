@@ -1,6 +1,7 @@
 -- The answers to what an owner asks, one after the other.
-use Rattle.std.proofs.Common.{◌≡◌, ℕ, List, [], ◌∷◌, ◌++◌, Result, Ok, Err, refl, sym, ap, ◌∙◌, append_assoc}
+use Rattle.std.proofs.Common.{◌≡◌, ℕ, List, [], ◌∷◌, ◌++◌, Option, Result, Ok, Err, refl, sym, ap, subst, ◌∙◌, append_assoc}
 use Rattle.std.proofs.lemmas.List.{append-nil}
+use Rattle.std.specs.Io.KnownBytes.{Appends}
 use Rattle.sms_handset.specs.declared.event.HandsetEvent.{HandsetEvent}
 use Rattle.sms_handset.specs.declared.event.HandsetEvent.TheVariants.{Tick}
 use Rattle.sms_handset.specs.declared.refusal.Refusal.{Refusal}
@@ -11,6 +12,9 @@ use Rattle.sms_script.specs.declared.owner.act.OwnersAct.TheVariants.{Write, Del
 use Rattle.smsc_server.specs.link_run.Answering.{answer_of, answers_to, behind, behind_by}
 use Rattle.smsc_server.specs.link_run.Asking.{answer_to, event_of}
 use Rattle.smsc_server.specs.link_run.Run.{Follows, Sends, SendsBy}
+
+pub appends_as : (a b : Option (List ℕ)) (one other : List ℕ) → Appends a b one → one ≡ other → Appends a b other
+appends_as a b one other p e = subst (λ (l : List ℕ). Appends a b l) e p
 
 sends_by_behind : (r : Result Draft Refusal) (a b : Core) (out : List ℕ) → SendsBy r a b out → b ≡ behind_by r a
 sends_by_behind (Ok d) a b out s = s.0

@@ -1,12 +1,11 @@
-use Rattle.std.proofs.Common.{◌≡◌, ◌+◌, ℕ, List, [], ◌∷◌, ◌++◌, map, drop, refl, sym, ap, subst, ◌∙◌, append_assoc, append-nil, arith}
+use Rattle.std.proofs.Common.{◌≡◌, ◌+◌, List, [], ◌∷◌, ◌++◌, map, drop, refl, sym, ap, subst, ◌∙◌, append_assoc, append-nil, arith}
 use Rattle.std.proofs.Math.ListN.{drop_of_length-le}
 use Rattle.sms_handset.specs.declared.event.HandsetEvent.{HandsetEvent}
 use Rattle.smsc_server.specs.link_run.Turns.{AreTimed}
 use Rattle.sms_handset.specs.declared.event.HandsetEvent.TheVariants.{Tick}
 use Rattle.sms_script.specs.declared.owner.act.OwnersAct.{OwnersAct}
 use Rattle.smsc_server.specs.link_run.Asking.{event_of}
-use Rattle.std.specs.Io.KnownBytes.{Appends}
-use Rattle.smsc_server.proofs.link_run.Answered.{answers_more}
+use Rattle.smsc_server.proofs.link_run.Answered.{answers_more, appends_as}
 use Rattle.smsc_server.proofs.link_run.Courses.{act_at, appends_join, appends_none, meets_join, meets_none, meets_one, timed_more}
 use Rattle.smsc_server.proofs.link_run.run.act_all.Goals as goal
 
@@ -30,8 +29,8 @@ loop-asked-preserved g c =
         append_assoc before.0 (event_of asked ∷ []) (map event_of behind) ∙ (ap (λ (l : List OwnersAct). before.0 ++ map event_of l) (sym next) ∙ before.2.0),
         timed_more _ before.0 before.1 c.now.result (event_of asked) before.2.1 c.now.ensures,
         meets_join before.1 (Tick c.now.result ∷ event_of asked ∷ []) _ _ _ _ _ _ before.2.2 met,
-        subst (λ (k : List ℕ). Appends _ _ k) (sym (answers_more before.1 c.now.result asked _ _ _ _ _ before.2.2.1.0 ticked.1.0))
-            (appends_join _ _ _ _ _ before.2.3 c.in_ok-act.ensures.answers),
+        appends_as _ _ _ _ (appends_join _ _ _ _ _ before.2.3 c.in_ok-act.ensures.answers)
+            (sym (answers_more before.1 c.now.result asked _ _ _ _ _ before.2.2.1.0 ticked.1.0)),
       ),
     )
 
