@@ -1,6 +1,7 @@
 //! How long an endpoint is waited for.
 ghost use Rattle.std.specs.Prelude.{◌≡◌, Some, None};
-ghost use Rattle.smpp_session.specs.Patience.{is_within as is_within_of, is_within_some as is_within_some_of, known_verdict as known_verdict_of, silence_of as silence_verdict, since_first as since_first_of, unknown_limit as unknown_limit_of, verdict_of};
+ghost use Rattle.smpp_session.specs.Patience.{is_within as is_within_of, is_within_some as is_within_some_of, known_verdict as known_verdict_of};
+ghost use Rattle.smpp_session.specs.Patience.{silence_of as silence_verdict, since_first as since_first_of, unknown_limit as unknown_limit_of, verdict_of};
 
 // Milliseconds in which a deliver_sm or an enquire_link is answered: response_timer (SMPP v3.4 7.2).
 const RESPONSE_LIMIT: u64 = 60_000;
@@ -19,26 +20,26 @@ const LEAVE_LIMIT: u64 = 5_000;
 pub enum Verdict {
     /// The endpoint is waited for.
     Waits,
-    /// It is sent enquire_link.
+    /// The endpoint is sent enquire_link.
     AsksLink,
-    /// It did not say who it is in time.
+    /// The endpoint did not say who it is in time.
     Silent,
-    /// It took no octets in time.
+    /// The endpoint took no octets in time.
     Stalled,
-    /// It answered no deliver_sm in time.
+    /// The endpoint answered no deliver_sm in time.
     Unanswered,
-    /// It did not answer enquire_link in time.
+    /// The endpoint did not answer enquire_link in time.
     Inactive,
-    /// It did not leave in time.
+    /// The endpoint did not leave in time.
     Ordered,
 }
 
 /// What is to be seen of an endpoint.
 #[derive(Clone, Copy)]
 pub struct EndpointState {
-    /// It said who it is.
+    /// The endpoint said who it is.
     pub is_known: bool,
-    /// It is a bound session.
+    /// The endpoint is a bound session.
     pub is_bound: bool,
     /// Connections wait for its seat.
     pub others_wait: bool,
@@ -49,15 +50,15 @@ pub struct EndpointState {
 /// Since when an endpoint is waited for, in milliseconds.
 #[derive(Clone, Copy)]
 pub struct Patience {
-    /// It has not said who it is since then.
+    /// The endpoint has not said who it is since then.
     pub unknown: u64,
     /// Nothing arrived since then.
     pub heard: u64,
-    /// It was sent enquire_link then, and nothing arrived since.
+    /// The endpoint was sent enquire_link then, and nothing arrived since.
     pub asked: Option<u64>,
     /// Octets wait since then, and it takes none.
     pub stalled: Option<u64>,
-    /// It is to leave since then.
+    /// The endpoint is to leave since then.
     pub leaving: Option<u64>,
 }
 
@@ -116,7 +117,7 @@ fn silence_of(asked: Option<u64>, heard: u64, now: u64) -> Verdict
 }
 
 impl Patience {
-    /// That with an endpoint whose connection opens at this moment.
+    /// The patience with an endpoint whose connection opens at this moment.
     pub fn new(now: u64) -> Patience
         ensures { result ≡ record { unknown = now; heard = now; asked = None; stalled = None; leaving = None } }
     {
@@ -137,28 +138,28 @@ impl Patience {
         self.asked = None;
     }
 
-    /// It was sent enquire_link.
+    /// The endpoint was sent enquire_link.
     pub fn ask(&mut self, now: u64)
         ensures { self.new ≡ record self.old { asked = Some now } }
     {
         self.asked = Some(now);
     }
 
-    /// It was asked to leave. Only the first time counts.
+    /// The endpoint was asked to leave. Only the first time counts.
     pub fn leave(&mut self, now: u64)
         ensures { self.new ≡ record self.old { leaving = since_first_of self.old.leaving now } }
     {
         self.leaving = since_first(self.leaving, now);
     }
 
-    /// It is known, so the time to say who it is begins anew.
+    /// The endpoint is known, so the time to say who it is begins anew.
     pub fn know(&mut self, now: u64)
         ensures { self.new ≡ record self.old { unknown = now } }
     {
         self.unknown = now;
     }
 
-    /// It took octets, or none wait.
+    /// The endpoint took octets, or none wait.
     pub fn flow(&mut self)
         ensures { self.new ≡ record self.old { stalled = None } }
     {

@@ -5,6 +5,7 @@ pub mod Alphabet
 pub mod Digits
 pub mod FaultCodes
 pub mod FaultReasons
+pub mod FinalWords
 pub mod HandsetNumber
 pub mod Inside
 pub mod MessageId

@@ -37,6 +37,7 @@ mod alphabet;
 mod carried;
 mod clock;
 mod cursor;
+mod digit_octets;
 mod digits;
 mod final_state;
 mod holder;
@@ -45,6 +46,7 @@ pub mod lending;
 mod listed;
 mod message_id;
 mod moment;
+mod moment_order;
 mod octets;
 mod originator;
 mod priority;
@@ -55,17 +57,20 @@ mod wish;
 
 pub use address::Address;
 pub use address_error::AddressError;
+pub use address_text::{has_code, is_digit, width_of};
 pub use alphabet::{
     Code, ESCAPE, EXTENSION_TABLE, MAIN_TABLE, character_after_escape, character_of, code_of,
 };
 pub use carried::{Carried, Kind};
 pub use cursor::Cursor;
+pub use digit_octets::digits_of;
 pub use digits::Digits;
 pub use final_state::FinalState;
 pub use holder::Holder;
 pub use listed::Listed;
 pub use message_id::MessageId;
 pub use moment::{Moment, MomentError};
+pub use moment_order::{earlier, later};
 pub use octets::{OctetView, Octets};
 pub use originator::Originator;
 pub use priority::Priority;

@@ -14,7 +14,7 @@ use Rattle.sms_centre_rows.specs.messages.OpenParts.{part_load, part_wait, waits
 use Rattle.sms_centre_rows.proofs.messages.PartRows.{numbered_amended, numbered_put, part_amended, part_amended_other}
 use Rattle.sms_centre_rows.specs.declared.reports.report.ReportRow.{ReportRow}
 use Rattle.sms_centre_rows.specs.reports.Reports.{is_open_status, is_status, put_report, report_key, report_of, report_reaching}
-use Rattle.sms_centre_rows.specs.reports.Waiting.{IsNew, report_load, report_wait, reports_to, waiting_as}
+use Rattle.sms_centre_rows.specs.reports.Waiting.{IsReportApart, report_load, report_wait, reports_to, waiting_as}
 use Rattle.sms_centre_rows.proofs.reports.AllWaiting.{part_waits_at, report_waits_at}
 use Rattle.sms_centre_rows.proofs.reports.EndsWaiting.{new_waits}
 use Rattle.sms_centre_rows.proofs.reports.ReportRows.{amended_alone, amended_other, amended_own, new_alone, new_report, new_report_other}
@@ -151,7 +151,7 @@ quiet_waits n ms r (Some m) of closed =
     ap (λ (o : Option MessageRow). if reports_to n r o then Some (report_load r) else None) of
     ∙ cond-false (is_open_status r && bytes_eq m.source.digits n) (Some (report_load r)) None (ap (λ (b : Bool). b && bytes_eq m.source.digits n) closed)
 
-report_new_as : (s : Store) (r : ReportRow) → SoundHeld s → IsNew (reports_in s) r
+report_new_as : (s : Store) (r : ReportRow) → SoundHeld s → IsReportApart (reports_in s) r
     → (n : List ℕ) → all_waiting (with_reports (put_report r s.reports) s) n ≡ waiting_as (pair_key r.id 0) (report_wait n (messages_in s) (Some r)) (all_waiting s n)
 report_new_as s r held new n =
     let rs : List ReportRow = reports_in s in
@@ -163,14 +163,14 @@ none_waits s id n held none =
     report_waits_at n (messages_in s) (priorities_in s) (parts_in s) (reports_in s) id held.parts held.alone ∙ ap (λ (o : Option ReportRow). report_wait n (messages_in s) o) none
 
 -- a receipt, or what is never sent
-pub quiet_new_waits : (s : Store) (r : ReportRow) → SoundHeld s → IsNew (reports_in s) r → report_of r.id (reports_in s) ≡ None → is_open_status r ≡ false
+pub quiet_new_waits : (s : Store) (r : ReportRow) → SoundHeld s → IsReportApart (reports_in s) r → report_of r.id (reports_in s) ≡ None → is_open_status r ≡ false
     → (n : List ℕ) → all_waiting (with_reports (put_report r s.reports) s) n ≡ all_waiting s n
 quiet_new_waits s r held new none closed n =
     report_new_as s r held new n
     ∙ ap (λ (o : Option QueuedPart). waiting_as (pair_key r.id 0) o (all_waiting s n)) (quiet_waits n (messages_in s) r (message_at r.id (messages_in s)) refl closed)
     ∙ absent_same (pair_key r.id 0) (all_waiting s n) (none_waits s r.id n held none)
 
-pub status_new_waits : (s : Store) (r : ReportRow) (m : MessageRow) → SoundHeld s → IsNew (reports_in s) r → report_of r.id (reports_in s) ≡ None → message_at r.id (messages_in s) ≡ Some m → is_open_status r ≡ true
+pub status_new_waits : (s : Store) (r : ReportRow) (m : MessageRow) → SoundHeld s → IsReportApart (reports_in s) r → report_of r.id (reports_in s) ≡ None → message_at r.id (messages_in s) ≡ Some m → is_open_status r ≡ true
     → Waits m.source.digits (put load_key (report_load r)) (all_waiting s) (all_waiting (with_reports (put_report r s.reports) s))
 status_new_waits s r m held new none of is_open =
     waits_put (pair_key r.id 0) m.source.digits (report_load r) (λ n. report_wait n (messages_in s) (Some r)) (all_waiting s) (all_waiting (with_reports (put_report r s.reports) s))

@@ -16,7 +16,7 @@ use Rattle.sms_centre_rows.specs.declared.reports.report.ReportKind.{ReportKind}
 use Rattle.sms_centre_rows.specs.declared.reports.report.ReportKind.TheVariants.{Status}
 use Rattle.sms_centre_rows.specs.declared.reports.report.ReportRow.{ReportRow}
 use Rattle.sms_centre_rows.specs.reports.Reports.{amend_report, is_status, next_place, put_report, report_made, report_of}
-use Rattle.sms_centre_rows.specs.reports.Waiting.{IsNew}
+use Rattle.sms_centre_rows.specs.reports.Waiting.{IsReportApart}
 use Rattle.sms_centre_reports.specs.open_reports.Entries.{account_in, account_of}
 use Rattle.sms_centre_reports.specs.open_reports.OpenReportsDraft.{OpenReportsDraftOf as ReportsOf, DraftRepresents}
 use Rattle.sms_receipt.specs.StatusReports.{status_octets}
@@ -94,7 +94,7 @@ tells_report f m d w represents can = record {
 -- ---- it is told
 
 made_is_new : (id : ℕ) (kind : ReportKind) (closed : Bool) (f : FinalState) (n : ℕ) (m : MessageRow) (s : Store) → CanReport f n m s → m.id ≡ id
-    → IsNew (reports_in s) (record { place = next_place (reports_in s); id = id; kind = kind; made = s.moment; progress = record { is_done = closed; attempts = 0; due = s.moment } })
+    → IsReportApart (reports_in s) (record { place = next_place (reports_in s); id = id; kind = kind; made = s.moment; progress = record { is_done = closed; attempts = 0; due = s.moment } })
 made_is_new id kind closed f n m s can own =
     next_is_new (record { place = next_place (reports_in s); id = id; kind = kind; made = s.moment; progress = record { is_done = closed; attempts = 0; due = s.moment } })
     (reports_in s) can.consistent.held.report_keys (λ x among e. can.none x among (e ∙ sym own)) refl

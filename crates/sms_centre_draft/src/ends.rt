@@ -8,7 +8,8 @@ ghost use Rattle.sms_centre_rows.specs.declared.reports.report.ReportKind.TheVar
 ghost use Rattle.sms_centre_rows.specs.waiting.References.{handset_of};
 ghost use Rattle.sms_centre_rows.specs.waiting.SoundAllocations.{IsNumber};
 ghost use Rattle.sms_centre_spec.specs.Draft.{Draft, handsets_in, in_store, messages_in};
-ghost use Rattle.sms_centre_spec.specs.Ends.{end as end_of, is_failure as is_failure_of, is_wished as is_wished_of, make_report, make_status as make_status_of, report as report_of, report_to as report_to_of, status_given};
+ghost use Rattle.sms_centre_spec.specs.Ends.{end as end_of, is_failure as is_failure_of, is_wished as is_wished_of, make_report, make_status as make_status_of};
+ghost use Rattle.sms_centre_spec.specs.Ends.{report as report_of, report_to as report_to_of, status_given};
 ghost use Rattle.sms_centre_spec.specs.Finals.{final_of as final_of_message, submit_reference as submit_reference_of};
 ghost use Rattle.sms_centre_spec.specs.Submitting.{reference_for};
 ghost use Rattle.sms_centre_draft.specs.Stages.{IsUnreported};

@@ -4,7 +4,8 @@ ghost use Rattle.sms_rows.specs.table.Keys.{pair_key};
 ghost use Rattle.sms_rows.specs.table.Table.{put as put_in, row_at, without};
 ghost use Rattle.sms_centre_rows.specs.waiting.Keys.{load_key};
 ghost use Rattle.sms_centre_rows.specs.waiting.Links.{Links};
-ghost use Rattle.sms_centre_rows.specs.waiting.References.{Allocations, give as give_in, handset_of, handsets_of, next_reference as next_reference_of, references_of};
+ghost use Rattle.sms_centre_rows.specs.waiting.References.{Allocations, give as give_in, handset_of, handsets_of, next_reference as next_reference_of};
+ghost use Rattle.sms_centre_rows.specs.waiting.References.{references_of};
 ghost use Rattle.sms_centre_rows.specs.waiting.SoundAllocations.{IsNumber};
 ghost use Rattle.sms_centre_rows.specs.waiting.Waiting.{withdrawn};
 ghost use Rattle.sms_centre_rows.specs.declared.waiting.queued_part.QueuedPart.{QueuedPart as LoadOf};
@@ -31,7 +32,7 @@ pub(crate) fn withdraw(
     queues.withdraw(number, id)
 }
 
-/// One more waits for the handset, or the one of that message and number waits otherwise.
+/// Lets one more wait for the handset, or the one of that message and number wait otherwise.
 pub(crate) fn put(
     queues: &mut DeliveryQueuesDraft,
     number: Digits,

@@ -4,7 +4,8 @@ ghost use Rattle.sms_rows.specs.table.Keys.{AllDigits};
 ghost use Rattle.sms_centre_messages.specs.references.Counts.{one_if as one_if_of};
 ghost use Rattle.sms_centre_rows.specs.messages.Messages.{message_at};
 ghost use Rattle.sms_centre_spec.specs.Draft.{Draft, messages_in, waiting_in};
-ghost use Rattle.sms_centre_spec.specs.Shares.{held_by as held_by_of, holds_too_much as holds_too_much_of, is_of_account as is_of_account_of, takes_too_much as takes_too_much_of};
+ghost use Rattle.sms_centre_spec.specs.Shares.{held_by as held_by_of, holds_too_much as holds_too_much_of, is_of_account as is_of_account_of};
+ghost use Rattle.sms_centre_spec.specs.Shares.{takes_too_much as takes_too_much_of};
 ghost use Rattle.sms_centre_draft.specs.CentreDraft.{Represents};
 
 use crate::centre_draft::CentreDraft;

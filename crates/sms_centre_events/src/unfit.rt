@@ -5,9 +5,9 @@ ghost use Rattle.sms_centre_spec.specs.Numbers.{id_in};
 ghost use Rattle.sms_centre_spec.specs.Requests.{cancel_refused, names_none as names_none_of, query_refused};
 
 use crate::finding::id_of;
-use crate::sources::{names_nobody, source_in};
+use crate::sources::names_nobody;
 use smpp_pdu::{CancelSm, CommandStatus, QuerySm, SmeAddress};
-use sms_intake::CentreAccount;
+use sms_intake::{CentreAccount, source_in};
 
 // Whether no message can have this number, or be of that source.
 fn names_none(account: &CentreAccount, source: &SmeAddress<'_>, octets: &[u8]) -> bool

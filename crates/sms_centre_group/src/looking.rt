@@ -1,7 +1,8 @@
 //! The octets that held changes put.
 ghost use Rattle.std.specs.Prelude.{◌≡◌, Bool, ℕ, IfOk, option_copied};
 ghost use Rattle.sms_centre_group.specs.HeldRoom.{changes_in};
-ghost use Rattle.sms_centre_group.specs.Newest.{first_of, is_part, is_report, newest as newest_of, put_by as put_by_of, put_octets, replaces as replaces_of, stays as stays_of};
+ghost use Rattle.sms_centre_group.specs.Newest.{first_of, is_part, is_report, newest as newest_of, put_by as put_by_of, put_octets, replaces as replaces_of};
+ghost use Rattle.sms_centre_group.specs.Newest.{stays as stays_of};
 ghost use Rattle.sms_centre_rows.specs.messages.Messages.{part_key};
 ghost use Rattle.sms_centre_rows.specs.reports.Reports.{report_key};
 ghost use Rattle.sms_centre_spec.specs.octets.OctetsAt.{kind_octets, part_octets, report_octets};

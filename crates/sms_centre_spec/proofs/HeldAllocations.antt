@@ -14,7 +14,7 @@ use Rattle.sms_centre_rows.specs.messages.OpenParts.{part_load, part_wait, waits
 use Rattle.sms_centre_rows.proofs.messages.PartRows.{numbered_put}
 use Rattle.sms_centre_rows.specs.declared.reports.report.ReportRow.{ReportRow}
 use Rattle.sms_centre_rows.specs.reports.Reports.{is_open_status, put_report, report_key, status_reference}
-use Rattle.sms_centre_rows.specs.reports.Waiting.{Alone, IsNew, report_load, report_wait, reports_to, waiting_as}
+use Rattle.sms_centre_rows.specs.reports.Waiting.{Alone, IsReportApart, report_load, report_wait, reports_to, waiting_as}
 use Rattle.sms_centre_rows.proofs.reports.ReportRows.{new_alone, new_report, new_report_other}
 use Rattle.sms_centre_rows.proofs.reports.WaitingChanges.{part_changes, report_changes}
 use Rattle.sms_centre_rows.specs.declared.waiting.handset.HandsetRow.{HandsetRow}
@@ -120,7 +120,7 @@ part_given_held s m p held there pending undone some small next =
 
 -- ---- a report is made: it is new, and a status report waits under the reference that is given for it
 
-pub report_made_held : (s : Store) (r : ReportRow) → SoundHeld s → IsNew (reports_in s) r → is_open_status r ≡ false → SoundHeld (with_reports (put_report r s.reports) s)
+pub report_made_held : (s : Store) (r : ReportRow) → SoundHeld s → IsReportApart (reports_in s) r → is_open_status r ≡ false → SoundHeld (with_reports (put_report r s.reports) s)
 report_made_held s r held new quiet =
     let alone : Alone (put report_key r (reports_in s)) = new_alone r (reports_in s) new held.alone in
     record {
@@ -145,7 +145,7 @@ report_made_held s r held new quiet =
     silent : (o : Option MessageRow) (other : List ℕ) → (if reports_to other r o then Some (report_load r) else None) ≡ None
     silent o other = cond-false (reports_to other r o) (Some (report_load r)) None (goes o other)
 
-pub status_given_held : (s : Store) (m : MessageRow) (r : ReportRow) → SoundHeld s → IsNew (reports_in s) r → message_at r.id (messages_in s) ≡ Some m → IsNumber m.source.digits → is_open_status r ≡ true
+pub status_given_held : (s : Store) (m : MessageRow) (r : ReportRow) → SoundHeld s → IsReportApart (reports_in s) r → message_at r.id (messages_in s) ≡ Some m → IsNumber m.source.digits → is_open_status r ≡ true
     → reference_for (handset_of m.source.digits (handsets_in s)) s ≡ Some (status_reference r.kind)
     → SoundHeld (with_reports (put_report r s.reports) (with_given (handset_of m.source.digits (handsets_in s)) (status_reference r.kind) s))
 status_given_held s m r held new there is waiting next =

@@ -5,10 +5,12 @@ use Rattle.std.specs.Str.{bytes_eq, chars}
 use Rattle.sms_base.specs.declared.carried.Carried.{Carried}
 use Rattle.sms_base.specs.declared.holder.Holder.{Holder}
 use Rattle.sms_centre_spec.specs.declared.event.CentreEvent.{CentreEvent}
-use Rattle.sms_centre_spec.specs.declared.event.CentreEvent.TheVariants.{Submit as CentreSubmit, Query as CentreQuery, Cancel as CentreCancel, Frame as CentreFrame, Tick as CentreTick}
+use Rattle.sms_centre_spec.specs.declared.event.CentreEvent.TheVariants.{Submit as CentreSubmit, Query as CentreQuery, Cancel as CentreCancel}
+use Rattle.sms_centre_spec.specs.declared.event.CentreEvent.TheVariants.{Frame as CentreFrame, Tick as CentreTick}
 use Rattle.sms_intake.specs.declared.submission.CentreAccount.{CentreAccount}
 use Rattle.sms_handset.specs.declared.event.HandsetEvent.{HandsetEvent}
-use Rattle.sms_handset.specs.declared.event.HandsetEvent.TheVariants.{Frame as HandsetFrame, Tick as HandsetTick, Write as HandsetWrite, Delete as HandsetDelete, Discard as HandsetDiscard}
+use Rattle.sms_handset.specs.declared.event.HandsetEvent.TheVariants.{Frame as HandsetFrame, Tick as HandsetTick, Write as HandsetWrite}
+use Rattle.sms_handset.specs.declared.event.HandsetEvent.TheVariants.{Delete as HandsetDelete, Discard as HandsetDiscard}
 use Rattle.sms_script.specs.declared.report.rows.Direction.{Direction}
 use Rattle.sms_script.specs.declared.report.rows.Direction.TheVariants.{Up, Down}
 use Rattle.sms_script.specs.declared.report.rows.FrameRow.{FrameRow}

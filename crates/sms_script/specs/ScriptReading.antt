@@ -15,14 +15,17 @@ use Rattle.sms_script.specs.declared.event.WorldEvent.TheVariants.{Whole, Stoppe
 use Rattle.sms_script.specs.declared.fault.LineFault.{LineFault}
 use Rattle.sms_script.specs.declared.fault.LineFault.TheVariants.{BadLine}
 use Rattle.sms_script.specs.declared.keyword.Keyword.{Keyword}
-use Rattle.sms_script.specs.declared.keyword.Keyword.TheVariants.{Start as StartWord, Centre as CentreWord, Account as AccountWord, Handset as HandsetWord, Submit as SubmitWord, Urgent as UrgentWord, Query as QueryWord, Cancel as CancelWord, Write as WriteWord, Delete as DeleteWord, Discard as DiscardWord, Deliver as DeliverWord, Tick as TickWord, Restart as RestartWord, Stopped as StoppedWord}
+use Rattle.sms_script.specs.declared.keyword.Keyword.TheVariants.{Start as StartWord, Centre as CentreWord, Account as AccountWord, Handset as HandsetWord}
+use Rattle.sms_script.specs.declared.keyword.Keyword.TheVariants.{Submit as SubmitWord, Urgent as UrgentWord, Query as QueryWord, Cancel as CancelWord}
+use Rattle.sms_script.specs.declared.keyword.Keyword.TheVariants.{Write as WriteWord, Delete as DeleteWord, Discard as DiscardWord, Deliver as DeliverWord}
+use Rattle.sms_script.specs.declared.keyword.Keyword.TheVariants.{Tick as TickWord, Restart as RestartWord, Stopped as StoppedWord}
 use Rattle.sms_script.specs.declared.line.Line.{Line}
 use Rattle.sms_script.specs.declared.line.Line.TheVariants.{Start, Centre, Account as AccountLine, Handset as HandsetLine, Event}
 
 -- What a call returned, seen by view, and the words that it left are what the reading gives.
-abbrev pub Takes : {X Y : Type 0} → (X → Y) → Result X LineFault → List (List ℕ) → Result (Y × List (List ℕ)) LineFault → Type 0
-Takes view (Ok x) rest read = read ≡ Ok (view x, rest)
-Takes view (Err e) rest read = read ≡ Err e
+abbrev pub TakesWords : {X Y : Type 0} → (X → Y) → Result X LineFault → List (List ℕ) → Result (Y × List (List ℕ)) LineFault → Type 0
+TakesWords view (Ok x) rest read = read ≡ Ok (view x, rest)
+TakesWords view (Err e) rest read = read ≡ Err e
 
 -- ---- words
 

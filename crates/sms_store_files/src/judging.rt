@@ -22,13 +22,13 @@ const COUNT_PAGE: u32 = 0xff00_0000;
 pub enum LogFinding {
     /// There is none, or no more than a part of its head.
     Missing,
-    /// It has a head, and no frame counts.
+    /// The log has a head, and no frame counts.
     Emptied,
     /// A write-back into the database was under way, which has all.
     Emptying,
-    /// Its head is none that was written.
+    /// The head of the log is none that was written.
     Unsigned,
-    /// It has whole commits, and nothing behind them.
+    /// The log has whole commits, and nothing behind them.
     Whole,
     /// Behind its whole commits, if it has some, lie frames of one further commit.
     Torn,

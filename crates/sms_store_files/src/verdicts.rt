@@ -10,7 +10,7 @@ use crate::marking::Mark;
 pub enum Verdict {
     /// Both files are as a run left them.
     Taken,
-    /// They are, but for one commit that was never confirmed.
+    /// The files are whole, but for one commit that was never confirmed.
     TakenTorn,
     /// The log of the last run is missing.
     NoLog,

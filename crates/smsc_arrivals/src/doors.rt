@@ -24,7 +24,7 @@ pub trait Door {
             (λ entered. Adds (came self.old) (came self.new) entered) };
 }
 
-/// It states none.
+/// A `TcpListener` does not state who came.
 impl Door for TcpListener {
     type Stream = TcpStream;
 
@@ -40,9 +40,9 @@ impl Door for TcpListener {
 /// The listener for applications and the one for handsets.
 #[derive(Drop)]
 pub struct Doors<L> {
-    /// For applications.
+    /// The listener for applications.
     pub applications: L,
-    /// For handsets.
+    /// The listener for handsets.
     pub links: L,
 }
 

@@ -86,7 +86,8 @@ pub fn requests_have_the_answers_of_their_turns()
 pub fn each_request_is_answered_before_the_end()
     ensures { (accounts : List AccountOf) (calls : List EsmeCall) → (called_all (started_session accounts) calls).esme.wrong_binds ≢ 0
         → (called_all (started_session accounts) calls).esme.session.conversation.state ≡ Closed
-        → map fresh (map request_of (called_all (started_session accounts) calls).answers) ≡ requests_from (called_all (started_session accounts) calls).actions }
+        → map fresh (map request_of (called_all (started_session accounts) calls).answers)
+        ≡ requests_from (called_all (started_session accounts) calls).actions }
 {}
 
 /// What the loop does with a new session, while no call was refused memory and the connection has not ended, is a course of the session's calls. The session

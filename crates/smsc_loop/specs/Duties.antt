@@ -4,7 +4,8 @@ use Rattle.smpp_session.specs.declared.patience.Patience.{Patience}
 use Rattle.smpp_session.specs.declared.patience.Verdict.{Verdict}
 use Rattle.smpp_session.specs.declared.patience.Verdict.TheVariants.{Waits, AsksLink, Silent, Stalled, Unanswered, Inactive, Ordered}
 use Rattle.smpp_session.specs.Patience.{is_within_some, since_first}
-use Rattle.smsc_loop.specs.declared.note.LeaveReason.TheVariants.{Silent as SilentReason, Stalled as StalledReason, Unanswered as UnansweredReason, Inactive as InactiveReason, Ordered as OrderedReason, Replaced as ReplacedReason}
+use Rattle.smsc_loop.specs.declared.note.LeaveReason.TheVariants.{Silent as SilentReason, Stalled as StalledReason, Unanswered as UnansweredReason}
+use Rattle.smsc_loop.specs.declared.note.LeaveReason.TheVariants.{Inactive as InactiveReason, Ordered as OrderedReason, Replaced as ReplacedReason}
 use Rattle.smsc_loop.specs.declared.surroundings.Order.{Order}
 use Rattle.smsc_loop.specs.declared.surroundings.Order.TheVariants.{Stay, Unbind, End, Replaced}
 use Rattle.smsc_loop.specs.declared.turn_end.TurnEnd.{TurnEnd}

@@ -1,7 +1,8 @@
 //! What an event leaves, put in without taking memory.
 ghost use Rattle.std.specs.Prelude.{◌≡◌, ◌+◌, ℕ, List, Some, None, length, option_copied};
 ghost use Rattle.sms_centre_messages.specs.references.ReferenceIndex.{AreFew, IsNewest, Represents};
-ghost use Rattle.sms_centre_messages.specs.references.Moves.{AreMoves, ArePartMoves, ArePartRemovals, AreRemovals, Fits, HasRoomFor, IsMove, IsMoveTo, IsPartMove, IsPartRemoval, IsRemoval};
+ghost use Rattle.sms_centre_messages.specs.references.Moves.{AreMoves, ArePartMoves, ArePartRemovals, AreRemovals, FitsTheReferences, HasRoomFor, IsMove};
+ghost use Rattle.sms_centre_messages.specs.references.Moves.{IsMoveTo, IsPartMove, IsPartRemoval, IsRemoval};
 ghost use Rattle.sms_centre_rows.specs.messages.Messages.{message_at, message_key, part_key, part_reaching};
 ghost use Rattle.sms_centre_rows.specs.declared.messages.message.MessageRow.{MessageRow as MessageRowOf};
 ghost use Rattle.sms_centre_rows.specs.declared.messages.part.PartRow.{PartRow as PartRowOf};
@@ -25,7 +26,7 @@ impl ReferenceIndex {
         messages: &[Change<MessageRow>],
         parts: &[Revision<PartRow>],
     )
-        requires { Fits reserve (length messages.now) (length parts.now) self.old }
+        requires { FitsTheReferences reserve (length messages.now) (length parts.now) self.old }
         ensures moved { (ms : List MessageRowOf) (ps : List PartRowOf) → Represents self.old ms ps → Rises message_key ms → Rises part_key ps
             → AreMoves messages.now ms ps
             → ArePartMoves messages.now parts.now (all_applied message_key messages.now ms) ps

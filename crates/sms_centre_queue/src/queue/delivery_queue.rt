@@ -5,7 +5,8 @@ ghost use Rattle.sms_rows.specs.table.Keys.{pair_key};
 ghost use Rattle.sms_rows.specs.table.Table.{row_at};
 ghost use Rattle.sms_centre_rows.specs.waiting.Keys.{load_key};
 ghost use Rattle.sms_centre_rows.specs.waiting.Links.{emptied, filled, lowered, new_line, raised};
-ghost use Rattle.sms_centre_rows.specs.waiting.References.{AreHeld, following as following_of, is_free as is_free_of, next_reference as next_reference_of, or_new_handset};
+ghost use Rattle.sms_centre_rows.specs.waiting.References.{AreHeld, following as following_of, is_free as is_free_of, next_reference as next_reference_of};
+ghost use Rattle.sms_centre_rows.specs.waiting.References.{or_new_handset};
 ghost use Rattle.sms_centre_rows.specs.waiting.DeliveryQueues.{queue_at_once, queue_given, queue_on, queue_turned, queue_with, queue_withdrawn, queue_without};
 ghost use Rattle.sms_centre_rows.specs.waiting.Waiting.{next as next_of, waits_beside as waits_beside_of};
 ghost use Rattle.sms_centre_queue.specs.queue.Watching.{figures_of};
@@ -145,7 +146,7 @@ impl DeliveryQueue {
         self.waiting.find(Key::pair(id.number(), number))
     }
 
-    /// One more waits, or the one of that message and number waits otherwise.
+    /// Lets one more wait, or the one of that message and number wait otherwise.
     pub fn put(&mut self, load: QueuedPart) -> Result<(), AllocError>
         ensures { OnOk result (self.new ≡ queue_with load self.old) }
     {

@@ -23,7 +23,7 @@ use sms_rows::table::Change;
 use std::alloc::AllocError;
 
 impl DeliveryQueuesDraft {
-    /// One more waits for the handset, or the one of that message and number waits otherwise.
+    /// Lets one more wait for the handset, or the one of that message and number wait otherwise.
     pub fn put(&mut self, number: Digits, load: QueuedPart) -> Result<(), AllocError>
         requires digits { AllDigits number }
         ensures { OnOk result ((g : Allocations) (links : Links) (waiting after : List ℕ → List LoadOf) → DraftRepresents g links waiting self.old
@@ -268,7 +268,8 @@ impl DeliveryQueuesDraft {
     ) -> Result<(), AllocError>
         ensures noted { OnOk result (self.new ≡ given_to (or_new_handset placed.old.queue.line.handset self.old.next_place placed.old.queue.row)
             placed.old.queue.row reference now self.old) }
-        ensures placed { OnOk result (placed.new ≡ with_queue (queue_given (or_new_handset placed.old.queue.line.handset self.old.next_place placed.old.queue.row)
+        ensures placed { OnOk result (placed.new ≡ with_queue
+            (queue_given (or_new_handset placed.old.queue.line.handset self.old.next_place placed.old.queue.row)
             reference now placed.old.queue) placed.old) }
     {
         let Some(row) = self.row_for(placed) else {

@@ -4,7 +4,8 @@ ghost use Rattle.sms_rows.specs.table.Keys.{AllDigits, pair_key};
 ghost use Rattle.sms_rows.specs.table.Table.{row_at};
 ghost use Rattle.sms_centre_rows.specs.waiting.Keys.{load_key};
 ghost use Rattle.sms_centre_rows.specs.waiting.Links.{Links, is_ready as is_ready_of, line_of};
-ghost use Rattle.sms_centre_rows.specs.waiting.References.{Allocations, handset_at, handset_of, handsets_of, next_reference as next_reference_of, place_after, references_of};
+ghost use Rattle.sms_centre_rows.specs.waiting.References.{Allocations, handset_at, handset_of, handsets_of, next_reference as next_reference_of, place_after};
+ghost use Rattle.sms_centre_rows.specs.waiting.References.{references_of};
 ghost use Rattle.sms_centre_rows.specs.waiting.Waiting.{next as next_of, waits_beside as waits_beside_of};
 ghost use Rattle.sms_centre_rows.specs.declared.waiting.queued_part.QueuedPart.{QueuedPart as LoadOf};
 ghost use Rattle.sms_centre_queue.specs.queues.Queues.{HasNoPlace, placed_of, reference_of};
@@ -96,7 +97,8 @@ impl DeliveryQueuesDraft {
     /// handset gets none.
     pub fn next_reference(&self, number: Digits, now: Moment) -> Result<Option<u8>, AllocError>
         requires digits { AllDigits number }
-        ensures reference { IfOk result (λ reference. (g : Allocations) (links : Links) (waiting : List ℕ → List LoadOf) → DraftRepresents g links waiting self.now
+        ensures reference { IfOk result (λ reference. (g : Allocations) (links : Links) (waiting : List ℕ → List LoadOf)
+            → DraftRepresents g links waiting self.now
             → reference ≡ next_reference_of (handset_of number (handsets_of g)) (waiting number) (references_of g) now) }
         // It takes no memory: an error says that the handset is new, and that all places are used up.
         ensures err { IfErr result (λ error. (g : Allocations) (links : Links) (waiting : List ℕ → List LoadOf) → DraftRepresents g links waiting self.now

@@ -4,7 +4,7 @@ ghost use Rattle.sms_base.specs.Among.{Among};
 ghost use Rattle.sms_centre_rows.specs.messages.Messages.{part_key, priority_of as priority_of_rows};
 ghost use Rattle.sms_centre_rows.specs.messages.OpenParts.{is_open_part, part_load as part_load_of, parts_waiting};
 ghost use Rattle.sms_centre_rows.specs.declared.messages.part.PartRow.{PartRow as PartRowOf};
-ghost use Rattle.sms_centre_rows.specs.reports.Reports.{is_open_status as is_open_status_of, status_reference as status_reference_of};
+ghost use Rattle.sms_centre_rows.specs.reports.Reports.{is_open_status as is_open_status_of};
 ghost use Rattle.sms_centre_rows.specs.reports.Waiting.{report_load as report_load_of, with_reports};
 ghost use Rattle.sms_centre_rows.specs.declared.reports.report.ReportRow.{ReportRow as ReportRowOf};
 ghost use Rattle.sms_centre_queue.specs.queues.Representing.{DraftRepresents};
@@ -18,6 +18,7 @@ ghost use Rattle.sms_centre_spec.specs.SoundRows.{IsSound};
 use crate::soundness::RowTables;
 use sms_base::MessageId;
 use sms_centre_queue::queues::DeliveryQueuesDraft;
+use sms_centre_rows::conditions::status_reference;
 use sms_centre_rows::messages::{MessageRow, PartRow};
 use sms_centre_rows::reports::{ReportKind, ReportRow};
 use sms_centre_rows::waiting::QueuedPart;
@@ -98,15 +99,6 @@ fn is_open_status(report: &ReportRow) -> bool
     ensures { result ≡ is_open_status_of report.now }
 {
     matches!(&report.kind, ReportKind::Status { .. }) && !report.progress.is_done
-}
-
-fn status_reference(report: &ReportRow) -> u8
-    ensures { result ≡ status_reference_of report.now.kind }
-{
-    match &report.kind {
-        ReportKind::Status { reference, .. } => *reference,
-        _ => 0,
-    }
 }
 
 fn report_load(report: &ReportRow) -> QueuedPart

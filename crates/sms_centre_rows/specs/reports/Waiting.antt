@@ -50,6 +50,6 @@ abbrev pub Alone : List ReportRow → Type 0
 Alone reports = (r s : ReportRow) → Among r reports → Among s reports → r.id ≡ s.id → r ≡ s
 
 -- no other report has its place, and no other is of its message
-pub record IsNew (reports : List ReportRow) (r : ReportRow) : Type 0 where
+pub record IsReportApart (reports : List ReportRow) (r : ReportRow) : Type 0 where
   pub place : (s : ReportRow) → Among s reports → ¬ (s.place ≡ r.place)
   pub message : (s : ReportRow) → Among s reports → ¬ (s.id ≡ r.id)

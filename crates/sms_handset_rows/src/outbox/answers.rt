@@ -1,6 +1,7 @@
 //! How a transfer that the handset began ended.
 ghost use Rattle.std.specs.Prelude.{◌≡◌};
-ghost use Rattle.sms_handset_rows.specs.outbox.Answers.{error_verdict as error_verdict_of, is_duplicate as is_duplicate_tpdu, is_temporary as is_temporary_cause, verdict_of as verdict_of_ending};
+ghost use Rattle.sms_handset_rows.specs.outbox.Answers.{error_verdict as error_verdict_of, is_duplicate as is_duplicate_tpdu};
+ghost use Rattle.sms_handset_rows.specs.outbox.Answers.{is_temporary as is_temporary_cause, verdict_of as verdict_of_ending};
 
 use sms_base::Octets;
 use sms_link::Ending;

@@ -1,6 +1,7 @@
 //! Walks through what waits.
 ghost use Rattle.std.specs.Prelude.{◌≡◌, ◌++◌, List, IfOk};
-ghost use Rattle.sms_centre_rows.specs.waiting.Waiting.{all_at_once, if_due, is_part_of as is_part_of_message, is_same as is_same_of, next as next_of, preceding, waits_beside as waits_beside_of, withdrawn};
+ghost use Rattle.sms_centre_rows.specs.waiting.Waiting.{all_at_once, if_due, is_part_of as is_part_of_message, is_same as is_same_of, next as next_of};
+ghost use Rattle.sms_centre_rows.specs.waiting.Waiting.{preceding, waits_beside as waits_beside_of, withdrawn};
 ghost use Rattle.sms_centre_rows.specs.declared.waiting.queued_part.QueuedPart.{QueuedPart as LoadOf};
 
 use sms_base::{MessageId, Moment};

@@ -106,6 +106,14 @@ impl WaitingParts {
         }
     }
 
+    /// What waits is in the order of messages and numbers, and each of them waits once. So `next` is what the laws say.
+    pub fn is_ordered(&self)
+        ensures { Rises load_key (loads_of self.now) }
+    {
+        // Its rows are what is kept in both places.
+        let _newer = self.newer.as_slice();
+    }
+
     /// Of all that is due, the first to be offered.
     pub fn next(&self, now: Moment) -> Option<QueuedPart>
         ensures { result ≡ next_of now (loads_of self.now) }
@@ -132,7 +140,7 @@ impl WaitingParts {
 }
 
 impl WaitingParts {
-    /// One more waits, or the one of that message and number waits otherwise.
+    /// Lets one more wait, or the one of that message and number wait otherwise.
     pub fn put(&mut self, load: QueuedPart) -> Result<(), AllocError>
         ensures { OnOk result (loads_of self.new ≡ put load_key load (loads_of self.old)) }
     {

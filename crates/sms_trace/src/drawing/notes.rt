@@ -5,14 +5,14 @@ ghost use Rattle.sms_trace.specs.drawing.Causes.{cause_of_frame};
 ghost use Rattle.sms_trace.specs.drawing.Notes.{again_note, asked_note, bare_word as word_of_bare, behind_note, carried_note, cause_name, cause_note};
 ghost use Rattle.sms_trace.specs.drawing.Notes.{content_note, event_note, frame_note, hex_pair, holder_note, kind_word as word_of_kind, numbered, part_note};
 ghost use Rattle.sms_trace.specs.drawing.Notes.{pdu_note as note_of_pdu, reason_note, receipt_answer_note, receipt_note, reported_word};
-ghost use Rattle.sms_trace.specs.drawing.Notes.{request_note, response_note, state_word as word_of_state};
+ghost use Rattle.sms_trace.specs.drawing.Notes.{request_note, response_note};
 ghost use Rattle.sms_trace.specs.drawing.Shown.{shown_octets};
 
 use crate::drawing::causes::Cause;
 use crate::drawing::shown::{hex_digit, put_shown};
 use sms_base::{Carried, FinalState, Holder, Kind, MessageId, Octets};
 use sms_control::Cp;
-use sms_script::report::{Answered, Direction, FrameRow, MessageState};
+use sms_script::report::{Answered, Direction, FrameRow, state_text};
 use sms_trace_files::numbers::put_number;
 use std::alloc::{AllocError, Global};
 use std::str::from_utf8;
@@ -164,7 +164,7 @@ fn pdu_note(has_pdu: bool) -> &'static str
 pub struct RequestNote {
     /// The name of its command.
     pub command: &'static str,
-    /// Its sequence number, which its answer bears, too.
+    /// The request's sequence number, which its answer bears, too.
     pub sequence: u32,
     /// Whether there is a PDU of it.
     pub has_pdu: bool,
@@ -176,7 +176,7 @@ pub enum Heading {
     None,
     /// The frame arrived before.
     Again,
-    /// It is a request.
+    /// The PDU is a request.
     Request(RequestNote),
 }
 
@@ -272,25 +272,6 @@ pub fn response_text(
     Ok(out)
 }
 
-// The word of a receipt for a state.
-fn state_word(state: FinalState) -> &'static str
-    ensures { result.now ≡ word_of_state state }
-{
-    match state {
-        FinalState::Delivered => "DELIVRD",
-        FinalState::Expired => "EXPIRED",
-        FinalState::Deleted => "DELETED",
-        FinalState::Undeliverable => "UNDELIV",
-    }
-}
-
-fn found_word(state: MessageState) -> &'static str {
-    match state {
-        MessageState::Enroute => "ENROUTE",
-        MessageState::Final(state) => state_word(state),
-    }
-}
-
 /// What a request or an act of an owner is answered.
 pub fn answered_text(alloc: Global, answered: &Answered) -> Result<String, AllocError> {
     match answered {
@@ -299,7 +280,7 @@ pub fn answered_text(alloc: Global, answered: &Answered) -> Result<String, Alloc
             format!(in alloc; "accepted as message {id}")
         }
         Answered::Found(state) => {
-            let state = found_word(*state);
+            let state = state_text(*state);
             format!(in alloc; "{state}")
         }
         Answered::Status(status) => format!(in alloc; "{status:?}"),
@@ -318,7 +299,7 @@ fn put_state(out: &mut Octets, state: Option<FinalState>) -> Result<(), AllocErr
     ensures { OnOk result (out.new ≡ out.old ++ reported_word state) }
 {
     match state {
-        Some(state) => out.append(state_word(state).as_bytes()),
+        Some(state) => out.append(state.word().as_bytes()),
         None => out.append(b"ENROUTE"),
     }
 }

@@ -22,7 +22,7 @@ pub struct SequenceNumbers {
 }
 
 impl SequenceNumbers {
-    /// Those of a session before its first PDU.
+    /// The numbers of a session before its first PDU.
     pub fn new() -> SequenceNumbers
         ensures asked { result.asked ≡ 0 }
         ensures delivered { result.delivered ≡ 0 }

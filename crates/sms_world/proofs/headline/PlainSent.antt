@@ -25,7 +25,7 @@ use Rattle.sms_script.specs.declared.report.rows.Direction.TheVariants.{Up as Up
 use Rattle.sms_script.specs.declared.report.rows.EntryState.TheVariants.{Sent}
 use Rattle.sms_script.specs.declared.report.rows.FrameRow.{FrameRow}
 use Rattle.sms_script.specs.declared.report.rows.OutboxRow.{OutboxRow}
-use Rattle.sms_script.specs.declared.report.rows.ReportedMessage.{ReportedMessage}
+use Rattle.sms_centre_rows.specs.declared.report_lines.ReportedMessage.{ReportedMessage}
 use Rattle.sms_script.specs.declared.script.Script.{Script}
 use Rattle.sms_play.specs.PlayState.{Party, PlayState}
 use Rattle.sms_play.specs.PlayedEvent.{played}

@@ -3,7 +3,8 @@ use Rattle.sms_script.specs.declared.event.Act.{Act}
 use Rattle.sms_script.specs.declared.event.Act.TheVariants.{Submit, Query, Cancel, Write, Delete, Discard, Deliver, Tick}
 use Rattle.sms_script.specs.declared.event.Side.{Side}
 use Rattle.sms_script.specs.declared.event.Side.TheVariants.{Centre, Handset}
-use Rattle.sms_world_model.specs.ScriptRun.{Asked, Cancelled, Event, Handed, Removed, Submitted, Tick_centre, Tick_handset, Wrote, After, Before, Happening, Restarted, Went, Whole as WentWhole, Belongs, happened}
+use Rattle.sms_world_model.specs.ScriptRun.{Asked, Cancelled, Event, Handed, Removed, Submitted, Tick_centre, Tick_handset, Wrote, After, Before, Happening}
+use Rattle.sms_world_model.specs.ScriptRun.{Restarted, Went, Whole as WentWhole, Belongs, happened}
 use Rattle.std.specs.Prelude.{ℕ, max, List, [], ◌+◌, ◌↔◌, ◌∷◌, ◌≡◌, Ok, true}
 use Rattle.sms_script.specs.declared.event.StopPoint.{StopPoint}
 use Rattle.sms_script.specs.declared.event.StopPoint.TheVariants.{Before as StopBefore, After as StopAfter}

@@ -42,7 +42,7 @@ pub enum PasswordWords<'a> {
 pub struct TableAccount<'a> {
     /// The system_id: 1 to 15 ASCII characters.
     pub name: &'a str,
-    /// Its password, or what was made of it.
+    /// The account's password, or what was made of it.
     pub password: PasswordWords<'a>,
     /// The source of its messages that name none.
     pub address: Address,
@@ -50,7 +50,7 @@ pub struct TableAccount<'a> {
     pub sessions: u8,
     /// How many requests it may put in a second; as many as it likes where this is none.
     pub rate: Option<u32>,
-    /// It may have no session for now.
+    /// The account may have no session for now.
     pub is_suspended: bool,
     /// The sources that its messages may name beside its number, each a text that `source_of` knows; any where there are none.
     pub sources: &'a [Value],
@@ -63,7 +63,7 @@ pub enum SourceWords<'a> {
     Number(&'a str),
     /// The numbers that begin with these digits: an asterisk is behind them.
     Prefix(&'a str),
-    /// A name.
+    /// An alphanumeric originator, as it is spelled.
     Name(&'a str),
 }
 
@@ -508,7 +508,7 @@ fn add_value<'a>(accounts: &mut Vec<TableAccount<'a>>, value: &'a Value) -> Resu
 /// Why a file in TOML has no accounts to add.
 #[derive(Clone, Copy, Debug, PartialEq, Eq, Error)]
 pub enum TableFault {
-    /// It has another key than `account`, or that is no array.
+    /// The text has another key than `account`, or that is no array.
     #[error("no accounts")]
     NoAccounts,
     /// The account of this number, from 1, is none, or one too many, or has a name that is there.

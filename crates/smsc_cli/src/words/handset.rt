@@ -27,7 +27,7 @@ pub enum HandsetWords<'a> {
         slots: u8,
         /// The path of its store.
         store: &'a str,
-        /// It ends after so many frames.
+        /// The run ends after so many frames.
         frames: u32,
         /// The path of a file with the secret of its links.
         secret: Option<&'a str>,

@@ -35,7 +35,7 @@ pub struct ServerRun<'a> {
     pub links: u16,
     /// The number of the centre.
     pub centre: Address,
-    /// It ends after so many connections; by an order alone where they are not counted.
+    /// The run ends after so many connections; by an order alone where they are not counted.
     pub sessions: Option<u32>,
     /// The path of a file with accounts, one a line.
     pub accounts: Option<&'a str>,

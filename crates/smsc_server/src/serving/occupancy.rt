@@ -263,12 +263,12 @@ impl Seating {
         }
     }
 
-    /// One more of that side sits.
+    /// Counts one more seat of that side as taken.
     pub(crate) fn sit(&self, side: Side) {
         self.of(side).fetch_add(1, Ordering::SeqCst);
     }
 
-    /// One of that side has left.
+    /// Counts one seat of that side as free.
     pub(crate) fn rise(&self, side: Side) {
         self.of(side).fetch_sub(1, Ordering::SeqCst);
     }

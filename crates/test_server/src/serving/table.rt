@@ -42,10 +42,10 @@ pub(crate) const ANSWERS: usize = 58;
 /// The number of the note that the connection has ended.
 pub(crate) const ENDED: u32 = 1;
 
-/// That of the note that nobody said who it is.
+/// The number of the note that nobody said who it is.
 pub(crate) const SILENT: u32 = 2;
 
-/// That of the note that no octets are taken.
+/// The number of the note that no octets are taken.
 pub(crate) const STALLED: u32 = 3;
 
 /// The last note of the first seat, and the time: each look at it takes a millisecond.

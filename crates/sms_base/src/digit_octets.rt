@@ -1,10 +1,10 @@
-//! Digits as the head of a script writes them.
+//! Digits that octets spell.
 ghost use Rattle.std.specs.Prelude.{◌≡◌, ◌≤◌, length};
 
-use sms_base::Digits;
+use crate::digits::Digits;
 
-/// The digits that the octets spell, 20 at most.
-pub(crate) fn digits_of(octets: &[u8]) -> Digits
+/// The digits that the octets spell, one an octet, 20 at most.
+pub fn digits_of(octets: &[u8]) -> Digits
     requires { length octets.now ≤ 20 }
     ensures { result ≡ octets.now }
 {
