@@ -15,3 +15,4 @@ pub mod SmppTime
 pub mod TimeStamp
 pub mod UtcClock
 pub mod StampWriting
+pub mod Markup
