@@ -16,3 +16,4 @@ pub mod SmppTime
 pub mod TimeStamp
 pub mod UtcClock
 pub mod StampWriting
+pub mod Markup

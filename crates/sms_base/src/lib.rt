@@ -19,6 +19,7 @@
 //! - `laws`: laws of time stamps and identities
 //! - `lending`: a large value that its one owner lends
 //! - `listed`: lists that contracts see by their items
+//! - `markup`: text in markup
 //! - `message_id`: the number of a message, and its text of ten digits
 //! - `moment`: seconds, and time stamps both ways
 //! - `octets`: owned and borrowed octets
@@ -44,6 +45,7 @@ mod holder;
 pub mod laws;
 pub mod lending;
 mod listed;
+pub mod markup;
 mod message_id;
 mod moment;
 mod moment_order;

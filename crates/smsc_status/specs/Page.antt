@@ -21,7 +21,7 @@ use Rattle.smsc_status.specs.declared.page.TheConstants.{HEAD, SESSIONS_HEAD, LI
 use Rattle.sms_base.specs.MessageId.{id_text}
 use Rattle.smsc_status.specs.Charts.{chart_text}
 use Rattle.smsc_status.specs.Kinds.{kind_word}
-use Rattle.smsc_status.specs.Markup.{escaped}
+use Rattle.sms_base.specs.Markup.{escaped}
 use Rattle.smsc_status.specs.Numbers.{moment_text, size_text}
 use Rattle.smsc_status.specs.Quantiles.{quantile_text}
 use Rattle.smsc_status.specs.Series.{commits_a_second}

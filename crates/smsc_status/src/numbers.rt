@@ -1,11 +1,19 @@
 //! Numbers and moments in text.
-ghost use Rattle.std.specs.Prelude.{◌≡◌, ◌++◌, OnOk};
+ghost use Rattle.std.specs.Prelude.{◌≡◌, ◌++◌, OnOk, decimal};
 ghost use Rattle.sms_base.specs.MessageId.{id_text};
 ghost use Rattle.smsc_status.specs.Numbers.{clock_text, date_text, last_digit, milliseconds_text, millionths_text, moment_text, pair, size_text, stamp_text};
 
-use crate::markup::put_number;
+use itoa::Buffer;
 use sms_base::{MessageId, Moment, Octets};
 use std::alloc::AllocError;
+
+/// A number in decimal digits.
+pub(crate) fn put_number(out: &mut Octets, number: u64) -> Result<(), AllocError>
+    ensures { OnOk result (out.new ≡ out.old ++ decimal number) }
+{
+    let mut buffer = Buffer::new();
+    out.append(buffer.format(number).as_bytes())
+}
 
 // Two decimal digits of a semi-octet pair, the low one first (3GPP TS 23.040 9.1.2.3).
 fn put_pair(out: &mut Octets, octet: u8) -> Result<(), AllocError>

@@ -3,10 +3,10 @@ ghost use Rattle.std.specs.Prelude.{◌≡◌, ◌++◌, OnOk, flat_map};
 ghost use Rattle.smsc_status.specs.Pieces.{piece_text};
 
 use crate::commits::Quantile;
-use crate::markup::{put_escaped, put_number};
-use crate::numbers::{put_millionths, put_moment, put_size};
+use crate::numbers::{put_millionths, put_moment, put_number, put_size};
 use crate::quantiles::{put_limit, put_quantile};
 use crate::quoting::put_string;
+use sms_base::markup::put_escaped;
 use sms_base::{Moment, Octets};
 use std::alloc::AllocError;
 

@@ -3,8 +3,7 @@ ghost use Rattle.std.specs.Prelude.{◌≡◌, ◌++◌, OnOk};
 ghost use Rattle.smsc_status.specs.Quantiles.{limit_text, quantile_text};
 
 use crate::commits::Quantile;
-use crate::markup::put_number;
-use crate::numbers::put_milliseconds;
+use crate::numbers::{put_milliseconds, put_number};
 use sms_base::Octets;
 use std::alloc::AllocError;
 

@@ -1,8 +1,8 @@
 //! Responses (RFC 9112), each the last of its connection.
 use crate::figures::StatusView;
 use crate::json::json_of;
-use crate::markup::put_number;
 use crate::metrics::metrics_of;
+use crate::numbers::put_number;
 use crate::page::page_of;
 use crate::requests::{Resource, Wanted};
 use sms_base::Octets;

@@ -3,8 +3,9 @@ ghost use Rattle.std.specs.Prelude.{◌≡◌, ◌++◌, OnOk, take};
 ghost use Rattle.sms_trace_files.specs.picture.Notes.{cut_note, most_shown as most_shown_of, note_element, shown_note};
 
 use crate::numbers::put_number;
-use crate::picture::markup::{Point, put_escaped, put_text_head};
+use crate::picture::markup::{Point, put_text_head};
 use sms_base::Octets;
+use sms_base::markup::put_escaped;
 use std::alloc::AllocError;
 
 // A longer note is cut behind so many octets.

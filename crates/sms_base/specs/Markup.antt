@@ -1,4 +1,4 @@
--- Text in a picture, as XML 1.0 has it: character data and values of attributes (2.4), and their entities (4.6).
+-- Text in markup: character data of a page (HTML 13.1.4 and 13.5), and character data and values of attributes in a picture (XML 1.0 2.4, 4.6).
 use Rattle.std.specs.Prelude.{ℕ, ◌==◌, nat_lt, ◌||◌, List, [], ◌∷◌, ◌++◌, codes, if◌then◌else◌}
 
 -- What is written of an octet of a text: `?` replaces what is no printable ASCII.
