@@ -1,5 +1,6 @@
 //! The text of an address, character by character.
 ghost use Rattle.std.specs.Prelude.{◌≡◌};
+ghost use Rattle.std.specs.List.{list_all};
 ghost use Rattle.std.specs.Str.{chars};
 ghost use Rattle.sms_base.specs.Address.{number_fault, name_fault, text_fault, unless, width_of, has_code};
 ghost use Rattle.sms_base.specs.Alphabet.{code_for};
@@ -21,6 +22,13 @@ pub fn is_digit(character: char) -> bool
     ensures { result ≡ is_digit character }
 {
     semi_octet_of(character).is_some()
+}
+
+/// Whether each character is a digit of a number.
+pub fn are_digits(characters: &[char]) -> bool
+    ensures { result ≡ list_all is_digit characters.now }
+{
+    characters.iter().all(|character| is_digit(*character))
 }
 
 /// How many septets a character takes; one without a code counts as one.

@@ -27,6 +27,7 @@
 //! - `priority`: how urgent a message is, 0 to 3
 //! - `semi_octet`: digits as semi-octets (3GPP TS 23.040 9.1.2.3)
 //! - `smpp_time`: the times of SMPP (SMPP v3.4 7.1.1)
+//! - `text_writing`: text put at the end of octets
 //! - `type_of_number`: the type of number of an address (3GPP TS 23.040 9.1.2.5)
 //! - `wish`: at which ends an originator wants a report
 #![tactic(auto)]
@@ -54,12 +55,13 @@ mod originator;
 mod priority;
 mod semi_octet;
 mod smpp_time;
+mod text_writing;
 mod type_of_number;
 mod wish;
 
 pub use address::Address;
 pub use address_error::AddressError;
-pub use address_text::{has_code, is_digit, width_of};
+pub use address_text::{are_digits, has_code, is_digit, width_of};
 pub use alphabet::{
     Code, ESCAPE, EXTENSION_TABLE, MAIN_TABLE, character_after_escape, character_of, code_of,
 };
@@ -78,5 +80,6 @@ pub use originator::Originator;
 pub use priority::Priority;
 pub use semi_octet::{digit_of, semi_octet_of};
 pub use smpp_time::SmppTimeError;
+pub use text_writing::{put_characters, put_decimal};
 pub use type_of_number::TypeOfNumber;
 pub use wish::Wish;

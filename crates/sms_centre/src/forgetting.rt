@@ -3,7 +3,6 @@ ghost use Rattle.std.specs.Prelude.{◌≡◌, ◌∷◌, [], ◌++◌, ◌&&◌
 ghost use Rattle.sms_rows.specs.table.Table.{Rises};
 ghost use Rattle.sms_centre_rows.specs.declared.reports.report.ReportRow.{ReportRow as ReportRowOf};
 ghost use Rattle.sms_centre_rows.specs.messages.Messages.{message_at};
-ghost use Rattle.sms_centre_rows.specs.messages.SplitReferences.{is_delivered as is_delivered_of};
 ghost use Rattle.sms_centre_rows.specs.reports.Reports.{report_of};
 ghost use Rattle.sms_centre_rows.specs.waiting.Links.{line_of};
 ghost use Rattle.sms_centre_reports.specs.report_log.ByMessage.{reports_between};
@@ -26,10 +25,10 @@ use crate::finishing::planned;
 use crate::forget_error::ForgetError;
 use crate::plan::Plan;
 use crate::state::CentreState;
-use sms_base::{Carried, Digits, FinalState, Holder, MessageId, Moment};
+use sms_base::{Carried, Digits, Holder, MessageId, Moment};
 use sms_centre_draft::{CentreDraft, are_digits};
 use sms_centre_reports::report_log::{MessageReport, ReportLog};
-use sms_centre_rows::messages::MessageRow as Message;
+use sms_centre_rows::messages::{MessageRow as Message, is_delivered};
 use sms_rows::table::Table;
 use std::alloc::{AllocError, Global};
 
@@ -84,18 +83,6 @@ fn bars_reference(state: &CentreState, message: &Message) -> bool
         return false;
     }
     !is_delivered(message.state)
-}
-
-fn is_delivered(state: Option<FinalState>) -> bool
-    ensures { result ≡ is_delivered_of state }
-{
-    match state {
-        Some(FinalState::Delivered) => true,
-        Some(FinalState::Expired) => false,
-        Some(FinalState::Deleted) => false,
-        Some(FinalState::Undeliverable) => false,
-        None => false,
-    }
 }
 
 fn is_held_for(tag: Holder, id: MessageId) -> bool

@@ -11,6 +11,7 @@
 //! - `bodies`: what a centre wants of the store of its rows
 //! - `conditions`: tests of a setup, of moments and of originators, and laws of all tests of rows
 //! - `event`: the events of a centre
+//! - `finals`: what is reported of a message that ended
 //! - `forgetting`: laws of messages that leave the rows once they ended and were reported
 //! - `jobs`: the jobs that seats put, and the replies that they get
 //! - `laws`: laws of the centre's events
@@ -28,6 +29,7 @@ mod answer;
 pub mod bodies;
 pub mod conditions;
 mod event;
+mod finals;
 pub mod forgetting;
 pub mod jobs;
 pub mod laws;
@@ -42,6 +44,7 @@ mod verdict;
 
 pub use answer::CentreAnswer;
 pub use event::CentreEvent;
+pub use finals::final_of;
 pub use numbered_event::is_event;
 pub use order::Order;
 pub use plan_error::PlanError;

@@ -16,13 +16,12 @@ mod writing;
 use crate::report::lines::{
     put_accepted, put_answer, put_frame, put_joined, put_message, put_outbox, put_receipt,
 };
-use crate::report::writing::put_number;
 pub use answers::{Answer, Answered};
 pub use lines::state_text;
 pub use rows::{
     AcceptedRow, Direction, EntryState, FrameRow, GivenRow, JoinedCoding, JoinedRow, OutboxRow,
 };
-use sms_base::{Listed, Octets};
+use sms_base::{Listed, Octets, put_decimal};
 pub use sms_centre_rows::report_lines::{MessageState, ReceiptRow, ReportedMessage};
 use std::alloc::{AllocError, Global};
 
@@ -130,12 +129,12 @@ fn put_premises(out: &mut Octets, broken: Option<Broken>) -> Result<(), AllocErr
         None => out.append(b"premises hold\n"),
         Some(Broken::Timely(event)) => {
             out.append(b"premises broken at event ")?;
-            put_number(out, event)?;
+            put_decimal(out, event)?;
             out.append(b": timely\n")
         }
         Some(Broken::Reused(event)) => {
             out.append(b"premises broken at event ")?;
-            put_number(out, event)?;
+            put_decimal(out, event)?;
             out.append(b": reused\n")
         }
     }

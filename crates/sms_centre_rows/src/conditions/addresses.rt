@@ -1,22 +1,14 @@
 //! Whether a unit can carry an address.
 ghost use Rattle.std.specs.Prelude.{◌≡◌};
-ghost use Rattle.sms_base.specs.SemiOctet.{is_digit as is_digit_of};
 ghost use Rattle.sms_centre_rows.specs.conditions.AddressTest.{is_address as is_address_of, is_name_within as is_name_within_of};
-ghost use Rattle.std.specs.List.{list_all};
 
-use sms_base::{Address, has_code, is_digit, width_of};
+use sms_base::{Address, are_digits, has_code, width_of};
 
 // Digits in a number, semi-octets of 1 to 20 (3GPP TS 23.040 9.1.2.5).
 const MOST_DIGITS: usize = 20;
 
 // Septets in a name: as many as fit 20 semi-octets.
 const MOST_SEPTETS: u8 = 11;
-
-fn are_digits(characters: &[char]) -> bool
-    ensures { result ≡ list_all is_digit_of characters.now }
-{
-    characters.iter().all(|character| is_digit(*character))
-}
 
 fn is_name_within(left: u8, characters: &[char]) -> bool
     ensures { result ≡ is_name_within_of left characters.now }

@@ -7,9 +7,9 @@ use crate::report::answers::{Answer, Answered};
 use crate::report::rows::{
     AcceptedRow, Direction, EntryState, FrameRow, JoinedCoding, JoinedRow, OutboxRow,
 };
-use crate::report::writing::{put_body, put_characters, put_id, put_number, put_octets};
+use crate::report::writing::{put_body, put_id, put_octets};
 use smpp_pdu::CommandStatus;
-use sms_base::Octets;
+use sms_base::{Octets, put_characters, put_decimal};
 use sms_centre_rows::report_lines::{MessageState, ReceiptRow, ReportedMessage};
 use std::alloc::{AllocError, Global};
 
@@ -107,7 +107,7 @@ pub(crate) fn put_answer(out: &mut Octets, answer: &Answer) -> Result<(), AllocE
     ensures { OnOk result (out.new ≡ out.old ++ answer_line answer.now) }
 {
     out.append(b"answer ")?;
-    put_number(out, answer.event)?;
+    put_decimal(out, answer.event)?;
     out.append(b" ")?;
     put_answered(out, &answer.answered)?;
     out.append(b"\n")
@@ -177,7 +177,7 @@ pub(crate) fn put_outbox(out: &mut Octets, entry: &OutboxRow) -> Result<(), Allo
     out.append(b"outbox ")?;
     put_characters(out, entry.handset.as_slice())?;
     out.append(b" ")?;
-    put_number(out, u64::from(entry.entry))?;
+    put_decimal(out, u64::from(entry.entry))?;
     out.append(b" ")?;
     out.append(entry_text(entry.state).as_bytes())?;
     out.append(b"\n")
@@ -187,7 +187,7 @@ pub(crate) fn put_frame(alloc: Global, out: &mut Octets, frame: &FrameRow) -> Re
     ensures { OnOk result (out.new ≡ out.old ++ frame_line frame.now) }
 {
     out.append(b"frame ")?;
-    put_number(out, frame.number)?;
+    put_decimal(out, frame.number)?;
     out.append(b" ")?;
     out.append(direction_text(frame.direction).as_bytes())?;
     out.append(b" ")?;

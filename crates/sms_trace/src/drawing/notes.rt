@@ -10,10 +10,9 @@ ghost use Rattle.sms_trace.specs.drawing.Shown.{shown_octets};
 
 use crate::drawing::causes::Cause;
 use crate::drawing::shown::{hex_digit, put_shown};
-use sms_base::{Carried, FinalState, Holder, Kind, MessageId, Octets};
+use sms_base::{Carried, FinalState, Holder, Kind, MessageId, Octets, put_decimal};
 use sms_control::Cp;
 use sms_script::report::{Answered, Direction, FrameRow, state_text};
-use sms_trace_files::numbers::put_number;
 use std::alloc::{AllocError, Global};
 use std::str::from_utf8;
 
@@ -31,7 +30,7 @@ fn put_numbered(out: &mut Octets, what: &str, number: u64) -> Result<(), AllocEr
     ensures { OnOk result (out.new ≡ out.old ++ numbered what.now number) }
 {
     out.append(what.as_bytes())?;
-    put_number(out, number)
+    put_decimal(out, number)
 }
 
 #[tactic(auto, unfolding(crate::specs::drawing::Notes::part_note))]
@@ -134,7 +133,7 @@ fn put_frame(out: &mut Octets, frame: &FrameRow, is_again: bool) -> Result<(), A
     ensures { OnOk result (out.new ≡ out.old ++ frame_note frame.now is_again) }
 {
     out.append(b"frame ")?;
-    put_number(out, frame.number)?;
+    put_decimal(out, frame.number)?;
     out.append(again_word(is_again).as_bytes())?;
     out.append(b": ")?;
     put_content(out, &frame.carried, frame.octets.as_slice())?;
@@ -186,7 +185,7 @@ fn put_request(out: &mut Octets, kind: &str, asked: &RequestNote) -> Result<(), 
 {
     out.append(asked.command.as_bytes())?;
     out.append(kind.as_bytes())?;
-    put_number(out, u64::from(asked.sequence))?;
+    put_decimal(out, u64::from(asked.sequence))?;
     out.append(pdu_note(asked.has_pdu).as_bytes())?;
     out.append(b": ")
 }
@@ -221,7 +220,7 @@ fn put_event(
     ensures text { IsUtf8 line.now → OnOk result (out.new ≡ out.old ++ event_note number heading.now line.now) }
     ensures octets { (IsUtf8 line.now → ⊥) → OnOk result (out.new ≡ out.old ++ event_note number heading.now (shown_octets line.now)) }
 {
-    put_number(out, number)?;
+    put_decimal(out, number)?;
     out.append(b". ")?;
     put_asked(out, heading)?;
     put_shown(out, line)?;

@@ -5,13 +5,12 @@ ghost use Rattle.sms_trace_files.specs.picture.Drawing.{legend_arrow, legend_los
 ghost use Rattle.sms_trace_files.specs.picture.Drawing.{picture_drawn, size as size_of, tall, view_box, wide};
 ghost use Rattle.sms_trace_files.specs.declared.picture.rows.Sign.TheVariants.{Tick as TickSign, Act as ActSign, Restart as RestartSign};
 
-use crate::numbers::put_number;
 use crate::picture::columns::Columns;
 use crate::picture::looks::put_looks;
 use crate::picture::markup::{Point, put_attribute, put_line, put_sign, put_text};
 use crate::picture::places::{heads, lane_x, names_y, row_y};
 use crate::picture::rows::{PictureRow, Sign, arrow_class, lost_class, put_rows, sign_word};
-use sms_base::Octets;
+use sms_base::{Octets, put_decimal};
 use std::alloc::{AllocError, Global};
 
 /// How much a picture has to hold.
@@ -59,9 +58,9 @@ impl Extent {
 fn put_pair(out: &mut Octets, one: u64, other: u64) -> Result<(), AllocError>
     ensures { OnOk result (out.new ≡ out.old ++ pair one other) }
 {
-    put_number(out, one)?;
+    put_decimal(out, one)?;
     out.append(b" ")?;
-    put_number(out, other)
+    put_decimal(out, other)
 }
 
 // What a viewer shows: from the left upper corner on, all of it.

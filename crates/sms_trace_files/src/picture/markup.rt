@@ -1,10 +1,9 @@
 //! The elements of a picture as SVG (Scalable Vector Graphics 1.1), and text in them.
-ghost use Rattle.std.specs.Prelude.{◌≡◌, ◌++◌, OnOk, decimal};
+ghost use Rattle.std.specs.Prelude.{◌≡◌, ◌++◌, OnOk};
 ghost use Rattle.sms_trace_files.specs.picture.Elements.{attribute, line_element, line_ends, place, sign_element, text_element, text_head};
 
-use crate::numbers::put_number;
-use sms_base::Octets;
 use sms_base::markup::put_escaped;
+use sms_base::{Octets, put_decimal};
 use std::alloc::AllocError;
 
 /// A place in a picture, in pixels from its left and upper edges.
@@ -22,7 +21,7 @@ pub(crate) fn put_attribute(out: &mut Octets, name: &[u8], number: u64) -> Resul
     out.append(b" ")?;
     out.append(name)?;
     out.append(b"=\"")?;
-    put_number(out, number)?;
+    put_decimal(out, number)?;
     out.append(b"\"")
 }
 

@@ -4,7 +4,7 @@ use Rattle.sms_centre_rows.specs.messages.Messages.{message_key}
 use Rattle.sms_rows.specs.declared.table.change.Change.{Change}
 use Rattle.sms_rows.specs.table.Table.{change_key, newest_of}
 use Rattle.sms_rows.proofs.table.Tables.{newest_at}
-use Rattle.sms_centre_messages.proofs.references.adopting.newest.Goals as goal
+use Rattle.sms_centre_rows.proofs.messages.newest.newest_change.Goals as goal
 
 pub returns-then-number : goal.returns-then-number
 returns-then-number c =
