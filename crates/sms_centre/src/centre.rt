@@ -275,14 +275,15 @@ impl Centre {
         submit_refusal(&self.centre_state, account, message)
     }
 
-    /// The status with which its octets refuse a query_sm of that account, if they do. It takes no memory.
+    /// The status with which a query_sm of that account is refused, if it is. It takes no memory: a caller has it also where
+    /// `plan` finds none.
     pub fn query_refusal(&self, account: u8, query: &QuerySm<'_>) -> Option<CommandStatus>
         ensures { (c : Core) → Represents c self.now → result ≡ query_refusal account query.now c }
     {
         query_refusal(&self.centre_state, account, query)
     }
 
-    /// The status with which its octets refuse a cancel_sm of that account, if they do. It takes no memory.
+    /// The status with which a cancel_sm of that account is refused, if it is. It takes no memory, either.
     pub fn cancel_refusal(&self, account: u8, cancel: &CancelSm<'_>) -> Option<CommandStatus>
         ensures { (c : Core) → Represents c self.now → result ≡ cancel_refusal account cancel.now c }
     {

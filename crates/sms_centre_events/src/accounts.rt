@@ -1,6 +1,6 @@
 //! The accounts of applications.
 ghost use Rattle.std.specs.Prelude.{◌≡◌, ◌&&◌, option_copied};
-ghost use Rattle.sms_centre_spec.specs.Requests.{account_at as account_at_of, is_from as is_from_of};
+ghost use Rattle.sms_centre_spec.specs.Requests.{account_at as account_at_of, is_from as is_from_of, is_source as is_source_of};
 ghost use Rattle.sms_centre_rows.specs.reports.Receipts.{is_account as is_account_of};
 
 use sms_base::{Address, Originator};
@@ -38,13 +38,20 @@ fn is_account(name: &[u8], originator: &Originator) -> bool
     }
 }
 
+/// Whether the source that is named is that address.
+pub(crate) fn is_source(source: &Option<Address>, own: &Address) -> bool
+    ensures { result ≡ is_source_of source.now own.now }
+{
+    match source {
+        Some(source) => is_same_address(source, own),
+        None => false,
+    }
+}
+
 fn is_from(source: &Option<Address>, message: &MessageRow) -> bool
     ensures { result ≡ is_from_of source.now message.now }
 {
-    match source {
-        Some(source) => is_same_address(source, &message.source),
-        None => false,
-    }
+    is_source(source, &message.source)
 }
 
 /// Whether it is a message of the account with that name, from that source.

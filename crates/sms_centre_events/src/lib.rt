@@ -24,7 +24,7 @@
 //! - `sources`: the source and the destination that an application names
 //! - `submitting`: submit_sm (SMPP v3.4 4.4)
 //! - `ticks`: a tick
-//! - `unfit`: a query_sm or a cancel_sm that its octets refuse
+//! - `unfit`: a query_sm or a cancel_sm that is refused
 //! - `units`: a unit of a handset that opens a transaction
 //! - `walks`: walks over the handsets that a tick concerns
 #![tactic(auto)]

@@ -1,7 +1,6 @@
 //! The destination that an application names.
 ghost use Rattle.std.specs.Prelude.{◌≡◌};
-ghost use Rattle.sms_centre_spec.specs.Requests.{is_no_handset as is_no_handset_of, is_to as is_to_of, names_nobody as names_nobody_of};
-ghost use Rattle.sms_centre_spec.specs.Requests.{names_number as names_number_of};
+ghost use Rattle.sms_centre_spec.specs.Requests.{is_destination as is_destination_of, is_to as is_to_of, names_number as names_number_of};
 
 use smpp_pdu::SmeAddress;
 use sms_base::{Address, Digits};
@@ -19,31 +18,19 @@ fn names_number(number: &Digits, address: &Option<Address>) -> bool
     }
 }
 
-fn is_no_handset(address: &Option<Address>) -> bool
-    ensures { result ≡ is_no_handset_of address.now }
-{
-    match address {
-        Some(address) => !address.names_handset(),
-        None => true,
-    }
-}
-
-/// Whether a destination is named that is no handset.
-pub(crate) fn names_nobody(destination: &SmeAddress<'_>) -> bool
-    ensures { result ≡ names_nobody_of destination.now }
-{
-    if destination.addr.as_slice().is_empty() {
-        return false;
-    }
-    is_no_handset(&address_in(destination))
-}
-
-/// Whether the destination that is named is the message's; an empty one names none.
-pub(crate) fn is_to(destination: &SmeAddress<'_>, message: &MessageRow) -> bool
-    ensures { result ≡ is_to_of destination.now message.now }
+/// Whether the destination that is named is that handset; an empty one names none.
+pub(crate) fn is_destination(destination: &SmeAddress<'_>, number: &Digits) -> bool
+    ensures { result ≡ is_destination_of destination.now number.now }
 {
     if destination.addr.as_slice().is_empty() {
         return true;
     }
-    names_number(&message.handset, &address_in(destination))
+    names_number(number, &address_in(destination))
+}
+
+/// Whether the destination that is named is the message's.
+pub(crate) fn is_to(destination: &SmeAddress<'_>, message: &MessageRow) -> bool
+    ensures { result ≡ is_to_of destination.now message.now }
+{
+    is_destination(destination, &message.handset)
 }

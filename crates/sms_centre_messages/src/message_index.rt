@@ -17,6 +17,7 @@ mod message_entry;
 mod names;
 mod part_changes;
 mod parts_draft;
+mod peeking;
 mod recover;
 mod summary;
 

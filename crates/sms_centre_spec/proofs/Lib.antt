@@ -13,6 +13,7 @@ mod OneMessage
 mod OrderedByHand
 pub mod OrdersDone
 mod ReceiptWords
+mod QuestionsRefused
 mod RefusedByOctets
 mod ReferencesGiven
 mod RequestsAnswered

@@ -1,5 +1,5 @@
 -- What applications ask for: submit_sm, query_sm and cancel_sm (SMPP v3.4 4.4, 4.8, 4.9). Each has one answer.
-use Rattle.std.specs.Prelude.{ℕ, zero, suc, ◌&&◌, ◌||◌, not, List, [], ◌∷◌, Bool, true, false, if◌then◌else◌, Option, Some, None, Result, Ok, Err}
+use Rattle.std.specs.Prelude.{ℕ, zero, suc, ◌&&◌, ◌||◌, List, [], ◌∷◌, Bool, false, if◌then◌else◌, Option, Some, None, Result, Ok, Err}
 use Rattle.sms_base.specs.declared.address.Address.{Address}
 use Rattle.sms_base.specs.HandsetNumber.{names_handset}
 use Rattle.std.specs.Str.{bytes_eq}
@@ -14,6 +14,7 @@ use Rattle.sms_centre_rows.specs.declared.messages.message.MessageRow.{MessageRo
 use Rattle.sms_centre_rows.specs.messages.Messages.{is_pending, message_at}
 use Rattle.sms_centre_rows.specs.messages.SplitReferences.{is_same_address}
 use Rattle.sms_centre_rows.specs.reports.Receipts.{is_account}
+use Rattle.sms_centre_spec.specs.declared.answer.CentreAnswer.{CentreAnswer}
 use Rattle.sms_centre_spec.specs.declared.answer.CentreAnswer.TheVariants.{Submitted, Queried, Cancelled, Refused}
 use Rattle.sms_intake.specs.declared.submission.CentreAccount.{CentreAccount}
 use Rattle.sms_intake.specs.declared.submission.Submission.{Submission}
@@ -22,7 +23,7 @@ use Rattle.sms_intake.specs.SmppIntake.{address_in, from_pdu, refusal_in, source
 use Rattle.sms_centre_spec.specs.Shares.{unless_too_much}
 use Rattle.sms_centre_spec.specs.Submitting.{accept, is_reference_taken}
 use Rattle.sms_centre_spec.specs.Ends.{end}
-use Rattle.sms_centre_spec.specs.Draft.{Core, Draft, Store, answer_with, in_store, messages_in, rows_of}
+use Rattle.sms_centre_spec.specs.Draft.{Core, Draft, Store, answer_with, draft_of, in_store, messages_in, rows_of}
 use Rattle.sms_centre_spec.specs.MessageNumbers.{next_number}
 
 abbrev pub refused : CommandStatus → Draft → Draft
@@ -64,9 +65,12 @@ octets_refusal place m c = octets_refuse (account_at place c.rows.setup.accounts
 
 -- ---- the message that is asked for: of this account and source
 
+abbrev pub is_source : Option Address → Address → Bool
+is_source None own = false
+is_source (Some source) own = is_same_address source own
+
 abbrev pub is_from : Option Address → MessageRow → Bool
-is_from None m = false
-is_from (Some source) m = is_same_address source m.source
+is_from source m = is_source source m.source
 
 abbrev pub own_message : CentreAccount → Option Address → Option MessageRow → Option MessageRow
 own_message account source None = None
@@ -97,9 +101,12 @@ abbrev pub names_number : List ℕ → Option Address → Bool
 names_number number None = false
 names_number number (Some a) = names_handset a && bytes_eq a.digits number
 
--- The destination that is given is the message's, read as a submit_sm's is. An empty one is given of none (SMPP v3.4 4.9.1).
+-- The destination that is given is that handset, read as a submit_sm's is. An empty one is given of none (SMPP v3.4 4.9.1).
+abbrev pub is_destination : SmeAddress → List ℕ → Bool
+is_destination destination number = is_empty destination.addr || names_number number (address_in destination)
+
 abbrev pub is_to : SmeAddress → MessageRow → Bool
-is_to destination m = is_empty destination.addr || names_number m.handset (address_in destination)
+is_to destination m = is_destination destination m.handset
 
 abbrev pub only_to : SmeAddress → Option MessageRow → Option MessageRow
 only_to destination None = None
@@ -124,35 +131,21 @@ cancel_by (Some account) c d =
 abbrev pub cancel : ℕ → CancelSm → Draft → Draft
 cancel place c d = cancel_by (account_at place d.store.setup.accounts) c d
 
--- ---- a query_sm or a cancel_sm that its octets refuse, whatever the rows are
+-- ---- a query_sm or a cancel_sm that is refused
 
--- no message has such a number or such a source
-abbrev pub names_none : Option ℕ → Option Address → Bool
-names_none None source = true
-names_none (Some id) None = true
-names_none (Some id) (Some source) = false
+-- the status of an answer that refuses
+abbrev pub status_of : CentreAnswer → Option CommandStatus
+status_of (Submitted id) = None
+status_of (Queried id state moment) = None
+status_of Cancelled = None
+status_of (Refused status) = Some status
 
-abbrev pub query_refused : Option CentreAccount → QuerySm → Option CommandStatus
-query_refused None q = None
-query_refused (Some account) q =
-    if names_none (id_in q.message_id) (source_in account.address q.source) then Some ESME_RINVMSGID else None
+abbrev pub status_in : Option CentreAnswer → Option CommandStatus
+status_in None = None
+status_in (Some answer) = status_of answer
 
 abbrev pub query_refusal : ℕ → QuerySm → Core → Option CommandStatus
-query_refusal place q c = query_refused (account_at place c.rows.setup.accounts) q
-
-abbrev pub is_no_handset : Option Address → Bool
-is_no_handset None = true
-is_no_handset (Some a) = not (names_handset a)
-
--- a destination is given, and it is no handset's
-abbrev pub names_nobody : SmeAddress → Bool
-names_nobody destination = not (is_empty destination.addr) && is_no_handset (address_in destination)
-
-abbrev pub cancel_refused : Option CentreAccount → CancelSm → Option CommandStatus
-cancel_refused None c = None
-cancel_refused (Some account) c =
-    if is_empty c.message_id then Some ESME_RCANCELFAIL
-    else (if names_none (id_in c.message_id) (source_in account.address c.source) || names_nobody c.destination then Some ESME_RINVMSGID else None)
+query_refusal place q c = status_in (query place q (draft_of c)).answer
 
 abbrev pub cancel_refusal : ℕ → CancelSm → Core → Option CommandStatus
-cancel_refusal place x c = cancel_refused (account_at place c.rows.setup.accounts) x
+cancel_refusal place x c = status_in (cancel place x (draft_of c)).answer

@@ -155,8 +155,8 @@ pub fn references_stay_apart()
         → SoundHeld (with_message (ended state moment m) s) }
 {}
 
-/// A query_sm or a cancel_sm that its octets refuse is refused with that status, and changes nothing.
-pub fn octets_refuse_a_question()
+/// A query_sm or a cancel_sm that is refused with a status leads to that answer, and changes nothing.
+pub fn a_refused_question_changes_nothing()
     ensures query { (account : ℕ) (asked : QuerySm) (c : Core) (status : CommandStatus) → query_refusal account asked c ≡ Some status
         → query account asked (draft_of c) ≡ refused status (draft_of c) }
     ensures cancel { (account : ℕ) (asked : CancelSm) (c : Core) (status : CommandStatus) → cancel_refusal account asked c ≡ Some status

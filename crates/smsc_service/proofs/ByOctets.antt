@@ -1,4 +1,4 @@
--- A step without memory, answered by the octets of its request.
+-- A step without memory, answered by its request.
 use Rattle.std.proofs.Common.{◌≡◌, List, Option, Some, None, refl, sym, subst, ap, ◌∙◌}
 use Rattle.smpp_pdu.specs.declared.status.CommandStatus.{CommandStatus}
 use Rattle.sms_centre_spec.specs.Draft.{Core}
@@ -35,7 +35,7 @@ module _ (held : Rows → Type 0) (left : Type 0) (centre : CentreStateOf) (seat
   is_step asked fate last outs given same serves by = subst (λ (f : Fate). IsStep held left centre seat_map asked s stimulus f given) (sym same)
       (by s.core (was_short asked fate serves.1) ∙ ap (λ (l : List (Out Reply)). unless_refused fate (refusal_for asked s.core) stimulus l) serves.0, serves.1)
 
--- by whether its octets refuse it
+-- by whether it is refused
 pub refused_then : (refusal : Option CommandStatus) (status : CommandStatus) (stimulus : Stimulus Job) (outs given : List (Out Reply)) → Some status ≡ refusal → given ≡ short_of (Some status) stimulus outs → given ≡ short_of refusal stimulus outs
 refused_then refusal status stimulus outs given is e = e ∙ ap (λ (r : Option CommandStatus). short_of r stimulus outs) is
 

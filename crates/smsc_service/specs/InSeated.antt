@@ -50,7 +50,7 @@ module _ {K : Type 0} (state : K → KeepState Rows) where
   MakingOutcome base before after asked s stimulus fate outs =
       IfMade base s before after (Serves (Reaches base after) (IsLeft base after) after.machine.centre after.seat_map asked s stimulus fate outs)
 
-  -- So it does a step, which without memory is answered by the octets of its request.
+  -- So it does a step, which without memory is answered by its request.
   abbrev pub StepOutcome : Rows → SeatedCentre K → SeatedCentre K → SeatRequest → Serving → Stimulus Job → Fate → List (Out Reply) → Type 0
   StepOutcome base before after asked s stimulus fate outs =
       IfMade base s before after (IsStep (Reaches base after) (IsLeft base after) after.machine.centre after.seat_map asked s stimulus fate outs)

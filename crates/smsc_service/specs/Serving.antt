@@ -55,7 +55,7 @@ gives_for (Forget before from most) Done s stimulus = []
 gives_for (Forget before from most) NoMemory s stimulus = failed_by stimulus
 gives_for (Forget before from most) Refused s stimulus = failed_by stimulus
 
--- the status with which its octets refuse the request
+-- The status with which the request is refused whatever memory there is: a submit_sm by its octets, a question by what it asks about.
 abbrev pub refusal_of : CentreEvent → Core → Option CommandStatus
 refusal_of (Submit account message) c = octets_refusal account message c
 refusal_of (Query account query) c = query_refusal account query c
@@ -75,7 +75,7 @@ refusal_for Nothing c = None
 refusal_for Taken c = None
 refusal_for (Forget before from most) c = None
 
--- Without memory a request is still refused as its octets refuse it; every other one has failed.
+-- Without memory such a request is still refused so; every other one has failed.
 abbrev pub short_of : Option CommandStatus → Stimulus Job → List (Out Reply) → List (Out Reply)
 short_of None stimulus outs = outs
 short_of (Some status) stimulus outs = refused_by status stimulus
@@ -127,7 +127,7 @@ abbrev pub Serves : (Rows → Type 0) → Type 0 → CentreStateOf → SeatMap �
 Serves held left centre seat_map asked s stimulus fate outs =
     (outs ≡ gives_for asked fate s stimulus) × MatchFate fate (IsServing held centre seat_map (after_for asked fate s stimulus)) left
 
--- What is given and what is there then, where a step without memory is answered by the octets of its request.
+-- What is given and what is there then, where a step without memory is answered by its request.
 abbrev pub IsStep : (Rows → Type 0) → Type 0 → CentreStateOf → SeatMap → SeatRequest → Serving → Stimulus Job → Fate → List (Out Reply) → Type 0
 IsStep held left centre seat_map asked s stimulus fate outs =
     (outs ≡ outs_for asked fate s stimulus) × MatchFate fate (IsServing held centre seat_map (after_for asked fate s stimulus)) left

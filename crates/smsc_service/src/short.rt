@@ -13,7 +13,7 @@ use sms_centre::{Centre, CentreAnswer, CentreEvent};
 use sms_centre_spec::jobs::{Job, Reply};
 use sms_keeper::{Fate, Out, Outs, Stimulus};
 
-// The status with which its octets refuse the request.
+// The status with which the request is refused whatever memory there is.
 fn refusal_for(centre: &Centre, asked: &SeatRequest<'_>) -> Option<CommandStatus>
     ensures { (c : Core) → Represents c centre.now → result ≡ refusal_for_of asked.now c }
 {
@@ -65,7 +65,7 @@ fn refused(status: CommandStatus, stimulus: &Stimulus<Job>) -> Made
     }
 }
 
-// What found no memory, answered by the octets of its request where they refuse it.
+// What found no memory, refused as its request is whatever memory there is, if it is.
 fn short(centre: &Centre, asked: &SeatRequest<'_>, stimulus: &Stimulus<Job>, made: Made) -> Made
     requires none { made.fate ≡ NoMemory }
     ensures fate { result.fate ≡ NoMemory }
@@ -80,7 +80,7 @@ fn short(centre: &Centre, asked: &SeatRequest<'_>, stimulus: &Stimulus<Job>, mad
     }
 }
 
-/// What was made as it is. What found no memory is answered by the octets of its request, where they refuse it.
+/// What was made as it is. What found no memory is refused as its request is whatever memory there is, if it is.
 pub(crate) fn answered(
     centre: &Centre,
     asked: &SeatRequest<'_>,

@@ -4,6 +4,7 @@ ghost use Rattle.sms_rows.specs.interning.Interning.{Keeps, TookNumbers, Suffice
 ghost use Rattle.sms_centre_messages.specs.message_index.Entries.{IsEntry, IsOriginator, NamesStay, UsesNames};
 ghost use Rattle.sms_centre_messages.specs.message_index.Summaries.{summary_of};
 ghost use Rattle.sms_centre_rows.specs.declared.messages.message.MessageRow.{MessageRow as MessageRowOf};
+ghost use Rattle.sms_centre_rows.specs.reports.Receipts.{is_account as is_account_of};
 ghost use Rattle.sms_base.specs.declared.originator.Originator.{Originator as OriginatorOf};
 
 use crate::message_index::message_entry::{MessageEntry, OriginatorEntry};
@@ -119,6 +120,19 @@ impl Names {
             handset,
             state: entry.state,
         })
+    }
+
+    // Whether the entry is that of an application of the account with that name.
+    pub(crate) fn is_account(&self, entry: &OriginatorEntry, account: &[u8]) -> bool
+        ensures { (o : OriginatorOf) → IsOriginator self.now.accounts.values entry.now o → result ≡ is_account_of account.now o }
+    {
+        match entry {
+            OriginatorEntry::Application { account: place } => match self.accounts.at(*place) {
+                Some(name) => name.as_slice() == account,
+                None => false,
+            },
+            OriginatorEntry::Handset { .. } => false,
+        }
     }
 
     // The entry of the originator, whose account's name is stored.

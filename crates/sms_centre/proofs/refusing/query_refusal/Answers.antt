@@ -1,16 +1,21 @@
-use Rattle.std.proofs.Common.{Option, ap, sym, ◌∙◌}
+use Rattle.std.proofs.Common.{Option, ap, sym, subst, ◌∙◌}
 use Rattle.std.specs.Prelude.{option_copied}
 use Rattle.sms_intake.specs.declared.submission.CentreAccount.{CentreAccount}
-use Rattle.sms_centre_spec.specs.Requests.{account_at, query_refused}
-use Rattle.sms_centre.specs.state.CentreState.{CentreStateOf}
+use Rattle.sms_centre_spec.specs.declared.setup.Setup.{Setup}
+use Rattle.sms_centre_spec.specs.Draft.{draft_of}
+use Rattle.sms_centre_spec.specs.Requests.{account_at, query_by, status_in}
+use Rattle.sms_centre.specs.state.CentreState.{Represents, CentreStateOf}
 use Rattle.sms_centre.proofs.refusing.query_refusal.Goals as goal
 
 pub returns-in-Some : goal.returns-in-Some
-returns-in-Some c = c.refusal_of_query.ensures
-    ∙ ap (λ (account : Option CentreAccount). query_refused account c.args.query.now) (ap (λ found. option_copied found) (sym c.in-Some.is) ∙ c.account_at.ensures)
-    ∙ ap (λ (s : CentreStateOf). query_refused (account_at c.args.account s.setup.accounts) c.args.query.now) c.centre_state.view_is
+returns-in-Some c = λ core represents.
+    let is : Represents core c.centre_state.inside = subst (λ (s : CentreStateOf). Represents core s) (sym c.centre_state.view_is) represents in
+    c.refusal_of_query.ensures (draft_of core) is.centre.messages_are
+    ∙ ap (λ (account : Option CentreAccount). status_in (query_by account c.args.query.now (draft_of core)).answer)
+    (ap (λ found. option_copied found) (sym c.in-Some.is) ∙ c.account_at.ensures ∙ ap (λ (s : Setup). account_at c.args.account s.accounts) is.centre.setup_is)
 
 pub returns-in-None : goal.returns-in-None
-returns-in-None c =
-    ap (λ (account : Option CentreAccount). query_refused account c.args.query.now) (ap (λ found. option_copied found) (sym c.in-None.is) ∙ c.account_at.ensures)
-    ∙ ap (λ (s : CentreStateOf). query_refused (account_at c.args.account s.setup.accounts) c.args.query.now) c.centre_state.view_is
+returns-in-None c = λ core represents.
+    let is : Represents core c.centre_state.inside = subst (λ (s : CentreStateOf). Represents core s) (sym c.centre_state.view_is) represents in
+    ap (λ (account : Option CentreAccount). status_in (query_by account c.args.query.now (draft_of core)).answer)
+    (ap (λ found. option_copied found) (sym c.in-None.is) ∙ c.account_at.ensures ∙ ap (λ (s : Setup). account_at c.args.account s.accounts) is.centre.setup_is)

@@ -1,11 +1,7 @@
-use Rattle.std.proofs.Common.{ap, sym, subst, ◌∙◌}
-use Rattle.sms_centre_spec.specs.declared.setup.Setup.{Setup}
-use Rattle.sms_centre_spec.specs.Requests.{account_at, query_refused}
+use Rattle.std.proofs.Common.{sym, subst}
 use Rattle.sms_centre.specs.state.CentreState.{Represents, CentreStateOf}
 use Rattle.sms_centre.proofs.centre.Centre.query_refusal.Goals as goal
 
 pub returns : goal.returns
 returns c = λ core represents.
-    let is : Represents core c.self.inside.centre_state = subst (λ (s : CentreStateOf). Represents core s) (sym c.self.view_is) represents in
-    c.query_refusal.ensures
-    ∙ ap (λ (s : Setup). query_refused (account_at c.args.account s.accounts) c.args.query.now) is.centre.setup_is
+    c.query_refusal.ensures core (subst (λ (s : CentreStateOf). Represents core s) (sym c.self.view_is) represents)
