@@ -141,7 +141,8 @@ pub fn references_stay_apart()
         (with_part p (with_given (handset_of m.handset (handsets_in s)) p.reference s)) }
     ensures report_made { (s : Store) (r : ReportRow) → SoundHeld s → IsReportApart (reports_in s) r → is_open_status r ≡ false
         → SoundHeld (with_reports (put_report r s.reports) s) }
-    ensures status_given { (s : Store) (m : MessageRow) (r : ReportRow) → SoundHeld s → IsReportApart (reports_in s) r → message_at r.id (messages_in s) ≡ Some m
+    ensures status_given { (s : Store) (m : MessageRow) (r : ReportRow) → SoundHeld s → IsReportApart (reports_in s) r
+        → message_at r.id (messages_in s) ≡ Some m
         → IsNumber m.source.digits → is_open_status r ≡ true
         → reference_for (handset_of m.source.digits (handsets_in s)) s ≡ Some (status_reference r.kind)
         → SoundHeld (with_reports (put_report r s.reports) (with_given (handset_of m.source.digits (handsets_in s)) (status_reference r.kind) s)) }

@@ -3,7 +3,8 @@ ghost use Rattle.std.specs.Prelude.{◌≡◌, ◌≤◌, ◌↔◌, IfOk, IsTru
 ghost use Rattle.sqlite_wal.specs.Format.{IsSigned, stored_sum};
 ghost use Rattle.sqlite_wal.specs.Recovery.{header};
 ghost use Rattle.sms_store_files.specs.Frames.{behind};
-ghost use Rattle.sms_store_files.specs.Judging.{IsEmptying, IsFound, IsShort, IsUnsignedFinding, are_of_two_commits, found_by, has_one_behind_an_end, has_one_that_begins};
+ghost use Rattle.sms_store_files.specs.Judging.{IsEmptying, IsFound, IsShort, IsUnsignedFinding, are_of_two_commits, found_by, has_one_behind_an_end};
+ghost use Rattle.sms_store_files.specs.Judging.{has_one_that_begins};
 
 use crate::frames::{OwnFrame, number_at, own_behind};
 use sqlite_wal::checksum_of;

@@ -3,7 +3,8 @@ ghost use Rattle.std.specs.Prelude.{◌≡◌, IfOk, OnOk, Some, slice_get};
 ghost use Rattle.sms_centre_spec.specs.SoundCore.{AreDifferent};
 ghost use Rattle.sms_centre.specs.state.Recovering.{AreNew};
 ghost use Rattle.smsc_service.specs.Seats.{seats_in};
-ghost use Rattle.smsc_service.specs.BoundSession.{AreNumbers, handsets_of as handsets_of_links, is_among as is_among_of, sessions_of as sessions_of_sittings, with_number, with_session};
+ghost use Rattle.smsc_service.specs.BoundSession.{AreNumbers, handsets_of as handsets_of_links, is_among as is_among_of, sessions_of as sessions_of_sittings};
+ghost use Rattle.smsc_service.specs.BoundSession.{with_number, with_session};
 
 use crate::number::{is_number, is_same};
 use crate::seat_map::{BoundSession, SeatMap};

@@ -109,7 +109,8 @@ impl<K: CentreStore + Drop> CentreMachine<K> {
             → MatchResult result (λ outputs. HoldsEvent K.state base (core_of (happened event c)) self.new) (λ error. HoldsEvent K.state base c self.new) }
         ensures forgotten { (before from most : ℕ) (c : Core) (base : RowsOf) → Represents c (centre_in self.old)
             → IsOutcome (forget before from most c) planned.plan → Spans (K.state (store_of (keep_in self.old))) (held_in (keep_in self.old)) base c.rows
-            → MatchResult result (λ outputs. HoldsEvent K.state base (core_of (forget before from most c)) self.new) (λ error. HoldsEvent K.state base c self.new) }
+            → MatchResult result (λ outputs. HoldsEvent K.state base (core_of (forget before from most c)) self.new)
+            (λ error. HoldsEvent K.state base c self.new) }
         ensures store { store_of (keep_in self.new) ≡ store_of (keep_in self.old) }
         ensures refusals { (keep_in self.new).refusals ≡ (keep_in self.old).refusals }
     {
@@ -134,7 +135,8 @@ impl<K: CentreStore + Drop> CentreMachine<K> {
             → MatchResult result (λ outputs. HoldsEvent K.state base (core_of (happened event c)) self.new) (λ error. HoldsEvent K.state base c self.new) }
         ensures forgotten { (before from most : ℕ) (c : Core) (base : RowsOf) → Represents c (centre_in self.old)
             → IsOutcome (forget before from most c) planned.plan → Spans (K.state (store_of (keep_in self.old))) (held_in (keep_in self.old)) base c.rows
-            → MatchResult result (λ outputs. HoldsEvent K.state base (core_of (forget before from most c)) self.new) (λ error. HoldsEvent K.state base c self.new) }
+            → MatchResult result (λ outputs. HoldsEvent K.state base (core_of (forget before from most c)) self.new)
+            (λ error. HoldsEvent K.state base c self.new) }
         ensures store { store_of (keep_in self.new) ≡ store_of (keep_in self.old) }
         ensures refusals { (keep_in self.new).refusals ≡ (keep_in self.old).refusals }
     {

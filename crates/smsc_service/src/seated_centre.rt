@@ -122,7 +122,8 @@ impl<K: CentreStore + Drop> SeatedCentre<K> {
         ensures refused { (s : Serving) (base : RowsOf) → IfMade K.state base s self.old self.new (result.fate ≡ Refused → RefusedRead self.old self.new) }
         ensures gives { (s : Serving) (base : RowsOf)
             → MakingOutcome K.state base self.old self.new (Event event.now) s stimulus.now result.fate result.outs }
-        ensures told { (s : Serving) (base : RowsOf) → IfMade K.state base s self.old self.new (result.fate ≡ Done → result.told ≡ (happened event.now s.core).answer) }
+        ensures told { (s : Serving) (base : RowsOf) → IfMade K.state base s self.old self.new
+            (result.fate ≡ Done → result.told ≡ (happened event.now s.core).answer) }
     {
         match self.machine.plan(event) {
             Ok(planned) => self.reply_and_hold(stimulus, planned),
@@ -138,7 +139,8 @@ impl<K: CentreStore + Drop> SeatedCentre<K> {
         ensures refused { (s : Serving) (base : RowsOf) → IfMade K.state base s self.old self.new (result.fate ≡ Refused → RefusedRead self.old self.new) }
         ensures gives { (s : Serving) (base : RowsOf)
             → MakingOutcome K.state base self.old self.new (Event event.now) s stimulus.now result.fate result.outs }
-        ensures told { (s : Serving) (base : RowsOf) → IfMade K.state base s self.old self.new (result.fate ≡ Done → result.told ≡ (happened event.now s.core).answer) }
+        ensures told { (s : Serving) (base : RowsOf) → IfMade K.state base s self.old self.new
+            (result.fate ≡ Done → result.told ≡ (happened event.now s.core).answer) }
     {
         if is_late {
             return unmade(Fate::NoMemory, stimulus);

@@ -5,7 +5,9 @@ ghost use Rattle.clap.specs.declared.error.kind.ErrorKind.TheVariants.{OutOfMemo
 ghost use Rattle.smsc_cli.specs.declared.words.fault.WordsFault.TheVariants.{BadWords, NoMemory};
 ghost use Rattle.smsc_cli.specs.words.HandsetWords.{run_command, run_value};
 ghost use Rattle.smsc_cli.specs.words.LookWords.{IsCountText, MayBe, Wants};
-ghost use Rattle.smsc_cli.specs.words.MisbehaviourWords.{AreMisbehaviourOptions, AskForMisbehaviour, IsCauseText, IsPercentText, IsRefusalText, SpelledMisbehaviour, SpelledMisbehaviourOptions, SpellsCause, SpellsMisbehaviour, SpellsPercent, SpellsRefusal};
+ghost use Rattle.smsc_cli.specs.words.MisbehaviourWords.{AreMisbehaviourOptions, AskForMisbehaviour, IsCauseText, IsPercentText, IsRefusalText};
+ghost use Rattle.smsc_cli.specs.words.MisbehaviourWords.{SpelledMisbehaviour, SpelledMisbehaviourOptions, SpellsCause, SpellsMisbehaviour, SpellsPercent};
+ghost use Rattle.smsc_cli.specs.words.MisbehaviourWords.{SpellsRefusal};
 
 use crate::words::account::at_colon;
 use crate::words::fault::{WordsFault, fault_of};

@@ -63,7 +63,8 @@ module _ {S : Type 0} (remaining contents : S → Option (List ℕ)) where
 
   -- An endpoint that was served on the wire of a connection of that side. From its opening it ran on what the stream gave and on the replies that it heard.
   -- What it sent was written, and the seat put its jobs, until the connection ended for some reason and the endpoint had left its seat.
-  pub record Visit {V : Type 0} (waits : V → List ℕ) (over owing : V → Bool) (does : Call → V → V → Type 0) (any_job : V → Bool) (opened : V) (side : Side) : Type 0 where
+  pub record Visit {V : Type 0} (waits : V → List ℕ) (over owing : V → Bool) (does : Call → V → V → Type 0) (any_job : V → Bool)
+    (opened : V) (side : Side) : Type 0 where
     pub arrival : Arrival S
     pub side_so : arrival.side ≡ side
     pub reader : S
@@ -80,7 +81,8 @@ module _ {S : Type 0} (remaining contents : S → Option (List ℕ)) where
   -- the session of an application, which is admitted by these accounts
   abbrev pub SessionVisit : List Account → Type 0
   SessionVisit accounts =
-      Visit octets_of is_over (λ (e : EsmeView). is_any_request e.waiting) EsmeDoes (λ (e : EsmeView). is_any e.outbox.jobs) (opened_session accounts) Application
+      Visit octets_of is_over (λ (e : EsmeView). is_any_request e.waiting) EsmeDoes (λ (e : EsmeView). is_any e.outbox.jobs)
+        (opened_session accounts) Application
 
   module _ (admitted : Admitted) where
     -- the link of a handset
