@@ -82,7 +82,7 @@ pub fn left_in(summary: Summary, rows: &Rows) -> Summary {
 pub struct Files {
     /// There is a file.
     pub is_there: bool,
-    /// The octets of its log.
+    /// How many octets the log beside the file has.
     pub log_octets: u64,
 }
 

@@ -125,9 +125,9 @@ pub enum ServerWords<'a> {
 /// What can be ordered of a message.
 #[derive(Clone, Copy, Debug, PartialEq, Eq)]
 pub enum OrderWord {
-    /// What waits of it is due now.
+    /// What waits of the message is due now.
     Retry,
-    /// It is deleted.
+    /// The message is deleted.
     Cancel,
 }
 

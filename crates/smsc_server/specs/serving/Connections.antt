@@ -64,7 +64,7 @@ module _ {S : Type 0} (remaining contents : S → Option (List ℕ)) where
   -- An endpoint that was served on the wire of a connection of that side. From its opening it ran on what the stream gave and on the replies that it heard.
   -- What it sent was written, and the seat put its jobs, until the connection ended for some reason and the endpoint had left its seat.
   pub record Visit {V : Type 0} (waits : V → List ℕ) (over owing : V → Bool) (does : Call → V → V → Type 0) (any_job : V → Bool)
-    (opened : V) (side : Side) : Type 0 where
+      (opened : V) (side : Side) : Type 0 where
     pub arrival : Arrival S
     pub side_so : arrival.side ≡ side
     pub reader : S

@@ -10,7 +10,7 @@ use std::net::SocketAddr;
 /// What happens in a run.
 #[derive(Clone, Copy, Debug, PartialEq, Eq)]
 pub enum Event {
-    /// This happened to the endpoint at the seat of this number, whose other side has this address.
+    /// What the note says happened to the endpoint at the seat of the number. The endpoint's other side has the address.
     Endpoint(usize, SocketAddr, Note),
     /// A connection from this address ended without having said who it is.
     Unknown(Side, SocketAddr, LeaveReason),
@@ -41,7 +41,7 @@ pub trait Observer {
     /// The keeper gave the outs of a group of so many items, at most 64.
     fn end_group(&self, _count: usize) {}
 
-    /// A commit begins.
+    /// A commit of the group is about to be made.
     fn begin_commit(&self) {}
 
     /// The commit ended. Where it was refused, it says why.
