@@ -8,7 +8,7 @@ ghost use Rattle.smpp_session.specs.Answers.{after_answer, is_last, last_unbind}
 
 use crate::account::FullAccounts;
 use crate::fault::DeliverFault;
-use crate::numbers::Numbers;
+use crate::numbers::SentNumbers;
 use std::alloc::{AllocError, Global};
 
 // How many deliver_sm may wait for their answers.
@@ -78,11 +78,11 @@ impl SessionState {
 pub(crate) struct Conversation {
     pub state: SessionState,
     // The sequence numbers of the deliver_sm that were sent and aren't answered, at most ten.
-    pub unanswered: Numbers,
+    pub unanswered: SentNumbers,
     // The sequence number of the next deliver_sm, unless one waits under it still: 1 to 7FFFFFFF hexadecimal.
     pub next_number: u32,
     // The sequence numbers of the requests that were passed up and aren't answered, in that order.
-    pub owed: Numbers,
+    pub owed: SentNumbers,
     // The sequence number of an unbind whose answer waits for theirs.
     pub unbind: Option<u32>,
     // Of SMPP, as the application bound.
@@ -98,9 +98,9 @@ impl Conversation {
     {
         Conversation {
             state: SessionState::Opened,
-            unanswered: Numbers::new(alloc),
+            unanswered: SentNumbers::new(alloc),
             next_number: 1,
-            owed: Numbers::new(alloc),
+            owed: SentNumbers::new(alloc),
             unbind: None,
             interface_version: 0,
             full: FullAccounts::none(),

@@ -17,7 +17,7 @@ const LEAVE_LIMIT: u64 = 5_000;
 
 /// What waiting has led to.
 #[derive(Clone, Copy, Debug, PartialEq, Eq)]
-pub enum Verdict {
+pub enum WaitOutcome {
     /// The endpoint is waited for.
     Waits,
     /// The endpoint is sent enquire_link.
@@ -95,22 +95,22 @@ fn unknown_limit(others_wait: bool) -> u64
 }
 
 // What the silence of a bound session has led to.
-fn silence_of(asked: Option<u64>, heard: u64, now: u64) -> Verdict
+fn silence_of(asked: Option<u64>, heard: u64, now: u64) -> WaitOutcome
     ensures { result ≡ silence_verdict asked heard now }
 {
     match asked {
         Some(asked) => {
             if is_within(RESPONSE_LIMIT, asked, now) {
-                Verdict::Waits
+                WaitOutcome::Waits
             } else {
-                Verdict::Inactive
+                WaitOutcome::Inactive
             }
         }
         None => {
             if is_within(SILENCE_LIMIT, heard, now) {
-                Verdict::Waits
+                WaitOutcome::Waits
             } else {
-                Verdict::AsksLink
+                WaitOutcome::AsksLink
             }
         }
     }
@@ -173,36 +173,36 @@ impl Patience {
         self.stalled = since_first(self.stalled, now);
     }
 
-    fn known_verdict(&self, state: &EndpointState, now: u64) -> Verdict
+    fn known_verdict(&self, state: &EndpointState, now: u64) -> WaitOutcome
         ensures { result ≡ known_verdict_of self.now state.now now }
     {
         if !is_within_some(RESPONSE_LIMIT, state.owed, now) {
-            return Verdict::Unanswered;
+            return WaitOutcome::Unanswered;
         }
         if state.is_bound {
             silence_of(self.asked, self.heard, now)
         } else {
-            Verdict::Waits
+            WaitOutcome::Waits
         }
     }
 
     /// What the waiting has led to at this moment.
-    pub fn verdict(&self, state: &EndpointState, now: u64) -> Verdict
+    pub fn verdict(&self, state: &EndpointState, now: u64) -> WaitOutcome
         ensures { result ≡ verdict_of self.now state.now now }
     {
         if !is_within_some(STALL_LIMIT, self.stalled, now) {
-            return Verdict::Stalled;
+            return WaitOutcome::Stalled;
         }
         if !is_within_some(LEAVE_LIMIT, self.leaving, now) {
-            return Verdict::Ordered;
+            return WaitOutcome::Ordered;
         }
         if state.is_known {
             return self.known_verdict(state, now);
         }
         if is_within(unknown_limit(state.others_wait), self.unknown, now) {
-            Verdict::Waits
+            WaitOutcome::Waits
         } else {
-            Verdict::Silent
+            WaitOutcome::Silent
         }
     }
 }

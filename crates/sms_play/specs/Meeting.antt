@@ -16,8 +16,8 @@ use Rattle.sms_script.specs.declared.report.rows.Direction.TheVariants.{Up, Down
 use Rattle.sms_script.specs.declared.report.rows.FrameRow.{FrameRow}
 use Rattle.sms_script.specs.declared.event.Act.{Act}
 use Rattle.sms_script.specs.declared.event.Act.TheVariants.{Submit, Query, Cancel, Write, Delete, Discard, Deliver, Tick}
-use Rattle.sms_script.specs.declared.event.Side.{Side}
-use Rattle.sms_script.specs.declared.event.Side.TheVariants.{Centre, Handset}
+use Rattle.sms_script.specs.declared.event.EventSide.{EventSide}
+use Rattle.sms_script.specs.declared.event.EventSide.TheVariants.{Centre, Handset}
 use Rattle.sms_script.specs.Requests.{cancel_of, query_of, submit_of}
 use Rattle.sms_script.specs.declared.play_fault.PlayFault.{PlayFault}
 use Rattle.sms_script.specs.declared.play_fault.PlayFault.TheVariants.{NoSuchFrame, NoSuchSide, NoSuchAccount}
@@ -68,7 +68,7 @@ delivered event (Some f) c = handed_over event f.direction f c
 
 -- ---- timers
 
-abbrev pub ticked : ℕ → ℕ → Side → PlayState → Result Meeting PlayFault
+abbrev pub ticked : ℕ → ℕ → EventSide → PlayState → Result Meeting PlayFault
 ticked event now Centre c = Ok (AtCentre (CentreTick now))
 ticked event now (Handset number) c = at_handset event number (HandsetTick now) c
 

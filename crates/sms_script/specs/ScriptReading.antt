@@ -7,8 +7,8 @@ use Rattle.sms_script.specs.Keywords.{keyword_of}
 use Rattle.sms_script.specs.Numbers.{number_of, small_of, flag_of, moment_of}
 use Rattle.sms_script.specs.declared.event.Act.{Act}
 use Rattle.sms_script.specs.declared.event.Act.TheVariants.{Submit, Query, Cancel, Write, Delete, Discard, Deliver, Tick}
-use Rattle.sms_script.specs.declared.event.Side.{Side}
-use Rattle.sms_script.specs.declared.event.Side.TheVariants.{Centre as CentreSide, Handset as HandsetSide}
+use Rattle.sms_script.specs.declared.event.EventSide.{EventSide}
+use Rattle.sms_script.specs.declared.event.EventSide.TheVariants.{Centre as CentreSide, Handset as HandsetSide}
 use Rattle.sms_script.specs.declared.event.StopPoint.{StopPoint}
 use Rattle.sms_script.specs.declared.event.StopPoint.TheVariants.{Before, After}
 use Rattle.sms_script.specs.declared.event.WorldEvent.TheVariants.{Whole, Stopped, Restart}
@@ -60,7 +60,7 @@ body_of word = if is_dash word then Ok [] else octets_of word
 abbrev pub text_in : List ℕ → Result (List ℕ) LineFault
 text_in word = body_of word >>= text_of
 
-abbrev pub side_of : List ℕ → Result Side LineFault
+abbrev pub side_of : List ℕ → Result EventSide LineFault
 side_of word = if bytes_eq word (codes "centre") then Ok CentreSide else Ok (HandsetSide word)
 
 abbrev pub stop_of : List ℕ → Result StopPoint LineFault

@@ -5,7 +5,7 @@ ghost use Rattle.sms_script.specs.Numbers.{number_of, small_of, flag_of, moment_
 ghost use Rattle.sms_script.specs.ScriptReading.{TakesWords, word_in, field_in, is_dash, validity_of, body_of, text_in, side_of, stop_of};
 
 use crate::cutting::Words;
-use crate::event::{Side, StopPoint};
+use crate::event::{EventSide, StopPoint};
 use crate::fault::LineFault;
 use crate::hexadecimal::{HexView, octet_of};
 use crate::number::{flag_of, moment_of, number_of, small_of};
@@ -44,13 +44,13 @@ fn text_in(word: &[u8]) -> Result<TextView<'_>, LineFault>
     TextView::of(body_of(word)?)
 }
 
-fn side_of(word: &[u8]) -> Result<Side<'_>, LineFault>
+fn side_of(word: &[u8]) -> Result<EventSide<'_>, LineFault>
     ensures { result ≡ side_of word.now }
 {
     if word == b"centre".as_slice() {
-        Ok(Side::Centre)
+        Ok(EventSide::Centre)
     } else {
-        Ok(Side::Handset(OctetView::of(word)))
+        Ok(EventSide::Handset(OctetView::of(word)))
     }
 }
 
@@ -130,7 +130,7 @@ pub fn text<'a>(words: &mut Words<'a>) -> Result<TextView<'a>, LineFault>
 }
 
 /// `centre`, or the number of a handset.
-pub(crate) fn side<'a>(words: &mut Words<'a>) -> Result<Side<'a>, LineFault>
+pub(crate) fn side<'a>(words: &mut Words<'a>) -> Result<EventSide<'a>, LineFault>
     ensures { TakesWords (λ x. x) result words.new (field_in side_of words.old) }
 {
     side_of(words.word()?)

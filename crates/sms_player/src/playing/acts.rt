@@ -22,7 +22,7 @@ ghost use Rattle.sms_script.specs.declared.report.rows.FrameRow.{FrameRow as Fra
 ghost use Rattle.sms_script.specs.declared.event.Act.{Act as ActOf};
 ghost use Rattle.sms_script.specs.declared.event.Act.TheVariants.{Submit as ActSubmit, Query as ActQuery, Cancel as ActCancel, Write as ActWrite};
 ghost use Rattle.sms_script.specs.declared.event.Act.TheVariants.{Delete as ActDelete, Discard as ActDiscard, Deliver as ActDeliver, Tick as ActTick};
-ghost use Rattle.sms_script.specs.declared.event.Side.TheVariants.{Handset as SideHandset};
+ghost use Rattle.sms_script.specs.declared.event.EventSide.TheVariants.{Handset as SideHandset};
 
 use crate::centre::CentreEvent;
 use crate::playing::Playing;
@@ -36,7 +36,7 @@ use sms_intake::latin_text;
 use sms_play::staging::frame_at;
 use sms_script::report::Direction;
 use sms_script::requests::{cancel_of, query_of, submit_of};
-use sms_script::{Act, PlayFault, Side, StopPoint, Submission, TextView as TextWord, WorldEvent};
+use sms_script::{Act, PlayFault, EventSide, StopPoint, Submission, TextView as TextWord, WorldEvent};
 use std::alloc::AllocError;
 use std::str::from_utf8;
 
@@ -444,19 +444,19 @@ impl<'a> Playing<'a> {
         &mut self,
         event: u64,
         stop: Option<StopPoint>,
-        side: &Side<'_>,
+        side: &EventSide<'_>,
         now: Moment,
     ) -> Result<(), PlayFault>
         ensures leads { (c : PlayState) → Represents c self.old → LeadsTo result self.new (acted stop event (ActTick side.now now) c) }
         ensures fit { (c : PlayState) → IsCentreEvent (meeting_of event (ActTick side.now now) c) }
     {
         match side {
-            Side::Centre => {
+            EventSide::Centre => {
                 let happening = CentreEvent::Tick(now);
                 is_event(&happening);
                 or_no_memory(event, self.at_centre(event, stop, false, &happening))
             }
-            Side::Handset(number) => self.handset_ticked(event, stop, number.as_slice(), now),
+            EventSide::Handset(number) => self.handset_ticked(event, stop, number.as_slice(), now),
         }
     }
 
@@ -494,12 +494,12 @@ impl<'a> Playing<'a> {
         }
     }
 
-    fn restart(&mut self, event: u64, side: &Side<'_>) -> Result<(), PlayFault>
+    fn restart(&mut self, event: u64, side: &EventSide<'_>) -> Result<(), PlayFault>
         ensures { (c : PlayState) → Represents c self.old → LeadsTo result self.new (restart_of event side.now c) }
     {
         match side {
-            Side::Centre => or_no_memory(event, self.restart_centre()),
-            Side::Handset(number) => match self.party(number.as_slice()) {
+            EventSide::Centre => or_no_memory(event, self.restart_centre()),
+            EventSide::Handset(number) => match self.party(number.as_slice()) {
                 Some(place) => or_no_memory(event, self.restart_handset(place)),
                 None => Err(PlayFault::NoSuchSide { event }),
             },

@@ -64,8 +64,8 @@ use Rattle.sms_handset_rows.specs.outbox.References.{held_by_entries, held_messa
 use Rattle.sms_handset_rows.specs.outbox.Reports.{is_reported, reported}
 use Rattle.sms_handset_rows.specs.outbox.Settling.{is_sending, lost, most_tries, put_back, retry_delay, settled}
 use Rattle.sms_handset_rows.specs.outbox.Submits.{written_entry}
-use Rattle.sms_handset_rows.specs.declared.outbox.answers.Verdict.{Verdict}
-use Rattle.sms_handset_rows.specs.declared.outbox.answers.Verdict.TheVariants.{Acknowledged, Duplicate, Lost, Refused, Temporary}
+use Rattle.sms_handset_rows.specs.declared.outbox.answers.TransferEnd.{TransferEnd}
+use Rattle.sms_handset_rows.specs.declared.outbox.answers.TransferEnd.TheVariants.{Acknowledged, Duplicate, Lost, Refused, Temporary}
 use Rattle.sms_handset_rows.specs.declared.outbox.notice.Notice.{Notice}
 use Rattle.sms_handset_rows.specs.declared.outbox.out_entry.EntryState.{EntryState}
 use Rattle.sms_handset_rows.specs.declared.outbox.out_entry.EntryState.TheVariants.{Failed, Queued, Sending, Sent, Unsure}
@@ -133,7 +133,7 @@ put_back_is : (moment : ℕ) (o : OutEntry) → IsEntry o (put_back moment o)
 put_back_is moment o =
     cond_both (nat_le most_tries o.tries) (record o { state = Failed }) (record o { state = Queued; due = Some (later moment retry_delay) }) (λ (z : OutEntry). IsEntry o z) (λ t. (refl, refl)) (λ t. (refl, refl))
 
-settled_is : (moment : ℕ) (v : Verdict) (o : OutEntry) → IsEntry o (settled moment v o)
+settled_is : (moment : ℕ) (v : TransferEnd) (o : OutEntry) → IsEntry o (settled moment v o)
 settled_is moment Acknowledged o = (refl, refl)
 settled_is moment Temporary o = put_back_is moment o
 settled_is moment Duplicate o = (refl, refl)

@@ -64,8 +64,8 @@ use Rattle.sms_handset_rows.specs.outbox.References.{free_from, held_message_ref
 use Rattle.sms_handset_rows.specs.outbox.Reports.{is_reported, reported}
 use Rattle.sms_handset_rows.specs.outbox.Settling.{is_sending, lost, most_tries, put_back, retry_delay, settled}
 use Rattle.sms_handset_rows.specs.outbox.Submits.{written_entry}
-use Rattle.sms_handset_rows.specs.declared.outbox.answers.Verdict.{Verdict}
-use Rattle.sms_handset_rows.specs.declared.outbox.answers.Verdict.TheVariants.{Acknowledged, Duplicate, Lost, Refused, Temporary}
+use Rattle.sms_handset_rows.specs.declared.outbox.answers.TransferEnd.{TransferEnd}
+use Rattle.sms_handset_rows.specs.declared.outbox.answers.TransferEnd.TheVariants.{Acknowledged, Duplicate, Lost, Refused, Temporary}
 use Rattle.sms_handset_rows.specs.declared.outbox.notice.Notice.{Notice}
 use Rattle.sms_handset_rows.specs.declared.outbox.out_entry.EntryState.TheVariants.{Failed, Queued, Sending, Unsure}
 use Rattle.sms_handset_rows.specs.declared.outbox.out_entry.OutEntry.{OutEntry}
@@ -348,7 +348,7 @@ put_back_fits moment o e =
     either_row (nat_le most_tries o.tries) (record o { state = Failed }) (record o { state = Queued; due = Some (later moment retry_delay) })
     (entry_more o (record o { state = Failed }) refl refl e) (entry_more o (record o { state = Queued; due = Some (later moment retry_delay) }) refl refl e)
 
-settled_fits : (moment : ℕ) (v : Verdict) (o : OutEntry) → EntryInOctets o → EntryInOctets (settled moment v o)
+settled_fits : (moment : ℕ) (v : TransferEnd) (o : OutEntry) → EntryInOctets o → EntryInOctets (settled moment v o)
 settled_fits moment Acknowledged o e = entry_more o (settled moment Acknowledged o) refl refl e
 settled_fits moment Temporary o e = put_back_fits moment o e
 settled_fits moment Duplicate o e = entry_more o (settled moment Duplicate o) refl refl e

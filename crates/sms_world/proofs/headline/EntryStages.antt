@@ -67,8 +67,8 @@ use Rattle.sms_handset_rows.specs.outbox.References.{held_message_references, he
 use Rattle.sms_handset_rows.specs.outbox.Reports.{is_reported, reported}
 use Rattle.sms_handset_rows.specs.outbox.Settling.{is_sending, lost, most_tries, put_back, retry_delay, settled}
 use Rattle.sms_handset_rows.specs.outbox.Submits.{submit_for, submit_octets, written_entry}
-use Rattle.sms_handset_rows.specs.declared.outbox.answers.Verdict.{Verdict}
-use Rattle.sms_handset_rows.specs.declared.outbox.answers.Verdict.TheVariants.{Acknowledged, Duplicate, Lost, Refused, Temporary}
+use Rattle.sms_handset_rows.specs.declared.outbox.answers.TransferEnd.{TransferEnd}
+use Rattle.sms_handset_rows.specs.declared.outbox.answers.TransferEnd.TheVariants.{Acknowledged, Duplicate, Lost, Refused, Temporary}
 use Rattle.sms_handset_rows.specs.declared.outbox.notice.Notice.{Notice}
 use Rattle.sms_handset_rows.specs.declared.outbox.out_entry.EntryState.TheVariants.{Failed, Queued, Sending, Unsure}
 use Rattle.sms_handset_rows.specs.declared.outbox.out_entry.OutEntry.{OutEntry}
@@ -318,7 +318,7 @@ module _ (Known : ℕ → List ℕ → Type 0) (again : (n : ℕ) (t : List ℕ)
       cond_both (nat_le most_tries o.tries) (record o { state = Failed }) (record o { state = Queued; due = Some (later moment retry_delay) }) (λ (z : OutEntry). IsKnownEntry z)
       (λ t. entry_more o (record o { state = Failed }) refl refl e) (λ t. entry_more o (record o { state = Queued; due = Some (later moment retry_delay) }) refl refl e)
 
-  settled_known : (moment : ℕ) (v : Verdict) (o : OutEntry) → IsKnownEntry o → IsKnownEntry (settled moment v o)
+  settled_known : (moment : ℕ) (v : TransferEnd) (o : OutEntry) → IsKnownEntry o → IsKnownEntry (settled moment v o)
   settled_known moment Acknowledged o e = entry_more o (settled moment Acknowledged o) refl refl e
   settled_known moment Temporary o e = put_back_known moment o e
   settled_known moment Duplicate o e = entry_more o (settled moment Duplicate o) refl refl e

@@ -3,7 +3,7 @@ use crate::serving::occupancy::Seated;
 use sms_base::{Digits, FinalState, MessageId};
 use sms_centre_spec::Changes;
 use sms_rows::keep::KeepError;
-use smsc_arrivals::Side;
+use smsc_arrivals::PeerKind;
 use smsc_loop::{Activity, LeaveReason, Note};
 use std::net::SocketAddr;
 
@@ -13,7 +13,7 @@ pub enum Event {
     /// What the note says happened to the endpoint at the seat of the number. The endpoint's other side has the address.
     Endpoint(usize, SocketAddr, Note),
     /// A connection from this address ended without having said who it is.
-    Unknown(Side, SocketAddr, LeaveReason),
+    Unknown(PeerKind, SocketAddr, LeaveReason),
     /// A submit_sm of the account at this place was refused with this command_status; of none where nobody was bound.
     SubmitRefused(Option<u8>, u32),
     /// A connection waits at a port, and these have the seats of its side. It is told once a second at most.

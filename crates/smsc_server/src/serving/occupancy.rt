@@ -7,7 +7,7 @@ ghost use Rattle.smsc_server.specs.serving.SessionLimits.{is_suspended_at, limit
 
 use crate::serving::orders::SEATS;
 use smpp_session::FullAccounts;
-use smsc_arrivals::Side;
+use smsc_arrivals::PeerKind;
 use std::alloc::{AllocError, Global};
 use std::sync::atomic::{AtomicUsize, Ordering};
 
@@ -17,12 +17,12 @@ const KEPT: usize = 8;
 // So many seats one side takes at most.
 const MOST: usize = SEATS - KEPT;
 
-fn may_sit(side: Side, applications: usize, links: usize) -> bool
+fn may_sit(side: PeerKind, applications: usize, links: usize) -> bool
     ensures { result ≡ may_sit_of side applications links }
 {
     let own = match side {
-        Side::Application => applications,
-        Side::Handset => links,
+        PeerKind::Application => applications,
+        PeerKind::Handset => links,
     };
     applications.saturating_add(links) < SEATS && own < MOST
 }
@@ -257,25 +257,25 @@ impl Seating {
         }
     }
 
-    fn of(&self, side: Side) -> &AtomicUsize {
+    fn of(&self, side: PeerKind) -> &AtomicUsize {
         match side {
-            Side::Application => &self.applications,
-            Side::Handset => &self.links,
+            PeerKind::Application => &self.applications,
+            PeerKind::Handset => &self.links,
         }
     }
 
     /// Counts one more seat of that side as taken.
-    pub(crate) fn sit(&self, side: Side) {
+    pub(crate) fn sit(&self, side: PeerKind) {
         self.of(side).fetch_add(1, Ordering::SeqCst);
     }
 
     /// Counts one seat of that side as free.
-    pub(crate) fn rise(&self, side: Side) {
+    pub(crate) fn rise(&self, side: PeerKind) {
         self.of(side).fetch_sub(1, Ordering::SeqCst);
     }
 
     /// Whether one more of that side may sit.
-    pub(crate) fn has_room(&self, side: Side) -> bool {
+    pub(crate) fn has_room(&self, side: PeerKind) -> bool {
         let applications = self.applications.load(Ordering::SeqCst);
         let links = self.links.load(Ordering::SeqCst);
         may_sit(side, applications, links)

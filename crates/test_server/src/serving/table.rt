@@ -188,7 +188,7 @@ pub(crate) fn make_room_for(alloc: Global, slots: usize) -> Result<Room, Fail>
 
 /// Who sits at the first seat.
 #[derive(Clone, Copy)]
-pub(crate) enum Side {
+pub(crate) enum Sitter {
     Application,
     Handset,
 }
@@ -198,14 +198,14 @@ pub(crate) enum Side {
 pub(crate) struct Table {
     pub(crate) alloc: Global,
     pub(crate) accounts: Arc<Accounts>,
-    pub(crate) side: Side,
+    pub(crate) side: Sitter,
     pub(crate) around: LastReply,
     // What the second seat has: time goes on by its own looks.
     other: LastReply,
 }
 
 impl Table {
-    pub(crate) fn new(alloc: Global, side: Side) -> Result<Table, Fail> {
+    pub(crate) fn new(alloc: Global, side: Sitter) -> Result<Table, Fail> {
         Ok(Table {
             alloc,
             accounts: logins(alloc)?,
@@ -220,10 +220,10 @@ impl Table {
             return;
         };
         match self.side {
-            Side::Application => {
+            Sitter::Application => {
                 application_sits(rt, self.alloc, wire, seat, accounts, &self.around)
             }
-            Side::Handset => link_sits(rt, self.alloc, wire, seat, &self.around),
+            Sitter::Handset => link_sits(rt, self.alloc, wire, seat, &self.around),
         }
     }
 

@@ -1,6 +1,6 @@
 use Rattle.std.proofs.Common.{ℕ, List, ◌≤◌, length, sym, subst, ◌∙◌}
 use Rattle.smpp_session.proofs.Places.{more_left}
-use Rattle.smpp_session.proofs.numbers.Numbers.is_only.Goals as goal
+use Rattle.smpp_session.proofs.numbers.SentNumbers.is_only.Goals as goal
 
 pub returns-in_default : goal.returns-in_default
 returns-in_default c =
