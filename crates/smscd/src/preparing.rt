@@ -12,8 +12,8 @@ use sms_centre_spec::Rows;
 use sms_centre_spec::numbers::step_after_loss;
 use sms_store::CentreKeep;
 use sms_store_files::{
-    FilesFault, FilesFinding, Mark, StartVerdict, are_still, drop_log, finding_of, mark_at, octets_of,
-    verdict_of, write_back, write_mark,
+    FilesFault, FilesFinding, Mark, StartVerdict, are_still, drop_log, finding_of, mark_at,
+    octets_of, verdict_of, write_back, write_mark,
 };
 use smsc_cli::words::ServerRun;
 use smsc_service::{CentreStore, Setup};

@@ -36,7 +36,9 @@ use sms_intake::latin_text;
 use sms_play::staging::frame_at;
 use sms_script::report::Direction;
 use sms_script::requests::{cancel_of, query_of, submit_of};
-use sms_script::{Act, PlayFault, EventSide, StopPoint, Submission, TextView as TextWord, WorldEvent};
+use sms_script::{
+    Act, EventSide, PlayFault, StopPoint, Submission, TextView as TextWord, WorldEvent,
+};
 use std::alloc::AllocError;
 use std::str::from_utf8;
 

@@ -5,7 +5,7 @@ use crate::drawing::Arrow;
 use crate::watching::heads::Places;
 use sms_base::{Digits, Octets};
 use sms_script::report::{Direction, FrameRow};
-use sms_script::{Setup, EventSide};
+use sms_script::{EventSide, Setup};
 use std::alloc::{AllocError, Global};
 
 // More have no lane: no such script is played.

@@ -82,7 +82,7 @@ module _ {S : Type 0} (remaining contents : S → Option (List ℕ)) where
   abbrev pub SessionVisit : List Account → Type 0
   SessionVisit accounts =
       Visit octets_of is_over (λ (e : EsmeView). is_any_request e.waiting) EsmeDoes (λ (e : EsmeView). is_any e.outbox.jobs)
-        (opened_session accounts) Application
+      (opened_session accounts) Application
 
   module _ (admitted : Admitted) where
     -- the link of a handset

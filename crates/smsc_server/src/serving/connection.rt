@@ -8,7 +8,7 @@ use crate::serving::poller::Poller;
 use crate::serving::refusing::refuse;
 use crossbeam_channel::TryRecvError;
 use mio::Waker;
-use smsc_arrivals::{Doors, Piece, PieceReceiver, Reading, PeerKind, open_pieces};
+use smsc_arrivals::{Doors, PeerKind, Piece, PieceReceiver, Reading, open_pieces};
 use smsc_loop::{Found, LeaveReason, Wire};
 use std::alloc::Global;
 use std::io::{self, Read, Write};

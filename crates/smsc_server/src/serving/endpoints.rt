@@ -25,7 +25,7 @@ use crossbeam_channel::Sender;
 use smpp_session::FullAccounts;
 use sms_centre_spec::jobs::{Job, Reply};
 use sms_keeper::Seat;
-use smsc_arrivals::{Arrival, Reading, PeerKind};
+use smsc_arrivals::{Arrival, PeerKind, Reading};
 use smsc_endpoint::{Esme, LinkAccess, LinkEndpoint};
 use smsc_loop::{Activity, Counts, LeaveReason, Note, OpenSeat, Order, Surroundings, Wire, serve};
 use std::alloc::Global;

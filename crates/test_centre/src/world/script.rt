@@ -1,7 +1,7 @@
 //! Scripts that are read, and the numbers of bad lines.
 use crate::rows::holds;
 use sms_base::{OctetView, Octets};
-use sms_script::{Act, Script, ScriptFault, Setup, EventSide, StopPoint, WorldEvent, read_script};
+use sms_script::{Act, EventSide, Script, ScriptFault, Setup, StopPoint, WorldEvent, read_script};
 use std::alloc::Global;
 use std::test::Fail;
 

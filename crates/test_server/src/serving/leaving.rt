@@ -3,7 +3,8 @@ use crate::rows::holds;
 use crate::service::centre::clock;
 use crate::serving::answering::Counter;
 use crate::serving::table::{
-    ANSWERS, ENDED, REQUESTS, Room, SILENT, STALLED, Sitter, Table, is_even, is_whole, make_room, run,
+    ANSWERS, ENDED, REQUESTS, Room, SILENT, STALLED, Sitter, Table, is_even, is_whole, make_room,
+    run,
 };
 use crate::serving::wire::Script;
 use sms_base::lending::put;
