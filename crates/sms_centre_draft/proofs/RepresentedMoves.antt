@@ -23,7 +23,7 @@ use Rattle.sms_receipt.specs.StatusReports.{status_octets}
 use Rattle.sms_centre_rows.specs.declared.waiting.queued_part.QueuedPart.{QueuedPart}
 use Rattle.sms_centre_rows.specs.declared.waiting.progress.Progress.{Progress}
 use Rattle.sms_centre_rows.specs.declared.waiting.handset.HandsetRow.{HandsetRow}
-use Rattle.sms_centre_rows.specs.waiting.Keys.{load_key}
+use Rattle.sms_centre_rows.specs.waiting.Keys.{queued_key}
 use Rattle.sms_centre_rows.specs.waiting.Links.{Links}
 use Rattle.sms_centre_rows.specs.waiting.References.{Allocations, give, handset_at, handset_of, handsets_of, next_reference, references_of}
 use Rattle.sms_centre_rows.specs.waiting.Revisions.{amended}
@@ -157,13 +157,13 @@ status_row f m reference s = record {
 }
 
 pub status_made_waits : (f : FinalState) (m : MessageRow) (reference : ℕ) (d : Draft) (w : CentreDraftOf) → Represents d w → IsUnreported f m d.store
-    → Waits m.source.digits (put load_key (record { id = m.id; number = 0; reference = reference; priority = 0; due = w.moment })) (all_waiting d.store)
+    → Waits m.source.digits (put queued_key (record { id = m.id; number = 0; reference = reference; priority = 0; due = w.moment })) (all_waiting d.store)
     (all_waiting (status_given f m (handset_of m.source.digits (handsets_in d.store)) (Some reference) d.store))
 unfolding status_row
 status_made_waits f m reference d w represents can =
     let s : Store = d.store in
     let r : ReportRow = status_row f m reference s in
-    subst (λ (n : ℕ). Waits m.source.digits (put load_key (record { id = m.id; number = 0; reference = reference; priority = 0; due = n })) (all_waiting s) (all_waiting (with_reports (put_report r s.reports) s))) (sym represents.moment)
+    subst (λ (n : ℕ). Waits m.source.digits (put queued_key (record { id = m.id; number = 0; reference = reference; priority = 0; due = n })) (all_waiting s) (all_waiting (with_reports (put_report r s.reports) s))) (sym represents.moment)
     (status_new_waits s r (ended f s.moment m) represents.consistent.held
     (made_is_new m.id (Status reference (status_octets (final_of f s.moment m))) false f s.moment m s (tells_report f m d w represents can) refl) can.none can.there refl)
 

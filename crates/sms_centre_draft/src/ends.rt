@@ -87,14 +87,14 @@ impl<'a> CentreDraft<'a> {
         self.reports
             .make_status(message.id, self.moment, reference, tpdu)?;
         give(&mut self.queues, handset, reference, self.moment)?;
-        let load = QueuedPart {
+        let queued = QueuedPart {
             id: message.id,
             number: 0,
             reference,
             priority: 0,
             due: self.moment,
         };
-        put(&mut self.queues, handset, load)?;
+        put(&mut self.queues, handset, queued)?;
         Ok(())
     }
 

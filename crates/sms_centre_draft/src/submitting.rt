@@ -99,14 +99,14 @@ impl<'a> CentreDraft<'a> {
         self.messages.put_part(row)?;
         give(&mut self.queues, submission.handset, reference, self.moment)?;
         let priority = submission.priority.level();
-        let load = QueuedPart {
+        let queued = QueuedPart {
             id,
             number,
             reference,
             priority,
             due: submission.due,
         };
-        put(&mut self.queues, submission.handset, load)?;
+        put(&mut self.queues, submission.handset, queued)?;
         Ok(())
     }
 

@@ -44,12 +44,12 @@ report_due None s = s
 report_due (Some r) s = with_report_at r (due_at s.moment r.progress) s
 
 -- number 0 is a status report
-abbrev pub load_due : QueuedPart → Store → Store
-load_due l s = if l.number == 0 then report_due (report_of l.id (reports_in s)) s else part_due (part_at l.id l.number (parts_in s)) s
+abbrev pub queued_due : QueuedPart → Store → Store
+queued_due l s = if l.number == 0 then report_due (report_of l.id (reports_in s)) s else part_due (part_at l.id l.number (parts_in s)) s
 
 abbrev pub all_due : List QueuedPart → Store → Store
 all_due [] s = s
-all_due (l ∷ ls) s = all_due ls (load_due l s)
+all_due (l ∷ ls) s = all_due ls (queued_due l s)
 
 abbrev pub due_now : List ℕ → Store → Store
 due_now handset s = all_due (waiting_in handset s) s

@@ -18,7 +18,7 @@ ghost use Rattle.sms_centre_rows.specs.waiting.SoundAllocations.{IsNumber};
 ghost use Rattle.sms_centre_rows.specs.declared.waiting.handset_link.Sent.{Sent};
 ghost use Rattle.sms_centre_rows.specs.declared.waiting.progress.Progress.{Progress};
 ghost use Rattle.sms_centre_rows.specs.declared.waiting.queued_part.QueuedPart.{QueuedPart};
-ghost use Rattle.sms_centre_rows.specs.waiting.Keys.{load_key};
+ghost use Rattle.sms_centre_rows.specs.waiting.Keys.{queued_key};
 ghost use Rattle.sms_centre_rows.specs.waiting.Trying.{due_at};
 ghost use Rattle.smpp_pdu.specs.declared.cancel.CancelSm.{CancelSm};
 ghost use Rattle.smpp_pdu.specs.declared.message.Message.{Message};
@@ -122,7 +122,7 @@ pub fn a_retry_makes_its_message_due()
     ensures parts { (m : MessageRow) (s : Store) (l : QueuedPart) (p : PartRow) → Among l (parts_among m.id (waiting_in m.handset s))
         → part_at l.id l.number (parts_in s) ≡ Some p
         → part_at l.id l.number (parts_in (message_due m s)) ≡ Some (record p { progress = due_at s.moment p.progress }) }
-    ensures others { (m : MessageRow) (s : Store) (key : ℕ) → ((l : QueuedPart) → Among l (parts_among m.id (waiting_in m.handset s)) → ¬ (load_key l ≡ key))
+    ensures others { (m : MessageRow) (s : Store) (key : ℕ) → ((l : QueuedPart) → Among l (parts_among m.id (waiting_in m.handset s)) → ¬ (queued_key l ≡ key))
         → row_at part_key key (parts_in (message_due m s)) ≡ row_at part_key key (parts_in s) }
     ensures messages { (m : MessageRow) (s : Store) → messages_in (message_due m s) ≡ messages_in s }
     ensures reports { (m : MessageRow) (s : Store) → reports_in (message_due m s) ≡ reports_in s }

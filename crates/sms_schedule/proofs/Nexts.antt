@@ -6,7 +6,7 @@ use Rattle.sms_base.specs.Among.{Among}
 use Rattle.sms_rows.specs.table.Table.{Rises, row_at}
 use Rattle.sms_rows.proofs.table.Tables.{among_found}
 use Rattle.sms_centre_rows.specs.declared.waiting.queued_part.QueuedPart.{QueuedPart}
-use Rattle.sms_centre_rows.specs.waiting.Keys.{load_key}
+use Rattle.sms_centre_rows.specs.waiting.Keys.{queued_key}
 use Rattle.sms_centre_rows.specs.waiting.Waiting.{is_due, next, precedes, preceding}
 use Rattle.sms_schedule.specs.Precedence.{IsNext}
 use Rattle.sms_schedule.proofs.Orders.{no_later, one_key, precedes-flip, precedes-self}
@@ -62,11 +62,11 @@ nothing_is_due now rows s e = subst (Finds now rows) e (finds now rows) s
 
 -- each message and number waits once
 abbrev AreApart : List QueuedPart → Type 0
-AreApart rows = (a b : QueuedPart) → Among a rows → Among b rows → load_key a ≡ load_key b → a ≡ b
+AreApart rows = (a b : QueuedPart) → Among a rows → Among b rows → queued_key a ≡ queued_key b → a ≡ b
 
-are_apart : (rows : List QueuedPart) → Rises load_key rows → AreApart rows
+are_apart : (rows : List QueuedPart) → Rises queued_key rows → AreApart rows
 are_apart rows rises a b there here e =
-    let same : Some a ≡ Some b = sym (among_found load_key a rows rises there) ∙ ap (λ (n : ℕ). row_at load_key n rows) e ∙ among_found load_key b rows rises here in cc
+    let same : Some a ≡ Some b = sym (among_found queued_key a rows rises there) ∙ ap (λ (n : ℕ). row_at queued_key n rows) e ∙ among_found queued_key b rows rises here in cc
 
 -- the first that is due is what the search finds
 found_is : (now : ℕ) (rows : List QueuedPart) (s : QueuedPart) (r : Option QueuedPart) → AreApart rows → IsNext now rows s → Finds now rows r → r ≡ Some s
@@ -76,7 +76,7 @@ found_is now rows s (Some t) apart h f = ap Some (apart t s f.among h.among (one
 is_next_of : (now : ℕ) (rows : List QueuedPart) (s : QueuedPart) → AreApart rows → IsNext now rows s → next now rows ≡ Some s
 is_next_of now rows s apart h = found_is now rows s (next now rows) apart h (finds now rows)
 
-pub is_next : (now : ℕ) (rows : List QueuedPart) (s : QueuedPart) → Rises load_key rows → IsNext now rows s → next now rows ≡ Some s
+pub is_next : (now : ℕ) (rows : List QueuedPart) (s : QueuedPart) → Rises queued_key rows → IsNext now rows s → next now rows ≡ Some s
 is_next now rows s rises h = is_next_of now rows s (are_apart rows rises) h
 
 -- where nothing is due the search finds nothing
@@ -92,6 +92,6 @@ same_by now rows others None apart same f = sym (none_is_next now others (λ s a
 same_by now rows others (Some s) apart same f =
     sym (is_next_of now others s apart (record { among = (same s).0 f.among; due = f.due; first = λ other at le. f.first other ((same other).1 at) le }))
 
-pub same_next : (now : ℕ) (rows others : List QueuedPart) → Rises load_key rows → ((s : QueuedPart) → Among s rows ↔ Among s others) → next now rows ≡ next now others
+pub same_next : (now : ℕ) (rows others : List QueuedPart) → Rises queued_key rows → ((s : QueuedPart) → Among s rows ↔ Among s others) → next now rows ≡ next now others
 same_next now rows others rises same =
     same_by now rows others (next now rows) (λ a b at bt e. are_apart rows rises a b ((same a).1 at) ((same b).1 bt) e) same (finds now rows)

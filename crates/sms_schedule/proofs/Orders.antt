@@ -5,7 +5,7 @@ use Rattle.std.proofs.lemmas.Bool.{cases_eq}
 use Rattle.std.proofs.lemmas.Bool.Decides.{nat_tests}
 use Rattle.sms_rows.specs.table.Keys.{pair_key}
 use Rattle.sms_centre_rows.specs.declared.waiting.queued_part.QueuedPart.{QueuedPart}
-use Rattle.sms_centre_rows.specs.waiting.Keys.{load_key}
+use Rattle.sms_centre_rows.specs.waiting.Keys.{queued_key}
 use Rattle.sms_centre_rows.specs.waiting.Waiting.{precedes}
 
 pub precedes-self : (a : QueuedPart) → precedes a a ≡ false
@@ -93,5 +93,5 @@ same_number : (a b : QueuedPart) → precedes a b ≡ false → precedes b a ≡
 same_number a b h k = grind (arith, nat_tests)
 
 -- two neither of which precedes the other have one key
-pub one_key : (a b : QueuedPart) → precedes a b ≡ false → precedes b a ≡ false → load_key a ≡ load_key b
+pub one_key : (a b : QueuedPart) → precedes a b ≡ false → precedes b a ≡ false → queued_key a ≡ queued_key b
 one_key a b h k = ap (λ (x : ℕ). pair_key x a.number) (same_id a b h k) ∙ ap (pair_key b.id) (same_number a b h k)

@@ -39,7 +39,7 @@ use Rattle.sms_world.proofs.centres_refine_the_world.Aging.{closed_refines, open
 use Rattle.sms_world.proofs.centres_refine_the_world.ByOctets.{by_octet_is}
 use Rattle.sms_world.proofs.centres_refine_the_world.Ending.{can_end, end_is_reached, ended_refines}
 use Rattle.sms_world.proofs.centres_refine_the_world.LinksChange.{again_both, late_both}
-use Rattle.sms_world.proofs.centres_refine_the_world.Loads.{none_of}
+use Rattle.sms_world.proofs.centres_refine_the_world.QueuedParts.{none_of}
 use Rattle.sms_world.proofs.centres_refine_the_world.Offers.{line_refines, lines_with}
 use Rattle.sms_world.specs.centre_runs_are_steps.Stages.{AnswersInEvent, Settles}
 use Rattle.sms_world.proofs.centre_runs_are_steps.DoneParts.{part_id}

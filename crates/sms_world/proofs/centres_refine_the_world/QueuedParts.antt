@@ -14,7 +14,7 @@ use Rattle.sms_rows.specs.table.Keys.{pair_key}
 use Rattle.sms_rows.specs.table.Table.{row_at}
 use Rattle.sms_rows.proofs.table.Tables.{among_found, found_among, found_key}
 use Rattle.sms_centre_rows.specs.messages.Messages.{is_pending, message_at, message_key, part_at, part_key}
-use Rattle.sms_centre_rows.specs.messages.OpenParts.{part_load, part_wait, waits_for}
+use Rattle.sms_centre_rows.specs.messages.OpenParts.{part_queued, part_wait, waits_for}
 use Rattle.sms_centre_rows.specs.declared.messages.message.MessageRow.{MessageRow}
 use Rattle.sms_centre_rows.specs.declared.messages.part.PartRow.{PartRow}
 use Rattle.sms_centre_rows.proofs.reports.AllWaiting.{part_waits_at, report_waits_at}
@@ -22,12 +22,12 @@ use Rattle.sms_centre_rows.proofs.reports.FewWaiting.{all_few}
 use Rattle.sms_centre_rows.proofs.reports.AllWaiting.{report_found}
 use Rattle.sms_centre_rows.specs.reports.Reports.{is_open_status, is_status, report_of, status_reference, status_tpdu}
 use Rattle.sms_centre_rows.specs.reports.SoundReports.{FitsOriginator}
-use Rattle.sms_centre_rows.specs.reports.Waiting.{report_load, report_wait, reports_to}
+use Rattle.sms_centre_rows.specs.reports.Waiting.{report_queued, report_wait, reports_to}
 use Rattle.sms_centre_rows.specs.declared.reports.report.ReportKind.{ReportKind}
 use Rattle.sms_centre_rows.specs.declared.reports.report.ReportKind.TheVariants.{Receipt, Status, Unsent}
 use Rattle.sms_centre_rows.specs.declared.reports.report.ReportRow.{ReportRow}
 use Rattle.sms_tpdu.specs.MoreMessages.{compared}
-use Rattle.sms_centre_rows.specs.waiting.Keys.{load_key}
+use Rattle.sms_centre_rows.specs.waiting.Keys.{queued_key}
 use Rattle.sms_centre_rows.specs.declared.waiting.queued_part.QueuedPart.{QueuedPart}
 use Rattle.sms_centre_spec.proofs.SoundStores.{SoundStore}
 use Rattle.sms_centre_spec.specs.Draft.{Store, messages_in, parts_in, priorities_in, reports_in, waiting_in}
@@ -62,7 +62,7 @@ not_true false e f = absurd cc
 module _ (h : List ℕ) (l : QueuedPart) (s : Store) (w : World) (sound : SoundStore s) (refines : StoreRefines s w) where
   -- ---- a part
 
-  module _ (p : PartRow) (m : MessageRow) (at : part_at l.id l.number (parts_in s) ≡ Some p) (of : message_at p.id (messages_in s) ≡ Some m) (same : part_load p (priorities_in s) ≡ l) (undone : not p.progress.is_done ≡ true)
+  module _ (p : PartRow) (m : MessageRow) (at : part_at l.id l.number (parts_in s) ≡ Some p) (of : message_at p.id (messages_in s) ≡ Some m) (same : part_queued p (priorities_in s) ≡ l) (undone : not p.progress.is_done ≡ true)
       (pending : is_pending m ≡ true) (to : m.handset ≡ h) where
     id_is : p.id ≡ l.id
     id_is = ap (λ (x : QueuedPart). x.id) same
@@ -111,13 +111,13 @@ module _ (h : List ℕ) (l : QueuedPart) (s : Store) (w : World) (sound : SoundS
     where
       is_waiting : waits_for h p (message_at p.id (messages_in s)) ≡ true
       is_waiting =
-          cond_both (waits_for h p (message_at p.id (messages_in s))) (Some (part_load p (priorities_in s))) None (λ x. x ≡ Some l → waits_for h p (message_at p.id (messages_in s)) ≡ true)
+          cond_both (waits_for h p (message_at p.id (messages_in s))) (Some (part_queued p (priorities_in s))) None (λ x. x ≡ Some l → waits_for h p (message_at p.id (messages_in s)) ≡ true)
           (λ t f. t) (λ t f. absurd cc) q
 
-      same : part_load p (priorities_in s) ≡ l
+      same : part_queued p (priorities_in s) ≡ l
       same =
-          cond_both (waits_for h p (message_at p.id (messages_in s))) (Some (part_load p (priorities_in s))) None (λ x. x ≡ Some l → part_load p (priorities_in s) ≡ l)
-          (λ t f. let k : part_load p (priorities_in s) ≡ l = cc in k) (λ t f. absurd cc) q
+          cond_both (waits_for h p (message_at p.id (messages_in s))) (Some (part_queued p (priorities_in s))) None (λ x. x ≡ Some l → part_queued p (priorities_in s) ≡ l)
+          (λ t f. let k : part_queued p (priorities_in s) ≡ l = cc in k) (λ t f. absurd cc) q
 
       by : (m : Option MessageRow) → message_at p.id (messages_in s) ≡ m → IsOffered h l.reference w (Part l.id l.number) p.tpdu
       by None f = let bad : false ≡ true = sym (ap (λ (o : Option MessageRow). waits_for h p o) f) ∙ is_waiting in absurd cc
@@ -149,13 +149,13 @@ module _ (h : List ℕ) (l : QueuedPart) (s : Store) (w : World) (sound : SoundS
     where
       is_waiting : reports_to h r (message_at r.id (messages_in s)) ≡ true
       is_waiting =
-          cond_both (reports_to h r (message_at r.id (messages_in s))) (Some (report_load r)) None (λ x. x ≡ Some l → reports_to h r (message_at r.id (messages_in s)) ≡ true)
+          cond_both (reports_to h r (message_at r.id (messages_in s))) (Some (report_queued r)) None (λ x. x ≡ Some l → reports_to h r (message_at r.id (messages_in s)) ≡ true)
           (λ t f. t) (λ t f. absurd cc) q
 
-      same : report_load r ≡ l
+      same : report_queued r ≡ l
       same =
-          cond_both (reports_to h r (message_at r.id (messages_in s))) (Some (report_load r)) None (λ x. x ≡ Some l → report_load r ≡ l)
-          (λ t f. let k : report_load r ≡ l = cc in k) (λ t f. absurd cc) q
+          cond_both (reports_to h r (message_at r.id (messages_in s))) (Some (report_queued r)) None (λ x. x ≡ Some l → report_queued r ≡ l)
+          (λ t f. let k : report_queued r ≡ l = cc in k) (λ t f. absurd cc) q
 
       by : (m : Option MessageRow) → message_at r.id (messages_in s) ≡ m → IsOffered h l.reference w (Report l.id) (status_tpdu r.kind)
       by None f = let bad : false ≡ true = sym (ap (λ (o : Option MessageRow). reports_to h r o) f) ∙ is_waiting in absurd cc
@@ -184,18 +184,18 @@ module _ (h : List ℕ) (l : QueuedPart) (s : Store) (w : World) (sound : SoundS
 
   -- ---- either
 
-  pub load_offered : Among l (waiting_in h s) → IsOffered h l.reference w (holder_of l) (tpdu_of l s)
-  load_offered among =
+  pub queued_offered : Among l (waiting_in h s) → IsOffered h l.reference w (holder_of l) (tpdu_of l s)
+  queued_offered among =
       let ms = messages_in s in
       let qs = priorities_in s in
       let ps = parts_in s in
       let rs = reports_in s in
       let k = sound.consistent.held in
-      let there : row_at load_key (load_key l) (waiting_in h s) ≡ Some l = among_found load_key l (waiting_in h s) (k.waiting h).keys among in
+      let there : row_at queued_key (queued_key l) (waiting_in h s) ≡ Some l = among_found queued_key l (waiting_in h s) (k.waiting h).keys among in
       ⊎_elim
       (λ (t : (l.number == 0) ≡ true).
-      let key : load_key l ≡ pair_key l.id 0 = ap (λ (n : ℕ). pair_key l.id n) (eqb-true l.number 0 t) in
-      let x = report_waits (report_of l.id rs) refl (sym (report_waits_at h ms qs ps rs l.id k.parts k.alone) ∙ ap (λ (n : ℕ). row_at load_key n (waiting_in h s)) (sym key) ∙ there) in
+      let key : queued_key l ≡ pair_key l.id 0 = ap (λ (n : ℕ). pair_key l.id n) (eqb-true l.number 0 t) in
+      let x = report_waits (report_of l.id rs) refl (sym (report_waits_at h ms qs ps rs l.id k.parts k.alone) ∙ ap (λ (n : ℕ). row_at queued_key n (waiting_in h s)) (sym key) ∙ there) in
       subst (λ (z : Holder). IsOffered h l.reference w z (tpdu_of l s)) (sym (cond-true (l.number == 0) (Report l.id) (Part l.id l.number) t))
       (subst (λ (z : List ℕ). IsOffered h l.reference w (Report l.id) z) (sym (cond-true (l.number == 0) (report_tpdu (report_of l.id rs)) (part_tpdu (part_at l.id l.number ps)) t)) x))
       (λ (t : (l.number == 0) ≡ false).

@@ -14,19 +14,19 @@ use Rattle.sms_centre_rows.specs.declared.messages.message.MessageRow.{MessageRo
 use Rattle.sms_centre_rows.specs.declared.messages.part.PartRow.{PartRow}
 use Rattle.sms_centre_rows.specs.declared.messages.priority.PriorityRow.{PriorityRow}
 use Rattle.sms_centre_rows.specs.messages.Messages.{is_pending, message_at, message_key, part_key}
-use Rattle.sms_centre_rows.specs.messages.OpenParts.{is_open_part, part_load, parts_waiting, waits_for}
+use Rattle.sms_centre_rows.specs.messages.OpenParts.{is_open_part, part_queued, parts_waiting, waits_for}
 use Rattle.sms_centre_rows.proofs.messages.PartsWaiting.{rises_waiting}
 use Rattle.sms_centre_rows.specs.declared.reports.report.ReportKind.{ReportKind}
 use Rattle.sms_centre_rows.specs.declared.reports.report.ReportKind.TheVariants.{Receipt, Status, Unsent}
 use Rattle.sms_centre_rows.specs.declared.reports.report.ReportRow.{ReportRow}
 use Rattle.sms_centre_rows.specs.reports.Reports.{is_open_status, is_status}
 use Rattle.sms_centre_rows.specs.reports.SoundReports.{FitsOriginator}
-use Rattle.sms_centre_rows.specs.reports.Waiting.{report_load, reports_to, with_reports}
+use Rattle.sms_centre_rows.specs.reports.Waiting.{report_queued, reports_to, with_reports}
 use Rattle.sms_centre_queue.specs.queues.Representing.{Waits}
 use Rattle.sms_centre_queue.proofs.queues.Allocation.{number_digits}
 use Rattle.sms_centre_queue.proofs.queues.LinkPlaces.{differ}
 use Rattle.sms_centre_rows.specs.declared.waiting.queued_part.QueuedPart.{QueuedPart}
-use Rattle.sms_centre_rows.specs.waiting.Keys.{load_key}
+use Rattle.sms_centre_rows.specs.waiting.Keys.{queued_key}
 use Rattle.sms_centre_rows.specs.waiting.SoundAllocations.{IsNumber}
 use Rattle.sms_centre_spec.specs.declared.rows.Rows.{Rows}
 use Rattle.sms_centre_spec.specs.SoundRows.{HasReportAddress, IsSound}
@@ -57,13 +57,13 @@ module _ (ms : List MessageRow) (qs : List PriorityRow) where
       no_eq false b c e = refl
 
   pub part_waits : (p : PartRow) (m : MessageRow) (ps : List PartRow) → message_at p.id ms ≡ Some m → is_open_part p (Some m) ≡ true → Rises part_key (p ∷ ps)
-      → Waits m.handset (put load_key (part_load p qs)) (λ h. parts_waiting h ms qs ps) (λ h. parts_waiting h ms qs (p ∷ ps))
+      → Waits m.handset (put queued_key (part_queued p qs)) (λ h. parts_waiting h ms qs ps) (λ h. parts_waiting h ms qs (p ∷ ps))
   part_waits p m ps found waits rises =
       let is : waits_for m.handset p (message_at p.id ms) ≡ true = ap (λ (o : Option MessageRow). waits_for m.handset p o) found ∙ waits_own p m waits in
-      let own : parts_waiting m.handset ms qs (p ∷ ps) ≡ part_load p qs ∷ parts_waiting m.handset ms qs ps = cond-true (waits_for m.handset p (message_at p.id ms)) (part_load p qs ∷ parts_waiting m.handset ms qs ps) (parts_waiting m.handset ms qs ps) is in
-      let order : Rises load_key (part_load p qs ∷ parts_waiting m.handset ms qs ps) = subst (λ (ls : List QueuedPart). Rises load_key ls) own (rises_waiting m.handset ms qs (p ∷ ps) rises) in (
-        own ∙ sym (put_first load_key (part_load p qs) (parts_waiting m.handset ms qs ps) order.0),
-        λ other ne. cond-false (waits_for other p (message_at p.id ms)) (part_load p qs ∷ parts_waiting other ms qs ps) (parts_waiting other ms qs ps)
+      let own : parts_waiting m.handset ms qs (p ∷ ps) ≡ part_queued p qs ∷ parts_waiting m.handset ms qs ps = cond-true (waits_for m.handset p (message_at p.id ms)) (part_queued p qs ∷ parts_waiting m.handset ms qs ps) (parts_waiting m.handset ms qs ps) is in
+      let order : Rises queued_key (part_queued p qs ∷ parts_waiting m.handset ms qs ps) = subst (λ (ls : List QueuedPart). Rises queued_key ls) own (rises_waiting m.handset ms qs (p ∷ ps) rises) in (
+        own ∙ sym (put_first queued_key (part_queued p qs) (parts_waiting m.handset ms qs ps) order.0),
+        λ other ne. cond-false (waits_for other p (message_at p.id ms)) (part_queued p qs ∷ parts_waiting other ms qs ps) (parts_waiting other ms qs ps)
             (ap (λ (o : Option MessageRow). waits_for other p o) found ∙ waits_other other p m ne),
       )
 
@@ -81,11 +81,11 @@ module _ (ms : List MessageRow) (w : List ℕ → List QueuedPart) where
       no_eq false c e = refl
 
   pub report_waits : (r : ReportRow) (m : MessageRow) (rs : List ReportRow) → message_at r.id ms ≡ Some m → is_open_status r ≡ true
-      → Waits m.source.digits (put load_key (report_load r)) (λ h. with_reports h ms rs (w h)) (λ h. with_reports h ms (r ∷ rs) (w h))
+      → Waits m.source.digits (put queued_key (report_queued r)) (λ h. with_reports h ms rs (w h)) (λ h. with_reports h ms (r ∷ rs) (w h))
   report_waits r m rs found waits = (
-    cond-true (reports_to m.source.digits r (message_at r.id ms)) (put load_key (report_load r) (with_reports m.source.digits ms rs (w m.source.digits))) (with_reports m.source.digits ms rs (w m.source.digits))
+    cond-true (reports_to m.source.digits r (message_at r.id ms)) (put queued_key (report_queued r) (with_reports m.source.digits ms rs (w m.source.digits))) (with_reports m.source.digits ms rs (w m.source.digits))
         (ap (λ (o : Option MessageRow). reports_to m.source.digits r o) found ∙ reports_own r m waits),
-    λ other ne. cond-false (reports_to other r (message_at r.id ms)) (put load_key (report_load r) (with_reports other ms rs (w other))) (with_reports other ms rs (w other))
+    λ other ne. cond-false (reports_to other r (message_at r.id ms)) (put queued_key (report_queued r) (with_reports other ms rs (w other))) (with_reports other ms rs (w other))
         (ap (λ (o : Option MessageRow). reports_to other r o) found ∙ reports_other other r m ne),
   )
 

@@ -8,11 +8,11 @@ use Rattle.sms_centre_events.specs.offering.Offered.{offer_in, offer_next}
 use Rattle.sms_centre_events.proofs.offering.OneOffer.{goes_off, goes_on, unless_alike}
 use Rattle.sms_centre_events.proofs.offering.TpdusMade.{tpdu_short}
 use Rattle.sms_centre_events.proofs.offering.UnitOctets.{centre_is}
-use Rattle.sms_centre_events.proofs.offering.offers.offer_load.Goals as goal
+use Rattle.sms_centre_events.proofs.offering.offers.offer_queued.Goals as goal
 
 pub returns-in-Ok-clause-outcome : goal.returns-in-Ok-clause-outcome
 returns-in-Ok-clause-outcome g c = λ d rows represents can among honest holds.
-    let l = c.args.load.now in
+    let l = c.args.queued.now in
     let s = d.store in
     let t = c.in-Ok.ensures.outcome d rows c.args.centre.now c.args.handset represents among can honest holds in
     let is = centre_is s.setup.centre can.sound.setup.centre in
@@ -28,6 +28,6 @@ returns-in-Ok-clause-outcome g c = λ d rows represents can among honest holds.
 
 pub returns-in-Err-clause-outcome : goal.returns-in-Err-clause-outcome
 returns-in-Err-clause-outcome g c = λ d rows represents can among honest holds.
-    goes_off (λ octets. octets ≡ tpdu_of c.args.load.now d.store) (λ (u : Unit {0}). Represents (offer_next c.args.handset (Some c.args.load.now) d) c.args.draft.now) (read_of c.args.load.now d.store d.links).read (read_of c.args.load.now d.store d.links).read
+    goes_off (λ octets. octets ≡ tpdu_of c.args.queued.now d.store) (λ (u : Unit {0}). Represents (offer_next c.args.handset (Some c.args.queued.now) d) c.args.draft.now) (read_of c.args.queued.now d.store d.links).read (read_of c.args.queued.now d.store d.links).read
     ((g.B.RowStore.state c.tpdu.new.bodies).holds rows) (g.B.RowStore.state c.tpdu.new.bodies).is_closed (g.B.RowStore.state c.args.bodies.now).refusals (g.B.RowStore.state c.args.bodies.now).refusals (g.B.RowStore.state c.tpdu.new.bodies).refusals c.in-Err.error (inr refl) (λ k a. a)
     (c.in-Err.ensures.outcome d rows c.args.centre.now c.args.handset represents among can honest holds)
