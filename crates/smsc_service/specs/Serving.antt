@@ -35,7 +35,7 @@ pub record Serving : Type 0 where
 
 -- The centre starts again with these rows: links are at their seats, and sessions are bound there.
 abbrev pub restarted : Rows → Seats → Serving
-restarted rows s = record { core = recovered rows (handsets_of s.links) (sessions_of rows.setup.accounts s.sittings); seats = s }
+restarted rows s = record { core = recovered rows (handsets_of s.links) (sessions_of rows.setup.accounts s.bound_sessions); seats = s }
 
 -- what changes of who sits where; a hub has 32 seats
 abbrev pub followed_by : Stimulus Job → Seats → Seats

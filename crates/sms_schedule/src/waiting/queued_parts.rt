@@ -18,7 +18,10 @@ pub(crate) fn queued_due_at(
 {
     waiting
         .iter()
-        .map(|queued| QueuedPart { due: now, ..*queued })
+        .map(|queued| QueuedPart {
+            due: now,
+            ..*queued
+        })
         .collect(alloc)
 }
 
