@@ -1,7 +1,7 @@
 //! Accounts, with their names beside them.
 ghost use Rattle.std.specs.Prelude.{◌≡◌, ◌↔◌, true, IfOk};
 ghost use Rattle.std.specs.Arc.{arc_value};
-ghost use Rattle.smsc_server.specs.serving.AccountNames.{names_of};
+ghost use Rattle.smsc_server.specs.serving.AccountNames.{names_of, same_names};
 
 use smpp_session::{Account, Accounts};
 use sms_base::Octets;
@@ -28,7 +28,7 @@ fn names_in(alloc: Global, accounts: &[Account]) -> Result<Vec<Octets>, AllocErr
 
 // Whether these are the same names in the same order.
 fn are_same(one: &[Octets], other: &[Octets]) -> bool
-    ensures { (result ≡ true) ↔ (one.now ≡ other.now) }
+    ensures { result ≡ same_names one.now other.now }
 {
     match (one, other) {
         ([], []) => true,
@@ -54,6 +54,7 @@ impl NamedList {
         Ok(Arc::try_clone(&self.accounts)?)
     }
 
+    #[tactic(auto, using(crate::proofs::serving::SameNames::same_where))]
     pub(crate) fn has_names_of(&self, other: &NamedList) -> bool
         ensures { (result ≡ true) ↔ (names_of (arc_value self.now.accounts) ≡ names_of (arc_value other.now.accounts)) }
     {
