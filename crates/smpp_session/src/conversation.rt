@@ -2,20 +2,18 @@
 ghost use Rattle.std.specs.Prelude.{◌≡◌, IfOk, OnOk, OnErr, IfErr};
 ghost use Rattle.smpp_session.specs.SessionTable.{broken_conversation, closed_conversation, finishing_conversation};
 ghost use Rattle.smpp_session.specs.Bindings.{is_bound, is_deaf};
-ghost use Rattle.smpp_session.specs.Windows.{number_after, free_number};
+ghost use Rattle.smpp_session.specs.Windows.{free_number};
 ghost use Rattle.smpp_session.specs.Sessions.{awaiting_under, delivery_fault, may_unbind, opened_conversation};
 ghost use Rattle.smpp_session.specs.Answers.{after_answer, is_last, last_unbind};
 
 use crate::account::FullAccounts;
 use crate::fault::DeliverFault;
 use crate::numbers::SentNumbers;
+use smpp_pdu::number_after;
 use std::alloc::{AllocError, Global};
 
 // How many deliver_sm may wait for their answers.
 const WINDOW: usize = 10;
-
-// The last sequence number, after which they begin again (SMPP v3.4 3.2).
-const LAST_NUMBER: u32 = 0x7FFF_FFFF;
 
 /// The states of a session (SMPP v3.4 2.2).
 #[derive(Clone, Copy, Debug, PartialEq, Eq)]
@@ -150,7 +148,7 @@ impl Conversation {
             if !self.unanswered.contains(number) {
                 return number;
             }
-            number = after(number);
+            number = number_after(number);
         }
         self.next_number
     }
@@ -161,7 +159,7 @@ impl Conversation {
         ensures err { OnErr result (self.new ≡ self.old) }
     {
         self.unanswered.push(number)?;
-        self.next_number = after(number);
+        self.next_number = number_after(number);
         Ok(())
     }
 
@@ -224,11 +222,4 @@ impl Conversation {
             let _ = self.owed.take(number);
         }
     }
-}
-
-// The sequence number behind that one.
-fn after(number: u32) -> u32
-    ensures { result ≡ number_after number }
-{
-    if number < LAST_NUMBER { number + 1 } else { 1 }
 }
