@@ -58,7 +58,10 @@ impl SeatMap {
     {
         let links = SeatTable::new(alloc)?;
         match SeatTable::new(alloc) {
-            Ok(bound_sessions) => Ok(SeatMap { links, bound_sessions }),
+            Ok(bound_sessions) => Ok(SeatMap {
+                links,
+                bound_sessions,
+            }),
             Err(error) => {
                 drop(links);
                 Err(error)
