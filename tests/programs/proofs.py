@@ -333,7 +333,8 @@ DOCS = os.path.join(TOP, "docs")
 INDEX = os.path.join(DOCS, "proofs", "INDEX.md")
 PAGES = [os.path.join(DOCS, name) for name in ("PROOFS.md", "WRONG-BODIES.md")]
 # Pages that name calls and clauses beside other things.
-OTHERS = [os.path.join(TOP, "README.md"), *(os.path.join(DOCS, name) for name in ("ARCHITECTURE.md", "DECISIONS.md", "GLOSSARY.md"))]
+DECISIONS = sorted(os.path.join("decisions", name) for name in os.listdir(os.path.join(DOCS, "decisions")))
+OTHERS = [os.path.join(TOP, "README.md"), *(os.path.join(DOCS, name) for name in ("ARCHITECTURE.md", *DECISIONS, "GLOSSARY.md"))]
 
 
 def page_faults(path, sources):

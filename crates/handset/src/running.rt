@@ -33,7 +33,7 @@ pub(crate) struct Run<'a> {
     pub(crate) store: &'a str,
     /// The port of the centre, on this machine.
     pub(crate) port: u16,
-    /// It ends after so many frames.
+    /// The run ends after so many frames.
     pub(crate) frames: u32,
     /// What it is to do wrong.
     pub(crate) wrong: Misbehaviour,

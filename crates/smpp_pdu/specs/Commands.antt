@@ -1,7 +1,9 @@
 -- The commands and their numbers.
 use Rattle.std.specs.Prelude.{ℕ, List, [], ◌∷◌, Option, find, ◌==◌}
 use Rattle.smpp_pdu.specs.declared.command.CommandId.{CommandId}
-use Rattle.smpp_pdu.specs.declared.command.CommandId.TheVariants.{BindReceiver, BindTransmitter, QuerySm, SubmitSm, DeliverSm, Unbind, CancelSm, BindTransceiver, EnquireLink, GenericNack, BindReceiverResp, BindTransmitterResp, QuerySmResp, SubmitSmResp, DeliverSmResp, UnbindResp, CancelSmResp, BindTransceiverResp, EnquireLinkResp}
+use Rattle.smpp_pdu.specs.declared.command.CommandId.TheVariants.{BindReceiver, BindTransmitter, QuerySm, SubmitSm, DeliverSm, Unbind, CancelSm}
+use Rattle.smpp_pdu.specs.declared.command.CommandId.TheVariants.{BindTransceiver, EnquireLink, GenericNack, BindReceiverResp, BindTransmitterResp, QuerySmResp}
+use Rattle.smpp_pdu.specs.declared.command.CommandId.TheVariants.{SubmitSmResp, DeliverSmResp, UnbindResp, CancelSmResp, BindTransceiverResp, EnquireLinkResp}
 
 -- the command_id (SMPP v3.4 5.1.2.1)
 abbrev pub command_number : CommandId → ℕ

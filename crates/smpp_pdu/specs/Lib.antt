@@ -7,6 +7,7 @@ pub mod FieldReading
 pub mod Fields
 pub mod PduGrammar
 pub mod PduReading
+pub mod SequenceNumbers
 pub mod Statuses
 pub mod TlvReading
 pub mod Tlvs

@@ -1,9 +1,19 @@
 -- PDUs: a header and a body (SMPP v3.4 3.2).
 use Rattle.std.specs.Prelude.{◌≡◌, ℕ, ◌+◌, ◌≤◌, List, [], ◌++◌, length}
 use Rattle.smpp_pdu.specs.declared.command.CommandId.{CommandId}
-use Rattle.smpp_pdu.specs.declared.command.CommandId.TheVariants.{BindReceiver as BindReceiverId, BindTransmitter as BindTransmitterId, BindTransceiver as BindTransceiverId, SubmitSm as SubmitSmId, DeliverSm as DeliverSmId, QuerySm as QuerySmId, CancelSm as CancelSmId, Unbind as UnbindId, EnquireLink as EnquireLinkId, GenericNack as GenericNackId, BindReceiverResp as BindReceiverRespId, BindTransmitterResp as BindTransmitterRespId, BindTransceiverResp as BindTransceiverRespId, SubmitSmResp as SubmitSmRespId, DeliverSmResp as DeliverSmRespId, QuerySmResp as QuerySmRespId, CancelSmResp as CancelSmRespId, UnbindResp as UnbindRespId, EnquireLinkResp as EnquireLinkRespId}
+use Rattle.smpp_pdu.specs.declared.command.CommandId.TheVariants.{BindReceiver as BindReceiverId, BindTransmitter as BindTransmitterId}
+use Rattle.smpp_pdu.specs.declared.command.CommandId.TheVariants.{BindTransceiver as BindTransceiverId, SubmitSm as SubmitSmId, DeliverSm as DeliverSmId}
+use Rattle.smpp_pdu.specs.declared.command.CommandId.TheVariants.{QuerySm as QuerySmId, CancelSm as CancelSmId, Unbind as UnbindId}
+use Rattle.smpp_pdu.specs.declared.command.CommandId.TheVariants.{EnquireLink as EnquireLinkId, GenericNack as GenericNackId}
+use Rattle.smpp_pdu.specs.declared.command.CommandId.TheVariants.{BindReceiverResp as BindReceiverRespId, BindTransmitterResp as BindTransmitterRespId}
+use Rattle.smpp_pdu.specs.declared.command.CommandId.TheVariants.{BindTransceiverResp as BindTransceiverRespId, SubmitSmResp as SubmitSmRespId}
+use Rattle.smpp_pdu.specs.declared.command.CommandId.TheVariants.{DeliverSmResp as DeliverSmRespId, QuerySmResp as QuerySmRespId}
+use Rattle.smpp_pdu.specs.declared.command.CommandId.TheVariants.{CancelSmResp as CancelSmRespId, UnbindResp as UnbindRespId}
+use Rattle.smpp_pdu.specs.declared.command.CommandId.TheVariants.{EnquireLinkResp as EnquireLinkRespId}
 use Rattle.smpp_pdu.specs.declared.body.Body.{Body}
-use Rattle.smpp_pdu.specs.declared.body.Body.TheVariants.{BindReceiver, BindTransmitter, BindTransceiver, SubmitSm, DeliverSm, QuerySm, CancelSm, Unbind, EnquireLink, GenericNack, BindReceiverResp, BindTransmitterResp, BindTransceiverResp, SubmitSmResp, DeliverSmResp, QuerySmResp, CancelSmResp, UnbindResp, EnquireLinkResp}
+use Rattle.smpp_pdu.specs.declared.body.Body.TheVariants.{BindReceiver, BindTransmitter, BindTransceiver, SubmitSm, DeliverSm, QuerySm, CancelSm, Unbind}
+use Rattle.smpp_pdu.specs.declared.body.Body.TheVariants.{EnquireLink, GenericNack, BindReceiverResp, BindTransmitterResp, BindTransceiverResp, SubmitSmResp}
+use Rattle.smpp_pdu.specs.declared.body.Body.TheVariants.{DeliverSmResp, QuerySmResp, CancelSmResp, UnbindResp, EnquireLinkResp}
 use Rattle.smpp_pdu.specs.declared.header.Header.{Header}
 use Rattle.smpp_pdu.specs.declared.pdu.Pdu.{Pdu}
 use Rattle.smpp_pdu.specs.Commands.{command_number}

@@ -1,7 +1,11 @@
 -- The statuses of responses and their numbers.
 use Rattle.std.specs.Prelude.{ℕ, List, [], ◌∷◌, Option, find, ◌==◌}
 use Rattle.smpp_pdu.specs.declared.status.CommandStatus.{CommandStatus}
-use Rattle.smpp_pdu.specs.declared.status.CommandStatus.TheVariants.{ESME_ROK, ESME_RINVMSGLEN, ESME_RINVCMDLEN, ESME_RINVCMDID, ESME_RINVBNDSTS, ESME_RALYBND, ESME_RSYSERR, ESME_RINVSRCADR, ESME_RINVDSTADR, ESME_RINVMSGID, ESME_RBINDFAIL, ESME_RINVPASWD, ESME_RINVSYSID, ESME_RCANCELFAIL, ESME_RMSGQFUL, ESME_RINVESMCLASS, ESME_RSUBMITFAIL, ESME_RTHROTTLED, ESME_RINVSCHED, ESME_RINVEXPIRY, ESME_RINVOPTPARSTREAM, ESME_ROPTPARNOTALLWD, ESME_RINVPARLEN}
+use Rattle.smpp_pdu.specs.declared.status.CommandStatus.TheVariants.{ESME_ROK, ESME_RINVMSGLEN, ESME_RINVCMDLEN, ESME_RINVCMDID, ESME_RINVBNDSTS, ESME_RALYBND}
+use Rattle.smpp_pdu.specs.declared.status.CommandStatus.TheVariants.{ESME_RSYSERR, ESME_RINVSRCADR, ESME_RINVDSTADR, ESME_RINVMSGID, ESME_RBINDFAIL}
+use Rattle.smpp_pdu.specs.declared.status.CommandStatus.TheVariants.{ESME_RINVPASWD, ESME_RINVSYSID, ESME_RCANCELFAIL, ESME_RMSGQFUL, ESME_RINVESMCLASS}
+use Rattle.smpp_pdu.specs.declared.status.CommandStatus.TheVariants.{ESME_RSUBMITFAIL, ESME_RTHROTTLED, ESME_RINVSCHED, ESME_RINVEXPIRY, ESME_RINVOPTPARSTREAM}
+use Rattle.smpp_pdu.specs.declared.status.CommandStatus.TheVariants.{ESME_ROPTPARNOTALLWD, ESME_RINVPARLEN}
 
 -- the command_status (SMPP v3.4 5.1.3)
 abbrev pub status_number : CommandStatus → ℕ

@@ -4,12 +4,15 @@ use Rattle.smpp_pdu.specs.declared.bind.BindResp.{BindResp}
 use Rattle.smpp_pdu.specs.declared.message.Message.{Message}
 use Rattle.smpp_pdu.specs.declared.message.MessageResp.{MessageResp}
 use Rattle.smpp_pdu.specs.declared.body.Body.{Body}
-use Rattle.smpp_pdu.specs.declared.body.Body.TheVariants.{BindReceiver, BindTransmitter, BindTransceiver, SubmitSm, DeliverSm, QuerySm, CancelSm, Unbind, EnquireLink, GenericNack, BindReceiverResp, BindTransmitterResp, BindTransceiverResp, SubmitSmResp, DeliverSmResp, QuerySmResp, CancelSmResp, UnbindResp, EnquireLinkResp}
+use Rattle.smpp_pdu.specs.declared.body.Body.TheVariants.{BindReceiver, BindTransmitter, BindTransceiver, SubmitSm, DeliverSm, QuerySm, CancelSm, Unbind}
+use Rattle.smpp_pdu.specs.declared.body.Body.TheVariants.{EnquireLink, GenericNack, BindReceiverResp, BindTransmitterResp, BindTransceiverResp, SubmitSmResp}
+use Rattle.smpp_pdu.specs.declared.body.Body.TheVariants.{DeliverSmResp, QuerySmResp, CancelSmResp, UnbindResp, EnquireLinkResp}
 use Rattle.smpp_pdu.specs.declared.pdu.Pdu.{Pdu}
 use Rattle.smpp_pdu.specs.declared.tlv.Tlvs.{Tlvs}
 use Rattle.smpp_pdu.specs.Fields.{IsText}
 use Rattle.smpp_pdu.specs.Tlvs.{tlv_octets, tlvs_of}
-use Rattle.smpp_pdu.specs.BodyGrammar.{IsBindValue, bind_octets, bind_resp_octets, IsMessageValue, message_octets, message_resp_octets, IsQueryValue, query_octets, IsQueryRespValue, query_resp_octets, IsCancelValue, cancel_octets}
+use Rattle.smpp_pdu.specs.BodyGrammar.{IsBindValue, bind_octets, bind_resp_octets, IsMessageValue, message_octets, message_resp_octets, IsQueryValue}
+use Rattle.smpp_pdu.specs.BodyGrammar.{query_octets, IsQueryRespValue, query_resp_octets, IsCancelValue, cancel_octets}
 use Rattle.smpp_pdu.specs.PduGrammar.{pdu_octets}
 
 -- the values that are there, in the order of tlvs_of

@@ -18,6 +18,7 @@
 //! - `message`: submit_sm and deliver_sm
 //! - `pdu`: whole PDUs
 //! - `query`: query_sm and its response
+//! - `sequence_numbers`: the sequence numbers of a session's requests
 //! - `status`: values of command_status
 //! - `tlv`: optional parameters
 //! - `writing`: fields, written into a vector that has room
@@ -35,6 +36,7 @@ pub mod laws;
 mod message;
 mod pdu;
 mod query;
+mod sequence_numbers;
 mod status;
 mod tlv;
 mod writing;
@@ -49,5 +51,6 @@ pub use header::Header;
 pub use message::{Message, MessageResp};
 pub use pdu::Pdu;
 pub use query::{QuerySm, QuerySmResp};
+pub use sequence_numbers::number_after;
 pub use status::CommandStatus;
 pub use tlv::{TlvTag, Tlvs};

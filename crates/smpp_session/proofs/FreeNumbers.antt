@@ -4,7 +4,8 @@ use Rattle.std.specs.List.{AllByRecursion}
 use Rattle.std.proofs.lemmas.Bool.{ltb-true, ltb-false}
 use Rattle.std.proofs.lemmas.Bool.Decides.{eqb_tells}
 use Rattle.std.proofs.lemmas.List.{length-append}
-use Rattle.smpp_session.specs.Windows.{is_among, without, number_after, numbers_from, first_free, free_number, IsSequenceNumber, AreDistinct, IsWindow}
+use Rattle.smpp_pdu.specs.SequenceNumbers.{number_after}
+use Rattle.smpp_session.specs.Windows.{is_among, without, numbers_from, first_free, free_number, IsSequenceNumber, AreDistinct, IsWindow}
 
 -- ---- as the walk over the numbers goes
 

@@ -3,8 +3,8 @@ use Rattle.std.proofs.Common.{◌≡◌, ℕ, ◌-◌, ◌<◌, ◌≤◌, Bool,
 use Rattle.std.proofs.lemmas.Bool.{ltb-true, ltb-false}
 use Rattle.smpp_session.specs.declared.patience.Patience.{Patience}
 use Rattle.smpp_session.specs.declared.patience.EndpointState.{EndpointState}
-use Rattle.smpp_session.specs.declared.patience.Verdict.{Verdict}
-use Rattle.smpp_session.specs.declared.patience.Verdict.TheVariants.{Waits, AsksLink, Silent, Stalled, Unanswered, Inactive, Ordered}
+use Rattle.smpp_session.specs.declared.patience.WaitOutcome.{WaitOutcome}
+use Rattle.smpp_session.specs.declared.patience.WaitOutcome.TheVariants.{Waits, AsksLink, Silent, Stalled, Unanswered, Inactive, Ordered}
 use Rattle.smpp_session.specs.Patience.{is_within, is_within_some, unknown_limit, silence_of, known_verdict, verdict_of, HasRunOut}
 
 -- what a test says of a time: that it has not run out, or that it has
@@ -34,7 +34,7 @@ pub record Lasts (p : Patience) (s : EndpointState) (now : ℕ) : Type 0 where
   pub heard : s.is_known ≡ true → s.is_bound ≡ true → p.asked ≡ None → HasRunOut 300000 (Some p.heard) now → ⊥
 
 -- and what has, where it is not
-abbrev pub Says : Patience → EndpointState → ℕ → Verdict → Type 0
+abbrev pub Says : Patience → EndpointState → ℕ → WaitOutcome → Type 0
 Says p s now Waits = Lasts p s now
 Says p s now Stalled = HasRunOut 10000 p.stalled now
 Says p s now Ordered = HasRunOut 5000 p.leaving now
@@ -44,7 +44,7 @@ Says p s now Inactive = HasRunOut 60000 p.asked now
 Says p s now AsksLink = (s.is_bound ≡ true) × (p.asked ≡ None) × HasRunOut 300000 (Some p.heard) now
 
 -- what the verdict of silence says
-abbrev Hushed : Option ℕ → ℕ → ℕ → Verdict → Type 0
+abbrev Hushed : Option ℕ → ℕ → ℕ → WaitOutcome → Type 0
 Hushed asked heard now Waits = (HasRunOut 60000 asked now → ⊥) × (asked ≡ None → HasRunOut 300000 (Some heard) now → ⊥)
 Hushed asked heard now Inactive = HasRunOut 60000 asked now
 Hushed asked heard now AsksLink = (asked ≡ None) × HasRunOut 300000 (Some heard) now
@@ -70,7 +70,7 @@ some_limit false = omega arith
 pub says : (p : Patience) (s : EndpointState) (now : ℕ) → Says p s now (verdict_of p s now)
 says p s now = at_stalled (is_within_some 10000 p.stalled now) (told 10000 p.stalled now (omega arith)) where
   bound_by : (HasRunOut 10000 p.stalled now → ⊥) → (HasRunOut 5000 p.leaving now → ⊥) → s.is_known ≡ true → (HasRunOut 60000 s.owed now → ⊥) → s.is_bound ≡ true
-      → (v : Verdict) → Hushed p.asked p.heard now v → Says p s now v
+      → (v : WaitOutcome) → Hushed p.asked p.heard now v → Says p s now v
   bound_by stalled leaving known owed bound Waits h = record {
     stalled = stalled;
     leaving = leaving;

@@ -8,7 +8,8 @@ use Rattle.smpp_session.specs.declared.fault.DeliverFault.{DeliverFault}
 use Rattle.smpp_session.specs.declared.calling.Call.{Call}
 use Rattle.smpp_session.specs.declared.calling.Call.TheVariants.{Full, Feed, Answer, Deliver, Unbind, Close}
 use Rattle.smpp_session.specs.Answers.{answered, IsAnswer}
-use Rattle.smpp_session.specs.Sessions.{SessionView, fed, IsDeliverable, delivery_fault, deliver_pdu, for_version, number_to_send, after_answered, after_delivery, after_unbind, after_close, unbinding}
+use Rattle.smpp_session.specs.Sessions.{SessionView, fed, IsDeliverable, delivery_fault, deliver_pdu, for_version, number_to_send, after_answered}
+use Rattle.smpp_session.specs.Sessions.{after_delivery, after_unbind, after_close, unbinding}
 use Rattle.smpp_session.specs.Sessions.{with_full}
 
 -- the conditions of the calls

@@ -2,8 +2,8 @@
 use Rattle.std.specs.Prelude.{◌≡◌, ℕ, Bool, true, ◌+◌, ◌-◌, ◌≤◌, nat_lt, Option, Some, None, if◌then◌else◌}
 use Rattle.smpp_session.specs.declared.patience.Patience.{Patience}
 use Rattle.smpp_session.specs.declared.patience.EndpointState.{EndpointState}
-use Rattle.smpp_session.specs.declared.patience.Verdict.{Verdict}
-use Rattle.smpp_session.specs.declared.patience.Verdict.TheVariants.{Waits, AsksLink, Silent, Stalled, Unanswered, Inactive, Ordered}
+use Rattle.smpp_session.specs.declared.patience.WaitOutcome.{WaitOutcome}
+use Rattle.smpp_session.specs.declared.patience.WaitOutcome.TheVariants.{Waits, AsksLink, Silent, Stalled, Unanswered, Inactive, Ordered}
 
 -- less than the limit has passed since that moment
 abbrev pub is_within : ℕ → ℕ → ℕ → Bool
@@ -19,17 +19,17 @@ abbrev pub unknown_limit : Bool → ℕ
 unknown_limit others = if others then 5000 else 30000
 
 -- Five minutes of silence, and then a minute for the answer to enquire_link.
-abbrev pub silence_of : Option ℕ → ℕ → ℕ → Verdict
+abbrev pub silence_of : Option ℕ → ℕ → ℕ → WaitOutcome
 silence_of None heard now = if is_within 300000 heard now then Waits else AsksLink
 silence_of (Some asked) heard now = if is_within 60000 asked now then Waits else Inactive
 
 -- A deliver_sm has its answer within a minute; silence is looked at in a bound session alone.
-abbrev pub known_verdict : Patience → EndpointState → ℕ → Verdict
+abbrev pub known_verdict : Patience → EndpointState → ℕ → WaitOutcome
 known_verdict p s now =
     if is_within_some 60000 s.owed now then (if s.is_bound then silence_of p.asked p.heard now else Waits) else Unanswered
 
 -- Ten seconds in which it takes no octet, and five to leave once it is to, before all else.
-abbrev pub verdict_of : Patience → EndpointState → ℕ → Verdict
+abbrev pub verdict_of : Patience → EndpointState → ℕ → WaitOutcome
 verdict_of p s now =
     if is_within_some 10000 p.stalled now
     then (if is_within_some 5000 p.leaving now

@@ -15,7 +15,8 @@ use Rattle.smpp_session.specs.declared.conversation.SessionState.{SessionState}
 use Rattle.smpp_session.specs.declared.conversation.SessionState.TheVariants.{Opened, BoundRx, BoundTrx, Unbinding}
 use Rattle.smpp_session.specs.declared.conversation.Conversation.{Conversation}
 use Rattle.smpp_session.specs.declared.turn.SessionStep.{SessionStep}
-use Rattle.smpp_session.specs.Windows.{window, number_after, free_number}
+use Rattle.smpp_pdu.specs.SequenceNumbers.{number_after}
+use Rattle.smpp_session.specs.Windows.{window, free_number}
 use Rattle.smpp_session.specs.SessionTable.{response, closed_conversation, takes_parameters, unbind_number}
 use Rattle.smpp_session.specs.Answers.{after_answer, is_last}
 use Rattle.smpp_session.specs.Bindings.{is_bound, is_ending}

@@ -1,6 +1,7 @@
 -- The deliver_sm that wait for their answers, by their sequence numbers.
-use Rattle.std.specs.Prelude.{◌≡◌, ℕ, zero, suc, ◌+◌, ◌≤◌, List, [], ◌∷◌, length, Bool, true, false, ◌||◌, ◌==◌, nat_lt, if◌then◌else◌}
+use Rattle.std.specs.Prelude.{◌≡◌, ℕ, zero, suc, ◌+◌, ◌≤◌, List, [], ◌∷◌, length, Bool, true, false, ◌||◌, ◌==◌, if◌then◌else◌}
 use Rattle.std.specs.List.{AllByRecursion}
+use Rattle.smpp_pdu.specs.SequenceNumbers.{number_after}
 
 -- whether the number is one of them
 abbrev pub is_among : ℕ → List ℕ → Bool
@@ -15,10 +16,6 @@ without number (waiting ∷ rest) = if waiting == number then rest else waiting 
 abbrev pub is_none : List ℕ → Bool
 is_none [] = true
 is_none (number ∷ numbers) = false
-
--- Sequence numbers run from 1 to 7FFFFFFF and around (SMPP v3.4 3.2).
-abbrev pub number_after : ℕ → ℕ
-number_after number = if nat_lt number 0x7FFFFFFF then number + 1 else 1
 
 -- how many may wait
 abbrev pub window : ℕ

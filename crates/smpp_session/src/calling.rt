@@ -26,11 +26,11 @@ pub enum Call<'a> {
     Feed(OctetView<'a>),
     /// `answer` under that sequence number.
     Answer(u32, Answer<'a>),
-    /// `deliver`.
+    /// `deliver` of this message.
     Deliver(Message<'a>),
-    /// `unbind`.
+    /// `unbind`, the session's own.
     Unbind,
-    /// `close`.
+    /// `close`, as its connection ends.
     Close,
 }
 

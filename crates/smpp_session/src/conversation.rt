@@ -2,20 +2,18 @@
 ghost use Rattle.std.specs.Prelude.{◌≡◌, IfOk, OnOk, OnErr, IfErr};
 ghost use Rattle.smpp_session.specs.SessionTable.{broken_conversation, closed_conversation, finishing_conversation};
 ghost use Rattle.smpp_session.specs.Bindings.{is_bound, is_deaf};
-ghost use Rattle.smpp_session.specs.Windows.{number_after, free_number};
+ghost use Rattle.smpp_session.specs.Windows.{free_number};
 ghost use Rattle.smpp_session.specs.Sessions.{awaiting_under, delivery_fault, may_unbind, opened_conversation};
 ghost use Rattle.smpp_session.specs.Answers.{after_answer, is_last, last_unbind};
 
 use crate::account::FullAccounts;
 use crate::fault::DeliverFault;
-use crate::numbers::Numbers;
+use crate::numbers::SentNumbers;
+use smpp_pdu::number_after;
 use std::alloc::{AllocError, Global};
 
 // How many deliver_sm may wait for their answers.
 const WINDOW: usize = 10;
-
-// The last sequence number, after which they begin again (SMPP v3.4 3.2).
-const LAST_NUMBER: u32 = 0x7FFF_FFFF;
 
 /// The states of a session (SMPP v3.4 2.2).
 #[derive(Clone, Copy, Debug, PartialEq, Eq)]
@@ -78,11 +76,11 @@ impl SessionState {
 pub(crate) struct Conversation {
     pub state: SessionState,
     // The sequence numbers of the deliver_sm that were sent and aren't answered, at most ten.
-    pub unanswered: Numbers,
+    pub unanswered: SentNumbers,
     // The sequence number of the next deliver_sm, unless one waits under it still: 1 to 7FFFFFFF hexadecimal.
     pub next_number: u32,
     // The sequence numbers of the requests that were passed up and aren't answered, in that order.
-    pub owed: Numbers,
+    pub owed: SentNumbers,
     // The sequence number of an unbind whose answer waits for theirs.
     pub unbind: Option<u32>,
     // Of SMPP, as the application bound.
@@ -98,9 +96,9 @@ impl Conversation {
     {
         Conversation {
             state: SessionState::Opened,
-            unanswered: Numbers::new(alloc),
+            unanswered: SentNumbers::new(alloc),
             next_number: 1,
-            owed: Numbers::new(alloc),
+            owed: SentNumbers::new(alloc),
             unbind: None,
             interface_version: 0,
             full: FullAccounts::none(),
@@ -150,7 +148,7 @@ impl Conversation {
             if !self.unanswered.contains(number) {
                 return number;
             }
-            number = after(number);
+            number = number_after(number);
         }
         self.next_number
     }
@@ -161,7 +159,7 @@ impl Conversation {
         ensures err { OnErr result (self.new ≡ self.old) }
     {
         self.unanswered.push(number)?;
-        self.next_number = after(number);
+        self.next_number = number_after(number);
         Ok(())
     }
 
@@ -224,11 +222,4 @@ impl Conversation {
             let _ = self.owed.take(number);
         }
     }
-}
-
-// The sequence number behind that one.
-fn after(number: u32) -> u32
-    ensures { result ≡ number_after number }
-{
-    if number < LAST_NUMBER { number + 1 } else { 1 }
 }

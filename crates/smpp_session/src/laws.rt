@@ -11,7 +11,7 @@ ghost use Rattle.smpp_session.specs.declared.calling.Call.{Call as CallOf};
 ghost use Rattle.smpp_session.specs.declared.conversation.SessionState.TheVariants.{Closed, Finishing};
 ghost use Rattle.smpp_session.specs.declared.patience.EndpointState.{EndpointState as EndpointOf};
 ghost use Rattle.smpp_session.specs.declared.patience.Patience.{Patience as PatienceOf};
-ghost use Rattle.smpp_session.specs.declared.patience.Verdict.TheVariants.{AsksLink, Inactive, Ordered, Silent, Stalled, Unanswered, Waits};
+ghost use Rattle.smpp_session.specs.declared.patience.WaitOutcome.TheVariants.{AsksLink, Inactive, Ordered, Silent, Stalled, Unanswered, Waits};
 ghost use Rattle.smpp_session.specs.declared.turn.SessionStep.{SessionStep as TurnOf};
 ghost use Rattle.smpp_session.specs.Stream.{IsStream, header_at};
 ghost use Rattle.smpp_session.specs.SessionRun.{stream, by_pieces};

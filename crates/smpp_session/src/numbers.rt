@@ -8,22 +8,22 @@ use std::marker::Model;
 
 // Sequence numbers in the order in which they were sent, seen by contracts as a list.
 #[derive(Debug, Drop)]
-pub(crate) struct Numbers {
+pub(crate) struct SentNumbers {
     items: Vec<u32>,
 }
 
-impl Model for Numbers {
+impl Model for SentNumbers {
     ghost Value = { List ℕ };
 
     ghost view = { λ n. n.items.items };
 }
 
-impl Numbers {
+impl SentNumbers {
     // No number.
-    pub(crate) fn new(alloc: Global) -> Numbers
+    pub(crate) fn new(alloc: Global) -> SentNumbers
         ensures { result ≡ [] }
     {
-        Numbers {
+        SentNumbers {
             items: Vec::new(alloc),
         }
     }
@@ -36,12 +36,12 @@ impl Numbers {
     }
 
     // The same numbers.
-    pub(crate) fn copy(&self, alloc: Global) -> Result<Numbers, AllocError>
+    pub(crate) fn copy(&self, alloc: Global) -> Result<SentNumbers, AllocError>
         ensures { IfOk result (λ numbers. numbers ≡ self.now) }
     {
         let mut items = Vec::new(alloc);
         items.extend_from_slice(self.items.as_slice())?;
-        Ok(Numbers { items })
+        Ok(SentNumbers { items })
     }
 
     // Puts a number at the end.

@@ -1,6 +1,7 @@
 //! How long an endpoint is waited for.
 ghost use Rattle.std.specs.Prelude.{◌≡◌, Some, None};
-ghost use Rattle.smpp_session.specs.Patience.{is_within as is_within_of, is_within_some as is_within_some_of, known_verdict as known_verdict_of, silence_of as silence_verdict, since_first as since_first_of, unknown_limit as unknown_limit_of, verdict_of};
+ghost use Rattle.smpp_session.specs.Patience.{is_within as is_within_of, is_within_some as is_within_some_of, known_verdict as known_verdict_of};
+ghost use Rattle.smpp_session.specs.Patience.{silence_of as silence_verdict, since_first as since_first_of, unknown_limit as unknown_limit_of, verdict_of};
 
 // Milliseconds in which a deliver_sm or an enquire_link is answered: response_timer (SMPP v3.4 7.2).
 const RESPONSE_LIMIT: u64 = 60_000;
@@ -16,29 +17,29 @@ const LEAVE_LIMIT: u64 = 5_000;
 
 /// What waiting has led to.
 #[derive(Clone, Copy, Debug, PartialEq, Eq)]
-pub enum Verdict {
+pub enum WaitOutcome {
     /// The endpoint is waited for.
     Waits,
-    /// It is sent enquire_link.
+    /// The endpoint is sent enquire_link.
     AsksLink,
-    /// It did not say who it is in time.
+    /// The endpoint did not say who it is in time.
     Silent,
-    /// It took no octets in time.
+    /// The endpoint took no octets in time.
     Stalled,
-    /// It answered no deliver_sm in time.
+    /// The endpoint answered no deliver_sm in time.
     Unanswered,
-    /// It did not answer enquire_link in time.
+    /// The endpoint did not answer enquire_link in time.
     Inactive,
-    /// It did not leave in time.
+    /// The endpoint did not leave in time.
     Ordered,
 }
 
 /// What is to be seen of an endpoint.
 #[derive(Clone, Copy)]
 pub struct EndpointState {
-    /// It said who it is.
+    /// The endpoint said who it is.
     pub is_known: bool,
-    /// It is a bound session.
+    /// The endpoint is a bound session.
     pub is_bound: bool,
     /// Connections wait for its seat.
     pub others_wait: bool,
@@ -49,15 +50,15 @@ pub struct EndpointState {
 /// Since when an endpoint is waited for, in milliseconds.
 #[derive(Clone, Copy)]
 pub struct Patience {
-    /// It has not said who it is since then.
+    /// The endpoint has not said who it is since then.
     pub unknown: u64,
     /// Nothing arrived since then.
     pub heard: u64,
-    /// It was sent enquire_link then, and nothing arrived since.
+    /// The endpoint was sent enquire_link then, and nothing arrived since.
     pub asked: Option<u64>,
     /// Octets wait since then, and it takes none.
     pub stalled: Option<u64>,
-    /// It is to leave since then.
+    /// The endpoint is to leave since then.
     pub leaving: Option<u64>,
 }
 
@@ -94,29 +95,29 @@ fn unknown_limit(others_wait: bool) -> u64
 }
 
 // What the silence of a bound session has led to.
-fn silence_of(asked: Option<u64>, heard: u64, now: u64) -> Verdict
+fn silence_of(asked: Option<u64>, heard: u64, now: u64) -> WaitOutcome
     ensures { result ≡ silence_verdict asked heard now }
 {
     match asked {
         Some(asked) => {
             if is_within(RESPONSE_LIMIT, asked, now) {
-                Verdict::Waits
+                WaitOutcome::Waits
             } else {
-                Verdict::Inactive
+                WaitOutcome::Inactive
             }
         }
         None => {
             if is_within(SILENCE_LIMIT, heard, now) {
-                Verdict::Waits
+                WaitOutcome::Waits
             } else {
-                Verdict::AsksLink
+                WaitOutcome::AsksLink
             }
         }
     }
 }
 
 impl Patience {
-    /// That with an endpoint whose connection opens at this moment.
+    /// The patience with an endpoint whose connection opens at this moment.
     pub fn new(now: u64) -> Patience
         ensures { result ≡ record { unknown = now; heard = now; asked = None; stalled = None; leaving = None } }
     {
@@ -137,28 +138,28 @@ impl Patience {
         self.asked = None;
     }
 
-    /// It was sent enquire_link.
+    /// The endpoint was sent enquire_link.
     pub fn ask(&mut self, now: u64)
         ensures { self.new ≡ record self.old { asked = Some now } }
     {
         self.asked = Some(now);
     }
 
-    /// It was asked to leave. Only the first time counts.
+    /// The endpoint was asked to leave. Only the first time counts.
     pub fn leave(&mut self, now: u64)
         ensures { self.new ≡ record self.old { leaving = since_first_of self.old.leaving now } }
     {
         self.leaving = since_first(self.leaving, now);
     }
 
-    /// It is known, so the time to say who it is begins anew.
+    /// The endpoint is known, so the time to say who it is begins anew.
     pub fn know(&mut self, now: u64)
         ensures { self.new ≡ record self.old { unknown = now } }
     {
         self.unknown = now;
     }
 
-    /// It took octets, or none wait.
+    /// The endpoint took octets, or none wait.
     pub fn flow(&mut self)
         ensures { self.new ≡ record self.old { stalled = None } }
     {
@@ -172,36 +173,36 @@ impl Patience {
         self.stalled = since_first(self.stalled, now);
     }
 
-    fn known_verdict(&self, state: &EndpointState, now: u64) -> Verdict
+    fn known_verdict(&self, state: &EndpointState, now: u64) -> WaitOutcome
         ensures { result ≡ known_verdict_of self.now state.now now }
     {
         if !is_within_some(RESPONSE_LIMIT, state.owed, now) {
-            return Verdict::Unanswered;
+            return WaitOutcome::Unanswered;
         }
         if state.is_bound {
             silence_of(self.asked, self.heard, now)
         } else {
-            Verdict::Waits
+            WaitOutcome::Waits
         }
     }
 
     /// What the waiting has led to at this moment.
-    pub fn verdict(&self, state: &EndpointState, now: u64) -> Verdict
+    pub fn verdict(&self, state: &EndpointState, now: u64) -> WaitOutcome
         ensures { result ≡ verdict_of self.now state.now now }
     {
         if !is_within_some(STALL_LIMIT, self.stalled, now) {
-            return Verdict::Stalled;
+            return WaitOutcome::Stalled;
         }
         if !is_within_some(LEAVE_LIMIT, self.leaving, now) {
-            return Verdict::Ordered;
+            return WaitOutcome::Ordered;
         }
         if state.is_known {
             return self.known_verdict(state, now);
         }
         if is_within(unknown_limit(state.others_wait), self.unknown, now) {
-            Verdict::Waits
+            WaitOutcome::Waits
         } else {
-            Verdict::Silent
+            WaitOutcome::Silent
         }
     }
 }

@@ -7,7 +7,8 @@ ghost use Rattle.smpp_session.specs.Windows.{is_none};
 ghost use Rattle.smpp_session.specs.Bindings.{is_bound, is_bind_lost};
 ghost use Rattle.smpp_session.specs.SessionTable.{unbind_resp, unbind_resp_to};
 ghost use Rattle.smpp_session.specs.Sessions.{SessionView, opened, with_more, with_first, treated_input, fed, IsDeliverable, delivery_fault, IsRefused};
-ghost use Rattle.smpp_session.specs.Sessions.{after_answered, after_close, after_delivery, after_unbind, deliver_pdu, for_version, number_to_send, unbind_octets, unbinding};
+ghost use Rattle.smpp_session.specs.Sessions.{after_answered, after_close, after_delivery, after_unbind, deliver_pdu, for_version, number_to_send};
+ghost use Rattle.smpp_session.specs.Sessions.{unbind_octets, unbinding};
 ghost use Rattle.smpp_session.specs.Sessions.{with_full};
 
 use crate::account::{Accounts, FullAccounts};
@@ -75,7 +76,7 @@ impl Session {
         }
     }
 
-    /// The state.
+    /// The session's state (SMPP v3.4 2.2).
     pub fn state(&self) -> SessionState
         ensures { result ≡ self.now.conversation.state }
     {

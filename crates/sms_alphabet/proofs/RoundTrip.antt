@@ -5,7 +5,7 @@ use Rattle.std.proofs.Math.Nat.{pow-succ', pow-zero, mul-mod_right, mul-div_canc
 use Rattle.std.proofs.lemmas.Bool.{ltb-true, ltb-false, eqb-true, lt-ltb, le-ltb, eq-eqb}
 use Rattle.std.proofs.lemmas.Nat.{pow_pos}
 use Rattle.sms_base.specs.Reading.{AreOctets}
-use Rattle.sms_alphabet.specs.Packing.{value_in, digits_in, packed_len, AreSeptets, IsPacking, septets_in, unpacked, and_then, Answers}
+use Rattle.sms_alphabet.specs.Packing.{value_in, digits_in, packed_len, AreSeptets, IsPacking, septets_in, unpacked, and_then, AnswersUnpacking}
 use Rattle.sms_alphabet.specs.declared.unpacking.UnpackError.{UnpackError}
 use Rattle.sms_alphabet.specs.declared.unpacking.UnpackError.TheVariants.{TooShort, SpareBits}
 
@@ -96,9 +96,9 @@ same_digits (x ∷ xs) (y ∷ ys) a b l e =
 pub one_packing : (s o p : List ℕ) (fill : ℕ) → AreOctets o → AreOctets p → IsPacking s fill o → IsPacking s fill p → o ≡ p
 one_packing s o p fill a b x y = same_digits o p a b (x.length_is ∙ sym y.length_is) (x.value_is ∙ sym y.value_is)
 
-pub found : (octets : List ℕ) (fill count : ℕ) (result : Result (List ℕ) UnpackError) → Answers result (unpacked octets fill count) → IfOk result (λ septets. IsPacking septets fill octets × (length septets ≡ count) × AreSeptets septets)
+pub found : (octets : List ℕ) (fill count : ℕ) (result : Result (List ℕ) UnpackError) → AnswersUnpacking result (unpacked octets fill count) → IfOk result (λ septets. IsPacking septets fill octets × (length septets ≡ count) × AreSeptets septets)
 found octets fill count (Ok septets) a = read_was_packed octets septets fill count a
 found octets fill count (Err e) a = tt
 
-pub only : (octets septets : List ℕ) (fill count : ℕ) (result : Result (List ℕ) UnpackError) → Answers result (unpacked octets fill count) → AreSeptets septets → IsPacking septets fill octets → length septets ≡ count → Answers result (Ok septets)
-only octets septets fill count result a s p n = subst (λ (w : Result (List ℕ) UnpackError). Answers result w) (ap (λ (k : ℕ). unpacked octets fill k) (sym n) ∙ packed_is_read septets octets fill s p) a
+pub only : (octets septets : List ℕ) (fill count : ℕ) (result : Result (List ℕ) UnpackError) → AnswersUnpacking result (unpacked octets fill count) → AreSeptets septets → IsPacking septets fill octets → length septets ≡ count → AnswersUnpacking result (Ok septets)
+only octets septets fill count result a s p n = subst (λ (w : Result (List ℕ) UnpackError). AnswersUnpacking result w) (ap (λ (k : ℕ). unpacked octets fill k) (sym n) ∙ packed_is_read septets octets fill s p) a

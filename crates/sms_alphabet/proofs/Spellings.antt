@@ -9,7 +9,7 @@ use Rattle.sms_base.proofs.Alphabets.{pair_of_code, code_of_pair}
 use Rattle.sms_alphabet.specs.Packing.{AreSeptets}
 use Rattle.sms_alphabet.proofs.Pieces.{spelling_below}
 use Rattle.sms_alphabet.specs.declared.spelling.SpellingError.{SpellingError}
-use Rattle.sms_alphabet.specs.Spelling.{septets_for, septets_of_code, lacks_code, is_uncoded, spelled, unless_uncoded, Answers}
+use Rattle.sms_alphabet.specs.Spelling.{septets_for, septets_of_code, lacks_code, is_uncoded, spelled, unless_uncoded, AnswersSpelling}
 
 -- every character has a code
 abbrev AreCoded : List ℕ → Type 0
@@ -69,13 +69,13 @@ spelling_spelled text septets s =
     let none : ltb (position_or_len lacks_code text) (length text) ≡ false = le-ltb _ _ h.0 in
     rw (none, ← h.1) refl
 
-pub found : (text : List ℕ) (result : Result (List ℕ) SpellingError) → Answers result (spelled text) → IfOk result (λ septets. IsSpelling septets text)
+pub found : (text : List ℕ) (result : Result (List ℕ) SpellingError) → AnswersSpelling result (spelled text) → IfOk result (λ septets. IsSpelling septets text)
 found text (Ok septets) a = spelled_spells text septets a
 found text (Err e) a = tt
 
-pub only : (text septets : List ℕ) (result : Result (List ℕ) SpellingError) → Answers result (spelled text) → IsSpelling septets text → Answers result (Ok septets)
-only text septets result a s = subst (λ (w : Result (List ℕ) SpellingError). Answers result w) (spelling_spelled text septets s) a
+pub only : (text septets : List ℕ) (result : Result (List ℕ) SpellingError) → AnswersSpelling result (spelled text) → IsSpelling septets text → AnswersSpelling result (Ok septets)
+only text septets result a s = subst (λ (w : Result (List ℕ) SpellingError). AnswersSpelling result w) (spelling_spelled text septets s) a
 
-pub below : (text : List ℕ) (result : Result (List ℕ) SpellingError) → Answers result (spelled text) → IfOk result (λ septets. AreSeptets septets)
+pub below : (text : List ℕ) (result : Result (List ℕ) SpellingError) → AnswersSpelling result (spelled text) → IfOk result (λ septets. AreSeptets septets)
 below text (Ok septets) a = spelling_below septets text (spelled_spells text septets a)
 below text (Err e) a = tt

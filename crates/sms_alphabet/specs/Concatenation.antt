@@ -1,5 +1,6 @@
 -- The concatenation key of a header: that of its last valid concatenation element.
-use Rattle.std.specs.Prelude.{ℕ, ◌+◌, ◌*◌, ◌<◌, ◌≤◌, List, [], ◌∷◌, Bool, true, false, Option, Some, None, Result, Ok, Err, ◌&&◌, nat_lt, nat_le, ◌==◌, if◌then◌else◌}
+use Rattle.std.specs.Prelude.{ℕ, ◌+◌, ◌*◌, ◌<◌, ◌≤◌, List, [], ◌∷◌, Bool, true, false, Option, Some, None, Result, Ok, Err, ◌&&◌, nat_lt, nat_le, ◌==◌}
+use Rattle.std.specs.Prelude.{if◌then◌else◌}
 use Rattle.sms_alphabet.specs.declared.element.Element.{Element}
 use Rattle.sms_alphabet.specs.declared.header_error.HeaderError.{HeaderError}
 use Rattle.sms_alphabet.specs.declared.concat_key.ConcatKey.{ConcatKey}

@@ -1,5 +1,6 @@
 -- Packing of septets into octets, by the value of a number in two bases.
-use Rattle.std.specs.Prelude.{◌≡◌, ℕ, zero, suc, ◌+◌, ◌*◌, ◌/◌, ◌%◌, ◌^◌, ◌<◌, List, [], ◌∷◌, length, All, Result, Ok, Err, nat_lt, ◌==◌, if◌then◌else◌, ◌||◌, not}
+use Rattle.std.specs.Prelude.{◌≡◌, ℕ, zero, suc, ◌+◌, ◌*◌, ◌/◌, ◌%◌, ◌^◌, ◌<◌, List, [], ◌∷◌, length, All, Result, Ok, Err, nat_lt, ◌==◌, if◌then◌else◌, ◌||◌}
+use Rattle.std.specs.Prelude.{not}
 use Rattle.sms_alphabet.specs.declared.unpacking.UnpackError.{UnpackError}
 use Rattle.sms_alphabet.specs.declared.unpacking.UnpackError.TheVariants.{TooShort, SpareBits, NoMemory}
 
@@ -52,8 +53,8 @@ abbrev pub unpacked : List ℕ → ℕ → ℕ → Result (List ℕ) UnpackError
 unpacked octets fill count = and_then (tested octets fill count) (septets_in octets fill count)
 
 -- The answer is the wanted one. Want of memory is reported only where there are septets.
-abbrev pub Answers : Result (List ℕ) UnpackError → Result (List ℕ) UnpackError → Type 0
-Answers (Ok septets) wanted = wanted ≡ Ok septets
-Answers (Err NoMemory) wanted = (septets : List ℕ) × (wanted ≡ Ok septets)
-Answers (Err TooShort) wanted = wanted ≡ Err TooShort
-Answers (Err SpareBits) wanted = wanted ≡ Err SpareBits
+abbrev pub AnswersUnpacking : Result (List ℕ) UnpackError → Result (List ℕ) UnpackError → Type 0
+AnswersUnpacking (Ok septets) wanted = wanted ≡ Ok septets
+AnswersUnpacking (Err NoMemory) wanted = (septets : List ℕ) × (wanted ≡ Ok septets)
+AnswersUnpacking (Err TooShort) wanted = wanted ≡ Err TooShort
+AnswersUnpacking (Err SpareBits) wanted = wanted ≡ Err SpareBits

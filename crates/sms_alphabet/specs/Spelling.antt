@@ -29,7 +29,7 @@ unfoldable pub spelled : List ℕ → Result (List ℕ) SpellingError
 spelled text = unless_uncoded (position lacks_code text) (flat_map septets_for text)
 
 -- The answer is the wanted one. Want of memory is reported only where the text can be spelled.
-abbrev pub Answers : Result (List ℕ) SpellingError → Result (List ℕ) SpellingError → Type 0
-Answers (Ok septets) wanted = wanted ≡ Ok septets
-Answers (Err NoMemory) wanted = (septets : List ℕ) × (wanted ≡ Ok septets)
-Answers (Err (NoCode place)) wanted = wanted ≡ Err (NoCode place)
+abbrev pub AnswersSpelling : Result (List ℕ) SpellingError → Result (List ℕ) SpellingError → Type 0
+AnswersSpelling (Ok septets) wanted = wanted ≡ Ok septets
+AnswersSpelling (Err NoMemory) wanted = (septets : List ℕ) × (wanted ≡ Ok septets)
+AnswersSpelling (Err (NoCode place)) wanted = wanted ≡ Err (NoCode place)

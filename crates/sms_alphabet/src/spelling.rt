@@ -3,7 +3,7 @@ ghost use Rattle.std.specs.Prelude.{◌≡◌, ◌++◌, ℕ, List, Ok, IfOk, On
 ghost use Rattle.std.specs.Str.{chars};
 ghost use Rattle.sms_base.specs.Alphabet.{IsSpelling};
 ghost use Rattle.sms_alphabet.specs.Packing.{AreSeptets};
-ghost use Rattle.sms_alphabet.specs.Spelling.{Answers, spelled, septets_for, lacks_code};
+ghost use Rattle.sms_alphabet.specs.Spelling.{AnswersSpelling, spelled, septets_for, lacks_code};
 ghost use Rattle.sms_alphabet.specs.declared.spelling.SpellingError.TheVariants.{NoMemory};
 
 use sms_base::{Code, ESCAPE, Octets, code_of};
@@ -108,7 +108,7 @@ fn septets_in_text(alloc: Global, text: &str) -> Result<Octets, AllocError>
 
 #[tactic(auto, unfolding(crate::specs::Spelling::spelled))]
 fn spell(alloc: Global, text: &str) -> Result<Octets, SpellingError>
-    ensures { Answers result (spelled (chars text.now)) }
+    ensures { AnswersSpelling result (spelled (chars text.now)) }
 {
     match first_uncoded(text) {
         Some(place) => Err(SpellingError::NoCode(place)),
@@ -121,9 +121,9 @@ fn spell(alloc: Global, text: &str) -> Result<Octets, SpellingError>
 /// Refuses the first character that has no code, by its place. Takes memory once.
 pub fn septets_of(alloc: Global, text: &str) -> Result<Octets, SpellingError>
     ensures found { IfOk result (λ septets. IsSpelling septets (chars text.now)) }
-    ensures only { (septets : List ℕ) → IsSpelling septets (chars text.now) → Answers result (Ok septets) }
+    ensures only { (septets : List ℕ) → IsSpelling septets (chars text.now) → AnswersSpelling result (Ok septets) }
     ensures septets { IfOk result (λ septets. AreSeptets septets) }
-    ensures exact { Answers result (spelled (chars text.now)) }
+    ensures exact { AnswersSpelling result (spelled (chars text.now)) }
 {
     spell(alloc, text)
 }

@@ -1,5 +1,5 @@
 ghost use Rattle.std.specs.Prelude.{◌≡◌, ◌<◌, ◌/◌, ◌%◌, ◌^◌, slice_index, drop, nat_lt, length, ◌≤◌, ◌+◌, ℕ, List, Ok, IfOk};
-ghost use Rattle.sms_alphabet.specs.Packing.{IsPacking, AreSeptets, tested, unpacked, septets_in, digits_in, value_in, Answers};
+ghost use Rattle.sms_alphabet.specs.Packing.{IsPacking, AreSeptets, tested, unpacked, septets_in, digits_in, value_in, AnswersUnpacking};
 ghost use Rattle.sms_alphabet.specs.declared.unpacking.UnpackError.TheVariants.{NoMemory};
 
 use sms_base::Octets;
@@ -164,15 +164,15 @@ fn septets(alloc: Global, octets: &[u8], fill: u8, count: u8) -> Result<Octets, 
 pub fn unpack(alloc: Global, octets: &[u8], fill: u8, count: u8) -> Result<Octets, UnpackError>
     requires { fill < 7 }
     ensures found { IfOk result (λ septets. IsPacking septets fill octets.now × (length septets ≡ count) × AreSeptets septets) }
-    ensures only { (septets : List ℕ) → AreSeptets septets → IsPacking septets fill octets.now → length septets ≡ count → Answers result (Ok septets) }
-    ensures exact { Answers result (unpacked octets.now fill count) }
+    ensures only { (septets : List ℕ) → AreSeptets septets → IsPacking septets fill octets.now → length septets ≡ count → AnswersUnpacking result (Ok septets) }
+    ensures exact { AnswersUnpacking result (unpacked octets.now fill count) }
 {
     unpack_tested(alloc, octets, fill, count)
 }
 
 fn unpack_tested(alloc: Global, octets: &[u8], fill: u8, count: u8) -> Result<Octets, UnpackError>
     requires { fill < 7 }
-    ensures { Answers result (unpacked octets.now fill count) }
+    ensures { AnswersUnpacking result (unpacked octets.now fill count) }
 {
     check(octets, fill, count)?;
     Ok(septets(alloc, octets, fill, count)?)

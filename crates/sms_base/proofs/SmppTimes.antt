@@ -4,7 +4,7 @@ use Rattle.std.proofs.lemmas.Bool.{leb-true, le-leb, eqb-true}
 use Rattle.std.proofs.lemmas.List.{drop_more, length-drop}
 use Rattle.sms_base.specs.TimeStamp.{◌>>=◌, IsMoment, IsClock, zone_seconds, clock_in, moment_in}
 use Rattle.sms_base.specs.SmppTime.{AreNumbers, time_text, sign_of, after_length, IsSmppTime, decimal_in, pair_at, numbers_in, local_in, time_at, smpp_time_in}
-use Rattle.sms_base.specs.declared.smpp_time.Numbers.{Numbers}
+use Rattle.sms_base.specs.declared.smpp_time.SpelledTime.{SpelledTime}
 use Rattle.sms_base.proofs.ClockTests.{both, passes, clock_by, shown_passes, checked_seconds, tests}
 use Rattle.sms_base.proofs.Stamps.{bind_some, moment_in-is, moment_in-pos}
 
@@ -77,17 +77,17 @@ sixteen xs len =
     nothing [] h = refl
     nothing (y ∷ ys) h = absurd (omega arith)
 
-record Spells (xs : List ℕ) (n : Numbers) : Type 0 where
+record Spells (xs : List ℕ) (n : SpelledTime) : Type 0 where
   tenth : ℕ
   numbers : AreNumbers n
   digit : tenth < 10
   spelled : xs ≡ time_text n tenth (get_or xs 15 0)
 
-all_spelled : (xs : List ℕ) (t : ℕ) (n : Numbers) → length xs ≡ 16 → IsPair (get_or xs 0 0) (get_or xs 1 0) n.year → IsPair (get_or xs 2 0) (get_or xs 3 0) n.month → IsPair (get_or xs 4 0) (get_or xs 5 0) n.day → IsPair (get_or xs 6 0) (get_or xs 7 0) n.hour → IsPair (get_or xs 8 0) (get_or xs 9 0) n.minute → IsPair (get_or xs 10 0) (get_or xs 11 0) n.second → get_or xs 12 0 ≡ 48 + t → IsPair (get_or xs 13 0) (get_or xs 14 0) n.quarters → xs ≡ time_text n t (get_or xs 15 0)
+all_spelled : (xs : List ℕ) (t : ℕ) (n : SpelledTime) → length xs ≡ 16 → IsPair (get_or xs 0 0) (get_or xs 1 0) n.year → IsPair (get_or xs 2 0) (get_or xs 3 0) n.month → IsPair (get_or xs 4 0) (get_or xs 5 0) n.day → IsPair (get_or xs 6 0) (get_or xs 7 0) n.hour → IsPair (get_or xs 8 0) (get_or xs 9 0) n.minute → IsPair (get_or xs 10 0) (get_or xs 11 0) n.second → get_or xs 12 0 ≡ 48 + t → IsPair (get_or xs 13 0) (get_or xs 14 0) n.quarters → xs ≡ time_text n t (get_or xs 15 0)
 all_spelled xs t n len p0 p1 p2 p3 p4 p5 d p6 =
     rw (← p0.tens_is, ← p0.units_is, ← p1.tens_is, ← p1.units_is, ← p2.tens_is, ← p2.units_is, ← p3.tens_is, ← p3.units_is, ← p4.tens_is, ← p4.units_is, ← p5.tens_is, ← p5.units_is, ← d, ← p6.tens_is, ← p6.units_is) (sixteen xs len)
 
-numbers_are : (xs : List ℕ) (n : Numbers) → length xs ≡ 16 → numbers_in xs ≡ Some n → Spells xs n
+numbers_are : (xs : List ℕ) (n : SpelledTime) → length xs ≡ 16 → numbers_in xs ≡ Some n → Spells xs n
 unfolding numbers_in
 numbers_are xs n len e =
     let s0 = bind_some (pair_at (get_or xs 0 0) (get_or xs 1 0)) _ n e in
@@ -106,15 +106,15 @@ numbers_are xs n len e =
     let p5 = pair_is (get_or xs 10 0) (get_or xs 11 0) s5.0 s5.1 in
     let d = decimal_is (get_or xs 12 0) s6.0 s6.1 in
     let p6 = pair_is (get_or xs 13 0) (get_or xs 14 0) s7.0 s7.1 in
-    let made : Numbers = record { year = s0.0; month = s1.0; day = s2.0; hour = s3.0; minute = s4.0; second = s5.0; quarters = s7.0 } in
+    let made : SpelledTime = record { year = s0.0; month = s1.0; day = s2.0; hour = s3.0; minute = s4.0; second = s5.0; quarters = s7.0 } in
     let same : made ≡ n = some_is made n s7.2 in
     let are : AreNumbers made = record { year = p0.small; month = p1.small; day = p2.small; hour = p3.small; minute = p4.small; second = p5.small; quarters = p6.small } in
     subst (Spells xs) same (record { tenth = s6.0; numbers = are; digit = d.0; spelled = all_spelled xs s6.0 made len p0 p1 p2 p3 p4 p5 d.1 p6 })
   where
-    some_is : (a b : Numbers) → Some a ≡ Some b → a ≡ b
+    some_is : (a b : SpelledTime) → Some a ≡ Some b → a ≡ b
     some_is a b h = cc
 
-numbers_known : (n : Numbers) (t last : ℕ) → AreNumbers n → t < 10 → numbers_in (time_text n t last) ≡ Some n
+numbers_known : (n : SpelledTime) (t last : ℕ) → AreNumbers n → t < 10 → numbers_in (time_text n t last) ≡ Some n
 unfolding numbers_in
 numbers_known n t last h lt =
     rw (pair_known n.year h.year, pair_known n.month h.month, pair_known n.day h.day, pair_known n.hour h.hour, pair_known n.minute h.minute, pair_known n.second h.second, decimal_known t lt, pair_known n.quarters h.quarters) refl
@@ -127,7 +127,7 @@ clock_shown year month day hour minute second z lt e =
     let s = some_if _ _ _ e in
     subst (λ (x : ℤ). IsClock year month day hour minute second x) s.1 (clock_by year month day hour minute second lt (passes _ _ _ _ _ _ s.0))
 
-local_is : (n : Numbers) (b : Bool) (m : ℕ) → local_in n b ≡ Some m → n.year < 100
+local_is : (n : SpelledTime) (b : Bool) (m : ℕ) → local_in n b ≡ Some m → n.year < 100
     → (local : ℤ) × (n.quarters ≤ 48) × IsClock n.year n.month n.day n.hour n.minute n.second local × (pos m ≡ local -ℤ zone_seconds n.quarters b) × IsMoment m
 unfolding local_in
 local_is n b m e lt = by_test (leb n.quarters 48) refl e where
@@ -144,13 +144,13 @@ unfolding clock_in
 clock_known year month day hour minute second local c =
     rw (tests year month day hour minute second (shown_passes year month day hour minute second local c)) (ap Some (sym (checked_seconds year month day hour minute second local c)))
 
-local_known : (n : Numbers) (b : Bool) (m : ℕ) (local : ℤ) → n.quarters ≤ 48 → IsClock n.year n.month n.day n.hour n.minute n.second local → pos m ≡ local -ℤ zone_seconds n.quarters b → IsMoment m → local_in n b ≡ Some m
+local_known : (n : SpelledTime) (b : Bool) (m : ℕ) (local : ℤ) → n.quarters ≤ 48 → IsClock n.year n.month n.day n.hour n.minute n.second local → pos m ≡ local -ℤ zone_seconds n.quarters b → IsMoment m → local_in n b ≡ Some m
 unfolding local_in
 local_known n b m local le c instant fits =
     let t : leb n.quarters 48 ≡ true = le-leb n.quarters 48 le in
     rw (t, clock_known n.year n.month n.day n.hour n.minute n.second local c, ← instant) (moment_in-pos m fits)
 
-by_last : (xs : List ℕ) (n : Numbers) (now m last : ℕ) (a b c : Bool) → Spells xs n → last ≡ get_or xs 15 0 → eqb last 43 ≡ a → eqb last 45 ≡ b → eqb last 82 ≡ c
+by_last : (xs : List ℕ) (n : SpelledTime) (now m last : ℕ) (a b c : Bool) → Spells xs n → last ≡ get_or xs 15 0 → eqb last 43 ≡ a → eqb last 45 ≡ b → eqb last 82 ≡ c
     → cond a (local_in n false) (cond b (local_in n true) (cond c (Some (after_length n now)) None)) ≡ Some m → IsSmppTime xs now m
 by_last xs n now m last true b c s is ea eb ec e =
     let l = local_is n false m e s.numbers.year in
@@ -171,7 +171,7 @@ unfolding smpp_time_in time_at
 time_is xs now m e = by_test (eqb (length xs) 16) refl e where
   by_test : (t : Bool) → eqb (length xs) 16 ≡ t → cond t (numbers_in xs >>= (λ n. time_at n (get_or xs 15 0) now)) None ≡ Some m → IsSmppTime xs now m
   by_test true t h =
-      let s = bind_some (numbers_in xs) (λ (n : Numbers). time_at n (get_or xs 15 0) now) m h in
+      let s = bind_some (numbers_in xs) (λ (n : SpelledTime). time_at n (get_or xs 15 0) now) m h in
       let k = numbers_are xs s.0 (eqb-true (length xs) 16 t) s.1 in
       by_last xs s.0 now m (get_or xs 15 0) (eqb (get_or xs 15 0) 43) (eqb (get_or xs 15 0) 45) (eqb (get_or xs 15 0) 82) k refl refl refl refl s.2
   by_test false t h = absurd cc

@@ -1,7 +1,8 @@
 -- The type of number of an address and its number (3GPP TS 23.040 9.1.2.5).
 use Rattle.std.specs.Prelude.{ℕ, Option, Some, None, Bool, true, false, ◌==◌, if◌then◌else◌}
 use Rattle.sms_base.specs.declared.type_of_number.TypeOfNumber.{TypeOfNumber}
-use Rattle.sms_base.specs.declared.type_of_number.TypeOfNumber.TheVariants.{Unknown, International, National, NetworkSpecific, Subscriber, Alphanumeric, Abbreviated}
+use Rattle.sms_base.specs.declared.type_of_number.TypeOfNumber.TheVariants.{Unknown, International, National, NetworkSpecific, Subscriber, Alphanumeric}
+use Rattle.sms_base.specs.declared.type_of_number.TypeOfNumber.TheVariants.{Abbreviated}
 
 abbrev pub type_number : TypeOfNumber → ℕ
 type_number Unknown = 0

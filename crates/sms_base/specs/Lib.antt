@@ -5,6 +5,7 @@ pub mod Alphabet
 pub mod Digits
 pub mod FaultCodes
 pub mod FaultReasons
+pub mod FinalWords
 pub mod HandsetNumber
 pub mod Inside
 pub mod MessageId
@@ -15,3 +16,4 @@ pub mod SmppTime
 pub mod TimeStamp
 pub mod UtcClock
 pub mod StampWriting
+pub mod Markup

@@ -1,10 +1,11 @@
 -- The times of SMPP (SMPP v3.4 7.1.1): `YYMMDDhhmmsstnnp`, sixteen characters.
-use Rattle.std.specs.Prelude.{◌≡◌, ◌⊎◌, slice_index, min, ◌-ℤ◌, ℕ, ◌+◌, ◌-◌, ◌*◌, ◌/◌, ◌%◌, ◌<◌, ◌≤◌, Bool, true, false, ◌&&◌, ◌==◌, nat_le, if◌then◌else◌, List, [], ◌∷◌, ◌++◌, length, Option, Some, None, ℤ, pos}
-use Rattle.sms_base.specs.declared.smpp_time.Numbers.{Numbers}
+use Rattle.std.specs.Prelude.{◌≡◌, ◌⊎◌, slice_index, min, ◌-ℤ◌, ℕ, ◌+◌, ◌-◌, ◌*◌, ◌/◌, ◌%◌, ◌<◌, ◌≤◌, Bool, true, false, ◌&&◌, ◌==◌, nat_le, if◌then◌else◌}
+use Rattle.std.specs.Prelude.{List, [], ◌∷◌, ◌++◌, length, Option, Some, None, ℤ, pos}
+use Rattle.sms_base.specs.declared.smpp_time.SpelledTime.{SpelledTime}
 use Rattle.sms_base.specs.TimeStamp.{◌>>=◌, IsMoment, IsClock, zone_seconds, clock_in, moment_in}
 
 -- each number has two digits
-pub record AreNumbers (n : Numbers) : Type 0 where
+pub record AreNumbers (n : SpelledTime) : Type 0 where
   pub year : n.year < 100
   pub month : n.month < 100
   pub day : n.day < 100
@@ -18,7 +19,7 @@ abbrev pub two_digits : ℕ → List ℕ
 two_digits n = (48 + n / 10) ∷ (48 + n % 10) ∷ []
 
 -- the digits of the numbers, of the tenth of a second, and the last character
-abbrev pub time_text : Numbers → ℕ → ℕ → List ℕ
+abbrev pub time_text : SpelledTime → ℕ → ℕ → List ℕ
 time_text n tenth last =
     two_digits n.year ++ (two_digits n.month
     ++ (two_digits n.day ++ (two_digits n.hour
@@ -30,7 +31,7 @@ sign_of is_behind = if is_behind then 45 else 43
 
 -- The moment at which a clock shows the numbers, which is up to 48 quarter hours ahead of UTC or behind it.
 pub record IsAbsolute (octets : List ℕ) (moment : ℕ) : Type 0 where
-  pub n : Numbers
+  pub n : SpelledTime
   pub tenth : ℕ
   pub is_behind : Bool
   pub local : ℤ
@@ -43,16 +44,16 @@ pub record IsAbsolute (octets : List ℕ) (moment : ℕ) : Type 0 where
   pub in_range : IsMoment moment
 
 -- the length that the numbers are, a year as 365 days and a month as 30
-abbrev pub length_of : Numbers → ℕ
+abbrev pub length_of : SpelledTime → ℕ
 length_of n = 86400 * (365 * n.year + 30 * n.month + n.day) + 3600 * n.hour + 60 * n.minute + n.second
 
 -- so much later, but no later than the last moment
-abbrev pub after_length : Numbers → ℕ → ℕ
+abbrev pub after_length : SpelledTime → ℕ → ℕ
 after_length n now = min (now + length_of n) 4102444799
 
 -- The moment that is so much later than another.
 pub record IsRelative (octets : List ℕ) (now moment : ℕ) : Type 0 where
-  pub n : Numbers
+  pub n : SpelledTime
   pub tenth : ℕ
   pub numbers : AreNumbers n
   pub digit : tenth < 10
@@ -73,7 +74,7 @@ pair_at tens units = do
   low ← decimal_in units
   Some (10 * high + low)
 
-unfoldable pub numbers_in : List ℕ → Option Numbers
+unfoldable pub numbers_in : List ℕ → Option SpelledTime
 numbers_in octets = do
   year ← pair_at (slice_index octets 0) (slice_index octets 1)
   month ← pair_at (slice_index octets 2) (slice_index octets 3)
@@ -85,14 +86,14 @@ numbers_in octets = do
   quarters ← pair_at (slice_index octets 13) (slice_index octets 14)
   Some (record { year = year; month = month; day = day; hour = hour; minute = minute; second = second; quarters = quarters })
 
-unfoldable pub local_in : Numbers → Bool → Option ℕ
+unfoldable pub local_in : SpelledTime → Bool → Option ℕ
 local_in n is_behind =
     if nat_le n.quarters 48 then (do
       local ← clock_in n.year n.month n.day n.hour n.minute n.second
       moment_in (local -ℤ zone_seconds n.quarters is_behind))
     else None
 
-unfoldable pub time_at : Numbers → ℕ → ℕ → Option ℕ
+unfoldable pub time_at : SpelledTime → ℕ → ℕ → Option ℕ
 time_at n last now =
     if last == 43 then local_in n false
     else (if last == 45 then local_in n true

@@ -4,7 +4,8 @@
 use Rattle.std.specs.Prelude.{ℕ, ◌+◌, ◌-◌, ◌*◌, ◌/◌, ◌%◌, ◌==◌, ◌<◌, nat_lt, List, [], ◌∷◌, ◌++◌, if◌then◌else◌, pos}
 use Rattle.sms_base.specs.SmppTime.{two_digits}
 use Rattle.sms_base.specs.TimeStamp.{IsClock, swapped}
-pub use Rattle.sms_base.specs.StampWriting.{Clock, clock_of, clock_stamp, day_in, days_before, days_before_among_four, month_in, months, stamp_of, year_among_four, year_of}
+pub use Rattle.sms_base.specs.StampWriting.{Clock, clock_of, clock_stamp, day_in, days_before, days_before_among_four, month_in, months, stamp_of}
+pub use Rattle.sms_base.specs.StampWriting.{year_among_four, year_of}
 unfoldable pub use Rattle.sms_base.specs.StampWriting.{clock_at}
 
 -- ---- the date, of days counted from 1 January 2000

@@ -1,5 +1,6 @@
 //! The text of an address, character by character.
 ghost use Rattle.std.specs.Prelude.{◌≡◌};
+ghost use Rattle.std.specs.List.{list_all};
 ghost use Rattle.std.specs.Str.{chars};
 ghost use Rattle.sms_base.specs.Address.{number_fault, name_fault, text_fault, unless, width_of, has_code};
 ghost use Rattle.sms_base.specs.Alphabet.{code_for};
@@ -16,14 +17,22 @@ const MOST_DIGITS: usize = 20;
 /// Septets in a name: as many as fit 20 semi-octets.
 const MOST_SEPTETS: u8 = 11;
 
-fn is_digit(character: char) -> bool
+/// Whether the character is a digit of a number, `0-9*#abc`.
+pub fn is_digit(character: char) -> bool
     ensures { result ≡ is_digit character }
 {
     semi_octet_of(character).is_some()
 }
 
-// How many septets a character takes; one without a code counts as one.
-fn width_of(character: char) -> u8
+/// Whether each character is a digit of a number.
+pub fn are_digits(characters: &[char]) -> bool
+    ensures { result ≡ list_all is_digit characters.now }
+{
+    characters.iter().all(|character| is_digit(*character))
+}
+
+/// How many septets a character takes; one without a code counts as one.
+pub fn width_of(character: char) -> u8
     ensures { result ≡ width_of (code_for character) }
 {
     match code_of(character) {
@@ -32,7 +41,8 @@ fn width_of(character: char) -> u8
     }
 }
 
-fn has_code(character: char) -> bool
+/// Whether the character is one of the default alphabet.
+pub fn has_code(character: char) -> bool
     ensures { result ≡ has_code character }
 {
     code_of(character).is_some()

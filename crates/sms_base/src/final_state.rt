@@ -3,10 +3,27 @@
 pub enum FinalState {
     /// Each part was accepted.
     Delivered,
-    /// Its validity period ended.
+    /// The validity period of the message ended.
     Expired,
-    /// It was cancelled.
+    /// The message was cancelled.
     Deleted,
-    /// It was refused for good.
+    /// The message was refused for good.
     Undeliverable,
+}
+
+impl FinalState {
+    ghost use Rattle.std.specs.Prelude.{◌≡◌};
+    ghost use Rattle.sms_base.specs.FinalWords.{final_word};
+
+    /// The word of a receipt for the state (SMPP v3.4 appendix B).
+    pub fn word(self) -> &'static str
+        ensures { result.now ≡ final_word self }
+    {
+        match self {
+            FinalState::Delivered => "DELIVRD",
+            FinalState::Expired => "EXPIRED",
+            FinalState::Deleted => "DELETED",
+            FinalState::Undeliverable => "UNDELIV",
+        }
+    }
 }

@@ -36,7 +36,7 @@ impl MessageId {
         Some(MessageId { number })
     }
 
-    /// The number.
+    /// The id as a number, 1 to 9999999999.
     pub fn number(self) -> u64
         ensures value { result ≡ self }
         ensures range { IsMessageId self }

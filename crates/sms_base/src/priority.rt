@@ -47,7 +47,7 @@ impl Priority {
         Priority { level: flag.min(3) }
     }
 
-    /// The level.
+    /// The level, 0 to 3; the greatest is offered first.
     pub fn level(self) -> u8
         ensures value { result ≡ self }
         ensures range { self ≤ 3 }

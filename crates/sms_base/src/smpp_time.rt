@@ -31,7 +31,7 @@ impl SmppTimeError {
 
 // The numbers that the digits of a time spell, but for its tenth of a second.
 #[derive(Clone, Copy)]
-struct Numbers {
+struct SpelledTime {
     year: u8,
     month: u8,
     day: u8,
@@ -73,7 +73,7 @@ fn time_of(octets: &[u8], now: Moment) -> Option<Moment>
 
 // The moment that the numbers are of, by the last character.
 #[tactic(auto, unfolding(crate::specs::SmppTime::time_at))]
-fn of_numbers(numbers: Numbers, sign: u8, now: Moment) -> Option<Moment>
+fn of_numbers(numbers: SpelledTime, sign: u8, now: Moment) -> Option<Moment>
     requires { AreNumbers numbers }
     ensures { result ≡ time_at numbers sign now }
 {
@@ -86,7 +86,7 @@ fn of_numbers(numbers: Numbers, sign: u8, now: Moment) -> Option<Moment>
 }
 
 // The moment that is so much later, or the last one.
-fn later(numbers: Numbers, now: Moment) -> Moment
+fn later(numbers: SpelledTime, now: Moment) -> Moment
     requires { AreNumbers numbers }
     ensures { result ≡ after_length numbers now }
 {
@@ -105,7 +105,7 @@ fn later(numbers: Numbers, now: Moment) -> Moment
 
 // The moment at which a clock shows the numbers.
 #[tactic(auto, unfolding(crate::specs::SmppTime::local_in))]
-fn local(numbers: Numbers, is_behind: bool) -> Option<Moment>
+fn local(numbers: SpelledTime, is_behind: bool) -> Option<Moment>
     requires { AreNumbers numbers }
     ensures { result ≡ local_in numbers is_behind }
 {
@@ -135,7 +135,7 @@ fn zone(quarters: u8, is_behind: bool) -> i64
 
 // The numbers that sixteen characters begin with.
 #[tactic(auto, unfolding(crate::specs::SmppTime::numbers_in))]
-fn numbers_of(octets: &[u8]) -> Option<Numbers>
+fn numbers_of(octets: &[u8]) -> Option<SpelledTime>
     requires { length octets.now ≡ 16 }
     ensures value { result ≡ numbers_in octets.now }
     ensures range { IfSome result (λ n. AreNumbers n) }
@@ -148,7 +148,7 @@ fn numbers_of(octets: &[u8]) -> Option<Numbers>
     let second = pair_of(octets[10], octets[11])?;
     let _tenth = decimal(octets[12])?;
     let quarters = pair_of(octets[13], octets[14])?;
-    Some(Numbers {
+    Some(SpelledTime {
         year,
         month,
         day,

@@ -3,7 +3,8 @@ use Rattle.std.specs.Prelude.{◌≡◌, ℕ, List}
 use Rattle.smpp_pdu.specs.declared.status.CommandStatus.TheVariants.{ESME_RMSGQFUL}
 use Rattle.sms_intake.specs.declared.refusal.SubmitRefusal.TheVariants.{Congested as NoneFree}
 use Rattle.sms_centre_spec.specs.declared.event.CentreEvent.{CentreEvent}
-use Rattle.sms_centre_spec.specs.declared.event.CentreEvent.TheVariants.{Submit, Query, Cancel, Bound, Unbound, DeliverAnswered, Frame, LinkUp, LinkDown, Ordered, Tick}
+use Rattle.sms_centre_spec.specs.declared.event.CentreEvent.TheVariants.{Submit, Query, Cancel, Bound, Unbound, DeliverAnswered, Frame, LinkUp, LinkDown}
+use Rattle.sms_centre_spec.specs.declared.event.CentreEvent.TheVariants.{Ordered, Tick}
 use Rattle.sms_link.specs.LinkTurn.{taken}
 use Rattle.sms_centre_rows.specs.waiting.Links.{line_of, turn_line}
 use Rattle.sms_centre_spec.specs.CentreEvent.{aged, at_moment, fired, frame_taken, lower, raise, raised, tag_of}

@@ -20,7 +20,7 @@ pub record PlanOf : Type 0 where
   pub log : ℕ
 
 -- it can be put in without taking memory
-pub record Fits (s : CentreStateOf) (p : PlanOf) : Type 0 where
+pub record FitsTheCentre (s : CentreStateOf) (p : PlanOf) : Type 0 where
   pub plan : FitsIn s.messages s.reference_index p.plan
   pub log : length s.log.rows + length p.plan.changes.reports ≤ max s.log.capacity p.log
 

@@ -1,13 +1,13 @@
 //! What an event does by itself, before receipts and offers follow.
 ghost use Rattle.std.specs.Prelude.{◌≡◌, ℕ, IfOk, OnOk};
 ghost use Rattle.smpp_pdu.specs.declared.message.Message.{Message as MessageOf};
-ghost use Rattle.sms_base.specs.Reading.{AreOctets};
 ghost use Rattle.sms_centre_rows.specs.waiting.SoundAllocations.{IsNumber};
 ghost use Rattle.sms_centre_spec.specs.CentreEvent.{tag_of as tag_or_none};
 ghost use Rattle.sms_centre_spec.specs.Draft.{Core, draft_of};
-ghost use Rattle.sms_centre_spec.specs.SoundCore.{HasNumber, IsEvent};
+ghost use Rattle.sms_centre_spec.specs.SoundCore.{HasNumber};
 ghost use Rattle.sms_centre_spec.specs.SoundRows.{IsSetup};
-ghost use Rattle.sms_centre_spec.specs.declared.event.CentreEvent.TheVariants.{Submit, Query, Cancel, Bound, Unbound, DeliverAnswered, Frame, LinkUp, LinkDown, Ordered, Tick};
+ghost use Rattle.sms_centre_spec.specs.declared.event.CentreEvent.TheVariants.{Submit, Query, Cancel, Bound, Unbound, DeliverAnswered, Frame, LinkUp, LinkDown};
+ghost use Rattle.sms_centre_spec.specs.declared.event.CentreEvent.TheVariants.{Ordered, Tick};
 ghost use Rattle.sms_centre.specs.Acting.{Acts, congested};
 ghost use Rattle.sms_centre.specs.state.CentreState.{Represents as StateRepresents};
 ghost use Rattle.sms_centre_draft.specs.CentreDraft.{Represents as DraftRepresents};
@@ -26,7 +26,7 @@ use std::alloc::AllocError;
 /// How an event ended.
 #[derive(Clone, Copy, Debug)]
 pub enum EventEnd {
-    /// It is done, with all that it leads to.
+    /// The event is done, with all that it leads to.
     Done,
     /// Numbers or references are free for not all of a submission; a handset's is under that reference. The event is to
     /// begin anew, and refuses it.
@@ -282,28 +282,5 @@ pub(crate) fn refuse(
             tag,
         } => refuse_frame(draft, *handset, octets.as_slice(), *tag, reference),
         _ => Ok(()),
-    }
-}
-
-// ---- what an event is
-
-// Octets are below 256.
-fn are_octets(octets: &[u8])
-    ensures { AreOctets octets.now }
-{}
-
-/// An event that names a handset by its number. Its octets are octets, and its moment is one that time stamps can
-/// write.
-pub(crate) fn is_event(event: &CentreEvent<'_>)
-    requires { HasNumber event.now }
-    ensures { IsEvent event.now }
-{
-    match event {
-        CentreEvent::Frame { octets, .. } => are_octets(octets.as_slice()),
-        CentreEvent::Tick(now) => {
-            // By the clause of the call it is in range.
-            let _seconds = now.seconds();
-        }
-        _ => (),
     }
 }

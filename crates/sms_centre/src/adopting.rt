@@ -5,7 +5,7 @@ ghost use Rattle.sms_centre_spec.specs.Draft.{Core, core_of};
 ghost use Rattle.sms_centre_spec.specs.SoundCore.{IsEvent};
 ghost use Rattle.sms_centre_spec.specs.forgetting.Forget.{forget};
 ghost use Rattle.sms_centre_spec.specs.declared.event.CentreEvent.{CentreEvent as CentreEventOf};
-ghost use Rattle.sms_centre.specs.Planning.{Fits};
+ghost use Rattle.sms_centre.specs.Planning.{FitsTheCentre};
 ghost use Rattle.sms_centre.specs.plans.EventOutcome.{IsOutcome};
 ghost use Rattle.sms_centre.specs.state.CentreState.{Represents};
 
@@ -25,7 +25,7 @@ pub(crate) fn put_in(
     planned: Plan,
     kept: Listed<Change<MessageRow>>,
 ) -> (Changes, Outputs)
-    requires { Fits centre_state.old planned }
+    requires { FitsTheCentre centre_state.old planned }
     ensures changes { result.0 ≡ record planned.plan.changes { messages = kept } }
     ensures outputs { result.1 ≡ planned.plan.outputs }
     ensures setup { centre_state.new.setup ≡ centre_state.old.setup }

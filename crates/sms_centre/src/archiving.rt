@@ -18,10 +18,10 @@ pub struct NotArchived;
 
 /// An archive of the messages that a centre forgets.
 pub trait Archive {
-    /// It has taken the message.
+    /// The archive has taken the message.
     ghost took: { Self → MessageRowOf → Type 0 };
 
-    /// It has the message still after a stop.
+    /// The archive has the message still after a stop.
     ghost keeps: { Self → MessageRowOf → Type 0 };
 
     /// Takes a message with so many parts.

@@ -10,7 +10,7 @@ ghost use Rattle.sms_centre_spec.specs.Requests.{cancel_refusal, octets_refusal,
 ghost use Rattle.sms_centre_spec.specs.SoundCore.{AreDifferent, HasNumber, IsEvent};
 ghost use Rattle.sms_centre_spec.specs.SoundRows.{IsSetup};
 ghost use Rattle.sms_centre.specs.Archiving.{AreArchived, Stays};
-ghost use Rattle.sms_centre.specs.Planning.{DefinedOutcome, Fits};
+ghost use Rattle.sms_centre.specs.Planning.{DefinedOutcome, FitsTheCentre};
 ghost use Rattle.sms_centre.specs.Stored.{StoresRows};
 ghost use Rattle.sms_centre_rows.specs.messages.Messages.{message_at};
 ghost use Rattle.sms_centre_rows.specs.waiting.Links.{line_of};
@@ -24,7 +24,6 @@ ghost use Rattle.sms_centre_reports.specs.report_log.Reporting.{message_lines, r
 ghost use Rattle.sms_centre.specs.state.Recovering.{AreNew, RefusesRows};
 ghost use Rattle.sms_centre.specs.state.CentreState.{Represents};
 
-use crate::acting::is_event;
 use crate::adopting::put_in;
 use crate::archiving::Archive;
 use crate::finishing::plan_of;
@@ -42,11 +41,11 @@ use sms_centre_queue::queue::LinkFigures;
 use sms_centre_recovery::commit;
 use sms_centre_reports::sessions::ReceiptSession;
 use sms_centre_rows::messages::MessageRow as Message;
+use sms_centre_rows::report_lines::{ReceiptRow, ReportedMessage};
 use sms_centre_spec::bodies::CentreStore;
-use sms_centre_spec::{CentreEvent, Changes, PlanError, Rows};
+use sms_centre_spec::{CentreEvent, Changes, PlanError, Rows, is_event};
 use sms_rows::keep::BodyKeep;
 use sms_rows::table::Table;
-use sms_script::report::{ReceiptRow, ReportedMessage};
 use sms_tpdu::write_relay_address;
 use std::alloc::{AllocError, Global};
 use std::marker::Model;
@@ -110,7 +109,7 @@ impl Centre {
         Ok(Centre::of(alloc, centre_state)?)
     }
 
-    /// This centre starts again, with these rows in place of what it had, as `recover` says. Where it can't, it stays as it was.
+    /// Starts this centre again, with these rows in place of what it had, as `recover` says. Where it can't, it stays as it was.
     pub fn restart(
         &mut self,
         rows: Rows,
@@ -133,7 +132,7 @@ impl Centre {
         }
     }
 
-    /// This centre starts again on the rows that it has committed, as `recover` would make it of them anew. `moment` is
+    /// Starts this centre again on the rows that it has committed, as `recover` would make it of them anew. `moment` is
     /// the greatest that they have seen. It reads no rows, and costs what handsets and what waits for them do. Where it
     /// can't, it stays unchanged.
     ///
@@ -189,7 +188,7 @@ impl Centre {
         // So it is what the definition plans with a store that answers all that the event reads but what it refused.
         ensures definition { (c : Core) (rows : B.Rows) → Represents c self.now → StoresRows (B.body_of rows) c.rows
             → DefinedOutcome event.now c rows (B.state bodies.old) (B.state bodies.new) result }
-        ensures fits { IfOk result (Fits self.now) }
+        ensures fits { IfOk result (FitsTheCentre self.now) }
         ensures event { IsEvent event.now }
         ensures before { WasHonest (B.state bodies.old) (B.state bodies.new) }
     {
@@ -219,7 +218,7 @@ impl Centre {
         ensures archived { (c : Core) → Represents c self.now
             → OnOk result (AreArchived (A.keeps archive.new) (going_now before from most c) c.rows.messages) }
         ensures kept { Stays (A.keeps archive.old) (A.keeps archive.new) }
-        ensures fits { IfOk result (Fits self.now) }
+        ensures fits { IfOk result (FitsTheCentre self.now) }
     {
         plan_forget(self.alloc, &self.centre_state, archive, before, from, most)
     }
@@ -293,7 +292,7 @@ impl Centre {
 
     /// Puts the plan of an event or of forgetting into the centre, without taking memory, and gives what leaves.
     pub fn adopt(&mut self, planned: Plan) -> Outputs
-        requires { Fits self.old planned }
+        requires { FitsTheCentre self.old planned }
         ensures outputs { result ≡ planned.plan.outputs }
         ensures centre_state { (event : CentreEventOf) (c : Core) → Represents c self.old → IsEvent event → IsOutcome (happened event c) planned.plan
             → Represents (core_of (happened event c)) self.new }
@@ -312,7 +311,7 @@ impl Centre {
     /// # Errors
     /// A growth was refused: the centre stays unchanged.
     pub fn adopt_uncommitted(&mut self, planned: Plan) -> Result<(Changes, Outputs), AllocError>
-        requires { Fits self.old planned }
+        requires { FitsTheCentre self.old planned }
         ensures changes { IfOk result (λ r. r.0 ≡ planned.plan.changes) }
         ensures outputs { IfOk result (λ r. r.1 ≡ planned.plan.outputs) }
         ensures centre_state { (event : CentreEventOf) (c : Core) → Represents c self.old → IsEvent event → IsOutcome (happened event c) planned.plan

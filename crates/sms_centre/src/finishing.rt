@@ -6,7 +6,7 @@ ghost use Rattle.sms_centre_spec.specs.SoundCore.{HasNumber};
 ghost use Rattle.sms_centre_spec.specs.SoundRows.{IsSetup};
 ghost use Rattle.sms_centre.specs.Acting.{Acts, acted, congested};
 ghost use Rattle.sms_centre.specs.Stopping.{EndsSince, StoppingOutcome, WasStopped, stop_of as stop_of_error};
-ghost use Rattle.sms_centre.specs.Planning.{Fits};
+ghost use Rattle.sms_centre.specs.Planning.{FitsTheCentre};
 ghost use Rattle.sms_rows.specs.keep.StoreOutcome.{WasHonest};
 ghost use Rattle.sms_rows.specs.declared.keep.refusals.Refusals.{Refusals};
 ghost use Rattle.sms_centre_events.specs.offering.Refusing.{ReadingOutcome, UnlessMemory};
@@ -50,7 +50,7 @@ pub(crate) fn planned(
     draft: CentreDraft<'_>,
 ) -> Result<Plan, AllocError>
     ensures plan { (d : Draft) → DraftRepresents d draft.entry → IfOk result (λ p. IsOutcome d p.plan) }
-    ensures fits { IfOk result (Fits centre_state.now) }
+    ensures fits { IfOk result (FitsTheCentre centre_state.now) }
 {
     let plan = settle(draft, &centre_state.messages, &centre_state.reference_index)?;
     let log = centre_state
@@ -74,7 +74,7 @@ fn plan(
     draft: CentreDraft<'_>,
 ) -> Result<Plan, PlanError>
     ensures plan { (d : Draft) → DraftRepresents d draft.entry → UnlessMemory (λ p. IsOutcome d p.plan) result }
-    ensures fits { IfOk result (Fits centre_state.now) }
+    ensures fits { IfOk result (FitsTheCentre centre_state.now) }
 {
     unless_memory(planned(alloc, centre_state, draft))
 }
@@ -198,7 +198,7 @@ fn plan_anew<B: BodyKeep>(
         → CanOffer B.body_of rows centre.now (congested event.now reference c).store
         → ReadingOutcome (λ p. IsOutcome (follow_of (congested event.now reference c)) p.plan)
         (follow_of (congested event.now reference c)).links.read rows (B.state bodies.old) (B.state bodies.new) result }
-    ensures fits { IfOk result (Fits centre_state.now) }
+    ensures fits { IfOk result (FitsTheCentre centre_state.now) }
     ensures before { WasHonest (B.state bodies.old) (B.state bodies.new) }
 {
     match run_anew(&mut draft, event, reference, bodies, centre) {
@@ -224,7 +224,7 @@ fn begin_anew<B: BodyKeep>(
         → CanOffer B.body_of rows centre.now (congested event.now reference c).store
         → ReadingOutcome (λ p. IsOutcome (follow_of (congested event.now reference c)) p.plan)
         (follow_of (congested event.now reference c)).links.read rows (B.state bodies.old) (B.state bodies.new) result }
-    ensures fits { IfOk result (Fits centre_state.now) }
+    ensures fits { IfOk result (FitsTheCentre centre_state.now) }
     ensures before { WasHonest (B.state bodies.old) (B.state bodies.new) }
 {
     match centre_state.begin(alloc) {
@@ -249,7 +249,7 @@ fn stopped<B: BodyKeep>(
         rows first (B.state bodies.old) stop
         → EndsSince (λ p. IsOutcome (follow_of (acted event.now c)) p.plan) (follow_of (acted event.now c)).links.read
         rows first (B.state bodies.new) result }
-    ensures fits { IfOk result (Fits centre_state.now) }
+    ensures fits { IfOk result (FitsTheCentre centre_state.now) }
     ensures before { WasHonest (B.state bodies.old) (B.state bodies.new) }
 {
     match stop {
@@ -280,7 +280,7 @@ fn plan_begun<B: BodyKeep>(
         → CanOffer B.body_of rows centre.now (acted event.now c).store
         → ReadingOutcome (λ p. IsOutcome (follow_of (acted event.now c)) p.plan) (follow_of (acted event.now c)).links.read rows
         (B.state bodies.old) (B.state bodies.new) result }
-    ensures fits { IfOk result (Fits centre_state.now) }
+    ensures fits { IfOk result (FitsTheCentre centre_state.now) }
     ensures before { WasHonest (B.state bodies.old) (B.state bodies.new) }
 {
     match run(&mut draft, centre_state, event, bodies, centre) {
@@ -306,7 +306,7 @@ pub(crate) fn plan_of<B: BodyKeep>(
         → CanOffer B.body_of rows centre.now (acted event.now c).store
         → ReadingOutcome (λ p. IsOutcome (follow_of (acted event.now c)) p.plan) (follow_of (acted event.now c)).links.read rows
         (B.state bodies.old) (B.state bodies.new) result }
-    ensures fits { IfOk result (Fits centre_state.now) }
+    ensures fits { IfOk result (FitsTheCentre centre_state.now) }
     ensures before { WasHonest (B.state bodies.old) (B.state bodies.new) }
 {
     match centre_state.begin(alloc) {

@@ -3,19 +3,20 @@ ghost use Rattle.std.specs.Prelude.{◌≡◌, ◌∷◌, [], ◌++◌, ◌&&◌
 ghost use Rattle.sms_rows.specs.table.Table.{Rises};
 ghost use Rattle.sms_centre_rows.specs.declared.reports.report.ReportRow.{ReportRow as ReportRowOf};
 ghost use Rattle.sms_centre_rows.specs.messages.Messages.{message_at};
-ghost use Rattle.sms_centre_rows.specs.messages.SplitReferences.{is_delivered as is_delivered_of};
 ghost use Rattle.sms_centre_rows.specs.reports.Reports.{report_of};
 ghost use Rattle.sms_centre_rows.specs.waiting.Links.{line_of};
 ghost use Rattle.sms_centre_reports.specs.report_log.ByMessage.{reports_between};
 ghost use Rattle.sms_centre_reports.specs.report_log.ReportLog.{Represents as LogRepresents};
 ghost use Rattle.sms_centre_spec.specs.Draft.{Core, Draft, draft_of};
-ghost use Rattle.sms_centre_spec.specs.forgetting.Forget.{forget as forget_of, going_now, is_carried as is_carried_of, is_held_for as is_held_for_of, is_on_way as is_on_way_of, may_go_now as may_go_now_of, next_from as next_from_of};
-ghost use Rattle.sms_centre_spec.specs.forgetting.Forgetting.{bars_reference as bars_reference_of, is_before, is_reported as is_reported_of, may_go as may_go_of};
+ghost use Rattle.sms_centre_spec.specs.forgetting.Forget.{forget as forget_of, going_now, is_carried as is_carried_of, is_held_for as is_held_for_of};
+ghost use Rattle.sms_centre_spec.specs.forgetting.Forget.{is_on_way as is_on_way_of, may_go_now as may_go_now_of, next_from as next_from_of};
+ghost use Rattle.sms_centre_spec.specs.forgetting.Forgetting.{bars_reference as bars_reference_of, is_before, is_reported as is_reported_of};
+ghost use Rattle.sms_centre_spec.specs.forgetting.Forgetting.{may_go as may_go_of};
 ghost use Rattle.sms_centre_draft.specs.CentreDraft.{Represents as DraftRepresents};
 ghost use Rattle.sms_centre_draft.specs.Forgetting.{ArePlaced};
 ghost use Rattle.sms_centre.specs.Archiving.{AreArchived, Stays};
 ghost use Rattle.sms_centre.specs.Forgetting.{gone_at};
-ghost use Rattle.sms_centre.specs.Planning.{Fits};
+ghost use Rattle.sms_centre.specs.Planning.{FitsTheCentre};
 ghost use Rattle.sms_centre.specs.plans.EventOutcome.{IsOutcome};
 ghost use Rattle.sms_centre.specs.state.CentreState.{CentreStateOf, Represents as StateRepresents};
 
@@ -24,10 +25,10 @@ use crate::finishing::planned;
 use crate::forget_error::ForgetError;
 use crate::plan::Plan;
 use crate::state::CentreState;
-use sms_base::{Carried, Digits, FinalState, Holder, MessageId, Moment};
+use sms_base::{Carried, Digits, Holder, MessageId, Moment};
 use sms_centre_draft::{CentreDraft, are_digits};
 use sms_centre_reports::report_log::{MessageReport, ReportLog};
-use sms_centre_rows::messages::MessageRow as Message;
+use sms_centre_rows::messages::{MessageRow as Message, is_delivered};
 use sms_rows::table::Table;
 use std::alloc::{AllocError, Global};
 
@@ -82,18 +83,6 @@ fn bars_reference(state: &CentreState, message: &Message) -> bool
         return false;
     }
     !is_delivered(message.state)
-}
-
-fn is_delivered(state: Option<FinalState>) -> bool
-    ensures { result ≡ is_delivered_of state }
-{
-    match state {
-        Some(FinalState::Delivered) => true,
-        Some(FinalState::Expired) => false,
-        Some(FinalState::Deleted) => false,
-        Some(FinalState::Undeliverable) => false,
-        None => false,
-    }
 }
 
 fn is_held_for(tag: Holder, id: MessageId) -> bool
@@ -245,7 +234,8 @@ fn going(
     from: u64,
     most: u16,
 ) -> Result<Vec<MessageId>, AllocError>
-    ensures { (c : Core) → DraftRepresents (draft_of c) draft.now → StateRepresents c state.now → IfOk result (λ ids. ids.items ≡ going_now before from most c) }
+    ensures { (c : Core) → DraftRepresents (draft_of c) draft.now → StateRepresents c state.now
+        → IfOk result (λ ids. ids.items ≡ going_now before from most c) }
 {
     let mut ids = Vec::new(alloc);
     match note_each(alloc, draft, state, before, from, most, &mut ids) {
@@ -377,7 +367,7 @@ fn plan_begun<A: Archive>(
     ensures archived { (c : Core) → DraftRepresents (draft_of c) draft.entry → StateRepresents c state.now
         → OnOk result (AreArchived (A.keeps archive.new) (going_now before from most c) c.rows.messages) }
     ensures kept { Stays (A.keeps archive.old) (A.keeps archive.new) }
-    ensures fits { IfOk result (Fits state.now) }
+    ensures fits { IfOk result (FitsTheCentre state.now) }
 {
     match forget(alloc, state, &mut draft, archive, before, from, most) {
         Ok(()) => finished(alloc, state, draft),
@@ -390,7 +380,7 @@ fn plan_begun<A: Archive>(
 
 fn finished(alloc: Global, state: &CentreState, draft: CentreDraft<'_>) -> Result<Plan, ForgetError>
     ensures plan { (d : Draft) → DraftRepresents d draft.entry → IfOk result (λ p. IsOutcome d p.plan) }
-    ensures fits { IfOk result (Fits state.now) }
+    ensures fits { IfOk result (FitsTheCentre state.now) }
 {
     let plan = planned(alloc, state, draft)?;
     Ok(plan)
@@ -410,7 +400,7 @@ pub(crate) fn plan_forget<A: Archive>(
     ensures archived { (c : Core) → StateRepresents c state.now
         → OnOk result (AreArchived (A.keeps archive.new) (going_now before from most c) c.rows.messages) }
     ensures kept { Stays (A.keeps archive.old) (A.keeps archive.new) }
-    ensures fits { IfOk result (Fits state.now) }
+    ensures fits { IfOk result (FitsTheCentre state.now) }
 {
     let draft = state.begin(alloc)?;
     plan_begun(alloc, state, draft, archive, before, from, most)

@@ -1,7 +1,8 @@
 //! Why a request is refused, whatever memory there is.
 ghost use Rattle.std.specs.Prelude.{◌≡◌};
 ghost use Rattle.sms_centre_spec.specs.Draft.{Core};
-ghost use Rattle.sms_centre_spec.specs.Requests.{account_at as account_at_of, cancel_refusal as cancel_refusal_of, octets_refuse, query_refusal as query_refusal_of};
+ghost use Rattle.sms_centre_spec.specs.Requests.{account_at as account_at_of, cancel_refusal as cancel_refusal_of, octets_refuse};
+ghost use Rattle.sms_centre_spec.specs.Requests.{query_refusal as query_refusal_of};
 ghost use Rattle.sms_centre.specs.state.CentreState.{Represents};
 
 use crate::state::CentreState;

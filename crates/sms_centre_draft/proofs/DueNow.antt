@@ -10,25 +10,25 @@ use Rattle.sms_rows.proofs.table.Tables.{among_found}
 use Rattle.sms_centre_rows.specs.declared.messages.message.MessageRow.{MessageRow}
 use Rattle.sms_centre_rows.specs.declared.messages.part.PartRow.{PartRow}
 use Rattle.sms_centre_rows.specs.messages.Messages.{is_pending, message_at, part_at, part_key, part_reaching}
-use Rattle.sms_centre_rows.specs.messages.OpenParts.{is_open_part, part_load, part_wait, waits_for}
+use Rattle.sms_centre_rows.specs.messages.OpenParts.{is_open_part, part_queued, part_wait, waits_for}
 use Rattle.sms_centre_rows.proofs.messages.PartRows.{part_amended, part_amended_other}
 use Rattle.sms_centre_rows.specs.declared.reports.report.ReportRow.{ReportRow}
 use Rattle.sms_centre_rows.specs.reports.Reports.{is_open_status, is_status, report_of, report_reaching}
-use Rattle.sms_centre_rows.specs.reports.Waiting.{report_load, report_wait, reports_to}
+use Rattle.sms_centre_rows.specs.reports.Waiting.{report_queued, report_wait, reports_to}
 use Rattle.sms_centre_rows.proofs.reports.AllWaiting.{part_waits_at, report_waits_at, rises_all}
 use Rattle.sms_centre_rows.proofs.reports.FewWaiting.{all_few}
 use Rattle.sms_centre_rows.proofs.reports.ReportRows.{amended_other, amended_own}
 use Rattle.sms_centre_rows.specs.declared.waiting.queued_part.QueuedPart.{QueuedPart}
 use Rattle.sms_centre_rows.specs.declared.waiting.progress.Progress.{Progress}
-use Rattle.sms_centre_rows.specs.waiting.Keys.{load_key}
+use Rattle.sms_centre_rows.specs.waiting.Keys.{queued_key}
 use Rattle.sms_centre_rows.specs.waiting.Trying.{due_at}
-use Rattle.sms_centre_spec.specs.Receiving.{all_due, load_due, part_due, report_due}
+use Rattle.sms_centre_spec.specs.Receiving.{all_due, queued_due, part_due, report_due}
 use Rattle.sms_centre_spec.proofs.Steady.{part_own, report_own}
 use Rattle.sms_centre_draft.specs.CentreDraft.{Represents, CentreDraftOf}
 use Rattle.sms_centre_spec.specs.Draft.{Draft, Store, in_store, messages_in, parts_in, priorities_in, reports_in, waiting_in, with_part_at, with_report_at}
 use Rattle.sms_centre_spec.specs.Held.{SoundHeld}
 use Rattle.sms_centre_spec.specs.Transfers.{is_open_part_at, is_open_status_at}
-use Rattle.sms_centre_draft.specs.DueNow.{IsOpenLoad}
+use Rattle.sms_centre_draft.specs.DueNow.{IsOpenQueued}
 
 -- ---- what waits is open
 
@@ -43,7 +43,7 @@ part_open h s None l e = absurd cc
 part_open h s (Some p) l e = ⊎_elim
     (λ (t : waits_for h p (message_at p.id (messages_in s)) ≡ true). waits_open h p (message_at p.id (messages_in s)) t)
     (λ (t : waits_for h p (message_at p.id (messages_in s)) ≡ false).
-    let bad : None ≡ Some l = sym (cond-false (waits_for h p (message_at p.id (messages_in s))) (Some (part_load p (priorities_in s))) None t) ∙ e in absurd cc)
+    let bad : None ≡ Some l = sym (cond-false (waits_for h p (message_at p.id (messages_in s))) (Some (part_queued p (priorities_in s))) None t) ∙ e in absurd cc)
     (cases_Bool (waits_for h p (message_at p.id (messages_in s))))
 
 reports_open : (h : List ℕ) (r : ReportRow) (o : Option MessageRow) → reports_to h r o ≡ true → is_open_status r ≡ true
@@ -55,22 +55,22 @@ status_open h s None l e = absurd cc
 status_open h s (Some r) l e = ⊎_elim
     (λ (t : reports_to h r (message_at r.id (messages_in s)) ≡ true). reports_open h r (message_at r.id (messages_in s)) t)
     (λ (t : reports_to h r (message_at r.id (messages_in s)) ≡ false).
-    let bad : None ≡ Some l = sym (cond-false (reports_to h r (message_at r.id (messages_in s))) (Some (report_load r)) None t) ∙ e in absurd cc)
+    let bad : None ≡ Some l = sym (cond-false (reports_to h r (message_at r.id (messages_in s))) (Some (report_queued r)) None t) ∙ e in absurd cc)
     (cases_Bool (reports_to h r (message_at r.id (messages_in s))))
 
-pub waiting_open : (h : List ℕ) (s : Store) (l : QueuedPart) → SoundHeld s → Among l (waiting_in h s) → IsOpenLoad l s
+pub waiting_open : (h : List ℕ) (s : Store) (l : QueuedPart) → SoundHeld s → Among l (waiting_in h s) → IsOpenQueued l s
 waiting_open h s l held among =
     let ms : List MessageRow = messages_in s in
     let rises = rises_all h ms (priorities_in s) (parts_in s) (reports_in s) held.parts in
     let small = all_few h ms (priorities_in s) (parts_in s) (reports_in s) held.parts l among in
-    let found : row_at load_key (pair_key l.id l.number) (waiting_in h s) ≡ Some l = among_found load_key l (waiting_in h s) rises among in
+    let found : row_at queued_key (pair_key l.id l.number) (waiting_in h s) ≡ Some l = among_found queued_key l (waiting_in h s) rises among in
     record {
       small = small;
       part = λ some. part_open h s (part_at l.id l.number (parts_in s)) l
           (sym (part_waits_at h ms (priorities_in s) (parts_in s) (reports_in s) l.id l.number held.parts some small) ∙ found);
       status = λ zero. status_open h s (report_of l.id (reports_in s)) l
           (sym (report_waits_at h ms (priorities_in s) (parts_in s) (reports_in s) l.id held.parts held.alone)
-          ∙ ap (λ (n : ℕ). row_at load_key (pair_key l.id n) (waiting_in h s)) (sym zero) ∙ found);
+          ∙ ap (λ (n : ℕ). row_at queued_key (pair_key l.id n) (waiting_in h s)) (sym zero) ∙ found);
     }
 
 -- ---- it stays so where a part or a report becomes due
@@ -84,7 +84,7 @@ report_same : (o : Option PartRow) (s : Store) (r : ReportRow) (q : Progress) �
 report_same None s r q = refl
 report_same (Some x) s r q = refl
 
-pub open_part_far : (s : Store) (p : PartRow) (q : Progress) (l : QueuedPart) → row_at part_key (part_key p) (parts_in s) ≡ Some p → q.is_done ≡ p.progress.is_done → IsOpenLoad l s → IsOpenLoad l (with_part_at p q s)
+pub open_part_far : (s : Store) (p : PartRow) (q : Progress) (l : QueuedPart) → row_at part_key (part_key p) (parts_in s) ≡ Some p → q.is_done ≡ p.progress.is_done → IsOpenQueued l s → IsOpenQueued l (with_part_at p q s)
 open_part_far s p q l there same is = record {
   small = is.small;
   part = λ some. part_same (part_at l.id l.number (parts_in (with_part_at p q s))) s p q ∙ ⊎_elim
@@ -104,7 +104,7 @@ open_part_far s p q l there same is = record {
     by None = refl
     by (Some m) = ap (λ (b : Bool). not b && is_pending m) same
 
-pub open_report_far : (s : Store) (r : ReportRow) (q : Progress) (l : QueuedPart) → SoundHeld s → report_of r.id (reports_in s) ≡ Some r → q.is_done ≡ r.progress.is_done → IsOpenLoad l s → IsOpenLoad l (with_report_at r q s)
+pub open_report_far : (s : Store) (r : ReportRow) (q : Progress) (l : QueuedPart) → SoundHeld s → report_of r.id (reports_in s) ≡ Some r → q.is_done ≡ r.progress.is_done → IsOpenQueued l s → IsOpenQueued l (with_report_at r q s)
 open_report_far s r q l held there same is = record {
   small = is.small;
   part = λ some. report_same (part_at l.id l.number (parts_in s)) s r q ∙ is.part some;
@@ -121,48 +121,48 @@ open_report_far s r q l held there same is = record {
 }
 
 -- whatever becomes due
-pub due_open : (l x : QueuedPart) (s : Store) → SoundHeld s → IsOpenLoad x s → IsOpenLoad x (load_due l s)
+pub due_open : (l x : QueuedPart) (s : Store) → SoundHeld s → IsOpenQueued x s → IsOpenQueued x (queued_due l s)
 due_open l x s held is =
-    cond_both (l.number == 0) (report_due (report_of l.id (reports_in s)) s) (part_due (part_at l.id l.number (parts_in s)) s) (λ (e : Store). IsOpenLoad x e)
+    cond_both (l.number == 0) (report_due (report_of l.id (reports_in s)) s) (part_due (part_at l.id l.number (parts_in s)) s) (λ (e : Store). IsOpenQueued x e)
     (λ t. by_report (report_of l.id (reports_in s)) refl) (λ t. by_part (part_at l.id l.number (parts_in s)) refl)
   where
-    by_report : (o : Option ReportRow) → report_of l.id (reports_in s) ≡ o → IsOpenLoad x (report_due o s)
+    by_report : (o : Option ReportRow) → report_of l.id (reports_in s) ≡ o → IsOpenQueued x (report_due o s)
     by_report None e = is
     by_report (Some r) e = open_report_far s r (due_at s.moment r.progress) x held (report_own l.id r s e) refl is
 
-    by_part : (o : Option PartRow) → part_at l.id l.number (parts_in s) ≡ o → IsOpenLoad x (part_due o s)
+    by_part : (o : Option PartRow) → part_at l.id l.number (parts_in s) ≡ o → IsOpenQueued x (part_due o s)
     by_part None e = is
     by_part (Some p) e = open_part_far s p (due_at s.moment p.progress) x (part_own (pair_key l.id l.number) p s e) refl is
 
 -- ---- a walk over what waits
 
 -- those behind a place are open, and are still to become due
-pub record IsLeft (d : Draft) (loads rest : List QueuedPart) (w : CentreDraftOf) : Type 0 where
+pub record IsLeft (d : Draft) (all_queued rest : List QueuedPart) (w : CentreDraftOf) : Type 0 where
   pub store : Store
   pub represents : Represents (in_store store d) w
-  pub each : (x : QueuedPart) → Among x rest → IsOpenLoad x store
-  pub goes : all_due rest store ≡ all_due loads d.store
+  pub each : (x : QueuedPart) → Among x rest → IsOpenQueued x store
+  pub goes : all_due rest store ≡ all_due all_queued d.store
 
-pub left_next : (d : Draft) (loads rest : List QueuedPart) (l : QueuedPart) (behind : List QueuedPart) (w new : CentreDraftOf) → rest ≡ l ∷ behind → IsLeft d loads rest w
-    → ((e : Draft) → Represents e w → IsOpenLoad l e.store → Represents (in_store (load_due l e.store) e) new) → IsLeft d loads behind new
-left_next d loads rest l behind w new split left step =
+pub left_next : (d : Draft) (all_queued rest : List QueuedPart) (l : QueuedPart) (behind : List QueuedPart) (w new : CentreDraftOf) → rest ≡ l ∷ behind → IsLeft d all_queued rest w
+    → ((e : Draft) → Represents e w → IsOpenQueued l e.store → Represents (in_store (queued_due l e.store) e) new) → IsLeft d all_queued behind new
+left_next d all_queued rest l behind w new split left step =
     let s : Store = left.store in
-    let here : IsOpenLoad l s = left.each l (subst (λ (ls : List QueuedPart). Among l ls) (sym split) (inl refl)) in
+    let here : IsOpenQueued l s = left.each l (subst (λ (ls : List QueuedPart). Among l ls) (sym split) (inl refl)) in
     record {
-      store = load_due l s;
+      store = queued_due l s;
       represents = step (in_store s d) left.represents here;
       each = λ x among. due_open l x s left.represents.consistent.held (left.each x (subst (λ (ls : List QueuedPart). Among x ls) (sym split) (inr among)));
       goes = sym (ap (λ (ls : List QueuedPart). all_due ls s) split) ∙ left.goes;
     }
 
-pub left_none : (d : Draft) (loads rest : List QueuedPart) (w : CentreDraftOf) → rest ≡ [] → IsLeft d loads rest w → Represents (in_store (all_due loads d.store) d) w
-left_none d loads rest w none left =
+pub left_none : (d : Draft) (all_queued rest : List QueuedPart) (w : CentreDraftOf) → rest ≡ [] → IsLeft d all_queued rest w → Represents (in_store (all_due all_queued d.store) d) w
+left_none d all_queued rest w none left =
     subst (λ (s : Store). Represents (in_store s d) w) (sym (ap (λ (ls : List QueuedPart). all_due ls left.store) none) ∙ left.goes) left.represents
 
--- ---- one load
+-- ---- one queued part
 
-pub load_is_status : (l : QueuedPart) (s : Store) → l.number ≡ 0 → report_due (report_of l.id (reports_in s)) s ≡ load_due l s
-load_is_status l s zero = sym (cond-true (l.number == 0) (report_due (report_of l.id (reports_in s)) s) (part_due (part_at l.id l.number (parts_in s)) s) (eq-eqb l.number 0 zero))
+pub queued_is_status : (l : QueuedPart) (s : Store) → l.number ≡ 0 → report_due (report_of l.id (reports_in s)) s ≡ queued_due l s
+queued_is_status l s zero = sym (cond-true (l.number == 0) (report_due (report_of l.id (reports_in s)) s) (part_due (part_at l.id l.number (parts_in s)) s) (eq-eqb l.number 0 zero))
 
-pub load_is_part : (l : QueuedPart) (s : Store) → ¬ (l.number ≡ 0) → part_due (part_at l.id l.number (parts_in s)) s ≡ load_due l s
-load_is_part l s some = sym (cond-false (l.number == 0) (report_due (report_of l.id (reports_in s)) s) (part_due (part_at l.id l.number (parts_in s)) s) (ne_eqb l.number 0 some))
+pub queued_is_part : (l : QueuedPart) (s : Store) → ¬ (l.number ≡ 0) → part_due (part_at l.id l.number (parts_in s)) s ≡ queued_due l s
+queued_is_part l s some = sym (cond-false (l.number == 0) (report_due (report_of l.id (reports_in s)) s) (part_due (part_at l.id l.number (parts_in s)) s) (ne_eqb l.number 0 some))

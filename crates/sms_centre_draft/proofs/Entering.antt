@@ -12,7 +12,7 @@ use Rattle.sms_centre_rows.specs.messages.Messages.{message_at, message_key, par
 use Rattle.sms_centre_messages.specs.message_index.MessageIndex.{MessageIndexDraftOf as MessagesOf, DraftRepresents as RepresentsMessages}
 use Rattle.sms_centre_rows.specs.declared.reports.report.ReportRow.{ReportRow}
 use Rattle.sms_centre_rows.specs.reports.Reports.{report_of}
-use Rattle.sms_centre_rows.specs.waiting.Keys.{load_key}
+use Rattle.sms_centre_rows.specs.waiting.Keys.{queued_key}
 use Rattle.sms_centre_rows.specs.waiting.References.{give, handset_of}
 use Rattle.sms_centre_rows.specs.waiting.SoundAllocations.{IsNumber}
 use Rattle.sms_centre_queue.specs.queues.Queues.{DeliveryQueuesDraftOf as QueuesOf}
@@ -97,7 +97,7 @@ part_row id u n b reference moment = record {
 }
 
 pub given_waits : (d : Draft) (w : CentreDraftOf) (id : ℕ) (u : Submission) (n : ℕ) (b : SinglePart) (reference : ℕ) → Represents d w → CanGive id u n d.store → n ≤ 20
-    → Waits u.handset (put load_key (record { id = id; number = n; reference = reference; priority = u.priority; due = u.due })) (all_waiting d.store)
+    → Waits u.handset (put queued_key (record { id = id; number = n; reference = reference; priority = u.priority; due = u.due })) (all_waiting d.store)
     (all_waiting (put_part_of id u n b reference (with_given (handset_of u.handset (handsets_in d.store)) reference d.store)))
 unfolding part_row
 given_waits d w id u n b reference represents can few =
@@ -106,8 +106,8 @@ given_waits d w id u n b reference represents can few =
     let m = can.message.0 in
     let of = can.message.1 in
     let first = can.first in
-    subst (λ (h : List ℕ). Waits h (put load_key (record { id = id; number = n; reference = reference; priority = u.priority; due = u.due })) (all_waiting s) (all_waiting (with_part p s))) of.2
-    (subst (λ (k : ℕ). Waits m.handset (put load_key (record { id = id; number = n; reference = reference; priority = k; due = u.due })) (all_waiting s) (all_waiting (with_part p s))) can.priority
+    subst (λ (h : List ℕ). Waits h (put queued_key (record { id = id; number = n; reference = reference; priority = u.priority; due = u.due })) (all_waiting s) (all_waiting (with_part p s))) of.2
+    (subst (λ (k : ℕ). Waits m.handset (put queued_key (record { id = id; number = n; reference = reference; priority = k; due = u.due })) (all_waiting s) (all_waiting (with_part p s))) can.priority
     (part_new_waits s p m represents.consistent.held of.0 of.3 refl first (omega (arith, few)) (can.not_given n (omega arith) (omega (arith, few)))))
 
 few_put : (p : PartRow) (ps : List PartRow) → p.number ≤ 20 → AreFew ps → AreFew (put part_key p ps)

@@ -11,14 +11,14 @@ use Rattle.sms_centre_rows.specs.declared.messages.message.MessageRow.{MessageRo
 use Rattle.sms_centre_rows.specs.declared.messages.part.PartRow.{PartRow}
 use Rattle.sms_centre_rows.specs.declared.messages.priority.PriorityRow.{PriorityRow}
 use Rattle.sms_centre_rows.specs.messages.Messages.{ended, is_pending, message_at, part_at, part_key}
-use Rattle.sms_centre_rows.specs.messages.OpenParts.{Numbered, part_load, part_wait, waits_for}
+use Rattle.sms_centre_rows.specs.messages.OpenParts.{Numbered, part_queued, part_wait, waits_for}
 use Rattle.sms_centre_rows.specs.declared.reports.report.ReportRow.{ReportRow}
 use Rattle.sms_centre_rows.specs.reports.Waiting.{waiting_for}
 use Rattle.sms_centre_rows.proofs.reports.AllWaiting.{part_waits_at, rises_all}
 use Rattle.sms_centre_rows.proofs.reports.EndsWaiting.{end_waits}
 use Rattle.sms_centre_rows.proofs.reports.FewWaiting.{all_few}
 use Rattle.sms_centre_rows.specs.declared.waiting.queued_part.QueuedPart.{QueuedPart}
-use Rattle.sms_centre_rows.specs.waiting.Keys.{load_key}
+use Rattle.sms_centre_rows.specs.waiting.Keys.{queued_key}
 use Rattle.sms_centre_rows.specs.waiting.Waiting.{withdrawn}
 use Rattle.sms_centre_rows.proofs.waiting.Alike.{pairs_alike}
 use Rattle.sms_centre_rows.proofs.waiting.Withdrawing.{rises_withdrawn, withdrawn_other, withdrawn_part}
@@ -46,8 +46,8 @@ cases_zero (suc n) = inr (omega arith)
 
 pub part_elsewhere : (other : List ℕ) (ms : List MessageRow) (qs : List PriorityRow) (p : PartRow) (m : MessageRow) → message_at p.id ms ≡ Some m → ¬ (m.handset ≡ other) → part_wait other ms qs (Some p) ≡ None
 part_elsewhere other ms qs p m of ne =
-    ap (λ (o : Option MessageRow). if waits_for other p o then Some (part_load p qs) else None) of
-    ∙ cond-false (not p.progress.is_done && (is_pending m && bytes_eq m.handset other)) (Some (part_load p qs)) None
+    ap (λ (o : Option MessageRow). if waits_for other p o then Some (part_queued p qs) else None) of
+    ∙ cond-false (not p.progress.is_done && (is_pending m && bytes_eq m.handset other)) (Some (part_queued p qs)) None
     (ap (λ (b : Bool). not p.progress.is_done && (is_pending m && b)) (differ m.handset other ne) ∙ never (not p.progress.is_done) (is_pending m))
 
 -- the part under a key is of that message
@@ -74,12 +74,12 @@ ended_elsewhere other ms qs ps rs m numbered there ne =
     let w : List QueuedPart = waiting_for other ms qs ps rs in
     let few = all_few other ms qs ps rs numbered in
     let rises = rises_all other ms qs ps rs numbered in
-    pairs_alike load_key (withdrawn m.id w) w (rises_withdrawn m.id w rises) rises
+    pairs_alike queued_key (withdrawn m.id w) w (rises_withdrawn m.id w rises) rises
     (λ i n small. ⊎_elim
     (λ (e : i ≡ m.id). ⊎_elim
     (λ (z : n ≡ 0). withdrawn_other m.id i n w few small (inr z))
     (λ (some : 0 < n).
-    subst (λ (k : ℕ). row_at load_key (pair_key k n) (withdrawn m.id w) ≡ row_at load_key (pair_key k n) w) (sym e)
+    subst (λ (k : ℕ). row_at queued_key (pair_key k n) (withdrawn m.id w) ≡ row_at queued_key (pair_key k n) w) (sym e)
     (withdrawn_part m.id n w few some small
     ∙ sym (part_waits_at other ms qs ps rs m.id n numbered some small ∙ part_of_elsewhere other ms qs ps m n numbered there ne small)))
     (cases_zero n))

@@ -16,14 +16,14 @@ use Rattle.sms_centre_rows.specs.declared.reports.report.ReportKind.{ReportKind}
 use Rattle.sms_centre_rows.specs.declared.reports.report.ReportKind.TheVariants.{Status}
 use Rattle.sms_centre_rows.specs.declared.reports.report.ReportRow.{ReportRow}
 use Rattle.sms_centre_rows.specs.reports.Reports.{amend_report, is_status, next_place, put_report, report_made, report_of}
-use Rattle.sms_centre_rows.specs.reports.Waiting.{IsNew}
+use Rattle.sms_centre_rows.specs.reports.Waiting.{IsReportApart}
 use Rattle.sms_centre_reports.specs.open_reports.Entries.{account_in, account_of}
 use Rattle.sms_centre_reports.specs.open_reports.OpenReportsDraft.{OpenReportsDraftOf as ReportsOf, DraftRepresents}
 use Rattle.sms_receipt.specs.StatusReports.{status_octets}
 use Rattle.sms_centre_rows.specs.declared.waiting.queued_part.QueuedPart.{QueuedPart}
 use Rattle.sms_centre_rows.specs.declared.waiting.progress.Progress.{Progress}
 use Rattle.sms_centre_rows.specs.declared.waiting.handset.HandsetRow.{HandsetRow}
-use Rattle.sms_centre_rows.specs.waiting.Keys.{load_key}
+use Rattle.sms_centre_rows.specs.waiting.Keys.{queued_key}
 use Rattle.sms_centre_rows.specs.waiting.Links.{Links}
 use Rattle.sms_centre_rows.specs.waiting.References.{Allocations, give, handset_at, handset_of, handsets_of, next_reference, references_of}
 use Rattle.sms_centre_rows.specs.waiting.Revisions.{amended}
@@ -94,7 +94,7 @@ tells_report f m d w represents can = record {
 -- ---- it is told
 
 made_is_new : (id : ℕ) (kind : ReportKind) (closed : Bool) (f : FinalState) (n : ℕ) (m : MessageRow) (s : Store) → CanReport f n m s → m.id ≡ id
-    → IsNew (reports_in s) (record { place = next_place (reports_in s); id = id; kind = kind; made = s.moment; progress = record { is_done = closed; attempts = 0; due = s.moment } })
+    → IsReportApart (reports_in s) (record { place = next_place (reports_in s); id = id; kind = kind; made = s.moment; progress = record { is_done = closed; attempts = 0; due = s.moment } })
 made_is_new id kind closed f n m s can own =
     next_is_new (record { place = next_place (reports_in s); id = id; kind = kind; made = s.moment; progress = record { is_done = closed; attempts = 0; due = s.moment } })
     (reports_in s) can.consistent.held.report_keys (λ x among e. can.none x among (e ∙ sym own)) refl
@@ -157,13 +157,13 @@ status_row f m reference s = record {
 }
 
 pub status_made_waits : (f : FinalState) (m : MessageRow) (reference : ℕ) (d : Draft) (w : CentreDraftOf) → Represents d w → IsUnreported f m d.store
-    → Waits m.source.digits (put load_key (record { id = m.id; number = 0; reference = reference; priority = 0; due = w.moment })) (all_waiting d.store)
+    → Waits m.source.digits (put queued_key (record { id = m.id; number = 0; reference = reference; priority = 0; due = w.moment })) (all_waiting d.store)
     (all_waiting (status_given f m (handset_of m.source.digits (handsets_in d.store)) (Some reference) d.store))
 unfolding status_row
 status_made_waits f m reference d w represents can =
     let s : Store = d.store in
     let r : ReportRow = status_row f m reference s in
-    subst (λ (n : ℕ). Waits m.source.digits (put load_key (record { id = m.id; number = 0; reference = reference; priority = 0; due = n })) (all_waiting s) (all_waiting (with_reports (put_report r s.reports) s))) (sym represents.moment)
+    subst (λ (n : ℕ). Waits m.source.digits (put queued_key (record { id = m.id; number = 0; reference = reference; priority = 0; due = n })) (all_waiting s) (all_waiting (with_reports (put_report r s.reports) s))) (sym represents.moment)
     (status_new_waits s r (ended f s.moment m) represents.consistent.held
     (made_is_new m.id (Status reference (status_octets (final_of f s.moment m))) false f s.moment m s (tells_report f m d w represents can) refl) can.none can.there refl)
 

@@ -9,7 +9,8 @@ ghost use Rattle.sms_centre_rows.specs.waiting.Links.{line_of, turn_line};
 ghost use Rattle.sms_intake.specs.Refusals.{cause_of};
 ghost use Rattle.sms_intake.specs.SubmitReports.{accepting_report as accepting_report_of, refusing_report as refusing_report_of};
 ghost use Rattle.sms_centre_spec.specs.Draft.{Draft, answer_with, on_links};
-ghost use Rattle.sms_centre_spec.specs.Receiving.{confirm as confirm_of, memory_available as memory_available_of, refuse as refuse_of, reject as reject_of, reply as reply_of};
+ghost use Rattle.sms_centre_spec.specs.Receiving.{confirm as confirm_of, memory_available as memory_available_of, refuse as refuse_of, reject as reject_of};
+ghost use Rattle.sms_centre_spec.specs.Receiving.{reply as reply_of};
 ghost use Rattle.sms_centre_draft.specs.CentreDraft.{Represents};
 
 use crate::centre_draft::CentreDraft;

@@ -8,8 +8,9 @@ ghost use Rattle.sms_centre_rows.specs.declared.reports.report.ReportKind.TheVar
 ghost use Rattle.sms_centre_rows.specs.waiting.References.{handset_of};
 ghost use Rattle.sms_centre_rows.specs.waiting.SoundAllocations.{IsNumber};
 ghost use Rattle.sms_centre_spec.specs.Draft.{Draft, handsets_in, in_store, messages_in};
-ghost use Rattle.sms_centre_spec.specs.Ends.{end as end_of, is_failure as is_failure_of, is_wished as is_wished_of, make_report, make_status as make_status_of, report as report_of, report_to as report_to_of, status_given};
-ghost use Rattle.sms_centre_spec.specs.Finals.{final_of as final_of_message, submit_reference as submit_reference_of};
+ghost use Rattle.sms_centre_spec.specs.Ends.{end as end_of, is_failure as is_failure_of, is_wished as is_wished_of, make_report, make_status as make_status_of};
+ghost use Rattle.sms_centre_spec.specs.Ends.{report as report_of, report_to as report_to_of, status_given};
+ghost use Rattle.sms_centre_spec.specs.Finals.{final_of as final_of_message};
 ghost use Rattle.sms_centre_spec.specs.Submitting.{reference_for};
 ghost use Rattle.sms_centre_draft.specs.Stages.{IsUnreported};
 ghost use Rattle.sms_centre_draft.specs.CentreDraft.{Represents};
@@ -20,7 +21,8 @@ use crate::queues::{give, next_reference, put};
 use sms_base::{Digits, FinalState, Moment, Octets, Originator, Wish};
 use sms_centre_rows::messages::MessageRow;
 use sms_centre_rows::waiting::QueuedPart;
-use sms_receipt::{Final, status_report_octets};
+use sms_centre_spec::final_of;
+use sms_receipt::status_report_octets;
 use std::alloc::{AllocError, Global};
 
 fn is_failure(state: FinalState) -> bool
@@ -39,29 +41,6 @@ fn is_wished(wish: Wish, state: FinalState) -> bool
         Wish::Nothing => false,
         Wish::Always => true,
         Wish::OnFailure => is_failure(state),
-    }
-}
-
-fn submit_reference(originator: &Originator) -> u8
-    ensures { result ≡ submit_reference_of originator.now }
-{
-    match originator {
-        Originator::Application { .. } => 0,
-        Originator::Handset { message_reference } => *message_reference,
-    }
-}
-
-fn final_of(state: FinalState, now: Moment, message: &MessageRow) -> Final
-    ensures { result ≡ final_of_message state now message.now }
-{
-    Final {
-        id: message.id,
-        source: message.source,
-        handset: message.handset,
-        message_reference: submit_reference(&message.originator),
-        submitted: message.submitted,
-        done: now,
-        state,
     }
 }
 
@@ -108,14 +87,14 @@ impl<'a> CentreDraft<'a> {
         self.reports
             .make_status(message.id, self.moment, reference, tpdu)?;
         give(&mut self.queues, handset, reference, self.moment)?;
-        let load = QueuedPart {
+        let queued = QueuedPart {
             id: message.id,
             number: 0,
             reference,
             priority: 0,
             due: self.moment,
         };
-        put(&mut self.queues, handset, load)?;
+        put(&mut self.queues, handset, queued)?;
         Ok(())
     }
 

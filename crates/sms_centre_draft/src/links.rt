@@ -1,5 +1,5 @@
 //! Links to handsets that are lost, and timers that fire.
-ghost use Rattle.std.specs.Prelude.{◌≡◌, max, OnOk, IfOk};
+ghost use Rattle.std.specs.Prelude.{◌≡◌, OnOk, IfOk};
 ghost use Rattle.sms_rows.specs.table.Keys.{AllDigits};
 ghost use Rattle.sms_link.specs.LinkTurn.{fired as fired_link};
 ghost use Rattle.sms_centre_rows.specs.waiting.Links.{line_of, lowered, put_line, turn_line};
@@ -8,18 +8,9 @@ ghost use Rattle.sms_centre_spec.specs.Draft.{Draft, on_links};
 ghost use Rattle.sms_centre_draft.specs.CentreDraft.{Represents};
 
 use crate::centre_draft::CentreDraft;
-use sms_base::{Carried, Digits, Moment};
+use sms_base::{Carried, Digits, Moment, later};
 use sms_link::Upward;
 use std::alloc::AllocError;
-
-fn later(one: Moment, other: Moment) -> Moment
-    ensures { result ≡ max one other }
-{
-    if one.seconds() < other.seconds() {
-        return other;
-    }
-    one
-}
 
 impl<'a> CentreDraft<'a> {
     /// What is under way to the handset.

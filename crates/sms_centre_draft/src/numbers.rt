@@ -2,15 +2,8 @@
 ghost use Rattle.std.specs.Prelude.{◌≡◌, ◌↔◌, true};
 ghost use Rattle.sms_centre_rows.specs.waiting.SoundAllocations.{IsNumber};
 ghost use Rattle.sms_rows.specs.table.Keys.{AllDigits};
-ghost use Rattle.sms_base.specs.SemiOctet.{is_digit};
 
-use sms_base::{Digits, semi_octet_of};
-
-fn is_digit(character: char) -> bool
-    ensures { result ≡ is_digit character }
-{
-    semi_octet_of(character).is_some()
-}
+use sms_base::{Digits, is_digit};
 
 /// Whether each character is a digit.
 pub fn are_digits(characters: &[char]) -> bool

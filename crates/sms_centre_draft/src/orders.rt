@@ -12,19 +12,19 @@ use sms_centre_rows::messages::MessageRow;
 use sms_centre_rows::waiting::QueuedPart;
 use std::alloc::AllocError;
 
-fn is_part_of(id: MessageId, load: &QueuedPart) -> bool
-    ensures { result ≡ is_part_of_it id load.now }
+fn is_part_of(id: MessageId, queued: &QueuedPart) -> bool
+    ensures { result ≡ is_part_of_it id queued.now }
 {
-    load.id == id && load.number != 0
+    queued.id == id && queued.number != 0
 }
 
 // The parts of the message among what waits.
-fn parts_among(id: MessageId, loads: Vec<QueuedPart>) -> Vec<QueuedPart>
-    ensures { result.items ≡ parts_among_of id loads.items }
+fn parts_among(id: MessageId, all_queued: Vec<QueuedPart>) -> Vec<QueuedPart>
+    ensures { result.items ≡ parts_among_of id all_queued.items }
 {
-    let mut loads = loads;
-    loads.retain(|load| is_part_of(id, load));
-    loads
+    let mut all_queued = all_queued;
+    all_queued.retain(|queued| is_part_of(id, queued));
+    all_queued
 }
 
 impl<'a> CentreDraft<'a> {
@@ -38,8 +38,8 @@ impl<'a> CentreDraft<'a> {
         if !are_digits(message.handset.as_slice()) {
             return Ok(Vec::new(self.alloc));
         }
-        let loads = self.waiting(message.handset)?;
-        Ok(parts_among(message.id, loads))
+        let all_queued = self.waiting(message.handset)?;
+        Ok(parts_among(message.id, all_queued))
     }
 
     /// All of the message that waits for its handset is due now.

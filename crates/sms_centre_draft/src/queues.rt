@@ -2,12 +2,13 @@
 ghost use Rattle.std.specs.Prelude.{◌≡◌, ℕ, List, Some, IfOk, OnOk};
 ghost use Rattle.sms_rows.specs.table.Keys.{pair_key};
 ghost use Rattle.sms_rows.specs.table.Table.{put as put_in, row_at, without};
-ghost use Rattle.sms_centre_rows.specs.waiting.Keys.{load_key};
+ghost use Rattle.sms_centre_rows.specs.waiting.Keys.{queued_key};
 ghost use Rattle.sms_centre_rows.specs.waiting.Links.{Links};
-ghost use Rattle.sms_centre_rows.specs.waiting.References.{Allocations, give as give_in, handset_of, handsets_of, next_reference as next_reference_of, references_of};
+ghost use Rattle.sms_centre_rows.specs.waiting.References.{Allocations, give as give_in, handset_of, handsets_of, next_reference as next_reference_of};
+ghost use Rattle.sms_centre_rows.specs.waiting.References.{references_of};
 ghost use Rattle.sms_centre_rows.specs.waiting.SoundAllocations.{IsNumber};
 ghost use Rattle.sms_centre_rows.specs.waiting.Waiting.{withdrawn};
-ghost use Rattle.sms_centre_rows.specs.declared.waiting.queued_part.QueuedPart.{QueuedPart as LoadOf};
+ghost use Rattle.sms_centre_rows.specs.declared.waiting.queued_part.QueuedPart.{QueuedPart as QueuedOf};
 ghost use Rattle.sms_centre_queue.specs.queues.Representing.{DraftRepresents, Waits};
 
 use crate::numbers::{are_digits, is_number};
@@ -22,7 +23,7 @@ pub(crate) fn withdraw(
     number: Digits,
     id: MessageId,
 ) -> Result<(), AllocError>
-    ensures { OnOk result ((g : Allocations) (links : Links) (waiting after : List ℕ → List LoadOf) → DraftRepresents g links waiting queues.old
+    ensures { OnOk result ((g : Allocations) (links : Links) (waiting after : List ℕ → List QueuedOf) → DraftRepresents g links waiting queues.old
         → Waits number (withdrawn id) waiting after → DraftRepresents g links after queues.new) }
 {
     if !are_digits(number.as_slice()) {
@@ -31,19 +32,19 @@ pub(crate) fn withdraw(
     queues.withdraw(number, id)
 }
 
-/// One more waits for the handset, or the one of that message and number waits otherwise.
+/// Lets one more wait for the handset, or the one of that message and number wait otherwise.
 pub(crate) fn put(
     queues: &mut DeliveryQueuesDraft,
     number: Digits,
-    load: QueuedPart,
+    queued: QueuedPart,
 ) -> Result<(), AllocError>
-    ensures { OnOk result ((g : Allocations) (links : Links) (waiting after : List ℕ → List LoadOf) → DraftRepresents g links waiting queues.old
-        → Waits number (put_in load_key load) waiting after → DraftRepresents g links after queues.new) }
+    ensures { OnOk result ((g : Allocations) (links : Links) (waiting after : List ℕ → List QueuedOf) → DraftRepresents g links waiting queues.old
+        → Waits number (put_in queued_key queued) waiting after → DraftRepresents g links after queues.new) }
 {
     if !are_digits(number.as_slice()) {
         return Ok(());
     }
-    queues.put(number, load)
+    queues.put(number, queued)
 }
 
 /// Removes what waits under that message and number.
@@ -53,8 +54,8 @@ pub(crate) fn remove(
     id: MessageId,
     part: u8,
 ) -> Result<(), AllocError>
-    ensures { OnOk result ((g : Allocations) (links : Links) (waiting after : List ℕ → List LoadOf) → DraftRepresents g links waiting queues.old
-        → Waits number (without load_key (pair_key id part)) waiting after → DraftRepresents g links after queues.new) }
+    ensures { OnOk result ((g : Allocations) (links : Links) (waiting after : List ℕ → List QueuedOf) → DraftRepresents g links waiting queues.old
+        → Waits number (without queued_key (pair_key id part)) waiting after → DraftRepresents g links after queues.new) }
 {
     if !are_digits(number.as_slice()) {
         return Ok(());
@@ -62,10 +63,10 @@ pub(crate) fn remove(
     queues.remove(number, id, part)
 }
 
-fn due_then(load: QueuedPart, due: Moment) -> QueuedPart
-    ensures { result ≡ record load { due = due } }
+fn due_then(queued: QueuedPart, due: Moment) -> QueuedPart
+    ensures { result ≡ record queued { due = due } }
 {
-    QueuedPart { due, ..load }
+    QueuedPart { due, ..queued }
 }
 
 /// What waits for the handset under that message and number is due then.
@@ -76,15 +77,16 @@ pub(crate) fn put_off(
     part: u8,
     due: Moment,
 ) -> Result<(), AllocError>
-    ensures { OnOk result ((g : Allocations) (links : Links) (waiting after : List ℕ → List LoadOf) (l : LoadOf) → DraftRepresents g links waiting queues.old
-        → row_at load_key (pair_key id part) (waiting number) ≡ Some l → Waits number (put_in load_key (record l { due = due })) waiting after
+    ensures { OnOk result ((g : Allocations) (links : Links) (waiting after : List ℕ → List QueuedOf) (l : QueuedOf)
+        → DraftRepresents g links waiting queues.old
+        → row_at queued_key (pair_key id part) (waiting number) ≡ Some l → Waits number (put_in queued_key (record l { due = due })) waiting after
         → DraftRepresents g links after queues.new) }
 {
     if !are_digits(number.as_slice()) {
         return Ok(());
     }
-    match queues.load(&number, id, part) {
-        Some(load) => queues.put(number, due_then(load, due)),
+    match queues.queued(&number, id, part) {
+        Some(queued) => queues.put(number, due_then(queued, due)),
         None => Ok(()),
     }
 }
@@ -95,7 +97,7 @@ pub(crate) fn next_reference(
     number: Digits,
     now: Moment,
 ) -> Result<Option<u8>, AllocError>
-    ensures { IsNumber number → IfOk result (λ reference. (g : Allocations) (links : Links) (waiting : List ℕ → List LoadOf)
+    ensures { IsNumber number → IfOk result (λ reference. (g : Allocations) (links : Links) (waiting : List ℕ → List QueuedOf)
         → DraftRepresents g links waiting queues.now
         → reference ≡ next_reference_of (handset_of number (handsets_of g)) (waiting number) (references_of g) now) }
 {
@@ -112,7 +114,7 @@ pub(crate) fn give(
     reference: u8,
     now: Moment,
 ) -> Result<(), AllocError>
-    ensures { IsNumber number → OnOk result ((g : Allocations) (links : Links) (waiting : List ℕ → List LoadOf) → DraftRepresents g links waiting queues.old
+    ensures { IsNumber number → OnOk result ((g : Allocations) (links : Links) (waiting : List ℕ → List QueuedOf) → DraftRepresents g links waiting queues.old
         → DraftRepresents (give_in (handset_of number (handsets_of g)) reference now g) links waiting queues.new) }
 {
     if !is_number(&number) {

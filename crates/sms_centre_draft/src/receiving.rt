@@ -4,14 +4,15 @@ ghost use Rattle.sms_base.specs.Among.{Among};
 ghost use Rattle.sms_rows.specs.table.Keys.{AllDigits};
 ghost use Rattle.sms_centre_rows.specs.waiting.Links.{emptied, line_of, put_line, raised};
 ghost use Rattle.sms_centre_rows.specs.waiting.Trying.{due_at as due_at_of};
-ghost use Rattle.sms_centre_rows.specs.declared.waiting.queued_part.QueuedPart.{QueuedPart as LoadOf};
+ghost use Rattle.sms_centre_rows.specs.declared.waiting.queued_part.QueuedPart.{QueuedPart as QueuedOf};
 ghost use Rattle.sms_centre_rows.specs.messages.Messages.{part_at};
 ghost use Rattle.sms_centre_rows.specs.reports.Reports.{report_of};
 ghost use Rattle.sms_centre_spec.specs.CentreEvent.{raise as raise_of};
 ghost use Rattle.sms_centre_spec.specs.Draft.{Draft, in_store, on_links, parts_in, reports_in, waiting_in};
-ghost use Rattle.sms_centre_spec.specs.Receiving.{all_due as all_due_of, due_now as due_now_of, empty_line, has_memory as has_memory_of, load_due as load_due_of, part_due as part_due_of, report_due as report_due_of};
+ghost use Rattle.sms_centre_spec.specs.Receiving.{all_due as all_due_of, due_now as due_now_of, empty_line, has_memory as has_memory_of};
+ghost use Rattle.sms_centre_spec.specs.Receiving.{queued_due as queued_due_of, part_due as part_due_of, report_due as report_due_of};
 ghost use Rattle.sms_centre_spec.specs.Transfers.{is_open_part_at, is_open_status_at};
-ghost use Rattle.sms_centre_draft.specs.DueNow.{IsOpenLoad};
+ghost use Rattle.sms_centre_draft.specs.DueNow.{IsOpenQueued};
 ghost use Rattle.sms_centre_draft.specs.CentreDraft.{Represents};
 
 use crate::centre_draft::CentreDraft;
@@ -77,23 +78,23 @@ impl<'a> CentreDraft<'a> {
     }
 
     // That one of what waits is due now.
-    fn load_due(&mut self, load: &QueuedPart) -> Result<(), AllocError>
-        ensures { (d : Draft) → Represents d self.old → IsOpenLoad load.now d.store
-            → OnOk result (Represents (in_store (load_due_of load.now d.store) d) self.new) }
+    fn queued_due(&mut self, queued: &QueuedPart) -> Result<(), AllocError>
+        ensures { (d : Draft) → Represents d self.old → IsOpenQueued queued.now d.store
+            → OnOk result (Represents (in_store (queued_due_of queued.now d.store) d) self.new) }
     {
-        if load.number == 0 {
-            return self.status_due(load.id);
+        if queued.number == 0 {
+            return self.status_due(queued.id);
         }
-        self.part_due(load.id, load.number)
+        self.part_due(queued.id, queued.number)
     }
 
     // All of them are due now.
-    pub(crate) fn all_due(&mut self, loads: &[QueuedPart]) -> Result<(), AllocError>
-        ensures { (d : Draft) → Represents d self.old → ((l : LoadOf) → Among l loads.now → IsOpenLoad l d.store)
-            → OnOk result (Represents (in_store (all_due_of loads.now d.store) d) self.new) }
+    pub(crate) fn all_due(&mut self, all_queued: &[QueuedPart]) -> Result<(), AllocError>
+        ensures { (d : Draft) → Represents d self.old → ((l : QueuedOf) → Among l all_queued.now → IsOpenQueued l d.store)
+            → OnOk result (Represents (in_store (all_due_of all_queued.now d.store) d) self.new) }
     {
-        for load in loads {
-            self.load_due(load)?;
+        for queued in all_queued {
+            self.queued_due(queued)?;
         }
         Ok(())
     }
@@ -101,10 +102,10 @@ impl<'a> CentreDraft<'a> {
     // What waits for the handset, in memory of its own.
     pub(crate) fn waiting(&self, handset: Digits) -> Result<Vec<QueuedPart>, AllocError>
         requires digits { AllDigits handset }
-        ensures { (d : Draft) → Represents d self.now → IfOk result (λ loads. loads.items ≡ waiting_in handset d.store) }
+        ensures { (d : Draft) → Represents d self.now → IfOk result (λ all_queued. all_queued.items ≡ waiting_in handset d.store) }
     {
-        let loads = self.queues.waiting(&handset)?;
-        Ok(loads)
+        let all_queued = self.queues.waiting(&handset)?;
+        Ok(all_queued)
     }
 
     /// All that waits for the handset is due now.
@@ -112,8 +113,8 @@ impl<'a> CentreDraft<'a> {
         requires digits { AllDigits handset }
         ensures { (d : Draft) → Represents d self.old → OnOk result (Represents (in_store (due_now_of handset d.store) d) self.new) }
     {
-        let loads = self.waiting(handset)?;
-        self.all_due(loads.as_slice())
+        let all_queued = self.waiting(handset)?;
+        self.all_due(all_queued.as_slice())
     }
 
     // The handset has memory again.

@@ -2,24 +2,10 @@
 ghost use Rattle.std.specs.Prelude.{◌≡◌, IfOk};
 ghost use Rattle.sms_centre_rows.specs.messages.Messages.{ended as ended_of};
 
-use sms_base::{FinalState, Moment, Octets, Originator};
+use sms_base::{FinalState, Moment};
+use sms_centre_messages::message_index::copy_of_originator;
 use sms_centre_rows::messages::MessageRow;
 use std::alloc::{AllocError, Global};
-
-/// The originator, in memory of its own.
-pub(crate) fn copy_of(alloc: Global, originator: &Originator) -> Result<Originator, AllocError>
-    ensures { IfOk result (λ copy. copy ≡ originator.now) }
-{
-    match originator {
-        Originator::Application { account } => {
-            let account = Octets::copy_of(alloc, account.as_slice())?;
-            Ok(Originator::Application { account })
-        }
-        Originator::Handset { message_reference } => Ok(Originator::Handset {
-            message_reference: *message_reference,
-        }),
-    }
-}
 
 /// The row of the message once it ended so at that moment, in memory of its own.
 pub(crate) fn ended(
@@ -30,7 +16,7 @@ pub(crate) fn ended(
 ) -> Result<MessageRow, AllocError>
     ensures { IfOk result (λ row. row ≡ ended_of state now message.now) }
 {
-    let originator = copy_of(alloc, &message.originator)?;
+    let originator = copy_of_originator(alloc, &message.originator)?;
     Ok(MessageRow {
         id: message.id,
         originator,

@@ -4,7 +4,8 @@ ghost use Rattle.sms_rows.specs.table.Keys.{AllDigits};
 ghost use Rattle.sms_centre_messages.specs.references.Counts.{one_if as one_if_of};
 ghost use Rattle.sms_centre_rows.specs.messages.Messages.{message_at};
 ghost use Rattle.sms_centre_spec.specs.Draft.{Draft, messages_in, waiting_in};
-ghost use Rattle.sms_centre_spec.specs.Shares.{held_by as held_by_of, holds_too_much as holds_too_much_of, is_of_account as is_of_account_of, takes_too_much as takes_too_much_of};
+ghost use Rattle.sms_centre_spec.specs.Shares.{held_by as held_by_of, holds_too_much as holds_too_much_of, is_of_account as is_of_account_of};
+ghost use Rattle.sms_centre_spec.specs.Shares.{takes_too_much as takes_too_much_of};
 ghost use Rattle.sms_centre_draft.specs.CentreDraft.{Represents};
 
 use crate::centre_draft::CentreDraft;
@@ -47,11 +48,11 @@ fn one_if(is_counted: bool) -> usize
 
 impl<'a> CentreDraft<'a> {
     // Whether what waits is of a message of the account.
-    fn is_held_by(&self, account: &[u8], load: &QueuedPart) -> Result<bool, AllocError>
+    fn is_held_by(&self, account: &[u8], queued: &QueuedPart) -> Result<bool, AllocError>
         ensures { (d : Draft) → Represents d self.now
-            → IfOk result (λ is. is ≡ is_of_account_of account.now (message_at load.now.id (messages_in d.store))) }
+            → IfOk result (λ is. is ≡ is_of_account_of account.now (message_at queued.now.id (messages_in d.store))) }
     {
-        let message = self.find(load.id)?;
+        let message = self.find(queued.id)?;
         Ok(is_of_account(account, &message))
     }
 
@@ -61,8 +62,8 @@ impl<'a> CentreDraft<'a> {
         ensures few { IfOk result (λ held. held ≤ length waiting.now) }
     {
         let mut held: usize = 0;
-        for load in waiting {
-            let is_own = self.is_held_by(account, load)?;
+        for queued in waiting {
+            let is_own = self.is_held_by(account, queued)?;
             held += one_if(is_own);
         }
         Ok(held)

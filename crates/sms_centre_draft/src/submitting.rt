@@ -7,14 +7,16 @@ ghost use Rattle.sms_centre_rows.specs.waiting.SoundAllocations.{IsNumber};
 ghost use Rattle.sms_centre_spec.specs.Draft.{Draft, handsets_in, in_store, with_given};
 ghost use Rattle.sms_centre_spec.specs.SoundRows.{HasReportAddress};
 ghost use Rattle.sms_centre_spec.specs.Consistent.{IsSubmission};
-ghost use Rattle.sms_centre_spec.specs.Submitting.{accept_under as accept_under_of, data_coding_of as data_coding_of_text, enter as enter_of, give_part as give_part_of, give_parts as give_parts_of, message_of as message_of_submission, put_part_of, reference_for};
+ghost use Rattle.sms_centre_spec.specs.Submitting.{accept_under as accept_under_of, data_coding_of as data_coding_of_text, enter as enter_of};
+ghost use Rattle.sms_centre_spec.specs.Submitting.{give_part as give_part_of, give_parts as give_parts_of, message_of as message_of_submission, put_part_of};
+ghost use Rattle.sms_centre_spec.specs.Submitting.{reference_for};
 ghost use Rattle.sms_centre_draft.specs.Submitting.{Accepts, AreBodies, CanGive, IsNewId};
 ghost use Rattle.sms_centre_draft.specs.CentreDraft.{Represents};
 
 use crate::centre_draft::CentreDraft;
 use crate::queues::{give, put};
-use crate::rows::copy_of;
 use sms_base::{MessageId, Moment, Octets};
+use sms_centre_messages::message_index::copy_of_originator;
 use sms_centre_rows::messages::{MessageRow, PartRow, PriorityRow};
 use sms_centre_rows::waiting::{Progress, QueuedPart};
 use sms_concat::ConcatKey;
@@ -40,7 +42,7 @@ fn message_of(
 ) -> Result<MessageRow, AllocError>
     ensures { IfOk result (λ row. row ≡ message_of_submission id now split submission.now) }
 {
-    let originator = copy_of(alloc, &submission.originator)?;
+    let originator = copy_of_originator(alloc, &submission.originator)?;
     Ok(MessageRow {
         id,
         originator,
@@ -97,14 +99,14 @@ impl<'a> CentreDraft<'a> {
         self.messages.put_part(row)?;
         give(&mut self.queues, submission.handset, reference, self.moment)?;
         let priority = submission.priority.level();
-        let load = QueuedPart {
+        let queued = QueuedPart {
             id,
             number,
             reference,
             priority,
             due: submission.due,
         };
-        put(&mut self.queues, submission.handset, load)?;
+        put(&mut self.queues, submission.handset, queued)?;
         Ok(())
     }
 

@@ -1,11 +1,11 @@
 //! The accounts of applications.
 ghost use Rattle.std.specs.Prelude.{◌≡◌, ◌&&◌, option_copied};
 ghost use Rattle.sms_centre_spec.specs.Requests.{account_at as account_at_of, is_from as is_from_of, is_source as is_source_of};
-ghost use Rattle.sms_centre_rows.specs.messages.SplitReferences.{is_same_address as is_same_address_of};
 ghost use Rattle.sms_centre_rows.specs.reports.Receipts.{is_account as is_account_of};
 
 use sms_base::{Address, Originator};
 use sms_centre_draft::CentreDraft;
+use sms_centre_rows::conditions::is_same_address;
 use sms_centre_rows::messages::MessageRow;
 use sms_centre_spec::Setup;
 use sms_intake::CentreAccount;
@@ -36,13 +36,6 @@ fn is_account(name: &[u8], originator: &Originator) -> bool
         Originator::Application { account } => account.as_slice() == name,
         Originator::Handset { .. } => false,
     }
-}
-
-fn is_same_address(one: &Address, other: &Address) -> bool
-    ensures { result ≡ is_same_address_of one.now other.now }
-{
-    one.ton.number() == other.ton.number()
-        && (one.npi == other.npi && one.digits.as_slice() == other.digits.as_slice())
 }
 
 /// Whether the source that is named is that address.

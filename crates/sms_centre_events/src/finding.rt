@@ -7,12 +7,11 @@ ghost use Rattle.sms_centre_spec.specs.Requests.{message_numbered, own_message a
 ghost use Rattle.sms_centre_draft.specs.CentreDraft.{Represents};
 
 use crate::accounts::is_own;
-use crate::sources::source_in;
 use smpp_pdu::SmeAddress;
 use sms_base::{Address, MessageId};
 use sms_centre_draft::CentreDraft;
 use sms_centre_rows::messages::MessageRow;
-use sms_intake::CentreAccount;
+use sms_intake::{CentreAccount, source_in};
 use std::alloc::AllocError;
 
 /// The number that the octets are as an application writes it.

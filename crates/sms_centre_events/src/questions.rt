@@ -6,7 +6,8 @@ ghost use Rattle.sms_centre_rows.specs.messages.Messages.{is_pending, message_at
 ghost use Rattle.sms_centre_spec.specs.declared.answer.CentreAnswer.TheVariants.{Cancelled};
 ghost use Rattle.sms_centre_spec.specs.Draft.{Draft, answer_with, in_store, messages_in};
 ghost use Rattle.sms_centre_spec.specs.Ends.{end};
-ghost use Rattle.sms_centre_spec.specs.Requests.{cancel as cancel_of, cancel_by as cancel_by_of, cancelled as cancelled_of, only_to as only_to_of, queried as queried_of, query as query_of, query_by as query_by_of, refused as refused_of, to_cancel};
+ghost use Rattle.sms_centre_spec.specs.Requests.{cancel as cancel_of, cancel_by as cancel_by_of, cancelled as cancelled_of, only_to as only_to_of};
+ghost use Rattle.sms_centre_spec.specs.Requests.{queried as queried_of, query as query_of, query_by as query_by_of, refused as refused_of, to_cancel};
 ghost use Rattle.sms_centre_events.specs.Found.{IsStored};
 ghost use Rattle.sms_centre_draft.specs.CentreDraft.{Represents};
 

@@ -9,7 +9,8 @@ ghost use Rattle.sms_centre_spec.specs.Draft.{Draft, Store, in_store, messages_i
 ghost use Rattle.sms_centre_spec.specs.MessageNumbers.{next_number as next_number_of};
 ghost use Rattle.sms_rows.specs.table.Keys.{AllDigits};
 ghost use Rattle.sms_centre_spec.specs.Shares.{unless_too_much};
-ghost use Rattle.sms_centre_spec.specs.Requests.{accepted as accepted_of, refused as refused_of, submission_received as submission_received_of, submit as submit_of, submit_by as submit_by_of};
+ghost use Rattle.sms_centre_spec.specs.Requests.{accepted as accepted_of, refused as refused_of, submission_received as submission_received_of};
+ghost use Rattle.sms_centre_spec.specs.Requests.{submit as submit_of, submit_by as submit_by_of};
 ghost use Rattle.sms_centre_spec.specs.SoundRows.{IsSetup};
 ghost use Rattle.sms_centre_spec.specs.Consistent.{IsSubmission};
 ghost use Rattle.sms_centre_spec.specs.Submitting.{accept as accept_of, accept_as as accept_as_of};
@@ -33,7 +34,7 @@ use std::alloc::AllocError;
 /// How a submit_sm ended.
 #[derive(Clone, Copy, Debug)]
 pub enum SubmitOutcome {
-    /// It was answered: it is a message now, or was refused.
+    /// The submission was answered: it is a message now, or was refused.
     Answered,
     /// No number or references are free for it, or its account would hold too many: the event is to begin anew, and
     /// refuses it.
@@ -95,7 +96,8 @@ fn accepted(
     requires submission { IsSubmission submission.now }
     requires units { HasUnits submission.now.text }
     ensures { (d : Draft) → DraftRepresents d draft.old → Knows message_index.now reference_index.now d.store
-        → IfOk result (LeadsTo (accepted_of (next_number_of (rows_of d.store)) (unless_too_much submission.now (accept_of submission.now d.store)) d) d draft.new) }
+        → IfOk result (LeadsTo
+        (accepted_of (next_number_of (rows_of d.store)) (unless_too_much submission.now (accept_of submission.now d.store)) d) d draft.new) }
 {
     let next = next_number(draft, message_index);
     match next {

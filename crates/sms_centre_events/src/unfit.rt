@@ -9,15 +9,16 @@ ghost use Rattle.sms_centre_rows.specs.declared.messages.message.MessageRow.{Mes
 ghost use Rattle.sms_intake.specs.SmppIntake.{source_in as source_in_of};
 ghost use Rattle.sms_centre_spec.specs.Draft.{Draft, messages_in, parts_in};
 ghost use Rattle.sms_centre_spec.specs.Numbers.{id_in};
-ghost use Rattle.sms_centre_spec.specs.Requests.{cancel_by, cancelled, is_destination as is_destination_of, is_source as is_source_of, message_numbered, only_to as only_to_of, own_message as own_message_of, query_by, status_in};
+ghost use Rattle.sms_centre_spec.specs.Requests.{cancel_by, cancelled, is_destination as is_destination_of, is_source as is_source_of, message_numbered};
+ghost use Rattle.sms_centre_spec.specs.Requests.{only_to as only_to_of, own_message as own_message_of, query_by, status_in};
 
 use crate::accounts::is_source;
 use crate::finding::id_of;
-use crate::sources::{is_destination, source_in};
+use crate::sources::is_destination;
 use smpp_pdu::{CancelSm, CommandStatus, QuerySm, SmeAddress};
 use sms_base::{Address, MessageId};
 use sms_centre_messages::message_index::{MessageIndex, MessageSummary};
-use sms_intake::CentreAccount;
+use sms_intake::{CentreAccount, source_in};
 
 // What is kept of the message, if it is from that source.
 fn if_from(source: &Option<Address>, found: MessageSummary) -> Option<MessageSummary>

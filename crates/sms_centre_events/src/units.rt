@@ -1,5 +1,5 @@
 //! A unit that a handset sends up and that opens a transaction.
-ghost use Rattle.std.specs.Prelude.{◌≡◌, IfOk, Ok};
+ghost use Rattle.std.specs.Prelude.{IfOk, Ok};
 ghost use Rattle.sms_relay.specs.Cause.{IsRpCause};
 ghost use Rattle.sms_relay.specs.RelayReading.{up_at};
 ghost use Rattle.sms_tpdu.specs.TpduReading.{up_at as tpdu_up_at};
@@ -8,7 +8,9 @@ ghost use Rattle.sms_intake.specs.HandsetIntake.{from_read};
 ghost use Rattle.sms_centre_messages.specs.message_index.MessageIndex.{Represents as MessagesRepresent};
 ghost use Rattle.sms_centre_rows.specs.waiting.SoundAllocations.{IsNumber};
 ghost use Rattle.sms_centre_spec.specs.Draft.{Draft, messages_in, parts_in};
-ghost use Rattle.sms_centre_spec.specs.Receiving.{data_received as data_received_of, fault_cause as fault_cause_of, memory_available as memory_available_of, refuse as refuse_of, reject as reject_of, reference_octet as reference_octet_of, submit_accepted as submit_accepted_of, submit_received as submit_received_of, unit_received as unit_received_of};
+ghost use Rattle.sms_centre_spec.specs.Receiving.{data_received as data_received_of, memory_available as memory_available_of, refuse as refuse_of};
+ghost use Rattle.sms_centre_spec.specs.Receiving.{reject as reject_of, submit_accepted as submit_accepted_of, submit_received as submit_received_of};
+ghost use Rattle.sms_centre_spec.specs.Receiving.{unit_received as unit_received_of};
 ghost use Rattle.sms_centre_spec.specs.Consistent.{IsSubmission};
 ghost use Rattle.sms_centre_spec.specs.Submitting.{accept as accept_of};
 ghost use Rattle.sms_centre_events.specs.Answering.{LeadsTo, IsSingle};
@@ -22,13 +24,13 @@ use sms_centre_draft::CentreDraft;
 use sms_centre_messages::message_index::MessageIndex;
 use sms_centre_messages::references::ReferenceIndex;
 use sms_intake::{Submission, SubmitError, SubmitRefusal, from_submit};
-use sms_relay::{RelayFault, Rp, RpCause, read_up};
+use sms_relay::{Rp, RpCause, fault_cause, read_up, reference_octet};
 use std::alloc::{AllocError, Global};
 
 /// How a frame ended.
 #[derive(Clone, Copy, Debug)]
 pub enum FrameOutcome {
-    /// It is done, with all that it leads to.
+    /// The frame is done, with all that it leads to.
     Done,
     /// A SUBMIT under that reference for which no number or references are free: the event is to begin anew, and refuses it.
     Congested(u8),
@@ -203,26 +205,5 @@ pub(crate) fn unit_received(
             tag,
             fault_cause(fault),
         ),
-    }
-}
-
-// A unit of an unknown type, else one that can't be read.
-fn fault_cause(fault: RelayFault) -> RpCause
-    ensures value { result ≡ fault_cause_of fault }
-    ensures named { IsRpCause result }
-{
-    match fault {
-        RelayFault::Unknown => RpCause::MessageTypeNonExistent,
-        _ => RpCause::InvalidMandatoryInformation,
-    }
-}
-
-// The octet in the place of the reference, or 0.
-fn reference_octet(unit: &[u8]) -> u8
-    ensures { result ≡ reference_octet_of unit.now }
-{
-    match unit {
-        [_, reference, ..] => *reference,
-        _ => 0,
     }
 }

@@ -108,7 +108,8 @@ impl<K: CentreStore + Drop> GroupKeep<K> {
     fn commit(&mut self, changes: &Changes) -> Result<(), KeepError>
         ensures outcome { (rows : RowsOf)
             → StoreOutcome (λ done. ⊤) rows (rows_after changes.now rows) (K.state (store_of self.old)) (K.state (store_of self.new)) result }
-        ensures stop { (rows : RowsOf) → IfHeld rows (K.state (store_of self.old)) (K.state (store_of self.new)) ((left : RowsOf) → K.may_leave (store_of self.new) left
+        ensures stop { (rows : RowsOf) → IfHeld rows (K.state (store_of self.old)) (K.state (store_of self.new))
+            ((left : RowsOf) → K.may_leave (store_of self.new) left
             → (left ≡ rows) ⊎ (left ≡ rows_after changes.now rows)) }
         ensures named { IfErr result (λ error. (error ≢ OldVersion) × (error ≢ NotThisStore)) }
         ensures before { WasHonest (K.state (store_of self.old)) (K.state (store_of self.new)) }

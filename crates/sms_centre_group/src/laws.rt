@@ -23,8 +23,11 @@ pub fn joined_changes_are_those_of_both()
 /// Where its store gives the TPDUs of sound rows, a group gives those of the rows that its events led to, if these are sound: that
 /// of a part under the part's key, of a status report under that of its message and number 0.
 pub fn a_group_gives_its_bodies()
-    ensures parts { (body_of : Rows → ℕ → Option (List ℕ)) → GivesBodies body_of → (base : Rows) (held : Changes) → IsSound base → IsSound (rows_after held base)
+    ensures parts { (body_of : Rows → ℕ → Option (List ℕ)) → GivesBodies body_of → (base : Rows) (held : Changes)
+        → IsSound base → IsSound (rows_after held base)
         → (p : PartRow) → Among p (rows_after held base).parts → grouped_body body_of (base, held) (part_key p) ≡ Some p.tpdu }
-    ensures reports { (body_of : Rows → ℕ → Option (List ℕ)) → GivesBodies body_of → (base : Rows) (held : Changes) → IsSound base → IsSound (rows_after held base)
-        → (r : ReportRow) → Among r (rows_after held base).reports → is_status r.kind ≡ true → grouped_body body_of (base, held) (pair_key r.id 0) ≡ Some (status_tpdu r.kind) }
+    ensures reports { (body_of : Rows → ℕ → Option (List ℕ)) → GivesBodies body_of → (base : Rows) (held : Changes)
+        → IsSound base → IsSound (rows_after held base)
+        → (r : ReportRow) → Among r (rows_after held base).reports → is_status r.kind ≡ true
+        → grouped_body body_of (base, held) (pair_key r.id 0) ≡ Some (status_tpdu r.kind) }
 {}

@@ -1,17 +1,18 @@
 //! The octets that held changes put.
 ghost use Rattle.std.specs.Prelude.{◌≡◌, Bool, ℕ, IfOk, option_copied};
 ghost use Rattle.sms_centre_group.specs.HeldRoom.{changes_in};
-ghost use Rattle.sms_centre_group.specs.Newest.{first_of, is_part, is_report, newest as newest_of, put_by as put_by_of, put_octets, replaces as replaces_of, stays as stays_of};
+ghost use Rattle.sms_centre_group.specs.Newest.{first_of, is_part, is_report, newest as newest_of, put_by as put_by_of, put_octets, replaces as replaces_of};
+ghost use Rattle.sms_centre_group.specs.Newest.{stays as stays_of};
 ghost use Rattle.sms_centre_rows.specs.messages.Messages.{part_key};
 ghost use Rattle.sms_centre_rows.specs.reports.Reports.{report_key};
-ghost use Rattle.sms_centre_spec.specs.octets.OctetsAt.{kind_octets, part_octets, report_octets};
+ghost use Rattle.sms_centre_spec.specs.octets.OctetsAt.{part_octets, report_octets};
 
 use crate::held_changes::HeldChanges;
 use sms_base::Octets;
 use sms_centre_rows::messages::PartRow;
-use sms_centre_rows::reports::{ReportKind, ReportRow};
+use sms_centre_rows::reports::ReportRow;
 use sms_centre_rows::waiting::Revision;
-use sms_centre_spec::octets::copy_of_octets;
+use sms_centre_spec::octets::{copy_of_kind_octets, copy_of_octets};
 use sms_rows::table::{Key, Row};
 use std::alloc::{AllocError, Global};
 
@@ -104,18 +105,6 @@ fn newest<'a, T: Drop + Sought>(number: u128, revisions: &'a [Revision<T>]) -> O
     found
 }
 
-fn copy_of_kind(alloc: Global, kind: &ReportKind) -> Result<Option<Octets>, AllocError>
-    ensures { IfOk result (λ octets. octets ≡ kind_octets kind.now) }
-{
-    match kind {
-        ReportKind::Status { tpdu, .. } => {
-            let octets = copy_of_octets(alloc, tpdu)?;
-            Ok(Some(octets))
-        }
-        ReportKind::Receipt | ReportKind::Unsent => Ok(None),
-    }
-}
-
 fn part_put(
     alloc: Global,
     parts: &[Revision<PartRow>],
@@ -140,7 +129,7 @@ fn report_put(
     ensures { IfOk result (λ octets. octets ≡ report_octets (newest_of report_key (is_report id) reports.now)) }
 {
     match newest(id, reports) {
-        Some(report) => copy_of_kind(alloc, &report.kind),
+        Some(report) => copy_of_kind_octets(alloc, &report.kind),
         None => Ok(None),
     }
 }

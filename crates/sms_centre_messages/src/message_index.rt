@@ -21,7 +21,7 @@ mod peeking;
 mod recover;
 mod summary;
 
-pub use copying::copy_of_changes;
+pub use copying::{copy_of_changes, copy_of_originator};
 pub use draft::{MessageIndexDraft, MessageIndexPlan};
 pub use index::{MessageIndex, MessageIndexReserve};
 pub use message_entry::{MessageEntry, OriginatorEntry};

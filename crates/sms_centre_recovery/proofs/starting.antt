@@ -1,3 +1,3 @@
-pub mod LoadsWait
+pub mod QueuedWait
 pub mod LinesNew
 pub mod RowsSeen

@@ -25,7 +25,9 @@ mod waiting_rows;
 
 pub use addresses::is_address;
 pub use allocation_rows::{are_given, are_mentioned, have_numbers_apart};
-pub use message_rows::{are_messages, are_parts, are_priorities, is_handset};
+pub use message_rows::{are_messages, are_parts, are_priorities, is_handset, is_same_address};
 pub use report_rows::{are_once, are_reports};
 pub use splits::are_split_apart;
-pub use waiting_rows::{are_parts_given, are_reports_given, have_references_apart, places_of};
+pub use waiting_rows::{
+    are_parts_given, are_reports_given, have_references_apart, places_of, status_reference,
+};

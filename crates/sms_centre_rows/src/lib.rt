@@ -7,11 +7,13 @@
 //!
 //! - `conditions`: whether rows are sound, by a test of each condition
 //! - `messages`: the messages that were accepted, and their parts
+//! - `report_lines`: what a report has of these rows
 //! - `reports`: receipts and status reports
 //! - `waiting`: what waits for one handset, and the link to it
 #![tactic(auto)]
 
 pub mod conditions;
 pub mod messages;
+pub mod report_lines;
 pub mod reports;
 pub mod waiting;

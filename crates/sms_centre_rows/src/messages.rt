@@ -7,11 +7,13 @@
 
 pub mod laws;
 mod message;
+mod newest;
 mod part;
 mod parts;
 mod priority;
 
-pub use message::MessageRow;
+pub use message::{MessageRow, is_delivered};
+pub use newest::newest_change;
 pub use part::PartRow;
 pub use parts::PartEntry;
 pub use priority::PriorityRow;

@@ -10,17 +10,17 @@ use Rattle.sms_rows.proofs.table.Tables.{found_among, rises_put, row_at_put, row
 use Rattle.sms_centre_rows.specs.declared.messages.message.MessageRow.{MessageRow}
 use Rattle.sms_centre_rows.specs.declared.messages.part.PartRow.{PartRow}
 use Rattle.sms_centre_rows.specs.messages.Messages.{is_pending, message_at, message_key, part_key}
-use Rattle.sms_centre_rows.specs.messages.OpenParts.{part_load, part_wait, waits_for}
+use Rattle.sms_centre_rows.specs.messages.OpenParts.{part_queued, part_wait, waits_for}
 use Rattle.sms_centre_rows.proofs.messages.PartRows.{numbered_put}
 use Rattle.sms_centre_rows.specs.declared.reports.report.ReportRow.{ReportRow}
 use Rattle.sms_centre_rows.specs.reports.Reports.{is_open_status, put_report, report_key, status_reference}
-use Rattle.sms_centre_rows.specs.reports.Waiting.{Alone, IsNew, report_load, report_wait, reports_to, waiting_as}
+use Rattle.sms_centre_rows.specs.reports.Waiting.{Alone, IsReportApart, report_queued, report_wait, reports_to, waiting_as}
 use Rattle.sms_centre_rows.proofs.reports.ReportRows.{new_alone, new_report, new_report_other}
 use Rattle.sms_centre_rows.proofs.reports.WaitingChanges.{part_changes, report_changes}
 use Rattle.sms_centre_rows.specs.declared.waiting.handset.HandsetRow.{HandsetRow}
 use Rattle.sms_centre_rows.specs.declared.waiting.queued_part.QueuedPart.{QueuedPart}
 use Rattle.sms_centre_rows.specs.declared.waiting.reference.ReferenceRow.{ReferenceRow}
-use Rattle.sms_centre_rows.specs.waiting.Keys.{handset_key, load_key, reference_key}
+use Rattle.sms_centre_rows.specs.waiting.Keys.{handset_key, queued_key, reference_key}
 use Rattle.sms_centre_rows.specs.waiting.References.{given_row, handset_at, handset_of, mentioned, next_reference, or_new_handset, place_after}
 use Rattle.sms_centre_rows.specs.waiting.SoundAllocations.{IsNumber, reference_at}
 use Rattle.sms_centre_rows.specs.waiting.SoundWaiting.{SoundWaiting, WasGiven}
@@ -56,7 +56,7 @@ given_more row rs w x sound = record {
 pub waits_given : (s : Store) (number : List ℕ) (l : QueuedPart) → SoundHeld s → reference_for (handset_of number (handsets_in s)) s ≡ Some l.reference
     → (other : List ℕ) (o : Option QueuedPart) → (number ≡ other → o ≡ Some l) → (¬ (number ≡ other) → o ≡ None)
     → let h : HandsetRow = handset_of number (handsets_in s) in
-    SoundWaiting (handset_at other (put handset_key (mentioned h l.reference) (handsets_in s))) (put reference_key (given_row h l.reference s.moment) (references_in s)) (waiting_as (load_key l) o (waiting_in other s))
+    SoundWaiting (handset_at other (put handset_key (mentioned h l.reference) (handsets_in s))) (put reference_key (given_row h l.reference s.moment) (references_in s)) (waiting_as (queued_key l) o (waiting_in other s))
 waits_given s number l held next other o own none =
     let hs : List HandsetRow = handsets_in s in
     let rs : List ReferenceRow = references_in s in
@@ -71,15 +71,15 @@ waits_given s number l held next other o own none =
     let place : (g : HandsetRow) → handset_at number hs ≡ Some g → g.place ≡ h.place = λ g f. ap (λ (x : Option HandsetRow). (or_new_handset number (place_after 1 hs) x).place) (sym f) in
     let free : next_reference h (waiting_in number s) rs s.moment ≡ Some l.reference = ap (λ (n : List ℕ). next_reference h (waiting_in n s) rs s.moment) (sym fits.1) ∙ next in
     let sound = waits_under (handset_at number hs) h rs (waiting_in number s) l s.moment (held.waiting number) place free in
-    subst (λ (n : List ℕ). SoundWaiting (handset_at n (put handset_key (mentioned h l.reference) hs)) (put reference_key row rs) (waiting_as (load_key l) o (waiting_in n s))) e
-    (subst (λ (x : Option QueuedPart). SoundWaiting (handset_at number (put handset_key (mentioned h l.reference) hs)) (put reference_key row rs) (waiting_as (load_key l) x (waiting_in number s))) (sym (own e))
-    (subst (λ (x : Option HandsetRow). SoundWaiting x (put reference_key row rs) (put load_key l (waiting_in number s))) (sym there) sound)))
+    subst (λ (n : List ℕ). SoundWaiting (handset_at n (put handset_key (mentioned h l.reference) hs)) (put reference_key row rs) (waiting_as (queued_key l) o (waiting_in n s))) e
+    (subst (λ (x : Option QueuedPart). SoundWaiting (handset_at number (put handset_key (mentioned h l.reference) hs)) (put reference_key row rs) (waiting_as (queued_key l) x (waiting_in number s))) (sym (own e))
+    (subst (λ (x : Option HandsetRow). SoundWaiting x (put reference_key row rs) (put queued_key l (waiting_in number s))) (sym there) sound)))
     (λ (e : number ≡ other → ⊥).
     let same : handset_at other (put handset_key (mentioned h l.reference) hs) ≡ handset_at other hs =
     put_number_other other (mentioned h l.reference) hs (record { place = fits.0.place; number = fits.0.number }) (λ q. e (sym fits.1 ∙ q)) in
-    subst (λ (x : Option QueuedPart). SoundWaiting (handset_at other (put handset_key (mentioned h l.reference) hs)) (put reference_key row rs) (waiting_as (load_key l) x (waiting_in other s))) (sym (none e))
-    (subst (λ (x : Option HandsetRow). SoundWaiting x (put reference_key row rs) (waiting_as (load_key l) None (waiting_in other s))) (sym same)
-    (given_more (handset_at other hs) rs (waiting_as (load_key l) None (waiting_in other s)) row (without_sound (handset_at other hs) rs (waiting_in other s) (load_key l) (held.waiting other)))))
+    subst (λ (x : Option QueuedPart). SoundWaiting (handset_at other (put handset_key (mentioned h l.reference) hs)) (put reference_key row rs) (waiting_as (queued_key l) x (waiting_in other s))) (sym (none e))
+    (subst (λ (x : Option HandsetRow). SoundWaiting x (put reference_key row rs) (waiting_as (queued_key l) None (waiting_in other s))) (sym same)
+    (given_more (handset_at other hs) rs (waiting_as (queued_key l) None (waiting_in other s)) row (without_sound (handset_at other hs) rs (waiting_in other s) (queued_key l) (held.waiting other)))))
     (cases_number number other)
 
 -- ---- a part is given
@@ -107,9 +107,9 @@ part_given_held s m p held there pending undone some small next =
           ∙ ap (λ (b : Bool). not b && (is_pending m && bytes_eq m.handset other)) undone
           ∙ ap (λ (b : Bool). b && bytes_eq m.handset other) pending in
           subst (λ (l : List QueuedPart). SoundWaiting (handset_at other (put handset_key (mentioned h p.reference) (handsets_in s))) (put reference_key (given_row h p.reference s.moment) (references_in s)) l) (sym changes)
-          (waits_given s m.handset (part_load p (priorities_in s)) held next other o
-          (λ e. cond-true (waits_for other p (message_at p.id (messages_in s))) (Some (part_load p (priorities_in s))) None (waits ∙ (bytes_eq-Decides m.handset other).1 e))
-          (λ e. cond-false (waits_for other p (message_at p.id (messages_in s))) (Some (part_load p (priorities_in s))) None (waits ∙ differ m.handset other e)));
+          (waits_given s m.handset (part_queued p (priorities_in s)) held next other o
+          (λ e. cond-true (waits_for other p (message_at p.id (messages_in s))) (Some (part_queued p (priorities_in s))) None (waits ∙ (bytes_eq-Decides m.handset other).1 e))
+          (λ e. cond-false (waits_for other p (message_at p.id (messages_in s))) (Some (part_queued p (priorities_in s))) None (waits ∙ differ m.handset other e)));
     }
   where
     differ : (a b : List ℕ) → ¬ (a ≡ b) → bytes_eq a b ≡ false
@@ -120,7 +120,7 @@ part_given_held s m p held there pending undone some small next =
 
 -- ---- a report is made: it is new, and a status report waits under the reference that is given for it
 
-pub report_made_held : (s : Store) (r : ReportRow) → SoundHeld s → IsNew (reports_in s) r → is_open_status r ≡ false → SoundHeld (with_reports (put_report r s.reports) s)
+pub report_made_held : (s : Store) (r : ReportRow) → SoundHeld s → IsReportApart (reports_in s) r → is_open_status r ≡ false → SoundHeld (with_reports (put_report r s.reports) s)
 report_made_held s r held new quiet =
     let alone : Alone (put report_key r (reports_in s)) = new_alone r (reports_in s) new held.alone in
     record {
@@ -142,10 +142,10 @@ report_made_held s r held new quiet =
     goes None other = refl
     goes (Some m) other = ap (λ (b : Bool). b && bytes_eq m.source.digits other) quiet
 
-    silent : (o : Option MessageRow) (other : List ℕ) → (if reports_to other r o then Some (report_load r) else None) ≡ None
-    silent o other = cond-false (reports_to other r o) (Some (report_load r)) None (goes o other)
+    silent : (o : Option MessageRow) (other : List ℕ) → (if reports_to other r o then Some (report_queued r) else None) ≡ None
+    silent o other = cond-false (reports_to other r o) (Some (report_queued r)) None (goes o other)
 
-pub status_given_held : (s : Store) (m : MessageRow) (r : ReportRow) → SoundHeld s → IsNew (reports_in s) r → message_at r.id (messages_in s) ≡ Some m → IsNumber m.source.digits → is_open_status r ≡ true
+pub status_given_held : (s : Store) (m : MessageRow) (r : ReportRow) → SoundHeld s → IsReportApart (reports_in s) r → message_at r.id (messages_in s) ≡ Some m → IsNumber m.source.digits → is_open_status r ≡ true
     → reference_for (handset_of m.source.digits (handsets_in s)) s ≡ Some (status_reference r.kind)
     → SoundHeld (with_reports (put_report r s.reports) (with_given (handset_of m.source.digits (handsets_in s)) (status_reference r.kind) s))
 status_given_held s m r held new there is waiting next =
@@ -166,9 +166,9 @@ status_given_held s m r held new there is waiting next =
           let waits : reports_to other r (message_at r.id (messages_in s)) ≡ bytes_eq number other =
           ap (λ (x : Option MessageRow). reports_to other r x) there ∙ ap (λ (b : Bool). b && bytes_eq number other) waiting in
           subst (λ (l : List QueuedPart). SoundWaiting (handset_at other (put handset_key (mentioned h (status_reference r.kind)) (handsets_in s))) (put reference_key (given_row h (status_reference r.kind) s.moment) (references_in s)) l) (sym changes)
-          (waits_given s number (report_load r) held next other o
-          (λ e. cond-true (reports_to other r (message_at r.id (messages_in s))) (Some (report_load r)) None (waits ∙ (bytes_eq-Decides number other).1 e))
-          (λ e. cond-false (reports_to other r (message_at r.id (messages_in s))) (Some (report_load r)) None (waits ∙ differ number other e)));
+          (waits_given s number (report_queued r) held next other o
+          (λ e. cond-true (reports_to other r (message_at r.id (messages_in s))) (Some (report_queued r)) None (waits ∙ (bytes_eq-Decides number other).1 e))
+          (λ e. cond-false (reports_to other r (message_at r.id (messages_in s))) (Some (report_queued r)) None (waits ∙ differ number other e)));
     }
   where
     differ : (a b : List ℕ) → ¬ (a ≡ b) → bytes_eq a b ≡ false

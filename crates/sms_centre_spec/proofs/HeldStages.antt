@@ -12,11 +12,11 @@ use Rattle.sms_centre_rows.specs.declared.messages.message.MessageRow.{MessageRo
 use Rattle.sms_centre_rows.specs.declared.messages.part.PartRow.{PartRow}
 use Rattle.sms_centre_rows.specs.declared.messages.priority.PriorityRow.{PriorityRow}
 use Rattle.sms_centre_rows.specs.messages.Messages.{ended, is_pending, message_at, message_key, part_at, part_key, part_reaching}
-use Rattle.sms_centre_rows.specs.messages.OpenParts.{Numbered, part_load, part_wait, waits_for}
+use Rattle.sms_centre_rows.specs.messages.OpenParts.{Numbered, part_queued, part_wait, waits_for}
 use Rattle.sms_centre_rows.proofs.messages.PartRows.{numbered_amended, part_amended, part_amended_other}
 use Rattle.sms_centre_rows.specs.declared.reports.report.ReportRow.{ReportRow}
 use Rattle.sms_centre_rows.specs.reports.Reports.{is_status, report_key, report_of, report_reaching}
-use Rattle.sms_centre_rows.specs.reports.Waiting.{Alone, report_load, report_wait, reports_to, waiting_as}
+use Rattle.sms_centre_rows.specs.reports.Waiting.{Alone, report_queued, report_wait, reports_to, waiting_as}
 use Rattle.sms_centre_rows.proofs.reports.AllWaiting.{part_waits_at, report_waits_at}
 use Rattle.sms_centre_rows.proofs.reports.EndsWaiting.{end_waits, new_waits}
 use Rattle.sms_centre_rows.proofs.reports.ReportRows.{amended_alone, amended_other, amended_own}
@@ -25,7 +25,7 @@ use Rattle.sms_centre_rows.specs.declared.waiting.handset.HandsetRow.{HandsetRow
 use Rattle.sms_centre_rows.specs.declared.waiting.queued_part.QueuedPart.{QueuedPart}
 use Rattle.sms_centre_rows.specs.declared.waiting.progress.Progress.{Progress}
 use Rattle.sms_centre_rows.specs.declared.waiting.reference.ReferenceRow.{ReferenceRow}
-use Rattle.sms_centre_rows.specs.waiting.Keys.{load_key}
+use Rattle.sms_centre_rows.specs.waiting.Keys.{queued_key}
 use Rattle.sms_centre_rows.specs.waiting.References.{handset_at}
 use Rattle.sms_centre_rows.specs.waiting.Revisions.{amended}
 use Rattle.sms_centre_rows.specs.waiting.SoundAllocations.{IsNumber}
@@ -37,9 +37,9 @@ use Rattle.sms_centre_spec.specs.Held.{SoundHeld}
 
 -- What waits under a key waited under it before, with the same reference; or nothing waits there.
 wait_sound : (row : Option HandsetRow) (rs : List ReferenceRow) (w : List QueuedPart) (key : ℕ) (o : Option QueuedPart) → SoundWaiting row rs w
-    → ((l : QueuedPart) → o ≡ Some l → (was : QueuedPart) × ((row_at load_key key w ≡ Some was) × (load_key was ≡ load_key l) × (was.reference ≡ l.reference))) → SoundWaiting row rs (waiting_as key o w)
+    → ((l : QueuedPart) → o ≡ Some l → (was : QueuedPart) × ((row_at queued_key key w ≡ Some was) × (queued_key was ≡ queued_key l) × (was.reference ≡ l.reference))) → SoundWaiting row rs (waiting_as key o w)
 wait_sound row rs w key None sound f = without_sound row rs w key sound
-wait_sound row rs w key (Some l) sound f = let g = f l refl in put_off_sound row rs w g.0 l sound (found_among load_key key g.0 w g.1.0) g.1.1 g.1.2
+wait_sound row rs w key (Some l) sound f = let g = f l refl in put_off_sound row rs w g.0 l sound (found_among queued_key key g.0 w g.1.0) g.1.1 g.1.2
 
 -- ---- a part is so far, and no part that was done is undone
 
@@ -73,16 +73,16 @@ part_far_held s p q held there done =
           (wait_sound (handset_at number (handsets_in s)) (references_in s) w (part_key p) (part_wait number (messages_in s) (priorities_in s) (Some (part_reaching q p))) (held.waiting number)
           (λ l e. ⊎_elim
           (λ (t : waits_for number (part_reaching q p) o ≡ true).
-          let is : Some (part_load (part_reaching q p) (priorities_in s)) ≡ Some l = sym (cond-true (waits_for number (part_reaching q p) o) (Some (part_load (part_reaching q p) (priorities_in s))) None t) ∙ e in
-          let load : part_load (part_reaching q p) (priorities_in s) ≡ l = cc in
-          let waited : row_at load_key (part_key p) w ≡ Some (part_load p (priorities_in s)) =
+          let is : Some (part_queued (part_reaching q p) (priorities_in s)) ≡ Some l = sym (cond-true (waits_for number (part_reaching q p) o) (Some (part_queued (part_reaching q p) (priorities_in s))) None t) ∙ e in
+          let queued : part_queued (part_reaching q p) (priorities_in s) ≡ l = cc in
+          let waited : row_at queued_key (part_key p) w ≡ Some (part_queued p (priorities_in s)) =
           part_waits_at number (messages_in s) (priorities_in s) (parts_in s) (reports_in s) p.id p.number held.parts own.0 own.1
           ∙ ap (λ (x : Option PartRow). part_wait number (messages_in s) (priorities_in s) x) there
-          ∙ cond-true (waits_for number p o) (Some (part_load p (priorities_in s))) None (still_waits number p q o done t) in
-          let found : (was : QueuedPart) × ((row_at load_key (part_key p) w ≡ Some was) × (load_key was ≡ load_key l) × (was.reference ≡ l.reference)) =
-          (part_load p (priorities_in s), (waited, ap load_key load, ap (λ (x : QueuedPart). x.reference) load)) in found)
+          ∙ cond-true (waits_for number p o) (Some (part_queued p (priorities_in s))) None (still_waits number p q o done t) in
+          let found : (was : QueuedPart) × ((row_at queued_key (part_key p) w ≡ Some was) × (queued_key was ≡ queued_key l) × (was.reference ≡ l.reference)) =
+          (part_queued p (priorities_in s), (waited, ap queued_key queued, ap (λ (x : QueuedPart). x.reference) queued)) in found)
           (λ (t : waits_for number (part_reaching q p) o ≡ false).
-          let bad : None ≡ Some l = sym (cond-false (waits_for number (part_reaching q p) o) (Some (part_load (part_reaching q p) (priorities_in s))) None t) ∙ e in absurd cc)
+          let bad : None ≡ Some l = sym (cond-false (waits_for number (part_reaching q p) o) (Some (part_queued (part_reaching q p) (priorities_in s))) None t) ∙ e in absurd cc)
           (cases_Bool (waits_for number (part_reaching q p) o))));
     }
 
@@ -119,16 +119,16 @@ report_far_held s r q held there done =
           (wait_sound (handset_at number (handsets_in s)) (references_in s) w (pair_key r.id 0) (report_wait number (messages_in s) (Some (report_reaching q r))) (held.waiting number)
           (λ l e. ⊎_elim
           (λ (t : reports_to number (report_reaching q r) o ≡ true).
-          let is : Some (report_load (report_reaching q r)) ≡ Some l = sym (cond-true (reports_to number (report_reaching q r) o) (Some (report_load (report_reaching q r))) None t) ∙ e in
-          let load : report_load (report_reaching q r) ≡ l = cc in
-          let waited : row_at load_key (pair_key r.id 0) w ≡ Some (report_load r) =
+          let is : Some (report_queued (report_reaching q r)) ≡ Some l = sym (cond-true (reports_to number (report_reaching q r) o) (Some (report_queued (report_reaching q r))) None t) ∙ e in
+          let queued : report_queued (report_reaching q r) ≡ l = cc in
+          let waited : row_at queued_key (pair_key r.id 0) w ≡ Some (report_queued r) =
           report_waits_at number (messages_in s) (priorities_in s) (parts_in s) (reports_in s) r.id held.parts held.alone
           ∙ ap (λ (x : Option ReportRow). report_wait number (messages_in s) x) there
-          ∙ cond-true (reports_to number r o) (Some (report_load r)) None (still_reports number r q o done t) in
-          let found : (was : QueuedPart) × ((row_at load_key (pair_key r.id 0) w ≡ Some was) × (load_key was ≡ load_key l) × (was.reference ≡ l.reference)) =
-          (report_load r, (waited, ap load_key load, ap (λ (x : QueuedPart). x.reference) load)) in found)
+          ∙ cond-true (reports_to number r o) (Some (report_queued r)) None (still_reports number r q o done t) in
+          let found : (was : QueuedPart) × ((row_at queued_key (pair_key r.id 0) w ≡ Some was) × (queued_key was ≡ queued_key l) × (was.reference ≡ l.reference)) =
+          (report_queued r, (waited, ap queued_key queued, ap (λ (x : QueuedPart). x.reference) queued)) in found)
           (λ (t : reports_to number (report_reaching q r) o ≡ false).
-          let bad : None ≡ Some l = sym (cond-false (reports_to number (report_reaching q r) o) (Some (report_load (report_reaching q r))) None t) ∙ e in absurd cc)
+          let bad : None ≡ Some l = sym (cond-false (reports_to number (report_reaching q r) o) (Some (report_queued (report_reaching q r))) None t) ∙ e in absurd cc)
           (cases_Bool (reports_to number (report_reaching q r) o))));
     }
 

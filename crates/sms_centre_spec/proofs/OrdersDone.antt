@@ -13,7 +13,7 @@ use Rattle.sms_centre_rows.specs.declared.reports.report.ReportRow.{ReportRow}
 use Rattle.sms_centre_rows.specs.declared.waiting.queued_part.QueuedPart.{QueuedPart}
 use Rattle.sms_centre_rows.specs.reports.Reports.{report_of}
 use Rattle.sms_centre_rows.specs.messages.Messages.{is_pending, message_at, part_at, part_key, part_reaching}
-use Rattle.sms_centre_rows.specs.waiting.Keys.{load_key}
+use Rattle.sms_centre_rows.specs.waiting.Keys.{queued_key}
 use Rattle.sms_centre_rows.specs.waiting.Trying.{due_at}
 use Rattle.sms_centre_rows.proofs.messages.PartRows.{part_amended, part_amended_other}
 use Rattle.sms_centre_spec.specs.declared.answer.CentreAnswer.TheVariants.{Cancelled, Queried, Refused}
@@ -24,7 +24,7 @@ use Rattle.sms_centre_spec.specs.CentreEvent.{follow, happened}
 use Rattle.sms_centre_spec.specs.Draft.{Core, Draft, Store, answer_with, draft_of, in_store, messages_in, parts_in, reports_in, waiting_in}
 use Rattle.sms_centre_spec.specs.Ends.{end}
 use Rattle.sms_centre_spec.specs.Orders.{is_part_of, message_due, ordered, parts_among, retried}
-use Rattle.sms_centre_spec.specs.Receiving.{all_due, load_due, part_due, report_due}
+use Rattle.sms_centre_spec.specs.Receiving.{all_due, queued_due, part_due, report_due}
 use Rattle.sms_centre_spec.specs.Requests.{cancelled, refused}
 
 -- ---- the order is done, or refused
@@ -89,8 +89,8 @@ parts_are id l (x ∷ xs) a =
 abbrev due_then : ℕ → PartRow → PartRow
 due_then moment p = part_reaching (due_at moment p.progress) p
 
-part_load : (l : QueuedPart) (s : Store) → (l.number == 0) ≡ false → load_due l s ≡ part_due (part_at l.id l.number (parts_in s)) s
-part_load l s e = cond-false (l.number == 0) (report_due (report_of l.id (reports_in s)) s) (part_due (part_at l.id l.number (parts_in s)) s) e
+part_queued : (l : QueuedPart) (s : Store) → (l.number == 0) ≡ false → queued_due l s ≡ part_due (part_at l.id l.number (parts_in s)) s
+part_queued l s e = cond-false (l.number == 0) (report_due (report_of l.id (reports_in s)) s) (part_due (part_at l.id l.number (parts_in s)) s) e
 
 part_moment : (o : Option PartRow) (s : Store) → (part_due o s).moment ≡ s.moment
 part_moment None s = refl
@@ -112,24 +112,24 @@ part_there k n s ne = by (row_at part_key n (parts_in s)) refl where
   by (Some p) e = part_amended_other p (due_at s.moment p.progress) (parts_in s) k (λ f. ne (sym (found_key part_key n p (parts_in s) e) ∙ f))
 
 part_becomes : (l : QueuedPart) (s : Store) (p : PartRow) → (l.number == 0) ≡ false → part_at l.id l.number (parts_in s) ≡ Some p
-    → row_at part_key (load_key l) (parts_in (load_due l s)) ≡ Some (due_then s.moment p)
-part_becomes l s p is e = ap (λ (x : Store). row_at part_key (load_key l) (parts_in x)) (part_load l s is) ∙ part_here (load_key l) p s e
+    → row_at part_key (queued_key l) (parts_in (queued_due l s)) ≡ Some (due_then s.moment p)
+part_becomes l s p is e = ap (λ (x : Store). row_at part_key (queued_key l) (parts_in x)) (part_queued l s is) ∙ part_here (queued_key l) p s e
 
-part_stays : (k : ℕ) (l : QueuedPart) (s : Store) → (l.number == 0) ≡ false → ¬ (load_key l ≡ k) → row_at part_key k (parts_in (load_due l s)) ≡ row_at part_key k (parts_in s)
-part_stays k l s is ne = ap (λ (x : Store). row_at part_key k (parts_in x)) (part_load l s is) ∙ part_there k (load_key l) s ne
+part_stays : (k : ℕ) (l : QueuedPart) (s : Store) → (l.number == 0) ≡ false → ¬ (queued_key l ≡ k) → row_at part_key k (parts_in (queued_due l s)) ≡ row_at part_key k (parts_in s)
+part_stays k l s is ne = ap (λ (x : Store). row_at part_key k (parts_in x)) (part_queued l s is) ∙ part_there k (queued_key l) s ne
 
-load_moment : (l : QueuedPart) (s : Store) → (l.number == 0) ≡ false → (load_due l s).moment ≡ s.moment
-load_moment l s is = ap (λ (x : Store). x.moment) (part_load l s is) ∙ part_moment (part_at l.id l.number (parts_in s)) s
+queued_moment : (l : QueuedPart) (s : Store) → (l.number == 0) ≡ false → (queued_due l s).moment ≡ s.moment
+queued_moment l s is = ap (λ (x : Store). x.moment) (part_queued l s is) ∙ part_moment (part_at l.id l.number (parts_in s)) s
 
 -- it is due then already, or it is among those that will be
 abbrev WillBeDue : ℕ → PartRow → List QueuedPart → ℕ → Type 0
-WillBeDue k p ls moment = (due_then moment p ≡ p) ⊎ ((l : QueuedPart) × (Among l ls × (load_key l ≡ k)))
+WillBeDue k p ls moment = (due_then moment p ≡ p) ⊎ ((l : QueuedPart) × (Among l ls × (queued_key l ≡ k)))
 
-still_will : (x : QueuedPart) (xs : List QueuedPart) (k : ℕ) (p : PartRow) (moment : ℕ) → ¬ (load_key x ≡ k) → WillBeDue k p (x ∷ xs) moment → WillBeDue k p xs moment
+still_will : (x : QueuedPart) (xs : List QueuedPart) (k : ℕ) (p : PartRow) (moment : ℕ) → ¬ (queued_key x ≡ k) → WillBeDue k p (x ∷ xs) moment → WillBeDue k p xs moment
 still_will x xs k p moment other will = ⊎_elim
     (λ (same : due_then moment p ≡ p). inl same)
-    (λ (f : (l : QueuedPart) × (Among l (x ∷ xs) × (load_key l ≡ k))). inr (⊎_elim
-    (λ (is : f.0 ≡ x). absurd (other (ap (λ (l : QueuedPart). load_key l) (sym is) ∙ f.1.1)))
+    (λ (f : (l : QueuedPart) × (Among l (x ∷ xs) × (queued_key l ≡ k))). inr (⊎_elim
+    (λ (is : f.0 ≡ x). absurd (other (ap (λ (l : QueuedPart). queued_key l) (sym is) ∙ f.1.1)))
     (λ (a : Among f.0 xs). (f.0, (a, f.1.1)))
     f.1.0))
     will
@@ -137,34 +137,34 @@ still_will x xs k p moment other will = ⊎_elim
 all_become : (ls : List QueuedPart) (k : ℕ) (p : PartRow) (s : Store) → ((l : QueuedPart) → Among l ls → (l.number == 0) ≡ false) → row_at part_key k (parts_in s) ≡ Some p
     → WillBeDue k p ls s.moment → row_at part_key k (parts_in (all_due ls s)) ≡ Some (due_then s.moment p)
 all_become [] k p s are e will =
-    ⊎_elim (λ (same : due_then s.moment p ≡ p). e ∙ ap (λ (x : PartRow). Some x) (sym same)) (λ (f : (l : QueuedPart) × (Among l [] × (load_key l ≡ k))). absurd f.1.0) will
+    ⊎_elim (λ (same : due_then s.moment p ≡ p). e ∙ ap (λ (x : PartRow). Some x) (sym same)) (λ (f : (l : QueuedPart) × (Among l [] × (queued_key l ≡ k))). absurd f.1.0) will
 all_become (x ∷ xs) k p s are e will =
     let is : (x.number == 0) ≡ false = are x (inl refl) in
-    let now : (load_due x s).moment ≡ s.moment = load_moment x s is in
+    let now : (queued_due x s).moment ≡ s.moment = queued_moment x s is in
     let others : (l : QueuedPart) → Among l xs → (l.number == 0) ≡ false = λ l a. are l (inr a) in
     ⊎_elim
-    (λ (same : load_key x ≡ k).
+    (λ (same : queued_key x ≡ k).
     let q : PartRow = due_then s.moment p in
-    let there : row_at part_key k (parts_in (load_due x s)) ≡ Some q =
-    subst (λ (n : ℕ). row_at part_key n (parts_in (load_due x s)) ≡ Some q) same (part_becomes x s p is (subst (λ (n : ℕ). row_at part_key n (parts_in s) ≡ Some p) (sym same) e)) in
-    let already : due_then (load_due x s).moment q ≡ q = ap (λ (n : ℕ). due_then n q) now in
-    all_become xs k q (load_due x s) others there (inl already) ∙ ap (λ (y : PartRow). Some y) already)
-    (λ (other : load_key x ≡ k → ⊥).
-    let there : row_at part_key k (parts_in (load_due x s)) ≡ Some p = part_stays k x s is other ∙ e in
-    let will_be : WillBeDue k p xs (load_due x s).moment = subst (λ (n : ℕ). WillBeDue k p xs n) (sym now) (still_will x xs k p s.moment other will) in
-    all_become xs k p (load_due x s) others there will_be ∙ ap (λ (n : ℕ). Some (due_then n p)) now)
-    (cases_eq (load_key x) k)
+    let there : row_at part_key k (parts_in (queued_due x s)) ≡ Some q =
+    subst (λ (n : ℕ). row_at part_key n (parts_in (queued_due x s)) ≡ Some q) same (part_becomes x s p is (subst (λ (n : ℕ). row_at part_key n (parts_in s) ≡ Some p) (sym same) e)) in
+    let already : due_then (queued_due x s).moment q ≡ q = ap (λ (n : ℕ). due_then n q) now in
+    all_become xs k q (queued_due x s) others there (inl already) ∙ ap (λ (y : PartRow). Some y) already)
+    (λ (other : queued_key x ≡ k → ⊥).
+    let there : row_at part_key k (parts_in (queued_due x s)) ≡ Some p = part_stays k x s is other ∙ e in
+    let will_be : WillBeDue k p xs (queued_due x s).moment = subst (λ (n : ℕ). WillBeDue k p xs n) (sym now) (still_will x xs k p s.moment other will) in
+    all_become xs k p (queued_due x s) others there will_be ∙ ap (λ (n : ℕ). Some (due_then n p)) now)
+    (cases_eq (queued_key x) k)
 
-all_stay : (ls : List QueuedPart) (k : ℕ) (s : Store) → ((l : QueuedPart) → Among l ls → ((l.number == 0) ≡ false) × (¬ (load_key l ≡ k)))
+all_stay : (ls : List QueuedPart) (k : ℕ) (s : Store) → ((l : QueuedPart) → Among l ls → ((l.number == 0) ≡ false) × (¬ (queued_key l ≡ k)))
     → row_at part_key k (parts_in (all_due ls s)) ≡ row_at part_key k (parts_in s)
 all_stay [] k s are = refl
 all_stay (x ∷ xs) k s are =
-    let is = are x (inl refl) in all_stay xs k (load_due x s) (λ l a. are l (inr a)) ∙ part_stays k x s is.0 is.1
+    let is = are x (inl refl) in all_stay xs k (queued_due x s) (λ l a. are l (inr a)) ∙ part_stays k x s is.0 is.1
 
 -- messages and reports stay
 messages_stay : (ls : List QueuedPart) (s : Store) → messages_in (all_due ls s) ≡ messages_in s
 messages_stay [] s = refl
-messages_stay (x ∷ xs) s = messages_stay xs (load_due x s) ∙ cond_both (x.number == 0) (report_due (report_of x.id (reports_in s)) s) (part_due (part_at x.id x.number (parts_in s)) s) (λ (e : Store). messages_in e ≡ messages_in s)
+messages_stay (x ∷ xs) s = messages_stay xs (queued_due x s) ∙ cond_both (x.number == 0) (report_due (report_of x.id (reports_in s)) s) (part_due (part_at x.id x.number (parts_in s)) s) (λ (e : Store). messages_in e ≡ messages_in s)
     (λ t. report (report_of x.id (reports_in s))) (λ t. part (part_at x.id x.number (parts_in s)))
   where
     report : (o : Option ReportRow) → messages_in (report_due o s) ≡ messages_in s
@@ -182,7 +182,7 @@ part_reports (Some p) s = refl
 reports_stay : (ls : List QueuedPart) (s : Store) → ((l : QueuedPart) → Among l ls → (l.number == 0) ≡ false) → reports_in (all_due ls s) ≡ reports_in s
 reports_stay [] s are = refl
 reports_stay (x ∷ xs) s are =
-    reports_stay xs (load_due x s) (λ l a. are l (inr a)) ∙ ap (λ (e : Store). reports_in e) (part_load x s (are x (inl refl))) ∙ part_reports (part_at x.id x.number (parts_in s)) s
+    reports_stay xs (queued_due x s) (λ l a. are l (inr a)) ∙ ap (λ (e : Store). reports_in e) (part_queued x s (are x (inl refl))) ∙ part_reports (part_at x.id x.number (parts_in s)) s
 
 pub due_messages : (m : MessageRow) (s : Store) → messages_in (message_due m s) ≡ messages_in s
 due_messages m s = messages_stay (parts_among m.id (waiting_in m.handset s)) s
@@ -193,9 +193,9 @@ due_reports m s = reports_stay (parts_among m.id (waiting_in m.handset s)) s (λ
 pub due_parts : (m : MessageRow) (s : Store) (l : QueuedPart) (p : PartRow) → Among l (parts_among m.id (waiting_in m.handset s)) → part_at l.id l.number (parts_in s) ≡ Some p
     → part_at l.id l.number (parts_in (message_due m s)) ≡ Some (record p { progress = due_at s.moment p.progress })
 due_parts m s l p a e =
-    all_become (parts_among m.id (waiting_in m.handset s)) (load_key l) p s (λ x b. parts_are m.id x (waiting_in m.handset s) b) e (inr (l, (a, refl)))
+    all_become (parts_among m.id (waiting_in m.handset s)) (queued_key l) p s (λ x b. parts_are m.id x (waiting_in m.handset s) b) e (inr (l, (a, refl)))
 
-pub due_others : (m : MessageRow) (s : Store) (key : ℕ) → ((l : QueuedPart) → Among l (parts_among m.id (waiting_in m.handset s)) → ¬ (load_key l ≡ key))
+pub due_others : (m : MessageRow) (s : Store) (key : ℕ) → ((l : QueuedPart) → Among l (parts_among m.id (waiting_in m.handset s)) → ¬ (queued_key l ≡ key))
     → row_at part_key key (parts_in (message_due m s)) ≡ row_at part_key key (parts_in s)
 due_others m s key others =
     all_stay (parts_among m.id (waiting_in m.handset s)) key s (λ l a. (parts_are m.id l (waiting_in m.handset s) a, others l a))

@@ -39,7 +39,7 @@ use Rattle.sms_centre_spec.specs.Draft.{Core}
 use Rattle.sms_centre_spec.specs.Requests.{account_at}
 use Rattle.sms_centre_spec.specs.SoundCore.{HasNumber, IsEvent, IsSoundCore}
 use Rattle.sms_centre_spec.specs.Consistent.{IsBody, IsSubmission}
-use Rattle.sms_centre_spec.specs.Submitted.{AccountGives, Gives}
+use Rattle.sms_centre_spec.specs.Submitted.{AccountGives, EventGives}
 use Rattle.sms_centre_spec.proofs.SmppFits.{FitsText, content_fits, key_header, single_fits, whole_fits}
 use Rattle.sms_centre_spec.proofs.SoundLinks.{line_of_handset}
 use Rattle.sms_centre_spec.proofs.SubmitFits.{frame_fits, named_number}
@@ -178,7 +178,7 @@ has_number (LinkDown handset) is = is
 has_number (Ordered order id) is = tt
 has_number (Tick now) is = tt
 
-pub event_gives : (event : CentreEvent) (c : Core) → IsSoundCore c → IsEvent event → Gives event c
+pub event_gives : (event : CentreEvent) (c : Core) → IsSoundCore c → IsEvent event → EventGives event c
 event_gives (Submit account m) c s is = account_fits account c.rows.setup.accounts c.moment m (account_at account c.rows.setup.accounts) s.rows.setup.accounts refl
 event_gives (Query account q) c s is = tt
 event_gives (Cancel account q) c s is = tt

@@ -22,7 +22,7 @@ use Rattle.sms_centre_spec.specs.Orders.{ordered}
 use Rattle.sms_centre_spec.specs.Requests.{account_at, cancel, query, submit}
 use Rattle.sms_centre_spec.specs.Sessions.{bind, deliver_answered, unbind}
 use Rattle.sms_centre_spec.specs.SoundCore.{Brings, BringsKind, HasNumber, IsReceiptRow, IsSentFor, IsSoundCore, IsUnderWay}
-use Rattle.sms_centre_spec.specs.Submitted.{Gives}
+use Rattle.sms_centre_spec.specs.Submitted.{EventGives}
 use Rattle.sms_centre_spec.proofs.Keeping.{keeps_same}
 use Rattle.sms_centre_spec.proofs.KeepingSteady.{SoundSince, since_steady}
 use Rattle.sms_centre_spec.proofs.SoundAccepted.{sound_still}
@@ -101,7 +101,7 @@ sides_begin c s = (record { each = s.each_line; apart = s.apart; sent = λ f amo
 
 -- ---- every event
 
-pub event_after : (event : CentreEvent) (c : Core) → IsSoundCore c → HasNumber event → Gives event c → IsAfter c (happened event c)
+pub event_after : (event : CentreEvent) (c : Core) → IsSoundCore c → HasNumber event → EventGives event c → IsAfter c (happened event c)
 event_after (Submit account m) c s is g =
     followed c (submit account m (draft_of c)) (steady_event (SoundSince c.rows) (since_steady c.rows) (Submit account m) c (begins c s) s.now g)
     (submit_sides c.rows (account_at account c.rows.setup.accounts) m (draft_of c) (sides_begin c s))

@@ -17,28 +17,28 @@ use Rattle.sms_rows.proofs.table.Tables.{among_found, found_key}
 use Rattle.sms_centre_rows.specs.declared.messages.message.MessageRow.{MessageRow}
 use Rattle.sms_centre_rows.specs.declared.messages.part.PartRow.{PartRow}
 use Rattle.sms_centre_rows.specs.messages.Messages.{is_pending, message_at, part_at, part_key}
-use Rattle.sms_centre_rows.specs.messages.OpenParts.{part_load, part_wait, waits_for}
+use Rattle.sms_centre_rows.specs.messages.OpenParts.{part_queued, part_wait, waits_for}
 use Rattle.sms_centre_rows.specs.declared.reports.delivery.Delivery.{Delivery}
 use Rattle.sms_centre_rows.specs.declared.reports.report.ReportKind.{ReportKind}
 use Rattle.sms_centre_rows.specs.declared.reports.report.ReportKind.TheVariants.{Receipt, Status, Unsent}
 use Rattle.sms_centre_rows.specs.declared.reports.report.ReportRow.{ReportRow}
 use Rattle.sms_centre_rows.specs.reports.Receipts.{Bindings, Session, is_unanswered, receives_for, send as send_one, send_all, send_in, send_to, session_for, waits, window}
 use Rattle.sms_centre_rows.specs.reports.Reports.{is_open_receipt, is_open_status, is_receipt, is_status, report_of, status_reference}
-use Rattle.sms_centre_rows.specs.reports.Waiting.{report_load, report_wait, reports_to}
+use Rattle.sms_centre_rows.specs.reports.Waiting.{report_queued, report_wait, reports_to}
 use Rattle.sms_centre_rows.proofs.reports.AllWaiting.{part_waits_at, report_waits_at}
 use Rattle.sms_centre_rows.proofs.reports.FewWaiting.{all_few}
 use Rattle.sms_centre_rows.proofs.reports.Serving.{fewest_found}
 use Rattle.sms_centre_rows.specs.declared.waiting.handset.HandsetRow.{HandsetRow}
 use Rattle.sms_centre_rows.specs.declared.waiting.handset_link.HandsetLink.{HandsetLink}
 use Rattle.sms_centre_rows.specs.declared.waiting.queued_part.QueuedPart.{QueuedPart}
-use Rattle.sms_centre_rows.specs.waiting.Keys.{load_key}
+use Rattle.sms_centre_rows.specs.waiting.Keys.{queued_key}
 use Rattle.sms_centre_rows.specs.waiting.Links.{Links, is_ready, line_of, turned}
 use Rattle.sms_centre_rows.specs.waiting.SoundAllocations.{IsNumber}
 use Rattle.sms_centre_rows.specs.waiting.Waiting.{if_due, is_due, next, preceding, precedes, waits_beside}
 use Rattle.sms_centre_spec.specs.declared.rows.Rows.{Rows}
 use Rattle.sms_centre_spec.specs.Draft.{Draft, Store, handsets_in, messages_in, parts_in, priorities_in, reports_in, rows_of, waiting_in}
 use Rattle.sms_centre_spec.specs.CentreEvent.{follow}
-use Rattle.sms_centre_spec.specs.Offering.{holder_of, is_made, offer_all, offer_among, offer_load, offer_on, offer_to, read_of, unit_of}
+use Rattle.sms_centre_spec.specs.Offering.{holder_of, is_made, offer_all, offer_among, offer_queued, offer_on, offer_to, read_of, unit_of}
 use Rattle.sms_centre_spec.specs.SoundCore.{IsLine, IsReceiptRow, IsSentFor}
 use Rattle.sms_centre_spec.specs.Consistent.{IsConsistent}
 use Rattle.sms_centre_spec.proofs.SoundLinks.{AllBring, SoundLinks, SoundBindings, carrying_bring, line_sound, session_put, turn_sound}
@@ -68,17 +68,17 @@ part_sent h l (Some p) s e w = of (message_at p.id (messages_in s)) refl
   where
     id : p.id ≡ l.id
     id = let k = found_key part_key (pair_key l.id l.number) p (parts_in s) e in
-        cond_both (waits_for h p (message_at p.id (messages_in s))) (Some (part_load p (priorities_in s))) None (λ x. x ≡ Some l → p.id ≡ l.id)
-        (λ t f. let same : part_load p (priorities_in s) ≡ l = cc in ap (λ (y : QueuedPart). y.id) same) (λ t f. absurd cc) w
+        cond_both (waits_for h p (message_at p.id (messages_in s))) (Some (part_queued p (priorities_in s))) None (λ x. x ≡ Some l → p.id ≡ l.id)
+        (λ t f. let same : part_queued p (priorities_in s) ≡ l = cc in ap (λ (y : QueuedPart). y.id) same) (λ t f. absurd cc) w
 
     reference : p.reference ≡ l.reference
     reference =
-        cond_both (waits_for h p (message_at p.id (messages_in s))) (Some (part_load p (priorities_in s))) None (λ x. x ≡ Some l → p.reference ≡ l.reference)
-        (λ t f. let same : part_load p (priorities_in s) ≡ l = cc in ap (λ (y : QueuedPart). y.reference) same) (λ t f. absurd cc) w
+        cond_both (waits_for h p (message_at p.id (messages_in s))) (Some (part_queued p (priorities_in s))) None (λ x. x ≡ Some l → p.reference ≡ l.reference)
+        (λ t f. let same : part_queued p (priorities_in s) ≡ l = cc in ap (λ (y : QueuedPart). y.reference) same) (λ t f. absurd cc) w
 
     is_waiting : waits_for h p (message_at p.id (messages_in s)) ≡ true
     is_waiting =
-        cond_both (waits_for h p (message_at p.id (messages_in s))) (Some (part_load p (priorities_in s))) None (λ x. x ≡ Some l → waits_for h p (message_at p.id (messages_in s)) ≡ true)
+        cond_both (waits_for h p (message_at p.id (messages_in s))) (Some (part_queued p (priorities_in s))) None (λ x. x ≡ Some l → waits_for h p (message_at p.id (messages_in s)) ≡ true)
         (λ t f. t) (λ t f. absurd cc) w
 
     of : (m : Option MessageRow) → message_at p.id (messages_in s) ≡ m → IsSentFor h l.reference (Part l.id l.number) (rows_of s)
@@ -94,13 +94,13 @@ report_sent h l (Some r) s e w = of (message_at r.id (messages_in s)) refl
   where
     is_waiting : reports_to h r (message_at r.id (messages_in s)) ≡ true
     is_waiting =
-        cond_both (reports_to h r (message_at r.id (messages_in s))) (Some (report_load r)) None (λ x. x ≡ Some l → reports_to h r (message_at r.id (messages_in s)) ≡ true)
+        cond_both (reports_to h r (message_at r.id (messages_in s))) (Some (report_queued r)) None (λ x. x ≡ Some l → reports_to h r (message_at r.id (messages_in s)) ≡ true)
         (λ t f. t) (λ t f. absurd cc) w
 
-    same : report_load r ≡ l
+    same : report_queued r ≡ l
     same =
-        cond_both (reports_to h r (message_at r.id (messages_in s))) (Some (report_load r)) None (λ x. x ≡ Some l → report_load r ≡ l)
-        (λ t f. let q : report_load r ≡ l = cc in q) (λ t f. absurd cc) w
+        cond_both (reports_to h r (message_at r.id (messages_in s))) (Some (report_queued r)) None (λ x. x ≡ Some l → report_queued r ≡ l)
+        (λ t f. let q : report_queued r ≡ l = cc in q) (λ t f. absurd cc) w
 
     kind_is : (k : ReportKind) → is_status k ≡ true → (tpdu : List ℕ) × (k ≡ Status (status_reference k) tpdu)
     kind_is Receipt t = absurd cc
@@ -116,18 +116,18 @@ report_sent h l (Some r) s e w = of (message_at r.id (messages_in s)) refl
         let reference : status_reference r.kind ≡ l.reference = ap (λ (y : QueuedPart). y.reference) same in
         (r, (m, (kind.0, (e, kind.1 ∙ ap (λ (n : ℕ). Status n kind.0) reference, ap (λ (i : ℕ). message_at i (messages_in s)) (sym own) ∙ q, (bytes_eq-Decides m.source.digits h).0 both.1))))
 
-load_sent : (h : List ℕ) (l : QueuedPart) (s : Store) → IsConsistent s → Among l (waiting_in h s) → IsSentFor h l.reference (holder_of l) (rows_of s)
-load_sent h l s k among =
+queued_sent : (h : List ℕ) (l : QueuedPart) (s : Store) → IsConsistent s → Among l (waiting_in h s) → IsSentFor h l.reference (holder_of l) (rows_of s)
+queued_sent h l s k among =
     let ms = messages_in s in
     let qs = priorities_in s in
     let ps = parts_in s in
     let rs = reports_in s in
-    let there : row_at load_key (load_key l) (waiting_in h s) ≡ Some l = among_found load_key l (waiting_in h s) (k.held.waiting h).keys among in
+    let there : row_at queued_key (queued_key l) (waiting_in h s) ≡ Some l = among_found queued_key l (waiting_in h s) (k.held.waiting h).keys among in
     cond_both (l.number == 0) (Report l.id) (Part l.id l.number) (λ (o : Holder). IsSentFor h l.reference o (rows_of s))
     (λ t.
-    let key : load_key l ≡ pair_key l.id 0 = ap (λ (n : ℕ). pair_key l.id n) (eqb-true l.number 0 t) in
+    let key : queued_key l ≡ pair_key l.id 0 = ap (λ (n : ℕ). pair_key l.id n) (eqb-true l.number 0 t) in
     report_sent h l (report_of l.id rs) s refl
-    (sym (report_waits_at h ms qs ps rs l.id k.held.parts k.held.alone) ∙ ap (λ (n : ℕ). row_at load_key n (waiting_in h s)) (sym key) ∙ there))
+    (sym (report_waits_at h ms qs ps rs l.id k.held.parts k.held.alone) ∙ ap (λ (n : ℕ). row_at queued_key n (waiting_in h s)) (sym key) ∙ there))
     (λ t.
     let ne = eqb-false l.number 0 t in
     part_sent h l (part_at l.id l.number ps) s refl
@@ -152,18 +152,18 @@ offered_brings s line l unit sent =
 read_sound : (s : Store) (l : QueuedPart) (links : Links) → SoundLinks (rows_of s) links → SoundLinks (rows_of s) (read_of l s links)
 read_sound s l links k = cond_both (is_made l s) links _ (λ (a : Links). SoundLinks (rows_of s) a) (λ t. k) (λ t. record { each = k.each; apart = k.apart; sent = k.sent })
 
-load_offered : (s : Store) (line : HandsetLink) (o : Option QueuedPart) (links : Links) → IsConsistent s → SoundLinks (rows_of s) links → IsLine (rows_of s) line → next s.moment (waiting_in line.handset s) ≡ o
-    → SoundLinks (rows_of s) (offer_load line (waiting_in line.handset s) o s links)
-load_offered s line None links k a is e = a
-load_offered s line (Some l) links k a is e =
+queued_offered : (s : Store) (line : HandsetLink) (o : Option QueuedPart) (links : Links) → IsConsistent s → SoundLinks (rows_of s) links → IsLine (rows_of s) line → next s.moment (waiting_in line.handset s) ≡ o
+    → SoundLinks (rows_of s) (offer_queued line (waiting_in line.handset s) o s links)
+queued_offered s line None links k a is e = a
+queued_offered s line (Some l) links k a is e =
     let unit : List ℕ = unit_of l (waits_beside s.moment l (waiting_in line.handset s)) s in
-    let sent : IsSentFor line.handset l.reference (holder_of l) (rows_of s) = load_sent line.handset l s k (next_waits s.moment l (waiting_in line.handset s) e) in
+    let sent : IsSentFor line.handset l.reference (holder_of l) (rows_of s) = queued_sent line.handset l s k (next_waits s.moment l (waiting_in line.handset s) e) in
     turn_sound (rows_of s) line (begun s.moment l.reference (holder_of l) unit line.link) (read_of l s links) (read_sound s l links a) (offered_line s line l unit is sent) (offered_brings s line l unit sent)
 
 line_offered : (s : Store) (line : HandsetLink) (links : Links) → IsConsistent s → SoundLinks (rows_of s) links → IsLine (rows_of s) line → SoundLinks (rows_of s) (offer_on line s links)
 line_offered s line links k a is =
     cond_both (is_ready line) (offer_among line (waiting_in line.handset s) s links) links (λ (x : Links). SoundLinks (rows_of s) x)
-    (λ t. load_offered s line (next s.moment (waiting_in line.handset s)) links k a is refl) (λ t. a)
+    (λ t. queued_offered s line (next s.moment (waiting_in line.handset s)) links k a is refl) (λ t. a)
 
 all_offered : (s : Store) (hs : List HandsetRow) (links : Links) → IsConsistent s → ((h : HandsetRow) → Among h hs → IsNumber h.number) → SoundLinks (rows_of s) links → SoundLinks (rows_of s) (offer_all hs s links)
 all_offered s [] links k are a = a

@@ -15,7 +15,7 @@ use Rattle.sms_centre_rows.specs.declared.reports.report.ReportKind.TheVariants.
 use Rattle.sms_centre_rows.specs.declared.reports.report.ReportRow.{ReportRow}
 use Rattle.sms_centre_rows.specs.reports.Reports.{report_key, report_of, report_reaching}
 use Rattle.sms_centre_rows.specs.reports.SoundReports.{FitsOriginator, IsReport, SoundReports}
-use Rattle.sms_centre_rows.specs.reports.Waiting.{IsNew}
+use Rattle.sms_centre_rows.specs.reports.Waiting.{IsReportApart}
 use Rattle.sms_centre_rows.proofs.reports.AllWaiting.{report_found}
 use Rattle.sms_centre_rows.specs.declared.waiting.progress.Progress.{Progress}
 use Rattle.sms_centre_rows.specs.waiting.Revisions.{amended}
@@ -57,7 +57,7 @@ entered_reports ms rs m s new =
 
 -- ---- a report comes
 
-pub new_reports : (ms : List MessageRow) (rs : List ReportRow) (r : ReportRow) → SoundReports ms rs → IsNew rs r → IsReport ms r → SoundReports ms (put report_key r rs)
+pub new_reports : (ms : List MessageRow) (rs : List ReportRow) (r : ReportRow) → SoundReports ms rs → IsReportApart rs r → IsReport ms r → SoundReports ms (put report_key r rs)
 new_reports ms rs r s new is = record {
   keys = rises_put report_key r rs s.keys;
   each = λ x among. ⊎_elim

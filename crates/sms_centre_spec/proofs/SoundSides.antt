@@ -49,7 +49,8 @@ use Rattle.sms_intake.specs.SmppIntake.{from_pdu, source_in, is_empty}
 use Rattle.sms_centre_spec.specs.Shares.{unless_too_much}
 use Rattle.sms_centre_spec.specs.Submitting.{accept, is_reference_taken}
 use Rattle.sms_centre_spec.specs.Transfers.{conclude, line_ended, verdict_on}
-use Rattle.sms_centre_spec.specs.Receiving.{is_duplicate, memory_available, refuse, reference_octet, reply, submit_accepted, submit_received as submission_from, unit_received}
+use Rattle.sms_centre_spec.specs.Receiving.{is_duplicate, memory_available, refuse, reply, submit_accepted, submit_received as submission_from, unit_received}
+use Rattle.sms_relay.specs.Rejecting.{reference_octet}
 use Rattle.sms_centre_spec.specs.declared.order.Order.{Order}
 use Rattle.sms_centre_spec.specs.declared.order.Order.TheVariants.{Retry, Delete}
 use Rattle.sms_centre_spec.specs.Orders.{ordered, retried}

@@ -60,7 +60,7 @@ use Rattle.sms_centre_spec.specs.Shares.{takes_too_much, unless_too_much}
 use Rattle.sms_centre_spec.specs.Submitting.{accept, accept_as, accept_split, accept_under, enter, give_part, give_parts, is_reference_taken, part_given, reference_for}
 use Rattle.sms_centre_spec.specs.Ends.{end, is_wished, report, report_to, status_given}
 use Rattle.sms_centre_spec.specs.Transfers.{complete, conclude, holder_ended, part_ended, part_ended_at, part_ended_of, report_closed, report_ended, report_ended_at, verdict_on}
-use Rattle.sms_centre_spec.specs.Receiving.{all_due, due_now, is_duplicate, load_due, part_due, refuse, report_due, submit_accepted, submit_received as submission_from, unit_received}
+use Rattle.sms_centre_spec.specs.Receiving.{all_due, due_now, is_duplicate, queued_due, part_due, refuse, report_due, submit_accepted, submit_received as submission_from, unit_received}
 use Rattle.sms_centre_spec.specs.Requests.{account_at, accepted, cancel_by, cancelled, message_numbered, own_message, queried, query_by, submission_received, submit_by, to_cancel}
 use Rattle.sms_centre_spec.specs.declared.order.Order.{Order}
 use Rattle.sms_centre_spec.specs.declared.order.Order.TheVariants.{Retry, Delete}
@@ -160,14 +160,14 @@ module _ (P : Store → Type 0) (c : Closed P) where
   report_due_keeps None s k = k
   report_due_keeps (Some r) s k = c.report_progress r _ s k
 
-  load_due_keeps : (l : QueuedPart) (s : Store) → P s → P (load_due l s)
-  load_due_keeps l s k =
+  queued_due_keeps : (l : QueuedPart) (s : Store) → P s → P (queued_due l s)
+  queued_due_keeps l s k =
       cond_both (l.number == 0) (report_due (report_of l.id (reports_in s)) s) (part_due (part_at l.id l.number (parts_in s)) s) P
       (λ t. report_due_keeps (report_of l.id (reports_in s)) s k) (λ t. part_due_keeps (part_at l.id l.number (parts_in s)) s k)
 
   all_due_keeps : (ls : List QueuedPart) (s : Store) → P s → P (all_due ls s)
   all_due_keeps [] s k = k
-  all_due_keeps (l ∷ ls) s k = all_due_keeps ls (load_due l s) (load_due_keeps l s k)
+  all_due_keeps (l ∷ ls) s k = all_due_keeps ls (queued_due l s) (queued_due_keeps l s k)
 
   pub due_now_keeps : (handset : List ℕ) (s : Store) → P s → P (due_now handset s)
   due_now_keeps handset s k = all_due_keeps (waiting_in handset s) s k

@@ -16,7 +16,7 @@ use Rattle.sms_centre_rows.specs.declared.reports.report.ReportKind.{ReportKind}
 use Rattle.sms_centre_rows.specs.declared.reports.report.ReportKind.TheVariants.{Receipt, Status, Unsent}
 use Rattle.sms_centre_rows.specs.declared.reports.report.ReportRow.{ReportRow}
 use Rattle.sms_centre_rows.specs.reports.Reports.{is_status, next_place, report_key, report_of, report_reaching}
-use Rattle.sms_centre_rows.specs.reports.Waiting.{IsNew}
+use Rattle.sms_centre_rows.specs.reports.Waiting.{IsReportApart}
 use Rattle.sms_centre_rows.specs.declared.waiting.progress.Progress.{Progress}
 use Rattle.sms_centre_rows.specs.waiting.References.{handset_of}
 use Rattle.sms_centre_rows.specs.waiting.SoundAllocations.{IsNumber}
@@ -42,7 +42,7 @@ pub record CanReport (f : FinalState) (n : ℕ) (m : MessageRow) (s : Store) : T
   pub there : message_at m.id (messages_in s) ≡ Some (ended f n m)
   pub none : (r : ReportRow) → Among r (reports_in s) → ¬ (r.id ≡ m.id)
 
-pub next_is_new : (r : ReportRow) (rs : List ReportRow) → Rises report_key rs → ((x : ReportRow) → Among x rs → ¬ (x.id ≡ r.id)) → r.place ≡ next_place rs → IsNew rs r
+pub next_is_new : (r : ReportRow) (rs : List ReportRow) → Rises report_key rs → ((x : ReportRow) → Among x rs → ¬ (x.id ≡ r.id)) → r.place ≡ next_place rs → IsReportApart rs r
 next_is_new r rs keys none next = record {
   place = λ x among e. let low = below_next_place 1 x rs keys among in omega (arith, low, e, next);
   message = none;
@@ -66,7 +66,7 @@ quiet_consistent f n m kind closed s k quiet =
       made = s.moment;
       progress = record { is_done = closed; attempts = 0; due = s.moment };
     } in
-    let new : IsNew (reports_in s) r = next_is_new r (reports_in s) k.consistent.held.report_keys k.none refl in
+    let new : IsReportApart (reports_in s) r = next_is_new r (reports_in s) k.consistent.held.report_keys k.none refl in
     record {
       held = report_made_held s r k.consistent.held new (ap (λ (b : Bool). b && not closed) quiet);
       message_keys = k.consistent.message_keys;
@@ -86,7 +86,7 @@ status_consistent f n m (Some reference) s k told next =
       made = s.moment;
       progress = record { is_done = false; attempts = 0; due = s.moment };
     } in
-    let new : IsNew (reports_in s) r = next_is_new r (reports_in s) k.consistent.held.report_keys k.none refl in
+    let new : IsReportApart (reports_in s) r = next_is_new r (reports_in s) k.consistent.held.report_keys k.none refl in
     record {
       held = status_given_held s (ended f n m) r k.consistent.held new k.there told refl next;
       message_keys = k.consistent.message_keys;

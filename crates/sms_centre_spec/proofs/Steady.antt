@@ -35,7 +35,7 @@ use Rattle.sms_centre_spec.specs.declared.verdict.Verdict.TheVariants.{Settled, 
 use Rattle.sms_centre_spec.specs.Draft.{Store, messages_in, parts_in, reports_in, waiting_in, with_part_at, with_report_at}
 use Rattle.sms_centre_spec.specs.Ends.{end}
 use Rattle.sms_centre_spec.specs.Numbers.{id_in}
-use Rattle.sms_centre_spec.specs.Receiving.{all_due, due_now, load_due, part_due, report_due}
+use Rattle.sms_centre_spec.specs.Receiving.{all_due, due_now, queued_due, part_due, report_due}
 use Rattle.sms_centre_spec.specs.Requests.{is_from, is_to, message_numbered, only_to, own_message, to_cancel}
 use Rattle.sms_centre_spec.specs.Consistent.{IsSubmission, IsConsistent}
 use Rattle.sms_centre_spec.specs.Submitting.{accept}
@@ -180,14 +180,14 @@ module _ (P : Store → Type 0) (c : IsStill P) where
   report_due_steady id None s k there = k
   report_due_steady id (Some r) s k there = c.report_far r (due_at s.moment r.progress) s k (report_own id r s there) (λ e. e)
 
-  load_due_steady : (l : QueuedPart) (s : Store) → P s → P (load_due l s)
-  load_due_steady l s k =
+  queued_due_steady : (l : QueuedPart) (s : Store) → P s → P (queued_due l s)
+  queued_due_steady l s k =
       cond_both (l.number == 0) (report_due (report_of l.id (reports_in s)) s) (part_due (part_at l.id l.number (parts_in s)) s) P
       (λ t. report_due_steady l.id (report_of l.id (reports_in s)) s k refl) (λ t. part_due_steady (pair_key l.id l.number) (part_at l.id l.number (parts_in s)) s k refl)
 
   pub all_due_steady : (ls : List QueuedPart) (s : Store) → P s → P (all_due ls s)
   all_due_steady [] s k = k
-  all_due_steady (l ∷ ls) s k = all_due_steady ls (load_due l s) (load_due_steady l s k)
+  all_due_steady (l ∷ ls) s k = all_due_steady ls (queued_due l s) (queued_due_steady l s k)
 
   pub due_now_steady : (handset : List ℕ) (s : Store) → P s → P (due_now handset s)
   due_now_steady handset s k = all_due_steady (waiting_in handset s) s k

@@ -53,7 +53,7 @@ use Rattle.sms_centre_spec.specs.CentreEvent.{tag_of, aged, at_moment, expired, 
 use Rattle.sms_centre_spec.specs.Draft.{Core, Draft, Store, draft_of, handsets_in, messages_in, on_links, rows_of, waiting_in}
 use Rattle.sms_centre_spec.specs.MessageNumbers.{next_number}
 use Rattle.sms_centre_spec.specs.Consistent.{IsSubmission}
-use Rattle.sms_centre_spec.specs.Submitted.{AccountGives, Gives, UnitGives, UpGives}
+use Rattle.sms_centre_spec.specs.Submitted.{AccountGives, EventGives, UnitGives, UpGives}
 use Rattle.sms_centre_spec.proofs.Stages.{IfThere, unless_kept}
 use Rattle.sms_centre_spec.proofs.Steady.{IsSteady, IsStill, all_due_steady, concluded_steady, due_now_steady, message_own, still_of, to_cancel_there}
 use Rattle.sms_centre_spec.proofs.SteadyTimes.{all_tried_steady, answered_steady, dropped_steady, due_for_steady, expired_steady}
@@ -233,7 +233,7 @@ module _ (P : Store → Type 0) (c : IsStill P) where
 
     -- ---- every event
 
-    pub event_leads : (event : CentreEvent) (core : Core) → P (draft_of core).store → IsMoment core.moment → Gives event core → Q (happened event core).store
+    pub event_leads : (event : CentreEvent) (core : Core) → P (draft_of core).store → IsMoment core.moment → EventGives event core → Q (happened event core).store
     event_leads (Submit account m) core k now g = submit_by_steady (account_at account core.rows.setup.accounts) m (draft_of core) k g
     event_leads (Query account q) core k now g = also (happened (Query account q) core).store (query_by_steady (account_at account core.rows.setup.accounts) q (draft_of core) k)
     event_leads (Cancel account q) core k now g = also (happened (Cancel account q) core).store (cancel_by_steady (account_at account core.rows.setup.accounts) q (draft_of core) k)
@@ -246,5 +246,5 @@ module _ (P : Store → Type 0) (c : IsStill P) where
     event_leads (Ordered order id) core k now g = also (happened (Ordered order id) core).store (ordered_steady order id (draft_of core) k)
     event_leads (Tick now) core k was g = also (happened (Tick now) core).store (ticked_steady now (draft_of core) k was g)
 
-pub steady_event : (P : Store → Type 0) → IsSteady P → (event : CentreEvent) (core : Core) → P (draft_of core).store → IsMoment core.moment → Gives event core → P (happened event core).store
+pub steady_event : (P : Store → Type 0) → IsSteady P → (event : CentreEvent) (core : Core) → P (draft_of core).store → IsMoment core.moment → EventGives event core → P (happened event core).store
 steady_event P c = event_leads P (still_of P c) P c.accepted (λ s k. k)

@@ -11,7 +11,8 @@ use Rattle.sms_centre_spec.specs.declared.setup.Setup.{Setup}
 use Rattle.sms_centre_rows.specs.declared.messages.message.MessageRow.{MessageRow}
 use Rattle.sms_centre_rows.specs.declared.messages.part.PartRow.{PartRow}
 use Rattle.sms_centre_rows.specs.declared.messages.priority.PriorityRow.{PriorityRow}
-use Rattle.sms_centre_rows.specs.messages.Messages.{Messages, messages_of, parts_of, priorities_of, put_message, put_part, amend_part, put_priority, message_key, part_key, priority_key, part_reaching}
+use Rattle.sms_centre_rows.specs.messages.Messages.{Messages, messages_of, parts_of, priorities_of, put_message, put_part, amend_part, put_priority}
+use Rattle.sms_centre_rows.specs.messages.Messages.{message_key, part_key, priority_key, part_reaching}
 use Rattle.sms_centre_rows.specs.declared.reports.report.ReportRow.{ReportRow}
 use Rattle.sms_centre_rows.specs.reports.Receipts.{Bindings, Session}
 use Rattle.sms_centre_rows.specs.reports.Reports.{reports_of, amend_report, report_key, report_reaching}

@@ -15,7 +15,7 @@ use Rattle.sms_centre_rows.specs.declared.waiting.handset_link.HandsetLink.{Hand
 use Rattle.sms_centre_rows.specs.declared.waiting.queued_part.QueuedPart.{QueuedPart}
 use Rattle.sms_centre_rows.specs.declared.waiting.revision.Revision.{Revision}
 use Rattle.sms_centre_rows.specs.declared.waiting.revision.Revision.TheVariants.{Put, Amend, Remove}
-use Rattle.sms_centre_rows.specs.waiting.Keys.{load_key}
+use Rattle.sms_centre_rows.specs.waiting.Keys.{queued_key}
 use Rattle.sms_centre_rows.specs.waiting.Links.{Links, is_ready, line_of, read_for, turn_line}
 use Rattle.sms_centre_rows.specs.waiting.Waiting.{next, waits_beside}
 use Rattle.sms_centre_spec.specs.Draft.{Draft, Store, handsets_in, on_links, parts_in, reports_in, waiting_in}
@@ -48,10 +48,10 @@ puts_report id (Amend n progress ∷ news) = puts_report id news
 puts_report id (Remove n ∷ news) = puts_report id news
 
 abbrev pub is_made : QueuedPart → Store → Bool
-is_made l s = if l.number == 0 then puts_report l.id s.reports.news else puts_part (load_key l) s.messages.parts.news
+is_made l s = if l.number == 0 then puts_report l.id s.reports.news else puts_part (queued_key l) s.messages.parts.news
 
 abbrev pub read_of : QueuedPart → Store → Links → Links
-read_of l s links = if is_made l s then links else read_for (load_key l) links
+read_of l s links = if is_made l s then links else read_for (queued_key l) links
 
 -- ---- offering it
 
@@ -62,13 +62,13 @@ holder_of l = if l.number == 0 then Report l.id else Part l.id l.number
 abbrev pub unit_of : QueuedPart → Bool → Store → List ℕ
 unit_of l more s = data_down l.reference (relay_address s.setup.centre) (with_more_messages more (tpdu_of l s))
 
-abbrev pub offer_load : HandsetLink → List QueuedPart → Option QueuedPart → Store → Links → Links
-offer_load line waiting None s links = links
-offer_load line waiting (Some l) s links =
+abbrev pub offer_queued : HandsetLink → List QueuedPart → Option QueuedPart → Store → Links → Links
+offer_queued line waiting None s links = links
+offer_queued line waiting (Some l) s links =
     turn_line line (begun s.moment l.reference (holder_of l) (unit_of l (waits_beside s.moment l waiting) s) line.link) (read_of l s links)
 
 abbrev pub offer_among : HandsetLink → List QueuedPart → Store → Links → Links
-offer_among line waiting s links = offer_load line waiting (next s.moment waiting) s links
+offer_among line waiting s links = offer_queued line waiting (next s.moment waiting) s links
 
 abbrev pub offer_on : HandsetLink → Store → Links → Links
 offer_on line s links = if is_ready line then offer_among line (waiting_in line.handset s) s links else links

@@ -6,9 +6,8 @@ use Rattle.sms_base.specs.declared.carried.Kind.TheVariants.{Ack, Error}
 use Rattle.sms_base.specs.declared.holder.Holder.{Holder}
 use Rattle.sms_link.specs.LinkTurn.{replied}
 use Rattle.sms_relay.specs.declared.cause.RpCause.{RpCause}
-use Rattle.sms_relay.specs.declared.cause.RpCause.TheVariants.{InvalidMandatoryInformation, MessageTypeNonExistent}
 use Rattle.sms_relay.specs.declared.fault.RelayFault.{RelayFault}
-use Rattle.sms_relay.specs.declared.fault.RelayFault.TheVariants.{Truncated, Trailing, Unknown, BadLength}
+use Rattle.sms_relay.specs.Rejecting.{fault_cause, reference_octet}
 use Rattle.sms_relay.specs.declared.frame.Rp.{Rp}
 use Rattle.sms_relay.specs.declared.frame.Rp.TheVariants.{DataUnit, AckUnit, ErrorUnit, Smma}
 use Rattle.sms_relay.specs.RelayGrammar.{ack_down, error_down}
@@ -45,12 +44,12 @@ report_due None s = s
 report_due (Some r) s = with_report_at r (due_at s.moment r.progress) s
 
 -- number 0 is a status report
-abbrev pub load_due : QueuedPart → Store → Store
-load_due l s = if l.number == 0 then report_due (report_of l.id (reports_in s)) s else part_due (part_at l.id l.number (parts_in s)) s
+abbrev pub queued_due : QueuedPart → Store → Store
+queued_due l s = if l.number == 0 then report_due (report_of l.id (reports_in s)) s else part_due (part_at l.id l.number (parts_in s)) s
 
 abbrev pub all_due : List QueuedPart → Store → Store
 all_due [] s = s
-all_due (l ∷ ls) s = all_due ls (load_due l s)
+all_due (l ∷ ls) s = all_due ls (queued_due l s)
 
 abbrev pub due_now : List ℕ → Store → Store
 due_now handset s = all_due (waiting_in handset s) s
@@ -122,17 +121,7 @@ memory_available handset reference tag d = has_memory handset (reply handset Ack
 
 -- ---- a unit that can't be read: the cause is another for a type that does not exist
 
-abbrev pub fault_cause : RelayFault → RpCause
-fault_cause Truncated = InvalidMandatoryInformation
-fault_cause Trailing = InvalidMandatoryInformation
-fault_cause Unknown = MessageTypeNonExistent
-fault_cause BadLength = InvalidMandatoryInformation
-
--- the octet of the reference, or 0
-abbrev pub reference_octet : List ℕ → ℕ
-reference_octet [] = 0
-reference_octet (kind ∷ []) = 0
-reference_octet (kind ∷ reference ∷ rest) = reference
+-- ---- a unit that cannot be read
 
 abbrev pub reject : List ℕ → ℕ → Holder → RpCause → Draft → Draft
 reject handset reference tag cause d = reply handset Error reference tag (error_down reference cause None) d

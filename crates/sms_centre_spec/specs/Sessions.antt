@@ -2,7 +2,8 @@
 use Rattle.std.specs.Prelude.{ℕ, List, [], Bool, if◌then◌else◌, Option, Some, None}
 use Rattle.sms_rows.specs.table.Table.{row_at}
 use Rattle.sms_centre_rows.specs.messages.SplitReferences.{is_among}
-use Rattle.sms_centre_rows.specs.reports.Receipts.{Session, all_tried, answered_in, put_session, receipt_ended, receipts_due, remove_session, send_all, session_key}
+use Rattle.sms_centre_rows.specs.reports.Receipts.{Session, all_tried, answered_in, put_session, receipt_ended, receipts_due, remove_session, send_all}
+use Rattle.sms_centre_rows.specs.reports.Receipts.{session_key}
 use Rattle.sms_centre_rows.specs.reports.Reports.{report_of}
 use Rattle.sms_intake.specs.declared.submission.CentreAccount.{CentreAccount}
 use Rattle.sms_centre_spec.specs.Draft.{Draft, Store, messages_in, reports_in, with_reports}

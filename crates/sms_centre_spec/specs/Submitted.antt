@@ -15,7 +15,8 @@ use Rattle.sms_centre_rows.specs.declared.waiting.handset_link.HandsetLink.{Hand
 use Rattle.sms_centre_rows.specs.waiting.Links.{line_of}
 use Rattle.sms_intake.specs.HandsetIntake.{from_read}
 use Rattle.sms_centre_spec.specs.declared.event.CentreEvent.{CentreEvent}
-use Rattle.sms_centre_spec.specs.declared.event.CentreEvent.TheVariants.{Submit, Query, Cancel, Bound, Unbound, DeliverAnswered, Frame, LinkUp, LinkDown, Ordered, Tick}
+use Rattle.sms_centre_spec.specs.declared.event.CentreEvent.TheVariants.{Submit, Query, Cancel, Bound, Unbound, DeliverAnswered, Frame, LinkUp, LinkDown}
+use Rattle.sms_centre_spec.specs.declared.event.CentreEvent.TheVariants.{Ordered, Tick}
 use Rattle.sms_intake.specs.declared.submission.CentreAccount.{CentreAccount}
 use Rattle.sms_intake.specs.declared.submission.Submission.{Submission}
 use Rattle.sms_centre_spec.specs.Draft.{Core}
@@ -25,7 +26,8 @@ use Rattle.sms_centre_spec.specs.Consistent.{IsSubmission}
 
 -- what a unit submits to a centre with these accounts
 abbrev pub UnitGives : List CentreAccount → List ℕ → ℕ → Result Rp RelayFault → Type 0
-UnitGives accounts handset moment (Ok (DataUnit reference centre tpdu)) = (u : Submission) → from_read accounts handset moment (tpdu_up_at InData tpdu) ≡ Ok u → IsSubmission u
+UnitGives accounts handset moment (Ok (DataUnit reference centre tpdu)) =
+    (u : Submission) → from_read accounts handset moment (tpdu_up_at InData tpdu) ≡ Ok u → IsSubmission u
 UnitGives accounts handset moment (Ok (AckUnit reference tpdu)) = Unit {0}
 UnitGives accounts handset moment (Ok (ErrorUnit reference cause tpdu)) = Unit {0}
 UnitGives accounts handset moment (Ok (Smma reference)) = Unit {0}
@@ -43,15 +45,16 @@ AccountGives None moment m = Unit {0}
 AccountGives (Some account) moment m = (u : Submission) → from_pdu account moment m ≡ Ok u → IsSubmission u
 
 -- and of an event; a tick has a moment
-abbrev pub Gives : CentreEvent → Core → Type 0
-Gives (Submit account m) c = AccountGives (account_at account c.rows.setup.accounts) c.moment m
-Gives (Query account q) c = Unit {0}
-Gives (Cancel account q) c = Unit {0}
-Gives (Bound session account receives) c = Unit {0}
-Gives (Unbound session) c = Unit {0}
-Gives (DeliverAnswered session id b) c = Unit {0}
-Gives (Frame handset octets tag) c = let l : HandsetLink = line_of handset c.lines in UpGives c.rows.setup.accounts l.handset c.moment (taken octets l.link).out.up
-Gives (LinkUp handset) c = Unit {0}
-Gives (LinkDown handset) c = Unit {0}
-Gives (Ordered order id) c = Unit {0}
-Gives (Tick now) c = IsMoment now
+abbrev pub EventGives : CentreEvent → Core → Type 0
+EventGives (Submit account m) c = AccountGives (account_at account c.rows.setup.accounts) c.moment m
+EventGives (Query account q) c = Unit {0}
+EventGives (Cancel account q) c = Unit {0}
+EventGives (Bound session account receives) c = Unit {0}
+EventGives (Unbound session) c = Unit {0}
+EventGives (DeliverAnswered session id b) c = Unit {0}
+EventGives (Frame handset octets tag) c =
+    let l : HandsetLink = line_of handset c.lines in UpGives c.rows.setup.accounts l.handset c.moment (taken octets l.link).out.up
+EventGives (LinkUp handset) c = Unit {0}
+EventGives (LinkDown handset) c = Unit {0}
+EventGives (Ordered order id) c = Unit {0}
+EventGives (Tick now) c = IsMoment now

@@ -10,7 +10,8 @@ use Rattle.sms_intake.specs.declared.submission.Submission.{Submission}
 use Rattle.sms_intake.specs.declared.submission.Text.{Text}
 use Rattle.sms_intake.specs.declared.submission.Text.TheVariants.{Whole, Single}
 use Rattle.sms_intake.specs.PartBodies.{bodies_under, deliver_octets, is_long}
-use Rattle.sms_centre_spec.specs.Draft.{Store, handsets_in, messages_in, parts_in, references_in, rows_of, waiting_in, with_given, with_message, with_part, with_priority}
+use Rattle.sms_centre_spec.specs.Draft.{Store, handsets_in, messages_in, parts_in, references_in, rows_of, waiting_in, with_given, with_message, with_part}
+use Rattle.sms_centre_spec.specs.Draft.{with_priority}
 use Rattle.sms_centre_spec.specs.MessageNumbers.{next_number}
 
 -- ---- its parts, each under the next reference

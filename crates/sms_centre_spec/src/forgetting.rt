@@ -69,10 +69,11 @@ pub fn bars_stand_for_what_went()
         ≡ is_taken_beside bars source handset own rows.messages }
 {}
 
-/// Those that are forgotten are messages that may go, of numbers from that one on, and no more than so many.
+/// What is forgotten are messages that may go, of numbers from that one on, and no more than so many.
 pub fn what_is_forgotten_may_go()
     ensures may { (before from most : ℕ) (rows : Rows) → IsSound rows → MayGo (is_going before from most rows) rows }
-    ensures submitted { (before from most : ℕ) (rows : Rows) (m : MessageRow) → IsSound rows → Among m rows.messages → is_going before from most rows m.id ≡ true
+    ensures submitted { (before from most : ℕ) (rows : Rows) (m : MessageRow) → IsSound rows → Among m rows.messages
+        → is_going before from most rows m.id ≡ true
         → m.submitted ≤ last_submitted 0 rows.messages }
     ensures bare { (before from most : ℕ) (rows : Rows) → IsSound rows → AreBare (is_going before from most rows) rows }
     ensures each { (before from most : ℕ) (rows : Rows) (m : MessageRow) → IsSound rows → Among m rows.messages → is_going before from most rows m.id ≡ true
@@ -127,7 +128,7 @@ pub fn a_centre_forgets_what_may_go()
     ensures few { (before from most : ℕ) (c : Core) → length (going_now before from most c) ≤ most }
 {}
 
-/// It commits what it takes out: of messages and of priorities one removal each, and nothing of handsets or references.
+/// Forgetting commits what it takes out: of messages and of priorities one removal each, and nothing of handsets or references.
 /// It sends nothing and answers nobody.
 pub fn what_is_forgotten_is_committed()
     ensures adopted { (before from most : ℕ) (c : Core) → adopted (outcome_of (forget before from most c)) c ≡ core_of (forget before from most c) }

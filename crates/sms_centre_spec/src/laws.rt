@@ -9,7 +9,7 @@ ghost use Rattle.sms_centre_rows.specs.declared.messages.part.PartRow.{PartRow};
 ghost use Rattle.sms_centre_rows.specs.declared.messages.priority.PriorityRow.{PriorityRow};
 ghost use Rattle.sms_centre_rows.specs.reports.Receipts.{Session, session_key};
 ghost use Rattle.sms_centre_rows.specs.reports.Reports.{is_open_status, put_report, report_of, status_reference};
-ghost use Rattle.sms_centre_rows.specs.reports.Waiting.{IsNew};
+ghost use Rattle.sms_centre_rows.specs.reports.Waiting.{IsReportApart};
 ghost use Rattle.sms_centre_rows.specs.declared.reports.delivery.Delivery.{Delivery};
 ghost use Rattle.sms_centre_rows.specs.declared.reports.report.ReportRow.{ReportRow};
 ghost use Rattle.sms_rows.specs.table.Table.{Rises, row_at};
@@ -18,7 +18,7 @@ ghost use Rattle.sms_centre_rows.specs.waiting.SoundAllocations.{IsNumber};
 ghost use Rattle.sms_centre_rows.specs.declared.waiting.handset_link.Sent.{Sent};
 ghost use Rattle.sms_centre_rows.specs.declared.waiting.progress.Progress.{Progress};
 ghost use Rattle.sms_centre_rows.specs.declared.waiting.queued_part.QueuedPart.{QueuedPart};
-ghost use Rattle.sms_centre_rows.specs.waiting.Keys.{load_key};
+ghost use Rattle.sms_centre_rows.specs.waiting.Keys.{queued_key};
 ghost use Rattle.sms_centre_rows.specs.waiting.Trying.{due_at};
 ghost use Rattle.smpp_pdu.specs.declared.cancel.CancelSm.{CancelSm};
 ghost use Rattle.smpp_pdu.specs.declared.message.Message.{Message};
@@ -36,7 +36,8 @@ ghost use Rattle.sms_centre_spec.specs.CentreEvent.{happened, recovered, started
 ghost use Rattle.sms_centre_spec.specs.Requests.{cancel, cancel_refusal, octets_refusal, query, query_refusal, refused, submit};
 ghost use Rattle.sms_centre_spec.specs.Ends.{end};
 ghost use Rattle.sms_centre_spec.specs.Orders.{message_due, parts_among};
-ghost use Rattle.sms_centre_spec.specs.Draft.{Core, Store, core_of, draft_of, handsets_in, messages_in, parts_in, reports_in, waiting_in, with_given, with_message, with_part, with_part_at, with_priority, with_report_at, with_reports};
+ghost use Rattle.sms_centre_spec.specs.Draft.{Core, Store, core_of, draft_of, handsets_in, messages_in, parts_in, reports_in, waiting_in, with_given};
+ghost use Rattle.sms_centre_spec.specs.Draft.{with_message, with_part, with_part_at, with_priority, with_report_at, with_reports};
 ghost use Rattle.sms_centre_spec.specs.Held.{SoundHeld};
 ghost use Rattle.sms_centre_spec.specs.Keeping.{Keeps};
 ghost use Rattle.sms_centre_spec.specs.MessageNumbers.{WasGiven, next_number};
@@ -121,7 +122,7 @@ pub fn a_retry_makes_its_message_due()
     ensures parts { (m : MessageRow) (s : Store) (l : QueuedPart) (p : PartRow) → Among l (parts_among m.id (waiting_in m.handset s))
         → part_at l.id l.number (parts_in s) ≡ Some p
         → part_at l.id l.number (parts_in (message_due m s)) ≡ Some (record p { progress = due_at s.moment p.progress }) }
-    ensures others { (m : MessageRow) (s : Store) (key : ℕ) → ((l : QueuedPart) → Among l (parts_among m.id (waiting_in m.handset s)) → ¬ (load_key l ≡ key))
+    ensures others { (m : MessageRow) (s : Store) (key : ℕ) → ((l : QueuedPart) → Among l (parts_among m.id (waiting_in m.handset s)) → ¬ (queued_key l ≡ key))
         → row_at part_key key (parts_in (message_due m s)) ≡ row_at part_key key (parts_in s) }
     ensures messages { (m : MessageRow) (s : Store) → messages_in (message_due m s) ≡ messages_in s }
     ensures reports { (m : MessageRow) (s : Store) → reports_in (message_due m s) ≡ reports_in s }
@@ -138,9 +139,10 @@ pub fn references_stay_apart()
         → p.progress.is_done ≡ false → 0 < p.number → p.number < 256
         → reference_for (handset_of m.handset (handsets_in s)) s ≡ Some p.reference → SoundHeld
         (with_part p (with_given (handset_of m.handset (handsets_in s)) p.reference s)) }
-    ensures report_made { (s : Store) (r : ReportRow) → SoundHeld s → IsNew (reports_in s) r → is_open_status r ≡ false
+    ensures report_made { (s : Store) (r : ReportRow) → SoundHeld s → IsReportApart (reports_in s) r → is_open_status r ≡ false
         → SoundHeld (with_reports (put_report r s.reports) s) }
-    ensures status_given { (s : Store) (m : MessageRow) (r : ReportRow) → SoundHeld s → IsNew (reports_in s) r → message_at r.id (messages_in s) ≡ Some m
+    ensures status_given { (s : Store) (m : MessageRow) (r : ReportRow) → SoundHeld s → IsReportApart (reports_in s) r
+        → message_at r.id (messages_in s) ≡ Some m
         → IsNumber m.source.digits → is_open_status r ≡ true
         → reference_for (handset_of m.source.digits (handsets_in s)) s ≡ Some (status_reference r.kind)
         → SoundHeld (with_reports (put_report r s.reports) (with_given (handset_of m.source.digits (handsets_in s)) (status_reference r.kind) s)) }

@@ -4,7 +4,8 @@ ghost use Rattle.sms_base.specs.Among.{Among};
 ghost use Rattle.sms_centre_rows.specs.declared.messages.message.MessageRow.{MessageRow};
 ghost use Rattle.sms_centre_spec.specs.declared.event.CentreEvent.{CentreEvent};
 ghost use Rattle.sms_centre_spec.specs.Draft.{Core};
-ghost use Rattle.sms_centre_spec.specs.MessageNumbers.{first_number as first_number_of, greatest_of, numbers_of_step, step_after_loss as step_after_loss_of, steps_to as steps_to_of};
+ghost use Rattle.sms_centre_spec.specs.MessageNumbers.{first_number as first_number_of, greatest_of, numbers_of_step, step_after_loss as step_after_loss_of};
+ghost use Rattle.sms_centre_spec.specs.MessageNumbers.{steps_to as steps_to_of};
 ghost use Rattle.sms_centre_spec.specs.RunNumbers.{after, numbers_given};
 ghost use Rattle.sms_centre_spec.specs.SoundCore.{IsEvent, IsSoundCore};
 

@@ -5,4 +5,4 @@
 
 mod copying;
 
-pub use copying::{copy_of_octets, copy_of_setup};
+pub use copying::{copy_of_kind_octets, copy_of_octets, copy_of_setup};

@@ -5,6 +5,6 @@
 pub enum Order {
     /// What waits of it is due now. It is answered with its state, as a query_sm is.
     Retry,
-    /// It is not delivered any more. It ends as deleted, and that is reported as any other end is.
+    /// The message is not delivered any more. It ends as deleted, and that is reported as any other end is.
     Delete,
 }

@@ -5,9 +5,9 @@ use sms_intake::CentreAccount;
 /// What a centre is given when it starts, and does not store.
 #[derive(Debug, Drop)]
 pub struct Setup {
-    /// Its own address.
+    /// The centre's own address.
     pub centre: Address,
-    /// Its first moment.
+    /// The centre's first moment.
     pub start: Moment,
     /// The first number that its messages may take: above all that earlier runs of its store gave. 1 in a new store.
     pub first: u64,

@@ -8,7 +8,8 @@ ghost use Rattle.sms_base.specs.declared.holder.Holder.TheVariants.{Part, Report
 ghost use Rattle.sms_rows.specs.table.Keys.{AllDigits};
 ghost use Rattle.sms_centre_rows.specs.declared.reports.report.ReportRow.{ReportRow as ReportRowOf};
 ghost use Rattle.sms_centre_spec.specs.Draft.{Draft, in_store, messages_in, on_links, parts_in, with_part_at};
-ghost use Rattle.sms_centre_spec.specs.Transfers.{complete as complete_of, conclude as conclude_of, ended_with as ended_with_of, line_ended as line_ended_of, part_ended as part_ended_of, verdict_on as verdict_on_ending};
+ghost use Rattle.sms_centre_spec.specs.Transfers.{complete as complete_of, conclude as conclude_of, ended_with as ended_with_of, line_ended as line_ended_of};
+ghost use Rattle.sms_centre_spec.specs.Transfers.{part_ended as part_ended_of, verdict_on as verdict_on_ending};
 ghost use Rattle.sms_centre_draft.specs.Transfers.{IsReporting, IsWaiting};
 ghost use Rattle.sms_centre_draft.specs.CentreDraft.{Represents};
 

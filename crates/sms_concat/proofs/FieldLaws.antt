@@ -18,7 +18,7 @@ use Rattle.sms_concat.specs.declared.content.Part.{Part}
 use Rattle.sms_concat.specs.declared.content.UserData.{UserData}
 use Rattle.sms_alphabet.specs.HeaderGrammar.{spelled, written, header_at}
 use Rattle.sms_alphabet.specs.Concatenation.{key_of, element_key, counted, IsKey, key_found, header_key}
-use Rattle.sms_concat.specs.UserData.{header_septets, fill_bits, data_length, key_element, header_of, is_there, IsBody, IsUserData, AreUnits, IsPart, header_size, octets_behind, septets_behind, units_behind, part_in, Answers, Tests, content_of}
+use Rattle.sms_concat.specs.UserData.{header_septets, fill_bits, data_length, key_element, header_of, is_there, IsBody, IsUserData, AreUnits, IsPart, header_size, octets_behind, septets_behind, units_behind, part_in, AnswersPartRead, Tests, content_of}
 use Rattle.sms_alphabet.proofs.Elements.{written_is_read}
 
 -- ---- faults
@@ -26,7 +26,7 @@ use Rattle.sms_alphabet.proofs.Elements.{written_is_read}
 pub fault_goes_on : {X Y : Type 0} (e : UnpackError) (r : Result X UnpackError) (f : X → Result Y UnpackError) → r ≡ Err e → (r >>= f) ≡ Err e
 fault_goes_on e r f p = ap (λ m. m >>= f) p
 
-pub answers_bind : {X Y : Type 0} (e : UnpackError) (r : Result X UnpackError) (f : X → Y) → Answers (Err e) r → Answers (Err e) (r >>= (λ x. Ok (f x)))
+pub answers_bind : {X Y : Type 0} (e : UnpackError) (r : Result X UnpackError) (f : X → Y) → AnswersPartRead (Err e) r → AnswersPartRead (Err e) (r >>= (λ x. Ok (f x)))
 answers_bind NoMemory r f p = (f p.0, ap (λ m. m >>= (λ x. Ok (f x))) p.1)
 answers_bind TooShort r f p = ap (λ m. m >>= (λ x. Ok (f x))) p
 answers_bind SpareBits r f p = ap (λ m. m >>= (λ x. Ok (f x))) p
@@ -55,19 +55,19 @@ at_size indicator dcs total octets r p = ap (λ (m : Result ℕ UnpackError). m 
 pub part_refused : (indicator : Bool) (dcs total : ℕ) (octets : List ℕ) (e : UnpackError) → Err e ≡ header_size indicator octets → part_in indicator dcs total octets ≡ Err e
 part_refused indicator dcs total octets e p = at_size indicator dcs total octets (Err e) p
 
-pub part_short : (indicator : Bool) (dcs total : ℕ) (octets : List ℕ) (e : UnpackError) → Err e ≡ header_size indicator octets → Answers (Err e) (part_in indicator dcs total octets)
+pub part_short : (indicator : Bool) (dcs total : ℕ) (octets : List ℕ) (e : UnpackError) → Err e ≡ header_size indicator octets → AnswersPartRead (Err e) (part_in indicator dcs total octets)
 part_short indicator dcs total octets e p =
     let short : TooShort ≡ e = sym (size_fault indicator octets e p) in
     let q : part_in indicator dcs total octets ≡ Err TooShort = part_refused indicator dcs total octets e p ∙ ap Err (sym short) in
-    subst (λ (f : UnpackError). Answers (Err f) (part_in indicator dcs total octets)) short q
+    subst (λ (f : UnpackError). AnswersPartRead (Err f) (part_in indicator dcs total octets)) short q
 
 units_at : (indicator : Bool) (dcs total : ℕ) (octets : List ℕ) (header : ℕ) (coding : Coding) → Ok header ≡ header_size indicator octets → coding ≡ coding_of dcs → part_in indicator dcs total octets ≡ (units_behind coding header total (drop header octets) >>= (λ units. Ok (part_with_units indicator dcs octets units)))
 units_at indicator dcs total octets header coding s cd =
     at_size indicator dcs total octets (Ok header) s ∙ ap (λ (k : Coding). units_behind k header total (drop header octets) >>= (λ units. Ok (part_with_units indicator dcs octets units))) (sym cd)
 
-pub part_faulty : (indicator : Bool) (dcs total : ℕ) (octets : List ℕ) (header : ℕ) (coding : Coding) (e : UnpackError) → Ok header ≡ header_size indicator octets → coding ≡ coding_of dcs → Answers (Err e) (units_behind coding header total (drop header octets)) → Answers (Err e) (part_in indicator dcs total octets)
+pub part_faulty : (indicator : Bool) (dcs total : ℕ) (octets : List ℕ) (header : ℕ) (coding : Coding) (e : UnpackError) → Ok header ≡ header_size indicator octets → coding ≡ coding_of dcs → AnswersPartRead (Err e) (units_behind coding header total (drop header octets)) → AnswersPartRead (Err e) (part_in indicator dcs total octets)
 part_faulty indicator dcs total octets header coding e s cd a =
-    subst (λ (w : Result Part UnpackError). Answers (Err e) w) (sym (units_at indicator dcs total octets header coding s cd)) (answers_bind e (units_behind coding header total (drop header octets)) (part_with_units indicator dcs octets) a)
+    subst (λ (w : Result Part UnpackError). AnswersPartRead (Err e) w) (sym (units_at indicator dcs total octets header coding s cd)) (answers_bind e (units_behind coding header total (drop header octets)) (part_with_units indicator dcs octets) a)
 
 pub part_tested : (indicator : Bool) (dcs total : ℕ) (octets : List ℕ) (header : ℕ) (coding : Coding) (t : Result (Unit {0}) UnpackError) → Ok header ≡ header_size indicator octets → coding ≡ coding_of dcs → Tests t (units_behind coding header total (drop header octets)) → Tests t (part_in indicator dcs total octets)
 part_tested indicator dcs total octets header coding t s cd a =

@@ -1,5 +1,6 @@
 -- 3GPP TS 23.040 9.2.3.16 and 9.2.3.24: what TP-UDL counts, and what TP-UD has.
-use Rattle.std.specs.Prelude.{◌≡◌, ℕ, ◌+◌, ◌-◌, ◌/◌, ◌%◌, ◌≤◌, List, [], ◌∷◌, ◌++◌, length, drop, Bool, true, false, Option, Some, None, Result, Ok, Err, nat_lt, if◌then◌else◌}
+use Rattle.std.specs.Prelude.{◌≡◌, ℕ, ◌+◌, ◌-◌, ◌/◌, ◌%◌, ◌≤◌, List, [], ◌∷◌, ◌++◌, length, drop, Bool, true, false, Option, Some, None, Result, Ok, Err}
+use Rattle.std.specs.Prelude.{nat_lt, if◌then◌else◌}
 use Rattle.sms_base.specs.Reading.{◌>>=◌}
 use Rattle.sms_alphabet.specs.Packing.{packed, IsPacking, AreSeptets, unpacked}
 use Rattle.sms_alphabet.specs.DataCodingScheme.{coding_of}
@@ -17,7 +18,8 @@ use Rattle.sms_concat.specs.declared.content.Part.{Part}
 use Rattle.sms_concat.specs.declared.content.UserData.{UserData}
 use Rattle.sms_alphabet.specs.HeaderGrammar.{written}
 use Rattle.sms_alphabet.specs.Concatenation.{IsKey, header_key}
-pub use Rattle.sms_concat.specs.UserDataWriting.{body_octets, content_of, data_length, header_of, header_size, is_there, key_element, nothing_behind, octets_behind, septets_behind, units_behind, user_data_behind}
+pub use Rattle.sms_concat.specs.UserDataWriting.{body_octets, content_of, data_length, header_of, header_size, is_there, key_element, nothing_behind}
+pub use Rattle.sms_concat.specs.UserDataWriting.{octets_behind, septets_behind, units_behind, user_data_behind}
 unfoldable pub use Rattle.sms_concat.specs.UserDataWriting.{part_in}
 
 -- ---- lengths
@@ -62,11 +64,11 @@ pub record IsPart (part : Part) : Type 0 where
 -- ---- what is read
 
 -- the answer is what it would be with memory, or there was none for what would be read
-abbrev pub Answers : {X : Type 0} → Result X UnpackError → Result X UnpackError → Type 0
-Answers {X} (Ok x) wanted = wanted ≡ Ok x
-Answers {X} (Err NoMemory) wanted = (x : X) × (wanted ≡ Ok x)
-Answers {X} (Err TooShort) wanted = wanted ≡ Err TooShort
-Answers {X} (Err SpareBits) wanted = wanted ≡ Err SpareBits
+abbrev pub AnswersPartRead : {X : Type 0} → Result X UnpackError → Result X UnpackError → Type 0
+AnswersPartRead {X} (Ok x) wanted = wanted ≡ Ok x
+AnswersPartRead {X} (Err NoMemory) wanted = (x : X) × (wanted ≡ Ok x)
+AnswersPartRead {X} (Err TooShort) wanted = wanted ≡ Err TooShort
+AnswersPartRead {X} (Err SpareBits) wanted = wanted ≡ Err SpareBits
 
 -- a test found that something is read, or the fault for which it is not
 abbrev pub Tests : {X : Type 0} → Result (Unit {0}) UnpackError → Result X UnpackError → Type 0

@@ -19,9 +19,9 @@ pub struct Content {
 /// What one short message carries of a content.
 #[derive(Debug, Drop)]
 pub struct Part {
-    /// Its own units, coded as the whole content is.
+    /// The part's own units, coded as the whole content is.
     pub content: Content,
-    /// Its place in a long message, if it has one.
+    /// The part's place in a long message, if it has one.
     pub key: Option<ConcatKey>,
 }
 

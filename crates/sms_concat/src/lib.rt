@@ -41,7 +41,7 @@ pub use counting::{count_latin_parts, count_parts, count_text_parts, latin_fits_
 pub use joining::{add_units, bear_all, bears, count_units, is_same_reference, join, key_or_alone};
 pub use lengths::{fits, fits_behind, header_length, units_fit_behind};
 pub use parts::Parts;
-pub use reading::{check_user_data, part_of};
+pub use reading::{check_user_data, header_key, part_of};
 pub use sms_alphabet::{
     ConcatKey, ConcatReference, Element, Header, HeaderError, concat_info, fill_bits,
     header_septets,

@@ -1,6 +1,6 @@
 //! The part that user data fields carry.
 ghost use Rattle.std.specs.Prelude.{◌≡◌, ◌≤◌, length, IfOk};
-ghost use Rattle.sms_concat.specs.UserData.{header_size, octets_behind, septets_behind, units_behind, part_in, Answers, Tests};
+ghost use Rattle.sms_concat.specs.UserData.{header_size, octets_behind, septets_behind, units_behind, part_in, AnswersPartRead, Tests};
 ghost use Rattle.sms_alphabet.specs.Concatenation.{header_key};
 
 use crate::content::{Content, Part, owned};
@@ -31,8 +31,8 @@ fn header_size(indicator: bool, octets: &[u8]) -> Result<usize, UnpackError>
     }
 }
 
-// The key of the header.
-fn header_key(indicator: bool, octets: &[u8]) -> Option<ConcatKey>
+/// The concatenation key of the header that user data begins with, if it has one.
+pub fn header_key(indicator: bool, octets: &[u8]) -> Option<ConcatKey>
     ensures { result ≡ header_key indicator octets.now }
 {
     if !indicator {
@@ -108,7 +108,7 @@ fn octets_behind(
     octets: &[u8],
 ) -> Result<Octets, UnpackError>
     requires { header ≤ 256 }
-    ensures { Answers result (octets_behind header length octets.now) }
+    ensures { AnswersPartRead result (octets_behind header length octets.now) }
 {
     test_octets(header, length, octets)?;
     Ok(owned(alloc, octets)?)
@@ -122,7 +122,7 @@ fn septets_behind(
     octets: &[u8],
 ) -> Result<Octets, UnpackError>
     requires { header ≤ 256 }
-    ensures { Answers result (septets_behind header length octets.now) }
+    ensures { AnswersPartRead result (septets_behind header length octets.now) }
 {
     test_septets(header, length, octets)?;
     let taken = header_septets(header);
@@ -142,7 +142,7 @@ fn units_behind(
     octets: &[u8],
 ) -> Result<Octets, UnpackError>
     requires { header ≤ 256 }
-    ensures { Answers result (units_behind coding header length octets.now) }
+    ensures { AnswersPartRead result (units_behind coding header length octets.now) }
 {
     match coding {
         Coding::Septets => septets_behind(alloc, header, length, octets),
@@ -161,7 +161,7 @@ pub fn part_of(
     length: u8,
     octets: &[u8],
 ) -> Result<Part, UnpackError>
-    ensures { Answers result (part_in header_indicator data_coding_scheme length octets.now) }
+    ensures { AnswersPartRead result (part_in header_indicator data_coding_scheme length octets.now) }
 {
     let size = header_size(header_indicator, octets)?;
     let coding = dcs(data_coding_scheme);

@@ -8,10 +8,10 @@ use thiserror::Error;
 /// Why a content has no parts.
 #[derive(Clone, Copy, Debug, PartialEq, Eq, Error)]
 pub enum SplitError {
-    /// It takes more than 20 parts.
+    /// The content takes more than 20 parts.
     #[error("the content takes more than 20 parts")]
     TooManyParts,
-    /// It is compressed and longer than 140 octets.
+    /// The content is compressed and longer than 140 octets.
     #[error("the content does not fit one part")]
     DoesNotFit,
     /// There was no memory for the parts.

@@ -1,7 +1,8 @@
 //! Parts counted without memory, from the sizes of the whole units.
 ghost use Rattle.std.specs.Prelude.{◌≡◌, ◌≤◌, length};
 ghost use Rattle.sms_base.specs.Alphabet.{code_for, septets_in};
-ghost use Rattle.sms_concat.specs.Counting.{either_outcome, outcome, tally_begun, text_begun, text_fits_behind, text_outcome, unit_tally_fits_behind, with_character, with_code, with_unit};
+ghost use Rattle.sms_concat.specs.Counting.{either_outcome, outcome, tally_begun, text_begun, text_fits_behind, text_outcome, unit_tally_fits_behind};
+ghost use Rattle.sms_concat.specs.Counting.{with_character, with_code, with_unit};
 
 use crate::lengths::taken;
 use crate::split_error::SplitError;
@@ -14,7 +15,7 @@ use sms_base::{Code, code_of};
 pub(crate) struct Tally {
     /// How much a piece has room for.
     room: usize,
-    /// One more than what one part without a header has room for still; 0 where it is passed.
+    /// What a part without a header has room for still, and one more; 0 where it is passed.
     alone: usize,
     /// How many of the 20 parts aren't filled yet.
     parts: u8,

@@ -2,7 +2,9 @@
 use Rattle.std.specs.Prelude.{◌≡◌, ℕ, ◌+◌, ◌*◌, ◌/◌, ◌%◌, ◌<◌, ◌≤◌, List, [], ◌∷◌, length, Option, Some, None, nat_lt, ◌==◌, ◌&&◌, if◌then◌else◌, unwrap_or}
 use Rattle.std.specs.List.{find}
 use Rattle.sms_control.specs.declared.cause.CpCause.{CpCause}
-use Rattle.sms_control.specs.declared.cause.CpCause.TheVariants.{NetworkFailure, Congestion, InvalidTransactionIdentifier, SemanticallyIncorrectMessage, InvalidMandatoryInformation, MessageTypeNonExistent, MessageNotCompatible, InformationElementNonExistent, ProtocolErrorUnspecified, Other}
+use Rattle.sms_control.specs.declared.cause.CpCause.TheVariants.{NetworkFailure, Congestion, InvalidTransactionIdentifier, SemanticallyIncorrectMessage}
+use Rattle.sms_control.specs.declared.cause.CpCause.TheVariants.{InvalidMandatoryInformation, MessageTypeNonExistent, MessageNotCompatible}
+use Rattle.sms_control.specs.declared.cause.CpCause.TheVariants.{InformationElementNonExistent, ProtocolErrorUnspecified, Other}
 use Rattle.sms_control.specs.declared.message_type.MessageType.{MessageType}
 use Rattle.sms_control.specs.declared.message_type.MessageType.TheVariants.{Data, Ack, Error}
 use Rattle.sms_control.specs.declared.transaction.TransactionFlag.{TransactionFlag}

@@ -4,7 +4,8 @@ ghost use Rattle.sms_base.specs.FaultReasons.{HasContinuation, HasFront};
 ghost use Rattle.sms_base.specs.Reading.{AreOctets};
 ghost use Rattle.sms_control.specs.ControlGrammar.{IsCp, IsCpValue, spelled};
 ghost use Rattle.sms_control.specs.ControlReading.{cp_at};
-ghost use Rattle.sms_control.specs.LinkRuns.{Acknowledges, Call, FiresPast, NoneAcknowledged, NoneAnswered, Rising, TakesTurns, begins, ends, openings, repeats, replies, run, sendings, ticks};
+ghost use Rattle.sms_control.specs.LinkRuns.{Acknowledges, Call, FiresPast, NoneAcknowledged, NoneAnswered, Rising, TakesTurns, begins, ends, openings};
+ghost use Rattle.sms_control.specs.LinkRuns.{repeats, replies, run, sendings, ticks};
 ghost use Rattle.sms_control.specs.LinkStep.{begin_step, fresh, has_begun, in_transaction, is_busy, take_step};
 ghost use Rattle.sms_control.specs.Timers.{later, tr1};
 ghost use Rattle.sms_control.specs.declared.link_state.LinkState.{LinkState};
@@ -44,7 +45,7 @@ pub fn a_fault_has_its_reason()
     ensures other { (octets more : List ℕ) (cp : Cp) (fault : CpFault) → cp_at octets ≡ Err fault → fault ≢ Truncated → ¬ IsCp (octets ++ more) cp }
 {}
 
-/// This side has at most one transaction under way: over any calls, as many have ended as began, or one fewer.
+/// A side has at most one transaction of its own under way: over any calls, as many have ended as began, or one fewer.
 pub fn one_begun_at_a_time()
     ensures { (calls : List Call) → (ends calls fresh ≤ begins calls fresh) × (begins calls fresh ≤ ends calls fresh + 1) }
 {}

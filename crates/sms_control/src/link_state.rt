@@ -1,5 +1,6 @@
 ghost use Rattle.std.specs.Prelude.{◌≡◌, ◌&&◌, IfOk, is_some};
-ghost use Rattle.sms_control.specs.LinkStep.{ack_taken, begun_fired, has_begun as has_begun_of, has_opened as has_opened_of, is_same as is_same_of, opened_fired, opening_of, started, answer_of};
+ghost use Rattle.sms_control.specs.LinkStep.{ack_taken, begun_fired, has_begun as has_begun_of, has_opened as has_opened_of, is_same as is_same_of};
+ghost use Rattle.sms_control.specs.LinkStep.{opened_fired, opening_of, started, answer_of};
 ghost use Rattle.std.specs.Option.{option_map};
 ghost use Rattle.sms_control.specs.Timers.{first_sending};
 ghost use Rattle.sms_control.specs.declared.link_state.Opened.{Opened as OpenedOf};
@@ -23,7 +24,7 @@ pub struct Repetition {
 #[derive(Debug, Drop)]
 pub struct Begun {
     pub identifier: TransactionIdentifier,
-    /// Its CP-DATA.
+    /// The CP-DATA of the transaction.
     pub frame: Octets,
     /// None once CP-ACK has arrived.
     pub repetition: Option<Repetition>,
@@ -34,7 +35,7 @@ pub struct Begun {
 /// The answer in a transaction of the other side, until its CP-ACK arrives.
 #[derive(Debug, Drop)]
 pub struct Answer {
-    /// Its CP-DATA.
+    /// The CP-DATA of the transaction.
     pub frame: Octets,
     pub repetition: Repetition,
 }

@@ -1,6 +1,7 @@
 ghost use Rattle.std.specs.Prelude.{◌≡◌, ◌≢◌, ◌↔◌, ◌<◌, ◌≤◌, ◌++◌, [], true, false, IfOk, OnOk, OnErr, Err, None, length};
 ghost use Rattle.sms_control.specs.DueTimers.{is_due, is_timed};
-ghost use Rattle.sms_control.specs.LinkStep.{ack_taken, answer_frames, answer_taken, awaits_reply, begin_step, begun_frames, error_taken, fire_step, fresh, if_again, is_busy, opening_taken, reply_step, take_step};
+ghost use Rattle.sms_control.specs.LinkStep.{ack_taken, answer_frames, answer_taken, awaits_reply, begin_step, begun_frames, error_taken, fire_step, fresh};
+ghost use Rattle.sms_control.specs.LinkStep.{if_again, is_busy, opening_taken, reply_step, take_step};
 
 use crate::link_error::LinkError;
 use crate::link_state::{LinkState, has_begun, has_opened, is_same, opens};
@@ -13,7 +14,7 @@ use sms_base::{Moment, Octets};
 use std::alloc::{AllocError, Global};
 use std::marker::Model;
 
-/// One side of a link: the transaction that it began and the one that the other side began.
+/// A side of a link: the transaction that it began and the one that the other side began.
 ///
 /// Contracts see it as its `LinkState`. A call that is refused, or that finds no memory, changes nothing.
 #[derive(Debug, Drop)]

@@ -68,7 +68,7 @@ use Rattle.sms_handset.specs.HandsetEvent.{frame_received, ticked, acted, wrote,
 use Rattle.sms_handset.specs.declared.refusal.Refusal.{Refusal}
 use Rattle.sms_handset.specs.OwnersActs.{write_part, write_parts, count_split, fits_outbox, write_to, written, write_split, delete_out, delete_in, discard_group, discard_members, discard_in, discard_at, write, delete, discard}
 use Rattle.sms_handset.specs.declared.refusal.Refusal.TheVariants.{OutboxFull, StillOpen, NoEntry, TooManyDiscarded}
-use Rattle.sms_handset.specs.Planning.{Rests, RestsIfDone}
+use Rattle.sms_handset.specs.Planning.{IsRevised, IsRevisedIfDone}
 use Rattle.sms_handset.proofs.Resting.{write_rests, delete_rests, discard_rests}
 
 -- ---- numbers that were given
@@ -563,12 +563,12 @@ discard_regroups n c = acted_regroups (Closed n) c.rows (discard n (draft_of c))
 
 -- the draft regroups as is told, and rests on the rows and its changes
 abbrev pub Leads : Regrouping → Rows → Draft → Type 0
-Leads r base d = Regroups r base d.rows × Rests base d
+Leads r base d = Regroups r base d.rows × IsRevised base d
 
-leads : (r : Regrouping) (base : Rows) (w : Result Draft Refusal) (d : Draft) → w ≡ Ok d → RegroupsIfDone r base w → RestsIfDone base w → Leads r base d
+leads : (r : Regrouping) (base : Rows) (w : Result Draft Refusal) (d : Draft) → w ≡ Ok d → RegroupsIfDone r base w → IsRevisedIfDone base w → Leads r base d
 leads r base w d e h rests = (
   subst (λ (x : Result Draft Refusal). RegroupsIfDone r base x) e h,
-  subst (λ (x : Result Draft Refusal). RestsIfDone base x) e rests,
+  subst (λ (x : Result Draft Refusal). IsRevisedIfDone base x) e rests,
 )
 
 pub write_then : (text to : List ℕ) (report : Bool) (c : Core) (o e : Draft) → o ≡ draft_of c → acted (write text to report o) ≡ Ok e → Leads Unchanged c.rows e

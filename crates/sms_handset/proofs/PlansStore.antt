@@ -5,7 +5,7 @@ use Rattle.sms_handset_draft.specs.declared.rows.Rows.{Rows}
 use Rattle.sms_handset.specs.Accepted.{StoresAccepted}
 use Rattle.sms_handset_draft.specs.Draft.{Changes, Draft, HandsetOf, rows_after}
 use Rattle.sms_handset_draft.specs.Outcome.{Outcome}
-use Rattle.sms_handset.specs.Planning.{IsPlanOf, PlanOf, Rests, Stores, RestsIfDone, Plans, OfDelete, OfDiscard, OfFrame, OfTick, OfWrite}
+use Rattle.sms_handset.specs.Planning.{IsPlanOf, PlanOf, IsRevised, Stores, IsRevisedIfDone, Plans, OfDelete, OfDiscard, OfFrame, OfTick, OfWrite}
 use Rattle.sms_handset.specs.declared.refusal.Refusal.{Refusal}
 use Rattle.sms_handset.proofs.Accepting.{LawIfDone, frame_stores, tick_stores, write_stores, delete_stores, discard_stores}
 use Rattle.sms_handset.specs.declared.refusal.PlanError.{PlanError}
@@ -14,7 +14,7 @@ use Rattle.sms_handset.specs.declared.event.HandsetEvent.TheVariants.{Frame, Tic
 use Rattle.sms_handset.specs.HandsetEvent.{deleted, discarded, frame_received, tag_of, ticked, wrote}
 use Rattle.sms_handset.proofs.Resting.{frame_rests, tick_rests, write_rests, delete_rests, discard_rests}
 
-stores_of : (s : HandsetOf) (d : Draft) (p : PlanOf) → IsPlanOf d s p → Rests s.core.rows d → StoresAccepted s.core.rows.marks d.changes d.rows → Stores s p
+stores_of : (s : HandsetOf) (d : Draft) (p : PlanOf) → IsPlanOf d s p → IsRevised s.core.rows d → StoresAccepted s.core.rows.marks d.changes d.rows → Stores s p
 stores_of s d p is rests stores =
     let c : p.outcome.changes ≡ d.changes = ap (λ (o : Outcome). o.changes) is.outcome in
     subst (λ (cs : Changes). StoresAccepted s.core.rows.marks cs (rows_after cs s.core.rows)) (sym c)
@@ -24,10 +24,10 @@ stores_of s d p is rests stores =
 law_of : (marks : List DiscardedGroup) (w : Result Draft Refusal) (d : Draft) → w ≡ Ok d → LawIfDone marks w → StoresAccepted marks d.changes d.rows
 law_of marks w d e h = subst (λ (r : Result Draft Refusal). LawIfDone marks r) e h
 
-rests_of : (base : Rows) (w : Result Draft Refusal) (d : Draft) → w ≡ Ok d → RestsIfDone base w → Rests base d
-rests_of base w d e h = subst (λ (r : Result Draft Refusal). RestsIfDone base r) e h
+rests_of : (base : Rows) (w : Result Draft Refusal) (d : Draft) → w ≡ Ok d → IsRevisedIfDone base w → IsRevised base d
+rests_of base w d e h = subst (λ (r : Result Draft Refusal). IsRevisedIfDone base r) e h
 
-plans_store : (r : Result PlanOf PlanError) (s : HandsetOf) (w : Result Draft Refusal) → RestsIfDone s.core.rows w → LawIfDone s.core.rows.marks w → Plans r s w → IfOk r (Stores s)
+plans_store : (r : Result PlanOf PlanError) (s : HandsetOf) (w : Result Draft Refusal) → IsRevisedIfDone s.core.rows w → LawIfDone s.core.rows.marks w → Plans r s w → IfOk r (Stores s)
 plans_store (Ok p) s w rests stores h =
     stores_of s h.0 p h.1.1 (rests_of s.core.rows w h.0 h.1.0 rests) (law_of s.core.rows.marks w h.0 h.1.0 stores)
 plans_store (Err e) s w rests stores h = tt

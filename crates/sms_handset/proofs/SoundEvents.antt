@@ -23,7 +23,7 @@ use Rattle.sms_handset.proofs.SoundActs.{SoundIfDone, write_sound, delete_sound,
 use Rattle.sms_handset.specs.OwnersActs.{write, delete, discard}
 use Rattle.sms_handset_draft.specs.declared.rows.Rows.{Rows}
 use Rattle.sms_handset_draft.specs.Outcome.{Outcome}
-use Rattle.sms_handset.specs.Planning.{IsPlanOf, PlanOf, Rests, adopted, RestsIfDone, Plans, OfDelete, OfDiscard, OfFrame, OfTick, OfWrite}
+use Rattle.sms_handset.specs.Planning.{IsPlanOf, PlanOf, IsRevised, adopted, IsRevisedIfDone, Plans, OfDelete, OfDiscard, OfFrame, OfTick, OfWrite}
 use Rattle.sms_handset.specs.declared.refusal.PlanError.{PlanError}
 use Rattle.sms_handset.specs.declared.event.HandsetEvent.{HandsetEvent}
 use Rattle.sms_handset.specs.declared.event.HandsetEvent.TheVariants.{Frame, Tick, Write, Delete, Discard}
@@ -89,7 +89,7 @@ discarded_sound n c s = acted_sound (discard n (draft_of c)) (discard_sound n (d
 -- ---- plans
 
 -- the handset that adopts the plan is the one that the event leads to
-sound_of : (s : HandsetOf) (d : Draft) (p : PlanOf) → IsPlanOf d s p → Rests s.core.rows d → SoundAt d → IsSoundCore (adopted p.outcome s.core)
+sound_of : (s : HandsetOf) (d : Draft) (p : PlanOf) → IsPlanOf d s p → IsRevised s.core.rows d → SoundAt d → IsSoundCore (adopted p.outcome s.core)
 sound_of s d p is rests sound =
     subst (λ (o : Outcome). IsSoundCore (adopted o s.core)) (sym is.outcome)
     (subst (λ (r : Rows). IsSoundCore (record (core_of d) { rows = r })) rests (sound_core d sound))
@@ -97,13 +97,13 @@ sound_of s d p is rests sound =
 sound_done : (w : Result Draft Refusal) (d : Draft) → w ≡ Ok d → SoundIfDone w → SoundAt d
 sound_done w d e h = subst (λ (r : Result Draft Refusal). SoundIfDone r) e h
 
-rests_done : (base : Rows) (w : Result Draft Refusal) (d : Draft) → w ≡ Ok d → RestsIfDone base w → Rests base d
-rests_done base w d e h = subst (λ (r : Result Draft Refusal). RestsIfDone base r) e h
+rests_done : (base : Rows) (w : Result Draft Refusal) (d : Draft) → w ≡ Ok d → IsRevisedIfDone base w → IsRevised base d
+rests_done base w d e h = subst (λ (r : Result Draft Refusal). IsRevisedIfDone base r) e h
 
 abbrev pub AdoptsSound : HandsetOf → PlanOf → Type 0
 AdoptsSound s p = IsSoundCore (adopted p.outcome s.core)
 
-pub plans_sound : (r : Result PlanOf PlanError) (s : HandsetOf) (w : Result Draft Refusal) → RestsIfDone s.core.rows w → SoundIfDone w → Plans r s w → IfOk r (AdoptsSound s)
+pub plans_sound : (r : Result PlanOf PlanError) (s : HandsetOf) (w : Result Draft Refusal) → IsRevisedIfDone s.core.rows w → SoundIfDone w → Plans r s w → IfOk r (AdoptsSound s)
 plans_sound (Ok p) s w rests sound h = sound_of s h.0 p h.1.1 (rests_done s.core.rows w h.0 h.1.0 rests) (sound_done w h.0 h.1.0 sound)
 plans_sound (Err e) s w rests sound h = tt
 

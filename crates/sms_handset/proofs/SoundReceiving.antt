@@ -49,7 +49,8 @@ use Rattle.sms_handset_draft.specs.declared.rows.Rows.{Rows}
 use Rattle.sms_handset_draft.specs.declared.counters.Counters.{Counters}
 use Rattle.sms_handset_draft.specs.MemoryAvailable.{has_room, flag}
 use Rattle.sms_handset.proofs.RoomLeft.{room_left}
-use Rattle.sms_handset_draft.specs.Receiving.{acknowledge, refuse, no_room, accept, single_received, new_part_received, member_received, part_received, deliver_received, note, tpdu_received, data_received, fault_cause, reference_octet, unit_received}
+use Rattle.sms_handset_draft.specs.Receiving.{acknowledge, refuse, no_room, accept, single_received, new_part_received, member_received, part_received, deliver_received, note, tpdu_received, data_received, unit_received}
+use Rattle.sms_relay.specs.Rejecting.{fault_cause, reference_octet}
 use Rattle.sms_handset.proofs.Accepting.{IsCounted, header_counts}
 use Rattle.sms_handset.specs.SoundCore.{IsSendingEntry, IsSentFor, IsUnderWay}
 use Rattle.sms_handset.proofs.SoundSending.{sending_same}

@@ -26,8 +26,8 @@ use Rattle.sms_handset_rows.specs.outbox.References.{is_unfinished, held_referen
 use Rattle.sms_handset_rows.specs.outbox.SoundOutbox.{AreTries, WasSent}
 use Rattle.sms_handset_rows.specs.declared.outbox.out_entry.EntryState.TheVariants.{Sending, Queued, Unsure, Sent, Failed}
 use Rattle.sms_handset_rows.specs.outbox.Settling.{lost, most_tries, retry_delay, settled, is_sending}
-use Rattle.sms_handset_rows.specs.declared.outbox.answers.Verdict.{Verdict}
-use Rattle.sms_handset_rows.specs.declared.outbox.answers.Verdict.TheVariants.{Acknowledged, Temporary, Duplicate, Refused, Lost}
+use Rattle.sms_handset_rows.specs.declared.outbox.answers.TransferEnd.{TransferEnd}
+use Rattle.sms_handset_rows.specs.declared.outbox.answers.TransferEnd.TheVariants.{Acknowledged, Temporary, Duplicate, Refused, Lost}
 use Rattle.sms_handset_rows.specs.outbox.Keys.{out_key, notice_key}
 use Rattle.sms_handset_rows.specs.outbox.Answers.{verdict_of}
 use Rattle.sms_handset_rows.specs.declared.outbox.notice.Notice.{Notice}
@@ -83,7 +83,7 @@ lost_turns k es o e i =
     by_long true k es o sent u i = ended k es o sent u i
     by_long false k es o sent u i = by_tries k es o sent u i
 
-settled_turns : (k : ℕ) (es : List Entry) (moment : ℕ) (v : Verdict) (o : OutEntry) → o.state ≡ Sending → IsSoundOut k es o → Turns k es o (settled moment v o)
+settled_turns : (k : ℕ) (es : List Entry) (moment : ℕ) (v : TransferEnd) (o : OutEntry) → o.state ≡ Sending → IsSoundOut k es o → Turns k es o (settled moment v o)
 settled_turns k es moment Acknowledged o e i = turns k es o Sent o.rejects_duplicates o.due (sending_unfinished o e) (was_sent o e i.3) i
 settled_turns k es moment Temporary o e i =
     cond_both (nat_le most_tries o.tries) (record o { state = Failed }) (record o { state = Queued; due = Some (later moment retry_delay) }) (λ (w : OutEntry). Turns k es o w)

@@ -1,5 +1,6 @@
 -- What the owner of the handset does: writing, deleting, discarding; and why it is refused.
-use Rattle.std.specs.Prelude.{◌≤◌, ◌≡◌, ℕ, ◌+◌, ◌%◌, Bool, List, [], ◌∷◌, true, false, nat_lt, length, nat_le, if◌then◌else◌, Result, Ok, Err, Option, Some, None, ◌==◌}
+use Rattle.std.specs.Prelude.{◌≤◌, ◌≡◌, ℕ, ◌+◌, ◌%◌, Bool, List, [], ◌∷◌, true, false, nat_lt, length, nat_le, if◌then◌else◌, Result, Ok, Err, Option, Some}
+use Rattle.std.specs.Prelude.{None, ◌==◌}
 use Rattle.sms_base.specs.declared.address.Address.{Address}
 use Rattle.sms_base.specs.declared.address_error.AddressError.{AddressError}
 use Rattle.sms_base.specs.Address.{IsAddress, address_of}

@@ -39,7 +39,7 @@ pub record PlanOf : Type 0 where
 
 -- The plan's changes fit the memory of the lists and of the index, with that which the plan brings. Its change of the
 -- open groups and its count of the slots are those of its rows.
-pub record Fits (plan : PlanOf) (s : HandsetOf) : Type 0 where
+pub record FitsTheHandset (plan : PlanOf) (s : HandsetOf) : Type 0 where
   pub entries : length s.core.rows.entries + length plan.outcome.changes.entries ≤ max s.room.entries plan.reserve.entries
   pub last : length s.core.rows.last + length plan.outcome.changes.last ≤ max s.room.last plan.reserve.last
   pub outbox : length s.core.rows.outbox + length plan.outcome.changes.outbox ≤ max s.room.outbox plan.reserve.outbox
@@ -51,7 +51,7 @@ pub record Fits (plan : PlanOf) (s : HandsetOf) : Type 0 where
 -- The plan has the outcome of the event that leads to the draft, and fits the handset.
 pub record IsPlanOf (d : Draft) (s : HandsetOf) (plan : PlanOf) : Type 0 where
   pub outcome : plan.outcome ≡ outcome_of d
-  pub fits : Fits plan s
+  pub fits : FitsTheHandset plan s
 
 -- What was wanted, done: refused alike, or want of memory for what would have been done.
 abbrev pub Acts : Result (Unit {0}) PlanError → Draft → Result Draft Refusal → Type 0
@@ -111,11 +111,11 @@ OfDiscard (Write text to report) P = Unit {0}
 OfDiscard (Delete entry) P = Unit {0}
 OfDiscard (Discard entry) P = P entry
 
--- ---- the draft's rows are the rows with its changes, and nothing else
+-- ---- a draft is the rows, revised by its changes and by nothing else
 
-abbrev pub Rests : Rows → Draft → Type 0
-Rests base d = d.rows ≡ rows_after d.changes base
+abbrev pub IsRevised : Rows → Draft → Type 0
+IsRevised base d = d.rows ≡ rows_after d.changes base
 
-abbrev pub RestsIfDone : Rows → Result Draft Refusal → Type 0
-RestsIfDone base (Ok d) = Rests base d
-RestsIfDone base (Err refusal) = Unit {0}
+abbrev pub IsRevisedIfDone : Rows → Result Draft Refusal → Type 0
+IsRevisedIfDone base (Ok d) = IsRevised base d
+IsRevisedIfDone base (Err refusal) = Unit {0}

@@ -3,7 +3,8 @@ ghost use Rattle.std.specs.Prelude.{◌≡◌, ◌+◌, ◌≤◌, max, Ok, IfEr
 ghost use Rattle.std.specs.Str.{chars};
 ghost use Rattle.sms_handset_draft.specs.Draft.{draft_of, recovered};
 ghost use Rattle.sms_handset.specs.HandsetEvent.{deleted, discarded, frame_received as frame_received_of, tag_of, ticked as ticked_of, wrote};
-ghost use Rattle.sms_handset.specs.Planning.{adopted, Fits, IsPlanOf, Judges, OfDelete, OfDiscard, OfFrame, OfTick, OfWrite, Plans, Rests, Stores};
+ghost use Rattle.sms_handset.specs.Planning.{adopted, FitsTheHandset, IsPlanOf, Judges, OfDelete, OfDiscard, OfFrame, OfTick, OfWrite, Plans, IsRevised};
+ghost use Rattle.sms_handset.specs.Planning.{Stores};
 ghost use Rattle.sms_base.specs.Address.{IsAddress};
 ghost use Rattle.sms_rows.specs.table.Table.{Rises, row_at};
 ghost use Rattle.sms_handset_draft.specs.Regrouping.{Numbered, Regroups};
@@ -157,7 +158,7 @@ impl Handset {
         ensures discard { OfDiscard event.now (λ entry. Plans result self.now (discarded entry self.now.core)) }
 
         // What every plan is good for.
-        ensures fits { IfOk result (λ planned. Fits planned self.now) }
+        ensures fits { IfOk result (λ planned. FitsTheHandset planned self.now) }
         // What is accepted is stored.
         ensures stored { IfOk result (Stores self.now) }
         // A handset that was sound is sound with the plan put in: it recovers from the rows that were committed.
@@ -169,7 +170,7 @@ impl Handset {
     /// Puts a plan in that was made for this handset as it is, once its changes are committed: gives the frames to
     /// send. It takes no memory.
     pub fn adopt(&mut self, planned: Plan) -> Listed<Outgoing>
-        requires fits { Fits planned self.old }
+        requires fits { FitsTheHandset planned self.old }
         ensures state { self.new.core ≡ adopted planned.outcome self.old.core }
         ensures frames { result ≡ planned.outcome.frames }
     {
@@ -226,7 +227,7 @@ impl Handset {
         ensures discard { OfDiscard event.now (λ entry. Plans result self.now (discarded entry self.now.core)) }
 
         // What every plan is good for.
-        ensures fits { IfOk result (λ planned. Fits planned self.now) }
+        ensures fits { IfOk result (λ planned. FitsTheHandset planned self.now) }
     {
         match event {
             HandsetEvent::Frame { octets, tag } => self.plan_frame(octets.as_slice(), *tag),
@@ -242,7 +243,7 @@ impl Handset {
     // The draft's outcome, with memory for the rows that come.
     fn planned(&self, draft: Draft<'_>, regrouping: Regrouping) -> Result<Plan, NoMemory>
         requires groups { Regroups regrouping self.now.core.rows draft.rows }
-        requires rests { Rests self.now.core.rows draft }
+        requires rests { IsRevised self.now.core.rows draft }
         ensures { IfOk result (IsPlanOf draft.entry self.now) }
     {
         // The call tells that the entries stand in order.
@@ -272,7 +273,7 @@ impl Handset {
     #[tactic(auto, using(crate::proofs::GroupStages::frame_regroups, crate::proofs::Resting::frame_rests))]
     fn plan_frame(&self, octets: &[u8], tag: Option<Holder>) -> Result<Plan, PlanError>
         ensures plan { Plans result self.now (Ok (frame_received_of octets.now (tag_of tag) self.now.core)) }
-        ensures fits { IfOk result (λ planned. Fits planned self.now) }
+        ensures fits { IfOk result (λ planned. FitsTheHandset planned self.now) }
     {
         let mut draft = self.draft()?;
         let tag = tag.unwrap_or(Holder::Entry(0));
@@ -288,7 +289,7 @@ impl Handset {
     #[tactic(auto, using(crate::proofs::GroupStages::tick_regroups, crate::proofs::Resting::tick_rests))]
     fn plan_tick(&self, now: Moment) -> Result<Plan, PlanError>
         ensures plan { Plans result self.now (Ok (ticked_of now self.now.core)) }
-        ensures fits { IfOk result (λ planned. Fits planned self.now) }
+        ensures fits { IfOk result (λ planned. FitsTheHandset planned self.now) }
     {
         let mut draft = self.draft()?;
         match tick_and_follow(&mut draft, now) {
@@ -332,7 +333,7 @@ impl Handset {
 
     fn plan_write(&self, text: &str, to: &str, report: bool) -> Result<Plan, PlanError>
         ensures plan { Plans result self.now (wrote (chars text.now) (chars to.now) report self.now.core) }
-        ensures fits { IfOk result (λ planned. Fits planned self.now) }
+        ensures fits { IfOk result (λ planned. FitsTheHandset planned self.now) }
     {
         let destination = match self.judge_text(text, to) {
             Ok(destination) => destination,
@@ -387,7 +388,7 @@ impl Handset {
 
     fn plan_delete(&self, entry: u32) -> Result<Plan, PlanError>
         ensures plan { Plans result self.now (deleted entry self.now.core) }
-        ensures fits { IfOk result (λ planned. Fits planned self.now) }
+        ensures fits { IfOk result (λ planned. FitsTheHandset planned self.now) }
     {
         if let Some(refusal) = self.refuses_delete(entry) {
             return Err(PlanError::Refused(refusal));
@@ -404,7 +405,7 @@ impl Handset {
 
     fn plan_discard(&self, entry: u32) -> Result<Plan, PlanError>
         ensures plan { Plans result self.now (discarded entry self.now.core) }
-        ensures fits { IfOk result (λ planned. Fits planned self.now) }
+        ensures fits { IfOk result (λ planned. FitsTheHandset planned self.now) }
     {
         if let Some(refusal) = self.refuses_discard(entry) {
             return Err(PlanError::Refused(refusal));

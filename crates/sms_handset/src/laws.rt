@@ -7,17 +7,17 @@ ghost use Rattle.sms_handset.specs.Accepted.{StoresAccepted};
 ghost use Rattle.sms_handset_draft.specs.Draft.{Core, Draft};
 ghost use Rattle.sms_handset.specs.HandsetEvent.{deleted, discarded, frame_received, ticked, wrote};
 ghost use Rattle.sms_handset_draft.specs.Outbox.{offer_message, offer_wanted};
-ghost use Rattle.sms_handset.specs.Planning.{Rests, RestsIfDone};
+ghost use Rattle.sms_handset.specs.Planning.{IsRevised, IsRevisedIfDone};
 ghost use Rattle.sms_handset_draft.specs.FirstRows.{first_rows};
 ghost use Rattle.sms_handset.specs.SoundRows.{IsSetup, IsSound};
 
 /// The rows that an event leads to are the rows with its changes.
 pub fn rows_are_the_changes()
-    ensures frame { (octets : List ℕ) (tag : Holder) (c : Core) → Rests c.rows (frame_received octets tag c) }
-    ensures tick { (now : ℕ) (c : Core) → Rests c.rows (ticked now c) }
-    ensures write { (text to : List ℕ) (report : Bool) (c : Core) → RestsIfDone c.rows (wrote text to report c) }
-    ensures delete { (entry : ℕ) (c : Core) → RestsIfDone c.rows (deleted entry c) }
-    ensures discard { (entry : ℕ) (c : Core) → RestsIfDone c.rows (discarded entry c) }
+    ensures frame { (octets : List ℕ) (tag : Holder) (c : Core) → IsRevised c.rows (frame_received octets tag c) }
+    ensures tick { (now : ℕ) (c : Core) → IsRevised c.rows (ticked now c) }
+    ensures write { (text to : List ℕ) (report : Bool) (c : Core) → IsRevisedIfDone c.rows (wrote text to report c) }
+    ensures delete { (entry : ℕ) (c : Core) → IsRevisedIfDone c.rows (deleted entry c) }
+    ensures discard { (entry : ℕ) (c : Core) → IsRevisedIfDone c.rows (discarded entry c) }
 {}
 
 /// What is accepted is stored. Changes that make a DELIVER of no discarded group the last accepted also put an entry of

@@ -39,5 +39,5 @@ pub use recover_error::RecoverError;
 pub use refusal::{PlanError, Refusal};
 pub use sms_handset_draft::{Changes, Counters, NoMemory, Rows, Setup};
 pub use sms_handset_rows::inbox::{DiscardedGroup, Entry, Group, LastAccepted, Message};
-pub use sms_handset_rows::outbox::{EntryState, Notice, OutEntry, SubmitTpdu, Verdict};
+pub use sms_handset_rows::outbox::{EntryState, Notice, OutEntry, SubmitTpdu, TransferEnd};
 pub use text_view::TextView;

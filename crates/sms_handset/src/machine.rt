@@ -12,7 +12,7 @@ ghost use Rattle.sms_rows.specs.keep.StoreOutcome.{IfHeld, StoreOutcome, WasHone
 ghost use Rattle.sms_handset_draft.specs.Draft.{Draft as DraftOf, no_changes, recovered, rows_after};
 ghost use Rattle.sms_handset_draft.specs.Outcome.{changes_in};
 ghost use Rattle.sms_handset_draft.specs.declared.rows.Rows.{Rows as RowsOf};
-ghost use Rattle.sms_handset.specs.Planning.{Fits, Plans, adopted};
+ghost use Rattle.sms_handset.specs.Planning.{FitsTheHandset, Plans, adopted};
 ghost use Rattle.sms_handset.specs.SoundCore.{IsSoundCore};
 ghost use Rattle.sms_handset.specs.SoundRows.{IsSetup, IsSound};
 ghost use Rattle.sms_handset.specs.machine.Stepping.{IsBeforeCommit, MakesTheChanges, IsBeforeOrAfter, Steps, happened};
@@ -100,7 +100,7 @@ impl<K: Keep<Rows = Rows, Changes = Changes> + Drop> HandsetMachine<K> {
         HandsetMachine { keep, handset }
     }
 
-    /// The handset.
+    /// The handset that the machine runs.
     pub fn handset(&self) -> &Handset
         ensures { result.now ≡ handset_in self.now }
     {
@@ -124,7 +124,7 @@ impl<K: Keep<Rows = Rows, Changes = Changes> + Drop> HandsetMachine<K> {
 
     fn plan(&self, event: &HandsetEvent<'_>) -> Result<Plan, PlanError>
         ensures plan { Plans result (handset_in self.now) (happened event.now (core_in self.now)) }
-        ensures fits { IfOk result (λ planned. Fits planned (handset_in self.now)) }
+        ensures fits { IfOk result (λ planned. FitsTheHandset planned (handset_in self.now)) }
         ensures sound { IsSoundCore (core_in self.now) → IfOk result (λ planned. IsSoundCore (adopted planned.outcome (core_in self.now))) }
     {
         self.handset.plan(event)

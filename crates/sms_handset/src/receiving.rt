@@ -26,7 +26,7 @@ pub(crate) fn frame_and_follow(
     Ok(regrouping)
 }
 
-/// It is that moment.
+/// Lets it be that moment.
 pub(crate) fn tick_and_follow(draft: &mut Draft<'_>, now: Moment) -> Result<(), NoMemory>
     ensures { OnOk result (draft.new ≡ follow (timers_fired (fired (at_moment now draft.old).moment (link_of (at_moment now draft.old)))
         (at_moment now draft.old))) }

@@ -8,7 +8,8 @@ ghost use Rattle.sms_concat.specs.Splitting.{split_of};
 ghost use Rattle.sms_concat.specs.TextContent.{content_of_text};
 ghost use Rattle.sms_concat.specs.UserData.{HasRoom, IsPart};
 ghost use Rattle.sms_handset_draft.specs.Outbox.{follow};
-ghost use Rattle.sms_handset.specs.OwnersActs.{count_split as count_split_of, write_part as write_part_of, write_parts as write_parts_of, written as written_of};
+ghost use Rattle.sms_handset.specs.OwnersActs.{count_split as count_split_of, write_part as write_part_of, write_parts as write_parts_of};
+ghost use Rattle.sms_handset.specs.OwnersActs.{written as written_of};
 
 use sms_base::Address;
 use sms_concat::{Part, content_of_text, split};

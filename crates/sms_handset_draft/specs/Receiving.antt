@@ -6,9 +6,9 @@ use Rattle.sms_rows.specs.table.Table.{row_at}
 use Rattle.sms_alphabet.specs.declared.concat_key.ConcatKey.{ConcatKey}
 use Rattle.sms_relay.specs.RelayGrammar.{ack_up, error_up}
 use Rattle.sms_relay.specs.declared.cause.RpCause.{RpCause}
-use Rattle.sms_relay.specs.declared.cause.RpCause.TheVariants.{MemoryCapacityExceeded, InvalidMandatoryInformation, MessageTypeNonExistent}
+use Rattle.sms_relay.specs.declared.cause.RpCause.TheVariants.{MemoryCapacityExceeded, InvalidMandatoryInformation}
 use Rattle.sms_relay.specs.declared.fault.RelayFault.{RelayFault}
-use Rattle.sms_relay.specs.declared.fault.RelayFault.TheVariants.{Truncated, Trailing, Unknown, BadLength}
+use Rattle.sms_relay.specs.Rejecting.{fault_cause, reference_octet}
 use Rattle.sms_relay.specs.declared.frame.Rp.{Rp}
 use Rattle.sms_relay.specs.declared.frame.Rp.TheVariants.{DataUnit, AckUnit, ErrorUnit, Smma}
 use Rattle.sms_tpdu.specs.declared.deliver.Deliver.{Deliver as DeliverOf}
@@ -100,19 +100,6 @@ data_received reference tag tpdu d =
     else tpdu_received reference tag tpdu (down_at InData tpdu) d
 
 -- ---- a unit that opens a transaction
-
--- a unit of an unknown type, else one that can't be read
-abbrev pub fault_cause : RelayFault → RpCause
-fault_cause Truncated = InvalidMandatoryInformation
-fault_cause Trailing = InvalidMandatoryInformation
-fault_cause Unknown = MessageTypeNonExistent
-fault_cause BadLength = InvalidMandatoryInformation
-
--- the octet that is the reference, or 0
-abbrev pub reference_octet : List ℕ → ℕ
-reference_octet [] = 0
-reference_octet (kind ∷ []) = 0
-reference_octet (kind ∷ reference ∷ rest) = reference
 
 -- other units are dropped
 abbrev pub unit_received : Holder → List ℕ → Result Rp RelayFault → Draft → Draft

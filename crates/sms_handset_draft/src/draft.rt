@@ -6,7 +6,9 @@ ghost use Rattle.sms_link.specs.LinkTurn.{fired, taken};
 ghost use Rattle.sms_rows.specs.table.TableDraft.{rows_in};
 ghost use Rattle.sms_rows.specs.table.Table.{row_at};
 ghost use Rattle.sms_handset_rows.specs.inbox.Keys.{entry_key, last_key};
-ghost use Rattle.sms_handset_draft.specs.Draft.{begin as begin_of, draft_of, link_of, no_changes, put_counters as put_counters_of, put_entry as put_entry_of, put_last as put_last_of, put_mark as put_mark_of, put_out as put_out_of, remove_entry as remove_entry_of, remove_mark as remove_mark_of, remove_out as remove_out_of, reply as reply_of, room_of, rows_of, with_turn};
+ghost use Rattle.sms_handset_draft.specs.Draft.{begin as begin_of, draft_of, link_of, no_changes, put_counters as put_counters_of, put_entry as put_entry_of};
+ghost use Rattle.sms_handset_draft.specs.Draft.{put_last as put_last_of, put_mark as put_mark_of, put_out as put_out_of, remove_entry as remove_entry_of};
+ghost use Rattle.sms_handset_draft.specs.Draft.{remove_mark as remove_mark_of, remove_out as remove_out_of, reply as reply_of, room_of, rows_of, with_turn};
 ghost use Rattle.sms_handset_draft.specs.Consistent.{IsConsistent};
 ghost use Rattle.sms_handset_draft.specs.Outcome.{HaveRoom, outcome_in, outcome_of};
 ghost use Rattle.sms_handset_rows.specs.inbox.Groups.{members as members_of};
@@ -288,7 +290,7 @@ impl<'a> Draft<'a> {
         self.base.groups.at(number)
     }
 
-    /// Its stored parts.
+    /// The stored parts of the group.
     pub fn members_in(&self, there: &'a OpenGroup) -> Members<'a>
         requires untouched { self.now.changes ≡ no_changes }
         requires parts { there.now.parts ≡ stored_parts (members_of there.now.group self.now.rows.entries) }

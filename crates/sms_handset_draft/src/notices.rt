@@ -2,7 +2,9 @@
 ghost use Rattle.std.specs.Prelude.{◌≡◌, ◌<◌, OnOk};
 ghost use Rattle.sms_rows.specs.table.Table.{row_at};
 ghost use Rattle.sms_handset_rows.specs.outbox.Keys.{notice_key};
-ghost use Rattle.sms_handset_draft.specs.MemoryAvailable.{first_notice as first_notice_of, notice_concluded as notice_concluded_of, notice_failed as notice_failed_of, put_notice as put_notice_of, remove_notice as remove_notice_of, send_notice as send_notice_of};
+ghost use Rattle.sms_handset_draft.specs.MemoryAvailable.{first_notice as first_notice_of, notice_concluded as notice_concluded_of};
+ghost use Rattle.sms_handset_draft.specs.MemoryAvailable.{notice_failed as notice_failed_of, put_notice as put_notice_of, remove_notice as remove_notice_of};
+ghost use Rattle.sms_handset_draft.specs.MemoryAvailable.{send_notice as send_notice_of};
 
 use crate::counters::Counters;
 use crate::draft::Draft;

@@ -3,7 +3,10 @@ ghost use Rattle.std.specs.Prelude.{◌≡◌, ◌<◌, true, Some, IfOk, OnOk};
 ghost use Rattle.sms_rows.specs.table.Table.{row_at};
 ghost use Rattle.sms_handset_rows.specs.outbox.Keys.{out_key};
 ghost use Rattle.sms_handset_rows.specs.outbox.References.{held_references as held_references_of, next_free as next_free_of};
-ghost use Rattle.sms_handset_draft.specs.Outbox.{entry_concluded as entry_concluded_of, follow as follow_of, holder_concluded as holder_concluded_of, is_notice_next as is_notice_next_of, lapse as lapse_of, lapse_rows as lapse_rows_of, offer as offer_of, offer_after as offer_after_of, offer_entry as offer_entry_of, offer_message as offer_message_of, offer_wanted as offer_wanted_of, transfer_ended as transfer_ended_of};
+ghost use Rattle.sms_handset_draft.specs.Outbox.{entry_concluded as entry_concluded_of, follow as follow_of, holder_concluded as holder_concluded_of};
+ghost use Rattle.sms_handset_draft.specs.Outbox.{is_notice_next as is_notice_next_of, lapse as lapse_of, lapse_rows as lapse_rows_of, offer as offer_of};
+ghost use Rattle.sms_handset_draft.specs.Outbox.{offer_after as offer_after_of, offer_entry as offer_entry_of, offer_message as offer_message_of};
+ghost use Rattle.sms_handset_draft.specs.Outbox.{offer_wanted as offer_wanted_of, transfer_ended as transfer_ended_of};
 ghost use Rattle.sms_handset_rows.specs.outbox.Offers.{first_due as first_due_of, first_fired as first_fired_of};
 
 use crate::draft::Draft;

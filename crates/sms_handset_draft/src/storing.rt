@@ -2,7 +2,8 @@
 ghost use Rattle.std.specs.Prelude.{◌≡◌, ◌++◌, ◌+◌, ◌∷◌, ◌<◌, [], true, IfOk, OnOk, Some, None};
 ghost use Rattle.sms_handset_draft.specs.Draft.{put_entry as put_entry_of};
 ghost use Rattle.sms_handset_rows.specs.inbox.Groups.{alone, part_entry};
-ghost use Rattle.sms_handset_draft.specs.Storing.{completed, count_entry as count_entry_of, ended, free_all, marked as marked_of, store_part as store_part_of, store_single as store_single_of};
+ghost use Rattle.sms_handset_draft.specs.Storing.{completed, count_entry as count_entry_of, ended, free_all, marked as marked_of, store_part as store_part_of};
+ghost use Rattle.sms_handset_draft.specs.Storing.{store_single as store_single_of};
 ghost use Rattle.sms_handset_draft.specs.GroupChanges.{stored_groups};
 ghost use Rattle.sms_handset_rows.specs.inbox.OpenGroups.{grouped};
 ghost use Rattle.sms_handset_draft.specs.MemoryAvailable.{flag as flag_of, freed as freed_of, has_room as has_room_of};

@@ -1,13 +1,15 @@
 //! Receiving a message: it is stored before it is acknowledged.
 ghost use Rattle.std.specs.Prelude.{◌≡◌, IfOk, OnOk, Some};
-ghost use Rattle.sms_relay.specs.Cause.{IsRpCause};
 ghost use Rattle.sms_relay.specs.RelayReading.{down_at as unit_at};
 ghost use Rattle.sms_tpdu.specs.TpduReading.{down_at};
 ghost use Rattle.sms_tpdu.specs.declared.carrier.Carrier.TheVariants.{InData as Data};
 ghost use Rattle.sms_handset_draft.specs.Draft.{no_changes};
 ghost use Rattle.sms_handset_draft.specs.GroupChanges.{data_groups, deliver_groups, member_groups, new_part_groups, part_groups, tpdu_groups, unit_groups};
 ghost use Rattle.sms_handset_rows.specs.inbox.Groups.{key_of as key_of_deliver, mark_of, members as members_of};
-ghost use Rattle.sms_handset_draft.specs.Receiving.{accept as accept_of, data_received as data_received_of, deliver_received as deliver_received_of, fault_cause as fault_cause_of, member_received as member_received_of, new_part_received as new_part_received_of, no_room as no_room_of, note as note_of, part_received as part_received_of, reference_octet as reference_octet_of, single_received as single_received_of, tpdu_received as tpdu_received_of, unit_received as unit_received_of};
+ghost use Rattle.sms_handset_draft.specs.Receiving.{accept as accept_of, data_received as data_received_of, deliver_received as deliver_received_of};
+ghost use Rattle.sms_handset_draft.specs.Receiving.{member_received as member_received_of, new_part_received as new_part_received_of, no_room as no_room_of};
+ghost use Rattle.sms_handset_draft.specs.Receiving.{note as note_of, part_received as part_received_of, single_received as single_received_of};
+ghost use Rattle.sms_handset_draft.specs.Receiving.{tpdu_received as tpdu_received_of, unit_received as unit_received_of};
 ghost use Rattle.sms_handset_rows.specs.outbox.Reports.{reported as reported_of};
 
 use sms_base::{Holder, Octets};
@@ -17,7 +19,7 @@ use sms_handset_rows::inbox::{
     key_of,
 };
 use sms_handset_rows::outbox::reported;
-use sms_relay::{RelayFault, Rp, RpCause, read_down as read_unit};
+use sms_relay::{Rp, RpCause, fault_cause, read_down as read_unit, reference_octet};
 use sms_tpdu::{Carrier, Deliver, Down, StatusReport, read_down};
 
 // The TPDU is the last under its reference from now on.
@@ -283,24 +285,3 @@ const MEMORY_CAPACITY_EXCEEDED: u8 = 0xD3;
 
 /// TP-FCS: unspecified error cause.
 const UNSPECIFIED: u8 = 0xFF;
-
-// A unit of an unknown type, else one that can't be read.
-fn fault_cause(fault: RelayFault) -> RpCause
-    ensures value { result ≡ fault_cause_of fault }
-    ensures named { IsRpCause result }
-{
-    match fault {
-        RelayFault::Unknown => RpCause::MessageTypeNonExistent,
-        _ => RpCause::InvalidMandatoryInformation,
-    }
-}
-
-// The octet where the reference stands, or 0.
-fn reference_octet(unit: &[u8]) -> u8
-    ensures { result ≡ reference_octet_of unit.now }
-{
-    match unit {
-        [_, reference, ..] => *reference,
-        _ => 0,
-    }
-}

@@ -1,7 +1,7 @@
 //! The outbox of a handset: what it sends (3GPP TS 23.040 9.2.2.2, 3GPP TS 24.011 6.3.3).
 //!
 //! An entry is one SUBMIT that the owner wrote. It takes a TP-MR and a reference that no unfinished entry and no
-//! RP-SMMA holds. A `Notice` is an RP-SMMA that has not ended. A transfer's end gives a `Verdict`, which settles the
+//! RP-SMMA holds. A `Notice` is an RP-SMMA that has not ended. A transfer's end gives a `TransferEnd`, which settles the
 //! entry. Of the entries that are due the oldest is sent first. The tests of `sound_outbox` answer whether a handset
 //! can have left such rows; they take no memory.
 
@@ -17,7 +17,7 @@ mod sound_outbox;
 mod submit_tpdu;
 mod submits;
 
-pub use answers::{Verdict, verdict_of};
+pub use answers::{TransferEnd, verdict_of};
 pub use notice::Notice;
 pub use offers::{data_unit, first_due, first_fired, sent_once_more, smma};
 pub use out_entry::{EntryState, OutEntry};

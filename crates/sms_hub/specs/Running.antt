@@ -39,7 +39,8 @@ module _ {J O : Type 0} where
 
 module _ {J O S : Type 0} (reads : ℕ → Type 0) (gives : S → Stimulus J → Fate → List (Out O)) (after : S → Stimulus J → Fate → S) where
   -- What sessions of these lists of jobs did, with these answers: one history of the machine, of which a recorder was told.
-  pub record SessionsRan (honest : Type 0) (before behind : S → Type 0) (told tells : List (Item J O) → Type 0) (lists : List (List J)) (answers : List (List O)) : Type 0 where
+  pub record SessionsRan (honest : Type 0) (before behind : S → Type 0) (told tells : List (Item J O) → Type 0)
+      (lists : List (List J)) (answers : List (List O)) : Type 0 where
     pub items : List (Item J O)
     pub led : honest → Leads gives after before items behind
     pub ticks : (last : Option ℕ) × IsRising reads None items last

@@ -76,7 +76,7 @@ from_read accounts from now (Ok (DeliverReport r)) = Err WrongType
 from_read accounts from now (Err fault) = Err (unread fault)
 
 -- The answer is the wanted one. Want of memory is reported only of what is accepted.
-abbrev pub Answers : Result Submission SubmitError → Result Submission SubmitRefusal → Type 0
-Answers (Ok s) wanted = wanted ≡ Ok s
-Answers (Err (Refused refusal)) wanted = wanted ≡ Err refusal
-Answers (Err NoMemory) wanted = (s : Submission) × (wanted ≡ Ok s)
+abbrev pub AnswersIntake : Result Submission SubmitError → Result Submission SubmitRefusal → Type 0
+AnswersIntake (Ok s) wanted = wanted ≡ Ok s
+AnswersIntake (Err (Refused refusal)) wanted = wanted ≡ Err refusal
+AnswersIntake (Err NoMemory) wanted = (s : Submission) × (wanted ≡ Ok s)

@@ -19,7 +19,8 @@ use Rattle.sms_intake.specs.declared.submission.SinglePart.{SinglePart}
 use Rattle.sms_intake.specs.declared.submission.Submission.{Submission}
 use Rattle.sms_intake.specs.declared.submission.Text.{Text}
 use Rattle.sms_intake.specs.declared.submission.Text.TheVariants.{Whole, Single}
-pub use Rattle.sms_intake.specs.PartTexts.{bodies_of, bodies_under, body_behind, body_of, deliver_octets, deliver_of, deliver_written, is_wish, parts_or_none, single_of}
+pub use Rattle.sms_intake.specs.PartTexts.{bodies_of, bodies_under, body_behind, body_of, deliver_octets, deliver_of, deliver_written, is_wish, parts_or_none}
+pub use Rattle.sms_intake.specs.PartTexts.{single_of}
 
 -- ---- the parts of a text
 

@@ -2,11 +2,14 @@
 use Rattle.sms_relay.specs.declared.cause.RpCause.{RpCause}
 use Rattle.sms_relay.specs.declared.cause.RpCause.TheVariants.{ShortMessageTransferRejected, Congestion, InvalidMandatoryInformation, MessageTypeNonExistent}
 use Rattle.sms_tpdu.specs.declared.codes.FailureCause.{FailureCause}
-use Rattle.sms_tpdu.specs.declared.codes.FailureCause.TheVariants.{ServiceCentreBusy, InvalidSmeAddress, DestinationBarred, DuplicateShortMessage, ValidityPeriodFormatNotSupported, UnspecifiedErrorCause}
+use Rattle.sms_tpdu.specs.declared.codes.FailureCause.TheVariants.{ServiceCentreBusy, InvalidSmeAddress, DestinationBarred, DuplicateShortMessage}
+use Rattle.sms_tpdu.specs.declared.codes.FailureCause.TheVariants.{ValidityPeriodFormatNotSupported, UnspecifiedErrorCause}
 use Rattle.sms_tpdu.specs.declared.fault.TpduFault.{TpduFault}
-use Rattle.sms_tpdu.specs.declared.fault.TpduFault.TheVariants.{Truncated, TrailingOctets, BadAddress, BadTime, UserDataTooLong, UnsupportedType, UnsupportedValidity, SpareBits, BadHeader}
+use Rattle.sms_tpdu.specs.declared.fault.TpduFault.TheVariants.{Truncated, TrailingOctets, BadAddress, BadTime, UserDataTooLong, UnsupportedType}
+use Rattle.sms_tpdu.specs.declared.fault.TpduFault.TheVariants.{UnsupportedValidity, SpareBits, BadHeader}
 use Rattle.sms_intake.specs.declared.refusal.SubmitRefusal.{SubmitRefusal}
-use Rattle.sms_intake.specs.declared.refusal.SubmitRefusal.TheVariants.{WrongType, WrongValidityFormat, Unreadable, NoHandset, OfAccount, PastLimit, Duplicate, ReferenceTaken, Congested}
+use Rattle.sms_intake.specs.declared.refusal.SubmitRefusal.TheVariants.{WrongType, WrongValidityFormat, Unreadable, NoHandset, OfAccount, PastLimit, Duplicate}
+use Rattle.sms_intake.specs.declared.refusal.SubmitRefusal.TheVariants.{ReferenceTaken, Congested}
 
 abbrev pub unread : TpduFault → SubmitRefusal
 unread UnsupportedType = WrongType

@@ -1,5 +1,6 @@
 -- A submit_sm (SMPP v3.4 4.4.1): the checks that need no rows, in order, and the submission.
-use Rattle.std.specs.Prelude.{◌≡◌, ℕ, ◌+◌, ◌*◌, ◌/◌, ◌%◌, ◌==◌, ◌&&◌, ◌||◌, not, nat_lt, nat_le, min, List, [], ◌∷◌, length, take, drop, Bool, true, false, if◌then◌else◌, Option, Some, None, is_some, Result, Ok, Err}
+use Rattle.std.specs.Prelude.{◌≡◌, ℕ, ◌+◌, ◌*◌, ◌/◌, ◌%◌, ◌==◌, ◌&&◌, ◌||◌, not, nat_lt, nat_le, min, List, [], ◌∷◌, length, take, drop, Bool, true, false}
+use Rattle.std.specs.Prelude.{if◌then◌else◌, Option, Some, None, is_some, Result, Ok, Err}
 use Rattle.std.specs.List.{list_all}
 use Rattle.std.specs.Option.{ok_or}
 use Rattle.sms_base.specs.declared.address.Address.{Address}
@@ -29,7 +30,8 @@ use Rattle.sms_concat.specs.UserData.{capacity, data_length, header_of}
 use Rattle.smpp_pdu.specs.declared.address.SmeAddress.{SmeAddress}
 use Rattle.smpp_pdu.specs.declared.message.Message.{Message}
 use Rattle.smpp_pdu.specs.declared.status.CommandStatus.{CommandStatus}
-use Rattle.smpp_pdu.specs.declared.status.CommandStatus.TheVariants.{ESME_RINVMSGLEN, ESME_RINVSRCADR, ESME_RINVDSTADR, ESME_RINVESMCLASS, ESME_RSUBMITFAIL, ESME_RINVSCHED, ESME_RINVEXPIRY, ESME_ROPTPARNOTALLWD, ESME_RINVPARLEN}
+use Rattle.smpp_pdu.specs.declared.status.CommandStatus.TheVariants.{ESME_RINVMSGLEN, ESME_RINVSRCADR, ESME_RINVDSTADR, ESME_RINVESMCLASS, ESME_RSUBMITFAIL}
+use Rattle.smpp_pdu.specs.declared.status.CommandStatus.TheVariants.{ESME_RINVSCHED, ESME_RINVEXPIRY, ESME_ROPTPARNOTALLWD, ESME_RINVPARLEN}
 use Rattle.smpp_pdu.specs.declared.tlv.Tlvs.{Tlvs}
 use Rattle.sms_tpdu.specs.Bits.{bit}
 use Rattle.sms_tpdu.specs.ValidityTable.{later}
@@ -43,7 +45,9 @@ use Rattle.sms_intake.specs.declared.submission.Submission.{Submission}
 use Rattle.sms_intake.specs.declared.submission.Text.{Text}
 use Rattle.sms_intake.specs.declared.submission.Text.TheVariants.{Whole, Single}
 use Rattle.sms_intake.specs.PartBodies.{body_behind}
-pub use Rattle.sms_intake.specs.SmppText.{are_below, are_whole, class_at, content_at, has_header, header_read, header_size, is_ascii, is_empty, octets_at, payload_or, said, sar_key, sar_of, septets_at, single_behind, splits, text_at, text_in, text_of, ucs2_at, whole_of, wish_in}
+pub use Rattle.sms_intake.specs.SmppText.{are_below, are_whole, class_at, content_at, has_header, header_read, header_size, is_ascii, is_empty, octets_at}
+pub use Rattle.sms_intake.specs.SmppText.{payload_or, said, sar_key, sar_of, septets_at, single_behind, splits, text_at, text_in, text_of, ucs2_at, whole_of}
+pub use Rattle.sms_intake.specs.SmppText.{wish_in}
 unfoldable pub use Rattle.sms_intake.specs.SmppText.{headed_text, plain_text}
 
 -- ---- addresses

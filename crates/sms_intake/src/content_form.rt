@@ -4,7 +4,7 @@ use sms_alphabet::Coding;
 /// What the octets of a content are.
 #[derive(Clone, Copy, Debug, PartialEq, Eq)]
 pub(crate) enum ContentForm {
-    /// Its units, in this coding and under this data coding scheme.
+    /// The octets are units in this coding, under this data coding scheme.
     Units { coding: Coding, scheme: u8 },
     /// The codes of its characters, which are coded as they allow.
     Characters,

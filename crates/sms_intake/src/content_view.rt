@@ -93,8 +93,8 @@ fn class_view<'a>(scheme: u8, octets: &'a [u8]) -> Result<ContentView<'a>, Comma
     }
 }
 
-// The characters that the octets are the codes of.
-fn latin_text(alloc: Global, octets: &[u8]) -> Result<String, AllocError>
+/// The characters that the octets are the codes of.
+pub fn latin_text(alloc: Global, octets: &[u8]) -> Result<String, AllocError>
     ensures { IfOk result (λ text. chars (string_bytes text) ≡ octets.now) }
 {
     let mut text = String::new(alloc);

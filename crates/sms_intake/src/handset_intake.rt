@@ -1,14 +1,13 @@
 //! A SUBMIT from a handset.
 ghost use Rattle.std.specs.Prelude.{◌≡◌, IfOk, Err};
-ghost use Rattle.sms_alphabet.specs.Concatenation.{header_key};
 ghost use Rattle.sms_tpdu.specs.TpduReading.{up_at};
 ghost use Rattle.sms_tpdu.specs.declared.carrier.Carrier.TheVariants.{InData};
-ghost use Rattle.sms_intake.specs.HandsetIntake.{Answers, from_read, from_submit, is_of_account, is_past, submission_of, wish_of};
+ghost use Rattle.sms_intake.specs.HandsetIntake.{AnswersIntake, from_read, from_submit, is_of_account, is_past, submission_of, wish_of};
 
 use crate::refusal::{SubmitError, SubmitRefusal};
 use crate::submission::{CentreAccount, SinglePart, Submission, Text};
 use sms_base::{Address, Digits, Moment, Octets, Originator, Priority, Wish};
-use sms_concat::{ConcatKey, Header, concat_info};
+use sms_concat::header_key;
 use sms_tpdu::{Carrier, Submit, Up, ValidityPeriod, read_up, validity};
 use std::alloc::{AllocError, Global};
 
@@ -29,19 +28,6 @@ fn wish_of(status_report_request: bool) -> Wish
         Wish::Always
     } else {
         Wish::Nothing
-    }
-}
-
-// The key of the header that user data begins with.
-fn header_key(indicator: bool, octets: &[u8]) -> Option<ConcatKey>
-    ensures { result ≡ header_key indicator octets.now }
-{
-    if !indicator {
-        return None;
-    }
-    match Header::read(octets) {
-        Ok(header) => concat_info(&header),
-        Err(_) => None,
     }
 }
 
@@ -98,7 +84,7 @@ fn accepted(
     now: Moment,
     submit: &Submit<'_>,
 ) -> Result<Submission, SubmitError>
-    ensures { Answers result (from_submit accounts.now from now submit.now) }
+    ensures { AnswersIntake result (from_submit accounts.now from now submit.now) }
 {
     if !submit.destination_address.names_handset() {
         return Err(SubmitError::Refused(SubmitRefusal::NoHandset));
@@ -124,7 +110,7 @@ pub fn from_submit(
     now: Moment,
     tpdu: &[u8],
 ) -> Result<Submission, SubmitError>
-    ensures { Answers result (from_read accounts.now from now (up_at InData tpdu.now)) }
+    ensures { AnswersIntake result (from_read accounts.now from now (up_at InData tpdu.now)) }
 {
     match read_up(tpdu, Carrier::InData) {
         Ok(Up::Submit(submit)) => accepted(alloc, accounts, from, now, &submit),

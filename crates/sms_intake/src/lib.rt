@@ -41,11 +41,12 @@ mod submit_report;
 mod text_view;
 
 pub use allowed_source::AllowedSource;
-pub use content_view::content_of;
+pub use content_view::{content_of, latin_text};
 pub use deliver::deliver_octets;
 pub use handset_intake::from_submit;
 pub use part_bodies::bodies_under;
 pub use refusal::{SmppError, SubmitError, SubmitRefusal};
+pub use smpp_address::{address_in, source_in};
 pub use smpp_front::{Front, front_of};
 pub use smpp_intake::{from_pdu, refusal_of};
 pub use smpp_times::{due_of, limit_of, wish_of};

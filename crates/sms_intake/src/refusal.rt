@@ -84,7 +84,7 @@ impl SubmitRefusal {
 /// Why there is no submission.
 #[derive(Clone, Copy, Debug, PartialEq, Eq, Error)]
 pub enum SubmitError {
-    /// It is refused.
+    /// The SUBMIT is refused.
     #[error("{0}")]
     Refused(SubmitRefusal),
     /// There was no memory.
@@ -103,7 +103,7 @@ impl From<AllocError> for SubmitError {
 /// Why there is no submission of a submit_sm.
 #[derive(Clone, Copy, Debug, PartialEq, Eq, Error)]
 pub enum SmppError {
-    /// It is refused with this status, which is not ESME_ROK.
+    /// The submit_sm is refused with this status, which is not ESME_ROK.
     #[error("the submit_sm is refused")]
     Refused(CommandStatus),
     /// There was no memory.

@@ -11,8 +11,8 @@ pub(crate) fn is_ascii(octets: &[u8]) -> bool
     octets.iter().all(|octet| *octet < 128)
 }
 
-// The address of an entity, if it is one in ASCII.
-fn address_in(entity: &SmeAddress<'_>) -> Option<Address>
+/// The address that an entity of a PDU names, if it is one in ASCII.
+pub fn address_in(entity: &SmeAddress<'_>) -> Option<Address>
     ensures { result ≡ address_in entity.now }
 {
     let octets = entity.addr.as_slice();
@@ -25,8 +25,8 @@ fn address_in(entity: &SmeAddress<'_>) -> Option<Address>
     }
 }
 
-// The source of a message; an empty one is the account's address.
-pub(crate) fn source_in(own: &Address, entity: &SmeAddress<'_>) -> Option<Address>
+/// The source that an entity of a PDU names; an empty one is the account's address.
+pub fn source_in(own: &Address, entity: &SmeAddress<'_>) -> Option<Address>
     ensures { result ≡ source_in own.now entity.now }
 {
     if entity.addr.as_slice().is_empty() {

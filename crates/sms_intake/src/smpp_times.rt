@@ -1,10 +1,10 @@
 //! Times and wishes of a submit_sm.
-ghost use Rattle.std.specs.Prelude.{◌≡◌, min};
+ghost use Rattle.std.specs.Prelude.{◌≡◌};
 ghost use Rattle.sms_base.specs.SmppTime.{smpp_time_in};
 ghost use Rattle.sms_intake.specs.SmppIntake.{due_in, limit_in, wish_in};
 
 use smpp_pdu::CommandStatus;
-use sms_base::{Moment, Wish};
+use sms_base::{Moment, Wish, earlier};
 
 /// How long a message is kept that asks for nothing else: two days.
 const DEFAULT_SECONDS: u64 = 172_800;
@@ -35,17 +35,6 @@ pub fn limit_of(validity_period: &[u8], now: Moment) -> Result<Moment, CommandSt
             Ok(earlier(limit, now.plus(LONGEST_SECONDS)))
         }
         _ => Err(CommandStatus::ESME_RINVEXPIRY),
-    }
-}
-
-// The earlier of two moments.
-fn earlier(one: Moment, other: Moment) -> Moment
-    ensures { result ≡ min one other }
-{
-    if one.seconds() < other.seconds() {
-        one
-    } else {
-        other
     }
 }
 

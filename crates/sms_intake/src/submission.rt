@@ -6,7 +6,7 @@ use sms_concat::{ConcatKey, Content};
 /// An application's account.
 #[derive(Debug, Drop)]
 pub struct CentreAccount {
-    /// Its name, the system_id of its sessions.
+    /// The account's name, the system_id of its sessions.
     pub name: Octets,
     /// The source of messages that name none.
     pub address: Address,
@@ -34,7 +34,7 @@ pub struct SinglePart {
 pub enum Text {
     /// A content, in one part without a header, or split by the centre where it doesn't fit.
     Whole(Content),
-    /// One part.
+    /// A text that is one part.
     Single(SinglePart),
 }
 

@@ -3,7 +3,8 @@ ghost use Rattle.std.specs.Prelude.{◌≡◌, ◌≤◌, IfOk, Some, drop, leng
 ghost use Rattle.sms_alphabet.specs.HeaderGrammar.{header_at};
 ghost use Rattle.sms_concat.specs.UserData.{FitsBehind, header_of};
 ghost use Rattle.sms_intake.specs.PartBodies.{body_behind};
-ghost use Rattle.sms_intake.specs.SmppIntake.{header_read, header_size, headed_text, plain_text, said, sar_key, sar_of, single_behind, text_in, text_of, whole_of};
+ghost use Rattle.sms_intake.specs.SmppIntake.{header_read, header_size, headed_text, plain_text, said, sar_key, sar_of, single_behind, text_in, text_of};
+ghost use Rattle.sms_intake.specs.SmppIntake.{whole_of};
 
 use crate::content_view::ContentView;
 use crate::header_form::HeaderForm;

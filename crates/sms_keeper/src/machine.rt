@@ -13,15 +13,15 @@ use sms_base::{MessageId, Moment};
 /// What the machine is to do that no seat asks.
 #[derive(Clone, Copy, Debug, PartialEq, Eq)]
 pub enum Errand {
-    /// It looks at so many messages, from that number on, and forgets those that may go and ended before that moment.
+    /// The machine looks at so many messages, from that number on, and forgets those that may go and ended before that moment.
     Forget {
         before: Moment,
         from: u64,
         most: u16,
     },
-    /// Its owner orders that what waits of the message is due now.
+    /// The machine's owner orders that what waits of the message is due now.
     Retry(MessageId),
-    /// Its owner orders that the message is deleted.
+    /// The machine's owner orders that the message is deleted.
     Delete(MessageId),
 }
 
@@ -76,7 +76,7 @@ pub trait Gate {
     fn pass(&self);
 }
 
-/// A clock.
+/// What shows moments.
 pub trait Clock {
     /// The moments that it may show.
     ghost reads: { Self → ℕ → Type 0 };
@@ -145,7 +145,7 @@ pub trait Machine<J, O> {
     /// So far its store has returned what was written.
     ghost is_honest: { Self → Type 0 };
 
-    /// Its rows could not be read when it was last to be opened again.
+    /// The machine's rows could not be read when it was last to be opened again.
     ghost is_broken: { Self → Type 0 };
 
     /// Between these two states its store refused a call.

@@ -44,7 +44,7 @@ impl<O: Drop> Outs<O> {
         }
     }
 
-    /// One out.
+    /// A list of one out.
     pub fn one(out: Out<O>) -> Outs<O>
         ensures { result ≡ out ∷ [] }
     {

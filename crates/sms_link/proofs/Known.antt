@@ -30,7 +30,7 @@ use Rattle.sms_base.specs.declared.carried.Carried.{Carried}
 use Rattle.sms_link.specs.declared.outgoing.Outgoing.{Outgoing}
 use Rattle.sms_link.specs.declared.ending.Side.{Side}
 use Rattle.sms_link.specs.LinkTurn.{LinkOf, Turn, new_link, still, of_kind, started, begun, answering, replied, carried_by, carried_in, of_links, from_links, still_under_way, heard, taken, fired}
-use Rattle.sms_link.specs.LinkCalls.{LinkCall, Begin, Reply, Take, Fire, AreCalls, first_sending, IsNew, IsCopy, IsControl, IsBare, AllSend}
+use Rattle.sms_link.specs.LinkCalls.{LinkCall, Begin, Reply, Take, Fire, AreCalls, first_sending, IsNewFrame, IsCopy, IsControl, IsBare, AllSend}
 
 -- ---- what holds between calls
 
@@ -260,7 +260,7 @@ module _ (before : List Outgoing) (l : LinkOf) (h : Holds before l) where
 
 -- what a call of this side sends is new and carries that, and what it leaves holds
 abbrev Fresh : List Outgoing → TransactionFlag → List ℕ → Carried → Turn → Type 0
-Fresh before flag unit carried t = AllByRecursion (IsNew flag unit carried) t.out.frames × Holds (t.out.frames ++ before) t.link
+Fresh before flag unit carried t = AllByRecursion (IsNewFrame flag unit carried) t.out.frames × Holds (t.out.frames ++ before) t.link
 
 pub by_test : (P : Turn → Type 0) (b : Bool) (x y : Turn) → (b ≡ true → P x) → (b ≡ false → P y) → P (cond b x y)
 by_test P true x y f g = f refl
@@ -284,7 +284,7 @@ sent_first flag i unit carried before lt some fits = record {
 }
 
 is_new : (flag : TransactionFlag) (i : ℕ) (unit : List ℕ) (carried : Carried) → i < 7 → 0 < length unit → length unit ≤ 248
-    → IsNew flag unit carried (first_sending (spelled (DataUnit (in_transaction flag i) unit)) carried)
+    → IsNewFrame flag unit carried (first_sending (spelled (DataUnit (in_transaction flag i) unit)) carried)
 is_new flag i unit carried lt some fits = record { identifier = i; reads = reads_unit flag i unit lt some fits; carries = refl; is_first = refl }
 
 pub begin_is : (now : ℕ) (unit : List ℕ) (s : LinkState) → is_busy s ≡ false → begin_step now unit s ≡ links_started now (spelled (DataUnit (in_transaction FromOriginator s.next_identifier) unit)) s

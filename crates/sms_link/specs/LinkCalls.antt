@@ -49,7 +49,7 @@ AreCalls calls = AllByRecursion IsCall calls
 -- ---- frames
 
 -- new: CP-DATA of that side of its transaction, with the unit, that carries what was given
-pub record IsNew (flag : TransactionFlag) (unit : List ℕ) (carried : Carried) (frame : Outgoing) : Type 0 where
+pub record IsNewFrame (flag : TransactionFlag) (unit : List ℕ) (carried : Carried) (frame : Outgoing) : Type 0 where
   pub identifier : ℕ
   pub reads : cp_at frame.octets ≡ Ok (DataUnit (in_transaction flag identifier) unit)
   pub carries : frame.carried ≡ Some carried
@@ -79,8 +79,8 @@ pub record IsBare (frame : Outgoing) : Type 0 where
 
 -- what a call sends where these frames were sent before
 abbrev pub Sends : LinkCall → List Outgoing → List Outgoing → Type 0
-Sends (Begin now reference tag unit) before frames = AllByRecursion (IsNew FromOriginator unit (of_kind Data reference tag)) frames
-Sends (Reply now kind reference tag unit) before frames = AllByRecursion (IsNew ToOriginator unit (of_kind kind reference tag)) frames
+Sends (Begin now reference tag unit) before frames = AllByRecursion (IsNewFrame FromOriginator unit (of_kind Data reference tag)) frames
+Sends (Reply now kind reference tag unit) before frames = AllByRecursion (IsNewFrame ToOriginator unit (of_kind kind reference tag)) frames
 Sends (Take frame) before frames = AllByRecursion (λ sent. IsCopy before sent ⊎ IsBare sent) frames
 Sends (Fire now) before frames = AllByRecursion (IsCopy before) frames
 

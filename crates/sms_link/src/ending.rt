@@ -9,9 +9,9 @@ use std::alloc::{AllocError, Global};
 /// Whose end of a link it is.
 #[derive(Clone, Copy, Debug, PartialEq, Eq)]
 pub enum Side {
-    /// It receives the units that are sent down.
+    /// The side receives the units that are sent down.
     Handset,
-    /// It receives the units that are sent up.
+    /// The side receives the units that are sent up.
     Centre,
 }
 

@@ -3,7 +3,8 @@ ghost use Rattle.std.specs.Prelude.{◌≡◌, ◌<◌, ◌≤◌, ◌++◌, [],
 ghost use Rattle.sms_control.specs.ControlReading.{cp_at};
 ghost use Rattle.sms_control.specs.DueTimers.{is_due, is_timed};
 ghost use Rattle.sms_control.specs.LinkStep.{awaits_reply, is_busy};
-ghost use Rattle.sms_link.specs.LinkTurn.{begun, passed_up as passed_up_of, carried_in as carried_in_of, carrying as carrying_of, fired, from_links as from_links_of, new_link, replied, still_under_way as still_under_way_of, taken};
+ghost use Rattle.sms_link.specs.LinkTurn.{begun, passed_up as passed_up_of, carried_in as carried_in_of, carrying as carrying_of, fired};
+ghost use Rattle.sms_link.specs.LinkTurn.{from_links as from_links_of, new_link, replied, still_under_way as still_under_way_of, taken};
 
 use crate::ending::{Ending, Side, Upward, ending_of};
 use crate::outgoing::Outgoing;
@@ -12,7 +13,7 @@ use sms_control::{Cp, Frames, Links, Out, TransactionFlag, Up};
 use std::alloc::{AllocError, Global};
 use std::marker::Model;
 
-/// One end of a link, with what its transactions carry.
+/// An end of a link, with what its transactions carry.
 #[derive(Drop)]
 pub struct Link {
     alloc: Global,

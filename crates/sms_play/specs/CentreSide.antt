@@ -20,8 +20,8 @@ use Rattle.sms_centre_rows.specs.declared.waiting.revision.Revision.{Revision}
 use Rattle.sms_centre_rows.specs.declared.waiting.revision.Revision.TheVariants.{Put, Amend, Remove}
 use Rattle.sms_script.specs.declared.report.answers.Answered.{Answered}
 use Rattle.sms_script.specs.declared.report.answers.Answered.TheVariants.{Accepted, Found, Status}
-use Rattle.sms_script.specs.declared.report.answers.MessageState.{MessageState}
-use Rattle.sms_script.specs.declared.report.answers.MessageState.TheVariants.{Enroute, Final}
+use Rattle.sms_centre_rows.specs.declared.report_lines.MessageState.{MessageState}
+use Rattle.sms_centre_rows.specs.declared.report_lines.MessageState.TheVariants.{Enroute, Final}
 use Rattle.sms_script.specs.declared.report.rows.Direction.TheVariants.{Down}
 use Rattle.sms_script.specs.declared.report.rows.FrameRow.{FrameRow}
 use Rattle.sms_script.specs.declared.report.rows.GivenRow.{GivenRow}

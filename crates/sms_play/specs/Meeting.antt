@@ -5,17 +5,19 @@ use Rattle.std.specs.Str.{bytes_eq, chars}
 use Rattle.sms_base.specs.declared.carried.Carried.{Carried}
 use Rattle.sms_base.specs.declared.holder.Holder.{Holder}
 use Rattle.sms_centre_spec.specs.declared.event.CentreEvent.{CentreEvent}
-use Rattle.sms_centre_spec.specs.declared.event.CentreEvent.TheVariants.{Submit as CentreSubmit, Query as CentreQuery, Cancel as CentreCancel, Frame as CentreFrame, Tick as CentreTick}
+use Rattle.sms_centre_spec.specs.declared.event.CentreEvent.TheVariants.{Submit as CentreSubmit, Query as CentreQuery, Cancel as CentreCancel}
+use Rattle.sms_centre_spec.specs.declared.event.CentreEvent.TheVariants.{Frame as CentreFrame, Tick as CentreTick}
 use Rattle.sms_intake.specs.declared.submission.CentreAccount.{CentreAccount}
 use Rattle.sms_handset.specs.declared.event.HandsetEvent.{HandsetEvent}
-use Rattle.sms_handset.specs.declared.event.HandsetEvent.TheVariants.{Frame as HandsetFrame, Tick as HandsetTick, Write as HandsetWrite, Delete as HandsetDelete, Discard as HandsetDiscard}
+use Rattle.sms_handset.specs.declared.event.HandsetEvent.TheVariants.{Frame as HandsetFrame, Tick as HandsetTick, Write as HandsetWrite}
+use Rattle.sms_handset.specs.declared.event.HandsetEvent.TheVariants.{Delete as HandsetDelete, Discard as HandsetDiscard}
 use Rattle.sms_script.specs.declared.report.rows.Direction.{Direction}
 use Rattle.sms_script.specs.declared.report.rows.Direction.TheVariants.{Up, Down}
 use Rattle.sms_script.specs.declared.report.rows.FrameRow.{FrameRow}
 use Rattle.sms_script.specs.declared.event.Act.{Act}
 use Rattle.sms_script.specs.declared.event.Act.TheVariants.{Submit, Query, Cancel, Write, Delete, Discard, Deliver, Tick}
-use Rattle.sms_script.specs.declared.event.Side.{Side}
-use Rattle.sms_script.specs.declared.event.Side.TheVariants.{Centre, Handset}
+use Rattle.sms_script.specs.declared.event.EventSide.{EventSide}
+use Rattle.sms_script.specs.declared.event.EventSide.TheVariants.{Centre, Handset}
 use Rattle.sms_script.specs.Requests.{cancel_of, query_of, submit_of}
 use Rattle.sms_script.specs.declared.play_fault.PlayFault.{PlayFault}
 use Rattle.sms_script.specs.declared.play_fault.PlayFault.TheVariants.{NoSuchFrame, NoSuchSide, NoSuchAccount}
@@ -66,7 +68,7 @@ delivered event (Some f) c = handed_over event f.direction f c
 
 -- ---- timers
 
-abbrev pub ticked : ℕ → ℕ → Side → PlayState → Result Meeting PlayFault
+abbrev pub ticked : ℕ → ℕ → EventSide → PlayState → Result Meeting PlayFault
 ticked event now Centre c = Ok (AtCentre (CentreTick now))
 ticked event now (Handset number) c = at_handset event number (HandsetTick now) c
 

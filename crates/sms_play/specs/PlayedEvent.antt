@@ -8,8 +8,8 @@ use Rattle.sms_handset.specs.declared.refusal.Refusal.{Refusal}
 use Rattle.sms_script.specs.declared.report.answers.Answered.TheVariants.{Stopped as AnsweredStopped}
 use Rattle.sms_centre_rows.specs.reports.Receipts.{Session}
 use Rattle.sms_script.specs.declared.event.Act.{Act}
-use Rattle.sms_script.specs.declared.event.Side.{Side}
-use Rattle.sms_script.specs.declared.event.Side.TheVariants.{Centre, Handset}
+use Rattle.sms_script.specs.declared.event.EventSide.{EventSide}
+use Rattle.sms_script.specs.declared.event.EventSide.TheVariants.{Centre, Handset}
 use Rattle.sms_script.specs.declared.event.StopPoint.{StopPoint}
 use Rattle.sms_script.specs.declared.event.StopPoint.TheVariants.{Before, After}
 use Rattle.sms_script.specs.declared.event.WorldEvent.{WorldEvent}
@@ -78,7 +78,7 @@ abbrev pub handset_restarts : ℕ → Option Party → PlayState → Result Play
 handset_restarts event None c = Err (NoSuchSide event)
 handset_restarts event (Some party) c = Ok (party_restarted party c)
 
-abbrev pub restart : ℕ → Side → PlayState → Result PlayState PlayFault
+abbrev pub restart : ℕ → EventSide → PlayState → Result PlayState PlayFault
 restart event Centre c = Ok (centre_restarted c)
 restart event (Handset number) c = handset_restarts event (party_at number c.parties) c
 

@@ -61,7 +61,7 @@ impl<'a> Model for PlayedCentre<'a> {
 }
 
 impl<'a> PlayedCentre<'a> {
-    /// This centre, with these rows, and links to these handsets.
+    /// A centre with these rows, and links to these handsets.
     pub fn new(
         alloc: Global,
         centre: &'a mut Centre,

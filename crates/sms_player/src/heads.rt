@@ -6,7 +6,6 @@
 //! refused. This module passes on what crates above name of a handset in play.
 
 mod centre;
-mod digits;
 mod handsets;
 mod judging;
 pub mod laws;

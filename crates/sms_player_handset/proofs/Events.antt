@@ -6,7 +6,7 @@ use Rattle.sms_handset_draft.specs.Draft.{Core, Draft, core_of}
 use Rattle.sms_handset_draft.specs.declared.rows.Rows.{Rows}
 use Rattle.sms_handset_draft.specs.Outcome.{Outcome, outcome_of}
 use Rattle.sms_handset.specs.HandsetEvent.{deleted, discarded, frame_received, ticked, wrote}
-use Rattle.sms_handset.specs.Planning.{Rests, RestsIfDone, adopted}
+use Rattle.sms_handset.specs.Planning.{IsRevised, IsRevisedIfDone, adopted}
 use Rattle.sms_handset.specs.declared.event.HandsetEvent.{HandsetEvent}
 use Rattle.sms_handset.specs.declared.event.HandsetEvent.TheVariants.{Frame, Tick, Write, Delete, Discard}
 use Rattle.sms_handset.specs.declared.refusal.Refusal.{Refusal}
@@ -33,12 +33,12 @@ keeps_moments event c d e = subst (λ (r : Result Draft Refusal). StaysIfDone (m
 
 -- the rows of each event by its kind
 pub event_rests :
-    (frame : (octets : List ℕ) (tag : Holder) (c : Core) → Rests c.rows (frame_received octets tag c))
-    (tick : (now : ℕ) (c : Core) → Rests c.rows (ticked now c))
-    (write : (text to : List ℕ) (report : Bool) (c : Core) → RestsIfDone c.rows (wrote text to report c))
-    (delete : (entry : ℕ) (c : Core) → RestsIfDone c.rows (deleted entry c))
-    (discard : (entry : ℕ) (c : Core) → RestsIfDone c.rows (discarded entry c))
-    (event : HandsetEvent) (c : Core) → RestsIfDone c.rows (happened event c)
+    (frame : (octets : List ℕ) (tag : Holder) (c : Core) → IsRevised c.rows (frame_received octets tag c))
+    (tick : (now : ℕ) (c : Core) → IsRevised c.rows (ticked now c))
+    (write : (text to : List ℕ) (report : Bool) (c : Core) → IsRevisedIfDone c.rows (wrote text to report c))
+    (delete : (entry : ℕ) (c : Core) → IsRevisedIfDone c.rows (deleted entry c))
+    (discard : (entry : ℕ) (c : Core) → IsRevisedIfDone c.rows (discarded entry c))
+    (event : HandsetEvent) (c : Core) → IsRevisedIfDone c.rows (happened event c)
 event_rests frame tick write delete discard (Frame octets tag) c = frame octets (tag_of tag) c
 event_rests frame tick write delete discard (Tick now) c = tick now c
 event_rests frame tick write delete discard (Write text to report) c = write text to report c
@@ -46,9 +46,9 @@ event_rests frame tick write delete discard (Delete entry) c = delete entry c
 event_rests frame tick write delete discard (Discard entry) c = discard entry c
 
 -- a draft that rests on the rows is what adopting its outcome leads to
-pub adopted_is : (wanted : Result Draft Refusal) (d : Draft) (c : Core) → RestsIfDone c.rows wanted → wanted ≡ Ok d → adopted (outcome_of d) c ≡ core_of d
+pub adopted_is : (wanted : Result Draft Refusal) (d : Draft) (c : Core) → IsRevisedIfDone c.rows wanted → wanted ≡ Ok d → adopted (outcome_of d) c ≡ core_of d
 adopted_is wanted d c h e =
-    let rests : Rests c.rows d = subst (λ (r : Result Draft Refusal). RestsIfDone c.rows r) e h in
+    let rests : IsRevised c.rows d = subst (λ (r : Result Draft Refusal). IsRevisedIfDone c.rows r) e h in
     ap (λ (rows : Rows). record (core_of d) { rows = rows }) (sym rests)
 
 -- a handset by its four fields
@@ -71,7 +71,7 @@ given_is party before after d o moment is time given =
 
 -- a plan of the event that was carried out
 pub meets_planned : {E : Type 0} (res : Result HandsetOutcome E) (old new : Party) (before after : List GivenRow) (wanted : Result Draft Refusal) (d : Draft) (o : Outcome) (moment : ℕ)
-    → wanted ≡ Ok d → o ≡ outcome_of d → RestsIfDone old.core.rows wanted → d.moment ≡ moment → new.number ≡ old.number
+    → wanted ≡ Ok d → o ≡ outcome_of d → IsRevisedIfDone old.core.rows wanted → d.moment ≡ moment → new.number ≡ old.number
     → IfOk res (λ met. met ≡ Done o.frames)
     → OnOk res (new.core ≡ adopted o old.core)
     → OnOk res (new.accepted ≡ old.accepted ++ accepted_in old.number o.changes.last)

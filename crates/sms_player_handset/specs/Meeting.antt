@@ -4,7 +4,7 @@ use Rattle.sms_handset_draft.specs.Draft.{Core, Draft}
 use Rattle.sms_handset.specs.declared.event.HandsetEvent.{HandsetEvent}
 use Rattle.sms_handset.specs.declared.event.HandsetEvent.TheVariants.{Frame, Tick, Write, Delete, Discard}
 use Rattle.sms_handset.specs.declared.refusal.Refusal.{Refusal}
-use Rattle.sms_handset.specs.Planning.{RestsIfDone}
+use Rattle.sms_handset.specs.Planning.{IsRevisedIfDone}
 use Rattle.sms_play.specs.PlayState.{Party}
 use Rattle.sms_play.specs.HandsetSide.{given_by, happened, party_after}
 use Rattle.sms_player_handset.specs.declared.played.HandsetOutcome.{HandsetOutcome}
@@ -32,5 +32,5 @@ moment_after moment (Discard entry) = moment
 abbrev pub KeepsMomentsLaw : Type 0
 KeepsMomentsLaw = (event : HandsetEvent) (c : Core) (d : Draft) → happened event c ≡ Ok d → d.moment ≡ moment_after c.moment event
 
-abbrev pub RestsLaw : Type 0
-RestsLaw = (event : HandsetEvent) (c : Core) → RestsIfDone c.rows (happened event c)
+abbrev pub RevisedLaw : Type 0
+RevisedLaw = (event : HandsetEvent) (c : Core) → IsRevisedIfDone c.rows (happened event c)

@@ -3,7 +3,8 @@ ghost use Rattle.std.specs.Prelude.{◌≡◌, ◌++◌, ◌∷◌, [], if◌the
 ghost use Rattle.sms_handset_draft.specs.Outcome.{changes_in};
 ghost use Rattle.sms_rows.specs.table.Table.{all_applied, row_at};
 ghost use Rattle.sms_handset_rows.specs.outbox.Keys.{out_key};
-ghost use Rattle.sms_play.specs.HandsetSide.{accepted_in, carried_given, coding_of as coding_of_units, data_given, entries_given, entry_given, joined_as, joined_in, memories_given, memory_given};
+ghost use Rattle.sms_play.specs.HandsetSide.{accepted_in, carried_given, coding_of as coding_of_units, data_given, entries_given, entry_given, joined_as};
+ghost use Rattle.sms_play.specs.HandsetSide.{joined_in, memories_given, memory_given};
 ghost use Rattle.sms_player_handset.specs.Noting.{accepted_of, each, entry_of, frame_of, joined_of};
 ghost use Rattle.sms_script.specs.declared.report.rows.Direction.TheVariants.{Up as UpOf};
 

@@ -5,7 +5,7 @@ ghost use Rattle.sms_base.specs.HandsetNumber.{own_address};
 ghost use Rattle.sms_handset_draft.specs.Draft.{recovered};
 ghost use Rattle.sms_handset_draft.specs.FirstRows.{first_rows};
 ghost use Rattle.sms_handset.specs.HandsetEvent.{deleted, discarded};
-ghost use Rattle.sms_handset.specs.Planning.{Fits, adopted};
+ghost use Rattle.sms_handset.specs.Planning.{FitsTheHandset, adopted};
 ghost use Rattle.sms_handset.specs.SoundCore.{IsSoundCore};
 ghost use Rattle.sms_handset.specs.declared.refusal.Refusal.TheVariants.{NoEntry};
 ghost use Rattle.sms_play.specs.HandsetSide.{accepted_in, entries_given, happened, joined_in, memories_given};
@@ -47,7 +47,7 @@ impl Model for PlayedHandset {
 /// What a handset did with an event.
 #[derive(Drop)]
 pub enum HandsetOutcome {
-    /// These frames are sent.
+    /// The handset sends these frames.
     Done(Listed<Outgoing>),
     /// The act of its owner is refused.
     Refused(Refusal),
@@ -103,7 +103,7 @@ fn carry_out(
     history: &mut History,
     given: &mut Listed<GivenRow>,
 ) -> Result<HandsetOutcome, AllocError>
-    requires fits { Fits planned stored.old }
+    requires fits { FitsTheHandset planned stored.old }
     requires sound { IsSoundCore (adopted planned.outcome stored.old.core) }
     requires moment { moment ≡ planned.outcome.moment }
     ensures met { IfOk result (λ met. met ≡ DoneOf planned.outcome.frames) }
@@ -163,7 +163,7 @@ impl PlayedHandset {
         })
     }
 
-    /// Its number, which can be written as the address of a handset.
+    /// The handset's number, which can be written as the address of a handset.
     pub fn number(&self) -> Digits
         ensures number { result ≡ self.now.number }
         ensures address { IsAddress (own_address result) }

@@ -3,7 +3,7 @@ ghost use Rattle.std.specs.Prelude.{◌≡◌, IfOk, OnErr, OnOk};
 ghost use Rattle.sms_handset_draft.specs.Draft.{recovered, rows_after};
 ghost use Rattle.sms_handset_draft.specs.Outcome.{changes_in};
 ghost use Rattle.sms_handset_draft.specs.FirstRows.{first_rows};
-ghost use Rattle.sms_handset.specs.Planning.{Fits, Plans, adopted};
+ghost use Rattle.sms_handset.specs.Planning.{FitsTheHandset, Plans, adopted};
 ghost use Rattle.sms_handset.specs.SoundCore.{IsSoundCore};
 ghost use Rattle.sms_handset.specs.SoundRows.{IsSetup, IsSound};
 ghost use Rattle.sms_store_memory.specs.handset.RowsInKeep.{rows_in};
@@ -150,7 +150,7 @@ impl StoredHandset {
         self.keep.counters().entry
     }
 
-    /// Its greatest moment after the event.
+    /// The handset's greatest moment after the event.
     pub(crate) fn moment_after(&self, event: &HandsetEvent<'_>) -> Moment
         ensures { result ≡ moment_after_of self.now.core.moment event.now }
     {
@@ -160,7 +160,7 @@ impl StoredHandset {
     /// What the event changes and sends.
     pub(crate) fn plan(&self, event: &HandsetEvent<'_>) -> Result<Plan, PlanError>
         ensures plan { Plans result self.now (happened event.now self.now.core) }
-        ensures fits { IfOk result (λ planned. Fits planned self.now) }
+        ensures fits { IfOk result (λ planned. FitsTheHandset planned self.now) }
         ensures sound { IfOk result (λ planned. IsSoundCore (adopted planned.outcome self.now.core)) }
     {
         self.handset.plan(event)
@@ -172,7 +172,7 @@ impl StoredHandset {
         moment: Moment,
         planned: Plan,
     ) -> Result<Listed<Outgoing>, AllocError>
-        requires fits { Fits planned self.old }
+        requires fits { FitsTheHandset planned self.old }
         requires sound { IsSoundCore (adopted planned.outcome self.old.core) }
         requires moment { moment ≡ planned.outcome.moment }
         ensures state { OnOk result (self.new.core ≡ adopted planned.outcome self.old.core) }

@@ -1,16 +1,11 @@
 -- The text of a receipt (SMPP v3.4 appendix B; which fields it has is this project's profile).
 use Rattle.std.specs.Prelude.{ℕ, List, ◌++◌, codes}
+use Rattle.sms_base.specs.FinalWords.{final_word}
 use Rattle.sms_base.specs.MessageId.{id_text}
 use Rattle.sms_base.specs.UtcClock.{date_of}
 use Rattle.sms_base.specs.declared.final_state.FinalState.{FinalState}
 use Rattle.sms_base.specs.declared.final_state.FinalState.TheVariants.{Delivered, Expired, Deleted, Undeliverable}
 use Rattle.sms_receipt.specs.declared.final_message.Final.{Final}
-
-abbrev pub state_word : FinalState → List ℕ
-state_word Delivered = codes "DELIVRD"
-state_word Expired = codes "EXPIRED"
-state_word Deleted = codes "DELETED"
-state_word Undeliverable = codes "UNDELIV"
 
 -- how many of the one message were delivered
 abbrev pub delivered_word : FinalState → List ℕ
@@ -22,4 +17,4 @@ delivered_word Undeliverable = codes "000"
 abbrev pub receipt_text : Final → List ℕ
 receipt_text f =
     codes "id:" ++ (id_text f.id ++ (codes " sub:001 dlvrd:" ++ (delivered_word f.state ++ (codes " submit date:" ++ (date_of f.submitted
-    ++ (codes " done date:" ++ (date_of f.done ++ (codes " stat:" ++ (state_word f.state ++ codes " err:000 text:")))))))))
+    ++ (codes " done date:" ++ (date_of f.done ++ (codes " stat:" ++ (final_word f.state ++ codes " err:000 text:")))))))))

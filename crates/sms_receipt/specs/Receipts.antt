@@ -1,5 +1,5 @@
 -- The deliver_sm of a receipt (SMPP v3.4 4.6.1, 5.2.28).
-use Rattle.std.specs.Prelude.{ℕ, nat_lt, List, [], ◌∷◌, ◌++◌, map, Some, None, if◌then◌else◌}
+use Rattle.std.specs.Prelude.{ℕ, nat_lt, List, [], ◌∷◌, ◌++◌, map, Option, Some, None, if◌then◌else◌}
 use Rattle.sms_base.specs.AddressKind.{type_number}
 use Rattle.sms_base.specs.HandsetNumber.{own_address}
 use Rattle.sms_base.specs.MessageId.{id_text}
@@ -17,6 +17,11 @@ message_state Delivered = 2
 message_state Expired = 3
 message_state Deleted = 4
 message_state Undeliverable = 5
+
+-- message_state; 1 is a message that has not ended (SMPP v3.4 5.2.28)
+abbrev pub state_number : Option FinalState → ℕ
+state_number None = 1
+state_number (Some state) = message_state state
 
 -- addresses of applications and handsets are ASCII; a question mark replaces what is not
 abbrev pub ascii_octet : ℕ → ℕ

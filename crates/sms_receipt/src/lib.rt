@@ -21,6 +21,6 @@ mod status;
 mod text;
 
 pub use final_message::Final;
-pub use receipt::{Receipt, receipt_of};
+pub use receipt::{Receipt, message_state, receipt_of};
 pub use status::{status_report_octets, status_report_of};
 pub use text::receipt_text;

@@ -1,7 +1,7 @@
 //! Receipts.
 ghost use Rattle.std.specs.Prelude.{◌≡◌, ◌∷◌, [], ◌++◌, Some, None, IfOk};
 ghost use Rattle.sms_base.specs.MessageId.{id_text};
-ghost use Rattle.sms_receipt.specs.Receipts.{message_state, receipt_of};
+ghost use Rattle.sms_receipt.specs.Receipts.{message_state, receipt_of, state_number};
 
 use crate::entity::ascii_of;
 use crate::final_message::Final;
@@ -83,8 +83,8 @@ fn tlvs_of<'a>(id: &'a Octets, state: &'a Octets) -> Tlvs<'a>
     tlvs
 }
 
-/// The number that message_state gives a final state, 2 to 5 (SMPP v3.4 5.2.28).
-fn message_state(state: FinalState) -> u8
+// The number that message_state gives a final state, 2 to 5 (SMPP v3.4 5.2.28).
+fn final_number(state: FinalState) -> u8
     ensures { result ≡ message_state state }
 {
     match state {
@@ -92,6 +92,16 @@ fn message_state(state: FinalState) -> u8
         FinalState::Expired => 3,
         FinalState::Deleted => 4,
         FinalState::Undeliverable => 5,
+    }
+}
+
+/// message_state of a message: 1 where it has not ended (SMPP v3.4 5.2.28).
+pub fn message_state(state: Option<FinalState>) -> u8
+    ensures { result ≡ state_number state }
+{
+    match state {
+        None => 1,
+        Some(state) => final_number(state),
     }
 }
 
@@ -116,6 +126,6 @@ pub fn receipt_of(alloc: Global, end: &Final) -> Result<Receipt, AllocError>
         destination_text: ascii_of(alloc, &end.source.digits)?,
         text: receipt_text(alloc, end)?,
         id: terminated(alloc, end.id)?,
-        state: Octets::copy_of(alloc, &[message_state(end.state)])?,
+        state: Octets::copy_of(alloc, &[final_number(end.state)])?,
     })
 }

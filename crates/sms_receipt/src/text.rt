@@ -1,22 +1,11 @@
 //! The text of a receipt.
 ghost use Rattle.std.specs.Prelude.{◌≡◌, [], IfOk, OnOk};
 ghost use Rattle.sms_base.specs.MessageId.{id_text};
-ghost use Rattle.sms_receipt.specs.ReceiptText.{delivered_word, receipt_text, state_word};
+ghost use Rattle.sms_receipt.specs.ReceiptText.{delivered_word, receipt_text};
 
 use crate::final_message::Final;
 use sms_base::{FinalState, MessageId, Octets};
 use std::alloc::{AllocError, Global};
-
-fn state_word(state: FinalState) -> &'static [u8]
-    ensures { result.now ≡ state_word state }
-{
-    match state {
-        FinalState::Delivered => b"DELIVRD",
-        FinalState::Expired => b"EXPIRED",
-        FinalState::Deleted => b"DELETED",
-        FinalState::Undeliverable => b"UNDELIV",
-    }
-}
 
 fn delivered_word(state: FinalState) -> &'static [u8]
     ensures { result.now ≡ delivered_word state }
@@ -48,7 +37,7 @@ fn write_text(text: &mut Octets, end: &Final) -> Result<(), AllocError>
     text.append(b" done date:")?;
     text.append(&end.done.date_digits())?;
     text.append(b" stat:")?;
-    text.append(state_word(end.state))?;
+    text.append(end.state.word().as_bytes())?;
     text.append(b" err:000 text:")
 }
 

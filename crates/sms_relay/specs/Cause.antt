@@ -2,7 +2,13 @@
 use Rattle.std.specs.Prelude.{◌≡◌, ℕ, ◌<◌, List, [], ◌∷◌, ◌==◌, unwrap_or}
 use Rattle.std.specs.List.{find}
 use Rattle.sms_relay.specs.declared.cause.RpCause.{RpCause}
-use Rattle.sms_relay.specs.declared.cause.RpCause.TheVariants.{UnassignedNumber, OperatorDeterminedBarring, CallBarred, ShortMessageTransferRejected, MemoryCapacityExceeded, DestinationOutOfOrder, UnidentifiedSubscriber, FacilityRejected, UnknownSubscriber, NetworkOutOfOrder, TemporaryFailure, Congestion, ResourcesUnavailable, RequestedFacilityNotSubscribed, RequestedFacilityNotImplemented, InvalidShortMessageTransferReference, SemanticallyIncorrectMessage, InvalidMandatoryInformation, MessageTypeNonExistent, MessageNotCompatible, InformationElementNonExistent, ProtocolError, Interworking, Reserved}
+use Rattle.sms_relay.specs.declared.cause.RpCause.TheVariants.{UnassignedNumber, OperatorDeterminedBarring, CallBarred, ShortMessageTransferRejected}
+use Rattle.sms_relay.specs.declared.cause.RpCause.TheVariants.{MemoryCapacityExceeded, DestinationOutOfOrder, UnidentifiedSubscriber, FacilityRejected}
+use Rattle.sms_relay.specs.declared.cause.RpCause.TheVariants.{UnknownSubscriber, NetworkOutOfOrder, TemporaryFailure, Congestion, ResourcesUnavailable}
+use Rattle.sms_relay.specs.declared.cause.RpCause.TheVariants.{RequestedFacilityNotSubscribed, RequestedFacilityNotImplemented}
+use Rattle.sms_relay.specs.declared.cause.RpCause.TheVariants.{InvalidShortMessageTransferReference, SemanticallyIncorrectMessage, InvalidMandatoryInformation}
+use Rattle.sms_relay.specs.declared.cause.RpCause.TheVariants.{MessageTypeNonExistent, MessageNotCompatible, InformationElementNonExistent, ProtocolError}
+use Rattle.sms_relay.specs.declared.cause.RpCause.TheVariants.{Interworking, Reserved}
 
 -- the number of each cause
 abbrev pub number_of : RpCause → ℕ

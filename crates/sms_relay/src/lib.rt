@@ -24,6 +24,7 @@ mod fields;
 mod frame;
 pub mod laws;
 mod message_type;
+mod rejecting;
 mod up;
 mod writing;
 
@@ -31,4 +32,5 @@ pub use cause::RpCause;
 pub use down::{read_down, write_down};
 pub use fault::RelayFault;
 pub use frame::Rp;
+pub use rejecting::{fault_cause, reference_octet};
 pub use up::{read_up, write_up};

@@ -53,7 +53,8 @@ pub trait Keep: RowStore {
     /// The rows after all commits, each list in the order of its keys.
     fn load(&mut self) -> Result<Self::Rows, KeepError>
         ensures outcome { (rows : Self.Rows) → StoreOutcome (λ found. found ≡ rows) rows rows (Self.state self.old) (Self.state self.new) result }
-        ensures stop { (rows : Self.Rows) → IfHeld rows (Self.state self.old) (Self.state self.new) ((left : Self.Rows) → may_leave self.new left → left ≡ rows) }
+        ensures stop { (rows : Self.Rows)
+            → IfHeld rows (Self.state self.old) (Self.state self.new) ((left : Self.Rows) → may_leave self.new left → left ≡ rows) }
         ensures back { (rows : Self.Rows) → IfHeld rows (Self.state self.old) (Self.state self.new) (result ≢ Err NotThisStore) }
         ensures named { IfErr result (λ error. error ≢ OldVersion) }
         ensures before { WasHonest (Self.state self.old) (Self.state self.new) }

@@ -5,8 +5,10 @@
 //! digits and a small number; contracts see it as one number. `TableDraft` is a table within an event: the rows from
 //! before it, and what it changed. It settles into changes with the memory that they need. `adopt` puts them in without
 //! taking more: so a plan is made, is committed, and then can't fail.
-ghost use Rattle.std.specs.Prelude.{◌≡◌, ◌↔◌, ℕ, ◌+◌, ◌*◌, ◌<◌, ◌≤◌, not, true, [], nat_lt, length, map, drop, max, vec_capacity, MatchResult, OnOk, OnErr, IsOk, IfOk, IfErr, option_copied};
-ghost use Rattle.sms_rows.specs.table.Table.{HasRoom, IsAt, IsGap, IsRange, Rises, all_applied, applied, is_there, put, row_at, rows_between, rows_from, reserve_for, without, without_all};
+ghost use Rattle.std.specs.Prelude.{◌≡◌, ◌↔◌, ℕ, ◌+◌, ◌*◌, ◌<◌, ◌≤◌, not, true, [], nat_lt, length, map, drop, max, vec_capacity, MatchResult, OnOk, OnErr};
+ghost use Rattle.std.specs.Prelude.{IsOk, IfOk, IfErr, option_copied};
+ghost use Rattle.sms_rows.specs.table.Table.{HasRoom, IsAt, IsGap, IsRange, Rises, all_applied, applied, is_there, put, row_at, rows_between, rows_from};
+ghost use Rattle.sms_rows.specs.table.Table.{reserve_for, without, without_all};
 
 mod change;
 mod draft;

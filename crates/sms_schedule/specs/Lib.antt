@@ -1,4 +1,2 @@
-pub mod Index
-pub mod Places
 pub mod Precedence
 pub mod waiting

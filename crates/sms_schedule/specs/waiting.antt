@@ -1,3 +1,2 @@
 pub mod Base
-pub mod Scheduling
 pub mod Waiting

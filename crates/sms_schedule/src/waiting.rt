@@ -2,10 +2,9 @@
 //!
 //! A `WaitingParts` is a list that copies share, but for what was added last. Its calls are the functions over plain
 //! lists in `sms_centre_rows/specs/waiting/Waiting.antt`. A call that finds no memory leaves it in no stated state: plan
-//! on a copy, and install it when all is done. A law says that it offers next what a `Schedule` of its rows has first.
+//! on a copy, and install it when all is done.
 
 mod held;
-pub mod laws;
 mod ordered_rows;
 mod queued_parts;
 mod shared_parts;

@@ -10,7 +10,7 @@ use Rattle.sms_script.specs.ScriptReading.{word_in, field_in, validity_of, body_
 use Rattle.sms_script.specs.ScriptGrammar.{IsSubmission, IsAct, AreWords}
 use Rattle.sms_script.specs.declared.event.Act.{Act}
 use Rattle.sms_script.specs.declared.event.Act.TheVariants.{Submit, Query, Cancel, Write, Delete, Discard, Deliver, Tick}
-use Rattle.sms_script.specs.declared.event.Side.{Side}
+use Rattle.sms_script.specs.declared.event.EventSide.{EventSide}
 use Rattle.sms_script.specs.declared.event.Submission.{Submission}
 use Rattle.sms_script.specs.declared.fault.LineFault.{LineFault}
 use Rattle.sms_script.specs.declared.keyword.Keyword.{Keyword}
@@ -272,7 +272,7 @@ deliver_again : (number : List ℕ) (frame : ℕ) → number_of number ≡ Ok fr
 unfolding act_in deliver_in
 deliver_again number frame n w = rw (keyword_again DeliverWord, field_again number_of number [] frame w.1.0 n) refl
 
-tick_again : (of second : List ℕ) (side : Side) (now : ℕ) → side_of of ≡ Ok side → moment_of second ≡ Ok now → Again (keyword_text TickWord ∷ of ∷ second ∷ []) (Tick side now)
+tick_again : (of second : List ℕ) (side : EventSide) (now : ℕ) → side_of of ≡ Ok side → moment_of second ≡ Ok now → Again (keyword_text TickWord ∷ of ∷ second ∷ []) (Tick side now)
 unfolding act_in tick_in
 tick_again of second side now s m w = rw (keyword_again TickWord, field_again side_of of (second ∷ []) side w.1.0 s, field_again moment_of second [] now w.1.1.0 m) refl
 

@@ -10,7 +10,7 @@ use Rattle.sms_script.specs.Numbers.{number_of}
 use Rattle.sms_script.specs.ScriptReading.{word_in, field_in, done_in, side_of, stop_of, act_of, act_in, start_in, centre_in, account_in, handset_in, restart_in, stopped_in, whole_in, line_of, longest_line, line_at}
 use Rattle.sms_script.specs.ScriptGrammar.{IsAct, stop_text, AreWords, Says, IsLine}
 use Rattle.sms_script.specs.declared.event.Act.{Act}
-use Rattle.sms_script.specs.declared.event.Side.{Side}
+use Rattle.sms_script.specs.declared.event.EventSide.{EventSide}
 use Rattle.sms_script.specs.declared.event.StopPoint.{StopPoint}
 use Rattle.sms_script.specs.declared.event.WorldEvent.TheVariants.{Whole, Stopped, Restart}
 use Rattle.sms_script.specs.declared.fault.LineFault.{LineFault}
@@ -164,7 +164,7 @@ handset_again : (h : HandsetSetup) (slots : List ℕ) → number_of slots ≡ Ok
 unfolding handset_in
 handset_again h slots n w = rw (keyword_again HandsetWord, word_again h.number (slots ∷ []) w.1.0, field_again number_of slots [] h.slots w.1.1.0 n) refl
 
-restart_again : (of : List ℕ) (side : Side) → side_of of ≡ Ok side → Again (keyword_text RestartWord ∷ of ∷ []) (Event (Restart side))
+restart_again : (of : List ℕ) (side : EventSide) → side_of of ≡ Ok side → Again (keyword_text RestartWord ∷ of ∷ []) (Event (Restart side))
 unfolding restart_in
 restart_again of side s w = rw (keyword_again RestartWord, field_again side_of of [] side w.1.0 s) refl
 

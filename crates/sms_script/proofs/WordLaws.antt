@@ -11,8 +11,8 @@ use Rattle.sms_script.specs.Keywords.{keyword_text, keywords, keyword_of}
 use Rattle.sms_script.specs.Hexadecimal.{octets_of, text_of}
 use Rattle.sms_script.specs.ScriptReading.{word_in, field_in, validity_of, body_of, text_in, side_of, stop_of}
 use Rattle.sms_script.specs.ScriptGrammar.{IsValidity, IsBody, IsText, IsSide, stop_text}
-use Rattle.sms_script.specs.declared.event.Side.{Side}
-use Rattle.sms_script.specs.declared.event.Side.TheVariants.{Centre, Handset}
+use Rattle.sms_script.specs.declared.event.EventSide.{EventSide}
+use Rattle.sms_script.specs.declared.event.EventSide.TheVariants.{Centre, Handset}
 use Rattle.sms_script.specs.declared.event.StopPoint.{StopPoint}
 use Rattle.sms_script.specs.declared.event.StopPoint.TheVariants.{Before, After}
 use Rattle.sms_script.specs.declared.fault.LineFault.{LineFault}
@@ -110,13 +110,13 @@ text_takes word text e =
 pub text_again : (word text : List ℕ) → IsText word text → text_in word ≡ Ok text
 text_again word text h = rw (body_again word text h.0) h.1
 
-pub side_takes : (word : List ℕ) (side : Side) → side_of word ≡ Ok side → IsSide word side
+pub side_takes : (word : List ℕ) (side : EventSide) → side_of word ≡ Ok side → IsSide word side
 side_takes word side e = by (bytes_eq word (codes "centre")) refl e where
-  by : (b : Bool) → bytes_eq word (codes "centre") ≡ b → (let r : Result Side LineFault = cond b (Ok Centre) (Ok (Handset word)) in r ≡ Ok side) → IsSide word side
+  by : (b : Bool) → bytes_eq word (codes "centre") ≡ b → (let r : Result EventSide LineFault = cond b (Ok Centre) (Ok (Handset word)) in r ≡ Ok side) → IsSide word side
   by true t e = let same : Centre ≡ side = cc e in subst (λ s. IsSide word s) same (same_octets word (codes "centre") t)
   by false f e = let same : Handset word ≡ side = cc e in subst (λ s. IsSide word s) same (other_octets word (codes "centre") f, refl)
 
-pub side_again : (word : List ℕ) (side : Side) → IsSide word side → side_of word ≡ Ok side
+pub side_again : (word : List ℕ) (side : EventSide) → IsSide word side → side_of word ≡ Ok side
 side_again word Centre h = rw (equal_octets word (codes "centre") h) refl
 side_again word (Handset number) h = rw (unequal_octets word (codes "centre") h.0, h.1) refl
 

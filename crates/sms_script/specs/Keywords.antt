@@ -2,7 +2,8 @@
 use Rattle.std.specs.Prelude.{ℕ, List, [], ◌∷◌, Option, codes, bytes_eq}
 use Rattle.std.specs.List.{find}
 use Rattle.sms_script.specs.declared.keyword.Keyword.{Keyword}
-use Rattle.sms_script.specs.declared.keyword.Keyword.TheVariants.{Start, Centre, Account, Handset, Submit, Urgent, Query, Cancel, Write, Delete, Discard, Deliver, Tick, Restart, Stopped}
+use Rattle.sms_script.specs.declared.keyword.Keyword.TheVariants.{Start, Centre, Account, Handset, Submit, Urgent, Query, Cancel, Write, Delete, Discard}
+use Rattle.sms_script.specs.declared.keyword.Keyword.TheVariants.{Deliver, Tick, Restart, Stopped}
 
 abbrev pub keyword_text : Keyword → List ℕ
 keyword_text Start = codes "start"

@@ -8,8 +8,8 @@ use Rattle.sms_script.specs.WholeScript.{most_lines, most_events}
 use Rattle.sms_script.specs.ScriptReading.{longest_line}
 use Rattle.sms_script.specs.declared.event.Act.{Act}
 use Rattle.sms_script.specs.declared.event.Act.TheVariants.{Submit, Query, Cancel, Write, Delete, Discard, Deliver, Tick}
-use Rattle.sms_script.specs.declared.event.Side.{Side}
-use Rattle.sms_script.specs.declared.event.Side.TheVariants.{Centre as CentreSide, Handset as HandsetSide}
+use Rattle.sms_script.specs.declared.event.EventSide.{EventSide}
+use Rattle.sms_script.specs.declared.event.EventSide.TheVariants.{Centre as CentreSide, Handset as HandsetSide}
 use Rattle.sms_script.specs.declared.event.StopPoint.{StopPoint}
 use Rattle.sms_script.specs.declared.event.StopPoint.TheVariants.{Before, After}
 use Rattle.sms_script.specs.declared.event.Submission.{Submission}
@@ -31,7 +31,7 @@ IsBody word octets = ((word ≡ codes "-") × (octets ≡ [])) ⊎ (octets_of wo
 abbrev pub IsText : List ℕ → List ℕ → Type 0
 IsText word text = IsBody word text × (text_of text ≡ Ok text)
 
-abbrev pub IsSide : List ℕ → Side → Type 0
+abbrev pub IsSide : List ℕ → EventSide → Type 0
 IsSide word CentreSide = word ≡ codes "centre"
 IsSide word (HandsetSide number) = ¬ (word ≡ codes "centre") × (number ≡ word)
 

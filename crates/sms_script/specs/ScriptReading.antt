@@ -7,22 +7,25 @@ use Rattle.sms_script.specs.Keywords.{keyword_of}
 use Rattle.sms_script.specs.Numbers.{number_of, small_of, flag_of, moment_of}
 use Rattle.sms_script.specs.declared.event.Act.{Act}
 use Rattle.sms_script.specs.declared.event.Act.TheVariants.{Submit, Query, Cancel, Write, Delete, Discard, Deliver, Tick}
-use Rattle.sms_script.specs.declared.event.Side.{Side}
-use Rattle.sms_script.specs.declared.event.Side.TheVariants.{Centre as CentreSide, Handset as HandsetSide}
+use Rattle.sms_script.specs.declared.event.EventSide.{EventSide}
+use Rattle.sms_script.specs.declared.event.EventSide.TheVariants.{Centre as CentreSide, Handset as HandsetSide}
 use Rattle.sms_script.specs.declared.event.StopPoint.{StopPoint}
 use Rattle.sms_script.specs.declared.event.StopPoint.TheVariants.{Before, After}
 use Rattle.sms_script.specs.declared.event.WorldEvent.TheVariants.{Whole, Stopped, Restart}
 use Rattle.sms_script.specs.declared.fault.LineFault.{LineFault}
 use Rattle.sms_script.specs.declared.fault.LineFault.TheVariants.{BadLine}
 use Rattle.sms_script.specs.declared.keyword.Keyword.{Keyword}
-use Rattle.sms_script.specs.declared.keyword.Keyword.TheVariants.{Start as StartWord, Centre as CentreWord, Account as AccountWord, Handset as HandsetWord, Submit as SubmitWord, Urgent as UrgentWord, Query as QueryWord, Cancel as CancelWord, Write as WriteWord, Delete as DeleteWord, Discard as DiscardWord, Deliver as DeliverWord, Tick as TickWord, Restart as RestartWord, Stopped as StoppedWord}
+use Rattle.sms_script.specs.declared.keyword.Keyword.TheVariants.{Start as StartWord, Centre as CentreWord, Account as AccountWord, Handset as HandsetWord}
+use Rattle.sms_script.specs.declared.keyword.Keyword.TheVariants.{Submit as SubmitWord, Urgent as UrgentWord, Query as QueryWord, Cancel as CancelWord}
+use Rattle.sms_script.specs.declared.keyword.Keyword.TheVariants.{Write as WriteWord, Delete as DeleteWord, Discard as DiscardWord, Deliver as DeliverWord}
+use Rattle.sms_script.specs.declared.keyword.Keyword.TheVariants.{Tick as TickWord, Restart as RestartWord, Stopped as StoppedWord}
 use Rattle.sms_script.specs.declared.line.Line.{Line}
 use Rattle.sms_script.specs.declared.line.Line.TheVariants.{Start, Centre, Account as AccountLine, Handset as HandsetLine, Event}
 
 -- What a call returned, seen by view, and the words that it left are what the reading gives.
-abbrev pub Takes : {X Y : Type 0} → (X → Y) → Result X LineFault → List (List ℕ) → Result (Y × List (List ℕ)) LineFault → Type 0
-Takes view (Ok x) rest read = read ≡ Ok (view x, rest)
-Takes view (Err e) rest read = read ≡ Err e
+abbrev pub TakesWords : {X Y : Type 0} → (X → Y) → Result X LineFault → List (List ℕ) → Result (Y × List (List ℕ)) LineFault → Type 0
+TakesWords view (Ok x) rest read = read ≡ Ok (view x, rest)
+TakesWords view (Err e) rest read = read ≡ Err e
 
 -- ---- words
 
@@ -57,7 +60,7 @@ body_of word = if is_dash word then Ok [] else octets_of word
 abbrev pub text_in : List ℕ → Result (List ℕ) LineFault
 text_in word = body_of word >>= text_of
 
-abbrev pub side_of : List ℕ → Result Side LineFault
+abbrev pub side_of : List ℕ → Result EventSide LineFault
 side_of word = if bytes_eq word (codes "centre") then Ok CentreSide else Ok (HandsetSide word)
 
 abbrev pub stop_of : List ℕ → Result StopPoint LineFault

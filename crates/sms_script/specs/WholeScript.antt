@@ -12,7 +12,8 @@ use Rattle.sms_script.specs.declared.line.Line.{Line}
 use Rattle.sms_script.specs.declared.line.Line.TheVariants.{Start, Centre, Account, Handset, Event}
 use Rattle.sms_script.specs.declared.progress.Progress.{Progress}
 use Rattle.sms_script.specs.declared.progress.Stage.{Stage}
-use Rattle.sms_script.specs.declared.progress.Stage.TheVariants.{Start as AtStart, Centre as AtCentre, Accounts as InAccounts, Handsets as InHandsets, Events as InEvents}
+use Rattle.sms_script.specs.declared.progress.Stage.TheVariants.{Start as AtStart, Centre as AtCentre, Accounts as InAccounts, Handsets as InHandsets}
+use Rattle.sms_script.specs.declared.progress.Stage.TheVariants.{Events as InEvents}
 use Rattle.sms_script.specs.declared.script.Script.{Script}
 
 abbrev pub most_lines : ℕ

@@ -1,6 +1,7 @@
 //! Acts, each behind its keyword.
 ghost use Rattle.std.specs.Prelude.{◌≡◌, Option};
-ghost use Rattle.sms_script.specs.ScriptReading.{Takes, submission_in, submit_in, urgent_in, query_in, cancel_in, write_in, delete_in, discard_in, deliver_in, tick_in, act_of, act_in};
+ghost use Rattle.sms_script.specs.ScriptReading.{TakesWords, submission_in, submit_in, urgent_in, query_in, cancel_in, write_in, delete_in, discard_in};
+ghost use Rattle.sms_script.specs.ScriptReading.{deliver_in, tick_in, act_of, act_in};
 
 use crate::cutting::Words;
 use crate::event::{Act, Submission};
@@ -15,7 +16,7 @@ fn submission<'a>(
     priority: u8,
     words: &mut Words<'a>,
 ) -> Result<Act<'a>, LineFault>
-    ensures { Takes (λ x. x) result words.new (submission_in name.entry priority words.old) }
+    ensures { TakesWords (λ x. x) result words.new (submission_in name.entry priority words.old) }
 {
     let to = word(words)?;
     let coding = small(255, words)?;
@@ -37,7 +38,7 @@ fn submission<'a>(
 
 #[tactic(auto, unfolding(crate::specs::ScriptReading::submit_in))]
 fn submit<'a>(words: &mut Words<'a>) -> Result<Act<'a>, LineFault>
-    ensures { Takes (λ x. x) result words.new (submit_in words.old) }
+    ensures { TakesWords (λ x. x) result words.new (submit_in words.old) }
 {
     let name = word(words)?;
     submission(name, 0, words)
@@ -45,7 +46,7 @@ fn submit<'a>(words: &mut Words<'a>) -> Result<Act<'a>, LineFault>
 
 #[tactic(auto, unfolding(crate::specs::ScriptReading::urgent_in))]
 fn urgent<'a>(words: &mut Words<'a>) -> Result<Act<'a>, LineFault>
-    ensures { Takes (λ x. x) result words.new (urgent_in words.old) }
+    ensures { TakesWords (λ x. x) result words.new (urgent_in words.old) }
 {
     let name = word(words)?;
     let priority = small(3, words)?;
@@ -54,7 +55,7 @@ fn urgent<'a>(words: &mut Words<'a>) -> Result<Act<'a>, LineFault>
 
 #[tactic(auto, unfolding(crate::specs::ScriptReading::query_in))]
 fn query<'a>(words: &mut Words<'a>) -> Result<Act<'a>, LineFault>
-    ensures { Takes (λ x. x) result words.new (query_in words.old) }
+    ensures { TakesWords (λ x. x) result words.new (query_in words.old) }
 {
     let name = word(words)?;
     let id = word(words)?;
@@ -63,7 +64,7 @@ fn query<'a>(words: &mut Words<'a>) -> Result<Act<'a>, LineFault>
 
 #[tactic(auto, unfolding(crate::specs::ScriptReading::cancel_in))]
 fn cancel<'a>(words: &mut Words<'a>) -> Result<Act<'a>, LineFault>
-    ensures { Takes (λ x. x) result words.new (cancel_in words.old) }
+    ensures { TakesWords (λ x. x) result words.new (cancel_in words.old) }
 {
     let name = word(words)?;
     let id = word(words)?;
@@ -72,7 +73,7 @@ fn cancel<'a>(words: &mut Words<'a>) -> Result<Act<'a>, LineFault>
 
 #[tactic(auto, unfolding(crate::specs::ScriptReading::write_in))]
 fn write<'a>(words: &mut Words<'a>) -> Result<Act<'a>, LineFault>
-    ensures { Takes (λ x. x) result words.new (write_in words.old) }
+    ensures { TakesWords (λ x. x) result words.new (write_in words.old) }
 {
     let handset = word(words)?;
     let to = word(words)?;
@@ -88,7 +89,7 @@ fn write<'a>(words: &mut Words<'a>) -> Result<Act<'a>, LineFault>
 
 #[tactic(auto, unfolding(crate::specs::ScriptReading::delete_in))]
 fn delete<'a>(words: &mut Words<'a>) -> Result<Act<'a>, LineFault>
-    ensures { Takes (λ x. x) result words.new (delete_in words.old) }
+    ensures { TakesWords (λ x. x) result words.new (delete_in words.old) }
 {
     let handset = word(words)?;
     let entry = number(words)?;
@@ -97,7 +98,7 @@ fn delete<'a>(words: &mut Words<'a>) -> Result<Act<'a>, LineFault>
 
 #[tactic(auto, unfolding(crate::specs::ScriptReading::discard_in))]
 fn discard<'a>(words: &mut Words<'a>) -> Result<Act<'a>, LineFault>
-    ensures { Takes (λ x. x) result words.new (discard_in words.old) }
+    ensures { TakesWords (λ x. x) result words.new (discard_in words.old) }
 {
     let handset = word(words)?;
     let entry = number(words)?;
@@ -106,7 +107,7 @@ fn discard<'a>(words: &mut Words<'a>) -> Result<Act<'a>, LineFault>
 
 #[tactic(auto, unfolding(crate::specs::ScriptReading::deliver_in))]
 fn deliver<'a>(words: &mut Words<'a>) -> Result<Act<'a>, LineFault>
-    ensures { Takes (λ x. x) result words.new (deliver_in words.old) }
+    ensures { TakesWords (λ x. x) result words.new (deliver_in words.old) }
 {
     let number = number(words)?;
     Ok(Act::Deliver(number))
@@ -114,7 +115,7 @@ fn deliver<'a>(words: &mut Words<'a>) -> Result<Act<'a>, LineFault>
 
 #[tactic(auto, unfolding(crate::specs::ScriptReading::tick_in))]
 fn tick<'a>(words: &mut Words<'a>) -> Result<Act<'a>, LineFault>
-    ensures { Takes (λ x. x) result words.new (tick_in words.old) }
+    ensures { TakesWords (λ x. x) result words.new (tick_in words.old) }
 {
     let side = side(words)?;
     let now = moment(words)?;
@@ -126,7 +127,7 @@ pub(crate) fn act_of<'a>(
     keyword: Option<Keyword>,
     words: &mut Words<'a>,
 ) -> Result<Act<'a>, LineFault>
-    ensures { Takes (λ x. x) result words.new (act_of keyword words.old) }
+    ensures { TakesWords (λ x. x) result words.new (act_of keyword words.old) }
 {
     match keyword {
         Some(Keyword::Submit) => submit(words),
@@ -145,7 +146,7 @@ pub(crate) fn act_of<'a>(
 /// An act with its keyword.
 #[tactic(auto, unfolding(crate::specs::ScriptReading::act_in))]
 pub(crate) fn act<'a>(words: &mut Words<'a>) -> Result<Act<'a>, LineFault>
-    ensures { Takes (λ x. x) result words.new (act_in words.old) }
+    ensures { TakesWords (λ x. x) result words.new (act_in words.old) }
 {
     let keyword = Keyword::of(words.word()?);
     act_of(keyword, words)

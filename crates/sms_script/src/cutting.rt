@@ -1,7 +1,7 @@
 //! Texts cut into lines, and lines cut into words.
 ghost use Rattle.std.specs.Prelude.{◌≡◌, ◌==◌, ◌<◌, ◌∷◌, [], ℕ, length, position, option_map, MatchOption, IfSome};
 ghost use Rattle.sms_script.specs.Lines.{front, behind, is_word, lines_of, lines_left, words_of, words_behind};
-ghost use Rattle.sms_script.specs.ScriptReading.{Takes, word_in, done_in};
+ghost use Rattle.sms_script.specs.ScriptReading.{TakesWords, word_in, done_in};
 
 use crate::fault::LineFault;
 use std::marker::Model;
@@ -72,7 +72,7 @@ impl<'a> Lines<'a> {
         Lines { rest: Some(text) }
     }
 
-    /// Takes the next line.
+    /// TakesWords the next line.
     pub fn next(&mut self) -> Option<&'a [u8]>
         ensures { MatchOption result (self.old ≡ []) (λ line. self.old ≡ line.now ∷ self.new) }
     {
@@ -105,7 +105,7 @@ impl<'a> Words<'a> {
         Words { rest: Some(line) }
     }
 
-    // Takes what is before the next space.
+    // TakesWords what is before the next space.
     fn piece(&mut self) -> Option<&'a [u8]>
         ensures { MatchOption result (self.old ≡ []) (λ piece. self.old ≡ piece.now ∷ self.new) }
     {
@@ -114,9 +114,9 @@ impl<'a> Words<'a> {
         Some(piece)
     }
 
-    /// Takes the next word.
+    /// TakesWords the next word.
     pub fn word(&mut self) -> Result<&'a [u8], LineFault>
-        ensures { Takes (λ x. x.now) result self.new (word_in self.old) }
+        ensures { TakesWords (λ x. x.now) result self.new (word_in self.old) }
     {
         let piece = self.piece().ok_or(LineFault::BadLine)?;
         if !is_word(piece) {

@@ -5,7 +5,7 @@ use sms_base::{Moment, OctetView};
 
 /// The centre, or the handset of that number. Whether there is such a handset is judged where the event is played.
 #[derive(Debug, Drop)]
-pub enum Side<'a> {
+pub enum EventSide<'a> {
     Centre,
     Handset(OctetView<'a>),
 }
@@ -60,7 +60,7 @@ pub enum Act<'a> {
     /// The frame of that number is handed over.
     Deliver(u64),
     Tick {
-        side: Side<'a>,
+        side: EventSide<'a>,
         now: Moment,
     },
 }
@@ -77,5 +77,5 @@ pub enum StopPoint {
 pub enum WorldEvent<'a> {
     Whole(Act<'a>),
     Stopped(StopPoint, Act<'a>),
-    Restart(Side<'a>),
+    Restart(EventSide<'a>),
 }

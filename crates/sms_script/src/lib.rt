@@ -52,7 +52,7 @@ mod script;
 mod setup;
 mod text;
 
-pub use event::{Act, Side, StopPoint, Submission, WorldEvent};
+pub use event::{Act, EventSide, StopPoint, Submission, WorldEvent};
 pub use fault::{LineFault, ScriptFault};
 pub use front::read_front;
 pub use hexadecimal::HexView;

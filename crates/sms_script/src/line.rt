@@ -1,6 +1,6 @@
 //! What a line of a script says.
 ghost use Rattle.std.specs.Prelude.{◌≡◌, Option};
-ghost use Rattle.sms_script.specs.ScriptReading.{Takes, start_in, centre_in, account_in, handset_in, restart_in, stopped_in, whole_in, line_of, line_at};
+ghost use Rattle.sms_script.specs.ScriptReading.{TakesWords, start_in, centre_in, account_in, handset_in, restart_in, stopped_in, whole_in, line_of, line_at};
 
 use crate::act::{act, act_of};
 use crate::cutting::Words;
@@ -26,7 +26,7 @@ pub(crate) enum Line<'a> {
 
 #[tactic(auto, unfolding(crate::specs::ScriptReading::start_in))]
 fn start<'a>(words: &mut Words<'a>) -> Result<Line<'a>, LineFault>
-    ensures { Takes (λ x. x) result words.new (start_in words.old) }
+    ensures { TakesWords (λ x. x) result words.new (start_in words.old) }
 {
     let start = number(words)?;
     Ok(Line::Start(start))
@@ -34,7 +34,7 @@ fn start<'a>(words: &mut Words<'a>) -> Result<Line<'a>, LineFault>
 
 #[tactic(auto, unfolding(crate::specs::ScriptReading::centre_in))]
 fn centre<'a>(words: &mut Words<'a>) -> Result<Line<'a>, LineFault>
-    ensures { Takes (λ x. x) result words.new (centre_in words.old) }
+    ensures { TakesWords (λ x. x) result words.new (centre_in words.old) }
 {
     let number = word(words)?;
     Ok(Line::Centre(number))
@@ -42,7 +42,7 @@ fn centre<'a>(words: &mut Words<'a>) -> Result<Line<'a>, LineFault>
 
 #[tactic(auto, unfolding(crate::specs::ScriptReading::account_in))]
 fn account<'a>(words: &mut Words<'a>) -> Result<Line<'a>, LineFault>
-    ensures { Takes (λ x. x) result words.new (account_in words.old) }
+    ensures { TakesWords (λ x. x) result words.new (account_in words.old) }
 {
     let name = word(words)?;
     let password = word(words)?;
@@ -56,7 +56,7 @@ fn account<'a>(words: &mut Words<'a>) -> Result<Line<'a>, LineFault>
 
 #[tactic(auto, unfolding(crate::specs::ScriptReading::handset_in))]
 fn handset<'a>(words: &mut Words<'a>) -> Result<Line<'a>, LineFault>
-    ensures { Takes (λ x. x) result words.new (handset_in words.old) }
+    ensures { TakesWords (λ x. x) result words.new (handset_in words.old) }
 {
     let number_of = word(words)?;
     let slots = number(words)?;
@@ -68,7 +68,7 @@ fn handset<'a>(words: &mut Words<'a>) -> Result<Line<'a>, LineFault>
 
 #[tactic(auto, unfolding(crate::specs::ScriptReading::restart_in))]
 fn restart<'a>(words: &mut Words<'a>) -> Result<Line<'a>, LineFault>
-    ensures { Takes (λ x. x) result words.new (restart_in words.old) }
+    ensures { TakesWords (λ x. x) result words.new (restart_in words.old) }
 {
     let side = side(words)?;
     Ok(Line::Event(WorldEvent::Restart(side)))
@@ -76,7 +76,7 @@ fn restart<'a>(words: &mut Words<'a>) -> Result<Line<'a>, LineFault>
 
 #[tactic(auto, unfolding(crate::specs::ScriptReading::stopped_in))]
 fn stopped<'a>(words: &mut Words<'a>) -> Result<Line<'a>, LineFault>
-    ensures { Takes (λ x. x) result words.new (stopped_in words.old) }
+    ensures { TakesWords (λ x. x) result words.new (stopped_in words.old) }
 {
     let stop = stop(words)?;
     let act = act(words)?;
@@ -85,14 +85,14 @@ fn stopped<'a>(words: &mut Words<'a>) -> Result<Line<'a>, LineFault>
 
 #[tactic(auto, unfolding(crate::specs::ScriptReading::whole_in))]
 fn whole<'a>(keyword: Option<Keyword>, words: &mut Words<'a>) -> Result<Line<'a>, LineFault>
-    ensures { Takes (λ x. x) result words.new (whole_in keyword words.old) }
+    ensures { TakesWords (λ x. x) result words.new (whole_in keyword words.old) }
 {
     let act = act_of(keyword, words)?;
     Ok(Line::Event(WorldEvent::Whole(act)))
 }
 
 fn line_of<'a>(keyword: Option<Keyword>, words: &mut Words<'a>) -> Result<Line<'a>, LineFault>
-    ensures { Takes (λ x. x) result words.new (line_of keyword words.old) }
+    ensures { TakesWords (λ x. x) result words.new (line_of keyword words.old) }
 {
     match keyword {
         Some(Keyword::Start) => start(words),

@@ -22,7 +22,7 @@ pub(crate) enum Stage {
     Accounts,
     /// A handset or an event.
     Handsets,
-    /// An event.
+    /// An event; no handset follows any more.
     Events,
 }
 

@@ -5,7 +5,8 @@
 //! sent. Each list is in the order in which it is printed. `report_text` writes a line for each, except for the
 //! references, and last whether the premises of the claims held. The text is that of the definition, for every report.
 ghost use Rattle.std.specs.Prelude.{◌≡◌, ◌++◌, OnOk, IfOk};
-ghost use Rattle.sms_script.specs.report.ReportText.{lines, answer_line, message_line, accepted_line, joined_line, receipt_line, outbox_line, frame_line, premises_line, report_text};
+ghost use Rattle.sms_script.specs.report.ReportText.{lines, answer_line, message_line, accepted_line, joined_line, receipt_line, outbox_line, frame_line};
+ghost use Rattle.sms_script.specs.report.ReportText.{premises_line, report_text};
 
 mod answers;
 mod lines;
@@ -15,13 +16,13 @@ mod writing;
 use crate::report::lines::{
     put_accepted, put_answer, put_frame, put_joined, put_message, put_outbox, put_receipt,
 };
-use crate::report::writing::put_number;
-pub use answers::{Answer, Answered, MessageState};
+pub use answers::{Answer, Answered};
+pub use lines::state_text;
 pub use rows::{
     AcceptedRow, Direction, EntryState, FrameRow, GivenRow, JoinedCoding, JoinedRow, OutboxRow,
-    ReceiptRow, ReportedMessage,
 };
-use sms_base::{Listed, Octets};
+use sms_base::{Listed, Octets, put_decimal};
+pub use sms_centre_rows::report_lines::{MessageState, ReceiptRow, ReportedMessage};
 use std::alloc::{AllocError, Global};
 
 /// The first event that breaks a premise of the claims.
@@ -128,12 +129,12 @@ fn put_premises(out: &mut Octets, broken: Option<Broken>) -> Result<(), AllocErr
         None => out.append(b"premises hold\n"),
         Some(Broken::Timely(event)) => {
             out.append(b"premises broken at event ")?;
-            put_number(out, event)?;
+            put_decimal(out, event)?;
             out.append(b": timely\n")
         }
         Some(Broken::Reused(event)) => {
             out.append(b"premises broken at event ")?;
-            put_number(out, event)?;
+            put_decimal(out, event)?;
             out.append(b": reused\n")
         }
     }

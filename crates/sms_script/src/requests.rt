@@ -1,6 +1,7 @@
 //! Requests of applications as PDUs.
 ghost use Rattle.std.specs.Prelude.{◌≡◌};
-ghost use Rattle.sms_script.specs.Requests.{cancel_of as cancel_of_id, nobody as nobody_of, payload_of, query_of as query_of_id, short_message_of, submit_of as submit_of_submission};
+ghost use Rattle.sms_script.specs.Requests.{cancel_of as cancel_of_id, nobody as nobody_of, payload_of, query_of as query_of_id, short_message_of};
+ghost use Rattle.sms_script.specs.Requests.{submit_of as submit_of_submission};
 
 use crate::event::Submission;
 use smpp_pdu::{CancelSm, Message, QuerySm, SmeAddress, Tlvs};

@@ -18,13 +18,13 @@ pub struct Letter<J> {
 
 /// What a pass may do and what it knows. No value of it is made.
 pub struct JobsView<J> {
-    /// It is the keeper's.
+    /// The pass is the keeper's.
     pub runs: bool,
     /// How many seats were made.
     pub made: u64,
     /// What the keeper popped.
     pub ran: LinkedList<Letter<J>>,
-    /// It is that of a seat.
+    /// The pass is that of a seat.
     pub puts: bool,
     pub seat: usize,
     /// What the seat put.

@@ -13,7 +13,7 @@ use std::thread::Parker;
 
 mod calls;
 
-/// One of the places at a hub, which one thread holds at a time.
+/// A place at a hub, which one thread holds at a time.
 #[derive(Drop)]
 pub struct Seat<J, O> {
     pub(crate) number: usize,

@@ -3,11 +3,11 @@ use Rattle.sms_store_files.specs.declared.judging.LogFinding.{LogFinding}
 use Rattle.sms_store_files.specs.declared.judging.LogFinding.TheVariants.{Missing, Emptied, Emptying, Unsigned, Whole, Torn, Damaged}
 use Rattle.sms_store_files.specs.declared.marking.Mark.{Mark}
 use Rattle.sms_store_files.specs.declared.marking.Mark.TheVariants.{Unmarked, Closed, Open}
-use Rattle.sms_store_files.specs.declared.verdicts.Verdict.{Verdict}
-use Rattle.sms_store_files.specs.declared.verdicts.Verdict.TheVariants.{Taken, TakenTorn, NoLog, HasNoHead, OtherFiles, IsDamaged}
+use Rattle.sms_store_files.specs.declared.verdicts.StartVerdict.{StartVerdict}
+use Rattle.sms_store_files.specs.declared.verdicts.StartVerdict.TheVariants.{Taken, TakenTorn, NoLog, HasNoHead, OtherFiles, IsDamaged}
 
 -- No run has the file open, so it has all, and a log with frames is another file's.
-abbrev pub verdict_closed : LogFinding → Verdict
+abbrev pub verdict_closed : LogFinding → StartVerdict
 verdict_closed Missing = Taken
 verdict_closed Emptied = Taken
 verdict_closed Emptying = Taken
@@ -17,7 +17,7 @@ verdict_closed Torn = OtherFiles
 verdict_closed Damaged = OtherFiles
 
 -- A run had it open, whose log has what it confirmed: a log that is gone took that with it.
-abbrev pub verdict_open : LogFinding → Verdict
+abbrev pub verdict_open : LogFinding → StartVerdict
 verdict_open Missing = NoLog
 verdict_open Emptied = Taken
 verdict_open Emptying = Taken
@@ -27,7 +27,7 @@ verdict_open Torn = TakenTorn
 verdict_open Damaged = IsDamaged
 
 -- Nothing is known of it. It is a store of before there were marks, or a new one.
-abbrev pub verdict_unmarked : LogFinding → Verdict
+abbrev pub verdict_unmarked : LogFinding → StartVerdict
 verdict_unmarked Missing = Taken
 verdict_unmarked Emptied = Taken
 verdict_unmarked Emptying = Taken
@@ -36,7 +36,7 @@ verdict_unmarked Whole = Taken
 verdict_unmarked Torn = TakenTorn
 verdict_unmarked Damaged = IsDamaged
 
-abbrev pub verdict_of : Mark → LogFinding → Verdict
+abbrev pub verdict_of : Mark → LogFinding → StartVerdict
 verdict_of Unmarked finding = verdict_unmarked finding
 verdict_of (Closed step) finding = verdict_closed finding
 verdict_of (Open step) finding = verdict_open finding

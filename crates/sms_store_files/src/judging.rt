@@ -3,7 +3,8 @@ ghost use Rattle.std.specs.Prelude.{◌≡◌, ◌≤◌, ◌↔◌, IfOk, IsTru
 ghost use Rattle.sqlite_wal.specs.Format.{IsSigned, stored_sum};
 ghost use Rattle.sqlite_wal.specs.Recovery.{header};
 ghost use Rattle.sms_store_files.specs.Frames.{behind};
-ghost use Rattle.sms_store_files.specs.Judging.{IsEmptying, IsFound, IsShort, IsUnsignedFinding, are_of_two_commits, found_by, has_one_behind_an_end, has_one_that_begins};
+ghost use Rattle.sms_store_files.specs.Judging.{IsEmptying, IsFound, IsShort, IsUnsignedFinding, are_of_two_commits, found_by, has_one_behind_an_end};
+ghost use Rattle.sms_store_files.specs.Judging.{has_one_that_begins};
 
 use crate::frames::{OwnFrame, number_at, own_behind};
 use sqlite_wal::checksum_of;
@@ -22,13 +23,13 @@ const COUNT_PAGE: u32 = 0xff00_0000;
 pub enum LogFinding {
     /// There is none, or no more than a part of its head.
     Missing,
-    /// It has a head, and no frame counts.
+    /// The log has a head, and no frame counts.
     Emptied,
     /// A write-back into the database was under way, which has all.
     Emptying,
-    /// Its head is none that was written.
+    /// The head of the log is none that was written.
     Unsigned,
-    /// It has whole commits, and nothing behind them.
+    /// The log has whole commits, and nothing behind them.
     Whole,
     /// Behind its whole commits, if it has some, lie frames of one further commit.
     Torn,

@@ -26,6 +26,6 @@ pub use beginning::is_log_alone;
 pub use judging::{LogFinding, LogJudgement, judge};
 pub use marking::{Mark, mark_of, number_of};
 pub use reading::{FilesFault, FilesFinding, finding_of, lengths_of, mark_at, octets_of};
-pub use verdicts::{Verdict, verdict_of};
+pub use verdicts::{StartVerdict, verdict_of};
 pub use watching::{FileNumber, FilesLook, OpenedFiles, are_still, opened_of};
 pub use writing::{drop_log, write_back, write_mark};

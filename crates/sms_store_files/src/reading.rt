@@ -30,9 +30,9 @@ pub(crate) const APPLICATION: u32 = 0x534d_5343;
 pub enum FilesFault {
     /// There was no memory.
     NoMemory,
-    /// Their disk has no room.
+    /// The disk of the files has no room.
     Full,
-    /// They are no database.
+    /// The files are no database.
     NoDatabase,
     /// The system refused a call.
     Refused,

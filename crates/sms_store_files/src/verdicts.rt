@@ -7,10 +7,10 @@ use crate::marking::Mark;
 
 /// Whether a run may start over a store, and why not.
 #[derive(Clone, Copy, Debug, PartialEq, Eq)]
-pub enum Verdict {
+pub enum StartVerdict {
     /// Both files are as a run left them.
     Taken,
-    /// They are, but for one commit that was never confirmed.
+    /// The files are whole, but for one commit that was never confirmed.
     TakenTorn,
     /// The log of the last run is missing.
     NoLog,
@@ -22,42 +22,42 @@ pub enum Verdict {
     IsDamaged,
 }
 
-fn verdict_closed(finding: LogFinding) -> Verdict
+fn verdict_closed(finding: LogFinding) -> StartVerdict
     ensures { result ≡ verdict_closed finding }
 {
     match finding {
-        LogFinding::Missing | LogFinding::Emptied | LogFinding::Emptying => Verdict::Taken,
-        LogFinding::Unsigned => Verdict::HasNoHead,
-        LogFinding::Whole | LogFinding::Torn | LogFinding::Damaged => Verdict::OtherFiles,
+        LogFinding::Missing | LogFinding::Emptied | LogFinding::Emptying => StartVerdict::Taken,
+        LogFinding::Unsigned => StartVerdict::HasNoHead,
+        LogFinding::Whole | LogFinding::Torn | LogFinding::Damaged => StartVerdict::OtherFiles,
     }
 }
 
-fn verdict_open(finding: LogFinding) -> Verdict
+fn verdict_open(finding: LogFinding) -> StartVerdict
     ensures { result ≡ verdict_open finding }
 {
     match finding {
-        LogFinding::Missing => Verdict::NoLog,
-        LogFinding::Emptied | LogFinding::Emptying | LogFinding::Whole => Verdict::Taken,
-        LogFinding::Unsigned => Verdict::HasNoHead,
-        LogFinding::Torn => Verdict::TakenTorn,
-        LogFinding::Damaged => Verdict::IsDamaged,
+        LogFinding::Missing => StartVerdict::NoLog,
+        LogFinding::Emptied | LogFinding::Emptying | LogFinding::Whole => StartVerdict::Taken,
+        LogFinding::Unsigned => StartVerdict::HasNoHead,
+        LogFinding::Torn => StartVerdict::TakenTorn,
+        LogFinding::Damaged => StartVerdict::IsDamaged,
     }
 }
 
-fn verdict_unmarked(finding: LogFinding) -> Verdict
+fn verdict_unmarked(finding: LogFinding) -> StartVerdict
     ensures { result ≡ verdict_unmarked finding }
 {
     match finding {
         LogFinding::Missing | LogFinding::Emptied | LogFinding::Emptying | LogFinding::Whole =>
-            Verdict::Taken,
-        LogFinding::Unsigned => Verdict::HasNoHead,
-        LogFinding::Torn => Verdict::TakenTorn,
-        LogFinding::Damaged => Verdict::IsDamaged,
+            StartVerdict::Taken,
+        LogFinding::Unsigned => StartVerdict::HasNoHead,
+        LogFinding::Torn => StartVerdict::TakenTorn,
+        LogFinding::Damaged => StartVerdict::IsDamaged,
     }
 }
 
 /// Whether a run may start over a store whose file has this mark and whose log says this.
-pub fn verdict_of(mark: Mark, finding: LogFinding) -> Verdict
+pub fn verdict_of(mark: Mark, finding: LogFinding) -> StartVerdict
     ensures { result ≡ verdict_of mark finding }
 {
     match mark {

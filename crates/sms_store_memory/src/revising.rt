@@ -18,7 +18,7 @@ pub trait Reaching<K>: Row {
     fn reach(self, progress: Progress) -> Self
         ensures { result ≡ reaching progress self };
 
-    /// Its key stays.
+    /// A row that is reached keeps its key.
     ghost keeps: { (progress : ProgressOf) (row : Self) → Self.key (reaching progress row) ≡ Self.key row };
 }
 

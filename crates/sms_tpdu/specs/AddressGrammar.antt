@@ -9,7 +9,8 @@ use Rattle.sms_base.specs.Alphabet.{code_for, septets_in, text_in}
 use Rattle.sms_base.specs.declared.address.Address.{Address}
 use Rattle.sms_base.specs.declared.alphabet.Code.{Code}
 use Rattle.sms_alphabet.specs.Packing.{AreSeptets, value_in, digits_in, packed_len}
-pub use Rattle.sms_tpdu.specs.AddressWriting.{address_field, address_length, address_value, code_septets, name_semi_octets, name_septets, packed_name, semi_octet, semi_octets, type_of_address}
+pub use Rattle.sms_tpdu.specs.AddressWriting.{address_field, address_length, address_value, code_septets, name_semi_octets, name_septets, packed_name}
+pub use Rattle.sms_tpdu.specs.AddressWriting.{semi_octet, semi_octets, type_of_address}
 
 abbrev pub AreDigits : List ℕ → Type 0
 AreDigits ds = AllByRecursion (λ d. is_digit d ≡ true) ds

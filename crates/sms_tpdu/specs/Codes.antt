@@ -1,7 +1,9 @@
 -- The numbers of the failure causes and of the statuses that this centre gives.
 use Rattle.std.specs.Prelude.{ℕ}
 use Rattle.sms_tpdu.specs.declared.codes.FailureCause.{FailureCause}
-use Rattle.sms_tpdu.specs.declared.codes.FailureCause.TheVariants.{ServiceCentreBusy, ServiceCentreSystemFailure, InvalidSmeAddress, DestinationBarred, DuplicateShortMessage, ValidityPeriodFormatNotSupported, MemoryCapacityExceeded, UnspecifiedErrorCause}
+use Rattle.sms_tpdu.specs.declared.codes.FailureCause.TheVariants.{ServiceCentreBusy, ServiceCentreSystemFailure, InvalidSmeAddress, DestinationBarred}
+use Rattle.sms_tpdu.specs.declared.codes.FailureCause.TheVariants.{DuplicateShortMessage, ValidityPeriodFormatNotSupported, MemoryCapacityExceeded}
+use Rattle.sms_tpdu.specs.declared.codes.FailureCause.TheVariants.{UnspecifiedErrorCause}
 use Rattle.sms_tpdu.specs.declared.codes.Status.{Status}
 use Rattle.sms_tpdu.specs.declared.codes.Status.TheVariants.{Received, RemoteProcedureError, ValidityPeriodExpired, DeletedByServiceCentre}
 

@@ -1,7 +1,8 @@
 -- The codes of the faults in reports.
 use Rattle.std.specs.Prelude.{ℕ, List, codes}
 use Rattle.sms_tpdu.specs.declared.fault.TpduFault.{TpduFault}
-use Rattle.sms_tpdu.specs.declared.fault.TpduFault.TheVariants.{Truncated, TrailingOctets, BadAddress, BadTime, UserDataTooLong, UnsupportedType, UnsupportedValidity, SpareBits, BadHeader}
+use Rattle.sms_tpdu.specs.declared.fault.TpduFault.TheVariants.{Truncated, TrailingOctets, BadAddress, BadTime, UserDataTooLong, UnsupportedType}
+use Rattle.sms_tpdu.specs.declared.fault.TpduFault.TheVariants.{UnsupportedValidity, SpareBits, BadHeader}
 
 abbrev pub fault_code : TpduFault → List ℕ
 fault_code Truncated = codes "G1"

@@ -1,5 +1,5 @@
 //! Validity periods (3GPP TS 23.040 9.2.3.12).
-ghost use Rattle.std.specs.Prelude.{◌≡◌, ◌<◌, ◌≤◌, ◌+◌, ◌++◌, ℕ, List, OnOk, min};
+ghost use Rattle.std.specs.Prelude.{◌≡◌, ◌<◌, ◌≤◌, ◌+◌, ◌++◌, ℕ, List, OnOk};
 ghost use Rattle.sms_base.specs.Reading.{Takes};
 ghost use Rattle.sms_tpdu.specs.TpduGrammar.{validity_format, IsWrittenValidityField};
 ghost use Rattle.sms_tpdu.specs.ValidityTable.{relative_seconds, later, valid_until};
@@ -7,7 +7,7 @@ ghost use Rattle.sms_tpdu.specs.TpduReading.{validity_in, relative_in, absolute_
 
 use crate::fault::TpduFault;
 use crate::time_field::take_time;
-use sms_base::{Cursor, Moment, Octets};
+use sms_base::{Cursor, Moment, Octets, earlier};
 use std::alloc::AllocError;
 
 /// How long a message is kept that asks for nothing else.
@@ -127,16 +127,5 @@ pub fn validity(period: ValidityPeriod, now: Moment) -> Moment
         ValidityPeriod::NotPresent => later(now, DEFAULT_SECONDS),
         ValidityPeriod::Relative(period) => later(now, relative_seconds(period)),
         ValidityPeriod::Absolute(moment) => earlier(moment, later(now, LONGEST_SECONDS)),
-    }
-}
-
-// The earlier of two moments.
-fn earlier(one: Moment, other: Moment) -> Moment
-    ensures { result ≡ min one other }
-{
-    if one.seconds() < other.seconds() {
-        one
-    } else {
-        other
     }
 }

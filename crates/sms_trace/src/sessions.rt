@@ -4,7 +4,7 @@
 //! before: its sequence number, and how many octets were sent up and down before it. What is written is a PDU that can
 //! be written. A body whose texts are too long for their fields is none, and `can_be_written` answers that.
 //! `SequenceNumbers` counts the requests of both sides, so that a ladder has the numbers of its capture.
-//! `message_state` and `absolute_time` are fields of an answer to a query.
+//! `absolute_time` is a field of an answer to a query.
 ghost use Rattle.std.specs.Prelude.{◌≡◌, nat_le, length, Some, None, if◌then◌else◌};
 
 mod numbers;
@@ -12,7 +12,7 @@ mod pdus;
 
 use crate::sessions::pdus::octets_of;
 pub use numbers::SequenceNumbers;
-pub use pdus::{absolute_time, can_be_written, message_state};
+pub use pdus::{absolute_time, can_be_written};
 use smpp_pdu::{Body, Pdu};
 use sms_base::{Moment, OctetView, Octets};
 use sms_trace_files::capture::{CapturedPdu, put_pdu};
@@ -115,7 +115,7 @@ impl SessionSoFar {
         Ok(())
     }
 
-    /// It is answered. Where the request is not in the capture, nothing is written.
+    /// Answers the request. Where the request is not in the capture, nothing is written.
     pub fn answer(
         &mut self,
         alloc: Global,
@@ -153,7 +153,7 @@ impl SessionSoFar {
         Ok(())
     }
 
-    /// It accepts the receipt.
+    /// The application accepts the receipt.
     pub fn accept(
         &mut self,
         alloc: Global,

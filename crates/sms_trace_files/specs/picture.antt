@@ -2,7 +2,6 @@ pub mod Columns
 pub mod Drawing
 pub mod Elements
 pub mod Looks
-pub mod Markup
 pub mod Notes
 pub mod Places
 pub mod Reading

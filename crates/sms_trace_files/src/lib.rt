@@ -5,11 +5,9 @@
 //!
 //! - `capture`: a capture file of a centre's links and sessions
 //! - `ladder`: a run as a ladder of text
-//! - `numbers`: numbers in text
 //! - `picture`: a run as an SVG document
 #![tactic(auto)]
 
 pub mod capture;
 pub mod ladder;
-pub mod numbers;
 pub mod picture;

@@ -2,7 +2,7 @@
 use Rattle.std.proofs.Common.{◌≡◌, [], ◌∷◌, None, refl}
 use Rattle.std.specs.Prelude.{codes}
 use Rattle.sms_script.specs.declared.report.answers.Answered.TheVariants.{Stopped}
-use Rattle.sms_script.specs.declared.report.answers.MessageState.TheVariants.{Enroute}
+use Rattle.sms_centre_rows.specs.declared.report_lines.MessageState.TheVariants.{Enroute}
 use Rattle.sms_script.specs.declared.play_fault.PlayFault.TheVariants.{NoSuchFrame, BadSetup}
 use Rattle.sms_world.proofs.Everything.{everything}
 use Rattle.sms_world.proofs.Worked.{told, RunReports, Fails}

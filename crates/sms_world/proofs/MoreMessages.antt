@@ -4,7 +4,7 @@ use Rattle.std.specs.Prelude.{codes}
 use Rattle.smpp_pdu.specs.declared.status.CommandStatus.TheVariants.{ESME_ROK}
 use Rattle.sms_base.specs.declared.final_state.FinalState.TheVariants.{Delivered, Deleted}
 use Rattle.sms_script.specs.declared.report.answers.Answered.TheVariants.{Accepted, Status}
-use Rattle.sms_script.specs.declared.report.answers.MessageState.TheVariants.{Final}
+use Rattle.sms_centre_rows.specs.declared.report_lines.MessageState.TheVariants.{Final}
 use Rattle.sms_world.proofs.Everything.{everything}
 use Rattle.sms_world.proofs.Worked.{told, RunReports, all_hex}
 

@@ -2,7 +2,7 @@ pub mod ByOctets
 pub mod Staying
 pub mod Beginning
 pub mod Unseen
-pub mod Loads
+pub mod QueuedParts
 pub mod Allocations
 pub mod References
 pub mod Offers

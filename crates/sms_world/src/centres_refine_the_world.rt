@@ -6,7 +6,9 @@
 //! are a question, a session that is bound or ends, an answer to a receipt, a link that is up or down, and an operator's
 //! retry. Their steps are offers of what waits, which follow every event. A submission, a cancel and a tick are events of a script.
 //! `crate::centre_runs_are_steps` has the frame.
-ghost use Rattle.sms_world.specs.centres_refine_the_world.CentreLaws.{AnsweredLaw, BackLaw, BoundLaw, CancelLaw, DeleteLaw, FirstLaw, HandsetLaw, LinkDownLaw, LinkUpLaw, NextLaw, NextReferenceLaw, NoReferenceLaw, PartFarLaw, QueryLaw, ReportFarLaw, RetryLaw, SubmitLaw, TickLaw, UnboundLaw};
+ghost use Rattle.sms_world.specs.centres_refine_the_world.CentreLaws.{AnsweredLaw, BackLaw, BoundLaw, CancelLaw, DeleteLaw, FirstLaw, HandsetLaw, LinkDownLaw};
+ghost use Rattle.sms_world.specs.centres_refine_the_world.CentreLaws.{LinkUpLaw, NextLaw, NextReferenceLaw, NoReferenceLaw, PartFarLaw, QueryLaw, ReportFarLaw};
+ghost use Rattle.sms_world.specs.centres_refine_the_world.CentreLaws.{RetryLaw, SubmitLaw, TickLaw, UnboundLaw};
 
 /// The centre of a new store refines the empty world. One that has adopted an event refines the world that the event
 /// led to. One that stops, after a store call or between events, starts again with rows that refine the world.

@@ -13,8 +13,13 @@
 //!
 //! `sms_world::messages_have_origins` ties the rows of messages to the events that submitted them.
 ghost use Rattle.sms_world.specs.headline.DecidedPremises.{FirstLaw, NoneLaw};
-ghost use Rattle.sms_world.specs.headline.PlainLaws.{AcceptedPartsLaw, AllSentLaw, AscendLaw, AscendingLaw, CancelsLaw, DeletedLaw, DeliveredLinesLaw, EachStaysLaw, JoinedPiecesLaw, LongerLaw, NamedLaw, NoErrorLaw, NoneTwiceLaw, OfEventsLaw, PlainLaw, PlainReportLaw, QueriesLaw, ReceiptsLaw, ReferencesLaw, ReportsLaw, ToldLaw};
-ghost use Rattle.sms_world.specs.headline.HeadlineLaws.{ConfirmedLaw, DeliveredLaw, FinalLaw, GivenLaw, HeadlineLaw, HeldLaw, JoinedLaw, JoinedOnceLaw, JoinedWholeLaw, LineLaw, OnceLaw, OneRunLaw, PartsLaw, ReceiptLaw, ReceiptsStayLaw, ReportsSayLaw, SentLaw, SplitJoinedLaw, SplitLongLaw, SplitStaysLaw, SplitTextLaw, StatusLaw, StayLaw, ReportedLaw, WorldLaw};
+ghost use Rattle.sms_world.specs.headline.PlainLaws.{AcceptedPartsLaw, AllSentLaw, AscendLaw, AscendingLaw, CancelsLaw, DeletedLaw, DeliveredLinesLaw};
+ghost use Rattle.sms_world.specs.headline.PlainLaws.{EachStaysLaw, JoinedPiecesLaw, LongerLaw, NamedLaw, NoErrorLaw, NoneTwiceLaw, OfEventsLaw, PlainLaw};
+ghost use Rattle.sms_world.specs.headline.PlainLaws.{PlainReportLaw, QueriesLaw, ReceiptsLaw, ReferencesLaw, ReportsLaw, ToldLaw};
+ghost use Rattle.sms_world.specs.headline.HeadlineLaws.{ConfirmedLaw, DeliveredLaw, FinalLaw, GivenLaw, HeadlineLaw, HeldLaw, JoinedLaw, JoinedOnceLaw};
+ghost use Rattle.sms_world.specs.headline.HeadlineLaws.{JoinedWholeLaw, LineLaw, OnceLaw, OneRunLaw, PartsLaw, ReceiptLaw, ReceiptsStayLaw, ReportsSayLaw};
+ghost use Rattle.sms_world.specs.headline.HeadlineLaws.{SentLaw, SplitJoinedLaw, SplitLongLaw, SplitStaysLaw, SplitTextLaw, StatusLaw, StayLaw, ReportedLaw};
+ghost use Rattle.sms_world.specs.headline.HeadlineLaws.{WorldLaw};
 
 /// The events of a script, up to any of them, are one run of the world from the empty one on. Each course on the way shows
 /// the world there.

@@ -2,13 +2,25 @@
 //!
 //! Each clause is about one small literal play state or report (`specs/wrong_plays`). So each claim over rows is seen to
 //! refuse a wrong one, as those over lines are in `crate::wrong_reports`.
-ghost use Rattle.sms_world.specs.wrong_plays.Happened.{CancelledAgainLaw, CancelledAllTheSameLaw, FalseQueryLaw, FromQueryLaw, FromStoppedLaw, ImpossibleStepLaw, NotCancelledLaw, NotOfEventLaw, NotTakenInLaw, OtherIdLaw, OtherMomentLaw, OtherNumberLaw, OthersQueryLaw, QueryEndsLaw, ReceiptEarlyLaw, ReceiptNotListedLaw, ReceiptToOtherLaw, ReceiptToTransmitterLaw, ReceiptUnboundLaw, ReceiptUndatedLaw, RightQueryLaw, RightReceiptLaw};
-ghost use Rattle.sms_world.specs.wrong_plays.Pieces.{EntryWithoutRowLaw, JoinedUnknownLaw, NoRoundLaw, ReportShutLaw, ReportUnknownLaw, ReportWithoutRowLaw, RightRoundLaw, TwoPartsLaw};
-ghost use Rattle.sms_world.specs.wrong_plays.Played.{LateAloneLaw, LateFrameLaw, LostPartLaw, LostTextLaw, NoReceiptLaw, NotAnsweredLaw, OnePartMoreLaw, OtherHandsetLaw, OtherLimitLaw, OtherOriginatorLaw, OtherProtocolLaw, OtherSourceLaw, OtherSplitLaw, OtherReportLaw, OtherWishLaw, RightFreshLaw, RightReportLaw, RightTimelyLaw, ShortLaw, StaleAloneLaw};
-ghost use Rattle.sms_world.specs.wrong_plays.SentUp.{AloneLaw, CommonLaw, FrameLaw, HandsetLaw, NextLaw, OwnersLaw, ReferenceLaw, RightLaw, SentByOtherLaw, SentOtherTextLaw, SourceLaw, SubmittedTextLaw, TakersLaw, TextLaw, WishLaw};
-ghost use Rattle.sms_world.specs.wrong_plays.Shown.{AcceptedUnknownLaw, BeginningLaw, EntryUnknownLaw, FrameSaysNothingLaw, FrameUnknownLaw, GivenUnknownLaw, GivenUpUnknownLaw, GivenWithoutRowLaw, HolderWithoutRowLaw, MessageUnknownLaw, MessageWithoutRowLaw, NotApartLaw, OpenReportLaw, PartNotGivenLaw, PartUnknownLaw, ReceiptUnknownLaw, ReceiptUnlistedLaw};
+ghost use Rattle.sms_world.specs.wrong_plays.Happened.{CancelledAgainLaw, CancelledAllTheSameLaw, FalseQueryLaw, FromQueryLaw, FromStoppedLaw};
+ghost use Rattle.sms_world.specs.wrong_plays.Happened.{ImpossibleStepLaw, NotCancelledLaw, NotOfEventLaw, NotTakenInLaw, OtherIdLaw, OtherMomentLaw};
+ghost use Rattle.sms_world.specs.wrong_plays.Happened.{OtherNumberLaw, OthersQueryLaw, QueryEndsLaw, ReceiptEarlyLaw, ReceiptNotListedLaw, ReceiptToOtherLaw};
+ghost use Rattle.sms_world.specs.wrong_plays.Happened.{ReceiptToTransmitterLaw, ReceiptUnboundLaw, ReceiptUndatedLaw, RightQueryLaw, RightReceiptLaw};
+ghost use Rattle.sms_world.specs.wrong_plays.Pieces.{EntryWithoutRowLaw, JoinedUnknownLaw, NoRoundLaw, ReportShutLaw, ReportUnknownLaw, ReportWithoutRowLaw};
+ghost use Rattle.sms_world.specs.wrong_plays.Pieces.{RightRoundLaw, TwoPartsLaw};
+ghost use Rattle.sms_world.specs.wrong_plays.Played.{LateAloneLaw, LateFrameLaw, LostPartLaw, LostTextLaw, NoReceiptLaw, NotAnsweredLaw, OnePartMoreLaw};
+ghost use Rattle.sms_world.specs.wrong_plays.Played.{OtherHandsetLaw, OtherLimitLaw, OtherOriginatorLaw, OtherProtocolLaw, OtherSourceLaw, OtherSplitLaw};
+ghost use Rattle.sms_world.specs.wrong_plays.Played.{OtherReportLaw, OtherWishLaw, RightFreshLaw, RightReportLaw, RightTimelyLaw, ShortLaw, StaleAloneLaw};
+ghost use Rattle.sms_world.specs.wrong_plays.SentUp.{AloneLaw, CommonLaw, FrameLaw, HandsetLaw, NextLaw, OwnersLaw, ReferenceLaw, RightLaw, SentByOtherLaw};
+ghost use Rattle.sms_world.specs.wrong_plays.SentUp.{SentOtherTextLaw, SourceLaw, SubmittedTextLaw, TakersLaw, TextLaw, WishLaw};
+ghost use Rattle.sms_world.specs.wrong_plays.Shown.{AcceptedUnknownLaw, BeginningLaw, EntryUnknownLaw, FrameSaysNothingLaw, FrameUnknownLaw, GivenUnknownLaw};
+ghost use Rattle.sms_world.specs.wrong_plays.Shown.{GivenUpUnknownLaw, GivenWithoutRowLaw, HolderWithoutRowLaw, MessageUnknownLaw, MessageWithoutRowLaw};
+ghost use Rattle.sms_world.specs.wrong_plays.Shown.{NotApartLaw, OpenReportLaw, PartNotGivenLaw, PartUnknownLaw, ReceiptUnknownLaw, ReceiptUnlistedLaw};
 ghost use Rattle.sms_world.specs.wrong_plays.SplitText.{MixedRoundLaw, NoPlaceLaw, OtherContentLaw, OtherPlanLaw, OtherRowLaw, OtherWordsLaw, RightSplitLaw};
-ghost use Rattle.sms_world.specs.wrong_plays.Told.{AcceptedTwiceLaw, FromNoneLaw, GivenTwiceLaw, HeldTwiceLaw, JoinedOfNoneLaw, LineGoneLaw, LineOfNoneLaw, LinesLaw, NeverAcceptedLaw, NobodysLaw, NotGivenLaw, NotListedLaw, NotThereLaw, OtherEndLaw, OtherStateLaw, OtherTextLaw, PartTwiceLaw, ReceiptGoneLaw, ReceiptOfNoneLaw, RightToldLaw, SentElsewhereLaw, SentOfNoneLaw, SplitOfNoneLaw, SystemErrorLaw, ToRecipientLaw, ToldEarlyLaw, ToldOfNoneLaw, TwoReceiptsLaw};
+ghost use Rattle.sms_world.specs.wrong_plays.Told.{AcceptedTwiceLaw, FromNoneLaw, GivenTwiceLaw, HeldTwiceLaw, JoinedOfNoneLaw, LineGoneLaw, LineOfNoneLaw};
+ghost use Rattle.sms_world.specs.wrong_plays.Told.{LinesLaw, NeverAcceptedLaw, NobodysLaw, NotGivenLaw, NotListedLaw, NotThereLaw, OtherEndLaw, OtherStateLaw};
+ghost use Rattle.sms_world.specs.wrong_plays.Told.{OtherTextLaw, PartTwiceLaw, ReceiptGoneLaw, ReceiptOfNoneLaw, RightToldLaw, SentElsewhereLaw, SentOfNoneLaw};
+ghost use Rattle.sms_world.specs.wrong_plays.Told.{SplitOfNoneLaw, SystemErrorLaw, ToRecipientLaw, ToldEarlyLaw, ToldOfNoneLaw, TwoReceiptsLaw};
 
 /// A report with a message that nobody submitted. Such a message comes from no event.
 pub fn messages_of_nobody_are_refused()
@@ -16,7 +28,7 @@ pub fn messages_of_nobody_are_refused()
     ensures origin { FromNoneLaw }
 {}
 
-/// One message with two lines. A line that is gone in a longer report, another final state there, and a receipt that is gone.
+/// A message with two lines. A line that is gone in a longer report, another final state there, and a receipt that is gone.
 /// A receipt that says DELIVRD of an EXPIRED message, and two receipts of one message.
 pub fn wrong_final_states_are_refused()
     ensures lines { LinesLaw }

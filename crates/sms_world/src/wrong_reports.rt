@@ -2,7 +2,11 @@
 //!
 //! Each clause is about one small literal report of a small script (`specs/wrong_reports`). So each claim is seen to refuse
 //! a wrong report, and to admit a right one.
-ghost use Rattle.sms_world.specs.wrong_reports.Tried.{AcceptedLaw, AscendLaw, CancelLaw, CommonLaw, DeletedLaw, FinalLaw, ForgottenLaw, GivenLaw, GoneLaw, GoodLaw, JoinedLaw, JoinedTwiceLaw, LineLaw, NeverLaw, NumberLaw, OriginLaw, OtherEntryLaw, OtherTextLaw, OwnerLaw, QueryLaw, ReceiptLaw, ReceiptsLaw, RefusedCancelLaw, SentLaw, SplitLaw, StatusLaw, StoppedLaw, SystemErrorLaw, ToldLaw, TrueCancelLaw, TrueOwnerLaw, TrueQueryLaw, TrueSentLaw, TrueSplitLaw, TrueStopLaw, TwiceLaw, UnansweredLaw};
+ghost use Rattle.sms_world.specs.wrong_reports.Tried.{AcceptedLaw, AscendLaw, CancelLaw, CommonLaw, DeletedLaw, FinalLaw, ForgottenLaw, GivenLaw, GoneLaw};
+ghost use Rattle.sms_world.specs.wrong_reports.Tried.{GoodLaw, JoinedLaw, JoinedTwiceLaw, LineLaw, NeverLaw, NumberLaw, OriginLaw, OtherEntryLaw, OtherTextLaw};
+ghost use Rattle.sms_world.specs.wrong_reports.Tried.{OwnerLaw, QueryLaw, ReceiptLaw, ReceiptsLaw, RefusedCancelLaw, SentLaw, SplitLaw, StatusLaw, StoppedLaw};
+ghost use Rattle.sms_world.specs.wrong_reports.Tried.{SystemErrorLaw, ToldLaw, TrueCancelLaw, TrueOwnerLaw, TrueQueryLaw, TrueSentLaw, TrueSplitLaw};
+ghost use Rattle.sms_world.specs.wrong_reports.Tried.{TrueStopLaw, TwiceLaw, UnansweredLaw};
 ghost use Rattle.sms_world.specs.wrong_reports.StatusReports.{DoneLaw, RecipientLaw, ReferenceLaw, RightLaw, StateLaw, SubmittedLaw};
 ghost use Rattle.sms_world.specs.wrong_reports.Worlds.{FreshLaw, InTimeLaw, LateLaw, ReusedLaw};
 
@@ -20,9 +24,10 @@ pub fn right_reports_are_admitted()
     ensures split { TrueSplitLaw }
 {}
 
-/// A message that was DELIVRD and is EXPIRED in a longer report, one whose line is gone there, and a receipt that is. One that has two lines, and one that is there before any
-/// event. One of a submission that was stopped before its store call, and one of a submission that was not answered. An owner's
-/// text as a message to another handset, and one whose frame is of an entry that the text has not.
+/// A message that was DELIVRD and is EXPIRED in a longer report, one whose line is gone there, and a receipt that is. A
+/// message that has two lines, and one that is there before any event. One of a submission that was stopped before its
+/// store call, and one of a submission that was not answered. An owner's text as a message to another handset, and one
+/// whose frame is of an entry that the text has not.
 pub fn wrong_messages_are_refused()
     ensures state { FinalLaw }
     ensures gone { GoneLaw }
@@ -54,7 +59,7 @@ pub fn wrong_status_reports_are_refused()
     ensures state { StateLaw }
 {}
 
-/// One number for two submissions. A query_sm that finds DELIVRD of a message under way. A cancel_sm that was answered
+/// A number for two submissions. A query_sm that finds DELIVRD of a message under way. A cancel_sm that was answered
 /// ESME_ROK and deletes nothing, and one that was refused and deletes. A message that a frame deletes. An answer ESME_RSYSERR. Two answers of one event.
 pub fn wrong_answers_are_refused()
     ensures number { NumberLaw }

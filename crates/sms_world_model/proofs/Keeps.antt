@@ -10,7 +10,7 @@ use Rattle.sms_tpdu.specs.MoreMessages.{compared}
 use Rattle.sms_world_model.specs.Submission.{Submission}
 use Rattle.sms_world_model.specs.World.{State, Pending, Final, Message, Allocation, Line, Down, Up, Frame, Carried, Bare, Accepted, World, IsRecorded, changed, IsLast, IsUnanswered, IsHeld, give, answer, pair_of, pair_given, next_number}
 use Rattle.sms_world_model.specs.References.{Ticket, part_allocation, report_allocation, CanGiveParts, given_parts}
-use Rattle.sms_world_model.specs.WorldStep.{Step, Submit, Offer, Take, Take_again, Refuse, Settle, Expire, Delete, Fail, Receipt, Status, Close, Join, Write, Remove, Offer_up, Offer_memory, Repeat_memory, Receive, Reject, Memory_free, Lapse, Acknowledged, Refused, Again, Control, Can, after, CanSubmit, IsNew, submitted, enter, marked, IsSent, data_of, memory_of}
+use Rattle.sms_world_model.specs.WorldStep.{Step, Submit, Offer, Take, Take_again, Refuse, Settle, Expire, Delete, Fail, Receipt, Status, Close, Join, Write, Remove, Offer_up, Offer_memory, Repeat_memory, Receive, Reject, Memory_free, Lapse, Acknowledged, Refused, Again, Control, Can, after, CanSubmit, IsUnusedId, submitted, enter, marked, IsSent, data_of, memory_of}
 use Rattle.sms_base.specs.declared.carried.Kind.{Kind}
 use Rattle.sms_base.specs.declared.carried.Kind.TheVariants.{Data, Ack, Error}
 use Rattle.sms_world_model.proofs.Tables.{changed_grows, changed_back, entered_here, entered_grows, entered_back, new_not_found}
@@ -40,7 +40,7 @@ not_given w id h none x j i e =
     let known : IsKnown w.table w.receipts x (Part id j) = subst (IsKnown w.table w.receipts x) e (h.known x i) in
     none known.0 known.1 known.2.0
 
-pub sound_enter : (w : World) (s : Submission) → IsSound w → IsNew w.table s.id → IsSound (enter w s)
+pub sound_enter : (w : World) (s : Submission) → IsSound w → IsUnusedId w.table s.id → IsSound (enter w s)
 sound_enter w s h new =
     let none = not_given w s.id h (λ x st. new_not_found w.table s.id x st new) in
     sound_table w.table w.receipts w.reports w.down w.accepted w.bag h (record { submission = s; state = Pending [] } ∷ w.table)

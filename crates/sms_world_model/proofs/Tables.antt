@@ -6,7 +6,7 @@ use Rattle.sms_base.specs.Among.{Among}
 use Rattle.sms_world_model.specs.Groups.{is_among, all_numbers, without}
 use Rattle.sms_world_model.specs.Submission.{Submission}
 use Rattle.sms_world_model.specs.World.{State, Pending, Final, Message, find, IsRecorded, changed}
-use Rattle.sms_world_model.specs.WorldStep.{IsNew}
+use Rattle.sms_world_model.specs.WorldStep.{IsUnusedId}
 
 pick : (b : Bool) (ms rest : List ℕ) (x m : ℕ) → (Among x rest → Among x ms) → Among x (cond b rest (m ∷ rest)) → Among x (m ∷ ms)
 pick true ms rest x m more h = inr (more h)
@@ -39,7 +39,7 @@ find_here id e t p = cond-true (e.submission.id == id) (Some e) (find id t) (eq-
 find_there : (id : ℕ) (e : Message) (t : List Message) → ¬ (e.submission.id ≡ id) → find id (e ∷ t) ≡ find id t
 find_there id e t p = cond-false (e.submission.id == id) (Some e) (find id t) (ne_eqb e.submission.id id p)
 
-pub new_not_found : (t : List Message) (id : ℕ) (s : Submission) (st : State) → IsNew t id → IsRecorded t id s st → ⊥
+pub new_not_found : (t : List Message) (id : ℕ) (s : Submission) (st : State) → IsUnusedId t id → IsRecorded t id s st → ⊥
 new_not_found [] id s st n h = cc
 new_not_found (e ∷ t) id s st n h = new_not_found t id s st n.1 (sym (find_there id e t n.0) ∙ h)
 
@@ -130,7 +130,7 @@ changed_grows t id f s done h j x st k =
 pub entered_here : (t : List Message) (s : Submission) (st : State) → IsRecorded (record { submission = s; state = st } ∷ t) s.id s st
 entered_here t s st = find_here s.id (record { submission = s; state = st }) t refl
 
-pub entered_grows : (t : List Message) (s : Submission) (st : State) → IsNew t s.id → Grows t (record { submission = s; state = st } ∷ t)
+pub entered_grows : (t : List Message) (s : Submission) (st : State) → IsUnusedId t s.id → Grows t (record { submission = s; state = st } ∷ t)
 entered_grows t s st n j x y k =
     (y, (find_there j (record { submission = s; state = st }) t (λ p. new_not_found t s.id x y n (subst (λ i. IsRecorded t i x y) (sym p) k)) ∙ k, later_same y))
 

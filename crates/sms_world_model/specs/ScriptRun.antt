@@ -2,7 +2,9 @@
 -- is a script.
 use Rattle.std.specs.Prelude.{◌≡◌, ◌⊎◌, ℕ, List, [], ◌∷◌, ◌++◌, Bool, true, false}
 use Rattle.sms_base.specs.Among.{Among}
-use Rattle.sms_world_model.specs.WorldStep.{Acknowledged, Again, Close, Control, Delete, Expire, Fail, Join, Lapse, Memory_free, Offer, Offer_memory, Offer_up, Receipt, Receive, Refuse, Refused, Reject, Remove, Repeat_memory, Settle, Status, Step, Submit, Take, Take_again, Write, Item, Run, end}
+use Rattle.sms_world_model.specs.WorldStep.{Acknowledged, Again, Close, Control, Delete, Expire, Fail, Join, Lapse, Memory_free, Offer, Offer_memory, Offer_up}
+use Rattle.sms_world_model.specs.WorldStep.{Receipt, Receive, Refuse, Refused, Reject, Remove, Repeat_memory, Settle, Status, Step, Submit, Take, Take_again}
+use Rattle.sms_world_model.specs.WorldStep.{Write, Item, Run, end}
 use Rattle.sms_world_model.specs.World.{Carried, Frame, OutEntry, World}
 use Rattle.sms_world_model.specs.Submission.{Submission}
 use Rattle.sms_world_model.specs.References.{Ticket}

@@ -12,8 +12,11 @@ use Rattle.sms_tpdu.specs.declared.up.Up.TheVariants.{Submit as SubmitUp}
 use Rattle.sms_tpdu.specs.declared.user_data.UserData.{UserData}
 use Rattle.sms_base.specs.declared.carried.Kind.{Kind}
 use Rattle.sms_base.specs.declared.carried.Kind.TheVariants.{Data, Ack, Error}
-use Rattle.sms_world_model.specs.World.{Bare, Carried, Down, EntryState, Failed, Final, Frame, Allocation, IsHeld, IsHeldUp, IsLast, IsUnfinished, Joined, Line, Message, OutEntry, Pending, Queued, Sending, Sent_up, IsRecorded, State, Unsure, Up, World, answer, changed, is_same_handset, next_number, pair_of, put, with_frames}
-use Rattle.sms_world_model.specs.References.{CanGive, CanGiveParts, IsFreeUp, IsNewHolder, Ticket, entry_allocation, given_parts, memory_allocation, report_allocation}
+use Rattle.sms_world_model.specs.World.{Bare, Carried, Down, EntryState, Failed, Final, Frame, Allocation, IsHeld, IsHeldUp, IsLast, IsUnfinished, Joined, Line}
+use Rattle.sms_world_model.specs.World.{Message, OutEntry, Pending, Queued, Sending, Sent_up, IsRecorded, State, Unsure, Up, World, answer, changed}
+use Rattle.sms_world_model.specs.World.{is_same_handset, next_number, pair_of, put, with_frames}
+use Rattle.sms_world_model.specs.References.{CanGive, CanGiveParts, IsFreeUp, IsNewHolder, Ticket, entry_allocation, given_parts, memory_allocation}
+use Rattle.sms_world_model.specs.References.{report_allocation}
 use Rattle.sms_world_model.specs.Groups.{IsEndedAt, groups_of, joined_content, all_numbers, without}
 use Rattle.sms_world_model.specs.Submission.{IsReportOf, IsSubmitTo, IsWished, Submission}
 use Rattle.sms_world_model.specs.Place.{Key}
@@ -65,14 +68,14 @@ pub data Step : Type 0 where
 abbrev pub enter : World → Submission → World
 enter w s = record w { table = record { submission = s; state = Pending [] } ∷ w.table }
 
-abbrev pub IsNew : List Message → ℕ → Type 0
-IsNew [] id = Unit {0}
-IsNew (e ∷ es) id = ¬ (e.submission.id ≡ id) × IsNew es id
+abbrev pub IsUnusedId : List Message → ℕ → Type 0
+IsUnusedId [] id = Unit {0}
+IsUnusedId (e ∷ es) id = ¬ (e.submission.id ≡ id) × IsUnusedId es id
 
 -- the id is new, and each part takes a reference
 abbrev pub CanSubmit : World → ℕ → Submission → List Ticket → Type 0
 CanSubmit w moment s tickets =
-    IsNew w.table s.id × (0 < length s.parts) × (length tickets ≡ length s.parts) × CanGiveParts (enter w s) s moment 1 tickets
+    IsUnusedId w.table s.id × (0 < length s.parts) × (length tickets ≡ length s.parts) × CanGiveParts (enter w s) s moment 1 tickets
 
 abbrev pub submitted : World → ℕ → Submission → List Ticket → World
 submitted w moment s tickets =

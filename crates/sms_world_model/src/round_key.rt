@@ -5,7 +5,7 @@ ghost use Rattle.sms_world_model.specs.RoundKeys.{placed, placed_at};
 ghost use Rattle.sms_world_model.specs.Place.{place_in as place_in_octets, place_of as place_with};
 
 use sms_base::{Address, Digits};
-use sms_concat::{ConcatKey, ConcatReference, Header, concat_info};
+use sms_concat::{ConcatKey, ConcatReference, header_key};
 use sms_rows::interning::Number;
 use sms_tpdu::{Carrier, Deliver, Down, read_down};
 
@@ -26,19 +26,6 @@ pub struct RoundKey {
     pub is_wide: bool,
     pub reference: u16,
     pub total: u8,
-}
-
-// The key of the header that user data begins with.
-fn header_key(indicator: bool, octets: &[u8]) -> Option<ConcatKey>
-    ensures { result ≡ header_key_of indicator octets.now }
-{
-    if !indicator {
-        return None;
-    }
-    match Header::read(octets) {
-        Ok(header) => concat_info(&header),
-        Err(_) => None,
-    }
 }
 
 fn place_of(handset: Digits, source: &Address, key: ConcatKey) -> Place

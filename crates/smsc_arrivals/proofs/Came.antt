@@ -3,8 +3,8 @@ use Rattle.std.proofs.Common.{◌≡◌, List, [], ◌∷◌, ◌++◌, Option, 
 use Rattle.std.proofs.lemmas.Option.{none-some, same_Some}
 use Rattle.std.specs.declared.net.socket_addr.SocketAddr.{SocketAddr}
 use Rattle.smsc_arrivals.specs.declared.arrival.Arrival.{Arrival}
-use Rattle.smsc_arrivals.specs.declared.arrival.Side.{Side}
-use Rattle.smsc_arrivals.specs.declared.arrival.Side.TheVariants.{Application, Handset}
+use Rattle.smsc_arrivals.specs.declared.arrival.PeerKind.{PeerKind}
+use Rattle.smsc_arrivals.specs.declared.arrival.PeerKind.TheVariants.{Application, Handset}
 use Rattle.smsc_arrivals.specs.declared.doors.Doors.{Doors}
 use Rattle.smsc_arrivals.specs.Arriving.{AddsAll, HaveCome, at_applications, at_applications_if, at_links, at_links_if}
 
@@ -20,11 +20,11 @@ module _ {A : Type 0} where
       q ∙ ap Some (ap (λ (l : List A). l ++ other) (same_Some b (a ++ one) p) ∙ append_assoc a one other)
 
 module _ {S : Type 0} where
-  applications_if : (side : Side) (a : Arrival S) (xs ys : List (S × SocketAddr)) → at_applications_if side a (xs ++ ys) ≡ at_applications_if side a xs ++ ys
+  applications_if : (side : PeerKind) (a : Arrival S) (xs ys : List (S × SocketAddr)) → at_applications_if side a (xs ++ ys) ≡ at_applications_if side a xs ++ ys
   applications_if Application a xs ys = refl
   applications_if Handset a xs ys = refl
 
-  links_if : (side : Side) (a : Arrival S) (xs ys : List (S × SocketAddr)) → at_links_if side a (xs ++ ys) ≡ at_links_if side a xs ++ ys
+  links_if : (side : PeerKind) (a : Arrival S) (xs ys : List (S × SocketAddr)) → at_links_if side a (xs ++ ys) ≡ at_links_if side a xs ++ ys
   links_if Application a xs ys = refl
   links_if Handset a xs ys = refl
 

@@ -2,8 +2,8 @@
 use Rattle.std.specs.Prelude.{◌≡◌, List, [], ◌∷◌, ◌++◌, Option, Some, None, ⊤}
 use Rattle.std.specs.declared.net.socket_addr.SocketAddr.{SocketAddr}
 use Rattle.smsc_arrivals.specs.declared.arrival.Arrival.{Arrival}
-use Rattle.smsc_arrivals.specs.declared.arrival.Side.{Side}
-use Rattle.smsc_arrivals.specs.declared.arrival.Side.TheVariants.{Application, Handset}
+use Rattle.smsc_arrivals.specs.declared.arrival.PeerKind.{PeerKind}
+use Rattle.smsc_arrivals.specs.declared.arrival.PeerKind.TheVariants.{Application, Handset}
 use Rattle.smsc_arrivals.specs.declared.doors.Doors.{Doors}
 
 module _ {A : Type 0} where
@@ -21,11 +21,11 @@ module _ {S : Type 0} where
   abbrev pub entered : Arrival S → S × SocketAddr
   entered a = (a.stream, a.peer)
 
-  abbrev pub at_applications_if : Side → Arrival S → List (S × SocketAddr) → List (S × SocketAddr)
+  abbrev pub at_applications_if : PeerKind → Arrival S → List (S × SocketAddr) → List (S × SocketAddr)
   at_applications_if Application a rest = entered a ∷ rest
   at_applications_if Handset a rest = rest
 
-  abbrev pub at_links_if : Side → Arrival S → List (S × SocketAddr) → List (S × SocketAddr)
+  abbrev pub at_links_if : PeerKind → Arrival S → List (S × SocketAddr) → List (S × SocketAddr)
   at_links_if Application a rest = rest
   at_links_if Handset a rest = entered a ∷ rest
 

@@ -3,7 +3,7 @@ use std::net::SocketAddr;
 
 /// Who is at the other end.
 #[derive(Clone, Copy, Debug, PartialEq, Eq)]
-pub enum Side {
+pub enum PeerKind {
     /// An application, by SMPP.
     Application,
     /// A handset, by a link.
@@ -14,6 +14,6 @@ pub enum Side {
 #[derive(Drop)]
 pub struct Arrival<S> {
     pub stream: S,
-    pub side: Side,
+    pub side: PeerKind,
     pub peer: SocketAddr,
 }

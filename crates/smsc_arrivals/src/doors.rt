@@ -2,7 +2,7 @@
 ghost use Rattle.std.specs.Prelude.{◌≡◌, IfSome, MatchOption};
 ghost use Rattle.smsc_arrivals.specs.Arriving.{HasCome, HaveNotCome};
 
-use crate::arrival::{Arrival, Side};
+use crate::arrival::{Arrival, PeerKind};
 use std::net::{SocketAddr, TcpListener, TcpStream};
 
 /// A listener, which gives the connections that wait there.
@@ -24,7 +24,7 @@ pub trait Door {
             (λ entered. Adds (came self.old) (came self.new) entered) };
 }
 
-/// It states none.
+/// A `TcpListener` does not state who came.
 impl Door for TcpListener {
     type Stream = TcpStream;
 
@@ -40,23 +40,23 @@ impl Door for TcpListener {
 /// The listener for applications and the one for handsets.
 #[derive(Drop)]
 pub struct Doors<L> {
-    /// For applications.
+    /// The listener for applications.
     pub applications: L,
-    /// For handsets.
+    /// The listener for handsets.
     pub links: L,
 }
 
 impl<L: Door> Doors<L> {
     /// Takes the next connection that waits at that side, if there is one.
-    pub fn accept(&mut self, side: Side) -> Option<Arrival<L::Stream>>
+    pub fn accept(&mut self, side: PeerKind) -> Option<Arrival<L::Stream>>
         ensures came { MatchOption result
             (HaveNotCome L.came self.old self.new)
             (λ arrival. HasCome L.came self.old self.new arrival) }
         ensures side { IfSome result (λ arrival. arrival.side ≡ side) }
     {
         let accepted = match side {
-            Side::Application => self.applications.accept(),
-            Side::Handset => self.links.accept(),
+            PeerKind::Application => self.applications.accept(),
+            PeerKind::Handset => self.links.accept(),
         };
         let (stream, peer) = accepted?;
         Some(Arrival { stream, side, peer })

@@ -16,7 +16,7 @@ mod pieces;
 mod reading;
 mod sharing;
 
-pub use arrival::{Arrival, Side};
+pub use arrival::{Arrival, PeerKind};
 pub use doors::{Door, Doors};
 pub use pieces::{Piece, PieceReceiver, PieceSender, open_pieces};
 pub use reading::{Reader, Reading};

@@ -50,9 +50,9 @@ impl Piece {
 
 /// What an end of the queue may do and what it knows. No value of it is made.
 pub struct PiecesView {
-    /// It is the reader's.
+    /// The end is the reader's.
     pub gives: bool,
-    /// It is the seat's.
+    /// The end is the seat's.
     pub takes: bool,
     /// What the stream was to give when the queue was opened, where it states that.
     pub source: Option<LinkedList<u8>>,

@@ -23,7 +23,7 @@ pub struct Reading<S: Read> {
 #[derive(Drop)]
 pub struct Reader<R, S: Read> {
     pub rt: R,
-    /// That of the seat.
+    /// The bell of the seat.
     pub bell: Bell,
     pub readings: Receiver<Reading<S>>,
 }

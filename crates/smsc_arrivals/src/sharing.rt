@@ -16,7 +16,7 @@ pub use ends::{Giver, Taker};
 
 /// What an end of the queue may do and what it knows. No value of it is made.
 pub struct SharesView<T> {
-    /// It is that of whoever gives.
+    /// The end is that of whoever gives.
     pub gives: bool,
     /// How many seats were made.
     pub made: u64,
@@ -26,7 +26,7 @@ pub struct SharesView<T> {
     pub settled: LinkedList<LinkedList<T>>,
     /// What whoever gives took back.
     pub returned: LinkedList<T>,
-    /// It is that of a seat.
+    /// The end is that of a seat.
     pub takes: bool,
     pub seat: u64,
     /// What the seat took.
@@ -57,7 +57,7 @@ impl<T> Split<SharesView<T>> for NextSeat {
     ghost right = { λ v. taker_view v.made [] };
 }
 
-/// It takes in that of a seat.
+/// Takes in the end of a seat.
 pub struct SettleSeat;
 
 impl<T> Join<SharesView<T>> for SettleSeat {

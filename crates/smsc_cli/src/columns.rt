@@ -5,4 +5,4 @@
 
 mod cells;
 
-pub use cells::{put_cell, put_decimal, put_name, put_number, put_text};
+pub use cells::{put_cell, put_name, put_number, put_text};

@@ -1,5 +1,6 @@
 -- The calls of an application's session at a seat: what each leads to.
-use Rattle.std.specs.Prelude.{ℕ, ◌+◌, ◌-◌, ◌^◌, ◌==◌, ◌&&◌, ◌||◌, not, min, nat_le, nat_lt, List, [], ◌∷◌, ◌++◌, length, Option, Some, None, Bool, true, false, if◌then◌else◌}
+use Rattle.std.specs.Prelude.{ℕ, ◌+◌, ◌-◌, ◌^◌, ◌==◌, ◌&&◌, ◌||◌, not, min, nat_le, nat_lt, List, [], ◌∷◌, ◌++◌, length, Option, Some, None, Bool, true, false}
+use Rattle.std.specs.Prelude.{if◌then◌else◌}
 use Rattle.std.specs.List.{remove}
 use Rattle.std.specs.Option.{is_some}
 use Rattle.sms_base.specs.HandsetNumber.{own_address}
@@ -23,12 +24,14 @@ use Rattle.smpp_session.specs.Stream.{header_at}
 use Rattle.smpp_session.specs.Windows.{is_none}
 use Rattle.smsc_loop.specs.declared.note.Counts.{Counts}
 use Rattle.smsc_loop.specs.declared.note.Note.{Note}
-use Rattle.smsc_loop.specs.declared.note.Note.TheVariants.{Bound as BoundNote, BindRefused as BindRefusedNote, WrongBinds, Unbound as UnboundNote, SubmitRefused}
+use Rattle.smsc_loop.specs.declared.note.Note.TheVariants.{Bound as BoundNote, BindRefused as BindRefusedNote, WrongBinds, Unbound as UnboundNote}
+use Rattle.smsc_loop.specs.declared.note.Note.TheVariants.{SubmitRefused}
 use Rattle.sms_centre_rows.specs.conditions.AddressTest.{is_address}
 use Rattle.sms_centre_spec.specs.declared.answer.CentreAnswer.{CentreAnswer}
 use Rattle.sms_centre_spec.specs.declared.answer.CentreAnswer.TheVariants.{Refused}
 use Rattle.sms_centre_spec.specs.declared.jobs.job.Job.{Job}
-use Rattle.sms_centre_spec.specs.declared.jobs.job.Job.TheVariants.{Bound as BoundJob, Unbound as UnboundJob, Submit as SubmitJob, Query as QueryJob, Cancel as CancelJob, DeliverAnswered as DeliverAnsweredJob}
+use Rattle.sms_centre_spec.specs.declared.jobs.job.Job.TheVariants.{Bound as BoundJob, Unbound as UnboundJob, Submit as SubmitJob, Query as QueryJob}
+use Rattle.sms_centre_spec.specs.declared.jobs.job.Job.TheVariants.{Cancel as CancelJob, DeliverAnswered as DeliverAnsweredJob}
 use Rattle.sms_centre_spec.specs.declared.jobs.reply.Reply.{Reply}
 use Rattle.sms_centre_spec.specs.declared.jobs.reply.Reply.TheVariants.{Answer, Receipt, Frame, Taken}
 use Rattle.sms_centre_spec.specs.jobs.Requests.{is_request}

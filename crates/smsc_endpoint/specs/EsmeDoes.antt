@@ -1,7 +1,8 @@
 -- What the calls of the loop lead to in the session of an application.
 use Rattle.std.specs.Prelude.{◌≡◌, length, take, Some}
 use Rattle.smsc_loop.specs.Calls.{Call, Timed, Told, Took, Heard, GaveUp, AskedLink, AskedToLeave, Noted, Sent, Put, PutBack, Left, Goes}
-use Rattle.smsc_endpoint.specs.EsmeCalls.{asked_to_leave, at_time, ended, handed_back, handed_out, heard, last_job, next_note, octets_of, saying, sent, taken, told}
+use Rattle.smsc_endpoint.specs.EsmeCalls.{asked_to_leave, at_time, ended, handed_back, handed_out, heard, last_job, next_note, octets_of, saying, sent, taken}
+use Rattle.smsc_endpoint.specs.EsmeCalls.{told}
 use Rattle.smsc_endpoint.specs.EsmeView.{EsmeView}
 use Rattle.smsc_endpoint.specs.Refusing.{no_room, enquire_link}
 

@@ -16,14 +16,16 @@ use Rattle.smpp_session.specs.Sessions.{SessionView, after_answered, fed, opened
 use Rattle.sms_centre_spec.specs.declared.answer.CentreAnswer.{CentreAnswer}
 use Rattle.sms_centre_spec.specs.declared.answer.CentreAnswer.TheVariants.{Refused}
 use Rattle.sms_centre_spec.specs.declared.jobs.job.Job.{Job}
-use Rattle.sms_centre_spec.specs.declared.jobs.job.Job.TheVariants.{Bound as BoundJob, Unbound as UnboundJob, Submit as SubmitJob, Query as QueryJob, Cancel as CancelJob, DeliverAnswered as DeliverAnsweredJob}
+use Rattle.sms_centre_spec.specs.declared.jobs.job.Job.TheVariants.{Bound as BoundJob, Unbound as UnboundJob, Submit as SubmitJob, Query as QueryJob}
+use Rattle.sms_centre_spec.specs.declared.jobs.job.Job.TheVariants.{Cancel as CancelJob, DeliverAnswered as DeliverAnsweredJob}
 use Rattle.sms_centre_spec.specs.declared.jobs.reply.Reply.{Reply}
 use Rattle.sms_centre_spec.specs.declared.jobs.reply.Reply.TheVariants.{Answer, Receipt, Frame, Taken}
 use Rattle.sms_receipt.specs.declared.final_message.Final.{Final}
 use Rattle.sms_receipt.specs.Receipts.{receipt_of}
 use Rattle.smsc_endpoint.specs.declared.pending.PendingRequest.{PendingRequest}
 use Rattle.smsc_endpoint.specs.EsmeView.{EsmeView, opened}
-use Rattle.smsc_endpoint.specs.EsmeCalls.{account_octet, account_of, asked_to_leave, at_time, handed_back, handed_out, header_in, heard, is_sendable, pending, receives, saying}
+use Rattle.smsc_endpoint.specs.EsmeCalls.{account_octet, account_of, asked_to_leave, at_time, handed_back, handed_out, header_in, heard, is_sendable, pending}
+use Rattle.smsc_endpoint.specs.EsmeCalls.{receives, saying}
 use Rattle.smsc_endpoint.specs.EsmeCalls.{next_note, sent, taken, told}
 use Rattle.smsc_endpoint.specs.Outbox.{requests_among}
 use Rattle.smsc_endpoint.specs.PendingRequests.{throttled_before}

@@ -1,7 +1,8 @@
 -- What the calls of the loop lead to in the link of a handset.
 use Rattle.std.specs.Prelude.{◌≡◌, ◌==◌, ◌||◌, ◌&&◌, not, ℕ, List, length, take, Bool, false, Some}
 use Rattle.smsc_loop.specs.Calls.{Call, Timed, Took, Heard, GaveUp, AskedLink, AskedToLeave, Noted, Sent, Put, PutBack, Left, Goes}
-use Rattle.smsc_endpoint.specs.LinkCalls.{Hears, ReadsOn, at_time, congestion, ended, handed_back, handed_out, last_job, next_note, sending, sent_off, with_unread}
+use Rattle.smsc_endpoint.specs.LinkCalls.{Hears, ReadsOn, at_time, congestion, ended, handed_back, handed_out, last_job, next_note, sending, sent_off}
+use Rattle.smsc_endpoint.specs.LinkCalls.{with_unread}
 use Rattle.smsc_endpoint.specs.LinkView.{LinkView}
 use Rattle.smsc_endpoint.specs.Outbox.{is_any}
 

@@ -3,7 +3,6 @@ use Rattle.std.specs.Prelude.{ℕ, ◌%◌, List, [], ◌++◌, Option, Some, No
 use Rattle.sms_base.specs.MessageId.{id_text}
 use Rattle.sms_base.specs.SmppTime.{two_digits}
 use Rattle.sms_base.specs.UtcClock.{date_of}
-use Rattle.sms_base.specs.declared.final_state.FinalState.{FinalState}
 use Rattle.smpp_pdu.specs.declared.status.CommandStatus.{CommandStatus}
 use Rattle.smpp_pdu.specs.declared.status.CommandStatus.TheVariants.{ESME_ROK, ESME_RSYSERR}
 use Rattle.smpp_session.specs.declared.answer.Answer.{Answer}
@@ -12,14 +11,10 @@ use Rattle.smpp_session.specs.declared.answer.Request.{Request}
 use Rattle.smpp_session.specs.declared.conversation.Conversation.{Conversation}
 use Rattle.smpp_session.specs.Answers.{answered}
 use Rattle.sms_centre_spec.specs.declared.answer.CentreAnswer.{CentreAnswer}
-use Rattle.sms_centre_spec.specs.declared.answer.CentreAnswer.TheVariants.{Submitted as SubmittedOf, Queried as QueriedOf, Cancelled as CancelledOf, Refused as RefusedOf}
-use Rattle.sms_receipt.specs.Receipts.{message_state}
+use Rattle.sms_centre_spec.specs.declared.answer.CentreAnswer.TheVariants.{Submitted as SubmittedOf, Queried as QueriedOf, Cancelled as CancelledOf}
+use Rattle.sms_centre_spec.specs.declared.answer.CentreAnswer.TheVariants.{Refused as RefusedOf}
+use Rattle.sms_receipt.specs.Receipts.{state_number}
 use Rattle.smsc_endpoint.specs.declared.pending.PendingRequest.{PendingRequest}
-
--- message_state; 1 is a message that has not ended (SMPP v3.4 5.2.28)
-abbrev pub state_number : Option FinalState → ℕ
-state_number None = 1
-state_number (Some state) = message_state state
 
 -- An absolute time at UTC, YYMMDDhhmmss000+; none where the message has not ended (SMPP v3.4 7.1.1).
 abbrev pub final_date : Option ℕ → List ℕ

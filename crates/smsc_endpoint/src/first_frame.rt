@@ -4,10 +4,11 @@ ghost use Rattle.std.specs.List.{list_all};
 ghost use Rattle.std.specs.Str.{bytes_eq};
 ghost use Rattle.sms_base.specs.HandsetNumber.{is_decimal};
 ghost use Rattle.smsc_endpoint.specs.FirstFrame.{are_digits as are_digits_of, before_space as before_space_of, behind_space as behind_space_of};
-ghost use Rattle.smsc_endpoint.specs.FirstFrame.{given_by as given_number, is_secret_of as is_secret, next_octet, number_by as number_with, number_of as number_named, refused_by};
+ghost use Rattle.smsc_endpoint.specs.FirstFrame.{given_by as given_number, is_secret_of as is_secret, next_octet, number_by as number_with};
+ghost use Rattle.smsc_endpoint.specs.FirstFrame.{number_of as number_named, refused_by};
 
 use crate::link_access::{LinkAccess, LinkSecret};
-use sms_base::Digits;
+use sms_base::{Digits, digits_of};
 use smsc_loop::Note;
 
 fn are_decimal(octets: &[u8]) -> bool
@@ -20,17 +21,6 @@ fn are_digits(octets: &[u8]) -> bool
     ensures { result ≡ are_digits_of octets.now }
 {
     1 <= octets.len() && are_decimal(octets)
-}
-
-fn digits_of(octets: &[u8]) -> Digits
-    requires { length octets.now ≤ 20 }
-    ensures { result ≡ octets.now }
-{
-    let mut digits = Digits::new();
-    for octet in octets {
-        digits.push(char::from(*octet));
-    }
-    digits
 }
 
 // The number that the octets are: 1 to 20 digits in ASCII.

@@ -66,8 +66,8 @@ pub fn nothing_follows_the_end_of_a_link()
         → LinkRun (with_link (ended before.link) before) calls progress → IsAfterEnd before progress }
 {}
 
-/// This holds over any calls of a new session, with fewer than three wrong binds. Its jobs are those of the actions that the session
-/// gave, in order and each once. Its requests are answered in order and each once, under their sequence numbers. The octets that were sent, and
+/// Any calls of a new session have fewer than three wrong binds here. The session's jobs are those of the actions that it gave, in
+/// order and each once. Its requests are answered in order and each once, under their sequence numbers. The octets that were sent, and
 /// those that wait, are all that was to be sent.
 pub fn actions_become_jobs()
     ensures { (accounts : List AccountOf) (calls : List EsmeCall) → (called_all (started_session accounts) calls).esme.wrong_binds ≢ 0
@@ -81,12 +81,13 @@ pub fn requests_have_the_answers_of_their_turns()
         → (turned_all (begun accounts) calls).progress.esme.wrong_binds ≢ 0 → HasTurns (turned_all (begun accounts) calls) }
 {}
 
-/// Such a session that has closed by itself has answered each request that it took: after an unbind of either side, and after octets
-/// that are no PDUs.
+/// A session with fewer than three wrong binds that has closed by itself has answered each request that it took: after an unbind
+/// of either side, and after octets that are no PDUs.
 pub fn each_request_is_answered_before_the_end()
     ensures { (accounts : List AccountOf) (calls : List EsmeCall) → (called_all (started_session accounts) calls).esme.wrong_binds ≢ 0
         → (called_all (started_session accounts) calls).esme.session.conversation.state ≡ Closed
-        → map fresh (map request_of (called_all (started_session accounts) calls).answers) ≡ requests_from (called_all (started_session accounts) calls).actions }
+        → map fresh (map request_of (called_all (started_session accounts) calls).answers)
+        ≡ requests_from (called_all (started_session accounts) calls).actions }
 {}
 
 /// What the loop does with a new session, while no call was refused memory and the connection has not ended, is a course of the session's calls. The session

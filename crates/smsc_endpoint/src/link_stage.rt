@@ -9,7 +9,7 @@ pub(crate) enum Stage {
     Named,
     /// The keeper said that it has another link.
     Taken,
-    /// It is named again a little later.
+    /// The handset is named again a little later.
     Later,
     /// The link is up.
     Up,

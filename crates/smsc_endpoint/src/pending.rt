@@ -7,7 +7,7 @@ use sms_base::MessageId;
 pub(crate) struct PendingRequest {
     pub sequence_number: u32,
     pub request: Request,
-    /// It was handed back, since the centre has too much to do.
+    /// The request was handed back, since the centre has too much to do.
     pub is_throttled: bool,
 }
 

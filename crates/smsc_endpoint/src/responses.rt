@@ -6,27 +6,16 @@ ghost use Rattle.smpp_pdu.specs.declared.status.CommandStatus.TheVariants.{ESME_
 ghost use Rattle.smpp_session.specs.Answers.{answered};
 ghost use Rattle.smpp_session.specs.Sessions.{after_answered};
 ghost use Rattle.smpp_session.specs.declared.answer.Answer.TheVariants.{Submitted as SubmittedAnswer, Queried as QueriedAnswer};
-ghost use Rattle.smsc_endpoint.specs.Responses.{final_date, refusal_status as refusal_status_of, response as response_to, state_number};
+ghost use Rattle.smsc_endpoint.specs.Responses.{final_date, refusal_status as refusal_status_of, response as response_to};
+ghost use Rattle.sms_receipt.specs.Receipts.{state_number};
 
 use crate::pending::PendingRequest;
 use smpp_pdu::{CommandStatus, MessageResp, QuerySmResp};
 use smpp_session::{Answer, Session};
 use sms_base::{FinalState, MessageId, Moment, OctetView, Octets};
 use sms_centre_spec::CentreAnswer;
+use sms_receipt::message_state;
 use std::alloc::{AllocError, Global};
-
-// message_state (SMPP v3.4 5.2.28).
-fn message_state(state: Option<FinalState>) -> u8
-    ensures { result ≡ state_number state }
-{
-    match state {
-        None => 1,
-        Some(FinalState::Delivered) => 2,
-        Some(FinalState::Expired) => 3,
-        Some(FinalState::Deleted) => 4,
-        Some(FinalState::Undeliverable) => 5,
-    }
-}
 
 // The ten digits of an identity.
 fn id_digits(id: MessageId) -> [u8; 10]

@@ -5,8 +5,8 @@ use Rattle.std.proofs.lemmas.Bool.{false≢true}
 use Rattle.smpp_session.specs.Patience.{since_first}
 use Rattle.smsc_loop.specs.declared.note.LeaveReason.TheVariants.{Ordered as OrderedReason}
 use Rattle.smpp_session.specs.declared.patience.Patience.{Patience}
-use Rattle.smpp_session.specs.declared.patience.Verdict.{Verdict}
-use Rattle.smpp_session.specs.declared.patience.Verdict.TheVariants.{Waits, AsksLink, Silent, Stalled, Unanswered, Inactive, Ordered}
+use Rattle.smpp_session.specs.declared.patience.WaitOutcome.{WaitOutcome}
+use Rattle.smpp_session.specs.declared.patience.WaitOutcome.TheVariants.{Waits, AsksLink, Silent, Stalled, Unanswered, Inactive, Ordered}
 use Rattle.sms_centre_spec.specs.declared.jobs.job.Job.{Job}
 use Rattle.sms_centre_spec.specs.declared.jobs.reply.Reply.{Reply}
 use Rattle.sms_seats.specs.declared.seat.Seat.{Seat}
@@ -22,7 +22,7 @@ use Rattle.smsc_loop.specs.Served.{MeantAt}
 use Rattle.smsc_loop.proofs.Joins.{did_none, did_still}
 
 module _ {V : Type 0} (waits : V → List ℕ) (over owing : V → Bool) where
-  ended_by : (verdict : Verdict) (stays : Bool) (u : V) (ended closed : Bool) → MeantAt waits over owing ended closed u (end_by verdict stays)
+  ended_by : (verdict : WaitOutcome) (stays : Bool) (u : V) (ended closed : Bool) → MeantAt waits over owing ended closed u (end_by verdict stays)
   ended_by Waits stays u ended closed = tt
   ended_by AsksLink stays u ended closed = tt
   ended_by Silent stays u ended closed = refl
@@ -38,9 +38,9 @@ module _ {V : Type 0} (waits : V → List ℕ) (over owing : V → Bool) where
   stood_ends false now p q u end h ended closed = subst (λ (x : TurnEnd). MeantAt waits over owing ended closed u x) (sym h.1) refl
 
 module _ {V E : Type 0} (does : Call → V → V → Type 0) (owing : V → Bool) where
-  pub heeds_as : (verdict known : Verdict) (stays : Bool) (now : ℕ) (p : Patience) (v : V) (q : Patience) (u : V) (result : Result TurnEnd E) → verdict ≡ known
+  pub heeds_as : (verdict known : WaitOutcome) (stays : Bool) (now : ℕ) (p : Patience) (v : V) (q : Patience) (u : V) (result : Result TurnEnd E) → verdict ≡ known
       → Heeds does owing known stays now p v q u result → Heeds does owing verdict stays now p v q u result
-  heeds_as verdict known stays now p v q u result e h = subst (λ (x : Verdict). Heeds does owing x stays now p v q u result) (sym e) h
+  heeds_as verdict known stays now p v q u result e h = subst (λ (x : WaitOutcome). Heeds does owing x stays now p v q u result) (sym e) h
 
   pub obeys_as : (order known : Order) (now : ℕ) (p : Patience) (v : V) (q : Patience) (u : V) (result : Result TurnEnd E) → order ≡ known
       → Obeys does owing known now p v q u result → Obeys does owing order now p v q u result
@@ -80,7 +80,7 @@ module _ {V E : Type 0} (waits : V → List ℕ) (over owing : V → Bool) (does
 
   -- ---- verdicts
 
-  pub heeds_led : (verdict : Verdict) (stays : Bool) (now : ℕ) (p q : Patience) (v u : V) (result : Result TurnEnd E)
+  pub heeds_led : (verdict : WaitOutcome) (stays : Bool) (now : ℕ) (p q : Patience) (v u : V) (result : Result TurnEnd E)
       → Heeds does owing verdict stays now p v q u result → LedTo v u result
   heeds_led AsksLink stays now p q v u (Ok end) h a w s = did_still does (AskedLink true) v u Serves Serves a w s refl refl refl refl h.0 (refl, refl)
   heeds_led AsksLink stays now p q v u (Err e) h a w s = did_still does (AskedLink false) v u Serves _ a w s refl refl refl refl h.0 (refl, refl)
@@ -91,7 +91,7 @@ module _ {V E : Type 0} (waits : V → List ℕ) (over owing : V → Bool) (does
   heeds_led Inactive stays now p q v u result h a w s = led_still v u _ result h.0 h.2 a w s
   heeds_led Ordered stays now p q v u result h a w s = led_still v u _ result h.0 h.2 a w s
 
-  pub heeds_ends : (verdict : Verdict) (stays : Bool) (now : ℕ) (p q : Patience) (v u : V) (result : Result TurnEnd E)
+  pub heeds_ends : (verdict : WaitOutcome) (stays : Bool) (now : ℕ) (p q : Patience) (v u : V) (result : Result TurnEnd E)
       → Heeds does owing verdict stays now p v q u result → EndsSo u result
   heeds_ends AsksLink stays now p q v u (Ok end) h ended closed = subst (λ (x : TurnEnd). MeantAt waits over owing ended closed u x) (sym h.1.0) tt
   heeds_ends AsksLink stays now p q v u (Err e) h ended closed = tt

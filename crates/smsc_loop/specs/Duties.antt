@@ -1,10 +1,11 @@
 -- What verdicts, orders and the state of a connection lead to.
 use Rattle.std.specs.Prelude.{◌≡◌, ℕ, Bool, true, false, ◌||◌, ◌==◌, nat_lt, Option, Some, None, Result, Ok, is_ok, MatchResult, if◌then◌else◌}
 use Rattle.smpp_session.specs.declared.patience.Patience.{Patience}
-use Rattle.smpp_session.specs.declared.patience.Verdict.{Verdict}
-use Rattle.smpp_session.specs.declared.patience.Verdict.TheVariants.{Waits, AsksLink, Silent, Stalled, Unanswered, Inactive, Ordered}
+use Rattle.smpp_session.specs.declared.patience.WaitOutcome.{WaitOutcome}
+use Rattle.smpp_session.specs.declared.patience.WaitOutcome.TheVariants.{Waits, AsksLink, Silent, Stalled, Unanswered, Inactive, Ordered}
 use Rattle.smpp_session.specs.Patience.{is_within_some, since_first}
-use Rattle.smsc_loop.specs.declared.note.LeaveReason.TheVariants.{Silent as SilentReason, Stalled as StalledReason, Unanswered as UnansweredReason, Inactive as InactiveReason, Ordered as OrderedReason, Replaced as ReplacedReason}
+use Rattle.smsc_loop.specs.declared.note.LeaveReason.TheVariants.{Silent as SilentReason, Stalled as StalledReason, Unanswered as UnansweredReason}
+use Rattle.smsc_loop.specs.declared.note.LeaveReason.TheVariants.{Inactive as InactiveReason, Ordered as OrderedReason, Replaced as ReplacedReason}
 use Rattle.smsc_loop.specs.declared.surroundings.Order.{Order}
 use Rattle.smsc_loop.specs.declared.surroundings.Order.TheVariants.{Stay, Unbind, End, Replaced}
 use Rattle.smsc_loop.specs.declared.turn_end.TurnEnd.{TurnEnd}
@@ -20,7 +21,7 @@ abbrev pub stalled_by : ℕ → ℕ → ℕ → Option ℕ → Option ℕ
 stalled_by sent left now stalled = if left == 0 || nat_lt 0 sent then None else since_first stalled now
 
 -- whether the verdict ends the turn so; an endpoint that is to leave stays while it waits for answers in time
-abbrev pub end_by : Verdict → Bool → TurnEnd
+abbrev pub end_by : WaitOutcome → Bool → TurnEnd
 end_by Waits waits = Stays
 end_by AsksLink waits = Stays
 end_by Silent waits = Leaves SilentReason
@@ -36,7 +37,7 @@ Stood false now p q end = (q ≡ p) × (end ≡ Leaves OrderedReason)
 
 module _ {V E : Type 0} (does : Call → V → V → Type 0) (owing : V → Bool) where
   -- Enquire_link is sent once: the patience counts from there.
-  abbrev pub Heeds : Verdict → Bool → ℕ → Patience → V → Patience → V → Result TurnEnd E → Type 0
+  abbrev pub Heeds : WaitOutcome → Bool → ℕ → Patience → V → Patience → V → Result TurnEnd E → Type 0
   Heeds AsksLink waits now p v q w result =
       does (AskedLink (is_ok result)) v w × MatchResult result (λ end. (end ≡ Stays) × (q ≡ record p { asked = Some now })) (λ error. q ≡ p)
   Heeds verdict waits now p v q w result = (w ≡ v) × (q ≡ p) × (result ≡ Ok (end_by verdict waits))

@@ -12,7 +12,7 @@ pub trait Endpoint {
     /// The octets that wait to be sent.
     ghost waits: { Self → List ℕ };
 
-    /// It takes and gives nothing any more.
+    /// Whether the endpoint takes and gives nothing any more.
     ghost over: { Self → Bool };
 
     /// A request that it took has no answer yet.
@@ -40,15 +40,15 @@ pub trait Endpoint {
     fn take_reply(&mut self, reply: Reply) -> Result<(), AllocError>
         ensures heard { does (Heard reply (is_ok result)) self.old self.new };
 
-    /// It has not said who it is for too long: it is to be sent that there is no room for it.
+    /// The endpoint has not said who it is for too long: it is to be sent that there is no room for it.
     fn give_up(&mut self) -> Result<(), AllocError>
         ensures given_up { does (GaveUp (is_ok result)) self.old self.new };
 
-    /// It is asked whether it is there: a session is sent enquire_link.
+    /// Asks the endpoint whether it is there: a session is sent enquire_link.
     fn ask_link(&mut self) -> Result<(), AllocError>
         ensures asked { does (AskedLink (is_ok result)) self.old self.new };
 
-    /// It is to leave. Says whether it was sent so; else it leaves at once.
+    /// The endpoint is to leave. Says whether it was sent so; else it leaves at once.
     fn ask_to_leave(&mut self) -> Result<bool, AllocError>
         ensures asked_to_leave { MatchResult result
             (λ asked. does (AskedToLeave asked true) self.old self.new)

@@ -12,7 +12,7 @@ use crate::endpoint::Endpoint;
 use crate::note::LeaveReason;
 use crate::surroundings::{Order, Surroundings};
 use crate::turn_end::TurnEnd;
-use smpp_session::patience::{EndpointState, Patience, Verdict};
+use smpp_session::patience::{EndpointState, Patience, WaitOutcome};
 use std::alloc::AllocError;
 
 // Milliseconds that an endpoint which is to leave has for the answers that it is still owed.
@@ -39,7 +39,7 @@ fn has_time(patience: &Patience, now: u64) -> bool
 
 // Does what the verdict asks. An endpoint that is to leave may wait for answers.
 fn heed<G: Endpoint>(
-    verdict: Verdict,
+    verdict: WaitOutcome,
     waits: bool,
     endpoint: &mut G,
     patience: &mut Patience,
@@ -48,18 +48,18 @@ fn heed<G: Endpoint>(
     ensures { Heeds G.does G.owing verdict waits now patience.old endpoint.old patience.new endpoint.new result }
 {
     match verdict {
-        Verdict::Waits => Ok(TurnEnd::Stays),
-        Verdict::AsksLink => {
+        WaitOutcome::Waits => Ok(TurnEnd::Stays),
+        WaitOutcome::AsksLink => {
             endpoint.ask_link()?;
             patience.ask(now);
             Ok(TurnEnd::Stays)
         }
-        Verdict::Silent => Ok(TurnEnd::Leaves(LeaveReason::Silent)),
-        Verdict::Stalled => Ok(TurnEnd::Leaves(LeaveReason::Stalled)),
-        Verdict::Unanswered => Ok(TurnEnd::Leaves(LeaveReason::Unanswered)),
-        Verdict::Inactive => Ok(TurnEnd::Leaves(LeaveReason::Inactive)),
-        Verdict::Ordered if waits => Ok(TurnEnd::Stays),
-        Verdict::Ordered => Ok(TurnEnd::Leaves(LeaveReason::Ordered)),
+        WaitOutcome::Silent => Ok(TurnEnd::Leaves(LeaveReason::Silent)),
+        WaitOutcome::Stalled => Ok(TurnEnd::Leaves(LeaveReason::Stalled)),
+        WaitOutcome::Unanswered => Ok(TurnEnd::Leaves(LeaveReason::Unanswered)),
+        WaitOutcome::Inactive => Ok(TurnEnd::Leaves(LeaveReason::Inactive)),
+        WaitOutcome::Ordered if waits => Ok(TurnEnd::Stays),
+        WaitOutcome::Ordered => Ok(TurnEnd::Leaves(LeaveReason::Ordered)),
     }
 }
 

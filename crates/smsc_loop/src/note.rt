@@ -26,17 +26,17 @@ pub enum LeaveReason {
     Closed,
     /// The session or link was over: what it was last sent says why.
     Over,
-    /// It did not say who it is in time.
+    /// The endpoint did not say who it is in time.
     Silent,
-    /// It took no octets in time.
+    /// The endpoint took no octets in time.
     Stalled,
-    /// It answered no deliver_sm in time.
+    /// The endpoint answered no deliver_sm in time.
     Unanswered,
-    /// It did not answer enquire_link in time.
+    /// The endpoint did not answer enquire_link in time.
     Inactive,
     /// The operator ended it.
     Ordered,
-    /// Its handset has a newer link.
+    /// The handset of the link has a newer one.
     Replaced,
     /// There was no memory, or an answer came that no request waits for. The keeper gives no such answer.
     NoMemory,
@@ -62,9 +62,9 @@ pub enum Note {
     NoNumber,
     /// The first frame names this handset, and has another secret than it, or none.
     WrongSecret(Digits),
-    /// This handset has a link at another seat, which is to end for this one.
+    /// The handset has a link at another seat, which is to end for this one.
     Taken(Digits),
-    /// That other link did not end in time.
+    /// The handset's other link did not end in time.
     NotReplaced(Digits),
     /// The octets are no stream of frames.
     NoFrames,

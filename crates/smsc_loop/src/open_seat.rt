@@ -3,7 +3,8 @@ ghost use Rattle.std.specs.Prelude.{◌≡◌, ◌≤◌, ◌<◌, ◌⊎◌, []
 ghost use Rattle.sms_seats.specs.Jobs.{has_end};
 ghost use Rattle.sms_seats.specs.Seats.{IsSameSeat, number_of, put_by, taken_by};
 ghost use Rattle.smsc_loop.specs.Emptying.{Drops};
-ghost use Rattle.smsc_loop.specs.Owing.{IsCleared, answers_in, asks_nothing as asks_nothing_of, awaited_after, awaited_with as awaited_with_of, ends_answered, ends_asked};
+ghost use Rattle.smsc_loop.specs.Owing.{IsCleared, answers_in, asks_nothing as asks_nothing_of, awaited_after, awaited_with as awaited_with_of, ends_answered};
+ghost use Rattle.smsc_loop.specs.Owing.{ends_asked};
 ghost use Rattle.smsc_loop.specs.Owing.{ahead_after, is_ahead as is_ahead_of};
 ghost use Rattle.smsc_loop.specs.Owing.{TakesTurns, is_answer as is_answer_of, most_in_queue, requests_in};
 
@@ -103,7 +104,7 @@ impl OpenSeat {
         }
     }
 
-    /// Its number, from 0.
+    /// The seat's number, from 0.
     pub fn number(&self) -> usize
         ensures { result ≡ number_of self.now.seat }
     {

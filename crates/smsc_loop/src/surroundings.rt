@@ -8,13 +8,13 @@ use sms_centre_spec::jobs::Job;
 /// What is ordered of the endpoint at a seat.
 #[derive(Clone, Copy, Debug, PartialEq, Eq)]
 pub enum Order {
-    /// It may stay.
+    /// The endpoint may stay.
     Stay,
-    /// It leaves in good order: a bound session is sent unbind, and has five seconds to end.
+    /// The endpoint leaves in good order: a bound session is sent unbind, and has five seconds to end.
     Unbind,
-    /// Its connection ends at once.
+    /// The connection ends at once.
     End,
-    /// Its handset has a newer link at another seat, so its connection ends at once.
+    /// The handset has a newer link at another seat, so this connection ends at once.
     Replaced,
 }
 
@@ -51,7 +51,7 @@ pub trait Surroundings {
     /// other endpoint is bound until `octets_taken`.
     fn before_octets(&self, seat: usize) -> FullAccounts;
 
-    /// It has taken them, and `observe` what happened by them.
+    /// The endpoint has taken them, and `observe` what happened by them.
     fn octets_taken(&self, seat: usize);
 
     /// Takes what happened to the endpoint at the seat of this number.

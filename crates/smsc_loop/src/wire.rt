@@ -27,10 +27,10 @@ pub trait Wire {
     /// The octets that it gave last.
     ghost last: { Self → List ℕ };
 
-    /// It gives no more octets.
+    /// The wire gives no more octets.
     ghost ended: { Self → Bool };
 
-    /// It takes no more octets.
+    /// The wire takes no more octets.
     ghost closed: { Self → Bool };
 
     /// Takes what has arrived, and does not wait for more.

@@ -119,7 +119,7 @@ at_seat bound seat job = cond-true (seat == seat) (bound_by job (bound seat)) (b
 
 -- a request of a seat, and whom its job binds
 abbrev IsSame : Seats → ℕ → Job → Type 0
-IsSame seats seat job = BindsNobody (asked seats seat job) × ((o : Option Binding) → bound_by job o ≡ o) × ((followed seat job seats).sittings ≡ seats.sittings)
+IsSame seats seat job = BindsNobody (asked seats seat job) × ((o : Option Binding) → bound_by job o ≡ o) × ((followed seat job seats).bound_sessions ≡ seats.bound_sessions)
 
 -- any but bind and unbind
 abbrev IsOther : Job → Type 0
@@ -168,11 +168,11 @@ module _ (accounts : List CentreAccount) where
       × (bound k ≡ Some (place, receives)) × (slice_get accounts place ≡ Some account) × (account.name ≡ name)
 
   abbrev AreBound : (ℕ → Option Binding) → List BoundSession → Type 0
-  AreBound bound sittings = (b : BoundSession) → Among b sittings → (nat_lt b.seat 32 ≡ true) × (bound b.seat ≡ Some (b.account, b.receives))
+  AreBound bound bound_sessions = (b : BoundSession) → Among b bound_sessions → (nat_lt b.seat 32 ≡ true) × (bound b.seat ≡ Some (b.account, b.receives))
 
   record Fits (bound : ℕ → Option Binding) (s : Serving) : Type 0 where
     pub sessions : Each (OfBound bound) s.core.sessions
-    pub sittings : AreBound bound s.seats.sittings
+    pub bound_sessions : AreBound bound s.seats.bound_sessions
     pub setup : s.core.rows.setup.accounts ≡ accounts
 
   of_same : (bound behind : ℕ → Option Binding) (k : ℕ) (name : List ℕ) (receives : Bool) → behind k ≡ bound k → OfBound bound k name receives → OfBound behind k name receives
@@ -181,7 +181,7 @@ module _ (accounts : List CentreAccount) where
   fits_same : (bound behind : ℕ → Option Binding) (s : Serving) → ((k : ℕ) → nat_lt k 32 ≡ true → behind k ≡ bound k) → Fits bound s → Fits behind s
   fits_same bound behind s e h = record {
     sessions = λ x i. let y = h.sessions x i in of_same bound behind x.number x.account x.receives (e x.number y.0) y;
-    sittings = λ b i. let y = h.sittings b i in (y.0, e b.seat y.0 ∙ y.1);
+    bound_sessions = λ b i. let y = h.bound_sessions b i in (y.0, e b.seat y.0 ∙ y.1);
     setup = h.setup;
   }
 
@@ -195,40 +195,40 @@ module _ (accounts : List CentreAccount) where
       let own : OfBound bound b.seat account.name b.receives = (is.0, b.account, account, is.1, at, refl) in
       λ x i. ⊎_elim (λ (e : x ≡ new). subst (λ (y : Session). OfBound bound y.number y.account y.receives) (sym e) own) (λ old. h x old.0) (among_put session_key x new sessions i)
 
-  from_each : (bound : ℕ → Option Binding) (sittings : List BoundSession) (sessions : List Session) → AreBound bound sittings → Each (OfBound bound) sessions
-      → Each (OfBound bound) (sessions_from accounts sessions sittings)
+  from_each : (bound : ℕ → Option Binding) (bound_sessions : List BoundSession) (sessions : List Session) → AreBound bound bound_sessions → Each (OfBound bound) sessions
+      → Each (OfBound bound) (sessions_from accounts sessions bound_sessions)
   from_each bound [] sessions are h = h
-  from_each bound (b ∷ sittings) sessions are h =
-      from_each bound sittings (with_session (slice_get accounts b.account) b sessions) (λ x i. are x (inr i))
+  from_each bound (b ∷ bound_sessions) sessions are h =
+      from_each bound bound_sessions (with_session (slice_get accounts b.account) b sessions) (λ x i. are x (inr i))
       (with_each bound (slice_get accounts b.account) b sessions refl (are b (inl refl)) h)
 
-  restart_fits : (bound : ℕ → Option Binding) (rows : Rows) (seats : Seats) → rows.setup.accounts ≡ accounts → AreBound bound seats.sittings → Fits bound (restarted rows seats)
+  restart_fits : (bound : ℕ → Option Binding) (rows : Rows) (seats : Seats) → rows.setup.accounts ≡ accounts → AreBound bound seats.bound_sessions → Fits bound (restarted rows seats)
   restart_fits bound rows seats e are = record {
-    sessions = subst (λ (l : List CentreAccount). Each (OfBound bound) (sessions_from l [] seats.sittings)) (sym e)
-        (from_each bound seats.sittings [] are (λ x i. absurd i));
-    sittings = are;
+    sessions = subst (λ (l : List CentreAccount). Each (OfBound bound) (sessions_from l [] seats.bound_sessions)) (sym e)
+        (from_each bound seats.bound_sessions [] are (λ x i. absurd i));
+    bound_sessions = are;
     setup = e;
   }
 
   -- ---- one item
 
   module _ (bound : ℕ → Option Binding) (s : Serving) (fits : Fits bound s) where
-    same_sits : (seat : ℕ) (job : Job) → IsSame s.seats seat job → AreBound (moved bound (JobOf seat job)) (followed seat job s.seats).sittings
+    same_sits : (seat : ℕ) (job : Job) → IsSame s.seats seat job → AreBound (moved bound (JobOf seat job)) (followed seat job s.seats).bound_sessions
     same_sits seat job h b i =
-        let y = fits.sittings b (subst (λ (l : List BoundSession). Among b l) h.2 i) in (y.0, same_moved bound s.seats seat b.seat job h ∙ y.1)
+        let y = fits.bound_sessions b (subst (λ (l : List BoundSession). Among b l) h.2 i) in (y.0, same_moved bound s.seats seat b.seat job h ∙ y.1)
 
     -- who sits where behind a job
-    job_sits : (seat : ℕ) (job : Job) → nat_lt seat 32 ≡ true → AreBound (moved bound (JobOf seat job)) (followed seat job s.seats).sittings
+    job_sits : (seat : ℕ) (job : Job) → nat_lt seat 32 ≡ true → AreBound (moved bound (JobOf seat job)) (followed seat job s.seats).bound_sessions
     job_sits seat (Bound account receives) few b i =
         let new : BoundSession = record { seat = seat; account = account; receives = receives } in
         ⊎_elim
         (λ (e : b ≡ new). subst (λ (x : BoundSession). (nat_lt x.seat 32 ≡ true) × (moved bound (JobOf seat (Bound account receives)) x.seat ≡ Some (x.account, x.receives))) (sym e)
         (few, at_seat bound seat (Bound account receives)))
-        (λ old. let y = fits.sittings b old.0 in (y.0, elsewhere bound seat b.seat (Bound account receives) old.1 ∙ y.1))
-        (among_put bound_session_key b new s.seats.sittings i)
+        (λ old. let y = fits.bound_sessions b old.0 in (y.0, elsewhere bound seat b.seat (Bound account receives) old.1 ∙ y.1))
+        (among_put bound_session_key b new s.seats.bound_sessions i)
     job_sits seat Unbound few b i =
-        let old = among_without bound_session_key b seat s.seats.sittings i in
-        let y = fits.sittings b old.0 in (y.0, elsewhere bound seat b.seat Unbound old.1 ∙ y.1)
+        let old = among_without bound_session_key b seat s.seats.bound_sessions i in
+        let y = fits.bound_sessions b old.0 in (y.0, elsewhere bound seat b.seat Unbound old.1 ∙ y.1)
     job_sits seat job few b i = same_sits seat job (other s.seats seat job tt) b i
 
     far_seat : (seat k : ℕ) → nat_lt seat 32 ≡ false → nat_lt k 32 ≡ true → k ≡ seat → ⊥
@@ -237,13 +237,13 @@ module _ (accounts : List CentreAccount) where
     far_moved : (seat : ℕ) (job : Job) → nat_lt seat 32 ≡ false → (k : ℕ) → nat_lt k 32 ≡ true → moved bound (JobOf seat job) k ≡ bound k
     far_moved seat job far k few = elsewhere bound seat k job (far_seat seat k far few)
 
-    sits : (stimulus : Stimulus Job) → AreBound (moved bound stimulus) (followed_by stimulus s.seats).sittings
-    sits (Tick now) = fits.sittings
-    sits (Own errand) = fits.sittings
+    sits : (stimulus : Stimulus Job) → AreBound (moved bound stimulus) (followed_by stimulus s.seats).bound_sessions
+    sits (Tick now) = fits.bound_sessions
+    sits (Own errand) = fits.bound_sessions
     sits (JobOf seat job) =
-        cond_both (nat_lt seat 32) (followed seat job s.seats) s.seats (λ (x : Seats). AreBound (moved bound (JobOf seat job)) x.sittings)
+        cond_both (nat_lt seat 32) (followed seat job s.seats) s.seats (λ (x : Seats). AreBound (moved bound (JobOf seat job)) x.bound_sessions)
         (λ t. job_sits seat job t)
-        (λ t b i. let y = fits.sittings b i in (y.0, far_moved seat job t b.seat y.0 ∙ y.1))
+        (λ t b i. let y = fits.bound_sessions b i in (y.0, far_moved seat job t b.seat y.0 ∙ y.1))
 
     -- ---- what an event leads to
 
@@ -324,7 +324,7 @@ module _ (accounts : List CentreAccount) where
     request_fits : IsSoundCore s.core → (stimulus : Stimulus Job) (a : SeatRequest) (fate : Fate) → asked_by s.seats stimulus ≡ a
         → Fits (next stimulus fate) (after_for a fate s stimulus)
     request_fits sound stimulus (Event event) Done e =
-        record { sessions = (event_sends sound stimulus event e).held; sittings = sits stimulus; setup = setup_stays event }
+        record { sessions = (event_sends sound stimulus event e).held; bound_sessions = sits stimulus; setup = setup_stays event }
     request_fits sound stimulus (Event event) NoMemory e = fits
     request_fits sound stimulus (Event event) Refused e = restart_fits (moved bound stimulus) s.core.rows (followed_by stimulus s.seats) fits.setup (sits stimulus)
     request_fits sound stimulus Nothing Done e = fits_same bound (moved bound stimulus) s (unmoved stimulus (subst AsksNone (sym e) tt)) fits
@@ -335,10 +335,10 @@ module _ (accounts : List CentreAccount) where
     request_fits sound stimulus Taken Refused e = fits_same bound (moved bound stimulus) s (unmoved stimulus (subst AsksNone (sym e) tt)) fits
     request_fits sound stimulus (Forget before from most) Done e =
         let still = fits_same bound (moved bound stimulus) s (unmoved stimulus (subst AsksNone (sym e) tt)) fits in
-        record { sessions = still.sessions; sittings = still.sittings; setup = forget_setup sound before from most }
+        record { sessions = still.sessions; bound_sessions = still.bound_sessions; setup = forget_setup sound before from most }
     request_fits sound stimulus (Forget before from most) NoMemory e = fits
     request_fits sound stimulus (Forget before from most) Refused e =
-        restart_fits (moved bound stimulus) s.core.rows s.seats fits.setup (fits_same bound (moved bound stimulus) s (unmoved stimulus (subst AsksNone (sym e) tt)) fits).sittings
+        restart_fits (moved bound stimulus) s.core.rows s.seats fits.setup (fits_same bound (moved bound stimulus) s (unmoved stimulus (subst AsksNone (sym e) tt)) fits).bound_sessions
 
     item_fits : IsSoundCore s.core → (e : Item Job Reply) → Fits (next e.stimulus e.fate) (after s e.stimulus e.fate)
     item_fits sound e = request_fits sound e.stimulus (asked_by s.seats e.stimulus) e.fate refl
@@ -468,7 +468,7 @@ module _ (rows : Rows) (items : List (Item Job Reply)) (last : Serving) (sound :
   start_good = record { core = restart_sound rows nobody sound (λ l there. absurd there); short = λ l there. absurd there }
 
   nobody_fits : Fits rows.setup.accounts (λ (k : ℕ). None) (restarted rows nobody)
-  nobody_fits = record { sessions = λ x i. absurd i; sittings = λ b i. absurd i; setup = refl }
+  nobody_fits = record { sessions = λ x i. absurd i; bound_sessions = λ b i. absurd i; setup = refl }
 
   pub receipts_go : GoToAccounts rows items
   receipts_go one other e seat end is there =

@@ -126,16 +126,16 @@ session_fresh (Some account) b sessions h =
       new = λ s there. ⊎_elim (λ (here : s ≡ x). ap (λ (y : Session). y.unanswered) here) (λ old. h.new s old.0) (among_put session_key s x sessions there);
     }
 
-sessions_fresh : (accounts : List CentreAccount) (sittings : List BoundSession) (sessions : List Session) → AreFresh sessions → AreFresh (sessions_from accounts sessions sittings)
+sessions_fresh : (accounts : List CentreAccount) (bound_sessions : List BoundSession) (sessions : List Session) → AreFresh sessions → AreFresh (sessions_from accounts sessions bound_sessions)
 sessions_fresh accounts [] sessions h = h
-sessions_fresh accounts (b ∷ sittings) sessions h =
-    sessions_fresh accounts sittings (with_session (slice_get accounts b.account) b sessions) (session_fresh (slice_get accounts b.account) b sessions h)
+sessions_fresh accounts (b ∷ bound_sessions) sessions h =
+    sessions_fresh accounts bound_sessions (with_session (slice_get accounts b.account) b sessions) (session_fresh (slice_get accounts b.account) b sessions h)
 
 pub restart_sound : (rows : Rows) (seats : Seats) → IsSound rows → AreShort seats.links → IsSoundCore (restarted rows seats).core
 restart_sound rows seats sound short =
     let apart = handsets_apart seats.links [] short ((λ n there. absurd there), tt) in
-    let fresh = sessions_fresh rows.setup.accounts seats.sittings [] (record { rises = tt; new = λ s there. absurd there }) in
-    recovered_sound rows (handsets_of seats.links) (sessions_of rows.setup.accounts seats.sittings) sound apart.0 apart.1 fresh.rises
+    let fresh = sessions_fresh rows.setup.accounts seats.bound_sessions [] (record { rises = tt; new = λ s there. absurd there }) in
+    recovered_sound rows (handsets_of seats.links) (sessions_of rows.setup.accounts seats.bound_sessions) sound apart.0 apart.1 fresh.rises
     (λ s there. record { unanswered = λ id among. absurd (subst (λ (l : List ℕ). Among id l) (fresh.new s there) among) })
 
 -- ---- one item

@@ -15,7 +15,8 @@ use Rattle.sms_receipt.specs.declared.final_message.Final.{Final}
 use Rattle.sms_receipt.specs.Receipts.{receipt_of}
 use Rattle.smsc_loop.specs.Calls.{Call, octets_sent, octets_taken, replies_taken}
 use Rattle.smsc_endpoint.specs.EsmeCalls.{handed_back, handed_out, is_sendable}
-use Rattle.smsc_endpoint.specs.EsmeRuns.{Answered, EsmeCall, EsmeProgress, answered_among, called_all, called_once, fresh, octets_or_none, request_of, requests_from, sends_from, started, throttled_among}
+use Rattle.smsc_endpoint.specs.EsmeRuns.{Answered, EsmeCall, EsmeProgress, answered_among, called_all, called_once, fresh, octets_or_none, request_of}
+use Rattle.smsc_endpoint.specs.EsmeRuns.{requests_from, sends_from, started, throttled_among}
 use Rattle.smsc_endpoint.specs.EsmeRuns.{At, TellFull, Take, Hear, Say, WasSent, Leave, Put, PutBack, Tell}
 use Rattle.smsc_endpoint.specs.EsmeView.{EsmeView}
 use Rattle.smsc_endpoint.specs.LoopCourses.{calls_of}

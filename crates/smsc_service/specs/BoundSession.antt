@@ -38,8 +38,8 @@ with_session (Some account) bound_session sessions =
 
 abbrev pub sessions_from : List CentreAccount → List Session → List BoundSession → List Session
 sessions_from accounts sessions [] = sessions
-sessions_from accounts sessions (bound_session ∷ sittings) =
-    sessions_from accounts (with_session (slice_get accounts bound_session.account) bound_session sessions) sittings
+sessions_from accounts sessions (bound_session ∷ bound_sessions) =
+    sessions_from accounts (with_session (slice_get accounts bound_session.account) bound_session sessions) bound_sessions
 
 abbrev pub sessions_of : List CentreAccount → List BoundSession → List Session
-sessions_of accounts sittings = sessions_from accounts [] sittings
+sessions_of accounts bound_sessions = sessions_from accounts [] bound_sessions

@@ -9,14 +9,14 @@ use Rattle.smsc_service.specs.declared.seat_map.BoundSession.{BoundSession}
 
 pub record Seats : Type 0 where
   pub links : List LinkSeat
-  pub sittings : List BoundSession
+  pub bound_sessions : List BoundSession
 
 abbrev pub nobody : Seats
-nobody = record { links = []; sittings = [] }
+nobody = record { links = []; bound_sessions = [] }
 
 -- those of a seat map
 abbrev pub seats_in : SeatMap → Seats
-seats_in seat_map = record { links = seat_map.links; sittings = seat_map.sittings }
+seats_in seat_map = record { links = seat_map.links; bound_sessions = seat_map.bound_sessions }
 
 abbrev pub link_key : LinkSeat → ℕ
 link_key link = link.seat
@@ -49,8 +49,8 @@ raised (Some other) seat handset links = links
 -- what the job of the seat changes
 abbrev pub followed : ℕ → Job → Seats → Seats
 followed seat (Bound account receives) s =
-    record s { sittings = put bound_session_key (record { seat = seat; account = account; receives = receives }) s.sittings }
-followed seat Unbound s = record s { sittings = without bound_session_key seat s.sittings }
+    record s { bound_sessions = put bound_session_key (record { seat = seat; account = account; receives = receives }) s.bound_sessions }
+followed seat Unbound s = record s { bound_sessions = without bound_session_key seat s.bound_sessions }
 followed seat (Submit account pdu) s = s
 followed seat (Query account pdu) s = s
 followed seat (Cancel account pdu) s = s

@@ -4,7 +4,8 @@ use Rattle.smpp_pdu.specs.declared.status.CommandStatus.{CommandStatus}
 use Rattle.sms_centre_spec.specs.CentreEvent.{happened, recovered}
 use Rattle.sms_centre_spec.specs.Draft.{Core, core_of}
 use Rattle.sms_centre_spec.specs.declared.event.CentreEvent.{CentreEvent}
-use Rattle.sms_centre_spec.specs.declared.event.CentreEvent.TheVariants.{Submit, Query, Cancel, Bound, Unbound, DeliverAnswered, Frame, LinkUp, LinkDown, Ordered, Tick as TickOf}
+use Rattle.sms_centre_spec.specs.declared.event.CentreEvent.TheVariants.{Submit, Query, Cancel, Bound, Unbound, DeliverAnswered, Frame, LinkUp, LinkDown}
+use Rattle.sms_centre_spec.specs.declared.event.CentreEvent.TheVariants.{Ordered, Tick as TickOf}
 use Rattle.sms_centre_spec.specs.Requests.{cancel_refusal, octets_refusal, query_refusal}
 use Rattle.sms_centre_spec.specs.declared.rows.Rows.{Rows}
 use Rattle.sms_centre_spec.specs.forgetting.Forget.{forget}
@@ -34,7 +35,7 @@ pub record Serving : Type 0 where
 
 -- The centre starts again with these rows: links are at their seats, and sessions are bound there.
 abbrev pub restarted : Rows → Seats → Serving
-restarted rows s = record { core = recovered rows (handsets_of s.links) (sessions_of rows.setup.accounts s.sittings); seats = s }
+restarted rows s = record { core = recovered rows (handsets_of s.links) (sessions_of rows.setup.accounts s.bound_sessions); seats = s }
 
 -- what changes of who sits where; a hub has 32 seats
 abbrev pub followed_by : Stimulus Job → Seats → Seats

@@ -3,7 +3,8 @@ ghost use Rattle.std.specs.Prelude.{◌≡◌, IfOk, OnOk, Some, slice_get};
 ghost use Rattle.sms_centre_spec.specs.SoundCore.{AreDifferent};
 ghost use Rattle.sms_centre.specs.state.Recovering.{AreNew};
 ghost use Rattle.smsc_service.specs.Seats.{seats_in};
-ghost use Rattle.smsc_service.specs.BoundSession.{AreNumbers, handsets_of as handsets_of_links, is_among as is_among_of, sessions_of as sessions_of_sittings, with_number, with_session};
+ghost use Rattle.smsc_service.specs.BoundSession.{AreNumbers, handsets_of as handsets_of_links, is_among as is_among_of, sessions_of as sessions_of_bound};
+ghost use Rattle.smsc_service.specs.BoundSession.{with_number, with_session};
 
 use crate::number::{is_number, is_same};
 use crate::seat_map::{BoundSession, SeatMap};
@@ -95,11 +96,11 @@ pub fn sessions_of(
     rows: &Rows,
     seat_map: &SeatMap,
 ) -> Result<Table<ReceiptSession>, AllocError>
-    ensures sessions { IfOk result (λ sessions. sessions.rows ≡ sessions_of_sittings rows.now.setup.accounts (seats_in seat_map.now).sittings) }
+    ensures sessions { IfOk result (λ sessions. sessions.rows ≡ sessions_of_bound rows.now.setup.accounts (seats_in seat_map.now).bound_sessions) }
     ensures new { IfOk result (λ sessions. AreNew sessions.rows) }
 {
     let mut sessions = Table::new(alloc);
-    for bound_session in seat_map.sittings.as_slice() {
+    for bound_session in seat_map.bound_sessions.as_slice() {
         put_session(
             alloc,
             rows.setup.accounts.as_slice(),

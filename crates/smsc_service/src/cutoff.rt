@@ -12,7 +12,7 @@ pub struct Cutoff {
 }
 
 impl Cutoff {
-    /// It is not too late.
+    /// A cutoff that is not past.
     pub fn new() -> Cutoff {
         Cutoff {
             is_past: AtomicBool::new(false),

@@ -1,28 +1,18 @@
 //! The ends of messages.
 ghost use Rattle.std.specs.Prelude.{◌≡◌, IfOk, option_copied};
 ghost use Rattle.sms_centre_spec.specs.Draft.{Core};
-ghost use Rattle.sms_centre_spec.specs.Finals.{submit_reference as submit_reference_of};
 ghost use Rattle.sms_centre_rows.specs.messages.Messages.{message_at, message_key};
 ghost use Rattle.sms_centre.specs.state.CentreState.{Represents};
 ghost use Rattle.sms_rows.specs.table.Table.{all_applied, change_row, newest_of};
 ghost use Rattle.smsc_service.specs.Replies.{end_in, end_of as end_of_row};
 
-use sms_base::{MessageId, Originator};
+use sms_base::MessageId;
 use sms_centre::{Centre, Plan};
-use sms_centre_rows::messages::MessageRow;
+use sms_centre_rows::messages::{MessageRow, newest_change};
+use sms_centre_spec::final_of;
 use sms_receipt::Final;
 use sms_rows::table::{Change, Key};
 use std::alloc::AllocError;
-
-// TP-MR of the SUBMIT of a handset's message.
-fn submit_reference(originator: &Originator) -> u8
-    ensures { result ≡ submit_reference_of originator.now }
-{
-    match originator {
-        Originator::Application { .. } => 0,
-        Originator::Handset { message_reference } => *message_reference,
-    }
-}
 
 // What is reported of the message, if it ended.
 fn end_of(message: &MessageRow) -> Option<Final>
@@ -30,15 +20,7 @@ fn end_of(message: &MessageRow) -> Option<Final>
 {
     let state = message.state?;
     let done = message.done?;
-    Some(Final {
-        id: message.id,
-        source: message.source,
-        handset: message.handset,
-        message_reference: submit_reference(&message.originator),
-        submitted: message.submitted,
-        done,
-        state,
-    })
+    Some(final_of(state, done, message))
 }
 
 // What is reported of the message that the change left.
@@ -51,24 +33,11 @@ fn end_left(change: &Change<MessageRow>) -> Option<Final>
     }
 }
 
-// The newest change of the message's row.
-fn newest<'a>(changes: &'a [Change<MessageRow>], key: Key) -> Option<&'a Change<MessageRow>>
-    ensures { option_copied result ≡ newest_of message_key key changes.entry.now }
-{
-    for i in 0..changes.len() {
-        let change = &changes[changes.len() - 1 - i];
-        if change.key().number() == key.number() {
-            return Some(change);
-        }
-    }
-    None
-}
-
 // The newest change of the message's row that is planned.
 fn newest_in(planned: &Plan, id: MessageId) -> Option<&Change<MessageRow>>
     ensures { option_copied result ≡ newest_of message_key id planned.entry.now.plan.changes.messages }
 {
-    newest(planned.changes().messages.as_slice(), Key::of(id.number()))
+    newest_change(planned.changes().messages.as_slice(), Key::of(id.number()))
 }
 
 // What is reported of the message as the centre has it.

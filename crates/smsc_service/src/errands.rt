@@ -65,7 +65,7 @@ pub(crate) fn walks_to(centre: &Centre, stimulus: &Stimulus<Job>) -> u64 {
 }
 
 impl<A: Archive + Drop> Errands<A> {
-    /// Those of an owner who orders at that desk.
+    /// The errands of an owner who orders at that desk.
     pub fn new(desk: Arc<OrderDesk>, forgetting: Forgetting<A>) -> Errands<A> {
         let Forgetting { keep, archive } = forgetting;
         Errands {

@@ -4,7 +4,7 @@ ghost use Rattle.sms_rows.specs.declared.keep.error.KeepError.TheVariants.{NotTh
 ghost use Rattle.sms_rows.specs.keep.StoreOutcome.{IsCounted, WasHonest};
 ghost use Rattle.sms_centre.specs.plans.EventOutcome.{IsOutcome};
 ghost use Rattle.sms_centre.specs.state.CentreState.{Represents};
-ghost use Rattle.sms_centre.specs.Planning.{Fits};
+ghost use Rattle.sms_centre.specs.Planning.{FitsTheCentre};
 ghost use Rattle.sms_centre_group.specs.Grouping.{FlushEnds, Spans, group_state, held_in, store_of};
 ghost use Rattle.sms_centre_group.specs.HeldRoom.{HasRoomFor};
 ghost use Rattle.sms_centre.specs.Archiving.{AreArchived, Stays};
@@ -68,7 +68,7 @@ impl<K: CentreStore + Drop> CentreMachine<K> {
         ensures outcome { (c : Core) (base : RowsOf) → Represents c (centre_in self.old) → IsSound base → c.rows ≡ rows_after (held_in (keep_in self.old)) base
             → PlanningOutcome (base, held_in (keep_in self.old)) (group_state K.state (keep_in self.old)) (group_state K.state (keep_in self.new))
             (happened event.now c) result }
-        ensures fits { IfOk result (Fits (centre_in self.new)) }
+        ensures fits { IfOk result (FitsTheCentre (centre_in self.new)) }
         ensures event { IsEvent event.now }
         ensures same { centre_in self.new ≡ centre_in self.old }
         ensures before { WasHonest (group_state K.state (keep_in self.old)) (group_state K.state (keep_in self.new)) }
@@ -101,7 +101,7 @@ impl<K: CentreStore + Drop> CentreMachine<K> {
 
     // Adopts the plan, and holds what it changes, for which there is room.
     fn adopt(&mut self, planned: Plan) -> Result<Outputs, AllocError>
-        requires fits { Fits (centre_in self.old) planned }
+        requires fits { FitsTheCentre (centre_in self.old) planned }
         requires room { HasRoomFor planned.plan.changes (keep_in self.old).held }
         ensures outputs { IfOk result (λ outputs. outputs ≡ planned.plan.outputs) }
         ensures outcome { (event : CentreEventOf) (c : Core) (base : RowsOf) → IsEvent event → Represents c (centre_in self.old)
@@ -109,7 +109,8 @@ impl<K: CentreStore + Drop> CentreMachine<K> {
             → MatchResult result (λ outputs. HoldsEvent K.state base (core_of (happened event c)) self.new) (λ error. HoldsEvent K.state base c self.new) }
         ensures forgotten { (before from most : ℕ) (c : Core) (base : RowsOf) → Represents c (centre_in self.old)
             → IsOutcome (forget before from most c) planned.plan → Spans (K.state (store_of (keep_in self.old))) (held_in (keep_in self.old)) base c.rows
-            → MatchResult result (λ outputs. HoldsEvent K.state base (core_of (forget before from most c)) self.new) (λ error. HoldsEvent K.state base c self.new) }
+            → MatchResult result (λ outputs. HoldsEvent K.state base (core_of (forget before from most c)) self.new)
+            (λ error. HoldsEvent K.state base c self.new) }
         ensures store { store_of (keep_in self.new) ≡ store_of (keep_in self.old) }
         ensures refusals { (keep_in self.new).refusals ≡ (keep_in self.old).refusals }
     {
@@ -127,14 +128,15 @@ impl<K: CentreStore + Drop> CentreMachine<K> {
     /// # Errors
     /// There was no memory: nothing changed.
     pub fn hold(&mut self, planned: Plan) -> Result<Outputs, AllocError>
-        requires { Fits (centre_in self.old) planned }
+        requires { FitsTheCentre (centre_in self.old) planned }
         ensures outputs { IfOk result (λ outputs. outputs ≡ planned.plan.outputs) }
         ensures outcome { (event : CentreEventOf) (c : Core) (base : RowsOf) → IsEvent event → Represents c (centre_in self.old)
             → IsOutcome (happened event c) planned.plan → Spans (K.state (store_of (keep_in self.old))) (held_in (keep_in self.old)) base c.rows
             → MatchResult result (λ outputs. HoldsEvent K.state base (core_of (happened event c)) self.new) (λ error. HoldsEvent K.state base c self.new) }
         ensures forgotten { (before from most : ℕ) (c : Core) (base : RowsOf) → Represents c (centre_in self.old)
             → IsOutcome (forget before from most c) planned.plan → Spans (K.state (store_of (keep_in self.old))) (held_in (keep_in self.old)) base c.rows
-            → MatchResult result (λ outputs. HoldsEvent K.state base (core_of (forget before from most c)) self.new) (λ error. HoldsEvent K.state base c self.new) }
+            → MatchResult result (λ outputs. HoldsEvent K.state base (core_of (forget before from most c)) self.new)
+            (λ error. HoldsEvent K.state base c self.new) }
         ensures store { store_of (keep_in self.new) ≡ store_of (keep_in self.old) }
         ensures refusals { (keep_in self.new).refusals ≡ (keep_in self.old).refusals }
     {

@@ -10,7 +10,7 @@ ghost use Rattle.sms_centre_spec.specs.SoundCore.{AreDifferent};
 ghost use Rattle.sms_centre_spec.specs.declared.rows.Rows.{Rows as RowsOf};
 ghost use Rattle.smsc_service.specs.Seats.{seats_in};
 ghost use Rattle.smsc_service.specs.Serving.{restarted};
-ghost use Rattle.smsc_service.specs.BoundSession.{AreNumbers, sessions_of as sessions_of_sittings};
+ghost use Rattle.smsc_service.specs.BoundSession.{AreNumbers, sessions_of as sessions_of_bound};
 
 use crate::bound_session::{handsets_of, sessions_of};
 use crate::seat_map::SeatMap;
@@ -30,7 +30,7 @@ fn recovered_with(
 ) -> Result<Centre, StartError>
     requires numbers { AreNumbers handsets.now }
     requires apart { AreDifferent handsets.now }
-    ensures { IfOk result (Represents (recovered rows handsets.now (sessions_of_sittings rows.setup.accounts (seats_in seat_map.now).sittings))) }
+    ensures { IfOk result (Represents (recovered rows handsets.now (sessions_of_bound rows.setup.accounts (seats_in seat_map.now).bound_sessions))) }
 {
     let Ok(sessions) = sessions_of(alloc, &rows, seat_map) else {
         return Err(StartError::NoMemory);

@@ -45,7 +45,7 @@ impl Row for BoundSession {
 #[derive(Drop)]
 pub struct SeatMap {
     pub(crate) links: SeatTable<LinkSeat>,
-    pub(crate) sittings: SeatTable<BoundSession>,
+    pub(crate) bound_sessions: SeatTable<BoundSession>,
 }
 
 impl SeatMap {
@@ -58,7 +58,10 @@ impl SeatMap {
     {
         let links = SeatTable::new(alloc)?;
         match SeatTable::new(alloc) {
-            Ok(sittings) => Ok(SeatMap { links, sittings }),
+            Ok(bound_sessions) => Ok(SeatMap {
+                links,
+                bound_sessions,
+            }),
             Err(error) => {
                 drop(links);
                 Err(error)
@@ -105,13 +108,13 @@ impl SeatMap {
         ensures { seats_in self.new ≡ followed seat job.now (seats_in self.old) }
     {
         match job {
-            Job::Bound { account, receives } => self.sittings.put(BoundSession {
+            Job::Bound { account, receives } => self.bound_sessions.put(BoundSession {
                 seat,
                 account: *account,
                 receives: *receives,
             }),
             Job::Unbound => {
-                self.sittings.remove(Key::of(u64::from(seat)));
+                self.bound_sessions.remove(Key::of(u64::from(seat)));
             }
             Job::LinkUp { handset } => self.raise(seat, *handset),
             Job::LinkDown => {
@@ -126,6 +129,6 @@ impl SeatMap {
         ensures { seats_in self.new ≡ seats_in other.now }
     {
         self.links.copy_from(&other.links);
-        self.sittings.copy_from(&other.sittings);
+        self.bound_sessions.copy_from(&other.bound_sessions);
     }
 }

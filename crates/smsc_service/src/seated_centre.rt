@@ -2,7 +2,7 @@
 ghost use Rattle.std.specs.Prelude.{◌≡◌, ℕ, true, None};
 ghost use Rattle.sms_centre.specs.plans.EventOutcome.{IsOutcome};
 ghost use Rattle.sms_centre.specs.Archiving.{AreArchived, Stays};
-ghost use Rattle.sms_centre.specs.Planning.{Fits};
+ghost use Rattle.sms_centre.specs.Planning.{FitsTheCentre};
 ghost use Rattle.sms_centre_group.specs.Grouping.{store_of};
 ghost use Rattle.sms_centre_spec.specs.CentreEvent.{happened};
 ghost use Rattle.sms_centre_spec.specs.forgetting.Forget.{forget, going_now};
@@ -66,7 +66,7 @@ impl<K: CentreStore + Drop> SeatedCentre<K> {
 
     // The plan is adopted and its changes are held. The outs may leave once the group is committed.
     fn hold(&mut self, stimulus: &Stimulus<Job>, planned: Plan, outs: Vec<Out<Reply>>) -> Made
-        requires { Fits self.old.machine.centre planned }
+        requires { FitsTheCentre self.old.machine.centre planned }
         ensures before { IsHonest K.state self.new → IsHonest K.state self.old }
         ensures refused { result.fate ≡ Refused → RefusedRead self.old self.new }
         ensures gives { (event : CentreEventOf) (s : Serving) (base : RowsOf) → IsEvent event → IsOutcome (happened event s.core) planned.plan
@@ -93,7 +93,7 @@ impl<K: CentreStore + Drop> SeatedCentre<K> {
 
     // The replies to the seats are made, and then the plan is adopted.
     fn reply_and_hold(&mut self, stimulus: &Stimulus<Job>, planned: Plan) -> Made
-        requires { Fits self.old.machine.centre planned }
+        requires { FitsTheCentre self.old.machine.centre planned }
         ensures before { IsHonest K.state self.new → IsHonest K.state self.old }
         ensures refused { result.fate ≡ Refused → RefusedRead self.old self.new }
         ensures gives { (event : CentreEventOf) (s : Serving) (base : RowsOf) → IsEvent event → IsOutcome (happened event s.core) planned.plan
@@ -122,7 +122,8 @@ impl<K: CentreStore + Drop> SeatedCentre<K> {
         ensures refused { (s : Serving) (base : RowsOf) → IfMade K.state base s self.old self.new (result.fate ≡ Refused → RefusedRead self.old self.new) }
         ensures gives { (s : Serving) (base : RowsOf)
             → MakingOutcome K.state base self.old self.new (Event event.now) s stimulus.now result.fate result.outs }
-        ensures told { (s : Serving) (base : RowsOf) → IfMade K.state base s self.old self.new (result.fate ≡ Done → result.told ≡ (happened event.now s.core).answer) }
+        ensures told { (s : Serving) (base : RowsOf) → IfMade K.state base s self.old self.new
+            (result.fate ≡ Done → result.told ≡ (happened event.now s.core).answer) }
     {
         match self.machine.plan(event) {
             Ok(planned) => self.reply_and_hold(stimulus, planned),
@@ -138,7 +139,8 @@ impl<K: CentreStore + Drop> SeatedCentre<K> {
         ensures refused { (s : Serving) (base : RowsOf) → IfMade K.state base s self.old self.new (result.fate ≡ Refused → RefusedRead self.old self.new) }
         ensures gives { (s : Serving) (base : RowsOf)
             → MakingOutcome K.state base self.old self.new (Event event.now) s stimulus.now result.fate result.outs }
-        ensures told { (s : Serving) (base : RowsOf) → IfMade K.state base s self.old self.new (result.fate ≡ Done → result.told ≡ (happened event.now s.core).answer) }
+        ensures told { (s : Serving) (base : RowsOf) → IfMade K.state base s self.old self.new
+            (result.fate ≡ Done → result.told ≡ (happened event.now s.core).answer) }
     {
         if is_late {
             return unmade(Fate::NoMemory, stimulus);
@@ -148,7 +150,7 @@ impl<K: CentreStore + Drop> SeatedCentre<K> {
 
     // What is planned to go goes, and nobody hears of it.
     fn let_go(&mut self, stimulus: &Stimulus<Job>, planned: Plan) -> Made
-        requires { Fits self.old.machine.centre planned }
+        requires { FitsTheCentre self.old.machine.centre planned }
         ensures before { IsHonest K.state self.new → IsHonest K.state self.old }
         ensures refused { result.fate ≡ Refused → RefusedRead self.old self.new }
         ensures gives { (before from most : ℕ) (s : Serving) (base : RowsOf) → IsOutcome (forget before from most s.core) planned.plan

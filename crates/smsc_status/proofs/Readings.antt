@@ -2,7 +2,7 @@
 use Rattle.std.proofs.Common.{◌≡◌, ◌≢◌, ℕ, Bool, true, false, cond, eqb, List, [], ◌∷◌, ◌++◌, map, refl, sym, subst, arith, eqb-true}
 use Rattle.std.specs.Prelude.{◌||◌, nat_lt, codes}
 use Rattle.std.proofs.lemmas.Bool.{eqb-false}
-use Rattle.smsc_status.specs.Markup.{escaped, escaped_octet}
+use Rattle.sms_base.specs.Markup.{escaped, escaped_octet}
 use Rattle.smsc_status.specs.Quoting.{quoted, quoted_octet}
 use Rattle.smsc_status.specs.Reading.{IsReference, ampersand, less, greater, quotation, IsRead, nothing, plain, reference, legible}
 use Rattle.smsc_status.specs.Reading.{IsEscaped, mark, backslash, IsUnquoted, none, itself, preceded}

@@ -21,7 +21,8 @@ points_text x greatest (value ∷ values) = point_text x (height value greatest)
 -- the title, the scale beside the line, and lines at the greatest value, at half of it and at nothing
 unfoldable pub caption_text : List ℕ → ℕ → List ℕ
 caption_text title greatest =
-    codes "<figure><figcaption>" ++ (title ++ (codes " <span class=\"most\">a second</span></figcaption><div class=\"plot\"><div class=\"scale\"><span>" ++ (decimal greatest
+    codes "<figure><figcaption>" ++ (title ++ (codes " <span class=\"most\">a second</span></figcaption><div class=\"plot\"><div class=\"scale\"><span>"
+    ++ (decimal greatest
     ++ (codes "</span><span>0</span></div><svg viewBox=\"0 0 600 100\" preserveAspectRatio=\"none\" role=\"img\" aria-label=\"" ++ (title
     ++ (codes ", at most " ++ (decimal greatest ++ codes " a second\"><path d=\"M0 2.5H600M0 50.5H600M0 98.5H600\"/><polyline points=\"")))))))
 

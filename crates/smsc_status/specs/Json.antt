@@ -54,12 +54,14 @@ run_text v =
 
 unfoldable pub messages_text : MessageFigures → List ℕ
 messages_text m =
-    codes ",\"messages\":{\"enroute\":" ++ (decimal m.enroute ++ (codes ",\"delivered\":" ++ (decimal m.delivered ++ (codes ",\"expired\":" ++ (decimal m.expired
+    codes ",\"messages\":{\"enroute\":" ++ (decimal m.enroute ++ (codes ",\"delivered\":" ++ (decimal m.delivered ++ (codes ",\"expired\":"
+    ++ (decimal m.expired
     ++ (codes ",\"deleted\":" ++ (decimal m.deleted ++ (codes ",\"undeliverable\":" ++ (decimal m.undeliverable ++ codes "}")))))))))
 
 unfoldable pub counts_text : MessageCounts → List ℕ
 counts_text m =
-    codes ",\"since_start\":{\"accepted\":" ++ (decimal m.accepted ++ (codes ",\"delivered\":" ++ (decimal m.delivered ++ (codes ",\"expired\":" ++ (decimal m.expired
+    codes ",\"since_start\":{\"accepted\":" ++ (decimal m.accepted ++ (codes ",\"delivered\":" ++ (decimal m.delivered ++ (codes ",\"expired\":"
+    ++ (decimal m.expired
     ++ (codes ",\"deleted\":" ++ (decimal m.deleted ++ (codes ",\"undeliverable\":" ++ (decimal m.undeliverable ++ codes "}")))))))))
 
 unfoldable pub sample_text : Sample → List ℕ
@@ -123,13 +125,15 @@ stuck_text v =
 
 unfoldable pub account_text : AccountLine → List ℕ
 account_text a =
-    codes "{\"account\":" ++ (string (string_bytes a.account) ++ (codes ",\"submits\":" ++ (decimal a.submits ++ (codes ",\"receipts\":" ++ (decimal a.receipts ++ codes "}")))))
+    codes "{\"account\":" ++ (string (string_bytes a.account) ++ (codes ",\"submits\":" ++ (decimal a.submits ++ (codes ",\"receipts\":"
+    ++ (decimal a.receipts ++ codes "}")))))
 
 -- ---- what was refused
 
 unfoldable pub refused_submits_text : RefusedSubmits → List ℕ
 refused_submits_text r =
-    codes "{\"account\":" ++ (string (string_bytes r.account) ++ (codes ",\"status\":" ++ (decimal r.status ++ (codes ",\"count\":" ++ (decimal r.count ++ codes "}")))))
+    codes "{\"account\":" ++ (string (string_bytes r.account) ++ (codes ",\"status\":" ++ (decimal r.status ++ (codes ",\"count\":"
+    ++ (decimal r.count ++ codes "}")))))
 
 unfoldable pub refused_binds_text : RefusedBinds → List ℕ
 refused_binds_text r = codes "{\"reason\":\"" ++ (r.reason.now ++ (codes "\",\"count\":" ++ (decimal r.count ++ codes "}")))

@@ -3,7 +3,6 @@ pub mod Charts
 pub mod Commits
 pub mod Json
 pub mod Kinds
-pub mod Markup
 pub mod Metrics
 pub mod Numbers
 pub mod Page

@@ -1,5 +1,6 @@
 -- The page, in HTML.
-use Rattle.std.specs.Prelude.{ℕ, ◌-◌, ◌==◌, ◌&&◌, Bool, List, [], ◌∷◌, ◌++◌, Option, Some, None, codes, decimal, flat_map, if◌then◌else◌, length, map, reverse, string_bytes}
+use Rattle.std.specs.Prelude.{ℕ, ◌-◌, ◌==◌, ◌&&◌, Bool, List, [], ◌∷◌, ◌++◌, Option, Some, None, codes, decimal, flat_map, if◌then◌else◌, length, map, reverse}
+use Rattle.std.specs.Prelude.{string_bytes}
 use Rattle.std.specs.Str.{trim_end}
 use Rattle.smsc_status.specs.declared.commits.CommitFigures.{CommitFigures}
 use Rattle.smsc_status.specs.declared.commits.Quantile.{Quantile}
@@ -21,7 +22,7 @@ use Rattle.smsc_status.specs.declared.page.TheConstants.{HEAD, SESSIONS_HEAD, LI
 use Rattle.sms_base.specs.MessageId.{id_text}
 use Rattle.smsc_status.specs.Charts.{chart_text}
 use Rattle.smsc_status.specs.Kinds.{kind_word}
-use Rattle.smsc_status.specs.Markup.{escaped}
+use Rattle.sms_base.specs.Markup.{escaped}
 use Rattle.smsc_status.specs.Numbers.{moment_text, size_text}
 use Rattle.smsc_status.specs.Quantiles.{quantile_text}
 use Rattle.smsc_status.specs.Series.{commits_a_second}
@@ -53,7 +54,8 @@ tiles_end = codes "</div>\n"
 
 unfoldable pub messages_tiles : MessageFigures → List ℕ
 messages_tiles m =
-    tiles_begin (codes "Messages") ++ (tile (decimal m.enroute) (codes "ENROUTE") ++ (tile (decimal m.delivered) (codes "DELIVRD") ++ (graded_tile m.expired (codes "EXPIRED")
+    tiles_begin (codes "Messages") ++ (tile (decimal m.enroute) (codes "ENROUTE") ++ (tile (decimal m.delivered) (codes "DELIVRD")
+    ++ (graded_tile m.expired (codes "EXPIRED")
     ++ (tile (decimal m.deleted) (codes "DELETED") ++ (graded_tile m.undeliverable (codes "UNDELIV") ++ tiles_end)))))
 
 -- ---- seats
@@ -86,7 +88,8 @@ none_row is_none columns = if is_none then none_cell columns else []
 unfoldable pub session_row : SessionLine → List ℕ
 session_row s =
     codes "<tr><td>" ++ (escaped (string_bytes s.account) ++ (codes "</td><td>" ++ (kind_word s.kind ++ (codes "</td><td class=\"n\">" ++ (decimal s.submits
-    ++ (codes "</td><td class=\"n\">" ++ (decimal s.receipts ++ (codes "</td><td class=\"n\">" ++ (decimal s.window ++ (codes "</td><td>" ++ (moment_text s.since
+    ++ (codes "</td><td class=\"n\">" ++ (decimal s.receipts ++ (codes "</td><td class=\"n\">" ++ (decimal s.window ++ (codes "</td><td>"
+    ++ (moment_text s.since
     ++ (codes "</td><td class=\"n\">" ++ (decimal s.seat ++ codes "</td></tr>\n")))))))))))))
 
 unfoldable pub sessions_table : List SessionLine → List ℕ
@@ -160,7 +163,8 @@ stuck_text v = codes "<h2>What is stuck</h2><p>" ++ (oldest_text v.oldest ++ stu
 
 unfoldable pub account_row : AccountLine → List ℕ
 account_row a =
-    codes "<tr><td>" ++ (escaped (string_bytes a.account) ++ (codes "</td><td class=\"n\">" ++ (decimal a.submits ++ (codes "</td><td class=\"n\">" ++ (decimal a.receipts
+    codes "<tr><td>" ++ (escaped (string_bytes a.account) ++ (codes "</td><td class=\"n\">" ++ (decimal a.submits ++ (codes "</td><td class=\"n\">"
+    ++ (decimal a.receipts
     ++ codes "</td></tr>\n")))))
 
 unfoldable pub accounts_table : List AccountLine → List ℕ
@@ -180,7 +184,8 @@ binds_row r =
 
 unfoldable pub deliveries_row : RefusedDeliveries → List ℕ
 deliveries_row r =
-    codes "<tr><td>delivery</td><td></td><td>RP cause " ++ (decimal r.cause ++ (codes ", " ++ (escaped r.reason.now ++ (codes "</td><td class=\"n\">" ++ (decimal r.count
+    codes "<tr><td>delivery</td><td></td><td>RP cause " ++ (decimal r.cause ++ (codes ", " ++ (escaped r.reason.now ++ (codes "</td><td class=\"n\">"
+    ++ (decimal r.count
     ++ codes "</td></tr>\n")))))
 
 abbrev pub is_nothing_refused : StatusView → Bool
@@ -188,7 +193,8 @@ is_nothing_refused v = length v.refused_submits.now == 0 && (length v.refused_bi
 
 unfoldable pub refusals_table : StatusView → List ℕ
 refusals_table v =
-    REFUSALS_HEAD.now ++ (flat_map submits_row v.refused_submits.now ++ (flat_map binds_row v.refused_binds.now ++ (flat_map deliveries_row v.refused_deliveries.now
+    REFUSALS_HEAD.now ++ (flat_map submits_row v.refused_submits.now ++ (flat_map binds_row v.refused_binds.now
+    ++ (flat_map deliveries_row v.refused_deliveries.now
     ++ (none_row (is_nothing_refused v) (codes "4") ++ table_end))))
 
 -- ---- the store
@@ -204,7 +210,8 @@ unfoldable pub groups_tiles : GroupFigures → List ℕ
 groups_tiles g =
     tiles_begin (codes "Groups of requests that were committed at once") ++ (tile (decimal g.up_to_64) (codes "groups") ++ (tile (decimal g.of_1) (codes "of 1")
     ++ (tile (decimal g.up_to_2) (codes "of 2 at most") ++ (tile (decimal g.up_to_4) (codes "of 4 at most") ++ (tile (decimal g.up_to_8) (codes "of 8 at most")
-    ++ (tile (decimal g.up_to_16) (codes "of 16 at most") ++ (tile (decimal g.up_to_32) (codes "of 32 at most") ++ (tile (decimal g.items) (codes "items of all") ++ tiles_end))))))))
+    ++ (tile (decimal g.up_to_16) (codes "of 16 at most") ++ (tile (decimal g.up_to_32) (codes "of 32 at most")
+    ++ (tile (decimal g.items) (codes "items of all") ++ tiles_end))))))))
 
 -- ---- events
 
@@ -225,7 +232,8 @@ events_end = codes "</ol></div>\n"
 -- the latest first
 unfoldable pub events_list : StatusView → List ℕ
 events_list v =
-    events_begin ++ (flat_map (λ event. event_item (string_bytes event)) (reverse v.events.now) ++ (events_end ++ (lost_text (codes "events that found no room") v.lost_events
+    events_begin ++ (flat_map (λ event. event_item (string_bytes event)) (reverse v.events.now) ++ (events_end
+    ++ (lost_text (codes "events that found no room") v.lost_events
     ++ lost_text (codes "lines of the log that were lost") v.lost_lines)))
 
 -- ---- the whole
@@ -237,7 +245,8 @@ foot_text version =
 
 unfoldable pub page_text : StatusView → Quantile → Quantile → List ℕ
 page_text v median most =
-    HEAD.now ++ (heading_text v ++ (messages_tiles v.messages ++ (charts_text (map (λ (s : Sample). s.submissions) v.samples.now) (map (λ (s : Sample). s.deliveries) v.samples.now)
+    HEAD.now ++ (heading_text v ++ (messages_tiles v.messages
+    ++ (charts_text (map (λ (s : Sample). s.submissions) v.samples.now) (map (λ (s : Sample). s.deliveries) v.samples.now)
     ++ (seats_tiles (length v.sessions.now) (length v.links.now) ++ (sessions_table v.sessions.now ++ (links_table v.links.now ++ (stuck_text v
     ++ (accounts_table v.accounts.now ++ (refusals_table v ++ (store_tiles v.store v.commits v.samples.now median most ++ (groups_tiles v.groups
     ++ (events_list v ++ foot_text (trim_end v.version.now)))))))))))))

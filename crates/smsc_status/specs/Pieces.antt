@@ -2,7 +2,7 @@
 use Rattle.std.specs.Prelude.{ℕ, List, decimal}
 use Rattle.smsc_status.specs.declared.pieces.Piece.{Piece}
 use Rattle.smsc_status.specs.declared.pieces.Piece.TheVariants.{Text, Escaped, Quoted, Number, Moment, Seconds, Size, Limit, Quantile}
-use Rattle.smsc_status.specs.Markup.{escaped}
+use Rattle.sms_base.specs.Markup.{escaped}
 use Rattle.smsc_status.specs.Numbers.{millionths_text, moment_text, size_text}
 use Rattle.smsc_status.specs.Quantiles.{limit_text, quantile_text}
 use Rattle.smsc_status.specs.Quoting.{string}

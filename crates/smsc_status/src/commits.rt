@@ -27,9 +27,9 @@ pub struct CommitFigures {
 pub enum Quantile {
     /// There was no commit.
     Unknown,
-    /// It is at most this limit, in millionths of a second.
+    /// The commit took at most this limit, in millionths of a second.
     AtMost(u64),
-    /// It is above the last limit.
+    /// The commit took longer than the last limit.
     Above(u64),
 }
 

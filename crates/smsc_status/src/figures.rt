@@ -15,7 +15,7 @@ pub enum SessionKind {
 }
 
 impl SessionKind {
-    /// Its word.
+    /// The word of the kind on the page.
     pub fn word(self) -> &'static str
         ensures { result.now ≡ kind_word self }
     {
@@ -115,7 +115,7 @@ pub struct StuckLine {
     pub since: Moment,
     /// How often the short message was tried in vain that was tried in vain most often.
     pub failed: u64,
-    /// It has a link.
+    /// The handset has a link.
     pub is_linked: bool,
     /// What it said last over its link as it refused something.
     pub cause: Option<LastCause>,
@@ -179,7 +179,7 @@ pub struct StatusView<'a> {
     pub now: Moment,
     /// The messages of the store.
     pub messages: MessageFigures,
-    /// Those of this run.
+    /// The messages of this run, counted.
     pub counts: MessageCounts,
     pub sessions: &'a [SessionLine],
     pub links: &'a [LinkLine],

@@ -1,9 +1,12 @@
 //! The figures in JSON (RFC 8259).
 ghost use Rattle.std.specs.Prelude.{◌≡◌, ◌++◌, IfOk, OnOk, string_bytes};
 ghost use Rattle.smsc_status.specs.Commits.{IsQuantile};
-ghost use Rattle.smsc_status.specs.Json.{account_text, accounts_text, array_end, array_start, comma, commits_text, counts_text, elements, events_text, first_places, json_text, last_place};
-ghost use Rattle.smsc_status.specs.Json.{link_text, lists_text, lost_text, messages_text, place_text, refusals_text, refused_binds_text, refused_deliveries_text, refused_submits_text, run_text};
-ghost use Rattle.smsc_status.specs.Json.{due_text, last_cause_text, moment_string, oldest_text, pending_text, refusal_text, stuck_counts, stuck_line, stuck_text, whose_text};
+ghost use Rattle.smsc_status.specs.Json.{account_text, accounts_text, array_end, array_start, comma, commits_text, counts_text, elements, events_text};
+ghost use Rattle.smsc_status.specs.Json.{first_places, json_text, last_place};
+ghost use Rattle.smsc_status.specs.Json.{link_text, lists_text, lost_text, messages_text, place_text, refusals_text, refused_binds_text};
+ghost use Rattle.smsc_status.specs.Json.{refused_deliveries_text, refused_submits_text, run_text};
+ghost use Rattle.smsc_status.specs.Json.{due_text, last_cause_text, moment_string, oldest_text, pending_text, refusal_text, stuck_counts, stuck_line};
+ghost use Rattle.smsc_status.specs.Json.{stuck_text, whose_text};
 ghost use Rattle.smsc_status.specs.Json.{sample_text, session_text, store_text, truth_text};
 ghost use Rattle.smsc_status.specs.Quoting.{string};
 ghost use Rattle.smsc_status.specs.declared.commits.Quantile.{Quantile as QuantileOf};

@@ -1,6 +1,6 @@
 //! Laws of what a status page says of names, over their definitions alone.
 ghost use Rattle.std.specs.Prelude.{ℕ, List, map};
-ghost use Rattle.smsc_status.specs.Markup.{escaped};
+ghost use Rattle.sms_base.specs.Markup.{escaped};
 ghost use Rattle.smsc_status.specs.Quoting.{quoted};
 ghost use Rattle.smsc_status.specs.Reading.{IsRead, IsUnquoted, legible};
 

@@ -10,7 +10,6 @@
 //! - `groups`: how large the groups are that a run commits at once
 //! - `json`: the figures in JSON
 //! - `laws`: laws of what is said of names
-//! - `markup`: text in a page
 //! - `metrics`: the figures in Prometheus' text format
 //! - `numbers`: numbers and moments in text
 //! - `page`: the page
@@ -30,7 +29,6 @@ mod figures;
 mod groups;
 mod json;
 pub mod laws;
-mod markup;
 mod metrics;
 mod numbers;
 mod page;

@@ -1,7 +1,10 @@
 //! The figures in Prometheus' text format.
 ghost use Rattle.std.specs.Prelude.{◌≡◌, ◌++◌, ◌<◌, IfOk, OnOk, codes, flat_map, string_bytes};
-ghost use Rattle.smsc_status.specs.Metrics.{account_receipts, account_submits, accounts_metrics, binds_sample, bucket, commits_metrics, counts_metric, deliveries_sample, first_buckets, group_bucket, groups_metrics, labelled_sample, link_number, link_samples, links_metrics};
-ghost use Rattle.smsc_status.specs.Metrics.{lost_metrics, messages_metric, metric, metrics_text, oldest_metric, oldest_sample, plain_sample, refusals_metrics, run_metrics, session_number};
+ghost use Rattle.smsc_status.specs.Metrics.{account_receipts, account_submits, accounts_metrics, binds_sample, bucket, commits_metrics, counts_metric};
+ghost use Rattle.smsc_status.specs.Metrics.{deliveries_sample, first_buckets, group_bucket, groups_metrics, labelled_sample, link_number, link_samples};
+ghost use Rattle.smsc_status.specs.Metrics.{links_metrics};
+ghost use Rattle.smsc_status.specs.Metrics.{lost_metrics, messages_metric, metric, metrics_text, oldest_metric, oldest_sample, plain_sample, refusals_metrics};
+ghost use Rattle.smsc_status.specs.Metrics.{run_metrics, session_number};
 ghost use Rattle.smsc_status.specs.Metrics.{session_sample, session_samples, sessions_metrics, store_metrics, submits_sample, totals};
 
 use crate::commits::{CommitFigures, LIMITS};

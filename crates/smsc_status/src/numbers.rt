@@ -3,8 +3,7 @@ ghost use Rattle.std.specs.Prelude.{◌≡◌, ◌++◌, OnOk};
 ghost use Rattle.sms_base.specs.MessageId.{id_text};
 ghost use Rattle.smsc_status.specs.Numbers.{clock_text, date_text, last_digit, milliseconds_text, millionths_text, moment_text, pair, size_text, stamp_text};
 
-use crate::markup::put_number;
-use sms_base::{MessageId, Moment, Octets};
+use sms_base::{MessageId, Moment, Octets, put_decimal};
 use std::alloc::AllocError;
 
 // Two decimal digits of a semi-octet pair, the low one first (3GPP TS 23.040 9.1.2.3).
@@ -77,7 +76,7 @@ fn put_digit(out: &mut Octets, number: u64) -> Result<(), AllocError>
 pub(crate) fn put_millionths(out: &mut Octets, millionths: u64) -> Result<(), AllocError>
     ensures { OnOk result (out.new ≡ out.old ++ millionths_text millionths) }
 {
-    put_number(out, millionths / 1_000_000)?;
+    put_decimal(out, millionths / 1_000_000)?;
     out.append(b".")?;
     put_digit(out, millionths / 100_000)?;
     put_digit(out, millionths / 10_000)?;
@@ -92,11 +91,11 @@ pub(crate) fn put_millionths(out: &mut Octets, millionths: u64) -> Result<(), Al
 pub(crate) fn put_milliseconds(out: &mut Octets, micros: u64) -> Result<(), AllocError>
     ensures { OnOk result (out.new ≡ out.old ++ milliseconds_text micros) }
 {
-    put_number(out, micros / 1000)?;
+    put_decimal(out, micros / 1000)?;
     let tenth = (micros / 100) % 10;
     if tenth != 0 {
         out.append(b".")?;
-        put_number(out, tenth)?;
+        put_decimal(out, tenth)?;
     }
     Ok(())
 }
@@ -107,13 +106,13 @@ pub(crate) fn put_size(out: &mut Octets, octets: u64) -> Result<(), AllocError>
     ensures { OnOk result (out.new ≡ out.old ++ size_text octets) }
 {
     if octets >= 10_000_000 {
-        put_number(out, octets / 1_000_000)?;
+        put_decimal(out, octets / 1_000_000)?;
         return out.append(b" MB");
     }
     if octets >= 1000 {
-        put_number(out, octets / 1000)?;
+        put_decimal(out, octets / 1000)?;
         return out.append(b" KB");
     }
-    put_number(out, octets)?;
+    put_decimal(out, octets)?;
     out.append(b" B")
 }

@@ -4,10 +4,14 @@
 ghost use Rattle.std.specs.Prelude.{◌≡◌, ◌-◌, ◌++◌, IfOk, OnOk, codes, decimal, flat_map, length, map, reverse, string_bytes};
 ghost use Rattle.std.specs.Str.{trim_end};
 ghost use Rattle.smsc_status.specs.Commits.{IsQuantile};
-ghost use Rattle.smsc_status.specs.Page.{account_row, accounts_table, bad_or_not, binds_row, charts_text, deliveries_row, event_item, events_begin, events_end, events_list};
-ghost use Rattle.smsc_status.specs.Page.{foot_text, graded_tile, groups_tiles, heading_text, is_nothing_refused as is_nothing_refused_of, link_row, links_table, lost_text, mark, messages_tiles, none_cell, none_row, page_text, refusals_table};
-ghost use Rattle.smsc_status.specs.Page.{seats_tiles, session_row, sessions_table, store_tiles, submits_row, table_end, tile, tiles_begin, tiles_end, yes_or_no};
-ghost use Rattle.smsc_status.specs.Page.{last_cause_text, link_word as link_word_of, next_try_text, oldest_text, pending_text, refusal_text, stuck_counts, stuck_row, stuck_table, stuck_text, wait_word as wait_word_of, whose_text};
+ghost use Rattle.smsc_status.specs.Page.{account_row, accounts_table, bad_or_not, binds_row, charts_text, deliveries_row, event_item, events_begin, events_end};
+ghost use Rattle.smsc_status.specs.Page.{events_list};
+ghost use Rattle.smsc_status.specs.Page.{foot_text, graded_tile, groups_tiles, heading_text, is_nothing_refused as is_nothing_refused_of, link_row};
+ghost use Rattle.smsc_status.specs.Page.{links_table, lost_text, mark, messages_tiles, none_cell, none_row, page_text, refusals_table};
+ghost use Rattle.smsc_status.specs.Page.{seats_tiles, session_row, sessions_table, store_tiles, submits_row, table_end, tile, tiles_begin, tiles_end};
+ghost use Rattle.smsc_status.specs.Page.{yes_or_no};
+ghost use Rattle.smsc_status.specs.Page.{last_cause_text, link_word as link_word_of, next_try_text, oldest_text, pending_text, refusal_text, stuck_counts};
+ghost use Rattle.smsc_status.specs.Page.{stuck_row, stuck_table, stuck_text, wait_word as wait_word_of, whose_text};
 ghost use Rattle.smsc_status.specs.Numbers.{size_text};
 ghost use Rattle.smsc_status.specs.Quantiles.{quantile_text};
 ghost use Rattle.smsc_status.specs.Series.{commits_a_second as commits_a_second_of};

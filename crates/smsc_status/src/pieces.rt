@@ -3,11 +3,11 @@ ghost use Rattle.std.specs.Prelude.{◌≡◌, ◌++◌, OnOk, flat_map};
 ghost use Rattle.smsc_status.specs.Pieces.{piece_text};
 
 use crate::commits::Quantile;
-use crate::markup::{put_escaped, put_number};
 use crate::numbers::{put_millionths, put_moment, put_size};
 use crate::quantiles::{put_limit, put_quantile};
 use crate::quoting::put_string;
-use sms_base::{Moment, Octets};
+use sms_base::markup::put_escaped;
+use sms_base::{Moment, Octets, put_decimal};
 use std::alloc::AllocError;
 
 /// A piece of a text.
@@ -40,7 +40,7 @@ fn put_piece(out: &mut Octets, piece: &Piece<'_>) -> Result<(), AllocError>
         Piece::Text(text) => out.append(text),
         Piece::Escaped(text) => put_escaped(out, text),
         Piece::Quoted(text) => put_string(out, text),
-        Piece::Number(number) => put_number(out, *number),
+        Piece::Number(number) => put_decimal(out, *number),
         Piece::Moment(moment) => put_moment(out, *moment),
         Piece::Seconds(micros) => put_millionths(out, *micros),
         Piece::Size(octets) => put_size(out, *octets),

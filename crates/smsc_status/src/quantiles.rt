@@ -3,9 +3,8 @@ ghost use Rattle.std.specs.Prelude.{◌≡◌, ◌++◌, OnOk};
 ghost use Rattle.smsc_status.specs.Quantiles.{limit_text, quantile_text};
 
 use crate::commits::Quantile;
-use crate::markup::put_number;
 use crate::numbers::put_milliseconds;
-use sms_base::Octets;
+use sms_base::{Octets, put_decimal};
 use std::alloc::AllocError;
 
 /// A quantile in JSON, in millionths of a second: null where no limit is known.
@@ -13,7 +12,7 @@ pub(crate) fn put_limit(out: &mut Octets, quantile: Quantile) -> Result<(), Allo
     ensures { OnOk result (out.new ≡ out.old ++ limit_text quantile) }
 {
     match quantile {
-        Quantile::AtMost(micros) => put_number(out, micros),
+        Quantile::AtMost(micros) => put_decimal(out, micros),
         Quantile::Unknown | Quantile::Above(_) => out.append(b"null"),
     }
 }

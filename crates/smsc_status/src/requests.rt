@@ -7,7 +7,7 @@ const MOST_FIELDS: usize = 64;
 /// What is asked for.
 #[derive(Clone, Copy, PartialEq, Eq)]
 pub enum Resource {
-    /// The page.
+    /// The status page.
     Page,
     /// The figures in Prometheus' format.
     Metrics,
@@ -18,17 +18,17 @@ pub enum Resource {
 /// What a client asked.
 #[derive(Clone, Copy, PartialEq, Eq)]
 pub enum Wanted {
-    /// Its request is not whole yet.
+    /// The client's request is not whole yet.
     Waiting,
-    /// It is to be given this resource, or its head alone.
+    /// The client is to be given this resource, or its head alone.
     Resource(Resource, bool),
     /// There is no such resource. It asked for the head alone, or not.
     NotFound(bool),
-    /// It asks for something other than to read.
+    /// The client asks for something other than to read.
     NotAllowed,
-    /// It names another host than this machine. It asked for the head alone, or not.
+    /// The request names another host than this machine. It asked for the head alone, or not.
     OtherHost(bool),
-    /// It is no request.
+    /// The octets are no request.
     Bad,
 }
 

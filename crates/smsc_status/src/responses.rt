@@ -1,11 +1,10 @@
 //! Responses (RFC 9112), each the last of its connection.
 use crate::figures::StatusView;
 use crate::json::json_of;
-use crate::markup::put_number;
 use crate::metrics::metrics_of;
 use crate::page::page_of;
 use crate::requests::{Resource, Wanted};
-use sms_base::Octets;
+use sms_base::{Octets, put_decimal};
 use std::alloc::{AllocError, Global};
 
 const PLAIN: &[u8] = b"text/plain; charset=utf-8";
@@ -35,7 +34,7 @@ fn put_response(
     out.append(b"\r\nContent-Type: ")?;
     out.append(kind)?;
     out.append(b"\r\nContent-Length: ")?;
-    put_number(out, body.len() as u64)?;
+    put_decimal(out, body.len() as u64)?;
     out.append(b"\r\n")?;
     out.append(FIELDS)?;
     out.append(b"\r\n")?;

@@ -12,8 +12,8 @@ use sms_centre_spec::Rows;
 use sms_centre_spec::numbers::step_after_loss;
 use sms_store::CentreKeep;
 use sms_store_files::{
-    FilesFault, FilesFinding, Mark, Verdict, are_still, drop_log, finding_of, mark_at, octets_of,
-    verdict_of, write_back, write_mark,
+    FilesFault, FilesFinding, Mark, StartVerdict, are_still, drop_log, finding_of, mark_at,
+    octets_of, verdict_of, write_back, write_mark,
 };
 use smsc_cli::words::ServerRun;
 use smsc_service::{CentreStore, Setup};
@@ -68,11 +68,11 @@ fn run_fault(fault: FilesFault) -> RunFault {
 // Why a run may not start over the files.
 fn refusal_of(found: &FilesFinding) -> Option<StoreFault> {
     match verdict_of(found.mark, found.log.finding) {
-        Verdict::Taken | Verdict::TakenTorn => None,
-        Verdict::NoLog => Some(StoreFault::NoLog),
-        Verdict::HasNoHead => Some(StoreFault::NoHead),
-        Verdict::OtherFiles => Some(StoreFault::OtherLog),
-        Verdict::IsDamaged => Some(StoreFault::DamagedLog(found.log.taken, found.log.behind)),
+        StartVerdict::Taken | StartVerdict::TakenTorn => None,
+        StartVerdict::NoLog => Some(StoreFault::NoLog),
+        StartVerdict::HasNoHead => Some(StoreFault::NoHead),
+        StartVerdict::OtherFiles => Some(StoreFault::OtherLog),
+        StartVerdict::IsDamaged => Some(StoreFault::DamagedLog(found.log.taken, found.log.behind)),
     }
 }
 
@@ -300,7 +300,7 @@ fn put_closed(alloc: Global, files: &mut Files<File>, step: u32) -> Result<(), F
     let found = finding_of(alloc, files)?;
     let mark = Mark::Closed(step);
     match verdict_of(mark, found.log.finding) {
-        Verdict::Taken if found.mark == Mark::Open(step) => write_mark(files, mark),
+        StartVerdict::Taken if found.mark == Mark::Open(step) => write_mark(files, mark),
         _ => Ok(()),
     }
 }

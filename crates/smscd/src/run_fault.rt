@@ -14,46 +14,46 @@ pub enum StoreFault {
     /// Another program has it open.
     #[error("another program has it open")]
     Busy,
-    /// Its folder is not there.
+    /// The file's folder is not there.
     #[error("its folder is not there")]
     NoFolder,
-    /// It is a folder.
+    /// The file is a folder.
     #[error("it is a folder")]
     Folder,
-    /// It may not be read or written.
+    /// The file may not be read or written.
     #[error("it may not be read or written")]
     NotAllowed,
-    /// It is on a disk that can't be written.
+    /// The file is on a disk that can't be written.
     #[error("it can't be written")]
     ReadOnly,
-    /// Its disk is full.
+    /// The disk of the store is full.
     #[error("its disk is full")]
     Full,
-    /// It is no database.
+    /// The file is no database.
     #[error("it is no database")]
     NoDatabase,
-    /// It is damaged.
+    /// The store is damaged.
     #[error("it is damaged")]
     Damaged,
     /// There is none.
     #[error("there is none")]
     NotThere,
-    /// It is missing or empty, and its log is there.
+    /// The file is missing or empty, and its log is there.
     #[error("it is missing or empty, but its log (FILE-wal) is there: put the file back, or give up what the log holds with --new-store")]
     LogAlone,
-    /// Its file says that a run had it open, and its log is missing.
+    /// The store's file says that a run had it open, and its log is missing.
     #[error("a run had it open, and its log (FILE-wal) is missing: put the log back, or give up what it held with --accept-loss")]
     NoLog,
-    /// Its log has no head.
+    /// The log of the store has no head.
     #[error("its log (FILE-wal) has no head that was written: restore a copy, or give up what it held with --accept-loss")]
     NoHead,
-    /// Its file says that no run has it open, and a log is there.
+    /// The store's file says that no run has it open, and a log is there.
     #[error("the last run left it whole, so the log beside it (FILE-wal) is another store's: take that away, or drop it with --accept-loss")]
     OtherLog,
-    /// Its log is damaged: it takes so many frames, and so many lie behind them.
+    /// The log of the store is damaged: it takes so many frames, and so many lie behind them.
     #[error("its log (FILE-wal) is damaged behind frame {0}, where it has {1} more: restore a copy, or give up what is behind with --accept-loss")]
     DamagedLog(usize, usize),
-    /// Its file or its log became another one as it was opened.
+    /// The store's file or log became another one as it was opened.
     #[error("its file or its log was replaced as it was opened")]
     Replaced,
     /// Something else, of which the system says nothing more.
@@ -70,7 +70,7 @@ pub enum RunFault {
     /// The words are no text.
     #[error("the words are no text")]
     NoWords,
-    /// This line of the accounts' file is no account.
+    /// A line of the accounts' file is no account: this one.
     #[error("line {0} is no account")]
     AccountLine(usize),
     /// The account at this line of the accounts' file has a source that ends in an asterisk and is no number's beginning.
@@ -100,7 +100,7 @@ pub enum RunFault {
     /// The accounts' file is no text.
     #[error("they are no text")]
     NoText,
-    /// This line of the links' file is no number and secret.
+    /// A line of the links' file is no number and secret: this one.
     #[error("line {0} is no number and secret")]
     SecretLine(usize),
     /// The links' file is no text.
@@ -142,7 +142,7 @@ pub enum RunFault {
     /// The accounts' file can't be read.
     #[error("they can't be read: {0}")]
     NoAccounts(io::Error),
-    /// This port can't be listened on.
+    /// A port can't be listened on: this one.
     #[error("port {0} can't be listened on: {1}")]
     Port(u16, io::Error),
     /// The control socket can't be made or reached.

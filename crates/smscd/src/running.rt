@@ -15,7 +15,7 @@ use crate::status::{self, About, Pages};
 use crate::store_files::{StorePaths, open_mode_at, public_mode_at};
 use crate::summary::{Files, Summary, left_in, left_of, summary_of};
 use crate::watchers::{Source, Watchers, log_alone, log_and_page};
-use crate::watching::{Guard, Watch};
+use crate::watching::{FileWatch, Guard};
 use smpp_session::Account as Login;
 use sms_base::{Address, Moment};
 use sms_centre_spec::numbers::first_number;
@@ -640,8 +640,8 @@ impl Helpers {
         })
     }
 
-    fn watch_of(&self, host: HostRuntime, guard: &Arc<Guard>) -> Result<Watch, AllocError> {
-        Ok(Watch {
+    fn watch_of(&self, host: HostRuntime, guard: &Arc<Guard>) -> Result<FileWatch, AllocError> {
+        Ok(FileWatch {
             host,
             guard: Arc::try_clone(guard)?,
             over: Arc::try_clone(&self.over)?,
@@ -658,7 +658,7 @@ impl Helpers {
         }
     }
 
-    fn start_watch<R: Threads>(&mut self, rt: &R, watch: Watch) -> Result<(), RunFault> {
+    fn start_watch<R: Threads>(&mut self, rt: &R, watch: FileWatch) -> Result<(), RunFault> {
         self.keep_thread(thread::spawn(rt, move || watch.look()).ok())
     }
 

@@ -50,7 +50,7 @@ impl StorePaths {
         }
     }
 
-    /// The same paths.
+    /// A copy of the paths.
     pub fn copy(&self, alloc: Global) -> Result<StorePaths, AllocError> {
         Ok(StorePaths {
             file: owned(alloc, self.file.as_str())?,

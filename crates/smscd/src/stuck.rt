@@ -1,24 +1,16 @@
 //! What waits in a store, by handset.
 //!
 //! What the table says of its lines is proved (`smsc_cli::centre_table`); which lines they are is only tested.
-use sms_base::{Digits, Moment};
+use sms_base::{Digits, Moment, earlier};
 use sms_centre_rows::messages::{MessageRow, PartRow};
 use sms_rows::table::{Key, Table};
 use smsc_cli::centre_table::{StuckLine, attempts_in, due_in, own_parts};
 use std::alloc::{AllocError, Global};
 use std::collections::BTreeMap;
 
-fn sooner(one: Moment, other: Moment) -> Moment {
-    if other.seconds() < one.seconds() {
-        other
-    } else {
-        one
-    }
-}
-
 fn soonest(one: Option<Moment>, other: Option<Moment>) -> Option<Moment> {
     match (one, other) {
-        (Some(one), Some(other)) => Some(sooner(one, other)),
+        (Some(one), Some(other)) => Some(earlier(one, other)),
         (Some(moment), None) | (None, Some(moment)) => Some(moment),
         (None, None) => None,
     }
@@ -50,7 +42,7 @@ fn joined(one: &StuckLine, other: &StuckLine) -> StuckLine {
     StuckLine {
         handset: one.handset,
         waiting: one.waiting.saturating_add(other.waiting),
-        since: sooner(one.since, other.since),
+        since: earlier(one.since, other.since),
         failed: one.failed.max(other.failed),
         due: soonest(one.due, other.due),
     }

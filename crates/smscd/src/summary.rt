@@ -61,7 +61,7 @@ pub fn without(all: &MessageFigures, gone: &MessageFigures) -> MessageFigures {
     }
 }
 
-/// The same, but for how many messages are in each state: these are gone.
+/// The summary once these messages are gone: it counts as many fewer in each state.
 pub fn left_of(summary: Summary, gone: &MessageFigures) -> Summary {
     Summary {
         messages: without(&summary.messages, gone),
@@ -69,7 +69,7 @@ pub fn left_of(summary: Summary, gone: &MessageFigures) -> Summary {
     }
 }
 
-/// The same, but for how many messages are in each state: these rows are left.
+/// The summary where these rows are left: it counts their messages in each state.
 pub fn left_in(summary: Summary, rows: &Rows) -> Summary {
     Summary {
         messages: message_figures(rows.messages.as_slice()),
@@ -82,7 +82,7 @@ pub fn left_in(summary: Summary, rows: &Rows) -> Summary {
 pub struct Files {
     /// There is a file.
     pub is_there: bool,
-    /// The octets of its log.
+    /// How many octets the log beside the file has.
     pub log_octets: u64,
 }
 

@@ -128,14 +128,14 @@ impl Guard {
 
 /// Who looks at the store's files once a second, however little the run does.
 #[derive(Drop)]
-pub struct Watch {
+pub struct FileWatch {
     pub host: HostRuntime,
     pub guard: Arc<Guard>,
     /// The run has ended.
     pub over: Arc<AtomicBool>,
 }
 
-impl Watch {
+impl FileWatch {
     /// Looks at the files until the run has ended.
     pub fn look(&self) {
         for turn in 0..u32::MAX {

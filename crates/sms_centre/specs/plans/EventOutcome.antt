@@ -1,10 +1,10 @@
 -- What an event leads to, as it is in memory, and what of the definition's outcome it is.
 use Rattle.std.specs.Prelude.{◌≡◌, length}
 use Rattle.sms_centre_messages.specs.references.ReferenceIndex.{ReferenceIndexOf}
-use Rattle.sms_centre_messages.specs.references.Moves.{Fits as FitsReferenceIndex}
+use Rattle.sms_centre_messages.specs.references.Moves.{FitsTheReferences as FitsReferenceIndex}
 use Rattle.sms_centre_reports.specs.open_reports.OpenReports.{Represents as RepresentsReports}
-use Rattle.sms_centre_messages.specs.message_index.MessageIndex.{Fits as FitsMessages, MessageIndexOf, Matches}
-use Rattle.sms_centre_queue.specs.queues.Plan.{Fits as FitsQueues, IsAdopted}
+use Rattle.sms_centre_messages.specs.message_index.MessageIndex.{FitsTheMessages as FitsMessages, MessageIndexOf, Matches}
+use Rattle.sms_centre_queue.specs.queues.Plan.{FitsTheQueues as FitsQueues, IsAdopted}
 use Rattle.sms_centre_queue.specs.queues.Queues.{DeliveryQueuesOf}
 use Rattle.sms_centre_queue.specs.queues.Representing.{Represents}
 use Rattle.sms_centre_spec.specs.Draft.{Draft, changes_in, handsets_in, messages_in, parts_in, references_in, reports_in}

@@ -1,12 +1,12 @@
 //! What an event leads to.
 ghost use Rattle.std.specs.Prelude.{◌≡◌, length, IfOk};
 ghost use Rattle.sms_centre_spec.specs.Draft.{Draft};
-ghost use Rattle.sms_centre_messages.specs.references.Moves.{Fits as FitsReferenceIndex};
-ghost use Rattle.sms_centre_messages.specs.message_index.MessageIndex.{Fits as FitsMessages, DraftRepresents as RepresentsMessages};
+ghost use Rattle.sms_centre_messages.specs.references.Moves.{FitsTheReferences as FitsReferenceIndex};
+ghost use Rattle.sms_centre_messages.specs.message_index.MessageIndex.{FitsTheMessages as FitsMessages, DraftRepresents as RepresentsMessages};
 ghost use Rattle.sms_centre_messages.specs.message_index.Settling.{IsSettled};
 ghost use Rattle.sms_centre_rows.specs.messages.Messages.{Messages};
 ghost use Rattle.sms_centre.specs.plans.EventOutcome.{FitsIn, IsOutcome};
-ghost use Rattle.sms_centre_queue.specs.queues.Plan.{Fits as FitsQueues, IsSettled as IsSettledQueues};
+ghost use Rattle.sms_centre_queue.specs.queues.Plan.{FitsTheQueues as FitsQueues, IsSettled as IsSettledQueues};
 ghost use Rattle.sms_centre_draft.specs.CentreDraft.{Represents, CentreDraftOf};
 
 use crate::plans::event_outcome::{EventOutcome, NextState, Outputs};

@@ -1,7 +1,7 @@
 //! The queues of a centre that starts.
 ghost use Rattle.std.specs.Prelude.{ℕ, List, [], false, IfOk, OnOk};
 ghost use Rattle.sms_base.specs.Among.{Among};
-ghost use Rattle.sms_centre_queue.specs.queues.Plan.{Fits, IsAdopted, IsSettled};
+ghost use Rattle.sms_centre_queue.specs.queues.Plan.{FitsTheQueues, IsAdopted, IsSettled};
 ghost use Rattle.sms_centre_queue.specs.queues.Queues.{DeliveryQueuesOf};
 ghost use Rattle.sms_centre_queue.specs.queues.Representing.{DraftRepresents, Represents};
 ghost use Rattle.sms_centre_recovery.specs.soundness.RowsOf.{rows_of};
@@ -59,7 +59,7 @@ fn line_anew(handsets: &[Digits], queues: &mut DeliveryQueuesDraft) -> Result<()
 
 // These queues, ready made.
 fn settled(pending: DeliveryQueuesDraft, now: Moment) -> Result<DeliveryQueuesPlan, AllocError>
-    ensures fits { IfOk result Fits }
+    ensures fits { IfOk result FitsTheQueues }
     ensures queues { IfOk result (IsSettled pending) }
 {
     let plan = pending.settle(now)?;
@@ -78,7 +78,7 @@ fn load(
     requires sound { IsSound (rows_of tables.now) }
     requires numbers { (number : List ℕ) → Among number handsets.now → IsNumber number }
     requires apart { AreDifferent handsets.now }
-    ensures fits { IfOk result Fits }
+    ensures fits { IfOk result FitsTheQueues }
     ensures consistent { IfOk result (λ settled. (new : DeliveryQueuesOf)
         → Represents tables.now.handsets.rows tables.now.references.rows [] (λ number. []) queues.now → IsAdopted settled new
         → Represents tables.now.handsets.rows tables.now.references.rows (lines_of are_up handsets.now) (λ number. all_for number (rows_of tables.now)) new) }
@@ -104,7 +104,7 @@ pub(crate) fn settled_anew(
 ) -> Result<DeliveryQueuesPlan, AllocError>
     requires numbers { (number : List ℕ) → Among number handsets.now → IsNumber number }
     requires apart { AreDifferent handsets.now }
-    ensures fits { IfOk result Fits }
+    ensures fits { IfOk result FitsTheQueues }
     ensures consistent { IfOk result (λ settled. (rows : List HandsetRow) (references : List ReferenceRow) (lines : List HandsetLink) (waiting : List ℕ
         → List QueuedPart) (new : DeliveryQueuesOf) → Represents rows references lines waiting queues.now → IsAdopted settled new
         → Represents rows references (lines_of false handsets.now) waiting new) }

@@ -6,7 +6,8 @@ ghost use Rattle.sms_centre_rows.specs.messages.Messages.{message_at};
 ghost use Rattle.sms_centre_rows.specs.declared.messages.message.MessageRow.{MessageRow as MessageRowOf};
 ghost use Rattle.sms_centre_rows.specs.declared.messages.part.PartRow.{PartRow as PartRowOf};
 ghost use Rattle.sms_centre_reports.specs.report_log.ReportLog.{Represents as LogRepresents};
-ghost use Rattle.sms_centre_reports.specs.report_log.Reporting.{message_line as message_line_of, message_lines as message_lines_of, receipt_line, receipt_lines as receipt_lines_of, state_of as state_of_end};
+ghost use Rattle.sms_centre_reports.specs.report_log.Reporting.{message_line as message_line_of, message_lines as message_lines_of, receipt_line};
+ghost use Rattle.sms_centre_reports.specs.report_log.Reporting.{receipt_lines as receipt_lines_of, state_of as state_of_end};
 ghost use Rattle.sms_centre_rows.specs.declared.reports.report.ReportRow.{ReportRow as ReportRowOf};
 ghost use Rattle.sms_centre_spec.specs.Draft.{Core};
 ghost use Rattle.sms_centre.specs.state.CentreState.{Represents as StateRepresents};
@@ -16,7 +17,7 @@ use crate::state::centre_state::CentreState;
 use sms_base::{FinalState, Listed, MessageId};
 use sms_centre_messages::message_index::{MessageIndex, MessageSummary};
 use sms_centre_reports::report_log::ReportLog;
-use sms_script::report::{MessageState, ReceiptRow, ReportedMessage};
+use sms_centre_rows::report_lines::{MessageState, ReceiptRow, ReportedMessage};
 use std::alloc::{AllocError, Global};
 
 fn state_of(state: Option<FinalState>) -> MessageState

@@ -6,7 +6,7 @@ use Rattle.sms_link.specs.LinkTurn.{begun}
 use Rattle.sms_centre_rows.specs.declared.waiting.handset.HandsetRow.{HandsetRow}
 use Rattle.sms_centre_rows.specs.declared.waiting.handset_link.HandsetLink.{HandsetLink}
 use Rattle.sms_centre_rows.specs.declared.waiting.queued_part.QueuedPart.{QueuedPart}
-use Rattle.sms_centre_rows.specs.waiting.Keys.{load_key}
+use Rattle.sms_centre_rows.specs.waiting.Keys.{queued_key}
 use Rattle.sms_centre_rows.specs.waiting.Links.{Links, is_ready, line_of, read_for, turned}
 use Rattle.sms_centre_rows.specs.waiting.SoundAllocations.{SoundAllocations}
 use Rattle.sms_centre_rows.specs.waiting.Waiting.{next, waits_beside}
@@ -17,7 +17,7 @@ use Rattle.sms_centre_queue.specs.queues.Walks.{walk}
 use Rattle.sms_centre_queue.proofs.queues.LinkPlaces.{line_handset}
 use Rattle.sms_centre_queue.proofs.queues.StopsApart.{mentions_apart}
 use Rattle.sms_centre_spec.specs.Draft.{Draft, Store, handsets_in, on_links, references_in, waiting_in}
-use Rattle.sms_centre_spec.specs.Offering.{holder_of, is_made, offer, offer_all, offer_among, offer_load, offer_on, read_of, unit_of}
+use Rattle.sms_centre_spec.specs.Offering.{holder_of, is_made, offer, offer_all, offer_among, offer_queued, offer_on, read_of, unit_of}
 use Rattle.sms_centre_draft.specs.walks.Stepping.{offer_at, stops_in}
 use Rattle.sms_centre_draft.proofs.walks.Acting.{walk_acting}
 
@@ -30,9 +30,9 @@ walks [] d = refl
 walks (h ∷ hs) d = walks hs (offer_at h.number d)
 
 -- nothing is due
-none_offered : (line : HandsetLink) (loads : List QueuedPart) (o : Option QueuedPart) (s : Store) (links : Links) → is_some o ≡ false → offer_load line loads o s links ≡ links
-none_offered line loads None s links e = refl
-none_offered line loads (Some l) s links e = absurd cc
+none_offered : (line : HandsetLink) (all_queued : List QueuedPart) (o : Option QueuedPart) (s : Store) (links : Links) → is_some o ≡ false → offer_queued line all_queued o s links ≡ links
+none_offered line all_queued None s links e = refl
+none_offered line all_queued (Some l) s links e = absurd cc
 
 rests_on : (number : List ℕ) (line : HandsetLink) (s : Store) (links : Links) → line.handset ≡ number → is_offered s.moment line (waiting_in number s) ≡ false → offer_on line s links ≡ links
 rests_on number line s links own e =
@@ -50,18 +50,18 @@ rests number d e = ap (λ (a : Links). on_links a d) (rests_on number (line_of n
 
 -- reading touches no line
 read_lines : (l : QueuedPart) (s : Store) (links : Links) → (read_of l s links).lines ≡ links.lines
-read_lines l s links = cond_both (is_made l s) links (read_for (load_key l) links) (λ (a : Links). a.lines ≡ links.lines) (λ t. refl) (λ t. refl)
+read_lines l s links = cond_both (is_made l s) links (read_for (queued_key l) links) (λ (a : Links). a.lines ≡ links.lines) (λ t. refl) (λ t. refl)
 
-load_other : (line : HandsetLink) (loads : List QueuedPart) (o : Option QueuedPart) (s : Store) (links : Links) (other : List ℕ) → ¬ (line.handset ≡ other) → line_of other (offer_load line loads o s links).lines ≡ line_of other links.lines
-load_other line loads None s links other ne = refl
-load_other line loads (Some l) s links other ne =
-    line_put_other other (turned (begun s.moment l.reference (holder_of l) (unit_of l (waits_beside s.moment l loads) s) line.link) line) (read_of l s links).lines ne
+queued_other : (line : HandsetLink) (all_queued : List QueuedPart) (o : Option QueuedPart) (s : Store) (links : Links) (other : List ℕ) → ¬ (line.handset ≡ other) → line_of other (offer_queued line all_queued o s links).lines ≡ line_of other links.lines
+queued_other line all_queued None s links other ne = refl
+queued_other line all_queued (Some l) s links other ne =
+    line_put_other other (turned (begun s.moment l.reference (holder_of l) (unit_of l (waits_beside s.moment l all_queued) s) line.link) line) (read_of l s links).lines ne
     ∙ ap (λ (ls : List HandsetLink). line_of other ls) (read_lines l s links)
 
 on_other : (line : HandsetLink) (s : Store) (links : Links) (other : List ℕ) → ¬ (line.handset ≡ other) → line_of other (offer_on line s links).lines ≡ line_of other links.lines
 on_other line s links other ne =
     cond_both (is_ready line) (offer_among line (waiting_in line.handset s) s links) links (λ (a : Links). line_of other a.lines ≡ line_of other links.lines)
-    (λ t. load_other line (waiting_in line.handset s) (next s.moment (waiting_in line.handset s)) s links other ne) (λ t. refl)
+    (λ t. queued_other line (waiting_in line.handset s) (next s.moment (waiting_in line.handset s)) s links other ne) (λ t. refl)
 
 others : (number other : List ℕ) (d : Draft) → ¬ (number ≡ other) → concerns other (offer_at number d) ≡ concerns other d
 others number other d ne =

@@ -9,7 +9,7 @@ use Rattle.sms_centre_queue.specs.queues.Queues.{DeliveryQueuesDraftOf as Queues
 use Rattle.sms_centre_queue.specs.queues.Representing.{DraftRepresents as RepresentsQueues}
 use Rattle.sms_centre_rows.specs.declared.waiting.handset_link.HandsetLink.{HandsetLink}
 use Rattle.sms_centre_rows.specs.declared.waiting.queued_part.QueuedPart.{QueuedPart}
-use Rattle.sms_centre_rows.specs.waiting.Keys.{load_key}
+use Rattle.sms_centre_rows.specs.waiting.Keys.{queued_key}
 use Rattle.sms_centre_rows.specs.waiting.Links.{Links, is_ready, line_of, read_for, turn_line}
 use Rattle.sms_link.specs.LinkTurn.{begun}
 use Rattle.sms_centre_rows.specs.waiting.References.{Allocations}
@@ -17,7 +17,7 @@ use Rattle.sms_centre_rows.specs.waiting.Waiting.{if_due, is_due, next, precedin
 use Rattle.sms_centre_spec.specs.declared.plan_error.PlanError.{PlanError}
 use Rattle.sms_centre_spec.specs.declared.plan_error.PlanError.TheVariants.{NoBody, NoMemory}
 use Rattle.sms_centre_spec.specs.Draft.{Draft, Store, on_links, waiting_in}
-use Rattle.sms_centre_spec.specs.Offering.{holder_of, is_made, offer_load, read_of, tpdu_of}
+use Rattle.sms_centre_spec.specs.Offering.{holder_of, is_made, offer_queued, read_of, tpdu_of}
 use Rattle.sms_centre_spec.proofs.SoundLinks.{line_of_handset}
 use Rattle.sms_centre_draft.specs.walks.Stepping.{offer_at}
 use Rattle.sms_centre_events.specs.offering.Refusing.{SucceedsOrRefuses, NoneRefused, UnlessMemory}
@@ -29,7 +29,7 @@ use Rattle.sms_centre_events.specs.offering.Stored.{made_tpdu}
 -- ---- the next one is offered
 
 one_way : (b : Bool) (line : HandsetLink) (waiting : List QueuedPart) (s : Store) (links : Links)
-    → cond b (offer_load line waiting (next s.moment waiting) s links) links ≡ offer_load line waiting (cond b (next s.moment waiting) None) s links
+    → cond b (offer_queued line waiting (next s.moment waiting) s links) links ≡ offer_queued line waiting (cond b (next s.moment waiting) None) s links
 one_way true line waiting s links = refl
 one_way false line waiting s links = refl
 
@@ -37,7 +37,7 @@ pub offer_is_next : (handset : List ℕ) (d : Draft) → offer_at handset d ≡ 
 offer_is_next handset d =
     let line : HandsetLink = line_of handset d.links.lines in
     ap (λ (links : Links). on_links links d)
-    (ap (λ (n : List ℕ). cond (is_ready line) (offer_load line (waiting_in n d.store) (next d.store.moment (waiting_in n d.store)) d.store d.links) d.links) (line_of_handset handset d.links.lines)
+    (ap (λ (n : List ℕ). cond (is_ready line) (offer_queued line (waiting_in n d.store) (next d.store.moment (waiting_in n d.store)) d.store d.links) d.links) (line_of_handset handset d.links.lines)
     ∙ one_way (is_ready line) line (waiting_in handset d.store) d.store d.links)
 
 next_waits : (now : ℕ) (l : QueuedPart) (ls : List QueuedPart) → next now ls ≡ Some l → Among l ls
@@ -77,11 +77,11 @@ still_by true key k links among = among
 still_by false key k links among = among_front k links.read (key ∷ []) among
 
 pub still_read : (l : QueuedPart) (s : Store) (k : ℕ) (links : Links) → Among k links.read → Among k (read_of l s links).read
-still_read l s k links among = still_by (is_made l s) (load_key l) k links among
+still_read l s k links among = still_by (is_made l s) (queued_key l) k links among
 
-pub is_read : (l : QueuedPart) (s : Store) (links : Links) → is_made l s ≡ false → Among (load_key l) (read_of l s links).read
+pub is_read : (l : QueuedPart) (s : Store) (links : Links) → is_made l s ≡ false → Among (queued_key l) (read_of l s links).read
 is_read l s links e =
-    subst (λ (b : Bool). Among (load_key l) (cond b links (read_for (load_key l) links)).read) (sym e) (among_last (load_key l) links.read)
+    subst (λ (b : Bool). Among (queued_key l) (cond b links (read_for (queued_key l) links)).read) (sym e) (among_last (queued_key l) links.read)
 
 offered_reads : (handset : List ℕ) (o : Option QueuedPart) (d : Draft) (k : ℕ) → Among k d.links.read → Among k (offer_next handset o d).links.read
 offered_reads handset None d k among = among
@@ -97,7 +97,7 @@ lines_by true key links = refl
 lines_by false key links = refl
 
 pub read_lines : (l : QueuedPart) (s : Store) (links : Links) → (read_of l s links).lines ≡ links.lines
-read_lines l s links = lines_by (is_made l s) (load_key l) links
+read_lines l s links = lines_by (is_made l s) (queued_key l) links
 
 clock_by : (b : Bool) (key : ℕ) (g : Allocations) (links : Links) (waiting : List ℕ → List QueuedPart) (p : QueuesOf) → RepresentsQueues g links waiting p → RepresentsQueues g (cond b links (read_for key links)) waiting p
 clock_by true key g links waiting p represents = represents
@@ -116,7 +116,7 @@ clock_by false key g links waiting p represents = record {
 }
 
 pub read_represented : (l : QueuedPart) (s : Store) (g : Allocations) (links : Links) (waiting : List ℕ → List QueuedPart) (p : QueuesOf) → RepresentsQueues g links waiting p → RepresentsQueues g (read_of l s links) waiting p
-read_represented l s g links waiting p represents = clock_by (is_made l s) (load_key l) g links waiting p represents
+read_represented l s g links waiting p represents = clock_by (is_made l s) (queued_key l) g links waiting p represents
 
 -- ---- how steps end
 

@@ -21,14 +21,14 @@ use Rattle.sms_centre_rows.specs.reports.Reports.{is_open_status, is_status, rep
 use Rattle.sms_centre_rows.specs.reports.SoundReports.{FitsOriginator}
 use Rattle.sms_centre_rows.proofs.reports.AllWaiting.{part_waits_at, report_found, report_waits_at}
 use Rattle.sms_centre_rows.proofs.reports.FewWaiting.{all_few}
-use Rattle.sms_centre_rows.specs.reports.Waiting.{report_load, report_wait, reports_to}
+use Rattle.sms_centre_rows.specs.reports.Waiting.{report_queued, report_wait, reports_to}
 use Rattle.sms_centre_reports.specs.open_reports.OpenReportsDraft.{is_made as report_is_made, tpdu_in, tpdu_made}
 use Rattle.sms_centre_messages.specs.message_index.Puts.{put_in, tpdu_of as tpdu_of_part, tpdu_put}
 use Rattle.sms_centre_rows.specs.declared.waiting.queued_part.QueuedPart.{QueuedPart}
 use Rattle.sms_centre_rows.specs.declared.waiting.progress.Progress.{Progress}
 use Rattle.sms_centre_rows.specs.declared.waiting.revision.Revision.{Revision}
 use Rattle.sms_centre_rows.specs.declared.waiting.revision.Revision.TheVariants.{Put, Amend, Remove}
-use Rattle.sms_centre_rows.specs.waiting.Keys.{load_key}
+use Rattle.sms_centre_rows.specs.waiting.Keys.{queued_key}
 use Rattle.sms_centre_rows.specs.waiting.Revisions.{amended, rows_after}
 use Rattle.sms_centre_rows.proofs.waiting.Amending.{row_at_amended, row_at_amended_other}
 use Rattle.sms_centre_spec.specs.Draft.{Store, messages_in, parts_in, priorities_in, reports_in, rows_of, waiting_in}
@@ -40,8 +40,8 @@ use Rattle.sms_centre_events.proofs.offering.Unput.{PutsNone, stood}
 
 -- ---- what waits is a part, or a status report
 
-there_load : (h : List ℕ) (l : QueuedPart) (s : Store) → IsConsistent s → Among l (waiting_in h s) → row_at load_key (load_key l) (waiting_in h s) ≡ Some l
-there_load h l s consistent among = among_found load_key l (waiting_in h s) (consistent.held.waiting h).keys among
+there_queued : (h : List ℕ) (l : QueuedPart) (s : Store) → IsConsistent s → Among l (waiting_in h s) → row_at queued_key (queued_key l) (waiting_in h s) ≡ Some l
+there_queued h l s consistent among = among_found queued_key l (waiting_in h s) (consistent.held.waiting h).keys among
 
 part_there : (h : List ℕ) (l : QueuedPart) (s : Store) → IsConsistent s → Among l (waiting_in h s) → (l.number == 0) ≡ false → (p : PartRow) × (part_at l.id l.number (parts_in s) ≡ Some p)
 part_there h l s consistent among nonzero = of (part_at l.id l.number (parts_in s)) refl
@@ -50,7 +50,7 @@ part_there h l s consistent among nonzero = of (part_at l.id l.number (parts_in 
     waits =
         let ne = eqb-false l.number 0 nonzero in
         sym (part_waits_at h (messages_in s) (priorities_in s) (parts_in s) (reports_in s) l.id l.number consistent.held.parts (omega (arith, ne))
-        (all_few h (messages_in s) (priorities_in s) (parts_in s) (reports_in s) consistent.held.parts l among)) ∙ there_load h l s consistent among
+        (all_few h (messages_in s) (priorities_in s) (parts_in s) (reports_in s) consistent.held.parts l among)) ∙ there_queued h l s consistent among
 
     of : (o : Option PartRow) → part_at l.id l.number (parts_in s) ≡ o → (p : PartRow) × (part_at l.id l.number (parts_in s) ≡ Some p)
     of None e = let none : None ≡ Some l = sym (ap (λ (o : Option PartRow). part_wait h (messages_in s) (priorities_in s) o) e) ∙ waits in absurd cc
@@ -62,7 +62,7 @@ report_there h l s consistent among is = of (report_of l.id (reports_in s)) refl
     waits : report_wait h (messages_in s) (report_of l.id (reports_in s)) ≡ Some l
     waits =
         sym (report_waits_at h (messages_in s) (priorities_in s) (parts_in s) (reports_in s) l.id consistent.held.parts consistent.held.alone)
-        ∙ ap (λ (n : ℕ). row_at load_key (pair_key l.id n) (waiting_in h s)) (sym (eqb-true l.number 0 is)) ∙ there_load h l s consistent among
+        ∙ ap (λ (n : ℕ). row_at queued_key (pair_key l.id n) (waiting_in h s)) (sym (eqb-true l.number 0 is)) ∙ there_queued h l s consistent among
 
     told : (r : ReportRow) (m : Option MessageRow) → reports_to h r m ≡ true → is_status r.kind ≡ true
     told r None e = absurd cc
@@ -73,7 +73,7 @@ report_there h l s consistent among is = of (report_of l.id (reports_in s)) refl
     of (Some r) e =
         let one : report_wait h (messages_in s) (Some r) ≡ Some l = sym (ap (λ (o : Option ReportRow). report_wait h (messages_in s) o) e) ∙ waits in
         let open_one : reports_to h r (message_at r.id (messages_in s)) ≡ true =
-        cond_both (reports_to h r (message_at r.id (messages_in s))) (Some (report_load r)) None (λ x. x ≡ Some l → reports_to h r (message_at r.id (messages_in s)) ≡ true) (λ t f. t) (λ t f. absurd cc) one in
+        cond_both (reports_to h r (message_at r.id (messages_in s))) (Some (report_queued r)) None (λ x. x ≡ Some l → reports_to h r (message_at r.id (messages_in s)) ≡ true) (λ t f. t) (λ t f. absurd cc) one in
         (r, (e, told r (message_at r.id (messages_in s)) open_one))
 
 -- ---- a part that the event put
@@ -129,16 +129,16 @@ made_by : (key : ℕ) (news : List (Revision PartRow)) (base : List PartRow) (p 
 made_by key news base p there None e = refl
 made_by key news base p there (Some q) e = ap (λ (t : List ℕ). Some t) (sym (put_tpdu key news base p q e there))
 
-pub part_made : (h : List ℕ) (l : QueuedPart) (s : Store) → IsConsistent s → Among l (waiting_in h s) → (l.number == 0) ≡ false → tpdu_put (load_key l) s.messages.parts.news ≡ made_tpdu l s
+pub part_made : (h : List ℕ) (l : QueuedPart) (s : Store) → IsConsistent s → Among l (waiting_in h s) → (l.number == 0) ≡ false → tpdu_put (queued_key l) s.messages.parts.news ≡ made_tpdu l s
 part_made h l s consistent among nonzero =
     let there = part_there h l s consistent among nonzero in
     let news = s.messages.parts.news in
     let octets : tpdu_of l s ≡ there.0.tpdu =
     cond-false (l.number == 0) (report_tpdu (report_of l.id (reports_in s))) (part_tpdu (part_at l.id l.number (parts_in s))) nonzero ∙ ap part_tpdu there.1 in
-    let is : is_made l s ≡ is_some (put_in (load_key l) news) =
-    cond-false (l.number == 0) (puts_report l.id s.reports.news) (puts_part (load_key l) news) nonzero ∙ puts_is (load_key l) news in
-    made_by (load_key l) news s.messages.parts.base there.0 there.1 (put_in (load_key l) news) refl
-    ∙ sym (ap (λ (b : Bool). cond b (Some (tpdu_of l s)) None) is ∙ ap (λ (t : List ℕ). cond (is_some (put_in (load_key l) news)) (Some t) None) octets)
+    let is : is_made l s ≡ is_some (put_in (queued_key l) news) =
+    cond-false (l.number == 0) (puts_report l.id s.reports.news) (puts_part (queued_key l) news) nonzero ∙ puts_is (queued_key l) news in
+    made_by (queued_key l) news s.messages.parts.base there.0 there.1 (put_in (queued_key l) news) refl
+    ∙ sym (ap (λ (b : Bool). cond b (Some (tpdu_of l s)) None) is ∙ ap (λ (t : List ℕ). cond (is_some (put_in (queued_key l) news)) (Some t) None) octets)
 
 -- ---- a status report that the event made
 
@@ -157,7 +157,7 @@ report_made_is l s is =
     let octets : tpdu_of l s ≡ tpdu_in (report_of l.id (reports_in s)) =
     cond-true (l.number == 0) (report_tpdu (report_of l.id (reports_in s))) (part_tpdu (part_at l.id l.number (parts_in s))) is ∙ sym (same_octets (report_of l.id (reports_in s))) in
     let made : is_made l s ≡ report_is_made l.id s.reports.news =
-    cond-true (l.number == 0) (puts_report l.id s.reports.news) (puts_part (load_key l) s.messages.parts.news) is ∙ sym (report_puts l.id s.reports.news) in
+    cond-true (l.number == 0) (puts_report l.id s.reports.news) (puts_part (queued_key l) s.messages.parts.news) is ∙ sym (report_puts l.id s.reports.news) in
     sym (ap (λ (b : Bool). cond b (Some (tpdu_of l s)) None) made ∙ ap (λ (t : List ℕ). cond (report_is_made l.id s.reports.news) (Some t) None) octets)
 
 -- ---- what it did not make stands in the store
@@ -189,37 +189,37 @@ reports_unput id kind (Amend n progress ∷ news) e = reports_unput id kind news
 reports_unput id kind (Remove n ∷ news) e = reports_unput id kind news e
 
 part_stored : (body : ℕ → Option (List ℕ)) (h : List ℕ) (l : QueuedPart) (s : Store) → Stores body s → IsConsistent s → Among l (waiting_in h s) → (l.number == 0) ≡ false → is_made l s ≡ false
-    → body (load_key l) ≡ Some (tpdu_of l s)
+    → body (queued_key l) ≡ Some (tpdu_of l s)
 part_stored body h l s stored consistent among nonzero unmade =
     let there = part_there h l s consistent among nonzero in
     let p = there.0 in
-    let key : part_key p ≡ load_key l = found_key part_key (load_key l) p (parts_in s) there.1 in
-    let not_put : puts_part (load_key l) s.messages.parts.news ≡ false =
-    sym (cond-false (l.number == 0) (puts_report l.id s.reports.news) (puts_part (load_key l) s.messages.parts.news) nonzero) ∙ unmade in
-    let row = stood part_key part_reaching (IsPartRow (load_key l) p.tpdu) (λ q x is. is) s.messages.parts.news s.messages.parts.base p
-    (parts_unput (load_key l) p.tpdu s.messages.parts.news not_put) (found_among part_key (load_key l) p (parts_in s) there.1) (key, refl) in
+    let key : part_key p ≡ queued_key l = found_key part_key (queued_key l) p (parts_in s) there.1 in
+    let not_put : puts_part (queued_key l) s.messages.parts.news ≡ false =
+    sym (cond-false (l.number == 0) (puts_report l.id s.reports.news) (puts_part (queued_key l) s.messages.parts.news) nonzero) ∙ unmade in
+    let row = stood part_key part_reaching (IsPartRow (queued_key l) p.tpdu) (λ q x is. is) s.messages.parts.news s.messages.parts.base p
+    (parts_unput (queued_key l) p.tpdu s.messages.parts.news not_put) (found_among part_key (queued_key l) p (parts_in s) there.1) (key, refl) in
     ap body (sym row.1.1.0) ∙ stored.parts row.0 row.1.0 ∙ ap (λ (t : List ℕ). Some t)
     (row.1.1.1 ∙ sym (cond-false (l.number == 0) (report_tpdu (report_of l.id (reports_in s))) (part_tpdu (part_at l.id l.number (parts_in s))) nonzero ∙ ap part_tpdu there.1))
 
 report_stored : (body : ℕ → Option (List ℕ)) (h : List ℕ) (l : QueuedPart) (s : Store) → Stores body s → IsConsistent s → Among l (waiting_in h s) → (l.number == 0) ≡ true → is_made l s ≡ false
-    → body (load_key l) ≡ Some (tpdu_of l s)
+    → body (queued_key l) ≡ Some (tpdu_of l s)
 report_stored body h l s stored consistent among is unmade =
     let there = report_there h l s consistent among is in
     let r = there.0 in
     let found = report_found l.id r (reports_in s) there.1.0 in
     let not_put : puts_report l.id s.reports.news ≡ false =
-    sym (cond-true (l.number == 0) (puts_report l.id s.reports.news) (puts_part (load_key l) s.messages.parts.news) is) ∙ unmade in
+    sym (cond-true (l.number == 0) (puts_report l.id s.reports.news) (puts_part (queued_key l) s.messages.parts.news) is) ∙ unmade in
     let row = stood report_key report_reaching (IsReportRow l.id r.kind) (λ q x is. is) s.reports.news s.reports.base r
     (reports_unput l.id r.kind s.reports.news not_put) found.0 (found.1, refl) in
-    let key : load_key l ≡ pair_key row.0.id 0 = ap (λ (n : ℕ). pair_key l.id n) (eqb-true l.number 0 is) ∙ ap (λ (i : ℕ). pair_key i 0) (sym row.1.1.0) in
+    let key : queued_key l ≡ pair_key row.0.id 0 = ap (λ (n : ℕ). pair_key l.id n) (eqb-true l.number 0 is) ∙ ap (λ (i : ℕ). pair_key i 0) (sym row.1.1.0) in
     ap body key ∙ stored.reports row.0 row.1.0 (ap (λ (k : ReportKind). is_status k) row.1.1.1 ∙ there.1.1) ∙ ap (λ (t : List ℕ). Some t)
     (ap (λ (k : ReportKind). status_tpdu k) row.1.1.1
     ∙ sym (cond-true (l.number == 0) (report_tpdu (report_of l.id (reports_in s))) (part_tpdu (part_at l.id l.number (parts_in s))) is ∙ ap report_tpdu there.1.0))
 
-pub load_stored : (body : ℕ → Option (List ℕ)) (h : List ℕ) (l : QueuedPart) (s : Store) → Stores body s → IsConsistent s → Among l (waiting_in h s) → is_made l s ≡ false → body (load_key l) ≡ Some (tpdu_of l s)
-load_stored body h l s stored consistent among unmade = by (l.number == 0) refl
+pub queued_stored : (body : ℕ → Option (List ℕ)) (h : List ℕ) (l : QueuedPart) (s : Store) → Stores body s → IsConsistent s → Among l (waiting_in h s) → is_made l s ≡ false → body (queued_key l) ≡ Some (tpdu_of l s)
+queued_stored body h l s stored consistent among unmade = by (l.number == 0) refl
   where
-    by : (b : Bool) → (l.number == 0) ≡ b → body (load_key l) ≡ Some (tpdu_of l s)
+    by : (b : Bool) → (l.number == 0) ≡ b → body (queued_key l) ≡ Some (tpdu_of l s)
     by true e = report_stored body h l s stored consistent among e unmade
     by false e = part_stored body h l s stored consistent among e unmade
 
@@ -243,7 +243,7 @@ tpdu_short h l s sound consistent among = by (l.number == 0) refl
         (fits_status there.0.kind is.message.0.originator is.message.0 there.0 there.1.1 is.message.1.1.1)
     by false e =
         let there = part_there h l s consistent among e in
-        let is = sound.messages.each_part there.0 (found_among part_key (load_key l) there.0 (parts_in s) there.1) in
+        let is = sound.messages.each_part there.0 (found_among part_key (queued_key l) there.0 (parts_in s) there.1) in
         subst (λ (t : List ℕ). length t ≤ 200)
         (sym (cond-false (l.number == 0) (report_tpdu (report_of l.id (reports_in s))) (part_tpdu (part_at l.id l.number (parts_in s))) e ∙ ap part_tpdu there.1))
         is.message.1.1.1.fits

@@ -5,7 +5,7 @@ use Rattle.sms_centre_rows.specs.declared.waiting.queued_part.QueuedPart.{Queued
 use Rattle.sms_centre_rows.specs.waiting.Links.{is_ready, line_of, turn_line}
 use Rattle.sms_centre_rows.specs.waiting.Waiting.{next}
 use Rattle.sms_centre_spec.specs.Draft.{Draft, on_links, waiting_in}
-use Rattle.sms_centre_spec.specs.Offering.{holder_of, offer_load, read_of}
+use Rattle.sms_centre_spec.specs.Offering.{holder_of, offer_queued, read_of}
 
 -- the next that is due for it, if its line is ready
 abbrev pub next_for : List ℕ → Draft → Option QueuedPart
@@ -13,7 +13,7 @@ next_for handset d = if is_ready (line_of handset d.links.lines) then next d.sto
 
 -- that one is offered
 abbrev pub offer_next : List ℕ → Option QueuedPart → Draft → Draft
-offer_next handset o d = on_links (offer_load (line_of handset d.links.lines) (waiting_in handset d.store) o d.store d.links) d
+offer_next handset o d = on_links (offer_queued (line_of handset d.links.lines) (waiting_in handset d.store) o d.store d.links) d
 
 -- what waits is sent in that unit, its TPDU read before or made
 abbrev pub offer_in : List ℕ → List ℕ → QueuedPart → Draft → Draft

@@ -31,31 +31,31 @@ fn next_for(draft: &CentreDraft<'_>, handset: &Digits) -> Option<QueuedPart>
 }
 
 // Whether another is due beside it.
-fn has_more(draft: &CentreDraft<'_>, handset: &Digits, load: &QueuedPart) -> bool
+fn has_more(draft: &CentreDraft<'_>, handset: &Digits, queued: &QueuedPart) -> bool
     requires digits { AllDigits handset.now }
-    ensures { (d : Draft) → Represents d draft.now → result ≡ waits_beside d.store.moment load.now (waiting_in handset.now d.store) }
+    ensures { (d : Draft) → Represents d draft.now → result ≡ waits_beside d.store.moment queued.now (waiting_in handset.now d.store) }
 {
-    draft.queues.waits_beside(handset, draft.now(), load)
+    draft.queues.waits_beside(handset, draft.now(), queued)
 }
 
 // That one is offered.
-fn offer_load<B: BodyKeep>(
+fn offer_queued<B: BodyKeep>(
     draft: &mut CentreDraft<'_>,
     bodies: &mut B,
     centre: &[u8],
     handset: Digits,
-    load: &QueuedPart,
+    queued: &QueuedPart,
 ) -> Result<(), PlanError>
     requires digits { AllDigits handset }
     ensures outcome { (d : Draft) (rows : B.Rows) → Represents d draft.old → CanOffer B.body_of rows centre.now d.store
-        → Among load.now (waiting_in handset d.store)
-        → ReadingOutcome (λ _. Represents (offer_next handset (Some load.now) d) draft.new) (offer_next handset (Some load.now) d).links.read rows
+        → Among queued.now (waiting_in handset d.store)
+        → ReadingOutcome (λ _. Represents (offer_next handset (Some queued.now) d) draft.new) (offer_next handset (Some queued.now) d).links.read rows
         (B.state bodies.old) (B.state bodies.new) result }
     ensures before { WasHonest (B.state bodies.old) (B.state bodies.new) }
 {
-    let more = has_more(draft, &handset, load);
-    match tpdu(draft, bodies, load) {
-        Ok(tpdu) => send(draft, centre, handset, load, more, tpdu),
+    let more = has_more(draft, &handset, queued);
+    match tpdu(draft, bodies, queued) {
+        Ok(tpdu) => send(draft, centre, handset, queued, more, tpdu),
         Err(error) => Err(error),
     }
 }
@@ -74,7 +74,7 @@ fn offer_to<B: BodyKeep>(
     ensures before { WasHonest (B.state bodies.old) (B.state bodies.new) }
 {
     match next_for(draft, &handset) {
-        Some(load) => offer_load(draft, bodies, centre, handset, &load),
+        Some(queued) => offer_queued(draft, bodies, centre, handset, &queued),
         None => Ok(()),
     }
 }

@@ -29,31 +29,31 @@ fn read<B: BodyKeep>(bodies: &mut B, key: Key) -> Result<Octets, PlanError>
 }
 
 // The TPDU of what waits, if the event made it.
-fn made<'w>(draft: &'w CentreDraft<'_>, load: &QueuedPart) -> Option<&'w [u8]>
-    ensures { (d : Draft) (handset : List ℕ) → Represents d draft.now → Among load.now (waiting_in handset d.store)
-        → option_copied result ≡ made_tpdu load.now d.store }
+fn made<'w>(draft: &'w CentreDraft<'_>, queued: &QueuedPart) -> Option<&'w [u8]>
+    ensures { (d : Draft) (handset : List ℕ) → Represents d draft.now → Among queued.now (waiting_in handset d.store)
+        → option_copied result ≡ made_tpdu queued.now d.store }
 {
-    if load.number == 0 {
-        return draft.reports.tpdu_made(load.id);
+    if queued.number == 0 {
+        return draft.reports.tpdu_made(queued.id);
     }
-    draft.messages.tpdu_put(load.id, load.number)
+    draft.messages.tpdu_put(queued.id, queued.number)
 }
 
 /// The TPDU of what waits for a handset: the event made it, or it is read.
 pub(crate) fn tpdu<B: BodyKeep>(
     draft: &CentreDraft<'_>,
     bodies: &mut B,
-    load: &QueuedPart,
+    queued: &QueuedPart,
 ) -> Result<Octets, PlanError>
     ensures outcome { (d : Draft) (rows : B.Rows) (centre handset : List ℕ) → Represents d draft.now
-        → Among load.now (waiting_in handset d.store) → CanOffer B.body_of rows centre d.store
-        → ReadingOutcome (λ octets. octets ≡ tpdu_of load.now d.store) (read_of load.now d.store d.links).read rows
+        → Among queued.now (waiting_in handset d.store) → CanOffer B.body_of rows centre d.store
+        → ReadingOutcome (λ octets. octets ≡ tpdu_of queued.now d.store) (read_of queued.now d.store d.links).read rows
         (B.state bodies.old) (B.state bodies.new) result }
     ensures before { WasHonest (B.state bodies.old) (B.state bodies.new) }
 {
-    match made(draft, load) {
+    match made(draft, queued) {
         Some(octets) => copied(draft, octets),
-        None => read(bodies, load.key()),
+        None => read(bodies, queued.key()),
     }
 }
 

@@ -4,7 +4,7 @@ ghost use Rattle.sms_relay.specs.RelayGrammar.{IsCentre, IsTpdu, data_down};
 ghost use Rattle.sms_rows.specs.table.Keys.{AllDigits};
 ghost use Rattle.sms_tpdu.specs.MoreMessages.{with_more_messages};
 ghost use Rattle.sms_centre_spec.specs.Draft.{Draft};
-ghost use Rattle.sms_centre_spec.specs.Offering.{holder_of as holder_of_load};
+ghost use Rattle.sms_centre_spec.specs.Offering.{holder_of as holder_of_queued};
 ghost use Rattle.sms_centre_events.specs.offering.Refusing.{UnlessMemory};
 ghost use Rattle.sms_centre_events.specs.offering.Offered.{offer_in};
 ghost use Rattle.sms_centre_draft.specs.CentreDraft.{Represents};
@@ -72,12 +72,12 @@ fn unit(
 }
 
 // Number 0 is a status report.
-fn holder_of(load: &QueuedPart) -> Holder
-    ensures { result ≡ holder_of_load load.now }
+fn holder_of(queued: &QueuedPart) -> Holder
+    ensures { result ≡ holder_of_queued queued.now }
 {
-    match load.number {
-        0 => Holder::Report(load.id),
-        number => Holder::Part(load.id, number),
+    match queued.number {
+        0 => Holder::Report(queued.id),
+        number => Holder::Part(queued.id, number),
     }
 }
 
@@ -85,34 +85,34 @@ fn holder_of(load: &QueuedPart) -> Holder
 fn begun(
     draft: &mut CentreDraft<'_>,
     handset: Digits,
-    load: &QueuedPart,
+    queued: &QueuedPart,
     unit: &[u8],
 ) -> Result<(), AllocError>
     requires digits { AllDigits handset }
     requires some { 0 < length unit.now }
     requires fits { length unit.now ≤ 248 }
-    ensures { (d : Draft) → Represents d draft.old → OnOk result (Represents (offer_in handset unit.now load.now d) draft.new) }
+    ensures { (d : Draft) → Represents d draft.old → OnOk result (Represents (offer_in handset unit.now queued.now d) draft.new) }
 {
     let now = draft.now();
-    let holder = holder_of(load);
+    let holder = holder_of(queued);
     draft
         .queues
-        .begin(handset, now, load.reference, holder, unit)?;
+        .begin(handset, now, queued.reference, holder, unit)?;
     Ok(())
 }
 
 fn begin(
     draft: &mut CentreDraft<'_>,
     handset: Digits,
-    load: &QueuedPart,
+    queued: &QueuedPart,
     unit: &[u8],
 ) -> Result<(), PlanError>
     requires digits { AllDigits handset }
     requires some { 0 < length unit.now }
     requires fits { length unit.now ≤ 248 }
-    ensures { (d : Draft) → Represents d draft.old → UnlessMemory (λ _. Represents (offer_in handset unit.now load.now d) draft.new) result }
+    ensures { (d : Draft) → Represents d draft.old → UnlessMemory (λ _. Represents (offer_in handset unit.now queued.now d) draft.new) result }
 {
-    match begun(draft, handset, load, unit) {
+    match begun(draft, handset, queued, unit) {
         Ok(()) => Ok(()),
         Err(_) => Err(PlanError::NoMemory),
     }
@@ -123,17 +123,17 @@ pub(crate) fn send(
     draft: &mut CentreDraft<'_>,
     centre: &[u8],
     handset: Digits,
-    load: &QueuedPart,
+    queued: &QueuedPart,
     more: bool,
     tpdu: Octets,
 ) -> Result<(), PlanError>
     requires digits { AllDigits handset }
     ensures { (d : Draft) → Represents d draft.old → 2 ≤ length centre.now → length centre.now ≤ 11 → length tpdu ≤ 200
-        → UnlessMemory (λ _. Represents (offer_in handset (data_down load.now.reference centre.now (with_more_messages more tpdu))
-        load.now d) draft.new) result }
+        → UnlessMemory (λ _. Represents (offer_in handset (data_down queued.now.reference centre.now (with_more_messages more tpdu))
+        queued.now d) draft.new) result }
 {
-    match unit(draft.alloc(), load.reference, centre, tpdu, more) {
-        Ok(unit) => begin(draft, handset, load, unit.as_slice()),
+    match unit(draft.alloc(), queued.reference, centre, tpdu, more) {
+        Ok(unit) => begin(draft, handset, queued, unit.as_slice()),
         Err(error) => Err(error),
     }
 }

@@ -17,7 +17,7 @@ use Rattle.sms_centre_rows.specs.messages.Messages.{id_after, is_pending, messag
 use Rattle.sms_centre_rows.specs.messages.PartEntries.{entry_key}
 use Rattle.sms_centre_messages.specs.declared.message_index.message_entry.MessageEntry.{MessageEntry}
 use Rattle.sms_centre_messages.specs.message_index.Entries.{AreEntries, FoundAs, IsEntry, NamesStay, NamesOf, UsesNames, message_entry_key}
-use Rattle.sms_centre_messages.specs.message_index.MessageIndex.{Applies, Fits, HasRoomFor, Represents, IsStaleFirst, MessageIndexOf, Matches, Notes, PutsIn, MessageIndexReserveOf, Takes, deadline_of, is_ended, past_entry_id, past_id}
+use Rattle.sms_centre_messages.specs.message_index.MessageIndex.{Applies, FitsTheMessages, HasRoomFor, Represents, IsStaleFirst, MessageIndexOf, Matches, Notes, PutsIn, MessageIndexReserveOf, TakesInMessages, deadline_of, is_ended, past_entry_id, past_id}
 use Rattle.sms_centre_messages.proofs.message_index.Entries.{found_as, preserved_entries, put_entries, same_key, without_entries}
 
 -- a message comes: its deadline was noted, its names are kept, and its entry stands there
@@ -199,7 +199,7 @@ holds_nothing k no_messages no_parts = record {
   part_keys = tt;
 }
 
-pub room_taken : (s : MessageIndexReserveOf) (n : ℕ) (old new : MessageIndexOf) → Fits s n old → Takes s old new → HasRoomFor n new
+pub room_taken : (s : MessageIndexReserveOf) (n : ℕ) (old new : MessageIndexOf) → FitsTheMessages s n old → TakesInMessages s old new → HasRoomFor n new
 room_taken s n old new fits takes =
     let rows : length new.messages.rows ≡ length old.messages.rows = ap (λ (es : List MessageEntry). length es) takes.messages in
     record {
@@ -209,7 +209,7 @@ room_taken s n old new fits takes =
       deadlines = omega (arith, fits.deadlines, takes.deadlines_len, takes.deadlines_room);
     }
 
-pub holds_taken : (s : MessageIndexReserveOf) (old new : MessageIndexOf) (ms : List MessageRow) (ps others : List PartRow) → Takes s old new → Represents old ms ps → Matches s ps others → Represents new ms others
+pub holds_taken : (s : MessageIndexReserveOf) (old new : MessageIndexOf) (ms : List MessageRow) (ps others : List PartRow) → TakesInMessages s old new → Represents old ms ps → Matches s ps others → Represents new ms others
 holds_taken s old new ms ps others takes h matches = record {
   messages = subst (λ (es : List MessageEntry). AreEntries new.names es ms) (sym takes.messages)
       (preserved_entries old.names new.names (record { numbers = takes.numbers; accounts = takes.accounts }) old.messages.rows ms h.messages);

@@ -22,7 +22,7 @@ use Rattle.sms_centre_rows.specs.waiting.Revisions.{all_revised, amended, revise
 use Rattle.sms_centre_messages.specs.declared.references.message_ends.MessageEnds.{MessageEnds}
 use Rattle.sms_centre_messages.specs.references.ReferenceIndex.{ReferenceIndexOf, Represents, submitted_with, submitted_with_any, total}
 use Rattle.sms_centre_messages.specs.references.Keys.{is_same, key_of, pair_of}
-use Rattle.sms_centre_messages.specs.references.Moves.{AreMoves, ArePartMoves, ArePartRemovals, AreRemovals, Fits, HasRoomFor, IsMove, IsPartMove, IsPartRemoval, IsRemoval, ReferenceIndexReserveOf, Takes}
+use Rattle.sms_centre_messages.specs.references.Moves.{AreMoves, ArePartMoves, ArePartRemovals, AreRemovals, FitsTheReferences, HasRoomFor, IsMove, IsPartMove, IsPartRemoval, IsRemoval, ReferenceIndexReserveOf, TakesInReferences}
 use Rattle.sms_centre_messages.proofs.references.Written.{same_key, same_here}
 
 -- ---- memory
@@ -49,7 +49,7 @@ module _ {K V S : Type 0} where
   pub same_spare : (new old : IndexMap K V S) → new ≡ old → spare new ≡ spare old
   same_spare new old e = ap (λ (m : IndexMap K V S). spare m) e
 
-pub room_taken : (s : ReferenceIndexReserveOf) (messages parts : ℕ) (old new : ReferenceIndexOf) → Fits s messages parts old → Takes s old new → HasRoomFor messages parts new
+pub room_taken : (s : ReferenceIndexReserveOf) (messages parts : ℕ) (old new : ReferenceIndexOf) → FitsTheReferences s messages parts old → TakesInReferences s old new → HasRoomFor messages parts new
 room_taken s messages parts old new fits takes = record {
   held = omega (arith, fits.held, takes.held_room);
   own = omega (arith, fits.own, takes.own_room);
@@ -58,7 +58,7 @@ room_taken s messages parts old new fits takes = record {
   pending = omega (arith, fits.pending, takes.pending_room);
 }
 
-pub holds_taken : (s : ReferenceIndexReserveOf) (old new : ReferenceIndexOf) (ms : List MessageRow) (ps : List PartRow) → Takes s old new → Represents old ms ps → Represents new ms ps
+pub holds_taken : (s : ReferenceIndexReserveOf) (old new : ReferenceIndexOf) (ms : List MessageRow) (ps : List PartRow) → TakesInReferences s old new → Represents old ms ps → Represents new ms ps
 holds_taken s old new ms ps takes h = record {
   held = λ key. takes.held key ∙ h.held key;
   own = λ key. takes.own key ∙ h.own key;

@@ -4,7 +4,7 @@ use Rattle.std.specs.Option.{option_map}
 use Rattle.sms_base.specs.Among.{Among}
 use Rattle.sms_rows.specs.expiry.Deadlines.{DeadlinesOf, first_of}
 use Rattle.sms_rows.specs.declared.expiry.deadline.Deadline.{Deadline}
-use Rattle.sms_rows.specs.interning.Interning.{Keeps, Makes, Suffices}
+use Rattle.sms_rows.specs.interning.Interning.{Keeps, TookNumbers, Suffices}
 use Rattle.sms_rows.specs.declared.table.change.Change.{Change}
 use Rattle.sms_rows.specs.declared.table.change.Change.TheVariants.{Put}
 use Rattle.sms_rows.specs.table.TableDraft.{FitsIn, TablePlanOf}
@@ -90,7 +90,7 @@ pub record MessageIndexReserveOf : Type 0 where
   pub deadlines : ℕ
 
 -- it is memory for so many changes of messages, and those of parts
-pub record Fits (s : MessageIndexReserveOf) (n : ℕ) (k : MessageIndexOf) : Type 0 where
+pub record FitsTheMessages (s : MessageIndexReserveOf) (n : ℕ) (k : MessageIndexOf) : Type 0 where
   pub parts : FitsIn s.parts k.parts
   pub messages : length k.messages.rows + n ≤ max k.messages.capacity s.messages
   pub numbers : Suffices (2 * n) s.numbers k.names.numbers
@@ -139,11 +139,11 @@ abbrev pub past_entry_id : ℕ → MessageEntry → Option ℕ
 past_entry_id now e = if is_none e.state && nat_le e.limit now then Some e.id else None
 
 -- the memory was taken in, and the parts were changed
-pub record Takes (s : MessageIndexReserveOf) (old new : MessageIndexOf) : Type 0 where
+pub record TakesInMessages (s : MessageIndexReserveOf) (old new : MessageIndexOf) : Type 0 where
   pub numbers : Keeps old.names.numbers.values new.names.numbers.values
-  pub numbers_room : Makes s.numbers old.names.numbers new.names.numbers
+  pub numbers_room : TookNumbers s.numbers old.names.numbers new.names.numbers
   pub accounts : Keeps old.names.accounts.values new.names.accounts.values
-  pub accounts_room : Makes s.accounts old.names.accounts new.names.accounts
+  pub accounts_room : TookNumbers s.accounts old.names.accounts new.names.accounts
   pub messages : new.messages.rows ≡ old.messages.rows
   pub messages_room : max old.messages.capacity s.messages ≤ new.messages.capacity
   pub deadlines : (deadline : Deadline) → Among deadline old.deadlines.items → Among deadline new.deadlines.items

@@ -39,8 +39,8 @@ abbrev pub Suffices : ℕ → ℕ → CountsOf → Type 0
 Suffices extra reserve counts = length counts.entries + extra ≤ max (length counts.entries + counts.room) reserve
 
 -- it took the memory in
-abbrev pub Makes : ℕ → CountsOf → CountsOf → Type 0
-Makes reserve old new = max (length old.entries + old.room) reserve ≤ length old.entries + new.room
+abbrev pub TookCounts : ℕ → CountsOf → CountsOf → Type 0
+TookCounts reserve old new = max (length old.entries + old.room) reserve ≤ length old.entries + new.room
 
 -- it takes at most one place more
 abbrev pub UsesOne : CountsOf → CountsOf → Type 0

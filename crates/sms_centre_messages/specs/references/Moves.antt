@@ -12,7 +12,7 @@ use Rattle.sms_centre_rows.specs.declared.waiting.revision.Revision.TheVariants.
 use Rattle.sms_centre_rows.specs.waiting.Revisions.{revised}
 use Rattle.sms_centre_messages.specs.declared.references.message_ends.MessageEnds.{MessageEnds}
 use Rattle.sms_centre_messages.specs.references.ReferenceIndex.{AreFew, ReferenceIndexOf, IsNewest}
-use Rattle.sms_centre_messages.specs.references.Counts.{Makes, Suffices, counted}
+use Rattle.sms_centre_messages.specs.references.Counts.{TookCounts, Suffices, counted}
 
 -- ---- changes of messages
 
@@ -72,7 +72,7 @@ pub record ReferenceIndexReserveOf : Type 0 where
   pub pending : ℕ
 
 -- it is memory for so many changes of messages and of parts
-pub record Fits (s : ReferenceIndexReserveOf) (messages parts : ℕ) (k : ReferenceIndexOf) : Type 0 where
+pub record FitsTheReferences (s : ReferenceIndexReserveOf) (messages parts : ℕ) (k : ReferenceIndexOf) : Type 0 where
   pub held : Suffices messages s.held k.held
   pub own : Suffices parts s.own k.own
   pub barred : Suffices (messages + parts) s.barred k.barred
@@ -88,14 +88,14 @@ pub record HasRoomFor (messages parts : ℕ) (k : ReferenceIndexOf) : Type 0 whe
   pub pending : messages ≤ k.pending.room
 
 -- the memory was taken in
-pub record Takes (s : ReferenceIndexReserveOf) (old new : ReferenceIndexOf) : Type 0 where
+pub record TakesInReferences (s : ReferenceIndexReserveOf) (old new : ReferenceIndexOf) : Type 0 where
   pub held : (key : MessageEnds) → counted key new.held ≡ counted key old.held
-  pub held_room : Makes s.held old.held new.held
+  pub held_room : TookCounts s.held old.held new.held
   pub own : (key : MessageEnds) → counted key new.own ≡ counted key old.own
-  pub own_room : Makes s.own old.own new.own
+  pub own_room : TookCounts s.own old.own new.own
   pub barred : (key : MessageEnds) → counted key new.barred ≡ counted key old.barred
-  pub barred_room : Makes s.barred old.barred new.barred
+  pub barred_room : TookCounts s.barred old.barred new.barred
   pub last : (key : MessageEnds) → counted key new.last ≡ counted key old.last
-  pub last_room : Makes s.last old.last new.last
+  pub last_room : TookCounts s.last old.last new.last
   pub pending : (key : MessageEnds) → counted key new.pending ≡ counted key old.pending
-  pub pending_room : Makes s.pending old.pending new.pending
+  pub pending_room : TookCounts s.pending old.pending new.pending

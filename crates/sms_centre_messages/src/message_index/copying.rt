@@ -7,8 +7,8 @@ use sms_centre_rows::messages::MessageRow;
 use sms_rows::table::Change;
 use std::alloc::{AllocError, Global};
 
-// The originator, in memory of its own.
-fn copy_of_originator(alloc: Global, originator: &Originator) -> Result<Originator, AllocError>
+/// The originator, in memory of its own.
+pub fn copy_of_originator(alloc: Global, originator: &Originator) -> Result<Originator, AllocError>
     ensures { IfOk result (λ copy. copy ≡ originator.now) }
 {
     match originator {

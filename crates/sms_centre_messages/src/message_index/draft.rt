@@ -1,11 +1,12 @@
 //! Messages, parts and priorities in the middle of an event.
 ghost use Rattle.std.specs.Prelude.{◌≡◌, [], ℕ, List, Some, OnOk, IfOk, length, option_copied};
-ghost use Rattle.sms_centre_messages.specs.message_index.MessageIndex.{Fits, Represents, DraftRepresents, found_part, opened};
+ghost use Rattle.sms_centre_messages.specs.message_index.MessageIndex.{FitsTheMessages, Represents, DraftRepresents, found_part, opened};
 ghost use Rattle.sms_centre_messages.specs.message_index.Puts.{tpdu_put};
 ghost use Rattle.sms_centre_spec.specs.forgetting.Forget.{message_out, part_out, parts_out, without_message, without_part, without_priority};
 ghost use Rattle.sms_centre_messages.specs.message_index.Settling.{IsSettled};
 ghost use Rattle.sms_rows.specs.table.Keys.{pair_key};
-ghost use Rattle.sms_centre_rows.specs.messages.Messages.{Messages, all_done, amend_part, message_at, messages_of, part_at, parts_of, put_message, put_part, put_priority};
+ghost use Rattle.sms_centre_rows.specs.messages.Messages.{Messages, all_done, amend_part, message_at, messages_of, part_at, parts_of, put_message, put_part};
+ghost use Rattle.sms_centre_rows.specs.messages.Messages.{put_priority};
 ghost use Rattle.sms_centre_rows.specs.messages.PartEntries.{Few, entry_key, part_entry};
 ghost use Rattle.sms_centre_rows.specs.declared.messages.message.MessageRow.{MessageRow as MessageRowOf};
 ghost use Rattle.sms_centre_rows.specs.declared.messages.part.PartRow.{PartRow as PartRowOf};
@@ -195,7 +196,7 @@ impl<'a> MessageIndexDraft<'a> {
     /// The changes, with memory for what they add to the index.
     pub fn settle(self, index: &MessageIndex) -> Result<MessageIndexPlan, AllocError>
         ensures settled { (m : Messages) → DraftRepresents self.entry m → IfOk result (IsSettled m) }
-        ensures fits { IfOk result (λ s. Fits s.reserve (length s.messages) index.now) }
+        ensures fits { IfOk result (λ s. FitsTheMessages s.reserve (length s.messages) index.now) }
     {
         let count = self.messages.len();
         match settle_parts(self.alloc, index, count, self.parts) {
@@ -227,7 +228,7 @@ fn settle_parts(
     parts: PartsDraft<'_>,
 ) -> Result<ReservedParts, AllocError>
     ensures changes { IfOk result (λ s. (s.reserve.parts.changes ≡ parts.entry.entries.changes) × (s.changes.items ≡ parts.entry.changes)) }
-    ensures fits { IfOk result (λ s. Fits s.reserve count index.now) }
+    ensures fits { IfOk result (λ s. FitsTheMessages s.reserve count index.now) }
 {
     let outcome = parts.settle(alloc, &index.parts)?;
     match index.make_reserve(alloc, count, outcome.entries) {

@@ -1,7 +1,8 @@
 //! What memory has of messages and parts between two events.
 ghost use Rattle.std.specs.Prelude.{◌≡◌, [], ℕ, ◌+◌, ◌*◌, ◌≤◌, true, List, IfOk, length, max};
 ghost use Rattle.std.specs.List.Sorted.{IsNonDecreasing};
-ghost use Rattle.sms_centre_messages.specs.message_index.MessageIndex.{Applies, CoversPast, Fits, HasRoomFor, Represents, IsStaleFirst, Matches, Notes, PutsIn, Takes, is_ended, past_entry_id, past_id};
+ghost use Rattle.sms_centre_messages.specs.message_index.MessageIndex.{Applies, CoversPast, FitsTheMessages, HasRoomFor, Represents, IsStaleFirst, Matches};
+ghost use Rattle.sms_centre_messages.specs.message_index.MessageIndex.{Notes, PutsIn, TakesInMessages, is_ended, past_entry_id, past_id};
 ghost use Rattle.sms_centre_rows.specs.messages.Messages.{message_at, message_key, next_id};
 ghost use Rattle.sms_centre_rows.specs.declared.messages.message.MessageRow.{MessageRow as MessageRowOf};
 ghost use Rattle.sms_centre_rows.specs.declared.messages.part.PartRow.{PartRow as PartRowOf};
@@ -56,7 +57,13 @@ impl Model for MessageIndexReserve {
 
     ghost Value = { MessageIndexReserveOf };
 
-    ghost view = { λ s. record { parts = s.parts; messages = s.rows.messages; numbers = s.names.numbers; accounts = s.names.accounts; deadlines = s.rows.deadlines } };
+    ghost view = { λ s. record {
+      parts = s.parts;
+      messages = s.rows.messages;
+      numbers = s.names.numbers;
+      accounts = s.names.accounts;
+      deadlines = s.rows.deadlines;
+    } };
 }
 
 impl MessageIndex {
@@ -123,7 +130,7 @@ impl MessageIndex {
         changes: usize,
         parts: PartsPlan,
     ) -> Result<MessageIndexReserve, AllocError>
-        ensures fits { IfOk result (λ reserve. FitsIn parts self.now.parts → Fits reserve changes self.now) }
+        ensures fits { IfOk result (λ reserve. FitsIn parts self.now.parts → FitsTheMessages reserve changes self.now) }
         ensures parts { IfOk result (λ reserve. reserve.parts ≡ parts) }
     {
         match self.names.make_reserve(alloc, changes) {
@@ -145,7 +152,7 @@ impl MessageIndex {
     ) -> Result<MessageIndexReserve, AllocError>
         requires numbers { Suffices (2 * changes) names.numbers self.now.names.numbers }
         requires accounts { Suffices changes names.accounts self.now.names.accounts }
-        ensures fits { IfOk result (λ reserve. FitsIn parts self.now.parts → Fits reserve changes self.now) }
+        ensures fits { IfOk result (λ reserve. FitsIn parts self.now.parts → FitsTheMessages reserve changes self.now) }
         ensures parts { IfOk result (λ reserve. reserve.parts ≡ parts) }
     {
         match self.make_rows_reserve(alloc, changes) {
@@ -176,10 +183,10 @@ impl MessageIndex {
         }
     }
 
-    // Takes the memory in, and the changes of parts.
+    // TakesInMessages the memory in, and the changes of parts.
     fn take_in(&mut self, reserve: MessageIndexReserve)
         requires { FitsIn reserve.parts self.old.parts }
-        ensures { Takes reserve self.old self.new }
+        ensures { TakesInMessages reserve self.old self.new }
     {
         self.names.use_reserve(reserve.names);
         self.messages.use_reserve(reserve.rows.messages);
@@ -294,7 +301,7 @@ impl MessageIndex {
 
     /// Puts the changes in, without taking memory.
     pub fn adopt(&mut self, reserve: MessageIndexReserve, messages: Listed<Change<MessageRow>>)
-        requires { Fits reserve (length messages) self.old }
+        requires { FitsTheMessages reserve (length messages) self.old }
         ensures { (ms : List MessageRowOf) (ps others : List PartRowOf) → Represents self.old ms ps → Matches reserve ps others
             → Represents self.new (all_applied message_key messages ms) others }
     {

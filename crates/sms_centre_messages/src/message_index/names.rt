@@ -1,6 +1,6 @@
 //! What messages share: numbers and the names of accounts.
 ghost use Rattle.std.specs.Prelude.{◌≡◌, ◌+◌, ◌*◌, ◌<◌, ◌≤◌, Some, IfOk, IsOk, OnOk};
-ghost use Rattle.sms_rows.specs.interning.Interning.{Keeps, Makes, Suffices};
+ghost use Rattle.sms_rows.specs.interning.Interning.{Keeps, TookNumbers, Suffices};
 ghost use Rattle.sms_centre_messages.specs.message_index.Entries.{IsEntry, IsOriginator, NamesStay, UsesNames};
 ghost use Rattle.sms_centre_messages.specs.message_index.Summaries.{summary_of};
 ghost use Rattle.sms_centre_rows.specs.declared.messages.message.MessageRow.{MessageRow as MessageRowOf};
@@ -236,9 +236,9 @@ impl Names {
     // Moves all into the memory where it is larger than the own, without taking memory.
     pub(crate) fn use_reserve(&mut self, reserve: NamesReserve)
         ensures numbers { Keeps self.old.numbers.values self.new.numbers.values }
-        ensures numbers_room { Makes reserve.numbers self.old.numbers self.new.numbers }
+        ensures numbers_room { TookNumbers reserve.numbers self.old.numbers self.new.numbers }
         ensures accounts { Keeps self.old.accounts.values self.new.accounts.values }
-        ensures accounts_room { Makes reserve.accounts self.old.accounts self.new.accounts }
+        ensures accounts_room { TookNumbers reserve.accounts self.old.accounts self.new.accounts }
     {
         self.numbers.use_reserve(reserve.numbers);
         self.accounts.use_reserve(reserve.accounts);

@@ -47,7 +47,8 @@ impl MessageIndex {
 
     // A copy of the message is put behind the others, or takes the place of that of its number.
     fn enter_copy(&mut self, alloc: Global, row: &MessageRow) -> Result<(), AllocError>
-        ensures { (ms : List MessageRowOf) (ps : List PartRowOf) → Represents self.old ms ps → OnOk result (Represents self.new (put message_key row.now ms) ps) }
+        ensures { (ms : List MessageRowOf) (ps : List PartRowOf) → Represents self.old ms ps
+            → OnOk result (Represents self.new (put message_key row.now ms) ps) }
     {
         let copy = copy_of(alloc, row)?;
         self.enter(copy)?;

@@ -1,17 +1,18 @@
 //! What an event leaves, put in without taking memory.
-ghost use Rattle.std.specs.Prelude.{◌≡◌, ◌+◌, ℕ, List, Some, None, length, option_copied};
+ghost use Rattle.std.specs.Prelude.{◌≡◌, ◌+◌, ℕ, List, Some, None, length};
 ghost use Rattle.sms_centre_messages.specs.references.ReferenceIndex.{AreFew, IsNewest, Represents};
-ghost use Rattle.sms_centre_messages.specs.references.Moves.{AreMoves, ArePartMoves, ArePartRemovals, AreRemovals, Fits, HasRoomFor, IsMove, IsMoveTo, IsPartMove, IsPartRemoval, IsRemoval};
+ghost use Rattle.sms_centre_messages.specs.references.Moves.{AreMoves, ArePartMoves, ArePartRemovals, AreRemovals, FitsTheReferences, HasRoomFor, IsMove};
+ghost use Rattle.sms_centre_messages.specs.references.Moves.{IsMoveTo, IsPartMove, IsPartRemoval, IsRemoval};
 ghost use Rattle.sms_centre_rows.specs.messages.Messages.{message_at, message_key, part_key, part_reaching};
 ghost use Rattle.sms_centre_rows.specs.declared.messages.message.MessageRow.{MessageRow as MessageRowOf};
 ghost use Rattle.sms_centre_rows.specs.declared.messages.part.PartRow.{PartRow as PartRowOf};
-ghost use Rattle.sms_rows.specs.table.Table.{Rises, all_applied, applied, newest_of, put, row_at};
+ghost use Rattle.sms_rows.specs.table.Table.{Rises, all_applied, applied, put, row_at};
 ghost use Rattle.sms_centre_rows.specs.waiting.Revisions.{all_revised, revised};
 ghost use Rattle.sms_centre_rows.specs.declared.waiting.revision.Revision.TheVariants.{Put as PutPart};
 
 use crate::references::reference_index::ReferenceIndex;
 use crate::references::reserve::ReferenceIndexReserve;
-use sms_centre_rows::messages::{MessageRow, PartRow};
+use sms_centre_rows::messages::{MessageRow, PartRow, newest_change};
 use sms_centre_rows::waiting::Revision;
 use sms_rows::table::{Change, Key};
 
@@ -25,7 +26,7 @@ impl ReferenceIndex {
         messages: &[Change<MessageRow>],
         parts: &[Revision<PartRow>],
     )
-        requires { Fits reserve (length messages.now) (length parts.now) self.old }
+        requires { FitsTheReferences reserve (length messages.now) (length parts.now) self.old }
         ensures moved { (ms : List MessageRowOf) (ps : List PartRowOf) → Represents self.old ms ps → Rises message_key ms → Rises part_key ps
             → AreMoves messages.now ms ps
             → ArePartMoves messages.now parts.now (all_applied message_key messages.now ms) ps
@@ -122,7 +123,7 @@ impl ReferenceIndex {
             → IsPartMove messages.now (PutPart part.now) ms ps → Represents self.new ms (put part_key part.now ps) }
         ensures room { (n : ℕ) → HasRoomFor 0 (n + 1) self.old → HasRoomFor 0 n self.new }
     {
-        if let Some(Change::Put(message)) = newest(messages, Key::of(part.id.number())) {
+        if let Some(Change::Put(message)) = newest_change(messages, Key::of(part.id.number())) {
             self.bring_ready(message, part);
         }
     }
@@ -139,17 +140,4 @@ impl ReferenceIndex {
             Err(_) => (),
         }
     }
-}
-
-// The newest change of the message of that key.
-fn newest(changes: &[Change<MessageRow>], key: Key) -> Option<&Change<MessageRow>>
-    ensures { option_copied result ≡ newest_of message_key key changes.now }
-{
-    for i in 0..changes.len() {
-        let change = &changes[changes.len() - 1 - i];
-        if change.key().number() == key.number() {
-            return Some(change);
-        }
-    }
-    None
 }

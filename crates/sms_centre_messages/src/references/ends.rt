@@ -1,6 +1,7 @@
 //! Claims that end with their messages, and claims of new parts.
 ghost use Rattle.std.specs.Prelude.{◌≡◌, ◌+◌, ◌<◌, ◌≤◌, ℕ, List, Some, true, IsOk, OnOk};
-ghost use Rattle.sms_centre_messages.specs.references.ReferenceIndex.{AreFew, BarsLess, BringsBar, BringsOwn, Brought, Ended, Represents, HoldsLess, PendsLess, still};
+ghost use Rattle.sms_centre_messages.specs.references.ReferenceIndex.{AreFew, BarsLess, BringsBar, BringsOwn, Brought, Ended, Represents, HoldsLess, PendsLess};
+ghost use Rattle.sms_centre_messages.specs.references.ReferenceIndex.{still};
 ghost use Rattle.sms_centre_messages.specs.references.Moves.{HasRoomFor};
 ghost use Rattle.sms_centre_rows.specs.messages.Messages.{ended, is_pending, message_at, message_key, part_key};
 ghost use Rattle.sms_centre_rows.specs.messages.SplitReferences.{unless_split, wide_in, wide_reference};

@@ -10,7 +10,7 @@ use sms_rows::interning::Number;
 pub struct Sender {
     /// The number of its type of number.
     pub type_of_number: u8,
-    /// Its numbering plan.
+    /// The numbering plan of the source.
     pub plan: u8,
     pub digits: Number,
 }

@@ -6,13 +6,12 @@ ghost use Rattle.sms_centre_rows.specs.messages.Messages.{message_key};
 ghost use Rattle.sms_centre_rows.specs.declared.messages.message.MessageRow.{MessageRow as MessageRowOf};
 ghost use Rattle.sms_centre_rows.specs.declared.messages.part.PartRow.{PartRow as PartRowOf};
 ghost use Rattle.sms_rows.specs.table.Table.{put};
-ghost use Rattle.sms_centre_rows.specs.messages.SplitReferences.{is_delivered as is_delivered_of};
 
 use crate::references::counts::Counts;
 use crate::references::message_ends::MessageEnds;
 use crate::references::reference_index::ReferenceIndex;
-use sms_base::{FinalState, Originator};
-use sms_centre_rows::messages::MessageRow;
+use sms_base::Originator;
+use sms_centre_rows::messages::{MessageRow, is_delivered};
 use std::alloc::AllocError;
 
 impl ReferenceIndex {
@@ -41,19 +40,6 @@ impl ReferenceIndex {
     }
 }
 
-// Whether the message is wholly delivered.
-pub(crate) fn is_delivered(state: &Option<FinalState>) -> bool
-    ensures { result ≡ is_delivered_of state.now }
-{
-    match state {
-        Some(FinalState::Delivered) => true,
-        Some(FinalState::Expired) => false,
-        Some(FinalState::Deleted) => false,
-        Some(FinalState::Undeliverable) => false,
-        None => false,
-    }
-}
-
 // The reference that it holds.
 fn count_held(held: &mut Counts, row: &MessageRow) -> Result<(), AllocError>
     ensures more { OnOk result (HoldsMore row.now held.old held.new) }
@@ -63,7 +49,7 @@ fn count_held(held: &mut Counts, row: &MessageRow) -> Result<(), AllocError>
     let Some(reference) = row.split_reference else {
         return Ok(());
     };
-    if is_delivered(&row.state) {
+    if is_delivered(row.state) {
         return Ok(());
     }
     held.add(MessageEnds::of(&row.source, &row.handset, reference))?;
@@ -79,7 +65,7 @@ fn count_barred(barred: &mut Counts, row: &MessageRow) -> Result<(), AllocError>
     if row.split_reference.is_none() {
         return Ok(());
     }
-    if is_delivered(&row.state) {
+    if is_delivered(row.state) {
         return Ok(());
     }
     barred.add(MessageEnds::of(&row.source, &row.handset, 0))?;

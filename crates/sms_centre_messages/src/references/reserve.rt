@@ -1,7 +1,7 @@
 //! Memory for more claims.
 ghost use Rattle.std.specs.Prelude.{◌≡◌, IfOk, OnOk};
-ghost use Rattle.sms_centre_messages.specs.references.Counts.{Makes, Suffices, counted};
-ghost use Rattle.sms_centre_messages.specs.references.Moves.{Fits, Takes};
+ghost use Rattle.sms_centre_messages.specs.references.Counts.{TookCounts, Suffices, counted};
+ghost use Rattle.sms_centre_messages.specs.references.Moves.{FitsTheReferences, TakesInReferences};
 ghost use Rattle.sms_centre_messages.specs.declared.references.message_ends.MessageEnds.{MessageEnds as BetweenOf};
 
 use crate::references::counts::Counts;
@@ -79,7 +79,7 @@ impl Counts {
     // Moves the counts into the memory where it is larger than the own, without taking memory.
     pub(crate) fn use_reserve(&mut self, reserve: CountsReserve)
         ensures counts { (key : BetweenOf) → counted key self.new ≡ counted key self.old }
-        ensures room { Makes reserve self.old self.new }
+        ensures room { TookCounts reserve self.old self.new }
     {
         let mut map = reserve.map;
         // The call says that no key is there twice.
@@ -139,7 +139,7 @@ impl ReferenceIndex {
         messages: usize,
         parts: usize,
     ) -> Result<ReferenceIndexReserve, AllocError>
-        ensures { IfOk result (λ reserve. Fits reserve messages parts self.now) }
+        ensures { IfOk result (λ reserve. FitsTheReferences reserve messages parts self.now) }
     {
         let mut reserve = ReferenceIndexReserve::new(alloc);
         match self.fill_reserve(alloc, messages, parts, &mut reserve) {
@@ -159,7 +159,7 @@ impl ReferenceIndex {
         parts: usize,
         reserve: &mut ReferenceIndexReserve,
     ) -> Result<(), AllocError>
-        ensures { OnOk result (Fits reserve.new messages parts self.now) }
+        ensures { OnOk result (FitsTheReferences reserve.new messages parts self.now) }
     {
         let Some(both) = messages.checked_add(parts) else {
             return Err(AllocError);
@@ -176,9 +176,9 @@ impl ReferenceIndex {
         Ok(())
     }
 
-    // Takes the memory in.
+    // TakesInReferences the memory in.
     pub(crate) fn take_in(&mut self, reserve: ReferenceIndexReserve)
-        ensures { Takes reserve self.old self.new }
+        ensures { TakesInReferences reserve self.old self.new }
     {
         self.held.use_reserve(reserve.held);
         self.own.use_reserve(reserve.own);

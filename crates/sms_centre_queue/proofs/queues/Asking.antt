@@ -19,7 +19,7 @@ asked number o p digits is g links w represents =
 
 pub asked_waiting : (number : List ℕ) (o : Option PlacedQueue) (p : DeliveryQueuesDraftOf) → AllDigits number → o ≡ at (digits_key number) p
     → (g : Allocations) (links : Links) (w : List ℕ → List QueuedPart) → DraftRepresents g links w p → (or_new number o).queue.waiting ≡ w number
-asked_waiting number o p digits is g links w represents = (asked number o p digits is g links w represents).queue.loads
+asked_waiting number o p digits is g links w represents = (asked number o p digits is g links w represents).queue.all_queued
 
 pub asked_line : (number : List ℕ) (o : Option PlacedQueue) (p : DeliveryQueuesDraftOf) → AllDigits number → o ≡ at (digits_key number) p
     → (g : Allocations) (links : Links) (w : List ℕ → List QueuedPart) → DraftRepresents g links w p → (or_new number o).queue.line ≡ line_of number links.lines
@@ -38,7 +38,7 @@ asked_reference number o p now digits is g links w represents =
     ap (λ (n : List ℕ). next_reference (or_new_handset n p.next_place q.queue.row) q.queue.waiting q.queue.given now) handset
     ∙ ap (λ (n : ℕ). next_reference (or_new_handset number n q.queue.row) q.queue.waiting q.queue.given now) represents.next_place
     ∙ sym (next_represented number hs (references_of g) q.queue.given q.queue.waiting q.queue.row now represents.sound (sym one.queue.row) one.queue.given)
-    ∙ ap (λ (ls : List QueuedPart). next_reference (or_new_handset number (place_after 1 hs) q.queue.row) ls (references_of g) now) one.queue.loads
+    ∙ ap (λ (ls : List QueuedPart). next_reference (or_new_handset number (place_after 1 hs) q.queue.row) ls (references_of g) now) one.queue.all_queued
     ∙ ap (λ (r : Option HandsetRow). next_reference (or_new_handset number (place_after 1 hs) r) (w number) (references_of g) now) one.queue.row
 
 -- no place is left for its handset

@@ -200,7 +200,7 @@ wanted_represented : (purpose : Concern) (number : List ℕ) (g : Allocations) (
 wanted_represented purpose number g links w q represents =
     ap (λ (o : Option HandsetRow). is_wanted purpose o q.queue.line q.queue.waiting) represents.queue.row
     ∙ ap (λ (l : HandsetLink). is_wanted purpose (handset_at number (handsets_of g)) l q.queue.waiting) represents.queue.line
-    ∙ ap (λ (ls : List QueuedPart). is_wanted purpose (handset_at number (handsets_of g)) (line_of number links.lines) ls) represents.queue.loads
+    ∙ ap (λ (ls : List QueuedPart). is_wanted purpose (handset_at number (handsets_of g)) (line_of number links.lines) ls) represents.queue.all_queued
 
 -- ---- what is seen is found
 

@@ -52,9 +52,9 @@ waits_next number f q p mid new digits taken becomes g links w w2 represents wai
     let was = taken_represented number q p mid g links w digits taken represents in
     represents_next number placed p p new g g links links w w2 digits (taken_back number q placed p mid new taken becomes) (λ k. refl) refl represents (also_represented g links w p represents)
     (taken_handset number q p mid g links w digits taken represents)
-    (record { queue = record { row = was.queue.row; given = was.queue.given; loads = ap f was.queue.loads ∙ sym waits.0; line = was.queue.line }; link_place = was.link_place })
+    (record { queue = record { row = was.queue.row; given = was.queue.given; all_queued = ap f was.queue.all_queued ∙ sym waits.0; line = was.queue.line }; link_place = was.link_place })
     (λ other x ne s. record {
-      queue = record { row = s.queue.row; given = s.queue.given; loads = s.queue.loads ∙ sym (waits.1 other ne); line = s.queue.line };
+      queue = record { row = s.queue.row; given = s.queue.given; all_queued = s.queue.all_queued ∙ sym (waits.1 other ne); line = s.queue.line };
       link_place = s.link_place;
     })
 
@@ -95,7 +95,7 @@ line_next number f sent q p mid new digits keeps taken becomes g links w represe
       queue = record {
         row = was.queue.row;
         given = was.queue.given;
-        loads = was.queue.loads;
+        all_queued = was.queue.all_queued;
         line = ap f is ∙ sym (subst (λ (h : List ℕ). line_of h (with_line line links.lines) ≡ line) handset (line_put line links.lines));
       };
       link_place = ap (λ (c : ℕ). link_place_now c mid.lines) was.link_place ∙ ap (λ (m : ℕ). link_place_now (link_place_in number links.lines) m) count ∙ sym arrived_unit_is;
@@ -103,6 +103,6 @@ line_next number f sent q p mid new digits keeps taken becomes g links w represe
     (λ other x ne s.
     let apart : ¬ (line.handset ≡ other) = λ e. ne (sym handset ∙ e) in
     record {
-      queue = record { row = s.queue.row; given = s.queue.given; loads = s.queue.loads; line = s.queue.line ∙ sym (line_put_other other line links.lines apart) };
+      queue = record { row = s.queue.row; given = s.queue.given; all_queued = s.queue.all_queued; line = s.queue.line ∙ sym (line_put_other other line links.lines apart) };
       link_place = s.link_place ∙ sym (arrived_other 1 other line links.lines apart);
     })

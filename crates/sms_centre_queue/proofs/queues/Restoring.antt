@@ -79,7 +79,7 @@ one_row hs rs f g sound m n e =
 -- what stands under the key of a handset
 pub restored_at : (number : List ℕ) (hs : List HandsetRow) (rs : List ReferenceRow) (row : Option HandsetRow) (o : Option PlacedQueue) → SoundAllocations hs rs → AllDigits number → handset_at number hs ≡ row
     → restored_all (digits_key number) hs rs None ≡ o → RepresentsPlaced number hs rs [] [] (or_new number o)
-restored_at number hs rs None None sound digits at is = record { queue = record { row = sym at; given = refl; loads = refl; line = refl }; link_place = refl }
+restored_at number hs rs None None sound digits at is = record { queue = record { row = sym at; given = refl; all_queued = refl; line = refl }; link_place = refl }
 restored_at number hs rs None (Some q) sound digits at is = ⊎_elim
     (λ (s : None ≡ Some q). absurd cc)
     (λ (s : (h : HandsetRow) × (Among h hs × (digits_key number ≡ digits_key h.number) × (q ≡ restored h rs))).
@@ -103,7 +103,7 @@ restored_at number hs rs (Some h) (Some q) sound digits at is = ⊎_elim
       queue = record {
         row = sym (subst (λ (n : List ℕ). handset_at n hs ≡ Some h) (sym there.1) at);
         given = λ r small. found_between reference_key (pair_key h.place 0) (pair_key (h.place + 1) 0) (pair_key h.place r) rs (omega arith) (omega (arith, small)) sound.reference_keys;
-        loads = refl;
+        all_queued = refl;
         line = refl;
       };
       link_place = refl;

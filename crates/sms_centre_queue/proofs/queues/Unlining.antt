@@ -56,7 +56,7 @@ represents_unlined number hs rs w lines q s = record {
   queue = record {
     row = s.queue.row;
     given = s.queue.given;
-    loads = s.queue.loads;
+    all_queued = s.queue.all_queued;
     line = ap (λ (l : HandsetLink). new_line l.handset) s.queue.line ∙ ap new_line (line_handset number lines);
   };
   link_place = refl;

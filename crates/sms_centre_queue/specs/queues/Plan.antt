@@ -23,8 +23,8 @@ pub record FitsIn (reserve index_reserve : ℕ) (touched : List (ℕ × PlacedQu
   pub queues : length ground.queues + length touched ≤ max ground.capacity reserve
   pub index : length ground.index + length touched ≤ max ground.index_capacity index_reserve
 
-abbrev pub Fits : DeliveryQueuesPlanOf → Type 0
-Fits settled = FitsIn settled.reserve settled.index_reserve settled.touched settled.ground
+abbrev pub FitsTheQueues : DeliveryQueuesPlanOf → Type 0
+FitsTheQueues settled = FitsIn settled.reserve settled.index_reserve settled.touched settled.ground
 
 -- it is what the event left
 pub record IsSettled (p : DeliveryQueuesDraftOf) (settled : DeliveryQueuesPlanOf) : Type 0 where

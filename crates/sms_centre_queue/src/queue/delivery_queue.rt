@@ -3,9 +3,10 @@ ghost use Rattle.std.specs.Prelude.{◌≡◌, ◌<◌, ◌≤◌, [], length, t
 ghost use Rattle.sms_link.specs.LinkTurn.{begun, fired, replied, taken};
 ghost use Rattle.sms_rows.specs.table.Keys.{pair_key};
 ghost use Rattle.sms_rows.specs.table.Table.{row_at};
-ghost use Rattle.sms_centre_rows.specs.waiting.Keys.{load_key};
+ghost use Rattle.sms_centre_rows.specs.waiting.Keys.{queued_key};
 ghost use Rattle.sms_centre_rows.specs.waiting.Links.{emptied, filled, lowered, new_line, raised};
-ghost use Rattle.sms_centre_rows.specs.waiting.References.{AreHeld, following as following_of, is_free as is_free_of, next_reference as next_reference_of, or_new_handset};
+ghost use Rattle.sms_centre_rows.specs.waiting.References.{AreHeld, following as following_of, is_free as is_free_of, next_reference as next_reference_of};
+ghost use Rattle.sms_centre_rows.specs.waiting.References.{or_new_handset};
 ghost use Rattle.sms_centre_rows.specs.waiting.DeliveryQueues.{queue_at_once, queue_given, queue_on, queue_turned, queue_with, queue_withdrawn, queue_without};
 ghost use Rattle.sms_centre_rows.specs.waiting.Waiting.{next as next_of, waits_beside as waits_beside_of};
 ghost use Rattle.sms_centre_queue.specs.queue.Watching.{figures_of};
@@ -33,11 +34,11 @@ pub struct DeliveryQueue {
 
 impl Model for DeliveryQueue {
     ghost use Rattle.sms_centre_rows.specs.waiting.DeliveryQueues.{DeliveryQueueOf};
-    ghost use Rattle.sms_schedule.specs.waiting.Waiting.{loads_of};
+    ghost use Rattle.sms_schedule.specs.waiting.Waiting.{queued_of};
 
     ghost Value = { DeliveryQueueOf };
 
-    ghost view = { λ s. record { row = s.row; given = s.given; waiting = loads_of s.waiting; line = s.line } };
+    ghost view = { λ s. record { row = s.row; given = s.given; waiting = queued_of s.waiting; line = s.line } };
 }
 
 impl DeliveryQueue {
@@ -106,9 +107,9 @@ impl DeliveryQueue {
 
     /// What waits, in the order of messages and numbers, in memory of its own.
     pub fn waiting(&self) -> Result<Vec<QueuedPart>, AllocError>
-        ensures { IfOk result (λ loads. loads.items ≡ self.now.waiting) }
+        ensures { IfOk result (λ all_queued. all_queued.items ≡ self.now.waiting) }
     {
-        self.waiting.loads()
+        self.waiting.all_queued()
     }
 
     /// How many parts and status reports wait, and how the link is.
@@ -139,17 +140,17 @@ impl DeliveryQueue {
 
 impl DeliveryQueue {
     /// The queued part of that message and number, if it waits here.
-    pub fn load(&self, id: MessageId, number: u8) -> Option<QueuedPart>
-        ensures { result ≡ row_at load_key (pair_key id number) self.now.waiting }
+    pub fn queued(&self, id: MessageId, number: u8) -> Option<QueuedPart>
+        ensures { result ≡ row_at queued_key (pair_key id number) self.now.waiting }
     {
         self.waiting.find(Key::pair(id.number(), number))
     }
 
-    /// One more waits, or the one of that message and number waits otherwise.
-    pub fn put(&mut self, load: QueuedPart) -> Result<(), AllocError>
-        ensures { OnOk result (self.new ≡ queue_with load self.old) }
+    /// Lets one more wait, or the one of that message and number wait otherwise.
+    pub fn put(&mut self, queued: QueuedPart) -> Result<(), AllocError>
+        ensures { OnOk result (self.new ≡ queue_with queued self.old) }
     {
-        self.waiting.put(load)?;
+        self.waiting.put(queued)?;
         Ok(())
     }
 

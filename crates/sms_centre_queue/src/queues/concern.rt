@@ -8,10 +8,10 @@ use sms_rows::table::{Key, Row};
 /// A handset that an event concerns, by its place in the order in which the event walks over them.
 #[derive(Clone, Copy, Debug, PartialEq, Eq)]
 pub struct ConcernedHandset {
-    /// Its place in the order of first mention, or that of its link in the order in which links were first used; from
+    /// The handset's place in the order of first mention, or its link's in the order in which links were first used; from
     /// 1.
     pub order: u64,
-    /// Its digits.
+    /// The handset's digits.
     pub number: Digits,
 }
 
@@ -26,12 +26,12 @@ impl Row for ConcernedHandset {
 /// Why an event stops at a handset.
 #[derive(Clone, Copy, Debug, PartialEq, Eq)]
 pub enum Concern {
-    /// Its line is ready and something is due for it; of those that were given a reference.
+    /// A handset that was given a reference, whose line is ready and for which something is due.
     Offer(Moment),
     /// A timer of its line fires; of those that were given a reference.
     Fire(Moment),
     /// A timer of its line fires; of those that were given none.
     FireUnmentioned(Moment),
-    /// Its line was up before a recovery.
+    /// A handset whose line was up before a recovery.
     Awaited,
 }

@@ -157,7 +157,8 @@ impl DeliveryQueuesDraft {
         frames: Listed<Outgoing>,
     ) -> Result<(), AllocError>
         ensures placed { OnOk result (placed.new ≡ record placed.old { link_place = link_place_now placed.old.link_place self.old.lines }) }
-        ensures sent { OnOk result (self.new ≡ counted (lines_now placed.old.link_place self.old.lines) (self.old.frames ++ to_handset number frames) self.old) }
+        ensures sent { OnOk result (self.new ≡ counted (lines_now placed.old.link_place self.old.lines)
+            (self.old.frames ++ to_handset number frames) self.old) }
     {
         push_sent(&mut self.frames, number, frames)?;
         self.add_link(placed)

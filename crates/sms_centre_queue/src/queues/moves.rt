@@ -3,13 +3,13 @@ ghost use Rattle.std.specs.Prelude.{◌≡◌, ◌<◌, ◌≤◌, ◌++◌, ℕ
 ghost use Rattle.sms_link.specs.LinkTurn.{begun, fired, replied, taken};
 ghost use Rattle.sms_rows.specs.table.Keys.{AllDigits, digits_key, pair_key};
 ghost use Rattle.sms_rows.specs.table.Table.{put, without};
-ghost use Rattle.sms_centre_rows.specs.waiting.Keys.{load_key};
+ghost use Rattle.sms_centre_rows.specs.waiting.Keys.{queued_key};
 ghost use Rattle.sms_centre_rows.specs.waiting.Links.{Links, emptied, filled, line_of, lowered, put_line as put_line_in, raised, to_handset, turn_line};
 ghost use Rattle.sms_centre_rows.specs.waiting.DeliveryQueues.{queue_given};
 ghost use Rattle.sms_centre_rows.specs.waiting.References.{Allocations, give as give_in, handset_of, handsets_of, or_new_handset};
 ghost use Rattle.sms_centre_rows.specs.waiting.SoundAllocations.{IsNumber};
 ghost use Rattle.sms_centre_rows.specs.waiting.Waiting.{all_at_once, withdrawn};
-ghost use Rattle.sms_centre_rows.specs.declared.waiting.queued_part.QueuedPart.{QueuedPart as LoadOf};
+ghost use Rattle.sms_centre_rows.specs.declared.waiting.queued_part.QueuedPart.{QueuedPart as QueuedOf};
 ghost use Rattle.sms_centre_queue.specs.queues.LineOrder.{expected};
 ghost use Rattle.sms_centre_queue.specs.queues.Queues.{Becomes, HasNoPlace, counted, given_to, lines_now, link_place_now, with_queue};
 ghost use Rattle.sms_centre_queue.specs.queues.Representing.{DraftRepresents, Waits};
@@ -23,26 +23,26 @@ use sms_rows::table::Change;
 use std::alloc::AllocError;
 
 impl DeliveryQueuesDraft {
-    /// One more waits for the handset, or the one of that message and number waits otherwise.
-    pub fn put(&mut self, number: Digits, load: QueuedPart) -> Result<(), AllocError>
+    /// Lets one more wait for the handset, or the one of that message and number wait otherwise.
+    pub fn put(&mut self, number: Digits, queued: QueuedPart) -> Result<(), AllocError>
         requires digits { AllDigits number }
-        ensures { OnOk result ((g : Allocations) (links : Links) (waiting after : List ℕ → List LoadOf) → DraftRepresents g links waiting self.old
-            → Waits number (put load_key load) waiting after → DraftRepresents g links after self.new) }
+        ensures { OnOk result ((g : Allocations) (links : Links) (waiting after : List ℕ → List QueuedOf) → DraftRepresents g links waiting self.old
+            → Waits number (put queued_key queued) waiting after → DraftRepresents g links after self.new) }
     {
         let mut placed = self.take_out(number)?;
-        let done = placed.queue.put(load);
+        let done = placed.queue.put(queued);
         self.put_back(number, placed)?;
         done
     }
 
     /// Removes what waits for the handset under that message and number.
-    pub fn remove(&mut self, number: Digits, id: MessageId, load: u8) -> Result<(), AllocError>
+    pub fn remove(&mut self, number: Digits, id: MessageId, part: u8) -> Result<(), AllocError>
         requires digits { AllDigits number }
-        ensures { OnOk result ((g : Allocations) (links : Links) (waiting after : List ℕ → List LoadOf) → DraftRepresents g links waiting self.old
-            → Waits number (without load_key (pair_key id load)) waiting after → DraftRepresents g links after self.new) }
+        ensures { OnOk result ((g : Allocations) (links : Links) (waiting after : List ℕ → List QueuedOf) → DraftRepresents g links waiting self.old
+            → Waits number (without queued_key (pair_key id part)) waiting after → DraftRepresents g links after self.new) }
     {
         let mut placed = self.take_out(number)?;
-        let done = placed.queue.remove(id, load);
+        let done = placed.queue.remove(id, part);
         self.put_back(number, placed)?;
         done
     }
@@ -50,7 +50,7 @@ impl DeliveryQueuesDraft {
     /// No part of that message waits any more.
     pub fn withdraw(&mut self, number: Digits, id: MessageId) -> Result<(), AllocError>
         requires digits { AllDigits number }
-        ensures { OnOk result ((g : Allocations) (links : Links) (waiting after : List ℕ → List LoadOf) → DraftRepresents g links waiting self.old
+        ensures { OnOk result ((g : Allocations) (links : Links) (waiting after : List ℕ → List QueuedOf) → DraftRepresents g links waiting self.old
             → Waits number (withdrawn id) waiting after → DraftRepresents g links after self.new) }
     {
         let mut placed = self.take_out(number)?;
@@ -62,7 +62,7 @@ impl DeliveryQueuesDraft {
     /// All that waits for the handset is due at that moment.
     pub fn due_at(&mut self, number: Digits, now: Moment) -> Result<(), AllocError>
         requires digits { AllDigits number }
-        ensures { OnOk result ((g : Allocations) (links : Links) (waiting after : List ℕ → List LoadOf) → DraftRepresents g links waiting self.old
+        ensures { OnOk result ((g : Allocations) (links : Links) (waiting after : List ℕ → List QueuedOf) → DraftRepresents g links waiting self.old
             → Waits number (all_at_once now) waiting after → DraftRepresents g links after self.new) }
     {
         let mut placed = self.take_out(number)?;
@@ -76,7 +76,7 @@ impl DeliveryQueuesDraft {
     /// The handset can be reached, and has memory.
     pub fn raise(&mut self, number: Digits) -> Result<(), AllocError>
         requires digits { AllDigits number }
-        ensures { OnOk result ((g : Allocations) (links : Links) (waiting : List ℕ → List LoadOf) → DraftRepresents g links waiting self.old
+        ensures { OnOk result ((g : Allocations) (links : Links) (waiting : List ℕ → List QueuedOf) → DraftRepresents g links waiting self.old
             → DraftRepresents g (put_line_in (raised (line_of number links.lines)) links) waiting self.new) }
     {
         let mut placed = self.take_out(number)?;
@@ -88,7 +88,7 @@ impl DeliveryQueuesDraft {
     /// The handset's link was up before a recovery, and is up again at the next tick.
     pub fn expect(&mut self, number: Digits) -> Result<(), AllocError>
         requires digits { AllDigits number }
-        ensures { OnOk result ((g : Allocations) (links : Links) (waiting : List ℕ → List LoadOf) → DraftRepresents g links waiting self.old
+        ensures { OnOk result ((g : Allocations) (links : Links) (waiting : List ℕ → List QueuedOf) → DraftRepresents g links waiting self.old
             → DraftRepresents g (put_line_in (expected (line_of number links.lines)) links) waiting self.new) }
     {
         let mut placed = self.take_out(number)?;
@@ -100,7 +100,7 @@ impl DeliveryQueuesDraft {
     /// The handset can't be reached, and its next connection is a new one.
     pub fn lower(&mut self, number: Digits) -> Result<(), AllocError>
         requires digits { AllDigits number }
-        ensures { OnOk result ((g : Allocations) (links : Links) (waiting : List ℕ → List LoadOf) → DraftRepresents g links waiting self.old
+        ensures { OnOk result ((g : Allocations) (links : Links) (waiting : List ℕ → List QueuedOf) → DraftRepresents g links waiting self.old
             → DraftRepresents g (put_line_in (lowered (line_of number links.lines)) links) waiting self.new) }
     {
         let mut placed = self.take_out(number)?;
@@ -112,7 +112,7 @@ impl DeliveryQueuesDraft {
     /// The handset has no memory.
     pub fn fill(&mut self, number: Digits) -> Result<(), AllocError>
         requires digits { AllDigits number }
-        ensures { OnOk result ((g : Allocations) (links : Links) (waiting : List ℕ → List LoadOf) → DraftRepresents g links waiting self.old
+        ensures { OnOk result ((g : Allocations) (links : Links) (waiting : List ℕ → List QueuedOf) → DraftRepresents g links waiting self.old
             → DraftRepresents g (put_line_in (filled (line_of number links.lines)) links) waiting self.new) }
     {
         let mut placed = self.take_out(number)?;
@@ -124,7 +124,7 @@ impl DeliveryQueuesDraft {
     /// The handset has memory again.
     pub fn empty(&mut self, number: Digits) -> Result<(), AllocError>
         requires digits { AllDigits number }
-        ensures { OnOk result ((g : Allocations) (links : Links) (waiting : List ℕ → List LoadOf) → DraftRepresents g links waiting self.old
+        ensures { OnOk result ((g : Allocations) (links : Links) (waiting : List ℕ → List QueuedOf) → DraftRepresents g links waiting self.old
             → DraftRepresents g (put_line_in (emptied (line_of number links.lines)) links) waiting self.new) }
     {
         let mut placed = self.take_out(number)?;
@@ -147,7 +147,7 @@ impl DeliveryQueuesDraft {
         requires digits { AllDigits number }
         requires some { 0 < length unit.now }
         requires fits { length unit.now ≤ 248 }
-        ensures { OnOk result ((g : Allocations) (links : Links) (waiting : List ℕ → List LoadOf) → DraftRepresents g links waiting self.old
+        ensures { OnOk result ((g : Allocations) (links : Links) (waiting : List ℕ → List QueuedOf) → DraftRepresents g links waiting self.old
             → DraftRepresents g (turn_line (line_of number links.lines)
             (begun now reference tag unit.now (line_of number links.lines).link) links) waiting self.new) }
     {
@@ -174,7 +174,7 @@ impl DeliveryQueuesDraft {
         requires digits { AllDigits number }
         requires some { 0 < length unit.now }
         requires fits { length unit.now ≤ 248 }
-        ensures { OnOk result ((g : Allocations) (links : Links) (waiting : List ℕ → List LoadOf) → DraftRepresents g links waiting self.old
+        ensures { OnOk result ((g : Allocations) (links : Links) (waiting : List ℕ → List QueuedOf) → DraftRepresents g links waiting self.old
             → DraftRepresents g (turn_line (line_of number links.lines)
             (replied now kind reference tag unit.now (line_of number links.lines).link) links) waiting self.new) }
     {
@@ -191,9 +191,9 @@ impl DeliveryQueuesDraft {
     /// Takes a frame of the handset, whatever its octets, and gives what its link passes up.
     pub fn take(&mut self, number: Digits, frame: &[u8]) -> Result<Option<Upward>, AllocError>
         requires digits { AllDigits number }
-        ensures up { IfOk result (λ up. (g : Allocations) (links : Links) (waiting : List ℕ → List LoadOf) → DraftRepresents g links waiting self.old
+        ensures up { IfOk result (λ up. (g : Allocations) (links : Links) (waiting : List ℕ → List QueuedOf) → DraftRepresents g links waiting self.old
             → up ≡ (taken frame.now (line_of number links.lines).link).out.up) }
-        ensures state { OnOk result ((g : Allocations) (links : Links) (waiting : List ℕ → List LoadOf) → DraftRepresents g links waiting self.old
+        ensures state { OnOk result ((g : Allocations) (links : Links) (waiting : List ℕ → List QueuedOf) → DraftRepresents g links waiting self.old
             → DraftRepresents g (turn_line (line_of number links.lines) (taken frame.now (line_of number links.lines).link) links) waiting self.new) }
     {
         let mut placed = self.take_out(number)?;
@@ -209,9 +209,9 @@ impl DeliveryQueuesDraft {
     /// Lets the timers of the link fire that are due, and gives what it passes up.
     pub fn fire(&mut self, number: Digits, now: Moment) -> Result<Option<Upward>, AllocError>
         requires digits { AllDigits number }
-        ensures up { IfOk result (λ up. (g : Allocations) (links : Links) (waiting : List ℕ → List LoadOf) → DraftRepresents g links waiting self.old
+        ensures up { IfOk result (λ up. (g : Allocations) (links : Links) (waiting : List ℕ → List QueuedOf) → DraftRepresents g links waiting self.old
             → up ≡ (fired now (line_of number links.lines).link).out.up) }
-        ensures state { OnOk result ((g : Allocations) (links : Links) (waiting : List ℕ → List LoadOf) → DraftRepresents g links waiting self.old
+        ensures state { OnOk result ((g : Allocations) (links : Links) (waiting : List ℕ → List QueuedOf) → DraftRepresents g links waiting self.old
             → DraftRepresents g (turn_line (line_of number links.lines) (fired now (line_of number links.lines).link) links) waiting self.new) }
     {
         let mut placed = self.take_out(number)?;
@@ -250,7 +250,7 @@ impl DeliveryQueuesDraft {
     /// Gives the reference to the handset. The last place of a handset is 4,294,967,295: a later handset gets none.
     pub fn give(&mut self, number: Digits, reference: u8, now: Moment) -> Result<(), AllocError>
         requires is { IsNumber number }
-        ensures { OnOk result ((g : Allocations) (links : Links) (waiting : List ℕ → List LoadOf) → DraftRepresents g links waiting self.old
+        ensures { OnOk result ((g : Allocations) (links : Links) (waiting : List ℕ → List QueuedOf) → DraftRepresents g links waiting self.old
             → DraftRepresents (give_in (handset_of number (handsets_of g)) reference now g) links waiting self.new) }
     {
         let mut placed = self.take_out(number)?;
@@ -268,7 +268,8 @@ impl DeliveryQueuesDraft {
     ) -> Result<(), AllocError>
         ensures noted { OnOk result (self.new ≡ given_to (or_new_handset placed.old.queue.line.handset self.old.next_place placed.old.queue.row)
             placed.old.queue.row reference now self.old) }
-        ensures placed { OnOk result (placed.new ≡ with_queue (queue_given (or_new_handset placed.old.queue.line.handset self.old.next_place placed.old.queue.row)
+        ensures placed { OnOk result (placed.new ≡ with_queue
+            (queue_given (or_new_handset placed.old.queue.line.handset self.old.next_place placed.old.queue.row)
             reference now placed.old.queue) placed.old) }
     {
         let Some(row) = self.row_for(placed) else {

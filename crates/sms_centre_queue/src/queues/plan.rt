@@ -1,6 +1,6 @@
 //! What an event leaves of the queues.
 ghost use Rattle.std.specs.Prelude.{◌≡◌, IfOk};
-ghost use Rattle.sms_centre_queue.specs.queues.Plan.{Fits, FitsIn, IsAdopted, IsSettled};
+ghost use Rattle.sms_centre_queue.specs.queues.Plan.{FitsTheQueues, FitsIn, IsAdopted, IsSettled};
 ghost use Rattle.sms_centre_queue.specs.queues.Stops.{rested_at, scanned};
 ghost use Rattle.sms_centre_queue.specs.declared.queues.concern.Concern.TheVariants.{Offer};
 
@@ -72,7 +72,7 @@ impl DeliveryQueuesDraft {
         ensures references { IfOk result (λ plan. plan.references ≡ self.references) }
         ensures frames { IfOk result (λ plan. plan.frames ≡ self.frames) }
         ensures queues { IfOk result (λ plan. IsSettled self plan.queues) }
-        ensures fits { IfOk result (λ plan. Fits plan.queues) }
+        ensures fits { IfOk result (λ plan. FitsTheQueues plan.queues) }
         ensures rested { IfOk result (λ plan. plan.queues.rested ≡ rested_at now (scanned (Offer now) self)) }
     {
         match self.prepared(now) {
@@ -112,7 +112,7 @@ impl DeliveryQueuesDraft {
         ensures references { result.references ≡ self.references }
         ensures frames { result.frames ≡ self.frames }
         ensures queues { IsSettled self result.queues }
-        ensures fits { Fits result.queues }
+        ensures fits { FitsTheQueues result.queues }
         ensures rested { result.queues.rested ≡ prepared.rested }
     {
         DeliveryQueuesOutcome {
@@ -149,7 +149,7 @@ impl DeliveryQueues {
     /// Puts in what an event left, without taking memory. Where another event still shares the ground, what was touched
     /// is beside it until one is adopted that has it alone.
     pub fn adopt(&mut self, settled: DeliveryQueuesPlan)
-        requires fits { Fits settled }
+        requires fits { FitsTheQueues settled }
         ensures { IsAdopted settled self.new }
     {
         let DeliveryQueuesPlan {

@@ -2,11 +2,12 @@
 ghost use Rattle.std.specs.Prelude.{◌≡◌, ◌+◌, ℕ, List, [], IfErr, IfOk};
 ghost use Rattle.sms_rows.specs.table.Keys.{AllDigits, pair_key};
 ghost use Rattle.sms_rows.specs.table.Table.{row_at};
-ghost use Rattle.sms_centre_rows.specs.waiting.Keys.{load_key};
+ghost use Rattle.sms_centre_rows.specs.waiting.Keys.{queued_key};
 ghost use Rattle.sms_centre_rows.specs.waiting.Links.{Links, is_ready as is_ready_of, line_of};
-ghost use Rattle.sms_centre_rows.specs.waiting.References.{Allocations, handset_at, handset_of, handsets_of, next_reference as next_reference_of, place_after, references_of};
+ghost use Rattle.sms_centre_rows.specs.waiting.References.{Allocations, handset_at, handset_of, handsets_of, next_reference as next_reference_of, place_after};
+ghost use Rattle.sms_centre_rows.specs.waiting.References.{references_of};
 ghost use Rattle.sms_centre_rows.specs.waiting.Waiting.{next as next_of, waits_beside as waits_beside_of};
-ghost use Rattle.sms_centre_rows.specs.declared.waiting.queued_part.QueuedPart.{QueuedPart as LoadOf};
+ghost use Rattle.sms_centre_rows.specs.declared.waiting.queued_part.QueuedPart.{QueuedPart as QueuedOf};
 ghost use Rattle.sms_centre_queue.specs.queues.Queues.{HasNoPlace, placed_of, reference_of};
 ghost use Rattle.sms_centre_queue.specs.queues.Representing.{DraftRepresents};
 ghost use Rattle.sms_centre_queue.specs.queues.Stops.{found};
@@ -23,8 +24,8 @@ impl DeliveryQueuesDraft {
     /// What waits for the handset, in the order of messages and numbers, in memory of its own.
     pub fn waiting(&self, number: &Digits) -> Result<Vec<QueuedPart>, AllocError>
         requires digits { AllDigits number.now }
-        ensures { (g : Allocations) (links : Links) (waiting : List ℕ → List LoadOf) → DraftRepresents g links waiting self.now
-            → IfOk result (λ loads. loads.items ≡ waiting number.now) }
+        ensures { (g : Allocations) (links : Links) (waiting : List ℕ → List QueuedOf) → DraftRepresents g links waiting self.now
+            → IfOk result (λ all_queued. all_queued.items ≡ waiting number.now) }
     {
         match self.placed(Key::digits(number).number()) {
             Some(placed) => placed.queue.waiting(),
@@ -33,13 +34,13 @@ impl DeliveryQueuesDraft {
     }
 
     /// The queued part of that message and number, if it waits for the handset.
-    pub fn load(&self, number: &Digits, id: MessageId, load: u8) -> Option<QueuedPart>
+    pub fn queued(&self, number: &Digits, id: MessageId, part: u8) -> Option<QueuedPart>
         requires digits { AllDigits number.now }
-        ensures { (g : Allocations) (links : Links) (waiting : List ℕ → List LoadOf) → DraftRepresents g links waiting self.now
-            → result ≡ row_at load_key (pair_key id load) (waiting number.now) }
+        ensures { (g : Allocations) (links : Links) (waiting : List ℕ → List QueuedOf) → DraftRepresents g links waiting self.now
+            → result ≡ row_at queued_key (pair_key id part) (waiting number.now) }
     {
         match self.placed(Key::digits(number).number()) {
-            Some(placed) => placed.queue.load(id, load),
+            Some(placed) => placed.queue.queued(id, part),
             None => None,
         }
     }
@@ -47,7 +48,7 @@ impl DeliveryQueuesDraft {
     /// Of all that is due for the handset, the first to be offered.
     pub fn next(&self, number: &Digits, now: Moment) -> Option<QueuedPart>
         requires digits { AllDigits number.now }
-        ensures { (g : Allocations) (links : Links) (waiting : List ℕ → List LoadOf) → DraftRepresents g links waiting self.now
+        ensures { (g : Allocations) (links : Links) (waiting : List ℕ → List QueuedOf) → DraftRepresents g links waiting self.now
             → result ≡ next_of now (waiting number.now) }
     {
         match self.placed(Key::digits(number).number()) {
@@ -59,7 +60,7 @@ impl DeliveryQueuesDraft {
     /// Whether another one is due beside it.
     pub fn waits_beside(&self, number: &Digits, now: Moment, chosen: &QueuedPart) -> bool
         requires digits { AllDigits number.now }
-        ensures { (g : Allocations) (links : Links) (waiting : List ℕ → List LoadOf) → DraftRepresents g links waiting self.now
+        ensures { (g : Allocations) (links : Links) (waiting : List ℕ → List QueuedOf) → DraftRepresents g links waiting self.now
             → result ≡ waits_beside_of now chosen.now (waiting number.now) }
     {
         match self.placed(Key::digits(number).number()) {
@@ -71,7 +72,7 @@ impl DeliveryQueuesDraft {
     /// Whether something may be offered to the handset.
     pub fn is_ready(&self, number: &Digits) -> bool
         requires digits { AllDigits number.now }
-        ensures { (g : Allocations) (links : Links) (waiting : List ℕ → List LoadOf) → DraftRepresents g links waiting self.now
+        ensures { (g : Allocations) (links : Links) (waiting : List ℕ → List QueuedOf) → DraftRepresents g links waiting self.now
             → result ≡ is_ready_of (line_of number.now links.lines) }
     {
         match self.placed(Key::digits(number).number()) {
@@ -83,7 +84,7 @@ impl DeliveryQueuesDraft {
     /// What the transaction to the handset carries that is under way.
     pub fn under_way(&self, number: &Digits) -> Option<Carried>
         requires digits { AllDigits number.now }
-        ensures { (g : Allocations) (links : Links) (waiting : List ℕ → List LoadOf) → DraftRepresents g links waiting self.now
+        ensures { (g : Allocations) (links : Links) (waiting : List ℕ → List QueuedOf) → DraftRepresents g links waiting self.now
             → result ≡ (line_of number.now links.lines).link.under_way }
     {
         match self.placed(Key::digits(number).number()) {
@@ -96,10 +97,11 @@ impl DeliveryQueuesDraft {
     /// handset gets none.
     pub fn next_reference(&self, number: Digits, now: Moment) -> Result<Option<u8>, AllocError>
         requires digits { AllDigits number }
-        ensures reference { IfOk result (λ reference. (g : Allocations) (links : Links) (waiting : List ℕ → List LoadOf) → DraftRepresents g links waiting self.now
+        ensures reference { IfOk result (λ reference. (g : Allocations) (links : Links) (waiting : List ℕ → List QueuedOf)
+            → DraftRepresents g links waiting self.now
             → reference ≡ next_reference_of (handset_of number (handsets_of g)) (waiting number) (references_of g) now) }
         // It takes no memory: an error says that the handset is new, and that all places are used up.
-        ensures err { IfErr result (λ error. (g : Allocations) (links : Links) (waiting : List ℕ → List LoadOf) → DraftRepresents g links waiting self.now
+        ensures err { IfErr result (λ error. (g : Allocations) (links : Links) (waiting : List ℕ → List QueuedOf) → DraftRepresents g links waiting self.now
             → HasNoPlace (place_after 1 (handsets_of g)) (handset_at number (handsets_of g))) }
     {
         let reference = self.queue_reference(number, now)?;
@@ -135,7 +137,7 @@ impl DeliveryQueuesDraft {
     /// were touched. It also looks at those of the index where something may have become due since it looked at them
     /// last.
     pub fn stops(&self, purpose: &Concern) -> Result<Vec<ConcernedHandset>, AllocError>
-        ensures { IfOk result (λ stops. (g : Allocations) (links : Links) (waiting : List ℕ → List LoadOf) → DraftRepresents g links waiting self.now
+        ensures { IfOk result (λ stops. (g : Allocations) (links : Links) (waiting : List ℕ → List QueuedOf) → DraftRepresents g links waiting self.now
             → stops.items ≡ found purpose.now (handsets_of g) links.lines waiting) }
     {
         let stops = self.scan(purpose)?;

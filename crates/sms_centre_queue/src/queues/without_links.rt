@@ -3,7 +3,7 @@ ghost use Rattle.std.specs.Prelude.{◌≡◌, ℕ, List, [], Some, nat_eq, if�
 ghost use Rattle.std.specs.Option.{option_or};
 ghost use Rattle.sms_centre_rows.specs.waiting.Links.{Links};
 ghost use Rattle.sms_centre_rows.specs.waiting.References.{Allocations};
-ghost use Rattle.sms_centre_rows.specs.declared.waiting.queued_part.QueuedPart.{QueuedPart as LoadOf};
+ghost use Rattle.sms_centre_rows.specs.declared.waiting.queued_part.QueuedPart.{QueuedPart as QueuedOf};
 ghost use Rattle.sms_centre_queue.specs.queues.Queues.{at, under};
 ghost use Rattle.sms_centre_queue.specs.queues.Representing.{DraftRepresents};
 ghost use Rattle.sms_centre_queue.specs.queues.Unlined.{unlined as unlined_of};
@@ -19,7 +19,7 @@ impl DeliveryQueuesDraft {
     /// No handset has a line any more, as after a restart: whatever was up, awaited, full or under way is forgotten. What waits, and the
     /// references that were given, stay. Every queue is copied.
     pub fn forget_lines(&mut self) -> Result<(), AllocError>
-        ensures { OnOk result ((g : Allocations) (links : Links) (waiting : List ℕ → List LoadOf) → DraftRepresents g links waiting self.old
+        ensures { OnOk result ((g : Allocations) (links : Links) (waiting : List ℕ → List QueuedOf) → DraftRepresents g links waiting self.old
             → DraftRepresents g (record links { lines = [] }) waiting self.new) }
     {
         let queues = self.unlined(self.alloc)?;

@@ -7,7 +7,7 @@ ghost use Rattle.sms_rows.specs.table.Keys.{AllDigits};
 ghost use Rattle.sms_centre_rows.specs.waiting.Links.{Links, line_of, put_line};
 ghost use Rattle.sms_centre_rows.specs.waiting.References.{Allocations};
 ghost use Rattle.sms_centre_rows.specs.waiting.SoundAllocations.{IsNumber};
-ghost use Rattle.sms_centre_rows.specs.declared.waiting.queued_part.QueuedPart.{QueuedPart as LoadOf};
+ghost use Rattle.sms_centre_rows.specs.declared.waiting.queued_part.QueuedPart.{QueuedPart as QueuedOf};
 ghost use Rattle.sms_centre_spec.specs.SoundCore.{AreDifferent};
 
 use sms_base::Digits;
@@ -16,7 +16,7 @@ use std::alloc::AllocError;
 
 fn connect(handset: Digits, is_up: bool, queues: &mut DeliveryQueuesDraft) -> Result<(), AllocError>
     requires { AllDigits handset }
-    ensures { OnOk result ((g : Allocations) (links : Links) (waiting : List ℕ → List LoadOf) → DraftRepresents g links waiting queues.old
+    ensures { OnOk result ((g : Allocations) (links : Links) (waiting : List ℕ → List QueuedOf) → DraftRepresents g links waiting queues.old
         → DraftRepresents g (put_line (connected is_up (line_of handset links.lines)) links) waiting queues.new) }
 {
     if is_up {
@@ -34,7 +34,7 @@ pub fn connect_all(
 ) -> Result<(), AllocError>
     requires numbers { (number : List ℕ) → Among number handsets.now → IsNumber number }
     requires apart { AreDifferent handsets.now }
-    ensures { OnOk result ((g : Allocations) (waiting : List ℕ → List LoadOf)
+    ensures { OnOk result ((g : Allocations) (waiting : List ℕ → List QueuedOf)
         → DraftRepresents g (record { lines = []; frames = []; read = [] }) waiting queues.old
         → DraftRepresents g (record { lines = lines_of are_up handsets.now; frames = []; read = [] }) waiting queues.new) }
 {

@@ -2,22 +2,23 @@
 ghost use Rattle.std.specs.Prelude.{◌≡◌, ℕ, List, [], ◌∷◌, Some, OnOk};
 ghost use Rattle.sms_base.specs.Among.{Among};
 ghost use Rattle.sms_centre_rows.specs.messages.Messages.{part_key, priority_of as priority_of_rows};
-ghost use Rattle.sms_centre_rows.specs.messages.OpenParts.{is_open_part, part_load as part_load_of, parts_waiting};
+ghost use Rattle.sms_centre_rows.specs.messages.OpenParts.{is_open_part, part_queued as part_queued_of, parts_waiting};
 ghost use Rattle.sms_centre_rows.specs.declared.messages.part.PartRow.{PartRow as PartRowOf};
-ghost use Rattle.sms_centre_rows.specs.reports.Reports.{is_open_status as is_open_status_of, status_reference as status_reference_of};
-ghost use Rattle.sms_centre_rows.specs.reports.Waiting.{report_load as report_load_of, with_reports};
+ghost use Rattle.sms_centre_rows.specs.reports.Reports.{is_open_status as is_open_status_of};
+ghost use Rattle.sms_centre_rows.specs.reports.Waiting.{report_queued as report_queued_of, with_reports};
 ghost use Rattle.sms_centre_rows.specs.declared.reports.report.ReportRow.{ReportRow as ReportRowOf};
 ghost use Rattle.sms_centre_queue.specs.queues.Representing.{DraftRepresents};
 ghost use Rattle.sms_centre_recovery.specs.soundness.RowsOf.{rows_of};
 ghost use Rattle.sms_rows.specs.table.Table.{Rises};
 ghost use Rattle.sms_centre_rows.specs.waiting.Links.{Links};
 ghost use Rattle.sms_centre_rows.specs.waiting.References.{Allocations};
-ghost use Rattle.sms_centre_rows.specs.declared.waiting.queued_part.QueuedPart.{QueuedPart as LoadOf};
+ghost use Rattle.sms_centre_rows.specs.declared.waiting.queued_part.QueuedPart.{QueuedPart as QueuedOf};
 ghost use Rattle.sms_centre_spec.specs.SoundRows.{IsSound};
 
 use crate::soundness::RowTables;
 use sms_base::MessageId;
 use sms_centre_queue::queues::DeliveryQueuesDraft;
+use sms_centre_rows::conditions::status_reference;
 use sms_centre_rows::messages::{MessageRow, PartRow};
 use sms_centre_rows::reports::{ReportKind, ReportRow};
 use sms_centre_rows::waiting::QueuedPart;
@@ -41,8 +42,8 @@ fn priority_of(tables: &RowTables, id: MessageId) -> u8
     }
 }
 
-fn part_load(tables: &RowTables, part: &PartRow) -> QueuedPart
-    ensures { result ≡ part_load_of part.now tables.now.priorities.rows }
+fn part_queued(tables: &RowTables, part: &PartRow) -> QueuedPart
+    ensures { result ≡ part_queued_of part.now tables.now.priorities.rows }
 {
     QueuedPart {
         id: part.id,
@@ -70,7 +71,7 @@ fn put_part(
     if !waits(part, message) {
         return Ok(());
     }
-    queues.put(message.handset, part_load(tables, part))
+    queues.put(message.handset, part_queued(tables, part))
 }
 
 /// Adds all of these parts that wait, where nothing does. The last is added first, so that each next one is in front of
@@ -100,17 +101,8 @@ fn is_open_status(report: &ReportRow) -> bool
     matches!(&report.kind, ReportKind::Status { .. }) && !report.progress.is_done
 }
 
-fn status_reference(report: &ReportRow) -> u8
-    ensures { result ≡ status_reference_of report.now.kind }
-{
-    match &report.kind {
-        ReportKind::Status { reference, .. } => *reference,
-        _ => 0,
-    }
-}
-
-fn report_load(report: &ReportRow) -> QueuedPart
-    ensures { result ≡ report_load_of report.now }
+fn report_queued(report: &ReportRow) -> QueuedPart
+    ensures { result ≡ report_queued_of report.now }
 {
     QueuedPart {
         id: report.id,
@@ -129,7 +121,7 @@ fn put_report(
 ) -> Result<(), AllocError>
     requires sound { IsSound (rows_of tables.now) }
     requires there { Among report.now tables.now.reports.rows }
-    ensures { OnOk result ((g : Allocations) (links : Links) (rs : List ReportRowOf) (waiting : List ℕ → List LoadOf)
+    ensures { OnOk result ((g : Allocations) (links : Links) (rs : List ReportRowOf) (waiting : List ℕ → List QueuedOf)
         → DraftRepresents g links (λ number. with_reports number tables.now.messages.rows rs (waiting number)) queues.old
         → DraftRepresents g links (λ number. with_reports number tables.now.messages.rows (report.now ∷ rs) (waiting number)) queues.new) }
 {
@@ -139,7 +131,7 @@ fn put_report(
     let Some(message) = tables.messages.find(Key::of(report.id.number())) else {
         return Ok(());
     };
-    queues.put(message.source.digits, report_load(report))
+    queues.put(message.source.digits, report_queued(report))
 }
 
 /// Adds all of these status reports that wait, beside what waits already. The last is added first.
@@ -150,7 +142,7 @@ pub fn put_reports(
 ) -> Result<(), AllocError>
     requires sound { IsSound (rows_of tables.now) }
     requires there { (r : ReportRowOf) → Among r reports.now → Among r tables.now.reports.rows }
-    ensures { OnOk result ((g : Allocations) (links : Links) (waiting : List ℕ → List LoadOf) → DraftRepresents g links waiting queues.old
+    ensures { OnOk result ((g : Allocations) (links : Links) (waiting : List ℕ → List QueuedOf) → DraftRepresents g links waiting queues.old
         → DraftRepresents g links (λ number. with_reports number tables.now.messages.rows reports.now (waiting number)) queues.new) }
 {
     for i in 0..reports.len() {

@@ -1,22 +1,14 @@
 //! The moment at which a centre starts.
-ghost use Rattle.std.specs.Prelude.{◌≡◌, max};
-ghost use Rattle.sms_centre_spec.specs.CentreEvent.{after_messages as after_messages_of, after_references as after_references_of, after_reports as after_reports_of, moment_of as moment_of_rows};
+ghost use Rattle.std.specs.Prelude.{◌≡◌};
+ghost use Rattle.sms_centre_spec.specs.CentreEvent.{after_messages as after_messages_of, after_references as after_references_of};
+ghost use Rattle.sms_centre_spec.specs.CentreEvent.{after_reports as after_reports_of, moment_of as moment_of_rows};
 ghost use Rattle.sms_centre_recovery.specs.soundness.RowsOf.{rows_of};
 
 use crate::soundness::RowTables;
-use sms_base::Moment;
+use sms_base::{Moment, later};
 use sms_centre_rows::messages::MessageRow;
 use sms_centre_rows::reports::ReportRow;
 use sms_centre_rows::waiting::ReferenceRow;
-
-fn later(one: Moment, other: Moment) -> Moment
-    ensures { result ≡ max one other }
-{
-    if one.seconds() < other.seconds() {
-        return other;
-    }
-    one
-}
 
 fn after_messages(start: Moment, rows: &[MessageRow]) -> Moment
     ensures { result ≡ after_messages_of start rows.now }

@@ -26,7 +26,7 @@ use Rattle.sms_centre_spec.specs.declared.verdict.Verdict.{Verdict}
 use Rattle.sms_centre_spec.specs.declared.verdict.Verdict.TheVariants.{Settled, HandsetFull, Again, Refused, Late}
 use Rattle.sms_centre_spec.specs.Draft.{Store, messages_in, parts_in, reports_in, waiting_in, with_part_at, with_report_at}
 use Rattle.sms_centre_spec.specs.Ends.{end}
-use Rattle.sms_centre_spec.specs.Receiving.{all_due, due_now, load_due, part_due, report_due}
+use Rattle.sms_centre_spec.specs.Receiving.{all_due, due_now, queued_due, part_due, report_due}
 use Rattle.sms_centre_spec.specs.Consistent.{IsSubmission, IsConsistent}
 use Rattle.sms_centre_spec.specs.Submitting.{accept}
 use Rattle.sms_centre_spec.specs.Transfers.{complete, holder_ended, is_open, is_open_part_at, is_open_status_at, part_ended, part_ended_at, part_ended_of, report_ended, report_ended_at, verdict_of, verdict_on}
@@ -125,14 +125,14 @@ module _ (P : Store → Type 0) (c : IsFirm P) where
   report_due_firm id None s k there = k
   report_due_firm id (Some r) s k there = c.report_far r (due_at s.moment r.progress) s k (report_own id r s there) (inl refl)
 
-  load_due_firm : (l : QueuedPart) (s : Store) → P s → P (load_due l s)
-  load_due_firm l s k =
+  queued_due_firm : (l : QueuedPart) (s : Store) → P s → P (queued_due l s)
+  queued_due_firm l s k =
       cond_both (l.number == 0) (report_due (report_of l.id (reports_in s)) s) (part_due (part_at l.id l.number (parts_in s)) s) P
       (λ t. report_due_firm l.id (report_of l.id (reports_in s)) s k refl) (λ t. part_due_firm (pair_key l.id l.number) (part_at l.id l.number (parts_in s)) s k refl)
 
   pub all_due_firm : (ls : List QueuedPart) (s : Store) → P s → P (all_due ls s)
   all_due_firm [] s k = k
-  all_due_firm (l ∷ ls) s k = all_due_firm ls (load_due l s) (load_due_firm l s k)
+  all_due_firm (l ∷ ls) s k = all_due_firm ls (queued_due l s) (queued_due_firm l s k)
 
   pub due_now_firm : (handset : List ℕ) (s : Store) → P s → P (due_now handset s)
   due_now_firm handset s k = all_due_firm (waiting_in handset s) s k

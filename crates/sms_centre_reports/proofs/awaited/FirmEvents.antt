@@ -52,7 +52,7 @@ use Rattle.sms_centre_spec.specs.CentreEvent.{tag_of, aged, at_moment, expired, 
 use Rattle.sms_centre_spec.specs.Draft.{Core, Draft, Store, draft_of, handsets_in, messages_in, on_links, rows_of, waiting_in}
 use Rattle.sms_centre_spec.specs.MessageNumbers.{next_number}
 use Rattle.sms_centre_spec.specs.Consistent.{IsSubmission}
-use Rattle.sms_centre_spec.specs.Submitted.{AccountGives, Gives, UnitGives, UpGives}
+use Rattle.sms_centre_spec.specs.Submitted.{AccountGives, EventGives, UnitGives, UpGives}
 use Rattle.sms_centre_spec.proofs.Stages.{IfThere, unless_kept}
 use Rattle.sms_centre_spec.proofs.Steady.{message_own, to_cancel_there}
 use Rattle.sms_centre_reports.specs.awaited.Events.{IsNoAnswer}
@@ -224,7 +224,7 @@ module _ (P : Store → Type 0) (c : IsFirm P) where
 
   -- ---- every event
 
-  pub firm_event : (event : CentreEvent) (core : Core) → P (draft_of core).store → IsMoment core.moment → Gives event core → IsNoAnswer event → P (happened event core).store
+  pub firm_event : (event : CentreEvent) (core : Core) → P (draft_of core).store → IsMoment core.moment → EventGives event core → IsNoAnswer event → P (happened event core).store
   firm_event (Submit account m) core k now g n = submit_by_firm (account_at account core.rows.setup.accounts) m (draft_of core) k g
   firm_event (Query account q) core k now g n = query_by_firm (account_at account core.rows.setup.accounts) q (draft_of core) k
   firm_event (Cancel account q) core k now g n = cancel_by_firm (account_at account core.rows.setup.accounts) q (draft_of core) k

@@ -8,7 +8,7 @@ use Rattle.sms_rows.specs.table.Table.{AllAbove, Rises, insert, put, row_at, wit
 use Rattle.sms_rows.proofs.table.Tables.{among_found, found_among, found_key, insert_behind, rises_put, row_at_put, row_at_put_other, without_behind}
 use Rattle.sms_centre_rows.specs.declared.reports.report.ReportRow.{ReportRow}
 use Rattle.sms_centre_rows.specs.reports.Reports.{next_place, place_after, report_key, report_of, report_reaching}
-use Rattle.sms_centre_rows.specs.reports.Waiting.{Alone, IsNew}
+use Rattle.sms_centre_rows.specs.reports.Waiting.{Alone, IsReportApart}
 use Rattle.sms_centre_rows.proofs.reports.AllWaiting.{report_behind, report_found, report_here}
 use Rattle.sms_centre_rows.proofs.reports.ReportRows.{amended_alone, amended_other, amended_own, new_alone, new_report, new_report_other}
 use Rattle.sms_centre_reports.specs.open_reports.Became.{Became}
@@ -47,7 +47,7 @@ none_of id s (r ∷ rs) e m = ⊎_elim
     (cases_eq r.id id))
     m
 
-is_new : (r : ReportRow) (rs : List ReportRow) → Rises report_key rs → r.place ≡ next_place rs → report_of r.id rs ≡ None → IsNew rs r
+is_new : (r : ReportRow) (rs : List ReportRow) → Rises report_key rs → r.place ≡ next_place rs → report_of r.id rs ≡ None → IsReportApart rs r
 is_new r rs h e none = record {
   place = λ s m f. let l = below_next 1 s rs h m in absurd (omega (arith, l, e, f));
   message = λ s m. none_of r.id s rs none m;
@@ -56,7 +56,7 @@ is_new r rs h e none = record {
 no_row : (n : ℕ) (b : ReportRow) (rs : List ReportRow) → ((s : ReportRow) → Among s rs → ¬ (s.place ≡ n)) → row_at report_key n rs ≡ Some b → ⊥
 no_row n b rs f e = f b (found_among report_key n b rs e) (found_key report_key n b rs e)
 
-became_new : (r : ReportRow) (rs : List ReportRow) → Rises report_key rs → Alone rs → IsNew rs r → Became rs (put report_key r rs) r
+became_new : (r : ReportRow) (rs : List ReportRow) → Rises report_key rs → Alone rs → IsReportApart rs r → Became rs (put report_key r rs) r
 became_new r rs h alone new = record {
   keys = rises_put report_key r rs h;
   alone = new_alone r rs new alone;
@@ -146,5 +146,5 @@ nothing_there r b rs lower e = no_row r.place b rs (λ s m f. let l = lower s m 
 
 pub became_added : (r : ReportRow) (rs : List ReportRow) → Rises report_key rs → Alone rs → ((s : ReportRow) → Among s rs → s.place < r.place) → report_of r.id rs ≡ None → Became rs (rs ++ r ∷ []) r
 became_added r rs h alone lower none =
-    let new : IsNew rs r = record { place = λ s m f. let l = lower s m in absurd (omega (arith, l, f)); message = λ s m. none_of r.id s rs none m } in
+    let new : IsReportApart rs r = record { place = λ s m f. let l = lower s m in absurd (omega (arith, l, f)); message = λ s m. none_of r.id s rs none m } in
     subst (λ (after : List ReportRow). Became rs after r) (ap (λ (x : List ReportRow). insert report_key r x) (without_none r.place rs lower) ∙ insert_end r rs lower) (became_new r rs h alone new)

@@ -4,7 +4,8 @@ use Rattle.sms_rows.specs.table.Table.{row_at}
 use Rattle.sms_centre_rows.specs.declared.messages.message.MessageRow.{MessageRow}
 use Rattle.sms_centre_rows.specs.messages.SplitReferences.{is_among}
 use Rattle.sms_centre_rows.specs.declared.reports.report.ReportRow.{ReportRow}
-use Rattle.sms_centre_rows.specs.reports.Receipts.{Bindings, Session, all_tried, answered_in, put_session, receipt_ended, receipts_due, remove_session, session_key}
+use Rattle.sms_centre_rows.specs.reports.Receipts.{Bindings, Session, all_tried, answered_in, put_session, receipt_ended, receipts_due, remove_session}
+use Rattle.sms_centre_rows.specs.reports.Receipts.{session_key}
 use Rattle.sms_centre_rows.specs.reports.Reports.{report_of, reports_of}
 use Rattle.sms_centre_rows.specs.waiting.Revisions.{Revised}
 

@@ -10,7 +10,8 @@ ghost use Rattle.sms_centre_rows.specs.declared.reports.report.ReportRow.{Report
 ghost use Rattle.sms_rows.specs.table.Table.{Rises};
 ghost use Rattle.sms_centre_rows.specs.waiting.Revisions.{Revised};
 ghost use Rattle.sms_centre_reports.specs.open_reports.OpenReportsDraft.{tpdu_made};
-ghost use Rattle.sms_centre_reports.specs.sessions.Answering.{bindings_answered, bindings_bound, bindings_unbound, reports_answered, reports_bound, reports_unbound};
+ghost use Rattle.sms_centre_reports.specs.sessions.Answering.{bindings_answered, bindings_bound, bindings_unbound, reports_answered, reports_bound};
+ghost use Rattle.sms_centre_reports.specs.sessions.Answering.{reports_unbound};
 ghost use Rattle.sms_centre_reports.specs.sessions.Awaited.{AreAwaited};
 ghost use Rattle.sms_centre_spec.specs.declared.event.CentreEvent.{CentreEvent};
 ghost use Rattle.sms_centre_spec.specs.CentreEvent.{happened};

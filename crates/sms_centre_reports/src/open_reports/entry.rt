@@ -11,7 +11,7 @@ use std::alloc::AllocError;
 #[derive(Clone, Copy, Debug, PartialEq, Eq)]
 pub struct ReportEntry {
     pub id: MessageId,
-    /// Its place in the order in which reports were made.
+    /// The report's place in the order in which reports were made.
     pub place: u64,
     /// The reference of a status report; a receipt has none.
     pub reference: Option<u8>,

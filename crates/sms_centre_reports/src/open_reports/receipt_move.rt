@@ -15,7 +15,7 @@ pub(crate) enum ReceiptMove {
     Accepted,
     /// The application refused it, or the session ended in which it was sent: it is sent again after a minute.
     PutOff(Moment),
-    /// It is sent now.
+    /// The receipt is sent now.
     Due(Moment),
 }
 

@@ -3,7 +3,8 @@ ghost use Rattle.std.specs.Prelude.{◌≡◌, ◌+◌, ◌<◌, ◌++◌, ◌�
 ghost use Rattle.sms_rows.specs.index.First.{first_such, is_ahead_from, is_past_from};
 ghost use Rattle.sms_rows.specs.index.Picked.{pick_of};
 ghost use Rattle.sms_base.specs.Among.{Among};
-ghost use Rattle.sms_centre_reports.specs.open_reports.Entries.{account_in, entry_key, open_entry, receipt_due, receipt_key, report_entry, status_key, status_until};
+ghost use Rattle.sms_centre_reports.specs.open_reports.Entries.{account_in, entry_key, open_entry, receipt_due, receipt_key, report_entry, status_key};
+ghost use Rattle.sms_centre_reports.specs.open_reports.Entries.{status_until};
 ghost use Rattle.sms_centre_reports.specs.open_reports.OpenReports.{Represents, receipts_at};
 ghost use Rattle.sms_centre_reports.specs.open_reports.Updates.{keeping, keeping_receipt, keeping_status, receipt_of, status_of, unless_done};
 ghost use Rattle.sms_centre_rows.specs.declared.messages.message.MessageRow.{MessageRow as MessageRowOf};

@@ -18,7 +18,7 @@ use std::marker::Model;
 /// A report that was made.
 #[derive(Clone, Copy, Debug, PartialEq, Eq)]
 pub struct LoggedReport {
-    /// Its place in the order in which reports were made, from 1.
+    /// The report's place in the order in which reports were made, from 1.
     pub place: u64,
     /// The message.
     pub id: MessageId,

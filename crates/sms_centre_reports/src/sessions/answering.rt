@@ -4,7 +4,8 @@ ghost use Rattle.sms_centre_reports.specs.open_reports.OpenReportsDraft.{DraftRe
 ghost use Rattle.sms_centre_rows.specs.declared.messages.message.MessageRow.{MessageRow as MessageRowOf};
 ghost use Rattle.sms_centre_rows.specs.reports.Reports.{reports_of};
 ghost use Rattle.sms_centre_rows.specs.declared.reports.report.ReportRow.{ReportRow as ReportRowOf};
-ghost use Rattle.sms_centre_reports.specs.sessions.Answering.{bindings_answered, bindings_bound, bindings_unbound, reports_answered, reports_bound, reports_unbound};
+ghost use Rattle.sms_centre_reports.specs.sessions.Answering.{bindings_answered, bindings_bound, bindings_unbound, reports_answered, reports_bound};
+ghost use Rattle.sms_centre_reports.specs.sessions.Answering.{reports_unbound};
 ghost use Rattle.sms_centre_reports.specs.sessions.Awaited.{AreAwaited};
 ghost use Rattle.sms_centre_rows.specs.waiting.Revisions.{Revised};
 

@@ -75,7 +75,7 @@ impl ReceiptSession {
         Ok(ReceiptSession { seated })
     }
 
-    /// Its number.
+    /// The session's number.
     pub fn number(&self) -> u32
         ensures { result ≡ self.now.number }
     {

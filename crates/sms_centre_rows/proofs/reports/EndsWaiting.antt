@@ -10,10 +10,10 @@ use Rattle.sms_centre_rows.specs.declared.messages.message.MessageRow.{MessageRo
 use Rattle.sms_centre_rows.specs.declared.messages.part.PartRow.{PartRow}
 use Rattle.sms_centre_rows.specs.declared.messages.priority.PriorityRow.{PriorityRow}
 use Rattle.sms_centre_rows.specs.messages.Messages.{ended, message_at, message_key, part_at, part_key, priority_in, priority_key, priority_of}
-use Rattle.sms_centre_rows.specs.messages.OpenParts.{Numbered, part_load, part_wait, waits_for}
+use Rattle.sms_centre_rows.specs.messages.OpenParts.{Numbered, part_queued, part_wait, waits_for}
 use Rattle.sms_centre_rows.specs.declared.reports.report.ReportRow.{ReportRow}
 use Rattle.sms_centre_rows.specs.reports.Reports.{report_of}
-use Rattle.sms_centre_rows.specs.reports.Waiting.{Alone, report_load, report_wait, reports_to, waiting_for}
+use Rattle.sms_centre_rows.specs.reports.Waiting.{Alone, report_queued, report_wait, reports_to, waiting_for}
 use Rattle.sms_centre_rows.proofs.reports.AllWaiting.{report_found}
 use Rattle.sms_centre_rows.proofs.reports.FewWaiting.{all_few}
 use Rattle.sms_centre_rows.proofs.reports.WaitingChanges.{message_ends, nothing_changes}
@@ -23,11 +23,11 @@ use Rattle.sms_centre_rows.specs.waiting.Waiting.{withdrawn}
 wait_alike : (h : List ℕ) (ms others : List MessageRow) (qs priorities : List PriorityRow) (p : PartRow) → message_at p.id others ≡ message_at p.id ms → priority_of p.id priorities ≡ priority_of p.id qs
     → part_wait h others priorities (Some p) ≡ part_wait h ms qs (Some p)
 wait_alike h ms others qs priorities p e f =
-    ap (λ (o : Option MessageRow). if waits_for h p o then Some (part_load p priorities) else None) e
+    ap (λ (o : Option MessageRow). if waits_for h p o then Some (part_queued p priorities) else None) e
     ∙ ap (λ (n : ℕ). if waits_for h p (message_at p.id ms) then Some (record { id = p.id; number = p.number; reference = p.reference; priority = n; due = p.progress.due }) else None) f
 
 report_alike : (h : List ℕ) (ms others : List MessageRow) (r : ReportRow) → message_at r.id others ≡ message_at r.id ms → report_wait h others (Some r) ≡ report_wait h ms (Some r)
-report_alike h ms others r e = ap (λ (o : Option MessageRow). if reports_to h r o then Some (report_load r) else None) e
+report_alike h ms others r e = ap (λ (o : Option MessageRow). if reports_to h r o then Some (report_queued r) else None) e
 
 -- the part under a key is of that message and has that number
 part_is : (ps : List PartRow) (id n : ℕ) (p : PartRow) → Numbered ps → n < 256 → part_at id n ps ≡ Some p → p.id ≡ id
@@ -59,8 +59,8 @@ module _ (h : List ℕ) (ms : List MessageRow) (qs : List PriorityRow) (ps : Lis
     by (Some p) e =
         let id : p.id ≡ m.id = part_is ps m.id n p numbered small e in
         let row : message_at p.id (put message_key (ended state moment m) ms) ≡ Some (ended state moment m) = ap (λ (k : ℕ). message_at k (put message_key (ended state moment m) ms)) id ∙ at_own in
-        ap (λ (o : Option MessageRow). if waits_for h p o then Some (part_load p qs) else None) row
-        ∙ cond-false (not p.progress.is_done && false) (Some (part_load p qs)) None (and_false (not p.progress.is_done))
+        ap (λ (o : Option MessageRow). if waits_for h p o then Some (part_queued p qs) else None) row
+        ∙ cond-false (not p.progress.is_done && false) (Some (part_queued p qs)) None (and_false (not p.progress.is_done))
 
   other_parts : Numbered ps → (i n : ℕ) → n < 256 → ¬ (i ≡ m.id) → part_wait h (put message_key (ended state moment m) ms) qs (part_at i n ps) ≡ part_wait h ms qs (part_at i n ps)
   other_parts numbered i n small ne = by (part_at i n ps) refl where
@@ -76,8 +76,8 @@ module _ (h : List ℕ) (ms : List MessageRow) (qs : List PriorityRow) (ps : Lis
         (λ (e : m.id ≡ r.id).
         let now : message_at r.id (put message_key (ended state moment m) ms) ≡ Some (ended state moment m) = ap (λ (k : ℕ). message_at k (put message_key (ended state moment m) ms)) (sym e) ∙ at_own in
         let was : message_at r.id ms ≡ Some m = ap (λ (k : ℕ). message_at k ms) (sym e) ∙ there in
-        ap (λ (o : Option MessageRow). if reports_to h r o then Some (report_load r) else None) now
-        ∙ ap (λ (o : Option MessageRow). if reports_to h r o then Some (report_load r) else None) (sym was))
+        ap (λ (o : Option MessageRow). if reports_to h r o then Some (report_queued r) else None) now
+        ∙ ap (λ (o : Option MessageRow). if reports_to h r o then Some (report_queued r) else None) (sym was))
         (λ (e : m.id ≡ r.id → ⊥). report_alike h ms (put message_key (ended state moment m) ms) r (at_other r.id e))
         (cases_eq m.id r.id)
 

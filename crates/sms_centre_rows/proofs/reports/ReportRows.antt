@@ -7,7 +7,7 @@ use Rattle.sms_rows.specs.table.Table.{Rises, insert, put, row_at, without}
 use Rattle.sms_rows.proofs.table.Tables.{among_found, among_put, insert_behind, insert_here, without_behind}
 use Rattle.sms_centre_rows.specs.declared.reports.report.ReportRow.{ReportRow}
 use Rattle.sms_centre_rows.specs.reports.Reports.{report_key, report_of, report_reaching}
-use Rattle.sms_centre_rows.specs.reports.Waiting.{Alone, IsNew}
+use Rattle.sms_centre_rows.specs.reports.Waiting.{Alone, IsReportApart}
 use Rattle.sms_centre_rows.proofs.reports.AllWaiting.{report_behind, report_found, report_here}
 use Rattle.sms_centre_rows.specs.declared.waiting.progress.Progress.{Progress}
 use Rattle.sms_centre_rows.specs.waiting.Revisions.{amended}
@@ -37,13 +37,13 @@ insert_other id r (s ∷ rs) ne = ⊎_elim
     (cases_eq s.id id))
     (cases_lt r.place s.place)
 
-pub new_report : (r : ReportRow) (rs : List ReportRow) → IsNew rs r → report_of r.id (put report_key r rs) ≡ Some r
+pub new_report : (r : ReportRow) (rs : List ReportRow) → IsReportApart rs r → report_of r.id (put report_key r rs) ≡ Some r
 new_report r rs new = ap (λ (x : List ReportRow). report_of r.id (insert report_key r x)) (without_none r.place rs new.place) ∙ insert_own r rs new.message
 
-pub new_report_other : (id : ℕ) (r : ReportRow) (rs : List ReportRow) → IsNew rs r → ¬ (r.id ≡ id) → report_of id (put report_key r rs) ≡ report_of id rs
+pub new_report_other : (id : ℕ) (r : ReportRow) (rs : List ReportRow) → IsReportApart rs r → ¬ (r.id ≡ id) → report_of id (put report_key r rs) ≡ report_of id rs
 new_report_other id r rs new ne = ap (λ (x : List ReportRow). report_of id (insert report_key r x)) (without_none r.place rs new.place) ∙ insert_other id r rs ne
 
-pub new_alone : (r : ReportRow) (rs : List ReportRow) → IsNew rs r → Alone rs → Alone (put report_key r rs)
+pub new_alone : (r : ReportRow) (rs : List ReportRow) → IsReportApart rs r → Alone rs → Alone (put report_key r rs)
 new_alone r rs new alone = λ a b m n e. ⊎_elim
     (λ (p : a ≡ r). ⊎_elim
     (λ (q : b ≡ r). p ∙ sym q)

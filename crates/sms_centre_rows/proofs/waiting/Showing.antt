@@ -21,20 +21,20 @@ give_own number hs rs waiting lines s reference now sound small represents =
     subst (λ (h : HandsetRow). Represents number (put handset_key (mentioned h reference) hs) (put reference_key (given_row h reference now) rs) waiting lines (queue_given (row_for number hs s) reference now s))
     (ap (λ (o : Option HandsetRow). or_new_handset number (place_after 1 hs) o) represents.row)
     (let own = given_own number hs rs s.given s.row reference now sound (sym represents.row) represents.given small in
-    record { row = own.0; given = own.1; loads = represents.loads; line = represents.line })
+    record { row = own.0; given = own.1; all_queued = represents.all_queued; line = represents.line })
 
 pub give_other : (number other : List ℕ) (hs : List HandsetRow) (rs : List ReferenceRow) (waiting : List QueuedPart) (lines : List HandsetLink) (s : DeliveryQueueOf) (reference now : ℕ)
     → SoundAllocations hs rs → reference < 256 → ¬ (number ≡ other) → Represents other hs rs waiting lines s
     → Represents other (put handset_key (mentioned (handset_of number hs) reference) hs) (put reference_key (given_row (handset_of number hs) reference now) rs) waiting lines s
 give_other number other hs rs waiting lines s reference now sound small apart represents =
     let there = given_other number other hs rs s.given (handset_at number hs) s.row reference now sound refl (sym represents.row) apart represents.given small in
-    record { row = there.0; given = there.1; loads = represents.loads; line = represents.line }
+    record { row = there.0; given = there.1; all_queued = represents.all_queued; line = represents.line }
 
 pub line_own : (hs : List HandsetRow) (rs : List ReferenceRow) (waiting : List QueuedPart) (lines : List HandsetLink) (line : HandsetLink) (s : DeliveryQueueOf)
     → Represents line.handset hs rs waiting lines s → Represents line.handset hs rs waiting (with_line line lines) (queue_on line s)
-line_own hs rs waiting lines line s represents = record { row = represents.row; given = represents.given; loads = represents.loads; line = sym (line_put line lines) }
+line_own hs rs waiting lines line s represents = record { row = represents.row; given = represents.given; all_queued = represents.all_queued; line = sym (line_put line lines) }
 
 pub line_other : (other : List ℕ) (hs : List HandsetRow) (rs : List ReferenceRow) (waiting : List QueuedPart) (lines : List HandsetLink) (line : HandsetLink) (s : DeliveryQueueOf)
     → ¬ (line.handset ≡ other) → Represents other hs rs waiting lines s → Represents other hs rs waiting (with_line line lines) s
 line_other other hs rs waiting lines line s apart represents =
-    record { row = represents.row; given = represents.given; loads = represents.loads; line = represents.line ∙ sym (line_put_other other line lines apart) }
+    record { row = represents.row; given = represents.given; all_queued = represents.all_queued; line = represents.line ∙ sym (line_put_other other line lines apart) }

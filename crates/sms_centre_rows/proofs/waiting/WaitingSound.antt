@@ -9,7 +9,7 @@ use Rattle.sms_rows.proofs.table.Tables.{among_put, among_without, rises_put, ri
 use Rattle.sms_centre_rows.specs.declared.waiting.handset.HandsetRow.{HandsetRow}
 use Rattle.sms_centre_rows.specs.declared.waiting.queued_part.QueuedPart.{QueuedPart}
 use Rattle.sms_centre_rows.specs.declared.waiting.reference.ReferenceRow.{ReferenceRow}
-use Rattle.sms_centre_rows.specs.waiting.Keys.{load_key, reference_key}
+use Rattle.sms_centre_rows.specs.waiting.Keys.{queued_key, reference_key}
 use Rattle.sms_centre_rows.specs.waiting.References.{first_passing, following, given_row, is_free, is_held, is_late, mentioned, next_reference}
 use Rattle.sms_centre_rows.specs.waiting.SoundAllocations.{reference_at}
 use Rattle.sms_centre_rows.specs.waiting.SoundWaiting.{SoundWaiting, WasGiven}
@@ -76,66 +76,66 @@ given_more (Some g) h rs k now r same given small few = ⊎_elim
 
 pub waits_under : (row : Option HandsetRow) (h : HandsetRow) (rs : List ReferenceRow) (waiting : List QueuedPart) (l : QueuedPart) (now : ℕ) → SoundWaiting row rs waiting → ((g : HandsetRow) → row ≡ Some g → g.place ≡ h.place)
     → next_reference h waiting rs now ≡ Some l.reference
-    → SoundWaiting (Some (mentioned h l.reference)) (put reference_key (given_row h l.reference now) rs) (put load_key l waiting)
+    → SoundWaiting (Some (mentioned h l.reference)) (put reference_key (given_row h l.reference now) rs) (put queued_key l waiting)
 waits_under row h rs waiting l now sound same next =
     let free = next_is_free h waiting rs now l.reference next in
     let unheld = not_held h waiting rs now l.reference free.0 in
     record {
-      keys = rises_put load_key l waiting sound.keys;
+      keys = rises_put queued_key l waiting sound.keys;
       small = λ x m. ⊎_elim
           (λ (e : x ≡ l). subst (λ (y : QueuedPart). y.reference < 256) (sym e) free.1)
-          (λ (k : Among x waiting × ¬ (load_key x ≡ load_key l)). sound.small x k.0)
-          (among_put load_key x l waiting m);
+          (λ (k : Among x waiting × ¬ (queued_key x ≡ queued_key l)). sound.small x k.0)
+          (among_put queued_key x l waiting m);
       given = λ x m. ⊎_elim
           (λ (e : x ≡ l).
           let found : (r : ReferenceRow) × (reference_at h.place l.reference (put reference_key (given_row h l.reference now) rs) ≡ Some r) =
           (given_row h l.reference now, row_at_put reference_key (given_row h l.reference now) rs) in
           subst (λ (y : QueuedPart). WasGiven (Some (mentioned h l.reference)) (put reference_key (given_row h l.reference now) rs) y.reference) (sym e) found)
-          (λ (k : Among x waiting × ¬ (load_key x ≡ load_key l)).
+          (λ (k : Among x waiting × ¬ (queued_key x ≡ queued_key l)).
           given_more row h rs l.reference now x.reference same (sound.given x k.0) (sound.small x k.0) free.1)
-          (among_put load_key x l waiting m);
+          (among_put queued_key x l waiting m);
       apart = λ x y m n e. ⊎_elim
           (λ (p : x ≡ l). ⊎_elim
-          (λ (q : y ≡ l). ap load_key (p ∙ sym q))
-          (λ (q : Among y waiting × ¬ (load_key y ≡ load_key l)).
+          (λ (q : y ≡ l). ap queued_key (p ∙ sym q))
+          (λ (q : Among y waiting × ¬ (queued_key y ≡ queued_key l)).
           absurd (none_holds l.reference waiting y unheld q.0 (sym e ∙ ap (λ (z : QueuedPart). z.reference) p)))
-          (among_put load_key y l waiting n))
-          (λ (p : Among x waiting × ¬ (load_key x ≡ load_key l)). ⊎_elim
+          (among_put queued_key y l waiting n))
+          (λ (p : Among x waiting × ¬ (queued_key x ≡ queued_key l)). ⊎_elim
           (λ (q : y ≡ l). absurd (none_holds l.reference waiting x unheld p.0 (e ∙ ap (λ (z : QueuedPart). z.reference) q)))
-          (λ (q : Among y waiting × ¬ (load_key y ≡ load_key l)). sound.apart x y p.0 q.0 e)
-          (among_put load_key y l waiting n))
-          (among_put load_key x l waiting m);
+          (λ (q : Among y waiting × ¬ (queued_key y ≡ queued_key l)). sound.apart x y p.0 q.0 e)
+          (among_put queued_key y l waiting n))
+          (among_put queued_key x l waiting m);
     }
 
 -- ---- one that waits is put off, under its reference
 
-pub put_off_sound : (row : Option HandsetRow) (rs : List ReferenceRow) (waiting : List QueuedPart) (was l : QueuedPart) → SoundWaiting row rs waiting → Among was waiting → load_key was ≡ load_key l → was.reference ≡ l.reference
-    → SoundWaiting row rs (put load_key l waiting)
+pub put_off_sound : (row : Option HandsetRow) (rs : List ReferenceRow) (waiting : List QueuedPart) (was l : QueuedPart) → SoundWaiting row rs waiting → Among was waiting → queued_key was ≡ queued_key l → was.reference ≡ l.reference
+    → SoundWaiting row rs (put queued_key l waiting)
 put_off_sound row rs waiting was l sound there key reference = record {
-  keys = rises_put load_key l waiting sound.keys;
+  keys = rises_put queued_key l waiting sound.keys;
   small = λ x m. ⊎_elim
       (λ (e : x ≡ l). subst (λ (n : ℕ). n < 256) (reference ∙ ap (λ (y : QueuedPart). y.reference) (sym e)) (sound.small was there))
-      (λ (k : Among x waiting × ¬ (load_key x ≡ load_key l)). sound.small x k.0)
-      (among_put load_key x l waiting m);
+      (λ (k : Among x waiting × ¬ (queued_key x ≡ queued_key l)). sound.small x k.0)
+      (among_put queued_key x l waiting m);
   given = λ x m. ⊎_elim
       (λ (e : x ≡ l). subst (λ (n : ℕ). WasGiven row rs n) (reference ∙ ap (λ (y : QueuedPart). y.reference) (sym e)) (sound.given was there))
-      (λ (k : Among x waiting × ¬ (load_key x ≡ load_key l)). sound.given x k.0)
-      (among_put load_key x l waiting m);
+      (λ (k : Among x waiting × ¬ (queued_key x ≡ queued_key l)). sound.given x k.0)
+      (among_put queued_key x l waiting m);
   apart = λ x y m n e. ⊎_elim
       (λ (p : x ≡ l). ⊎_elim
-      (λ (q : y ≡ l). ap load_key (p ∙ sym q))
-      (λ (q : Among y waiting × ¬ (load_key y ≡ load_key l)). ap load_key p ∙ sym key ∙ sound.apart was y there q.0 (reference ∙ ap (λ (z : QueuedPart). z.reference) (sym p) ∙ e))
-      (among_put load_key y l waiting n))
-      (λ (p : Among x waiting × ¬ (load_key x ≡ load_key l)). ⊎_elim
-      (λ (q : y ≡ l). sound.apart x was p.0 there (e ∙ ap (λ (z : QueuedPart). z.reference) q ∙ sym reference) ∙ key ∙ ap load_key (sym q))
-      (λ (q : Among y waiting × ¬ (load_key y ≡ load_key l)). sound.apart x y p.0 q.0 e)
-      (among_put load_key y l waiting n))
-      (among_put load_key x l waiting m);
+      (λ (q : y ≡ l). ap queued_key (p ∙ sym q))
+      (λ (q : Among y waiting × ¬ (queued_key y ≡ queued_key l)). ap queued_key p ∙ sym key ∙ sound.apart was y there q.0 (reference ∙ ap (λ (z : QueuedPart). z.reference) (sym p) ∙ e))
+      (among_put queued_key y l waiting n))
+      (λ (p : Among x waiting × ¬ (queued_key x ≡ queued_key l)). ⊎_elim
+      (λ (q : y ≡ l). sound.apart x was p.0 there (e ∙ ap (λ (z : QueuedPart). z.reference) q ∙ sym reference) ∙ key ∙ ap queued_key (sym q))
+      (λ (q : Among y waiting × ¬ (queued_key y ≡ queued_key l)). sound.apart x y p.0 q.0 e)
+      (among_put queued_key y l waiting n))
+      (among_put queued_key x l waiting m);
 }
 
 -- ---- some wait no more
 
-fewer_sound : (row : Option HandsetRow) (rs : List ReferenceRow) (waiting fewer : List QueuedPart) → SoundWaiting row rs waiting → Rattle.sms_rows.specs.table.Table.Rises load_key fewer → ((l : QueuedPart) → Among l fewer → Among l waiting)
+fewer_sound : (row : Option HandsetRow) (rs : List ReferenceRow) (waiting fewer : List QueuedPart) → SoundWaiting row rs waiting → Rattle.sms_rows.specs.table.Table.Rises queued_key fewer → ((l : QueuedPart) → Among l fewer → Among l waiting)
     → SoundWaiting row rs fewer
 fewer_sound row rs waiting fewer sound rises back = record {
   keys = rises;
@@ -144,9 +144,9 @@ fewer_sound row rs waiting fewer sound rises back = record {
   apart = λ l k m n e. sound.apart l k (back l m) (back k n) e;
 }
 
-pub without_sound : (row : Option HandsetRow) (rs : List ReferenceRow) (waiting : List QueuedPart) (key : ℕ) → SoundWaiting row rs waiting → SoundWaiting row rs (without load_key key waiting)
+pub without_sound : (row : Option HandsetRow) (rs : List ReferenceRow) (waiting : List QueuedPart) (key : ℕ) → SoundWaiting row rs waiting → SoundWaiting row rs (without queued_key key waiting)
 without_sound row rs waiting key sound =
-    fewer_sound row rs waiting (without load_key key waiting) sound (rises_without load_key key waiting sound.keys) (λ l m. (among_without load_key l key waiting m).0)
+    fewer_sound row rs waiting (without queued_key key waiting) sound (rises_without queued_key key waiting sound.keys) (λ l m. (among_without queued_key l key waiting m).0)
 
 among_withdrawn : (id : ℕ) (ls : List QueuedPart) (l : QueuedPart) → Among l (withdrawn id ls) → Among l ls
 among_withdrawn id [] l m = m
@@ -179,5 +179,5 @@ at_once_sound row rs waiting now sound = record {
   apart = λ l k m n e.
       let f = among_at_once now waiting l m in
       let g = among_at_once now waiting k n in
-      ap load_key f.1.1 ∙ sound.apart f.0 g.0 f.1.0 g.1.0 (ap (λ (z : QueuedPart). z.reference) (sym f.1.1) ∙ e ∙ ap (λ (z : QueuedPart). z.reference) g.1.1) ∙ ap load_key (sym g.1.1);
+      ap queued_key f.1.1 ∙ sound.apart f.0 g.0 f.1.0 g.1.0 (ap (λ (z : QueuedPart). z.reference) (sym f.1.1) ∙ e ∙ ap (λ (z : QueuedPart). z.reference) g.1.1) ∙ ap queued_key (sym g.1.1);
 }

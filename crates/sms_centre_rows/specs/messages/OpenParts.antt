@@ -19,8 +19,8 @@ abbrev pub waits_for : List ℕ → PartRow → Option MessageRow → Bool
 waits_for handset p None = false
 waits_for handset p (Some m) = not p.progress.is_done && (is_pending m && bytes_eq m.handset handset)
 
-abbrev pub part_load : PartRow → List PriorityRow → QueuedPart
-part_load p priorities = record {
+abbrev pub part_queued : PartRow → List PriorityRow → QueuedPart
+part_queued p priorities = record {
   id = p.id;
   number = p.number;
   reference = p.reference;
@@ -31,13 +31,13 @@ part_load p priorities = record {
 -- what waits of a part, if it is there
 abbrev pub part_wait : List ℕ → List MessageRow → List PriorityRow → Option PartRow → Option QueuedPart
 part_wait handset messages priorities None = None
-part_wait handset messages priorities (Some p) = if waits_for handset p (message_at p.id messages) then Some (part_load p priorities) else None
+part_wait handset messages priorities (Some p) = if waits_for handset p (message_at p.id messages) then Some (part_queued p priorities) else None
 
 -- in the order of messages and numbers
 abbrev pub parts_waiting : List ℕ → List MessageRow → List PriorityRow → List PartRow → List QueuedPart
 parts_waiting handset messages priorities [] = []
 parts_waiting handset messages priorities (p ∷ ps) =
-    if waits_for handset p (message_at p.id messages) then part_load p priorities ∷ parts_waiting handset messages priorities ps
+    if waits_for handset p (message_at p.id messages) then part_queued p priorities ∷ parts_waiting handset messages priorities ps
     else parts_waiting handset messages priorities ps
 
 -- parts have numbers from 1 to 255, and are in the order of their keys

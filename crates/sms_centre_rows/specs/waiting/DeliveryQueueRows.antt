@@ -18,7 +18,7 @@ pub record Represents (number : List ℕ) (handsets : List HandsetRow) (referenc
     (s : DeliveryQueueOf) : Type 0 where
   pub row : s.row ≡ handset_at number handsets
   pub given : RepresentsGiven s.row references s.given
-  pub loads : s.waiting ≡ waiting
+  pub all_queued : s.waiting ≡ waiting
   pub line : s.line ≡ line_of number lines
 
 -- the row under which the queue's next reference is given

@@ -6,7 +6,7 @@ use Rattle.sms_centre_rows.specs.declared.waiting.handset.HandsetRow.{HandsetRow
 use Rattle.sms_centre_rows.specs.declared.waiting.handset_link.HandsetLink.{HandsetLink}
 use Rattle.sms_centre_rows.specs.declared.waiting.queued_part.QueuedPart.{QueuedPart}
 use Rattle.sms_centre_rows.specs.declared.waiting.reference.ReferenceRow.{ReferenceRow}
-use Rattle.sms_centre_rows.specs.waiting.Keys.{load_key, reference_key}
+use Rattle.sms_centre_rows.specs.waiting.Keys.{queued_key, reference_key}
 use Rattle.sms_centre_rows.specs.waiting.Links.{turned}
 use Rattle.sms_centre_rows.specs.waiting.References.{given_row, mentioned}
 use Rattle.sms_centre_rows.specs.waiting.Waiting.{all_at_once, withdrawn}
@@ -29,11 +29,11 @@ queue_given h reference moment s = record s {
 
 -- one more waits there, or waits otherwise
 abbrev pub queue_with : QueuedPart → DeliveryQueueOf → DeliveryQueueOf
-queue_with l s = record s { waiting = put load_key l s.waiting }
+queue_with l s = record s { waiting = put queued_key l s.waiting }
 
 -- it waits there no more
 abbrev pub queue_without : ℕ → DeliveryQueueOf → DeliveryQueueOf
-queue_without key s = record s { waiting = without load_key key s.waiting }
+queue_without key s = record s { waiting = without queued_key key s.waiting }
 
 abbrev pub queue_withdrawn : ℕ → DeliveryQueueOf → DeliveryQueueOf
 queue_withdrawn id s = record s { waiting = withdrawn id s.waiting }

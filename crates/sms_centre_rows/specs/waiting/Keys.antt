@@ -14,5 +14,5 @@ abbrev pub reference_key : ReferenceRow → ℕ
 reference_key r = pair_key r.place r.reference
 
 -- a part's number is below 256, and a status report's is 0
-abbrev pub load_key : QueuedPart → ℕ
-load_key l = pair_key l.id l.number
+abbrev pub queued_key : QueuedPart → ℕ
+queued_key l = pair_key l.id l.number

@@ -5,7 +5,7 @@ use Rattle.sms_rows.specs.table.Table.{Rises}
 use Rattle.sms_centre_rows.specs.declared.waiting.handset.HandsetRow.{HandsetRow}
 use Rattle.sms_centre_rows.specs.declared.waiting.queued_part.QueuedPart.{QueuedPart}
 use Rattle.sms_centre_rows.specs.declared.waiting.reference.ReferenceRow.{ReferenceRow}
-use Rattle.sms_centre_rows.specs.waiting.Keys.{load_key}
+use Rattle.sms_centre_rows.specs.waiting.Keys.{queued_key}
 use Rattle.sms_centre_rows.specs.waiting.SoundAllocations.{reference_at}
 
 -- the reference was given at the handset of that row
@@ -14,7 +14,7 @@ WasGiven None references reference = ⊥
 WasGiven (Some h) references reference = (r : ReferenceRow) × (reference_at h.place reference references ≡ Some r)
 
 pub record SoundWaiting (row : Option HandsetRow) (references : List ReferenceRow) (waiting : List QueuedPart) : Type 0 where
-  pub keys : Rises load_key waiting
+  pub keys : Rises queued_key waiting
   pub small : (l : QueuedPart) → Among l waiting → l.reference < 256
   pub given : (l : QueuedPart) → Among l waiting → WasGiven row references l.reference
-  pub apart : (l k : QueuedPart) → Among l waiting → Among k waiting → l.reference ≡ k.reference → load_key l ≡ load_key k
+  pub apart : (l k : QueuedPart) → Among l waiting → Among k waiting → l.reference ≡ k.reference → queued_key l ≡ queued_key k

@@ -1,46 +1,14 @@
 //! Whether a unit can carry an address.
 ghost use Rattle.std.specs.Prelude.{◌≡◌};
-ghost use Rattle.sms_base.specs.Address.{has_code as has_code_of, width_of as width_of_code};
-ghost use Rattle.sms_base.specs.Alphabet.{code_for};
-ghost use Rattle.sms_base.specs.SemiOctet.{is_digit as is_digit_of};
 ghost use Rattle.sms_centre_rows.specs.conditions.AddressTest.{is_address as is_address_of, is_name_within as is_name_within_of};
-ghost use Rattle.std.specs.List.{list_all};
 
-use sms_base::{Address, code_of, semi_octet_of};
+use sms_base::{Address, are_digits, has_code, width_of};
 
 // Digits in a number, semi-octets of 1 to 20 (3GPP TS 23.040 9.1.2.5).
 const MOST_DIGITS: usize = 20;
 
 // Septets in a name: as many as fit 20 semi-octets.
 const MOST_SEPTETS: u8 = 11;
-
-fn is_digit(character: char) -> bool
-    ensures { result ≡ is_digit_of character }
-{
-    semi_octet_of(character).is_some()
-}
-
-fn are_digits(characters: &[char]) -> bool
-    ensures { result ≡ list_all is_digit_of characters.now }
-{
-    characters.iter().all(|character| is_digit(*character))
-}
-
-// How many septets a character takes; one without a code counts as one.
-fn width_of(character: char) -> u8
-    ensures { result ≡ width_of_code (code_for character) }
-{
-    match code_of(character) {
-        Some(code) => code.len(),
-        None => 1,
-    }
-}
-
-fn has_code(character: char) -> bool
-    ensures { result ≡ has_code_of character }
-{
-    code_of(character).is_some()
-}
 
 fn is_name_within(left: u8, characters: &[char]) -> bool
     ensures { result ≡ is_name_within_of left characters.now }

@@ -3,7 +3,10 @@ ghost use Rattle.std.specs.Prelude.{◌≡◌, Some, nat_lt};
 ghost use Rattle.sms_centre_rows.specs.messages.SplitReferences.{is_delivered as is_delivered_of, is_same_address as is_same_address_of};
 ghost use Rattle.sms_tpdu.specs.TpduReading.{down_at};
 ghost use Rattle.sms_tpdu.specs.declared.carrier.Carrier.TheVariants.{InData as Data};
-ghost use Rattle.sms_centre_rows.specs.conditions.MessageTest.{carries as carries_of, ends_so as ends_so_of, has_rows as has_rows_of, is_deliver_of as is_deliver_of_message, is_done as is_done_of, is_handset as is_handset_of, is_id as is_id_of, is_message as is_message_of, is_part as is_part_of, is_priority as is_priority_of, delivery_agrees as delivery_agrees_of, parts_with};
+ghost use Rattle.sms_centre_rows.specs.conditions.MessageTest.{carries as carries_of, ends_so as ends_so_of, has_rows as has_rows_of};
+ghost use Rattle.sms_centre_rows.specs.conditions.MessageTest.{is_deliver_of as is_deliver_of_message, is_done as is_done_of, is_handset as is_handset_of};
+ghost use Rattle.sms_centre_rows.specs.conditions.MessageTest.{is_id as is_id_of, is_message as is_message_of, is_part as is_part_of};
+ghost use Rattle.sms_centre_rows.specs.conditions.MessageTest.{is_priority as is_priority_of, delivery_agrees as delivery_agrees_of, parts_with};
 ghost use Rattle.std.specs.List.{list_all};
 
 use crate::conditions::addresses::is_address;
@@ -90,7 +93,8 @@ pub fn are_messages(
 
 // ---- parts
 
-fn is_same_address(one: &Address, other: &Address) -> bool
+/// Whether two addresses are the same.
+pub fn is_same_address(one: &Address, other: &Address) -> bool
     ensures { result ≡ is_same_address_of one.now other.now }
 {
     one.ton.number() == other.ton.number()

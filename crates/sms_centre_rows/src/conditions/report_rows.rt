@@ -4,7 +4,8 @@ ghost use Rattle.std.specs.List.{list_all};
 ghost use Rattle.sms_tpdu.specs.TpduReading.{down_at};
 ghost use Rattle.sms_tpdu.specs.declared.carrier.Carrier.TheVariants.{InData as Data};
 ghost use Rattle.sms_centre_rows.specs.conditions.Differing.{differ as differ_of};
-ghost use Rattle.sms_centre_rows.specs.conditions.ReportTest.{fits_originator as fits_originator_of, id_of, is_report as is_report_of, is_status_of as is_status_of_message};
+ghost use Rattle.sms_centre_rows.specs.conditions.ReportTest.{fits_originator as fits_originator_of, id_of, is_report as is_report_of};
+ghost use Rattle.sms_centre_rows.specs.conditions.ReportTest.{is_status_of as is_status_of_message};
 
 use crate::conditions::differ::differ;
 use crate::conditions::message_rows::is_octet;

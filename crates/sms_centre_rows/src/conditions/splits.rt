@@ -1,46 +1,12 @@
 //! Split references of messages that are not wholly delivered (3GPP TS 23.040 9.2.3.24.8).
-ghost use Rattle.std.specs.Cmp.Rules.{comparing, hashing};
-ghost use Rattle.std.specs.Hash as fed;
 ghost use Rattle.std.specs.Prelude.{◌≡◌, filter_map, IfOk};
-ghost use Rattle.std.specs.Str.{bytes_eq};
-ghost use Rattle.std.proofs.Common.{rules};
 ghost use Rattle.sms_centre_rows.specs.conditions.SplitTest.{split_of as split_of_message, splits_differ as splits_differ_of};
 
 use crate::conditions::differ::differ;
 use crate::messages::MessageRow;
-use sms_base::{Digits, FinalState};
+use sms_base::FinalState;
+use sms_rows::interning::Number;
 use std::alloc::{AllocError, Global};
-use std::hash::{Hash, Hasher};
-
-/// A number or a name, distinguished from others by its characters.
-#[derive(Clone, Copy, Drop)]
-pub struct Name {
-    pub digits: Digits,
-}
-
-impl PartialEq for Name {
-    ghost eq = { λ a b. bytes_eq a.digits b.digits };
-
-    ghost laws = { Prim.search (comparing, rules) };
-
-    fn eq(&self, other: &Name) -> bool {
-        self.digits.as_slice() == other.digits.as_slice()
-    }
-}
-
-impl Eq for Name {
-    ghost laws = { Prim.search (comparing, rules) };
-}
-
-impl Hash for Name {
-    ghost hash_input = { λ a. fed.slice fed.char a.digits };
-
-    ghost respects_eq = { Prim.search (hashing, rules) };
-
-    fn hash<H: Hasher>(&self, state: &mut H) {
-        self.digits.as_slice().hash(state);
-    }
-}
 
 /// A split reference of a source and a handset.
 #[derive(Clone, Copy, Drop, PartialEq, Eq, Hash)]
@@ -49,8 +15,8 @@ pub struct Split {
     pub ton: u8,
     /// The source's numbering plan.
     pub npi: u8,
-    pub source: Name,
-    pub handset: Name,
+    pub source: Number,
+    pub handset: Number,
     pub reference: u16,
 }
 
@@ -64,10 +30,10 @@ fn split_of(message: &MessageRow) -> Option<Split>
     Some(Split {
         ton: message.source.ton.number(),
         npi: message.source.npi,
-        source: Name {
+        source: Number {
             digits: message.source.digits,
         },
-        handset: Name {
+        handset: Number {
             digits: message.handset,
         },
         reference,

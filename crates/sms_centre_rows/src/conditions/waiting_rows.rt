@@ -4,7 +4,10 @@ ghost use Rattle.std.specs.List.{list_all};
 ghost use Rattle.std.specs.Map.{lookup};
 ghost use Rattle.sms_centre_rows.specs.conditions.Differing.{differ as differ_of};
 ghost use Rattle.sms_centre_rows.specs.conditions.AllocationTest.{number_key};
-ghost use Rattle.sms_centre_rows.specs.conditions.WaitingTest.{Places, hold_at as hold_at_of, holds as holds_of, is_row as is_row_of, part_given as part_given_of, part_hold as part_hold_of, part_waits_at as part_waits_at_of, report_given as report_given_of, report_hold as report_hold_of, report_waits_at as report_waits_at_of};
+ghost use Rattle.sms_centre_rows.specs.conditions.WaitingTest.{Places, hold_at as hold_at_of, holds as holds_of, is_row as is_row_of};
+ghost use Rattle.sms_centre_rows.specs.conditions.WaitingTest.{part_given as part_given_of, part_hold as part_hold_of, part_waits_at as part_waits_at_of};
+ghost use Rattle.sms_centre_rows.specs.conditions.WaitingTest.{report_given as report_given_of, report_hold as report_hold_of};
+ghost use Rattle.sms_centre_rows.specs.conditions.WaitingTest.{report_waits_at as report_waits_at_of};
 ghost use Rattle.sms_centre_rows.specs.reports.Reports.{status_reference as status_reference_of};
 
 use crate::conditions::differ::differ;
@@ -131,7 +134,8 @@ fn part_holds(
 
 // ---- status reports
 
-fn status_reference(report: &ReportRow) -> u8
+/// The reference of the status report, or 0 of what is none.
+pub fn status_reference(report: &ReportRow) -> u8
     ensures { result ≡ status_reference_of report.now.kind }
 {
     match &report.kind {

@@ -1,6 +1,7 @@
 //! The messages that were accepted.
 ghost use Rattle.std.specs.Prelude.{◌≡◌};
 ghost use Rattle.sms_centre_rows.specs.messages.Messages.{message_key};
+ghost use Rattle.sms_centre_rows.specs.messages.SplitReferences.{is_delivered as is_delivered_of};
 
 use sms_base::{Address, Digits, FinalState, MessageId, Moment, Originator, Wish};
 use sms_rows::table::{Key, Row};
@@ -33,5 +34,18 @@ impl Row for MessageRow {
 
     fn key(&self) -> Key {
         Key::of(self.id.number())
+    }
+}
+
+/// Whether the message is wholly delivered.
+pub fn is_delivered(state: Option<FinalState>) -> bool
+    ensures { result ≡ is_delivered_of state }
+{
+    match state {
+        Some(FinalState::Delivered) => true,
+        Some(FinalState::Expired) => false,
+        Some(FinalState::Deleted) => false,
+        Some(FinalState::Undeliverable) => false,
+        None => false,
     }
 }

@@ -7,11 +7,11 @@ use sms_base::{MessageId, Octets};
 use sms_concat::ConcatKey;
 use sms_rows::table::{Key, Row};
 
-/// One short message of a message that was accepted.
+/// A short message of a message that was accepted.
 #[derive(Debug, Drop)]
 pub struct PartRow {
     pub id: MessageId,
-    /// Its number, from 1.
+    /// The part's number, from 1.
     pub number: u8,
     /// The reference of its RP-DATA, kept over all attempts.
     pub reference: u8,

@@ -12,7 +12,7 @@ use sms_rows::table::{Key, Row};
 #[derive(Clone, Copy, Debug, PartialEq, Eq)]
 pub struct PartEntry {
     pub id: MessageId,
-    /// Its number, from 1.
+    /// The part's number, from 1.
     pub number: u8,
     /// The reference of its RP-DATA.
     pub reference: u8,

@@ -9,7 +9,7 @@ ghost use Rattle.sms_centre_rows.specs.declared.messages.part.PartRow.{PartRow};
 ghost use Rattle.sms_centre_rows.specs.declared.messages.priority.PriorityRow.{PriorityRow};
 ghost use Rattle.sms_centre_rows.specs.reports.Receipts.{AreWindowed, Bindings, Session, receives_for, send, send_all, send_in, waits, window};
 ghost use Rattle.sms_centre_rows.specs.reports.Reports.{report_key, report_of, report_reaching};
-ghost use Rattle.sms_centre_rows.specs.reports.Waiting.{Alone, IsNew, report_wait, waiting_as, waiting_for};
+ghost use Rattle.sms_centre_rows.specs.reports.Waiting.{Alone, IsReportApart, report_wait, waiting_as, waiting_for};
 ghost use Rattle.sms_centre_rows.specs.declared.reports.report.ReportRow.{ReportRow};
 ghost use Rattle.sms_rows.specs.table.Keys.{pair_key};
 ghost use Rattle.sms_rows.specs.table.Table.{Rises, put, row_at};
@@ -38,7 +38,7 @@ pub fn a_part_waits_while_it_is_undone()
 pub fn a_report_waits_while_it_is_open()
     ensures put { (handset : List ℕ) (messages : List MessageRow) (priorities : List PriorityRow) (parts : List PartRow) (reports : List ReportRow)
         (r : ReportRow)
-        → Numbered parts → Alone reports → IsNew reports r
+        → Numbered parts → Alone reports → IsReportApart reports r
         → waiting_for handset messages priorities parts (put report_key r reports) ≡ waiting_as (pair_key r.id 0) (report_wait handset messages (Some r))
         (waiting_for handset messages priorities parts reports) }
     ensures amended { (handset : List ℕ) (messages : List MessageRow) (priorities : List PriorityRow) (parts : List PartRow) (reports : List ReportRow)

@@ -20,7 +20,7 @@ pub enum ReportKind {
 /// A report to an originator of how a message ended.
 #[derive(Debug, Drop)]
 pub struct ReportRow {
-    /// Its place in the order in which reports were made, from 1.
+    /// The report's place in the order in which reports were made, from 1.
     pub place: u64,
     /// The message; no other report is of it.
     pub id: MessageId,

@@ -10,9 +10,9 @@ use sms_rows::table::{Key, Row};
 /// A handset that was given a reference.
 #[derive(Clone, Copy, Debug, PartialEq, Eq)]
 pub struct HandsetRow {
-    /// Its place in the order of first mention, from 1.
+    /// The handset's place in the order of first mention, from 1.
     pub place: u32,
-    /// Its digits 0 to 9.
+    /// The handset's digits 0 to 9.
     pub number: Digits,
     /// The reference that was given last, 0 to 255.
     pub last_reference: u8,

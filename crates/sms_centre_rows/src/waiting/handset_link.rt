@@ -9,7 +9,7 @@ use std::alloc::{AllocError, Global};
 /// A frame to a handset.
 #[derive(Debug, Drop)]
 pub struct Sent {
-    /// Its digits 0 to 9.
+    /// The handset's digits 0 to 9.
     pub handset: Digits,
     pub frame: Outgoing,
 }
@@ -17,10 +17,10 @@ pub struct Sent {
 /// The line to a handset: the centre's end of its link, and whether the handset can be reached.
 #[derive(Drop)]
 pub struct HandsetLink {
-    /// Its digits 0 to 9.
+    /// The handset's digits 0 to 9.
     pub handset: Digits,
     pub is_up: bool,
-    /// It was up before a recovery, and is up again at the next tick.
+    /// The link was up before a recovery, and is up again at the next tick.
     pub is_awaited: bool,
     /// The handset said that it has no memory (3GPP TS 23.040 9.2.3.22, RP cause 22).
     pub is_full: bool,

@@ -3,7 +3,7 @@
 ghost use Rattle.std.specs.Prelude.{Option, Some, ◌≡◌, ◌<◌, ◌∷◌, [], ℕ, List};
 ghost use Rattle.sms_base.specs.Among.{Among};
 ghost use Rattle.sms_rows.specs.table.Table.{put, without};
-ghost use Rattle.sms_centre_rows.specs.waiting.Keys.{handset_key, load_key, reference_key};
+ghost use Rattle.sms_centre_rows.specs.waiting.Keys.{handset_key, queued_key, reference_key};
 ghost use Rattle.sms_centre_rows.specs.waiting.Links.{with_line};
 ghost use Rattle.sms_centre_rows.specs.waiting.References.{given_row, handset_of, mentioned, next_reference};
 ghost use Rattle.sms_centre_rows.specs.waiting.DeliveryQueueRows.{Represents, row_for};
@@ -66,12 +66,12 @@ pub fn waiting_parts_have_distinct_references()
     ensures more { (row : Option HandsetRow) (h : HandsetRow) (references : List ReferenceRow) (waiting : List QueuedPart) (l : QueuedPart) (now : ℕ)
         → SoundWaiting row references waiting → ((g : HandsetRow) → row ≡ Some g → g.place ≡ h.place)
         → next_reference h waiting references now ≡ Some l.reference
-        → SoundWaiting (Some (mentioned h l.reference)) (put reference_key (given_row h l.reference now) references) (put load_key l waiting) }
+        → SoundWaiting (Some (mentioned h l.reference)) (put reference_key (given_row h l.reference now) references) (put queued_key l waiting) }
     ensures put_off { (row : Option HandsetRow) (references : List ReferenceRow) (waiting : List QueuedPart) (was l : QueuedPart)
-        → SoundWaiting row references waiting → Among was waiting → load_key was ≡ load_key l → was.reference ≡ l.reference → SoundWaiting row references
-        (put load_key l waiting) }
+        → SoundWaiting row references waiting → Among was waiting → queued_key was ≡ queued_key l → was.reference ≡ l.reference → SoundWaiting row references
+        (put queued_key l waiting) }
     ensures fewer { (row : Option HandsetRow) (references : List ReferenceRow) (waiting : List QueuedPart) (key : ℕ) → SoundWaiting row references waiting
-        → SoundWaiting row references (without load_key key waiting) }
+        → SoundWaiting row references (without queued_key key waiting) }
     ensures withdrawn { (row : Option HandsetRow) (references : List ReferenceRow) (waiting : List QueuedPart) (id : ℕ) → SoundWaiting row references waiting
         → SoundWaiting row references (withdrawn id waiting) }
     ensures at_once { (row : Option HandsetRow) (references : List ReferenceRow) (waiting : List QueuedPart) (now : ℕ) → SoundWaiting row references waiting

@@ -1,6 +1,6 @@
 //! What a handset is still to get.
 ghost use Rattle.std.specs.Prelude.{◌≡◌};
-ghost use Rattle.sms_centre_rows.specs.waiting.Keys.{load_key};
+ghost use Rattle.sms_centre_rows.specs.waiting.Keys.{queued_key};
 ghost use Rattle.sms_centre_rows.specs.waiting.Waiting.{is_due as is_due_of, precedes as precedes_of};
 
 use sms_base::{MessageId, Moment};
@@ -22,7 +22,7 @@ pub struct QueuedPart {
 }
 
 impl Row for QueuedPart {
-    ghost key = { load_key };
+    ghost key = { queued_key };
 
     fn key(&self) -> Key {
         Key::pair(self.id.number(), self.number)

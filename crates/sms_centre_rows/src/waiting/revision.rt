@@ -6,7 +6,7 @@ ghost use Rattle.sms_centre_rows.specs.waiting.Revisions.{removes_of, revision_k
 use crate::waiting::progress::Progress;
 use sms_rows::table::{Key, Row};
 
-/// One change of a list whose rows keep a TPDU. Who amends a row needs to know nothing of its TPDU, which stays.
+/// A change of a list whose rows keep a TPDU. Who amends a row needs to know nothing of its TPDU, which stays.
 #[derive(Debug, Drop)]
 pub enum Revision<T: Drop> {
     /// The row replaces that of its key, or is added where its key belongs.

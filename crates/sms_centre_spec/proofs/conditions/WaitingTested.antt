@@ -16,20 +16,20 @@ use Rattle.sms_centre_rows.specs.declared.messages.message.MessageRow.{MessageRo
 use Rattle.sms_centre_rows.specs.declared.messages.part.PartRow.{PartRow}
 use Rattle.sms_centre_rows.specs.declared.messages.priority.PriorityRow.{PriorityRow}
 use Rattle.sms_centre_rows.specs.messages.Messages.{is_pending, message_at, message_key, part_at, part_key}
-use Rattle.sms_centre_rows.specs.messages.OpenParts.{Numbered, part_load, part_wait, waits_for}
+use Rattle.sms_centre_rows.specs.messages.OpenParts.{Numbered, part_queued, part_wait, waits_for}
 use Rattle.sms_centre_rows.specs.messages.SoundMessages.{SoundMessages}
 use Rattle.sms_centre_rows.specs.declared.reports.report.ReportKind.{ReportKind}
 use Rattle.sms_centre_rows.specs.declared.reports.report.ReportKind.TheVariants.{Receipt, Status, Unsent}
 use Rattle.sms_centre_rows.specs.declared.reports.report.ReportRow.{ReportRow}
 use Rattle.sms_centre_rows.specs.reports.Reports.{is_open_status, is_status, report_key, report_of, status_reference}
 use Rattle.sms_centre_rows.specs.reports.SoundReports.{FitsOriginator, SoundReports}
-use Rattle.sms_centre_rows.specs.reports.Waiting.{Alone, report_load, report_wait, reports_to, waiting_for}
+use Rattle.sms_centre_rows.specs.reports.Waiting.{Alone, report_queued, report_wait, reports_to, waiting_for}
 use Rattle.sms_centre_rows.proofs.reports.AllWaiting.{part_waits_at as part_waits, report_found, report_waits_at as report_waits, rises_all}
 use Rattle.sms_centre_rows.proofs.reports.FewWaiting.{all_few}
 use Rattle.sms_centre_rows.specs.declared.waiting.handset.HandsetRow.{HandsetRow}
 use Rattle.sms_centre_rows.specs.declared.waiting.queued_part.QueuedPart.{QueuedPart}
 use Rattle.sms_centre_rows.specs.declared.waiting.reference.ReferenceRow.{ReferenceRow}
-use Rattle.sms_centre_rows.specs.waiting.Keys.{handset_key, load_key}
+use Rattle.sms_centre_rows.specs.waiting.Keys.{handset_key, queued_key}
 use Rattle.sms_centre_rows.specs.waiting.References.{handset_at}
 use Rattle.sms_centre_rows.specs.waiting.SoundAllocations.{IsNumber, SoundAllocations, reference_at}
 use Rattle.sms_centre_rows.specs.waiting.SoundWaiting.{SoundWaiting, WasGiven}
@@ -124,7 +124,7 @@ module _ (entries : List (ℕ × ℕ)) (hs : List HandsetRow) (refs : List Refer
 
     record PartFacts (n : List ℕ) (p : PartRow) : Type 0 where
       number : IsNumber n
-      load : Among (part_load p qs) (waiting n)
+      queued : Among (part_queued p qs) (waiting n)
       small : p.reference < 256
 
     part_facts : (n : List ℕ) (p : PartRow) (o : Option MessageRow) → Among p ps → message_at p.id ms ≡ o → part_waits_at p o ≡ Some n → PartFacts n p
@@ -134,18 +134,18 @@ module _ (entries : List (ℕ × ℕ)) (hs : List HandsetRow) (refs : List Refer
         let there : part_at p.id p.number ps ≡ Some p = among_found part_key p ps s.messages.part_keys a in
         let waits : waits_for n p (message_at p.id ms) ≡ true = ap (λ (x : Option MessageRow). waits_for n p x) is ∙ opens.0 in
         let numbers = numbered.numbers p a in
-        let found : row_at load_key (pair_key p.id p.number) (waiting n) ≡ Some (part_load p qs) =
+        let found : row_at queued_key (pair_key p.id p.number) (waiting n) ≡ Some (part_queued p qs) =
         part_waits n ms qs ps rs p.id p.number numbered numbers.0 numbers.1 ∙ ap (λ (x : Option PartRow). part_wait n ms qs x) there
-        ∙ cond-true (waits_for n p (message_at p.id ms)) (Some (part_load p qs)) None waits in
+        ∙ cond-true (waits_for n p (message_at p.id ms)) (Some (part_queued p qs)) None waits in
         record {
           number = subst (λ (x : List ℕ). IsNumber x) opens.1 (s.messages.each_message m (found_among message_key p.id m ms is)).handset;
-          load = found_among load_key (pair_key p.id p.number) (part_load p qs) (waiting n) found;
+          queued = found_among queued_key (pair_key p.id p.number) (part_queued p qs) (waiting n) found;
           small = (s.messages.each_part p a).reference;
         }
 
     record ReportFacts (n : List ℕ) (r : ReportRow) : Type 0 where
       number : IsNumber n
-      load : Among (report_load r) (waiting n)
+      queued : Among (report_queued r) (waiting n)
       small : status_reference r.kind < 256
 
     found_alone : (r : ReportRow) (o : Option ReportRow) → report_of r.id rs ≡ o → Among r rs → report_of r.id rs ≡ Some r
@@ -164,12 +164,12 @@ module _ (entries : List (ℕ × ℕ)) (hs : List HandsetRow) (refs : List Refer
         let told : HasReportAddress x.originator x.source = subst (λ (y : MessageRow). HasReportAddress y.originator y.source) (sym same) (s.report_addresses m (found_among message_key r.id m ms is)) in
         let digits : x.source.digits ≡ n = ap (λ (y : MessageRow). y.source.digits) same ∙ opens.same in
         let waits : reports_to n r (message_at r.id ms) ≡ true = ap (λ (y : Option MessageRow). reports_to n r y) is ∙ opens.goes in
-        let found : row_at load_key (pair_key r.id 0) (waiting n) ≡ Some (report_load r) =
+        let found : row_at queued_key (pair_key r.id 0) (waiting n) ≡ Some (report_queued r) =
         report_waits n ms qs ps rs r.id numbered alone ∙ ap (λ (y : Option ReportRow). report_wait n ms y) (found_alone r (report_of r.id rs) refl a)
-        ∙ cond-true (reports_to n r (message_at r.id ms)) (Some (report_load r)) None waits in
+        ∙ cond-true (reports_to n r (message_at r.id ms)) (Some (report_queued r)) None waits in
         record {
           number = subst (λ (y : List ℕ). IsNumber y) digits (told_number r.kind x.originator x.source x r kind.0 fits told);
-          load = found_among load_key (pair_key r.id 0) (report_load r) (waiting n) found;
+          queued = found_among queued_key (pair_key r.id 0) (report_queued r) (waiting n) found;
           small = small_reference r.kind x.originator x r kind.0 fits;
         }
       where
@@ -179,41 +179,41 @@ module _ (entries : List (ℕ × ℕ)) (hs : List HandsetRow) (refs : List Refer
     -- ---- what waits comes of a part or of a report
 
     abbrev OfPart : List ℕ → QueuedPart → Type 0
-    OfPart n l = (p : PartRow) × (Among p ps × (part_waits_at p (message_at p.id ms) ≡ Some n) × (l ≡ part_load p qs))
+    OfPart n l = (p : PartRow) × (Among p ps × (part_waits_at p (message_at p.id ms) ≡ Some n) × (l ≡ part_queued p qs))
 
     abbrev OfReport : List ℕ → QueuedPart → Type 0
-    OfReport n l = (r : ReportRow) × (Among r rs × (report_waits_at r (message_at r.id ms) ≡ Some n) × (l ≡ report_load r))
+    OfReport n l = (r : ReportRow) × (Among r rs × (report_waits_at r (message_at r.id ms) ≡ Some n) × (l ≡ report_queued r))
 
     of_part : (n : List ℕ) (l : QueuedPart) (key : ℕ) (o : Option PartRow) → row_at part_key key ps ≡ o → part_wait n ms qs o ≡ Some l → OfPart n l
     of_part n l key None is e = absurd cc
     of_part n l key (Some p) is e = ⊎_elim
         (λ (t : waits_for n p (message_at p.id ms) ≡ true).
-        let some : Some (part_load p qs) ≡ Some l = sym (cond-true (waits_for n p (message_at p.id ms)) (Some (part_load p qs)) None t) ∙ e in
-        let same : l ≡ part_load p qs = cc in
+        let some : Some (part_queued p qs) ≡ Some l = sym (cond-true (waits_for n p (message_at p.id ms)) (Some (part_queued p qs)) None t) ∙ e in
+        let same : l ≡ part_queued p qs = cc in
         (p, (found_among part_key key p ps is, part_number n p (message_at p.id ms) t, same)))
         (λ (t : waits_for n p (message_at p.id ms) ≡ false).
-        let bad : None ≡ Some l = sym (cond-false (waits_for n p (message_at p.id ms)) (Some (part_load p qs)) None t) ∙ e in absurd cc)
+        let bad : None ≡ Some l = sym (cond-false (waits_for n p (message_at p.id ms)) (Some (part_queued p qs)) None t) ∙ e in absurd cc)
         (cases_Bool (waits_for n p (message_at p.id ms)))
 
     of_report : (n : List ℕ) (l : QueuedPart) (id : ℕ) (o : Option ReportRow) → report_of id rs ≡ o → report_wait n ms o ≡ Some l → OfReport n l
     of_report n l id None is e = absurd cc
     of_report n l id (Some r) is e = ⊎_elim
         (λ (t : reports_to n r (message_at r.id ms) ≡ true).
-        let some : Some (report_load r) ≡ Some l = sym (cond-true (reports_to n r (message_at r.id ms)) (Some (report_load r)) None t) ∙ e in
-        let same : l ≡ report_load r = cc in
+        let some : Some (report_queued r) ≡ Some l = sym (cond-true (reports_to n r (message_at r.id ms)) (Some (report_queued r)) None t) ∙ e in
+        let same : l ≡ report_queued r = cc in
         (r, ((report_found id r rs is).0, report_number n r (message_at r.id ms) t, same)))
         (λ (t : reports_to n r (message_at r.id ms) ≡ false).
-        let bad : None ≡ Some l = sym (cond-false (reports_to n r (message_at r.id ms)) (Some (report_load r)) None t) ∙ e in absurd cc)
+        let bad : None ≡ Some l = sym (cond-false (reports_to n r (message_at r.id ms)) (Some (report_queued r)) None t) ∙ e in absurd cc)
         (cases_Bool (reports_to n r (message_at r.id ms)))
 
     comes_of : (n : List ℕ) (l : QueuedPart) → Among l (waiting n) → OfPart n l ⊎ OfReport n l
     comes_of n l a =
-        let there : row_at load_key (load_key l) (waiting n) ≡ Some l = among_found load_key l (waiting n) (rises_all n ms qs ps rs numbered) a in
+        let there : row_at queued_key (queued_key l) (waiting n) ≡ Some l = among_found queued_key l (waiting n) (rises_all n ms qs ps rs numbered) a in
         ⊎_elim
         (λ (e : l.number ≡ 0).
-        let key : load_key l ≡ pair_key l.id 0 = ap (λ (k : ℕ). pair_key l.id k) e in
+        let key : queued_key l ≡ pair_key l.id 0 = ap (λ (k : ℕ). pair_key l.id k) e in
         inr (of_report n l l.id (report_of l.id rs) refl
-        (sym (report_waits n ms qs ps rs l.id numbered alone) ∙ ap (λ (k : ℕ). row_at load_key k (waiting n)) (sym key) ∙ there)))
+        (sym (report_waits n ms qs ps rs l.id numbered alone) ∙ ap (λ (k : ℕ). row_at queued_key k (waiting n)) (sym key) ∙ there)))
         (λ (ne : l.number ≡ 0 → ⊥).
         let few = all_few n ms qs ps rs numbered l a in
         inl (of_part n l (pair_key l.id l.number) (part_at l.id l.number ps) refl
@@ -270,7 +270,7 @@ module _ (entries : List (ℕ × ℕ)) (hs : List HandsetRow) (refs : List Refer
       distinct = distinct_from (holds entries ms ps rs) pass.apart
 
       -- two that wait at one handset under one reference are one
-      apart_of : (n : List ℕ) (l k : QueuedPart) → OfPart n l ⊎ OfReport n l → OfPart n k ⊎ OfReport n k → l.reference ≡ k.reference → load_key l ≡ load_key k
+      apart_of : (n : List ℕ) (l k : QueuedPart) → OfPart n l ⊎ OfReport n l → OfPart n k ⊎ OfReport n k → l.reference ≡ k.reference → queued_key l ≡ queued_key k
       apart_of n l k a b e = ⊎_elim
           (λ (p : OfPart n l). ⊎_elim
           (λ (q : OfPart n k).
@@ -279,7 +279,7 @@ module _ (entries : List (ℕ × ℕ)) (hs : List HandsetRow) (refs : List Refer
           let same = one_preserved (part_hold entries ms) p.0 q.0 x.0 ps (distinct_front (filter_map (part_hold entries ms) ps) (filter_map (report_hold entries ms) rs) distinct) p.1.0 q.1.0
           (part_key_held n p.0 p.1.0 p.1.1 ∙ x.1)
           (part_key_held n q.0 q.1.0 q.1.1 ∙ ap (λ (y : ℕ). held y (handset_at n hs)) refs_same ∙ x.1) in
-          ap load_key p.1.2 ∙ ap (λ (y : PartRow). load_key (part_load y qs)) same ∙ sym (ap load_key q.1.2))
+          ap queued_key p.1.2 ∙ ap (λ (y : PartRow). queued_key (part_queued y qs)) same ∙ sym (ap queued_key q.1.2))
           (λ (q : OfReport n k).
           let x = held_some (p.0).reference (handset_at n hs) (part_was n p.0 p.1.0 p.1.1) in
           let refs_same : status_reference (q.0).kind ≡ (p.0).reference = sym (ap (λ (y : QueuedPart). y.reference) q.1.2) ∙ sym e ∙ ap (λ (y : QueuedPart). y.reference) p.1.2 in
@@ -300,7 +300,7 @@ module _ (entries : List (ℕ × ℕ)) (hs : List HandsetRow) (refs : List Refer
           let same = one_preserved (report_hold entries ms) p.0 q.0 x.0 rs (distinct_back (filter_map (part_hold entries ms) ps) (filter_map (report_hold entries ms) rs) distinct) p.1.0 q.1.0
           (report_key_held n p.0 p.1.0 p.1.1 ∙ x.1)
           (report_key_held n q.0 q.1.0 q.1.1 ∙ ap (λ (y : ℕ). held y (handset_at n hs)) refs_same ∙ x.1) in
-          ap load_key p.1.2 ∙ ap (λ (y : ReportRow). load_key (report_load y)) same ∙ sym (ap load_key q.1.2))
+          ap queued_key p.1.2 ∙ ap (λ (y : ReportRow). queued_key (report_queued y)) same ∙ sym (ap queued_key q.1.2))
           b)
           a
 
@@ -332,14 +332,14 @@ module _ (entries : List (ℕ × ℕ)) (hs : List HandsetRow) (refs : List Refer
       part_passes p (Some n) a e =
           let facts = part_facts n p (message_at p.id ms) a refl e in
           ap (λ (x : Option ℕ). is_row refs x) (hold_here p.reference n facts.number)
-          ∙ given_to p.reference (handset_at n hs) ((sound n).given (part_load p qs) facts.load)
+          ∙ given_to p.reference (handset_at n hs) ((sound n).given (part_queued p qs) facts.queued)
 
       report_passes : (r : ReportRow) (w : Option (List ℕ)) → Among r rs → report_waits_at r (message_at r.id ms) ≡ w → was_given entries refs (status_reference r.kind) w ≡ true
       report_passes r None a e = refl
       report_passes r (Some n) a e =
           let facts = report_facts n r (message_at r.id ms) a refl e in
           ap (λ (x : Option ℕ). is_row refs x) (hold_here (status_reference r.kind) n facts.number)
-          ∙ given_to (status_reference r.kind) (handset_at n hs) ((sound n).given (report_load r) facts.load)
+          ∙ given_to (status_reference r.kind) (handset_at n hs) ((sound n).given (report_queued r) facts.queued)
 
       -- a key that is held tells the handset and the reference
       abbrev Identifies : List ℕ → ℕ → ℕ → Type 0
@@ -350,8 +350,8 @@ module _ (entries : List (ℕ × ℕ)) (hs : List HandsetRow) (refs : List Refer
       decides_of n reference k (Some h) is e = let same : k ≡ pair_key h.place reference = cc in (h, (is, same))
 
       -- what waits under one key is one
-      one_load : (n m : List ℕ) (l j : QueuedPart) (k : ℕ) → Among l (waiting n) → Among j (waiting m) → l.reference < 256 → j.reference < 256 → Identifies n l.reference k → Identifies m j.reference k → load_key l ≡ load_key j
-      one_load n m l j k a b x y f g =
+      one_queued : (n m : List ℕ) (l j : QueuedPart) (k : ℕ) → Among l (waiting n) → Among j (waiting m) → l.reference < 256 → j.reference < 256 → Identifies n l.reference k → Identifies m j.reference k → queued_key l ≡ queued_key j
+      one_queued n m l j k a b x y f g =
           let both = pairs_apart (f.0).place (g.0).place l.reference j.reference x y (sym f.1.1 ∙ g.1.1) in
           let one = number_found n f.0 hs f.1.0 in
           let two = number_found m g.0 hs g.1.0 in
@@ -379,14 +379,14 @@ module _ (entries : List (ℕ × ℕ)) (hs : List HandsetRow) (refs : List Refer
           (λ p q k a b e f.
           let x = part_decides p k (part_waits_at p (message_at p.id ms)) a refl e in
           let y = part_decides q k (part_waits_at q (message_at q.id ms)) b refl f in
-          one_load x.0 y.0 (part_load p qs) (part_load q qs) k (x.1.0).load (y.1.0).load (x.1.0).small (y.1.0).small x.1.1 y.1.1)
+          one_queued x.0 y.0 (part_queued p qs) (part_queued q qs) k (x.1.0).queued (y.1.0).queued (x.1.0).small (y.1.0).small x.1.1 y.1.1)
 
       reports_apart : AreDistinct (filter_map (report_hold entries ms) rs)
       reports_apart = preserved_differ (report_hold entries ms) report_key rs s.reports.keys
           (λ p q k a b e f.
           let x = report_decides p k (report_waits_at p (message_at p.id ms)) a refl e in
           let y = report_decides q k (report_waits_at q (message_at q.id ms)) b refl f in
-          let keys : pair_key p.id 0 ≡ pair_key q.id 0 = one_load x.0 y.0 (report_load p) (report_load q) k (x.1.0).load (y.1.0).load (x.1.0).small (y.1.0).small x.1.1 y.1.1 in
+          let keys : pair_key p.id 0 ≡ pair_key q.id 0 = one_queued x.0 y.0 (report_queued p) (report_queued q) k (x.1.0).queued (y.1.0).queued (x.1.0).small (y.1.0).small x.1.1 y.1.1 in
           s.reports.once p q a b (omega (arith, keys)))
 
       not_shared : (k : ℕ) → Among k (filter_map (part_hold entries ms) ps) → Among k (filter_map (report_hold entries ms) rs) → ⊥
@@ -396,7 +396,7 @@ module _ (entries : List (ℕ × ℕ)) (hs : List HandsetRow) (refs : List Refer
           let x = part_decides p.0 k (part_waits_at p.0 (message_at (p.0).id ms)) p.1.0 refl p.1.1 in
           let y = report_decides r.0 k (report_waits_at r.0 (message_at (r.0).id ms)) r.1.0 refl r.1.1 in
           let keys : pair_key (p.0).id (p.0).number ≡ pair_key (r.0).id 0 =
-          one_load x.0 y.0 (part_load p.0 qs) (report_load r.0) k (x.1.0).load (y.1.0).load (x.1.0).small (y.1.0).small x.1.1 y.1.1 in
+          one_queued x.0 y.0 (part_queued p.0 qs) (report_queued r.0) k (x.1.0).queued (y.1.0).queued (x.1.0).small (y.1.0).small x.1.1 y.1.1 in
           let numbers = numbered.numbers p.0 p.1.0 in
           omega (arith, keys, numbers.0, numbers.1)
 

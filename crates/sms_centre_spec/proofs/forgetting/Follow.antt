@@ -15,20 +15,20 @@ use Rattle.sms_centre_rows.specs.declared.messages.message.MessageRow.{MessageRo
 use Rattle.sms_centre_rows.specs.declared.messages.part.PartRow.{PartRow}
 use Rattle.sms_centre_rows.specs.declared.messages.priority.PriorityRow.{PriorityRow}
 use Rattle.sms_centre_rows.specs.messages.Messages.{is_pending, message_at, message_key, part_at, part_key}
-use Rattle.sms_centre_rows.specs.messages.OpenParts.{part_load, parts_waiting, waits_for}
+use Rattle.sms_centre_rows.specs.messages.OpenParts.{part_queued, parts_waiting, waits_for}
 use Rattle.sms_centre_rows.specs.declared.reports.report.ReportRow.{ReportRow}
 use Rattle.sms_centre_rows.specs.reports.Receipts.{Bindings, is_unanswered, send as send_one, send_all, send_to, session_for, waits}
 use Rattle.sms_centre_rows.specs.reports.Reports.{is_open_receipt, is_open_status, is_receipt, report_of}
-use Rattle.sms_centre_rows.specs.reports.Waiting.{report_load, reports_to, with_reports}
+use Rattle.sms_centre_rows.specs.reports.Waiting.{report_queued, reports_to, with_reports}
 use Rattle.sms_centre_rows.specs.declared.waiting.handset.HandsetRow.{HandsetRow}
 use Rattle.sms_centre_rows.specs.declared.waiting.handset_link.HandsetLink.{HandsetLink}
 use Rattle.sms_centre_rows.specs.declared.waiting.queued_part.QueuedPart.{QueuedPart}
-use Rattle.sms_centre_rows.specs.waiting.Keys.{load_key}
+use Rattle.sms_centre_rows.specs.waiting.Keys.{queued_key}
 use Rattle.sms_centre_rows.specs.waiting.Links.{Links, is_ready, line_of, turn_line}
 use Rattle.sms_centre_rows.specs.waiting.Waiting.{if_due, is_due, next, precedes, preceding, waits_beside}
 use Rattle.sms_centre_spec.specs.CentreEvent.{follow}
 use Rattle.sms_centre_spec.specs.Draft.{Draft, Store, handsets_in, messages_in, parts_in, priorities_in, reports_in, waiting_in}
-use Rattle.sms_centre_spec.specs.Offering.{holder_of, offer_all, offer_load, offer_on, offer_to, part_tpdu, read_of, report_tpdu, tpdu_of}
+use Rattle.sms_centre_spec.specs.Offering.{holder_of, offer_all, offer_queued, offer_on, offer_to, part_tpdu, read_of, report_tpdu, tpdu_of}
 use Rattle.sms_centre_spec.specs.forgetting.Forgetting.{kept, part_id, report_id}
 use Rattle.sms_centre_spec.specs.forgetting.Forgot.{Stays, draft_without, store_without}
 use Rattle.sms_centre_spec.proofs.forgetting.Kept.{at_stays, kept_gone, kept_here, not_both}
@@ -65,12 +65,12 @@ pub record OfPart (goes : ℕ → Bool) (ps : List PartRow) (qs : List PriorityR
   pub row : PartRow
   pub among : Among row ps
   pub stays : goes row.id ≡ false
-  pub load : l ≡ part_load row qs
+  pub queued : l ≡ part_queued row qs
 
 pub record OfReport (goes : ℕ → Bool) (l : QueuedPart) : Type 0 where
   pub row : ReportRow
   pub stays : goes row.id ≡ false
-  pub load : l ≡ report_load row
+  pub queued : l ≡ report_queued row
 
 waits_stay : (goes : ℕ → Bool) (h : List ℕ) (p : PartRow) (ms : List MessageRow) → Ended goes ms → waits_for h p (message_at p.id ms) ≡ true → goes p.id ≡ false
 waits_stay goes h p ms ended e = ⊎_elim
@@ -87,14 +87,14 @@ waits_stay goes h p ms ended e = ⊎_elim
         not_both (is_pending m) b.0 (ended m (found_among message_key p.id m ms q) (ap goes (found_key message_key p.id m ms q) ∙ t))
 
 part_behind : (goes : ℕ → Bool) (p : PartRow) (ps : List PartRow) (qs : List PriorityRow) (l : QueuedPart) → OfPart goes ps qs l → OfPart goes (p ∷ ps) qs l
-part_behind goes p ps qs l f = record { row = f.row; among = inr f.among; stays = f.stays; load = f.load }
+part_behind goes p ps qs l f = record { row = f.row; among = inr f.among; stays = f.stays; queued = f.queued }
 
 pub of_parts : (goes : ℕ → Bool) (h : List ℕ) (ms : List MessageRow) (qs : List PriorityRow) (ps : List PartRow) (l : QueuedPart) → Ended goes ms → Among l (parts_waiting h ms qs ps) → OfPart goes ps qs l
 of_parts goes h ms qs [] l ended a = absurd a
 of_parts goes h ms qs (p ∷ ps) l ended a =
-    cond_both (waits_for h p (message_at p.id ms)) (part_load p qs ∷ parts_waiting h ms qs ps) (parts_waiting h ms qs ps) (λ (ls : List QueuedPart). Among l ls → OfPart goes (p ∷ ps) qs l)
+    cond_both (waits_for h p (message_at p.id ms)) (part_queued p qs ∷ parts_waiting h ms qs ps) (parts_waiting h ms qs ps) (λ (ls : List QueuedPart). Among l ls → OfPart goes (p ∷ ps) qs l)
     (λ t b. ⊎_elim
-    (λ (e : l ≡ part_load p qs). record { row = p; among = inl refl; stays = waits_stay goes h p ms ended t; load = e })
+    (λ (e : l ≡ part_queued p qs). record { row = p; among = inl refl; stays = waits_stay goes h p ms ended t; queued = e })
     (λ (c : Among l (parts_waiting h ms qs ps)). part_behind goes p ps qs l (of_parts goes h ms qs ps l ended c))
     b)
     (λ t b. part_behind goes p ps qs l (of_parts goes h ms qs ps l ended b))
@@ -109,18 +109,18 @@ open_stays goes h r (Some m) closed e = ⊎_elim
     (λ (t : goes r.id ≡ false). t)
     (cases_Bool (goes r.id))
 
-pub of_reports : (goes : ℕ → Bool) (h : List ℕ) (ms : List MessageRow) (rs : List ReportRow) (loads : List QueuedPart) (l : QueuedPart) → Closed goes rs → Among l (with_reports h ms rs loads) → OfReport goes l ⊎ Among l loads
-of_reports goes h ms [] loads l closed a = inr a
-of_reports goes h ms (r ∷ rs) loads l closed a =
-    let rest : List QueuedPart = with_reports h ms rs loads in
-    cond_both (reports_to h r (message_at r.id ms)) (put load_key (report_load r) rest) rest (λ (ls : List QueuedPart). Among l ls → OfReport goes l ⊎ Among l loads)
+pub of_reports : (goes : ℕ → Bool) (h : List ℕ) (ms : List MessageRow) (rs : List ReportRow) (all_queued : List QueuedPart) (l : QueuedPart) → Closed goes rs → Among l (with_reports h ms rs all_queued) → OfReport goes l ⊎ Among l all_queued
+of_reports goes h ms [] all_queued l closed a = inr a
+of_reports goes h ms (r ∷ rs) all_queued l closed a =
+    let rest : List QueuedPart = with_reports h ms rs all_queued in
+    cond_both (reports_to h r (message_at r.id ms)) (put queued_key (report_queued r) rest) rest (λ (ls : List QueuedPart). Among l ls → OfReport goes l ⊎ Among l all_queued)
     (λ t b. ⊎_elim
-    (λ (e : l ≡ report_load r).
-    let f : OfReport goes l = record { row = r; stays = open_stays goes h r (message_at r.id ms) (closed r (inl refl)) t; load = e } in
-    let is : OfReport goes l ⊎ Among l loads = inl f in is)
-    (λ (c : Among l rest × ¬ (load_key l ≡ load_key (report_load r))). of_reports goes h ms rs loads l (λ x d. closed x (inr d)) c.0)
-    (among_put load_key l (report_load r) rest b))
-    (λ t b. of_reports goes h ms rs loads l (λ x d. closed x (inr d)) b)
+    (λ (e : l ≡ report_queued r).
+    let f : OfReport goes l = record { row = r; stays = open_stays goes h r (message_at r.id ms) (closed r (inl refl)) t; queued = e } in
+    let is : OfReport goes l ⊎ Among l all_queued = inl f in is)
+    (λ (c : Among l rest × ¬ (queued_key l ≡ queued_key (report_queued r))). of_reports goes h ms rs all_queued l (λ x d. closed x (inr d)) c.0)
+    (among_put queued_key l (report_queued r) rest b))
+    (λ t b. of_reports goes h ms rs all_queued l (λ x d. closed x (inr d)) b)
     a
 
 next_among : (now : ℕ) (ls : List QueuedPart) (l : QueuedPart) → next now ls ≡ Some l → Among l ls
@@ -152,21 +152,21 @@ module _ (goes : ℕ → Bool) where
       let z : Store = store_without goes s in
       ⊎_elim
       (λ (f : OfReport goes l).
-      subst (λ (x : QueuedPart). tpdu_of x z ≡ tpdu_of x s) (sym f.load) (ap (λ (o : Option ReportRow). report_tpdu o) (report_look goes f.row.id s k f.stays)))
+      subst (λ (x : QueuedPart). tpdu_of x z ≡ tpdu_of x s) (sym f.queued) (ap (λ (o : Option ReportRow). report_tpdu o) (report_look goes f.row.id s k f.stays)))
       (λ (b : Among l (parts_waiting h (messages_in s) (priorities_in s) (parts_in s))).
       let f = of_parts goes h (messages_in s) (priorities_in s) (parts_in s) l k.ended b in
       let p : PartRow = f.row in
-      subst (λ (x : QueuedPart). tpdu_of x z ≡ tpdu_of x s) (sym f.load)
+      subst (λ (x : QueuedPart). tpdu_of x z ≡ tpdu_of x s) (sym f.queued)
       (ap (λ (o : Option ReportRow). if p.number == 0 then report_tpdu o else part_tpdu (part_at p.id p.number (parts_in z))) (report_look goes p.id s k f.stays)
       ∙ ap (λ (o : Option PartRow). if p.number == 0 then report_tpdu (report_of p.id (reports_in s)) else part_tpdu o) (part_octets p s k f.among f.stays)))
       (of_reports goes h (messages_in s) (reports_in s) (parts_waiting h (messages_in s) (priorities_in s) (parts_in s)) l k.closed a)
 
   -- ---- offers
 
-  load_same : (line : HandsetLink) (o : Option QueuedPart) (s : Store) (links : Links) → Stays goes s → next s.moment (waiting_in line.handset s) ≡ o
-      → offer_load line (waiting_in line.handset s) o (store_without goes s) links ≡ offer_load line (waiting_in line.handset s) o s links
-  load_same line None s links k e = refl
-  load_same line (Some l) s links k e =
+  queued_same : (line : HandsetLink) (o : Option QueuedPart) (s : Store) (links : Links) → Stays goes s → next s.moment (waiting_in line.handset s) ≡ o
+      → offer_queued line (waiting_in line.handset s) o (store_without goes s) links ≡ offer_queued line (waiting_in line.handset s) o s links
+  queued_same line None s links k e = refl
+  queued_same line (Some l) s links k e =
       let w : List QueuedPart = waiting_in line.handset s in
       ap (λ (t : List ℕ). turn_line line (begun s.moment l.reference (holder_of l) (data_down l.reference (relay_address s.setup.centre) (with_more_messages (waits_beside s.moment l w) t)) line.link) (read_of l s links))
       (tpdu_same line.handset l s k (next_among s.moment w l e))
@@ -176,8 +176,8 @@ module _ (goes : ℕ → Bool) where
       let z : Store = store_without goes s in
       let w : List QueuedPart = waiting_in line.handset s in
       ap (λ (x : Links). if is_ready line then x else links)
-      (ap (λ (ls : List QueuedPart). offer_load line ls (next s.moment ls) z links) (waiting_look goes line.handset s k)
-      ∙ load_same line (next s.moment w) s links k refl)
+      (ap (λ (ls : List QueuedPart). offer_queued line ls (next s.moment ls) z links) (waiting_look goes line.handset s k)
+      ∙ queued_same line (next s.moment w) s links k refl)
 
   offer_all_same : (hs : List HandsetRow) (s : Store) (links : Links) → Stays goes s → offer_all hs (store_without goes s) links ≡ offer_all hs s links
   offer_all_same [] s links k = refl

@@ -10,12 +10,12 @@ use Rattle.sms_centre_rows.specs.declared.messages.message.MessageRow.{MessageRo
 use Rattle.sms_centre_rows.specs.declared.messages.part.PartRow.{PartRow}
 use Rattle.sms_centre_rows.specs.declared.messages.priority.PriorityRow.{PriorityRow}
 use Rattle.sms_centre_rows.specs.messages.Messages.{is_pending, message_at, message_key, priority_in, priority_key}
-use Rattle.sms_centre_rows.specs.messages.OpenParts.{part_load, parts_waiting, waits_for}
+use Rattle.sms_centre_rows.specs.messages.OpenParts.{part_queued, parts_waiting, waits_for}
 use Rattle.sms_centre_rows.specs.declared.reports.report.ReportRow.{ReportRow}
 use Rattle.sms_centre_rows.specs.reports.Reports.{is_open_status, is_status}
-use Rattle.sms_centre_rows.specs.reports.Waiting.{report_load, reports_to, waiting_for, with_reports}
+use Rattle.sms_centre_rows.specs.reports.Waiting.{report_queued, reports_to, waiting_for, with_reports}
 use Rattle.sms_centre_rows.specs.declared.waiting.queued_part.QueuedPart.{QueuedPart}
-use Rattle.sms_centre_rows.specs.waiting.Keys.{load_key}
+use Rattle.sms_centre_rows.specs.waiting.Keys.{queued_key}
 use Rattle.sms_centre_spec.specs.forgetting.Forgetting.{kept, part_id, report_id}
 use Rattle.sms_centre_spec.proofs.forgetting.Kept.{at_goes, at_stays, kept_gone, kept_here}
 
@@ -47,8 +47,8 @@ gone_waits goes h p ms ended g = of (message_at p.id ms) refl
     of None e = refl
     of (Some m) e = and_right (not p.progress.is_done) (is_pending m && bytes_eq m.handset h) (and_left (is_pending m) (bytes_eq m.handset h) (gone_ended goes p.id m ms ended g e))
 
-load_stays : (goes : ℕ → Bool) (p : PartRow) (qs : List PriorityRow) → goes p.id ≡ false → part_load p (kept priority_key goes qs) ≡ part_load p qs
-load_stays goes p qs s = ap (λ (o : Option PriorityRow). record (part_load p qs) { priority = priority_in o }) (priority_stays goes p.id qs s)
+queued_stays : (goes : ℕ → Bool) (p : PartRow) (qs : List PriorityRow) → goes p.id ≡ false → part_queued p (kept priority_key goes qs) ≡ part_queued p qs
+queued_stays goes p qs s = ap (λ (o : Option PriorityRow). record (part_queued p qs) { priority = priority_in o }) (priority_stays goes p.id qs s)
 
 pub parts_waiting_same : (goes : ℕ → Bool) (h : List ℕ) (ms : List MessageRow) (qs : List PriorityRow) (ps : List PartRow) → Ended goes ms
     → parts_waiting h (kept message_key goes ms) (kept priority_key goes qs) (kept part_id goes ps) ≡ parts_waiting h ms qs ps
@@ -62,12 +62,12 @@ parts_waiting_same goes h ms qs (p ∷ ps) ended =
     ⊎_elim
     (λ (t : goes p.id ≡ true).
     ap (λ (l : List PartRow). parts_waiting h ks js l) (kept_gone part_id goes p ps t) ∙ rest
-    ∙ sym (cond-false (waits_for h p (message_at p.id ms)) (part_load p qs ∷ all) all (gone_waits goes h p ms ended t)))
+    ∙ sym (cond-false (waits_for h p (message_at p.id ms)) (part_queued p qs ∷ all) all (gone_waits goes h p ms ended t)))
     (λ (t : goes p.id ≡ false).
     ap (λ (l : List PartRow). parts_waiting h ks js l) (kept_here part_id goes p ps t)
-    ∙ ap (λ (o : Option MessageRow). if waits_for h p o then part_load p js ∷ few else few) (message_stays goes p.id ms t)
-    ∙ ap (λ (l : QueuedPart). if waits_for h p (message_at p.id ms) then l ∷ few else few) (load_stays goes p qs t)
-    ∙ ap (λ (l : List QueuedPart). if waits_for h p (message_at p.id ms) then part_load p qs ∷ l else l) rest)
+    ∙ ap (λ (o : Option MessageRow). if waits_for h p o then part_queued p js ∷ few else few) (message_stays goes p.id ms t)
+    ∙ ap (λ (l : QueuedPart). if waits_for h p (message_at p.id ms) then l ∷ few else few) (queued_stays goes p qs t)
+    ∙ ap (λ (l : List QueuedPart). if waits_for h p (message_at p.id ms) then part_queued p qs ∷ l else l) rest)
     (cases_Bool (goes p.id))
 
 closed_open : (r : ReportRow) → r.progress.is_done ≡ true → is_open_status r ≡ false
@@ -88,11 +88,11 @@ with_reports_same goes h ms (r ∷ rs) ls closed =
     ⊎_elim
     (λ (t : goes r.id ≡ true).
     ap (λ (l : List ReportRow). with_reports h ks l ls) (kept_gone report_id goes r rs t) ∙ rest
-    ∙ sym (cond-false (reports_to h r (message_at r.id ms)) (put load_key (report_load r) all) all (gone_reports h r (message_at r.id ms) (closed r (inl refl) t))))
+    ∙ sym (cond-false (reports_to h r (message_at r.id ms)) (put queued_key (report_queued r) all) all (gone_reports h r (message_at r.id ms) (closed r (inl refl) t))))
     (λ (t : goes r.id ≡ false).
     ap (λ (l : List ReportRow). with_reports h ks l ls) (kept_here report_id goes r rs t)
-    ∙ ap (λ (o : Option MessageRow). if reports_to h r o then put load_key (report_load r) few else few) (message_stays goes r.id ms t)
-    ∙ ap (λ (l : List QueuedPart). if reports_to h r (message_at r.id ms) then put load_key (report_load r) l else l) rest)
+    ∙ ap (λ (o : Option MessageRow). if reports_to h r o then put queued_key (report_queued r) few else few) (message_stays goes r.id ms t)
+    ∙ ap (λ (l : List QueuedPart). if reports_to h r (message_at r.id ms) then put queued_key (report_queued r) l else l) rest)
     (cases_Bool (goes r.id))
 
 pub waiting_same : (goes : ℕ → Bool) (h : List ℕ) (ms : List MessageRow) (qs : List PriorityRow) (ps : List PartRow) (rs : List ReportRow) → Ended goes ms → Closed goes rs

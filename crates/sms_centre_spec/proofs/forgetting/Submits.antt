@@ -121,9 +121,9 @@ module _ (goes : ℕ → Bool) where
   -- what waits is of messages that stay
   waits_stays : (h : List ℕ) (s : Store) (l : QueuedPart) → Stays goes s → Among l (waiting_in h s) → goes l.id ≡ false
   waits_stays h s l k a = ⊎_elim
-      (λ (f : OfReport goes l). ap (λ (x : QueuedPart). goes x.id) f.load ∙ f.stays)
+      (λ (f : OfReport goes l). ap (λ (x : QueuedPart). goes x.id) f.queued ∙ f.stays)
       (λ (b : Among l (parts_waiting h (messages_in s) (priorities_in s) (parts_in s))).
-      let f = of_parts goes h (messages_in s) (priorities_in s) (parts_in s) l k.ended b in ap (λ (x : QueuedPart). goes x.id) f.load ∙ f.stays)
+      let f = of_parts goes h (messages_in s) (priorities_in s) (parts_in s) l k.ended b in ap (λ (x : QueuedPart). goes x.id) f.queued ∙ f.stays)
       (of_reports goes h (messages_in s) (reports_in s) (parts_waiting h (messages_in s) (priorities_in s) (parts_in s)) l k.closed a)
 
   abbrev AllStay : List QueuedPart → Type 0

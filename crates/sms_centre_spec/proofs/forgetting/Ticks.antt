@@ -11,10 +11,10 @@ use Rattle.sms_link.specs.LinkTurn.{Turn, fired as fired_link}
 use Rattle.sms_centre_rows.specs.declared.messages.message.MessageRow.{MessageRow}
 use Rattle.sms_centre_rows.specs.declared.messages.part.PartRow.{PartRow}
 use Rattle.sms_centre_rows.specs.messages.Messages.{is_pending, message_key, part_at, part_key, part_reaching}
-use Rattle.sms_centre_rows.specs.messages.OpenParts.{part_load, parts_waiting}
+use Rattle.sms_centre_rows.specs.messages.OpenParts.{part_queued, parts_waiting}
 use Rattle.sms_centre_rows.specs.declared.reports.report.ReportRow.{ReportRow}
 use Rattle.sms_centre_rows.specs.reports.Reports.{is_open_status, is_status, report_of}
-use Rattle.sms_centre_rows.specs.reports.Waiting.{report_load}
+use Rattle.sms_centre_rows.specs.reports.Waiting.{report_queued}
 use Rattle.sms_centre_rows.proofs.reports.AllWaiting.{report_found}
 use Rattle.sms_centre_rows.specs.declared.waiting.handset.HandsetRow.{HandsetRow}
 use Rattle.sms_centre_rows.specs.declared.waiting.handset_link.HandsetLink.{HandsetLink}
@@ -28,7 +28,7 @@ use Rattle.sms_centre_spec.specs.CentreEvent.{aged, at_moment, drop_all, dropped
 use Rattle.sms_centre_spec.specs.Draft.{Core, Draft, Store, draft_of, handsets_in, in_store, messages_in, on_links, parts_in, priorities_in, reports_in, waiting_in}
 use Rattle.sms_centre_spec.specs.Ends.{end}
 use Rattle.sms_centre_spec.specs.Orders.{message_due, parts_among}
-use Rattle.sms_centre_spec.specs.Receiving.{all_due, due_now, load_due, part_due, report_due}
+use Rattle.sms_centre_spec.specs.Receiving.{all_due, due_now, queued_due, part_due, report_due}
 use Rattle.sms_centre_spec.specs.SoundRows.{IsSound}
 use Rattle.sms_centre_spec.specs.Transfers.{report_closed}
 use Rattle.sms_centre_spec.proofs.NextNumbers.{among_amended}
@@ -54,16 +54,16 @@ module _ (goes : ℕ → Bool) where
 
   waiting_stays : (h : List ℕ) (l : QueuedPart) (s : Store) → Stays goes s → Among l (waiting_in h s) → StaysSo goes l s
   waiting_stays h l s k a = ⊎_elim
-      (λ (f : OfReport goes l). subst (λ (x : QueuedPart). StaysSo goes x s) (sym f.load) (of_report f.row f.stays))
+      (λ (f : OfReport goes l). subst (λ (x : QueuedPart). StaysSo goes x s) (sym f.queued) (of_report f.row f.stays))
       (λ (b : Among l (parts_waiting h (messages_in s) (priorities_in s) (parts_in s))).
       let f = of_parts goes h (messages_in s) (priorities_in s) (parts_in s) l k.ended b in
-      subst (λ (x : QueuedPart). StaysSo goes x s) (sym f.load) (of_part f.row f.among f.stays))
+      subst (λ (x : QueuedPart). StaysSo goes x s) (sym f.queued) (of_part f.row f.among f.stays))
       (of_reports goes h (messages_in s) (reports_in s) (parts_waiting h (messages_in s) (priorities_in s) (parts_in s)) l k.closed a)
     where
-      of_report : (r : ReportRow) → goes r.id ≡ false → StaysSo goes (report_load r) s
+      of_report : (r : ReportRow) → goes r.id ≡ false → StaysSo goes (report_queued r) s
       of_report r g = record { report = g; part = λ e. let bad : true ≡ false = e in absurd cc }
 
-      of_part : (p : PartRow) → Among p (parts_in s) → goes p.id ≡ false → StaysSo goes (part_load p (priorities_in s)) s
+      of_part : (p : PartRow) → Among p (parts_in s) → goes p.id ≡ false → StaysSo goes (part_queued p (priorities_in s)) s
       of_part p b g = record { report = g; part = λ e y c q. ap (λ (x : PartRow). goes x.id) (one_row part_key y p (parts_in s) k.part_keys c b q) ∙ g }
 
   part_due_pair : (o : Option PartRow) (s : Store) → Stays goes s → Pair goes (part_due o (store_without goes s)) (part_due o s)
@@ -76,8 +76,8 @@ module _ (goes : ℕ → Bool) where
       let f = report_found id r (reports_in s) e in
       let q : Progress = due_at s.moment r.progress in (refl, report_far goes r q s k (report_is goes r q s k f.0 (ap goes f.1 ∙ g)))
 
-  load_pair : (l : QueuedPart) (s : Store) → Stays goes s → StaysSo goes l s → Pair goes (load_due l (store_without goes s)) (load_due l s)
-  load_pair l s k f = by (l.number == 0) refl
+  queued_pair : (l : QueuedPart) (s : Store) → Stays goes s → StaysSo goes l s → Pair goes (queued_due l (store_without goes s)) (queued_due l s)
+  queued_pair l s k f = by (l.number == 0) refl
     where
       z : Store
       z = store_without goes s
@@ -90,7 +90,7 @@ module _ (goes : ℕ → Bool) where
           ap (λ (ps : List PartRow). part_at l.id l.number ps) k.parts ∙ at_stays part_id goes part_key (pair_key l.id l.number) (parts_in s) (f.part e) in
           subst (λ (o : Option PartRow). Pair goes (part_due o z) (part_due (part_at l.id l.number (parts_in s)) s)) (sym same) (part_due_pair (part_at l.id l.number (parts_in s)) s k)
 
-  so_after : (l x : QueuedPart) (s : Store) → StaysSo goes l s → StaysSo goes l (load_due x s)
+  so_after : (l x : QueuedPart) (s : Store) → StaysSo goes l s → StaysSo goes l (queued_due x s)
   so_after l x s f = by (x.number == 0)
     where
       report : (o : Option ReportRow) → StaysSo goes l (report_due o s)
@@ -117,8 +117,8 @@ module _ (goes : ℕ → Bool) where
   all_pair : (ls : List QueuedPart) (s : Store) → Stays goes s → ((l : QueuedPart) → Among l ls → StaysSo goes l s) → Pair goes (all_due ls (store_without goes s)) (all_due ls s)
   all_pair [] s k f = (refl, k)
   all_pair (l ∷ ls) s k f =
-      let p : Pair goes (load_due l (store_without goes s)) (load_due l s) = load_pair l s k (f l (inl refl)) in
-      subst (λ (e : Store). Pair goes (all_due ls e) (all_due ls (load_due l s))) (sym p.0) (all_pair ls (load_due l s) p.1 (λ x a. so_after x l s (f x (inr a))))
+      let p : Pair goes (queued_due l (store_without goes s)) (queued_due l s) = queued_pair l s k (f l (inl refl)) in
+      subst (λ (e : Store). Pair goes (all_due ls e) (all_due ls (queued_due l s))) (sym p.0) (all_pair ls (queued_due l s) p.1 (λ x a. so_after x l s (f x (inr a))))
 
   pub due_pair : (h : List ℕ) (s : Store) → Stays goes s → Pair goes (due_now h (store_without goes s)) (due_now h s)
   due_pair h s k =

@@ -7,7 +7,8 @@ use Rattle.sms_rows.specs.table.Keys.{pair_key}
 use Rattle.sms_centre_rows.specs.declared.messages.message.MessageRow.{MessageRow}
 use Rattle.sms_centre_rows.specs.declared.messages.part.PartRow.{PartRow}
 use Rattle.sms_centre_rows.specs.messages.Messages.{message_at}
-use Rattle.sms_centre_rows.specs.messages.SplitReferences.{held_splits, is_delivered, is_same_address, is_taken, last_split, next_among, own_splits, unless_split, wide_in}
+use Rattle.sms_centre_rows.specs.messages.SplitReferences.{held_splits, is_delivered, is_same_address, is_taken, last_split, next_among, own_splits}
+use Rattle.sms_centre_rows.specs.messages.SplitReferences.{unless_split, wide_in}
 use Rattle.sms_centre_spec.specs.declared.rows.Rows.{Rows}
 
 -- a reference that stays barred of a source and a handset

@@ -1,7 +1,8 @@
 //! Whether a centre can start with a setup, and moments and originators of rows.
 ghost use Rattle.std.specs.Prelude.{◌≡◌};
 ghost use Rattle.std.specs.List.{list_all};
-ghost use Rattle.sms_centre_spec.specs.conditions.RowsTest.{has_report_address as has_report_address_of, has_address, is_dated, is_made, is_moment as is_moment_of, is_setup as is_setup_of, is_submitted, is_reportable};
+ghost use Rattle.sms_centre_spec.specs.conditions.RowsTest.{has_report_address as has_report_address_of, has_address, is_dated, is_made};
+ghost use Rattle.sms_centre_spec.specs.conditions.RowsTest.{is_moment as is_moment_of, is_setup as is_setup_of, is_submitted, is_reportable};
 
 use crate::Setup;
 use sms_base::{Address, Moment, Originator};

@@ -7,9 +7,9 @@ use sms_base::{Digits, MessageId, Octets};
 /// What the seat of a session or a link asks of the centre. An account is named by its place in the setup, from 0.
 #[derive(Debug, Drop)]
 pub enum Job {
-    /// Its session is bound, as a receiver or transceiver or as a transmitter alone.
+    /// The session of the seat is bound, as a receiver or transceiver or as a transmitter alone.
     Bound { account: u8, receives: bool },
-    /// Its session is bound no longer.
+    /// The session of the seat is bound no longer.
     Unbound,
     /// A submit_sm of its session, the whole PDU. It has one answer.
     Submit { account: u8, pdu: Octets },
@@ -19,9 +19,9 @@ pub enum Job {
     Cancel { account: u8, pdu: Octets },
     /// The receipt of the message was accepted in its session, or refused.
     DeliverAnswered { id: MessageId, is_accepted: bool },
-    /// Its link is that of the handset, which can be reached.
+    /// The link of the seat is that of the handset, which can be reached.
     LinkUp { handset: Digits },
-    /// Its link is no longer.
+    /// The link of the seat is no longer.
     LinkDown,
     /// A frame that arrived on its link.
     Frame { octets: Octets },

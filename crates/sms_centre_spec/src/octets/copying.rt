@@ -1,8 +1,10 @@
 //! Copies of what is handed in.
 ghost use Rattle.std.specs.Prelude.{◌≡◌, IfOk};
+ghost use Rattle.sms_centre_spec.specs.octets.OctetsAt.{kind_octets};
 
 use crate::Setup;
 use sms_base::{Listed, Octets};
+use sms_centre_rows::reports::ReportKind;
 use sms_intake::CentreAccount;
 use std::alloc::{AllocError, Global};
 
@@ -11,6 +13,19 @@ pub fn copy_of_octets(alloc: Global, octets: &Octets) -> Result<Octets, AllocErr
     ensures { IfOk result (λ copy. copy ≡ octets.now) }
 {
     Octets::copy_of(alloc, octets.as_slice())
+}
+
+/// What the report carries, in memory of its own, if it carries octets.
+pub fn copy_of_kind_octets(alloc: Global, kind: &ReportKind) -> Result<Option<Octets>, AllocError>
+    ensures { IfOk result (λ octets. octets ≡ kind_octets kind.now) }
+{
+    match kind {
+        ReportKind::Status { tpdu, .. } => {
+            let octets = copy_of_octets(alloc, tpdu)?;
+            Ok(Some(octets))
+        }
+        ReportKind::Receipt | ReportKind::Unsent => Ok(None),
+    }
 }
 
 fn copy_of_account(alloc: Global, account: &CentreAccount) -> Result<CentreAccount, AllocError>

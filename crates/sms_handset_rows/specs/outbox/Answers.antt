@@ -9,8 +9,8 @@ use Rattle.sms_tpdu.specs.declared.down.Down.TheVariants.{Deliver, StatusReport,
 use Rattle.sms_tpdu.specs.declared.fault.TpduFault.{TpduFault}
 use Rattle.sms_tpdu.specs.declared.carrier.Carrier.TheVariants.{InError}
 use Rattle.sms_tpdu.specs.TpduReading.{down_at}
-use Rattle.sms_handset_rows.specs.declared.outbox.answers.Verdict.{Verdict}
-use Rattle.sms_handset_rows.specs.declared.outbox.answers.Verdict.TheVariants.{Temporary, Duplicate, Refused, Acknowledged, Lost}
+use Rattle.sms_handset_rows.specs.declared.outbox.answers.TransferEnd.{TransferEnd}
+use Rattle.sms_handset_rows.specs.declared.outbox.answers.TransferEnd.TheVariants.{Temporary, Duplicate, Refused, Acknowledged, Lost}
 
 -- 3GPP TS 24.011 8.2.5.4: network out of order, temporary failure, congestion, resources unavailable
 abbrev pub is_temporary : RpCause → Bool
@@ -32,11 +32,11 @@ abbrev pub is_duplicate : Option (List ℕ) → Bool
 is_duplicate None = false
 is_duplicate (Some tpdu) = reports_duplicate (down_at InError tpdu)
 
-abbrev pub error_verdict : RpCause → Option (List ℕ) → Verdict
+abbrev pub error_verdict : RpCause → Option (List ℕ) → TransferEnd
 error_verdict cause tpdu = if is_temporary cause then Temporary else (if is_duplicate tpdu then Duplicate else Refused)
 
 -- What the end of its transfer says of an entry. Of an answer that is none to it, and of no answer, nothing is learnt.
-abbrev pub verdict_of : Ending → Verdict
+abbrev pub verdict_of : Ending → TransferEnd
 verdict_of AcknowledgedEnd = Acknowledged
 verdict_of (RefusedEnd cause tpdu) = error_verdict cause tpdu
 verdict_of WrongEnd = Lost

@@ -3,8 +3,8 @@ use Rattle.std.specs.Prelude.{ℕ, nat_le, ◌||◌, true, if◌then◌else◌, 
 use Rattle.sms_control.specs.Timers.{later}
 use Rattle.sms_handset_rows.specs.declared.outbox.out_entry.EntryState.TheVariants.{Queued, Unsure, Failed, Sent, Sending}
 use Rattle.sms_handset_rows.specs.declared.outbox.out_entry.OutEntry.{OutEntry}
-use Rattle.sms_handset_rows.specs.declared.outbox.answers.Verdict.{Verdict}
-use Rattle.sms_handset_rows.specs.declared.outbox.answers.Verdict.TheVariants.{Acknowledged, Temporary, Duplicate, Refused, Lost}
+use Rattle.sms_handset_rows.specs.declared.outbox.answers.TransferEnd.{TransferEnd}
+use Rattle.sms_handset_rows.specs.declared.outbox.answers.TransferEnd.TheVariants.{Acknowledged, Temporary, Duplicate, Refused, Lost}
 use Rattle.sms_handset_rows.specs.declared.outbox.out_entry.EntryState.{EntryState}
 
 -- how often an entry is sent
@@ -30,7 +30,7 @@ put_back moment o =
     if nat_le most_tries o.tries then record o { state = Failed }
     else record o { state = Queued; due = Some (later moment retry_delay) }
 
-abbrev pub settled : ℕ → Verdict → OutEntry → OutEntry
+abbrev pub settled : ℕ → TransferEnd → OutEntry → OutEntry
 settled moment Acknowledged o = record o { state = Sent }
 settled moment Temporary o = put_back moment o
 settled moment Duplicate o = record o { state = Unsure }

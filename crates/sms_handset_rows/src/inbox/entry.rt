@@ -42,7 +42,7 @@ pub enum Message {
 /// An entry of the inbox.
 #[derive(Debug, Drop)]
 pub struct Entry {
-    /// Its number, 1 to 4294967294. It is given once and to no entry of the outbox.
+    /// The entry's number, 1 to 4294967294. It is given once and to no entry of the outbox.
     pub number: u32,
     /// How many slots it takes: one for each part.
     pub slots: u8,

@@ -2,7 +2,8 @@
 ghost use Rattle.std.specs.Prelude.{◌≡◌, ◌++◌, ◌∷◌, [], ◌<◌, option_copied};
 ghost use Rattle.sms_concat.specs.Joining.{is_same_reference as is_same_reference_of};
 ghost use Rattle.sms_alphabet.specs.Concatenation.{header_key};
-ghost use Rattle.sms_handset_rows.specs.inbox.Groups.{all_numbers, is_among as is_among_of, is_same_address as is_same_address_of, is_same_group as is_same_group_of, mark_of, members, part_numbers};
+ghost use Rattle.sms_handset_rows.specs.inbox.Groups.{all_numbers, is_among as is_among_of, is_same_address as is_same_address_of};
+ghost use Rattle.sms_handset_rows.specs.inbox.Groups.{is_same_group as is_same_group_of, mark_of, members, part_numbers};
 
 use crate::inbox::discarded_group::DiscardedGroup;
 use crate::inbox::entry::{Entry, Group};

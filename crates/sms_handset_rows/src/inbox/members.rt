@@ -2,7 +2,8 @@
 ghost use Rattle.std.specs.Prelude.{◌≡◌, ◌++◌, ◌∷◌, [], length, Some, IfOk, option_copied};
 ghost use Rattle.sms_concat.specs.joiner.StepwiseJoining.{Taken};
 ghost use Rattle.sms_handset_rows.specs.declared.inbox.entry.Entry.{Entry as EntryOf};
-ghost use Rattle.sms_handset_rows.specs.inbox.Groups.{first_number as first_number_of, is_among as is_among_of, members as members_of, part_numbers, part_with as part_with_of};
+ghost use Rattle.sms_handset_rows.specs.inbox.Groups.{first_number as first_number_of, is_among as is_among_of, members as members_of, part_numbers};
+ghost use Rattle.sms_handset_rows.specs.inbox.Groups.{part_with as part_with_of};
 ghost use Rattle.sms_handset_rows.specs.inbox.OpenGroups.{entries_of, one_more as one_more_of, stored_parts};
 ghost use Rattle.sms_handset_rows.specs.inbox.OpenIndex.{Indexes, parts_of as parts_of_group};
 ghost use Rattle.sms_handset_rows.specs.inbox.TakenParts.{taken_of};
@@ -40,7 +41,7 @@ impl<'a> Model for Members<'a> {
 }
 
 impl<'a> Members<'a> {
-    /// Those of the group, by the index of the entries.
+    /// The members of the group, by the index of the entries.
     pub fn of(groups: &'a OpenGroups, entries: &'a Table<Entry>, group: &Group) -> Members<'a>
         requires { Indexes groups.now entries.now.rows }
         ensures { result ≡ members_of group.now entries.entry.now.rows }
@@ -55,7 +56,7 @@ impl<'a> Members<'a> {
         }
     }
 
-    /// Those of an open group that has them, not to be joined.
+    /// The members of an open group that has them, not to be joined.
     pub fn in_group(entries: &'a Table<Entry>, there: &'a OpenGroup) -> Members<'a>
         requires { there.now.parts ≡ stored_parts (members_of there.now.group entries.now.rows) }
         ensures { result ≡ members_of there.entry.now.group entries.entry.now.rows }

@@ -2,8 +2,12 @@
 ghost use Rattle.std.specs.Prelude.{◌≡◌};
 ghost use Rattle.sms_tpdu.specs.TpduReading.{down_at};
 ghost use Rattle.sms_tpdu.specs.declared.carrier.Carrier.TheVariants.{InData as Data};
-ghost use Rattle.sms_handset_rows.specs.inbox.Groups.{all_numbers, first_number, is_among as is_among_of, is_part_of as is_part_of_group, members, part_numbers};
-ghost use Rattle.sms_handset_rows.specs.inbox.InboxTest.{are_marks as are_marks_of, differ as differ_of, each_passes, has_key as has_key_of, is_apart as is_apart_of, is_entry as is_entry_of, is_given as is_given_of, is_last as is_last_of, is_message as is_message_of, is_of_open_group as is_of_open_group_of, is_open_group as is_open_group_of, reads_deliver as reads_deliver_of, reads_part as reads_part_of};
+ghost use Rattle.sms_handset_rows.specs.inbox.Groups.{all_numbers, first_number, is_among as is_among_of, is_part_of as is_part_of_group, members};
+ghost use Rattle.sms_handset_rows.specs.inbox.Groups.{part_numbers};
+ghost use Rattle.sms_handset_rows.specs.inbox.InboxTest.{are_marks as are_marks_of, differ as differ_of, each_passes, has_key as has_key_of};
+ghost use Rattle.sms_handset_rows.specs.inbox.InboxTest.{is_apart as is_apart_of, is_entry as is_entry_of, is_given as is_given_of, is_last as is_last_of};
+ghost use Rattle.sms_handset_rows.specs.inbox.InboxTest.{is_message as is_message_of, is_of_open_group as is_of_open_group_of};
+ghost use Rattle.sms_handset_rows.specs.inbox.InboxTest.{is_open_group as is_open_group_of, reads_deliver as reads_deliver_of, reads_part as reads_part_of};
 
 use crate::inbox::discarded_group::DiscardedGroup;
 use crate::inbox::entry::{Entry, Group, Message};

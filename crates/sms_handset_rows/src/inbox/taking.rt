@@ -4,7 +4,8 @@ ghost use Rattle.sms_tpdu.specs.TpduReading.{down_at};
 ghost use Rattle.sms_tpdu.specs.declared.carrier.Carrier.TheVariants.{InData as Data};
 ghost use Rattle.sms_tpdu.specs.declared.down.Down.TheVariants.{Deliver as DeliverOf};
 ghost use Rattle.sms_handset_rows.specs.inbox.Groups.{carried_part};
-ghost use Rattle.sms_handset_rows.specs.inbox.TakenParts.{carried_by as carried_by_of, numbered as numbered_of, taken_if as taken_if_of, with_taken as with_taken_of};
+ghost use Rattle.sms_handset_rows.specs.inbox.TakenParts.{carried_by as carried_by_of, numbered as numbered_of, taken_if as taken_if_of};
+ghost use Rattle.sms_handset_rows.specs.inbox.TakenParts.{with_taken as with_taken_of};
 
 use crate::inbox::entry::Entry;
 use sms_alphabet::UnpackError;

@@ -1,6 +1,7 @@
 //! How a transfer that the handset began ended.
 ghost use Rattle.std.specs.Prelude.{◌≡◌};
-ghost use Rattle.sms_handset_rows.specs.outbox.Answers.{error_verdict as error_verdict_of, is_duplicate as is_duplicate_tpdu, is_temporary as is_temporary_cause, verdict_of as verdict_of_ending};
+ghost use Rattle.sms_handset_rows.specs.outbox.Answers.{error_verdict as error_verdict_of, is_duplicate as is_duplicate_tpdu};
+ghost use Rattle.sms_handset_rows.specs.outbox.Answers.{is_temporary as is_temporary_cause, verdict_of as verdict_of_ending};
 
 use sms_base::Octets;
 use sms_link::Ending;
@@ -9,7 +10,7 @@ use sms_tpdu::{Carrier, Down, FailureCause, read_down};
 
 /// How a transfer that the handset began ended.
 #[derive(Clone, Copy, Debug, PartialEq, Eq)]
-pub enum Verdict {
+pub enum TransferEnd {
     /// RP-ACK under its reference.
     Acknowledged,
     /// RP-ERROR under its reference, for a cause that passes.
@@ -23,25 +24,25 @@ pub enum Verdict {
 }
 
 /// What the end of its transfer says of an entry.
-pub fn verdict_of(ending: &Ending) -> Verdict
+pub fn verdict_of(ending: &Ending) -> TransferEnd
     ensures { result ≡ verdict_of_ending ending.now }
 {
     match ending {
-        Ending::Acknowledged => Verdict::Acknowledged,
+        Ending::Acknowledged => TransferEnd::Acknowledged,
         Ending::Refused { cause, tpdu } => error_verdict(*cause, tpdu),
-        Ending::Wrong | Ending::Lost => Verdict::Lost,
+        Ending::Wrong | Ending::Lost => TransferEnd::Lost,
     }
 }
 
-fn error_verdict(cause: RpCause, tpdu: &Option<Octets>) -> Verdict
+fn error_verdict(cause: RpCause, tpdu: &Option<Octets>) -> TransferEnd
     ensures { result ≡ error_verdict_of cause tpdu.now }
 {
     if is_temporary(cause) {
-        Verdict::Temporary
+        TransferEnd::Temporary
     } else if is_duplicate(tpdu) {
-        Verdict::Duplicate
+        TransferEnd::Duplicate
     } else {
-        Verdict::Refused
+        TransferEnd::Refused
     }
 }
 

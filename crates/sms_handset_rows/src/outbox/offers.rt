@@ -3,7 +3,8 @@ ghost use Rattle.std.specs.Prelude.{◌≡◌, ◌+◌, ◌<◌, ◌≤◌, min,
 ghost use Rattle.sms_base.specs.Address.{IsAddress};
 ghost use Rattle.sms_relay.specs.RelayGrammar.{data_up, smma_up};
 ghost use Rattle.sms_tpdu.specs.AddressGrammar.{relay_address};
-ghost use Rattle.sms_handset_rows.specs.outbox.Offers.{first_due as first_due_of, first_fired as first_fired_of, is_due as is_due_of, is_fired as is_fired_of, rejecting_duplicates as rejecting_duplicates_of, submit_of as submit_octets};
+ghost use Rattle.sms_handset_rows.specs.outbox.Offers.{first_due as first_due_of, first_fired as first_fired_of, is_due as is_due_of, is_fired as is_fired_of};
+ghost use Rattle.sms_handset_rows.specs.outbox.Offers.{rejecting_duplicates as rejecting_duplicates_of, submit_of as submit_octets};
 
 use crate::outbox::notice::Notice;
 use crate::outbox::out_entry::{EntryState, OutEntry};

@@ -11,9 +11,9 @@ use std::alloc::{AllocError, Global};
 /// How far an entry of the outbox is.
 #[derive(Clone, Copy, Debug, PartialEq, Eq)]
 pub enum EntryState {
-    /// It waits to be sent.
+    /// The SUBMIT waits to be sent.
     Queued,
-    /// It is under way.
+    /// The SUBMIT is under way.
     Sending,
     /// The centre acknowledged it.
     Sent,
@@ -38,7 +38,7 @@ impl EntryState {
 /// An entry of the outbox: one SUBMIT.
 #[derive(Debug, Drop)]
 pub struct OutEntry {
-    /// Its number, 1 to 4294967294. It is given once and to no entry of the inbox.
+    /// The entry's number, 1 to 4294967294. It is given once and to no entry of the inbox.
     pub number: u32,
     /// TP-MR.
     pub message_reference: u8,

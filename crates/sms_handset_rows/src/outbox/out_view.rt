@@ -29,7 +29,7 @@ impl<'a> OutView<'a> {
         OutView { entry }
     }
 
-    /// The entry.
+    /// The entry that is seen, with the lifetime of what it is in.
     pub fn entry(&self) -> &'a OutEntry
         ensures { result.now ≡ self.now }
     {

@@ -1,6 +1,7 @@
 //! References: which are held, and the next that is free.
 ghost use Rattle.std.specs.Prelude.{◌≡◌, ◌+◌, ◌%◌, ◌++◌, IfOk, OnOk};
-ghost use Rattle.sms_handset_rows.specs.outbox.References.{held_by_entries, held_by_notices, held_message_references as held_message_references_of, held_references as held_references_of, next_free as next_free_of};
+ghost use Rattle.sms_handset_rows.specs.outbox.References.{held_by_entries, held_by_notices, held_message_references as held_message_references_of};
+ghost use Rattle.sms_handset_rows.specs.outbox.References.{held_references as held_references_of, next_free as next_free_of};
 
 use crate::inbox::is_among;
 use crate::outbox::notice::Notice;

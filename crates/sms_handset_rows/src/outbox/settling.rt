@@ -2,7 +2,7 @@
 ghost use Rattle.std.specs.Prelude.{◌≡◌};
 ghost use Rattle.sms_handset_rows.specs.outbox.Settling.{lost as lost_of, put_back as put_back_of, settled as settled_of};
 
-use crate::outbox::answers::Verdict;
+use crate::outbox::answers::TransferEnd;
 use crate::outbox::out_entry::{EntryState, OutEntry};
 use sms_base::Moment;
 
@@ -50,14 +50,14 @@ fn in_state(state: EntryState, entry: OutEntry) -> OutEntry
 }
 
 /// The entry as its transfer leaves it.
-pub fn settled(moment: Moment, verdict: Verdict, entry: OutEntry) -> OutEntry
+pub fn settled(moment: Moment, verdict: TransferEnd, entry: OutEntry) -> OutEntry
     ensures { result ≡ settled_of moment verdict entry }
 {
     match verdict {
-        Verdict::Acknowledged => in_state(EntryState::Sent, entry),
-        Verdict::Temporary => put_back(moment, entry),
-        Verdict::Duplicate => in_state(EntryState::Unsure, entry),
-        Verdict::Refused => in_state(EntryState::Failed, entry),
-        Verdict::Lost => lost(entry),
+        TransferEnd::Acknowledged => in_state(EntryState::Sent, entry),
+        TransferEnd::Temporary => put_back(moment, entry),
+        TransferEnd::Duplicate => in_state(EntryState::Unsure, entry),
+        TransferEnd::Refused => in_state(EntryState::Failed, entry),
+        TransferEnd::Lost => lost(entry),
     }
 }

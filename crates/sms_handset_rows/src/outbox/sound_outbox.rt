@@ -4,7 +4,8 @@ ghost use Rattle.sms_tpdu.specs.TpduReading.{up_at};
 ghost use Rattle.sms_tpdu.specs.declared.carrier.Carrier.TheVariants.{InData as Data};
 ghost use Rattle.sms_handset_rows.specs.inbox.Groups.{is_among as is_among_of};
 ghost use Rattle.sms_handset_rows.specs.inbox.InboxTest.{differ as differ_of, each_passes};
-ghost use Rattle.sms_handset_rows.specs.outbox.OutboxTest.{are_tries as are_tries_of, is_out_entry as is_out_entry_of, is_submitted as is_submitted_of, reads_submit as reads_submit_of, was_sent as was_sent_of};
+ghost use Rattle.sms_handset_rows.specs.outbox.OutboxTest.{are_tries as are_tries_of, is_out_entry as is_out_entry_of, is_submitted as is_submitted_of};
+ghost use Rattle.sms_handset_rows.specs.outbox.OutboxTest.{reads_submit as reads_submit_of, was_sent as was_sent_of};
 ghost use Rattle.sms_handset_rows.specs.outbox.References.{held_by_entries, held_message_references};
 
 use crate::inbox::{Entry, is_apart, is_given, is_same_address};

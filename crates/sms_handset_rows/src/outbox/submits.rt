@@ -48,7 +48,7 @@ fn submit_with(
     Ok(SubmitTpdu::of(tpdu))
 }
 
-/// The SUBMIT of a part.
+/// The SUBMIT that carries a part under that reference to the destination.
 pub fn submit_of_part(
     alloc: Global,
     message_reference: u8,

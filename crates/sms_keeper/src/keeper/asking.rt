@@ -38,7 +38,8 @@ fn hold<J: Drop, O: Drop, M: Machine<J, O>>(
     ensures item { (h : HeldItem J O) × (held.new.items ≡ held.old.items ++ h ∷ []) × (h.stimulus ≡ stimulus) × (h.step.fate ≡ result)
         × (M.is_honest machine.new → (s r : M.State) → M.stands machine.old s r
         → (h.step.outs ≡ M.gives s stimulus result) × (h.step.if_refused ≡ M.gives r stimulus Refused)
-        × MatchFate result (M.stands machine.new (M.after s stimulus result) (M.after r stimulus Refused)) (M.resumes machine.new (M.after r stimulus Refused))) }
+        × MatchFate result (M.stands machine.new (M.after s stimulus result) (M.after r stimulus Refused))
+        (M.resumes machine.new (M.after r stimulus Refused))) }
     ensures before { M.is_honest machine.new → M.is_honest machine.old }
 {
     let step = machine.step(&stimulus);

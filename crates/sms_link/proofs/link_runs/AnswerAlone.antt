@@ -30,7 +30,7 @@ use Rattle.sms_link.specs.declared.outgoing.Outgoing.{Outgoing}
 use Rattle.sms_link.specs.Ending.{unit_at, ended_by}
 use Rattle.sms_link.specs.LinkCalls.{LinkCall, Begin, Reply, Take, Fire, turn, run}
 use Rattle.sms_link.specs.LinkTurn.{LinkOf, new_link, from_links, passed_up, taken}
-use Rattle.sms_link.specs.link_runs.AnswersTaken.{Answers, IsLost, IsNoAnswer, NoneAnswered, acknowledgement_of}
+use Rattle.sms_link.specs.link_runs.AnswersTaken.{EndsTheTransfer, IsLost, IsNoAnswer, NoneAnswered, acknowledgement_of}
 use Rattle.sms_link.specs.link_runs.UnderWay.{under_way_by, under_way_after}
 use Rattle.sms_link.proofs.link_runs.LinksBelow.{call_of, calls_of, turn_follows, run_follows}
 use Rattle.sms_link.proofs.link_runs.OwnSteps.{Moves, FitsFrame, FitsTimer, take_steps, fire_steps, reply_leaves}
@@ -104,7 +104,7 @@ ack_bare i u a small =
     let reads : cp_at (spelled cp) ≡ Ok cp = spelled_again cp small in
     rw reads refl
 
-pub acknowledged_bare : (side : Side) (before after : List LinkCall) (answer : List ℕ) (i : ℕ) → Answers answer i (run before (new_link side)) → NoneAnswered after (taken answer (run before (new_link side))).link
+pub acknowledged_bare : (side : Side) (before after : List LinkCall) (answer : List ℕ) (i : ℕ) → EndsTheTransfer answer i (run before (new_link side)) → NoneAnswered after (taken answer (run before (new_link side))).link
     → (taken answer (run after (taken answer (run before (new_link side))).link)).out.frames ≡ acknowledgement_of i ∷ []
 acknowledged_bare side before after answer i is none =
     let l = run before (new_link side) in

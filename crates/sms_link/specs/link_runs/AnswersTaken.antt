@@ -15,7 +15,7 @@ use Rattle.sms_link.specs.LinkCalls.{LinkCall, turn}
 use Rattle.sms_link.specs.LinkTurn.{LinkOf, taken}
 
 -- The frame is CP-DATA to the originator under that identifier, and with it ends the transfer under way.
-pub record Answers (frame : List ℕ) (identifier : ℕ) (l : LinkOf) : Type 0 where
+pub record EndsTheTransfer (frame : List ℕ) (identifier : ℕ) (l : LinkOf) : Type 0 where
   pub unit : List ℕ
   pub reads : cp_at frame ≡ Ok (DataUnit (in_transaction ToOriginator identifier) unit)
   pub transfer : Carried

@@ -12,7 +12,7 @@ ghost use Rattle.sms_link.specs.declared.ending.Ending.{Ending};
 ghost use Rattle.sms_link.specs.declared.ending.Ending.TheVariants.{Lost};
 ghost use Rattle.sms_link.specs.declared.ending.Side.{Side};
 ghost use Rattle.sms_link.specs.declared.ending.Upward.TheVariants.{Ended};
-ghost use Rattle.sms_link.specs.link_runs.AnswersTaken.{Answers, NoneAnswered, acknowledgement_of};
+ghost use Rattle.sms_link.specs.link_runs.AnswersTaken.{EndsTheTransfer, NoneAnswered, acknowledgement_of};
 ghost use Rattle.sms_link.specs.link_runs.FramesSent.{repeats, sendings};
 ghost use Rattle.sms_link.specs.link_runs.UnderWay.{EndsByTimer, EndsByFrame, IsUnderWay, under_way_after};
 
@@ -59,7 +59,7 @@ pub fn only_what_is_under_way_ends()
 /// identifier is under way again.
 pub fn a_taken_answer_is_acknowledged_alone()
     ensures { (side : Side) (before after : List LinkCall) (answer : List ℕ) (identifier : ℕ)
-        → Answers answer identifier (run before (new_link side))
+        → EndsTheTransfer answer identifier (run before (new_link side))
         → NoneAnswered after (taken answer (run before (new_link side))).link
         → (taken answer (run after (taken answer (run before (new_link side))).link)).out.frames ≡ acknowledgement_of identifier ∷ [] }
 {}

@@ -42,8 +42,8 @@ use Rattle.sms_script.specs.declared.report.rows.GivenRow.{GivenRow}
 use Rattle.sms_script.specs.declared.report.answers.Answered.TheVariants.{Stopped as AnsweredStopped}
 use Rattle.sms_script.specs.declared.event.Act.{Act}
 use Rattle.sms_script.specs.declared.event.Act.TheVariants.{Submit, Query, Cancel, Write, Delete, Discard, Deliver, Tick}
-use Rattle.sms_script.specs.declared.event.Side.{Side}
-use Rattle.sms_script.specs.declared.event.Side.TheVariants.{Centre, Handset}
+use Rattle.sms_script.specs.declared.event.EventSide.{EventSide}
+use Rattle.sms_script.specs.declared.event.EventSide.TheVariants.{Centre, Handset}
 use Rattle.sms_script.specs.declared.event.StopPoint.{StopPoint}
 use Rattle.sms_script.specs.declared.event.StopPoint.TheVariants.{Before, After}
 use Rattle.sms_script.specs.declared.event.WorldEvent.TheVariants.{Whole, Stopped, Restart}
@@ -412,7 +412,7 @@ module _ (c : PlayState) where
   delivered_fits number None m e t = absurd cc
   delivered_fits number (Some f) m e t = frame_fits number f.direction f m e t
 
-  tick_fits : (number now : ℕ) (s : Side) → AllFit (ticked number now s c)
+  tick_fits : (number now : ℕ) (s : EventSide) → AllFit (ticked number now s c)
   tick_fits number now Centre m e t = subst (λ (z : Meeting). Fits z c) (some_meeting (AtCentre _) m e) t
   tick_fits number now (Handset n) m e t = handset_fits number _ n (party_at n c.parties) refl m e t
 
@@ -439,7 +439,7 @@ party_grows : (number : ℕ) (n : List ℕ) (c d : PlayState) (o : Option Party)
 party_grows number n c d None at e = absurd cc
 party_grows number n c d (Some p) at e = subst (λ (z : PlayState). Grows c z) (same_play (party_restarted p c) d e) (again p c (own_number n c.parties p at))
 
-side_grows : (number : ℕ) (s : Side) (c d : PlayState) → restart number s c ≡ ok_play d → Grows c d
+side_grows : (number : ℕ) (s : EventSide) (c d : PlayState) → restart number s c ≡ ok_play d → Grows c d
 side_grows number Centre c d e = subst (λ (z : PlayState). Grows c z) (same_play (centre_restarted c) d e) (centre_again c)
 side_grows number (Handset n) c d e = party_grows number n c d (party_at n c.parties) refl e
 

@@ -12,7 +12,7 @@ use Rattle.sms_script.specs.declared.event.WorldEvent.{WorldEvent}
 use Rattle.sms_world_model.specs.World.{Accepted, Allocation}
 use Rattle.sms_play.specs.growth.Growth.{Grows, HaveParts}
 use Rattle.sms_play.specs.judging.Judging.{AreCounts, Judged, Knows, KnowsTo, looked}
-use Rattle.sms_play.specs.judging.Premises.{IsNew, accepted_at, reused, untimely}
+use Rattle.sms_play.specs.judging.Premises.{IsNewPlay, accepted_at, reused, untimely}
 use Rattle.sms_play.specs.judging.Watching.{HasAccepted, Watches}
 use Rattle.sms_play.specs.declared.judging.premises.Judge.{Judge}
 use Rattle.sms_play.specs.declared.judging.watch.Watch.{Watch}
@@ -121,7 +121,7 @@ judged_none o c j broken e knows = record { verdict = broken ∙ sym e; knows = 
 pub judged_some : (o : Option Broken) (x : Broken) (c : PlayState) (j : Judge) → j.broken ≡ Some x → o ≡ Some x → Judged o c j
 judged_some o x c j broken e = record { verdict = broken ∙ sym e; knows = λ q. absurd (some_broken x (sym e ∙ q)) }
 
-pub judged_new : (c : PlayState) (j : Judge) → IsNew c → j.broken ≡ None → j.given ≡ 0 → j.accepted.items ≡ [] → Watches [] [] [] j.watch → Judged None c j
+pub judged_new : (c : PlayState) (j : Judge) → IsNewPlay c → j.broken ≡ None → j.given ≡ 0 → j.accepted.items ≡ [] → Watches [] [] [] j.watch → Judged None c j
 judged_new c j new broken given counts watch =
     judged_none None c j broken refl (record {
       given = given ∙ ap (λ (z : List GivenRow). length z) (sym new.given);

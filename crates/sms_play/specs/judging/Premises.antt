@@ -42,6 +42,6 @@ abbrev pub NoneAccepted : List Party → Type 0
 NoneAccepted [] = Unit {0}
 NoneAccepted (p ∷ ps) = (p.accepted ≡ []) × NoneAccepted ps
 
-pub record IsNew (c : PlayState) : Type 0 where
+pub record IsNewPlay (c : PlayState) : Type 0 where
   pub given : c.given ≡ []
   pub parties : NoneAccepted c.parties

@@ -1,11 +1,13 @@
 //! Whether the premises of the claims hold at each event.
-ghost use Rattle.std.specs.Prelude.{◌≡◌, ◌&&◌, ◌<◌, ◌≤◌, ◌++◌, ◌∷◌, [], ℕ, nat_eq, List, Option, None, Some, IfOk, OnOk, drop, length, slice_index, if◌then◌else◌};
+ghost use Rattle.std.specs.Prelude.{◌≡◌, ◌&&◌, ◌<◌, ◌≤◌, ◌++◌, ◌∷◌, [], ℕ, nat_eq, List, Option, None, Some, IfOk, OnOk, drop, length, slice_index};
+ghost use Rattle.std.specs.Prelude.{if◌then◌else◌};
 ghost use Rattle.sms_play.specs.growth.Growth.{Grows};
-ghost use Rattle.sms_play.specs.judging.Premises.{IsNew, or_first, reused};
+ghost use Rattle.sms_play.specs.judging.Premises.{IsNewPlay, or_first, reused};
 ghost use Rattle.sms_play.specs.judging.Judging.{Judged, Knows, KnowsTo};
 ghost use Rattle.sms_play.specs.judging.Watching.{Watches};
 ghost use Rattle.sms_play.specs.PlayState.{PlayState, frame_at as frame_at_number};
-ghost use Rattle.sms_play.specs.Premises.{are_fresh, hands_timely as hands_timely_of, is_fresh_event, is_timely_at, is_timely_event, newest_first, pairs_of, part_allocation, part_allocations};
+ghost use Rattle.sms_play.specs.Premises.{are_fresh, hands_timely as hands_timely_of, is_fresh_event, is_timely_at, is_timely_event, newest_first, pairs_of};
+ghost use Rattle.sms_play.specs.Premises.{part_allocation, part_allocations};
 ghost use Rattle.sms_script.specs.declared.report.Broken.{Broken as BrokenOf};
 ghost use Rattle.sms_script.specs.declared.report.rows.GivenRow.{GivenRow as GivenRowOf};
 ghost use Rattle.sms_world_model.specs.World.{Accepted, Allocation};
@@ -139,7 +141,7 @@ fn note_looked_at(counts: &mut Vec<usize>, place: usize, count: usize) -> Result
 impl Judge {
     /// Nothing was looked at yet.
     pub fn new(alloc: Global) -> Judge
-        ensures { (c : PlayState) → IsNew c → Judged None c result }
+        ensures { (c : PlayState) → IsNewPlay c → Judged None c result }
     {
         Judge {
             watch: Watch::new(alloc),

@@ -16,7 +16,7 @@ use std::alloc::AllocError;
 
 /// What there is to see of a script in play. Each list only grows.
 pub trait Scene {
-    /// It shows that course of the script. A scene that doesn't say which shows none.
+    /// The scene shows that course of the script. A scene that doesn't say which shows none.
     ghost represents: { Self → PlayState → Type 0 } = { λ scene c. ⊥ };
 
     /// The answers so far, in order.
@@ -54,7 +54,7 @@ pub trait Scene {
 
 /// Who looks on while a script is played.
 pub trait Watcher {
-    /// It has looked on up to that course, and that was the first event that broke a premise. Who judges nothing has seen all.
+    /// The judge has looked on up to that course, and that was the first event that broke a premise. Who judges nothing has seen all.
     ghost has_seen: { Self → Option Broken → PlayState → Type 0 } = { λ watcher broken c. ⊤ };
 
     /// The event of that number is next: the scene is from before it.

@@ -13,8 +13,8 @@ use Rattle.sms_play.specs.Meeting.{account_from, by_account, by_handset, meeting
 use Rattle.sms_script.specs.Requests.{cancel_of, query_of, submit_of}
 use Rattle.sms_script.specs.declared.event.Act.{Act}
 use Rattle.sms_script.specs.declared.event.Act.TheVariants.{Cancel, Deliver, Delete, Discard, Query, Submit, Tick, Write}
-use Rattle.sms_script.specs.declared.event.Side.{Side}
-use Rattle.sms_script.specs.declared.event.Side.TheVariants.{Handset}
+use Rattle.sms_script.specs.declared.event.EventSide.{EventSide}
+use Rattle.sms_script.specs.declared.event.EventSide.TheVariants.{Handset}
 
 -- however a call ended
 pub anyhow : {X E : Type 0} (res : Result X E) (P : Type 0) → P → OnOk res P
@@ -58,6 +58,6 @@ fits_as res event act bare c is none =
     anyhow res (IsCentreEvent (meeting_of event act c)) (subst (λ (a : Act). IsCentreEvent (meeting_of event a c)) (sym is) (fits_bare event bare c none))
 
 -- a tick of a handset
-pub handset_ticks : (event now : ℕ) (side : Side) (number : List ℕ) (c : PlayState) → side ≡ Handset number → IsCentreEvent (meeting_of event (Tick side now) c)
+pub handset_ticks : (event now : ℕ) (side : EventSide) (number : List ℕ) (c : PlayState) → side ≡ Handset number → IsCentreEvent (meeting_of event (Tick side now) c)
 handset_ticks event now side number c is =
-    subst (λ (s : Side). IsCentreEvent (meeting_of event (Tick s now) c)) (sym is) (handsets_fit event (HandsetTick now) (party_at number c.parties))
+    subst (λ (s : EventSide). IsCentreEvent (meeting_of event (Tick s now) c)) (sym is) (handsets_fit event (HandsetTick now) (party_at number c.parties))

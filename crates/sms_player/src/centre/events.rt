@@ -2,7 +2,7 @@
 ghost use Rattle.std.specs.Prelude.{◌≡◌, ◌++◌, IfOk, OnErr, OnOk};
 ghost use Rattle.sms_centre.specs.plans.EventOutcome.{IsOutcome, AreOutputs};
 ghost use Rattle.sms_centre.specs.state.CentreState.{Represents as StateRepresents};
-ghost use Rattle.sms_centre.specs.Planning.{Fits};
+ghost use Rattle.sms_centre.specs.Planning.{FitsTheCentre};
 ghost use Rattle.sms_store_memory.specs.centre.RowsInKeep.{rows_in};
 ghost use Rattle.sms_centre_spec.specs.CentreEvent.{happened};
 ghost use Rattle.sms_centre_spec.specs.Draft.{Core, core_of, rows_after};
@@ -27,7 +27,7 @@ fn plan(centre: &Centre, keep: &mut MemoryKeep, event: &CentreEvent<'_>) -> Resu
     requires { HasNumber event.now }
     ensures plan { (c : Core) → PlayedRepresents c centre.now (rows_in keep.old) → IfOk result (λ p. IsOutcome (happened event.now c) p.plan) }
     ensures same { (c : Core) → PlayedRepresents c centre.now (rows_in keep.old) → rows_in keep.new ≡ c.rows }
-    ensures fits { IfOk result (Fits centre.now) }
+    ensures fits { IfOk result (FitsTheCentre centre.now) }
     ensures event { IsEvent event.now }
 {
     a_state_meets_what_events_require();
@@ -78,7 +78,7 @@ fn put_in(
     planned: Plan,
     given: &mut Listed<GivenRow>,
 ) -> Result<Outputs, AllocError>
-    requires { Fits centre.old planned }
+    requires { FitsTheCentre centre.old planned }
     ensures outputs { IfOk result (λ outputs. outputs ≡ planned.plan.outputs) }
     ensures centre_state { (event : CentreEventOf) (c : Core) → StateRepresents c centre.old → IsEvent event → IsOutcome (happened event c) planned.plan
         → StateRepresents (core_of (happened event c)) centre.new }
@@ -100,7 +100,7 @@ fn carry_out(
     planned: Plan,
     given: &mut Listed<GivenRow>,
 ) -> Result<Outputs, AllocError>
-    requires { Fits centre.old planned }
+    requires { FitsTheCentre centre.old planned }
     ensures outputs { IfOk result (λ outputs. outputs ≡ planned.plan.outputs) }
     ensures done { (event : CentreEventOf) (c : Core) → PlayedRepresents c centre.old (rows_in keep.old) → IsEvent event
         → IsOutcome (happened event c) planned.plan → OnOk result (PlayedRepresents (core_of (happened event c)) centre.new (rows_in keep.new)) }

@@ -3,10 +3,10 @@ ghost use Rattle.std.specs.Prelude.{◌≡◌, ◌≤◌, [], length, IfOk, true
 ghost use Rattle.sms_base.specs.Address.{IsAddress};
 ghost use Rattle.sms_base.specs.HandsetNumber.{own_address};
 ghost use Rattle.sms_centre_spec.specs.SoundRows.{IsSetup};
-ghost use Rattle.sms_play.specs.Setups.{accounts_of as accounts_of_head, are_accounts as are_accounts_of, can_be_played, centre_setup as centre_setup_of, is_number as is_number_of};
+ghost use Rattle.sms_play.specs.Setups.{accounts_of as accounts_of_head, are_accounts as are_accounts_of, can_be_played, centre_setup as centre_setup_of};
+ghost use Rattle.sms_play.specs.Setups.{is_number as is_number_of};
 
-use crate::heads::digits::digits_of;
-use sms_base::{Address, Listed, Moment, Octets};
+use sms_base::{Address, Listed, Moment, Octets, digits_of};
 use sms_centre_spec::Setup as CentreSetup;
 use sms_intake::CentreAccount;
 use sms_script::{AccountSetup, Setup};
@@ -38,7 +38,7 @@ fn accounts_of(
     Ok(all)
 }
 
-/// Its address.
+/// The centre's address.
 pub(crate) fn centre_of(setup: &Setup<'_>) -> Address
     requires { is_number_of setup.now.centre ≡ true }
     ensures centre { result ≡ own_address setup.now.centre }

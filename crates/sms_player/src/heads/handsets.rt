@@ -5,12 +5,12 @@ ghost use Rattle.sms_base.specs.Address.{IsAddress};
 ghost use Rattle.sms_base.specs.HandsetNumber.{own_address};
 ghost use Rattle.sms_player.specs.heads.Heads.{party_of as party_of_head};
 ghost use Rattle.sms_play.specs.PlayState.{numbers_of as numbers_of_parties};
-ghost use Rattle.sms_play.specs.Setups.{are_handsets as are_handsets_of, can_be_played, is_handset as is_handset_of, is_number as is_number_of, parties_of as parties_of_head};
+ghost use Rattle.sms_play.specs.Setups.{are_handsets as are_handsets_of, can_be_played, is_handset as is_handset_of, is_number as is_number_of};
+ghost use Rattle.sms_play.specs.Setups.{parties_of as parties_of_head};
 
 use crate::heads::centre::centre_of;
-use crate::heads::digits::digits_of;
 use sms_base::lending::lend;
-use sms_base::{Digits, Moment};
+use sms_base::{Digits, Moment, digits_of};
 use sms_player_handset::PlayedHandset;
 use sms_script::{HandsetSetup, Setup};
 use std::alloc::{AllocError, Global};

@@ -3,7 +3,8 @@ ghost use Rattle.std.specs.Prelude.{◌≡◌};
 ghost use Rattle.std.specs.List.{list_all};
 ghost use Rattle.sms_base.specs.HandsetNumber.{is_decimal};
 ghost use Rattle.sms_player.specs.heads.Heads.{Judges};
-ghost use Rattle.sms_play.specs.Setups.{are_accounts as are_accounts_of, are_handsets as are_handsets_of, can_be_played, has_account as has_account_of, has_handset as has_handset_of, is_handset as is_handset_of, is_moment as is_moment_of, is_number as is_number_of};
+ghost use Rattle.sms_play.specs.Setups.{are_accounts as are_accounts_of, are_handsets as are_handsets_of, can_be_played, has_account as has_account_of};
+ghost use Rattle.sms_play.specs.Setups.{has_handset as has_handset_of, is_handset as is_handset_of, is_moment as is_moment_of, is_number as is_number_of};
 
 use sms_base::Moment;
 use sms_script::{AccountSetup, HandsetSetup, Setup};

@@ -1,16 +1,16 @@
 //! The events of a script.
-ghost use Rattle.std.specs.Prelude.{◌≡◌, ◌<◌, ◌≤◌, ◌^◌, ℕ, true, false, length, string_bytes, Err, IfOk, IfSome, OnOk};
+ghost use Rattle.std.specs.Prelude.{◌≡◌, ◌<◌, ◌≤◌, ◌^◌, ℕ, true, false, length, Err, IfOk, IfSome, OnOk};
 ghost use Rattle.std.specs.Str.{chars, is_utf8};
 ghost use Rattle.sms_base.specs.Address.{IsAddress};
 ghost use Rattle.sms_base.specs.Among.{Among};
 ghost use Rattle.sms_base.specs.HandsetNumber.{own_address};
-ghost use Rattle.sms_base.specs.Reading.{AreOctets};
-ghost use Rattle.sms_centre_spec.specs.SoundCore.{HasNumber, IsEvent};
+ghost use Rattle.sms_centre_spec.specs.SoundCore.{IsEvent};
 ghost use Rattle.sms_centre_spec.specs.declared.event.CentreEvent.TheVariants.{Submit as CentreSubmit, Frame as CentreFrame};
 ghost use Rattle.sms_play.specs.growth.Growth.{IsFit, IsCentreEvent};
 ghost use Rattle.sms_handset.specs.HandsetEvent.{deleted as deleted_of, discarded as discarded_of};
 ghost use Rattle.sms_handset.specs.declared.refusal.Refusal.TheVariants.{NoEntry};
-ghost use Rattle.sms_handset.specs.declared.event.HandsetEvent.TheVariants.{Frame as HandsetFrame, Write as HandsetWrite, Delete as HandsetDelete, Discard as HandsetDiscard};
+ghost use Rattle.sms_handset.specs.declared.event.HandsetEvent.TheVariants.{Frame as HandsetFrame, Write as HandsetWrite, Delete as HandsetDelete};
+ghost use Rattle.sms_handset.specs.declared.event.HandsetEvent.TheVariants.{Discard as HandsetDiscard};
 ghost use Rattle.sms_play.specs.PlayState.{PlayState, Party, frame_at as frame_at_number};
 ghost use Rattle.sms_play.specs.Meeting.{AtCentre, AtHandset, account_from, handed_over, is_answered as is_answered_act, meeting_of, tag_in as tag_in_of};
 ghost use Rattle.sms_play.specs.PlayedEvent.{played, restart as restart_of};
@@ -20,8 +20,9 @@ ghost use Rattle.sms_player.specs.playing.Playing.{Hands, IsFrame, LeadsTo, acte
 ghost use Rattle.sms_script.specs.Requests.{submit_of as submit_of_submission};
 ghost use Rattle.sms_script.specs.declared.report.rows.FrameRow.{FrameRow as FrameRowOf};
 ghost use Rattle.sms_script.specs.declared.event.Act.{Act as ActOf};
-ghost use Rattle.sms_script.specs.declared.event.Act.TheVariants.{Submit as ActSubmit, Query as ActQuery, Cancel as ActCancel, Write as ActWrite, Delete as ActDelete, Discard as ActDiscard, Deliver as ActDeliver, Tick as ActTick};
-ghost use Rattle.sms_script.specs.declared.event.Side.TheVariants.{Handset as SideHandset};
+ghost use Rattle.sms_script.specs.declared.event.Act.TheVariants.{Submit as ActSubmit, Query as ActQuery, Cancel as ActCancel, Write as ActWrite};
+ghost use Rattle.sms_script.specs.declared.event.Act.TheVariants.{Delete as ActDelete, Discard as ActDiscard, Deliver as ActDeliver, Tick as ActTick};
+ghost use Rattle.sms_script.specs.declared.event.EventSide.TheVariants.{Handset as SideHandset};
 
 use crate::centre::CentreEvent;
 use crate::playing::Playing;
@@ -29,12 +30,16 @@ use crate::playing::places::{
     account_place, digits_place, number_at, numbers_entries, party_place,
 };
 use sms_base::{Carried, Digits, Holder, Moment, OctetView, Octets};
+use sms_centre_spec::is_event;
 use sms_handset::{HandsetEvent, TextView};
+use sms_intake::latin_text;
 use sms_play::staging::frame_at;
 use sms_script::report::Direction;
 use sms_script::requests::{cancel_of, query_of, submit_of};
-use sms_script::{Act, PlayFault, Side, StopPoint, Submission, TextView as TextWord, WorldEvent};
-use std::alloc::{AllocError, Global};
+use sms_script::{
+    Act, EventSide, PlayFault, StopPoint, Submission, TextView as TextWord, WorldEvent,
+};
+use std::alloc::AllocError;
 use std::str::from_utf8;
 
 /// What was done, with want of memory as a fault at `event`.
@@ -56,26 +61,6 @@ fn tag_in(carried: Option<Carried>) -> Option<Holder>
     carried.map(|carried| carried.tag)
 }
 
-// Octets are below 256.
-fn are_octets(octets: &[u8])
-    ensures { AreOctets octets.now }
-{}
-
-// What happens at the centre is an event: its octets are octets, and its moment is one that time stamps can write.
-fn is_event(event: &CentreEvent<'_>)
-    requires { HasNumber event.now }
-    ensures { IsEvent event.now }
-{
-    match event {
-        CentreEvent::Frame { octets, .. } => are_octets(octets.as_slice()),
-        CentreEvent::Tick(now) => {
-            // The call tells its range.
-            let _seconds = now.seconds();
-        }
-        _ => (),
-    }
-}
-
 // A frame that is handed over.
 #[derive(Drop)]
 struct Handed {
@@ -83,17 +68,6 @@ struct Handed {
     handset: Digits,
     octets: Octets,
     tag: Option<Holder>,
-}
-
-// A character for each octet.
-fn text_of(alloc: Global, octets: &[u8]) -> Result<String, AllocError>
-    ensures { IfOk result (λ text. chars (string_bytes text) ≡ octets.now) }
-{
-    let mut text = String::new(alloc);
-    for octet in octets {
-        text.push(char::from(*octet))?;
-    }
-    Ok(text)
 }
 
 // The octets of a text, as text.
@@ -261,7 +235,7 @@ impl<'a> Playing<'a> {
         ensures { (c : PlayState) (party : Party) (act : ActOf) → Represents c self.old → IsFirstAt place party c.parties → is_answered_act act ≡ true
             → OnOk result (Represents (met_as stop event act (AtHandset party (HandsetWrite (chars text.now) to.now report)) c) self.new) }
     {
-        let to = text_of(self.alloc, to)?;
+        let to = latin_text(self.alloc, to)?;
         let octets = text.octets(self.alloc)?;
         self.write_text(event, stop, place, to.as_str(), report, text_in(&octets))
     }
@@ -472,19 +446,19 @@ impl<'a> Playing<'a> {
         &mut self,
         event: u64,
         stop: Option<StopPoint>,
-        side: &Side<'_>,
+        side: &EventSide<'_>,
         now: Moment,
     ) -> Result<(), PlayFault>
         ensures leads { (c : PlayState) → Represents c self.old → LeadsTo result self.new (acted stop event (ActTick side.now now) c) }
         ensures fit { (c : PlayState) → IsCentreEvent (meeting_of event (ActTick side.now now) c) }
     {
         match side {
-            Side::Centre => {
+            EventSide::Centre => {
                 let happening = CentreEvent::Tick(now);
                 is_event(&happening);
                 or_no_memory(event, self.at_centre(event, stop, false, &happening))
             }
-            Side::Handset(number) => self.handset_ticked(event, stop, number.as_slice(), now),
+            EventSide::Handset(number) => self.handset_ticked(event, stop, number.as_slice(), now),
         }
     }
 
@@ -522,12 +496,12 @@ impl<'a> Playing<'a> {
         }
     }
 
-    fn restart(&mut self, event: u64, side: &Side<'_>) -> Result<(), PlayFault>
+    fn restart(&mut self, event: u64, side: &EventSide<'_>) -> Result<(), PlayFault>
         ensures { (c : PlayState) → Represents c self.old → LeadsTo result self.new (restart_of event side.now c) }
     {
         match side {
-            Side::Centre => or_no_memory(event, self.restart_centre()),
-            Side::Handset(number) => match self.party(number.as_slice()) {
+            EventSide::Centre => or_no_memory(event, self.restart_centre()),
+            EventSide::Handset(number) => match self.party(number.as_slice()) {
                 Some(place) => or_no_memory(event, self.restart_handset(place)),
                 None => Err(PlayFault::NoSuchSide { event }),
             },

@@ -1,7 +1,8 @@
 //! What a script led to.
 ghost use Rattle.std.specs.Prelude.{◌≡◌, IfOk};
 ghost use Rattle.sms_play.specs.PlayState.{PlayState};
-ghost use Rattle.sms_play.specs.Playing.{accepted_lines as accepted_lines_of, all_outbox_lines, joined_lines as joined_lines_of, message_lines, receipt_lines, report_of};
+ghost use Rattle.sms_play.specs.Playing.{accepted_lines as accepted_lines_of, all_outbox_lines, joined_lines as joined_lines_of, message_lines, receipt_lines};
+ghost use Rattle.sms_play.specs.Playing.{report_of};
 ghost use Rattle.sms_player.specs.playing.Plays.{Represents};
 
 use crate::centre::{joined_lines, outbox_lines};

@@ -34,5 +34,5 @@ abbrev pub Suffices : {A : Type 0} → ℕ → ℕ → InternedOf A → Type 0
 Suffices extra reserve t = length t.values + extra ≤ max (length t.values + t.room) reserve
 
 -- it took the memory in
-abbrev pub Makes : {A : Type 0} → ℕ → InternedOf A → InternedOf A → Type 0
-Makes reserve old new = max (length old.values + old.room) reserve ≤ length old.values + new.room
+abbrev pub TookNumbers : {A : Type 0} → ℕ → InternedOf A → InternedOf A → Type 0
+TookNumbers reserve old new = max (length old.values + old.room) reserve ≤ length old.values + new.room

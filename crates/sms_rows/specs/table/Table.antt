@@ -1,5 +1,6 @@
 -- Tables: rows by their keys, in the order of their keys, at most one row a key; and changes of a table.
-use Rattle.std.specs.Prelude.{◌≡◌, ℕ, zero, suc, ◌+◌, ◌*◌, ◌<◌, ◌≤◌, ◌==◌, nat_lt, nat_le, length, is_some, ◌||◌, Bool, true, false, if◌then◌else◌, Option, Some, None, List, [], ◌∷◌}
+use Rattle.std.specs.Prelude.{◌≡◌, ℕ, zero, suc, ◌+◌, ◌*◌, ◌<◌, ◌≤◌, ◌==◌, nat_lt, nat_le, length, is_some, ◌||◌, Bool, true, false, if◌then◌else◌, Option}
+use Rattle.std.specs.Prelude.{Some, None, List, [], ◌∷◌}
 use Rattle.std.specs.List.{AllByRecursion, list_all}
 use Rattle.sms_rows.specs.declared.table.change.Change.{Change}
 use Rattle.sms_rows.specs.declared.table.change.Change.TheVariants.{Put, Remove}

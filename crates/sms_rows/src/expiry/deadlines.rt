@@ -58,7 +58,7 @@ impl Deadlines {
         }
     }
 
-    /// One more. Where memory is wanting, nothing has changed.
+    /// Adds a deadline. Where memory is wanting, nothing has changed.
     pub fn push(&mut self, deadline: Deadline) -> Result<(), AllocError>
         ensures own { OnOk result (Among deadline self.new.items) }
         ensures others { (other : DeadlineOf) → Among other self.old.items → Among other self.new.items }
@@ -72,7 +72,7 @@ impl Deadlines {
         Ok(())
     }
 
-    /// One more, without taking memory.
+    /// Adds a deadline without taking memory.
     pub fn push_ready(&mut self, deadline: Deadline)
         requires { length self.old.items + 1 ≤ self.old.capacity }
         ensures own { Among deadline self.new.items }

@@ -9,7 +9,7 @@ pub trait Dated: Row {
     /// The moment, as contracts see it.
     ghost moment: { Self → ℕ };
 
-    /// The moment.
+    /// The moment that the row is of.
     fn moment(&self) -> Moment
         ensures { result ≡ moment self.now };
 }

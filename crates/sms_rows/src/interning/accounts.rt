@@ -1,6 +1,6 @@
 //! The names of accounts, each kept once.
 ghost use Rattle.std.specs.Prelude.{◌≡◌, [], ◌<◌, IfNone, IfOk, IfSome, IsOk, OnErr, option_copied, slice_get};
-ghost use Rattle.sms_rows.specs.interning.Interning.{Interned, IsAt, IsNowhere, Keeps, Makes, Suffices};
+ghost use Rattle.sms_rows.specs.interning.Interning.{Interned, IsAt, IsNowhere, Keeps, TookNumbers, Suffices};
 
 use sms_base::Octets;
 use std::alloc::{AllocError, Global};
@@ -117,7 +117,7 @@ impl Accounts {
     pub fn use_reserve(&mut self, reserve: AccountsReserve)
         ensures values { Keeps self.old.values self.new.values }
         ensures same { self.new.values ≡ self.old.values }
-        ensures room { Makes reserve self.old self.new }
+        ensures room { TookNumbers reserve self.old self.new }
     {
         let mut names = reserve.names;
         if self.names.capacity() < names.capacity() {

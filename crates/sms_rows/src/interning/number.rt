@@ -10,7 +10,7 @@ use std::hash::{Hash, Hasher};
 /// A number or a name as a key, distinguished from others by its characters.
 #[derive(Clone, Copy, Debug, Drop)]
 pub struct Number {
-    /// Its characters.
+    /// The number's characters.
     pub digits: Digits,
 }
 

@@ -1,6 +1,6 @@
 //! Numbers and names, each kept once.
 ghost use Rattle.std.specs.Prelude.{◌≡◌, [], ◌<◌, ℕ, IfNone, IfOk, IfSome, IsOk, OnErr, slice_get};
-ghost use Rattle.sms_rows.specs.interning.Interning.{Interned, IsAt, Keeps, Makes, Suffices};
+ghost use Rattle.sms_rows.specs.interning.Interning.{Interned, IsAt, Keeps, TookNumbers, Suffices};
 
 use crate::interning::number::Number;
 use indexmap::IndexSet;
@@ -117,7 +117,7 @@ impl Numbers {
     pub fn use_reserve(&mut self, reserve: NumbersReserve)
         ensures values { Keeps self.old.values self.new.values }
         ensures same { self.new.values ≡ self.old.values }
-        ensures room { Makes reserve self.old self.new }
+        ensures room { TookNumbers reserve self.old self.new }
     {
         let mut set = reserve.set;
         // The call tells that no number stands twice.

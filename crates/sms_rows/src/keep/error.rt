@@ -7,10 +7,10 @@ use thiserror::Error;
 /// Why a keep refused a call.
 #[derive(Clone, Copy, Debug, PartialEq, Eq, Error)]
 pub enum KeepError {
-    /// It is a store of this kind, of an earlier version.
+    /// The store is of this kind, but of an earlier version.
     #[error("the store is of an earlier version")]
     OldVersion,
-    /// It is no store of this kind, or one of a later version.
+    /// The store is not of this kind, or of a later version.
     #[error("this is no such store")]
     NotThisStore,
     /// The disk failed, or refused for another reason than that it is full.

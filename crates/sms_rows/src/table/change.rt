@@ -6,7 +6,7 @@ ghost use Rattle.sms_rows.specs.table.Table.{change_key, change_row, is_removal_
 use crate::table::Row;
 use crate::table::key::Key;
 
-/// One change of a table of rows.
+/// A change of a table of rows.
 #[derive(Debug, Drop)]
 pub enum Change<T: Drop> {
     /// The row replaces that of its key, or is added where its key belongs.

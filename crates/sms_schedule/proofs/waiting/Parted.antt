@@ -7,7 +7,7 @@ use Rattle.sms_rows.specs.table.Keys.{pair_key}
 use Rattle.sms_rows.specs.table.Table.{Rises, insert, put, row_at, without}
 use Rattle.sms_rows.proofs.table.Tables.{insert_behind, rises_put, rises_without, row_behind, row_here, without_behind}
 use Rattle.sms_centre_rows.specs.declared.waiting.queued_part.QueuedPart.{QueuedPart}
-use Rattle.sms_centre_rows.specs.waiting.Keys.{load_key}
+use Rattle.sms_centre_rows.specs.waiting.Keys.{queued_key}
 use Rattle.sms_centre_rows.specs.waiting.Waiting.{is_due, is_part_of, is_same, waits_beside, withdrawn}
 use Rattle.sms_centre_rows.proofs.waiting.Withdrawing.{rises_withdrawn}
 use Rattle.sms_schedule.specs.waiting.Base.{AllBelow}
@@ -76,7 +76,7 @@ beside_parted now chosen (l ∷ ls) ks =
 
 -- ---- the parts of a message wait no more
 
-pub withdrawn_parted : (id : ℕ) (ls ks : List QueuedPart) → AllBelow load_key (pair_key id 0) ls → withdrawn id (ls ++ ks) ≡ ls ++ withdrawn id ks
+pub withdrawn_parted : (id : ℕ) (ls ks : List QueuedPart) → AllBelow queued_key (pair_key id 0) ls → withdrawn id (ls ++ ks) ≡ ls ++ withdrawn id ks
 withdrawn_parted id [] ks below = refl
 withdrawn_parted id (l ∷ ls) ks below =
     let another : ¬ (l.id ≡ id) = λ e. absurd (omega (arith, e, below.0)) in
@@ -84,6 +84,6 @@ withdrawn_parted id (l ∷ ls) ks below =
     cond-false (is_part_of id l) (withdrawn id (ls ++ ks)) (l ∷ withdrawn id (ls ++ ks)) other
     ∙ ap (λ (r : List QueuedPart). l ∷ r) (withdrawn_parted id ls ks below.1)
 
-pub rises_withdrawn_parted : (id : ℕ) (ls ks : List QueuedPart) → AllBelow load_key (pair_key id 0) ls → Rises load_key (ls ++ ks) → Rises load_key (ls ++ withdrawn id ks)
+pub rises_withdrawn_parted : (id : ℕ) (ls ks : List QueuedPart) → AllBelow queued_key (pair_key id 0) ls → Rises queued_key (ls ++ ks) → Rises queued_key (ls ++ withdrawn id ks)
 rises_withdrawn_parted id ls ks below rises =
-    subst (λ (r : List QueuedPart). Rises load_key r) (withdrawn_parted id ls ks below) (rises_withdrawn id (ls ++ ks) rises)
+    subst (λ (r : List QueuedPart). Rises queued_key r) (withdrawn_parted id ls ks below) (rises_withdrawn id (ls ++ ks) rises)

@@ -7,5 +7,5 @@ pub record WaitingPartsOf : Type 0 where
   pub newer : List QueuedPart
 
 -- all that waits
-abbrev pub loads_of : WaitingPartsOf → List QueuedPart
-loads_of w = w.base ++ w.newer
+abbrev pub queued_of : WaitingPartsOf → List QueuedPart
+queued_of w = w.base ++ w.newer

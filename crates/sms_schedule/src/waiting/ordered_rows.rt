@@ -17,7 +17,7 @@ pub(crate) fn is_below<T: Row>(rows: &[T], key: Key) -> bool
     }
 }
 
-/// These rows and then those, in memory of their own.
+/// The first rows and then the rest, in memory of their own.
 pub(crate) fn joined<T: Copy + Drop>(
     alloc: Global,
     first: &[T],

@@ -1,47 +1,51 @@
 //! Walks through what waits.
 ghost use Rattle.std.specs.Prelude.{◌≡◌, ◌++◌, List, IfOk};
-ghost use Rattle.sms_centre_rows.specs.waiting.Waiting.{all_at_once, if_due, is_part_of as is_part_of_message, is_same as is_same_of, next as next_of, preceding, waits_beside as waits_beside_of, withdrawn};
-ghost use Rattle.sms_centre_rows.specs.declared.waiting.queued_part.QueuedPart.{QueuedPart as LoadOf};
+ghost use Rattle.sms_centre_rows.specs.waiting.Waiting.{all_at_once, if_due, is_part_of as is_part_of_message, is_same as is_same_of, next as next_of};
+ghost use Rattle.sms_centre_rows.specs.waiting.Waiting.{preceding, waits_beside as waits_beside_of, withdrawn};
+ghost use Rattle.sms_centre_rows.specs.declared.waiting.queued_part.QueuedPart.{QueuedPart as QueuedOf};
 
 use sms_base::{MessageId, Moment};
 use sms_centre_rows::waiting::QueuedPart;
 use std::alloc::{AllocError, Global};
 
 /// All are due at that moment.
-pub(crate) fn loads_due_at(
+pub(crate) fn queued_due_at(
     alloc: Global,
     waiting: &[QueuedPart],
     now: Moment,
 ) -> Result<Vec<QueuedPart>, AllocError>
-    ensures { IfOk result (λ loads. loads.items ≡ all_at_once now waiting.now) }
+    ensures { IfOk result (λ all_queued. all_queued.items ≡ all_at_once now waiting.now) }
 {
     waiting
         .iter()
-        .map(|load| QueuedPart { due: now, ..*load })
+        .map(|queued| QueuedPart {
+            due: now,
+            ..*queued
+        })
         .collect(alloc)
 }
 
 /// All but the parts of that message.
-pub(crate) fn loads_but(
+pub(crate) fn queued_but(
     alloc: Global,
     waiting: &[QueuedPart],
     id: MessageId,
 ) -> Result<Vec<QueuedPart>, AllocError>
-    ensures { IfOk result (λ loads. loads.items ≡ withdrawn id waiting.now) }
+    ensures { IfOk result (λ all_queued. all_queued.items ≡ withdrawn id waiting.now) }
 {
-    let mut loads = Vec::with_capacity(alloc, waiting.len())?;
-    for load in waiting {
-        if !is_part_of(load, id) {
-            loads.push(*load)?;
+    let mut all_queued = Vec::with_capacity(alloc, waiting.len())?;
+    for queued in waiting {
+        if !is_part_of(queued, id) {
+            all_queued.push(*queued)?;
         }
     }
-    Ok(loads)
+    Ok(all_queued)
 }
 
-fn is_part_of(load: &QueuedPart, id: MessageId) -> bool
-    ensures { result ≡ is_part_of_message id load.now }
+fn is_part_of(queued: &QueuedPart, id: MessageId) -> bool
+    ensures { result ≡ is_part_of_message id queued.now }
 {
-    load.id.number() == id.number() && load.number != 0
+    queued.id.number() == id.number() && queued.number != 0
 }
 
 /// Of all that is due, the first to be offered, where `behind` is the first of what waits behind these. It looks from
@@ -51,7 +55,7 @@ pub(crate) fn first_due(
     now: Moment,
     behind: Option<QueuedPart>,
 ) -> Option<QueuedPart>
-    ensures { (others : List LoadOf) → behind ≡ next_of now others → result ≡ next_of now (waiting.now ++ others) }
+    ensures { (others : List QueuedOf) → behind ≡ next_of now others → result ≡ next_of now (waiting.now ++ others) }
 {
     let mut first: Option<QueuedPart> = behind;
     for i in 0..waiting.len() {
@@ -61,15 +65,15 @@ pub(crate) fn first_due(
 }
 
 // Of the queued part, if it is due, and the other the one that goes first; the queued part, where they are told apart by nothing.
-fn first_of_both(load: QueuedPart, now: Moment, other: Option<QueuedPart>) -> Option<QueuedPart>
-    ensures { result ≡ preceding (if_due now load) other }
+fn first_of_both(queued: QueuedPart, now: Moment, other: Option<QueuedPart>) -> Option<QueuedPart>
+    ensures { result ≡ preceding (if_due now queued) other }
 {
-    if !load.is_due(now) {
+    if !queued.is_due(now) {
         return other;
     }
     match other {
-        Some(other) if other.precedes(&load) => Some(other),
-        _ => Some(load),
+        Some(other) if other.precedes(&queued) => Some(other),
+        _ => Some(queued),
     }
 }
 
@@ -77,16 +81,16 @@ fn first_of_both(load: QueuedPart, now: Moment, other: Option<QueuedPart>) -> Op
 pub(crate) fn is_due_beside(waiting: &[QueuedPart], now: Moment, chosen: &QueuedPart) -> bool
     ensures { result ≡ waits_beside_of now chosen.now waiting.now }
 {
-    for load in waiting {
-        if load.is_due(now) && !is_same(load, chosen) {
+    for queued in waiting {
+        if queued.is_due(now) && !is_same(queued, chosen) {
             return true;
         }
     }
     false
 }
 
-fn is_same(load: &QueuedPart, other: &QueuedPart) -> bool
-    ensures { result ≡ is_same_of load.now other.now }
+fn is_same(queued: &QueuedPart, other: &QueuedPart) -> bool
+    ensures { result ≡ is_same_of queued.now other.now }
 {
-    load.id.number() == other.id.number() && load.number == other.number
+    queued.id.number() == other.id.number() && queued.number == other.number
 }

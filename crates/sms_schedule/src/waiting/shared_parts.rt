@@ -1,7 +1,7 @@
 //! What waits and is shared by copies.
 ghost use Rattle.std.specs.Prelude.{◌≡◌, ◌↔◌, ◌<◌, ℕ, [], true, IfOk, option_copied};
 ghost use Rattle.sms_rows.specs.table.Table.{Rises, row_at};
-ghost use Rattle.sms_centre_rows.specs.waiting.Keys.{load_key};
+ghost use Rattle.sms_centre_rows.specs.waiting.Keys.{queued_key};
 ghost use Rattle.sms_centre_rows.specs.waiting.References.{AreHeld};
 ghost use Rattle.sms_schedule.specs.waiting.Base.{AllBelow};
 
@@ -24,9 +24,9 @@ struct Flagged {
 impl Model for Flagged {
     ghost use Rattle.std.specs.Prelude.{List};
     ghost use Rattle.sms_centre_rows.specs.waiting.References.{AreHeld};
-    ghost use Rattle.sms_centre_rows.specs.declared.waiting.queued_part.QueuedPart.{QueuedPart as LoadOf};
+    ghost use Rattle.sms_centre_rows.specs.declared.waiting.queued_part.QueuedPart.{QueuedPart as QueuedOf};
 
-    ghost Value = { List LoadOf };
+    ghost Value = { List QueuedOf };
 
     ghost view = { λ f. f.table.rows };
 
@@ -43,13 +43,13 @@ impl Flagged {
 
     fn as_slice(&self) -> &[QueuedPart]
         ensures rows { result.now ≡ self.now }
-        ensures order { Rises load_key self.now }
+        ensures order { Rises queued_key self.now }
     {
         self.table.as_slice()
     }
 
     fn find(&self, key: Key) -> Option<&QueuedPart>
-        ensures { option_copied result ≡ row_at load_key key self.now }
+        ensures { option_copied result ≡ row_at queued_key key self.now }
     {
         self.table.find(key)
     }
@@ -72,16 +72,16 @@ pub(crate) struct SharedParts {
 
 impl Model for SharedParts {
     ghost use Rattle.std.specs.Prelude.{List, [], ℕ, ◌<◌};
-    ghost use Rattle.sms_centre_rows.specs.waiting.Keys.{load_key};
+    ghost use Rattle.sms_centre_rows.specs.waiting.Keys.{queued_key};
     ghost use Rattle.sms_schedule.specs.waiting.Base.{AllBelow};
     ghost use Rattle.std.specs.Option.{option_map_or};
-    ghost use Rattle.sms_centre_rows.specs.declared.waiting.queued_part.QueuedPart.{QueuedPart as LoadOf};
+    ghost use Rattle.sms_centre_rows.specs.declared.waiting.queued_part.QueuedPart.{QueuedPart as QueuedOf};
 
-    ghost Value = { List LoadOf };
+    ghost Value = { List QueuedOf };
 
     ghost view = { λ s. option_map_or (λ f. f.value) s.flagged [] };
 
-    ghost invariant = { λ s. (n : ℕ) → s.end < n → AllBelow load_key n (option_map_or (λ f. f.value) s.flagged []) };
+    ghost invariant = { λ s. (n : ℕ) → s.end < n → AllBelow queued_key n (option_map_or (λ f. f.value) s.flagged []) };
 }
 
 impl SharedParts {
@@ -126,7 +126,7 @@ impl SharedParts {
     /// The queued parts in order.
     pub(crate) fn as_slice(&self) -> &[QueuedPart]
         ensures rows { result.now ≡ self.now }
-        ensures order { Rises load_key self.now }
+        ensures order { Rises queued_key self.now }
     {
         match &self.flagged {
             Some(flagged) => flagged.as_slice(),
@@ -136,7 +136,7 @@ impl SharedParts {
 
     /// The queued part of that key, if it is one of them.
     pub(crate) fn find(&self, key: Key) -> Option<&QueuedPart>
-        ensures { option_copied result ≡ row_at load_key key self.now }
+        ensures { option_copied result ≡ row_at queued_key key self.now }
     {
         match &self.flagged {
             Some(flagged) => flagged.find(key),
@@ -146,7 +146,7 @@ impl SharedParts {
 
     /// Whether all have lower keys.
     pub(crate) fn is_below(&self, key: Key) -> bool
-        ensures { (result ≡ true) ↔ AllBelow load_key key self.now }
+        ensures { (result ≡ true) ↔ AllBelow queued_key key self.now }
     {
         if self.end < key.number() {
             return true;
@@ -166,12 +166,12 @@ impl SharedParts {
 }
 
 // The key of the last of these, which stand in order, or 0.
-fn last_key(loads: &[QueuedPart]) -> u128
-    requires { Rises load_key loads.now }
-    ensures { (n : ℕ) → result < n → AllBelow load_key n loads.now }
+fn last_key(all_queued: &[QueuedPart]) -> u128
+    requires { Rises queued_key all_queued.now }
+    ensures { (n : ℕ) → result < n → AllBelow queued_key n all_queued.now }
 {
-    match loads.last() {
-        Some(load) => load.key().number(),
+    match all_queued.last() {
+        Some(queued) => queued.key().number(),
         None => 0,
     }
 }

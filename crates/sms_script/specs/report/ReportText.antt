@@ -2,15 +2,18 @@
 use Rattle.std.specs.Prelude.{ℕ, ◌+◌, ◌/◌, ◌%◌, List, [], ◌∷◌, ◌++◌, Option, Some, None, codes, decimal}
 use Rattle.std.specs.Str.{encode_utf8_all}
 use Rattle.hex.specs.Hex.{encode_upper}
-use Rattle.sms_base.specs.declared.final_state.FinalState.{FinalState}
-use Rattle.sms_base.specs.declared.final_state.FinalState.TheVariants.{Delivered, Expired, Deleted, Undeliverable}
+use Rattle.sms_base.specs.FinalWords.{final_word}
 use Rattle.smpp_pdu.specs.declared.status.CommandStatus.{CommandStatus}
-use Rattle.smpp_pdu.specs.declared.status.CommandStatus.TheVariants.{ESME_ROK, ESME_RINVMSGLEN, ESME_RINVCMDLEN, ESME_RINVCMDID, ESME_RINVBNDSTS, ESME_RALYBND, ESME_RSYSERR, ESME_RINVSRCADR, ESME_RINVDSTADR, ESME_RINVMSGID, ESME_RBINDFAIL, ESME_RINVPASWD, ESME_RINVSYSID, ESME_RCANCELFAIL, ESME_RMSGQFUL, ESME_RINVESMCLASS, ESME_RSUBMITFAIL, ESME_RTHROTTLED, ESME_RINVSCHED, ESME_RINVEXPIRY, ESME_RINVOPTPARSTREAM, ESME_ROPTPARNOTALLWD, ESME_RINVPARLEN}
+use Rattle.smpp_pdu.specs.declared.status.CommandStatus.TheVariants.{ESME_ROK, ESME_RINVMSGLEN, ESME_RINVCMDLEN, ESME_RINVCMDID, ESME_RINVBNDSTS, ESME_RALYBND}
+use Rattle.smpp_pdu.specs.declared.status.CommandStatus.TheVariants.{ESME_RSYSERR, ESME_RINVSRCADR, ESME_RINVDSTADR, ESME_RINVMSGID, ESME_RBINDFAIL}
+use Rattle.smpp_pdu.specs.declared.status.CommandStatus.TheVariants.{ESME_RINVPASWD, ESME_RINVSYSID, ESME_RCANCELFAIL, ESME_RMSGQFUL, ESME_RINVESMCLASS}
+use Rattle.smpp_pdu.specs.declared.status.CommandStatus.TheVariants.{ESME_RSUBMITFAIL, ESME_RTHROTTLED, ESME_RINVSCHED, ESME_RINVEXPIRY, ESME_RINVOPTPARSTREAM}
+use Rattle.smpp_pdu.specs.declared.status.CommandStatus.TheVariants.{ESME_ROPTPARNOTALLWD, ESME_RINVPARLEN}
 use Rattle.sms_script.specs.declared.report.answers.Answer.{Answer}
 use Rattle.sms_script.specs.declared.report.answers.Answered.{Answered}
 use Rattle.sms_script.specs.declared.report.answers.Answered.TheVariants.{Accepted, Found, Status, Done, Refused, Stopped}
-use Rattle.sms_script.specs.declared.report.answers.MessageState.{MessageState}
-use Rattle.sms_script.specs.declared.report.answers.MessageState.TheVariants.{Enroute, Final}
+use Rattle.sms_centre_rows.specs.declared.report_lines.MessageState.{MessageState}
+use Rattle.sms_centre_rows.specs.declared.report_lines.MessageState.TheVariants.{Enroute, Final}
 use Rattle.sms_script.specs.declared.report.Broken.{Broken}
 use Rattle.sms_script.specs.declared.report.Broken.TheVariants.{Timely, Reused}
 use Rattle.sms_script.specs.declared.report.Report.{Report}
@@ -23,9 +26,9 @@ use Rattle.sms_script.specs.declared.report.rows.FrameRow.{FrameRow}
 use Rattle.sms_script.specs.declared.report.rows.JoinedCoding.{JoinedCoding}
 use Rattle.sms_script.specs.declared.report.rows.JoinedCoding.TheVariants.{Septets, Octets, Ucs2}
 use Rattle.sms_script.specs.declared.report.rows.JoinedRow.{JoinedRow}
-use Rattle.sms_script.specs.declared.report.rows.ReportedMessage.{ReportedMessage}
+use Rattle.sms_centre_rows.specs.declared.report_lines.ReportedMessage.{ReportedMessage}
 use Rattle.sms_script.specs.declared.report.rows.OutboxRow.{OutboxRow}
-use Rattle.sms_script.specs.declared.report.rows.ReceiptRow.{ReceiptRow}
+use Rattle.sms_centre_rows.specs.declared.report_lines.ReceiptRow.{ReceiptRow}
 
 -- ---- words
 
@@ -43,16 +46,10 @@ abbrev pub body_text : List ℕ → List ℕ
 body_text [] = codes "-"
 body_text (octet ∷ octets) = encode_upper (octet ∷ octets)
 
--- the words of a receipt for final states (SMPP v3.4 appendix B)
-abbrev pub final_text : FinalState → List ℕ
-final_text Delivered = codes "DELIVRD"
-final_text Expired = codes "EXPIRED"
-final_text Deleted = codes "DELETED"
-final_text Undeliverable = codes "UNDELIV"
-
+-- the word of a receipt for a final state, and that of the standard for none
 abbrev pub state_text : MessageState → List ℕ
 state_text Enroute = codes "ENROUTE"
-state_text (Final state) = final_text state
+state_text (Final state) = final_word state
 
 -- the standard's names of statuses, without their common beginning (SMPP v3.4 5.1.3)
 abbrev pub status_text : CommandStatus → List ℕ
@@ -124,7 +121,7 @@ joined_line j =
     ++ codes "\n"
 
 abbrev pub receipt_line : ReceiptRow → List ℕ
-receipt_line r = codes "receipt " ++ id_text r.id ++ codes " " ++ final_text r.state ++ codes "\n"
+receipt_line r = codes "receipt " ++ id_text r.id ++ codes " " ++ final_word r.state ++ codes "\n"
 
 abbrev pub outbox_line : OutboxRow → List ℕ
 outbox_line o = codes "outbox " ++ encode_utf8_all o.handset ++ codes " " ++ decimal o.entry ++ codes " " ++ entry_text o.state ++ codes "\n"

@@ -1,6 +1,6 @@
 //! What a line of an owner says.
 ghost use Rattle.std.specs.Prelude.{◌≡◌, bytes_eq};
-ghost use Rattle.sms_script.specs.ScriptReading.{Takes};
+ghost use Rattle.sms_script.specs.ScriptReading.{TakesWords};
 ghost use Rattle.sms_script.specs.owner.OwnersLines.{act_at, act_of, delete_in, discard_in, verb_of, write_in};
 
 use crate::LineFault;
@@ -35,7 +35,7 @@ fn verb_of(word: &[u8]) -> Option<Verb>
 
 #[tactic(auto, unfolding(crate::specs::owner::OwnersLines::write_in))]
 fn write<'a>(words: &mut Words<'a>) -> Result<OwnersAct<'a>, LineFault>
-    ensures { Takes (λ x. x) result words.new (write_in words.old) }
+    ensures { TakesWords (λ x. x) result words.new (write_in words.old) }
 {
     let to = word(words)?;
     let report = flag(words)?;
@@ -45,7 +45,7 @@ fn write<'a>(words: &mut Words<'a>) -> Result<OwnersAct<'a>, LineFault>
 
 #[tactic(auto, unfolding(crate::specs::owner::OwnersLines::delete_in))]
 fn delete<'a>(words: &mut Words<'a>) -> Result<OwnersAct<'a>, LineFault>
-    ensures { Takes (λ x. x) result words.new (delete_in words.old) }
+    ensures { TakesWords (λ x. x) result words.new (delete_in words.old) }
 {
     let entry = number(words)?;
     Ok(OwnersAct::Delete { entry })
@@ -53,14 +53,14 @@ fn delete<'a>(words: &mut Words<'a>) -> Result<OwnersAct<'a>, LineFault>
 
 #[tactic(auto, unfolding(crate::specs::owner::OwnersLines::discard_in))]
 fn discard<'a>(words: &mut Words<'a>) -> Result<OwnersAct<'a>, LineFault>
-    ensures { Takes (λ x. x) result words.new (discard_in words.old) }
+    ensures { TakesWords (λ x. x) result words.new (discard_in words.old) }
 {
     let entry = number(words)?;
     Ok(OwnersAct::Discard { entry })
 }
 
 fn act_of<'a>(verb: Option<Verb>, words: &mut Words<'a>) -> Result<OwnersAct<'a>, LineFault>
-    ensures { Takes (λ x. x) result words.new (act_of verb words.old) }
+    ensures { TakesWords (λ x. x) result words.new (act_of verb words.old) }
 {
     match verb {
         Some(Verb::Write) => write(words),

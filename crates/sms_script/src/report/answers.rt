@@ -1,13 +1,7 @@
 //! What requests and acts were answered.
 use smpp_pdu::CommandStatus;
-use sms_base::{FinalState, MessageId, OctetView};
-
-/// The state of a message (SMPP v3.4 5.2.28, message_state).
-#[derive(Clone, Copy, Debug, PartialEq, Eq)]
-pub enum MessageState {
-    Enroute,
-    Final(FinalState),
-}
+use sms_base::{MessageId, OctetView};
+use sms_centre_rows::report_lines::MessageState;
 
 /// What a request of an application or an act of an owner was answered.
 #[derive(Debug, Drop)]

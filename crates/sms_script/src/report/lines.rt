@@ -1,15 +1,16 @@
 //! The lines of a report.
 ghost use Rattle.std.specs.Prelude.{◌≡◌, ◌++◌, OnOk};
-ghost use Rattle.sms_script.specs.report.ReportText.{status_text, final_text, state_text, coding_text, entry_text, direction_text, answered_text, answer_line, message_line, accepted_line, joined_line, receipt_line, outbox_line, frame_line};
+ghost use Rattle.sms_script.specs.report.ReportText.{status_text, state_text, coding_text, entry_text, direction_text, answered_text, answer_line};
+ghost use Rattle.sms_script.specs.report.ReportText.{message_line, accepted_line, joined_line, receipt_line, outbox_line, frame_line};
 
-use crate::report::answers::{Answer, Answered, MessageState};
+use crate::report::answers::{Answer, Answered};
 use crate::report::rows::{
-    AcceptedRow, Direction, EntryState, FrameRow, JoinedCoding, JoinedRow, OutboxRow, ReceiptRow,
-    ReportedMessage,
+    AcceptedRow, Direction, EntryState, FrameRow, JoinedCoding, JoinedRow, OutboxRow,
 };
-use crate::report::writing::{put_body, put_characters, put_id, put_number, put_octets};
+use crate::report::writing::{put_body, put_id, put_octets};
 use smpp_pdu::CommandStatus;
-use sms_base::{FinalState, Octets};
+use sms_base::{Octets, put_characters, put_decimal};
+use sms_centre_rows::report_lines::{MessageState, ReceiptRow, ReportedMessage};
 use std::alloc::{AllocError, Global};
 
 fn status_text(status: CommandStatus) -> &'static str
@@ -42,23 +43,13 @@ fn status_text(status: CommandStatus) -> &'static str
     }
 }
 
-fn final_text(state: FinalState) -> &'static str
-    ensures { result.now ≡ final_text state }
-{
-    match state {
-        FinalState::Delivered => "DELIVRD",
-        FinalState::Expired => "EXPIRED",
-        FinalState::Deleted => "DELETED",
-        FinalState::Undeliverable => "UNDELIV",
-    }
-}
-
-fn state_text(state: MessageState) -> &'static str
+/// The word of a message's state: that of a receipt where it ended (SMPP v3.4 appendix B).
+pub fn state_text(state: MessageState) -> &'static str
     ensures { result.now ≡ state_text state }
 {
     match state {
         MessageState::Enroute => "ENROUTE",
-        MessageState::Final(state) => final_text(state),
+        MessageState::Final(state) => state.word(),
     }
 }
 
@@ -116,7 +107,7 @@ pub(crate) fn put_answer(out: &mut Octets, answer: &Answer) -> Result<(), AllocE
     ensures { OnOk result (out.new ≡ out.old ++ answer_line answer.now) }
 {
     out.append(b"answer ")?;
-    put_number(out, answer.event)?;
+    put_decimal(out, answer.event)?;
     out.append(b" ")?;
     put_answered(out, &answer.answered)?;
     out.append(b"\n")
@@ -176,7 +167,7 @@ pub(crate) fn put_receipt(out: &mut Octets, receipt: &ReceiptRow) -> Result<(), 
     out.append(b"receipt ")?;
     put_id(out, receipt.id)?;
     out.append(b" ")?;
-    out.append(final_text(receipt.state).as_bytes())?;
+    out.append(receipt.state.word().as_bytes())?;
     out.append(b"\n")
 }
 
@@ -186,7 +177,7 @@ pub(crate) fn put_outbox(out: &mut Octets, entry: &OutboxRow) -> Result<(), Allo
     out.append(b"outbox ")?;
     put_characters(out, entry.handset.as_slice())?;
     out.append(b" ")?;
-    put_number(out, u64::from(entry.entry))?;
+    put_decimal(out, u64::from(entry.entry))?;
     out.append(b" ")?;
     out.append(entry_text(entry.state).as_bytes())?;
     out.append(b"\n")
@@ -196,7 +187,7 @@ pub(crate) fn put_frame(alloc: Global, out: &mut Octets, frame: &FrameRow) -> Re
     ensures { OnOk result (out.new ≡ out.old ++ frame_line frame.now) }
 {
     out.append(b"frame ")?;
-    put_number(out, frame.number)?;
+    put_decimal(out, frame.number)?;
     out.append(b" ")?;
     out.append(direction_text(frame.direction).as_bytes())?;
     out.append(b" ")?;

@@ -1,17 +1,5 @@
 //! What the sides have in the end. A handset is named by the digits of its number.
-use crate::report::answers::MessageState;
-use sms_base::{Carried, Digits, FinalState, Holder, MessageId, Moment, Octets};
-
-/// A message at the centre.
-#[derive(Debug, Drop)]
-pub struct ReportedMessage {
-    pub id: MessageId,
-    /// The digits or the name of its source.
-    pub from: Digits,
-    /// The digits of its destination.
-    pub to: Digits,
-    pub state: MessageState,
-}
+use sms_base::{Carried, Digits, Holder, Moment, Octets};
 
 /// A TPDU that a handset accepted under a reference, as received.
 #[derive(Debug, Drop)]
@@ -36,15 +24,8 @@ pub struct JoinedRow {
     /// The digits or the name of its source.
     pub from: Digits,
     pub coding: JoinedCoding,
-    /// One septet an octet, octets, or the octets of UCS2.
+    /// Septets, one an octet; octets; or the octets of UCS2.
     pub units: Octets,
-}
-
-/// A receipt or a status report.
-#[derive(Clone, Copy, Debug)]
-pub struct ReceiptRow {
-    pub id: MessageId,
-    pub state: FinalState,
 }
 
 /// How far an entry of an outbox is.
@@ -85,7 +66,7 @@ pub struct GivenRow {
 /// A frame that was sent.
 #[derive(Debug, Drop)]
 pub struct FrameRow {
-    /// Its number, from 1.
+    /// The frame's number, from 1.
     pub number: u64,
     pub direction: Direction,
     pub handset: Digits,

@@ -32,7 +32,15 @@ store_once setup a b r s same p q =
     let reports = holds_once report_list report_is_list _ _ r.reports s.reports (ap (λ (t : Trees). t 10) same) p.0.reports q.0.reports in
     let priorities = holds_once priority_list priority_is_list _ _ r.priorities s.priorities (ap (λ (t : Trees). t 12) same) p.0.priorities q.0.priorities in
     let set = p.1 ∙ sym q.1 in
-    λ i. record { messages = messages i; parts = parts i; references = references i; handsets = handsets i; reports = reports i; priorities = priorities i; setup = set i }
+    λ i. record {
+      messages = messages i;
+      parts = parts i;
+      references = references i;
+      handsets = handsets i;
+      reports = reports i;
+      priorities = priorities i;
+      setup = set i;
+    }
 
 some_tables : length centre_schema.tables ≡ 0 → ⊥
 some_tables none =

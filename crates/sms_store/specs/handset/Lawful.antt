@@ -26,7 +26,8 @@ store_once setup a b r s same p q =
     let last = holds_once last_list last_is_list _ _ r.last s.last (ap (λ (t : Trees). t 4) same) p.0.last q.0.last in
     let outbox = holds_once out_list out_is_list _ _ r.outbox s.outbox (ap (λ (t : Trees). t 6) same) p.0.outbox q.0.outbox in
     let marks = holds_once mark_list mark_is_list _ _ r.marks s.marks (ap (λ (t : Trees). t 8) same) p.0.marks q.0.marks in
-    let counted = holds_once count_list count_is_list _ _ (counters_row r.counters ∷ []) (counters_row s.counters ∷ []) (ap (λ (t : Trees). t 10) same) p.0.counters q.0.counters in
+    let counted = holds_once count_list count_is_list _ _ (counters_row r.counters ∷ []) (counters_row s.counters ∷ [])
+    (ap (λ (t : Trees). t 10) same) p.0.counters q.0.counters in
     let counters : r.counters ≡ s.counters = ap counted_in counted in
     let set = p.1 ∙ sym q.1 in
     λ i. record { entries = entries i; last = last i; outbox = outbox i; marks = marks i; counters = counters i; setup = set i }

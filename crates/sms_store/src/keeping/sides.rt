@@ -60,7 +60,7 @@ pub trait Kept: Drop {
             → KeepsCommit (state S.Store tx.old.conn.now) (state S.Store tx.new.conn.now) }
         ensures survives { Spares S.Store tx.old.conn.now tx.new.conn.now };
 
-    /// These are stores of one set of rows each.
+    /// The stores are of one set of rows each.
     ghost lawful: { AreStores stores };
 
     /// Changes leave the setup.

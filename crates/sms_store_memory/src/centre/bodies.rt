@@ -3,7 +3,7 @@ ghost use Rattle.std.specs.Prelude.{◌≡◌, IfErr, IfOk, option_copied};
 ghost use Rattle.sms_centre_spec.specs.declared.rows.Rows.{Rows as RowsOf};
 ghost use Rattle.sms_rows.specs.declared.keep.error.KeepError.TheVariants.{NoMemory};
 ghost use Rattle.sms_rows.specs.keep.StoreOutcome.{IsReadCounted, StoreOutcome, WasHonest};
-ghost use Rattle.sms_centre_spec.specs.octets.OctetsAt.{kind_octets, octets_at, part_octets, report_octets};
+ghost use Rattle.sms_centre_spec.specs.octets.OctetsAt.{octets_at, part_octets, report_octets};
 ghost use Rattle.sms_centre_rows.specs.messages.Messages.{part_key};
 ghost use Rattle.sms_rows.specs.table.Table.{row_at};
 ghost use Rattle.sms_centre_rows.specs.reports.Reports.{report_of};
@@ -11,11 +11,11 @@ ghost use Rattle.sms_store_memory.specs.centre.RowsInKeep.{rows_in, state_of};
 
 use crate::centre::keep::MemoryKeep;
 use sms_base::Octets;
-use sms_centre_rows::reports::{ReportKind, ReportRow};
-use sms_centre_spec::octets::copy_of_octets;
+use sms_centre_rows::reports::ReportRow;
+use sms_centre_spec::octets::{copy_of_kind_octets, copy_of_octets};
 use sms_rows::keep::{BodyKeep, KeepError};
 use sms_rows::table::Key;
-use std::alloc::{AllocError, Global};
+use std::alloc::AllocError;
 
 fn report_on<'a>(id: u128, reports: &'a [ReportRow]) -> Option<&'a ReportRow>
     ensures { option_copied result ≡ report_of id reports.entry.now }
@@ -26,18 +26,6 @@ fn report_on<'a>(id: u128, reports: &'a [ReportRow]) -> Option<&'a ReportRow>
         }
     }
     None
-}
-
-fn octets_of_kind(alloc: Global, kind: &ReportKind) -> Result<Option<Octets>, AllocError>
-    ensures { IfOk result (λ octets. octets ≡ kind_octets kind.now) }
-{
-    match kind {
-        ReportKind::Status { tpdu, .. } => {
-            let octets = copy_of_octets(alloc, tpdu)?;
-            Ok(Some(octets))
-        }
-        ReportKind::Receipt | ReportKind::Unsent => Ok(None),
-    }
 }
 
 impl MemoryKeep {
@@ -57,7 +45,7 @@ impl MemoryKeep {
         ensures { IfOk result (λ octets. octets ≡ report_octets (report_of id self.now.reports.rows)) }
     {
         match report_on(id, self.reports.as_slice()) {
-            Some(report) => octets_of_kind(self.alloc, &report.kind),
+            Some(report) => copy_of_kind_octets(self.alloc, &report.kind),
             None => Ok(None),
         }
     }

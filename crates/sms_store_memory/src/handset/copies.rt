@@ -2,18 +2,12 @@
 ghost use Rattle.std.specs.Prelude.{◌≡◌, IfOk};
 
 use crate::handset::keep::MemoryKeep;
-use sms_base::Octets;
+use sms_centre_spec::octets::copy_of_octets;
 use sms_concat::Content;
 use sms_handset_rows::inbox::{DiscardedGroup, Entry, LastAccepted, Message};
 use sms_handset_rows::outbox::OutEntry;
 use sms_rows::memory::CopiedRow;
 use std::alloc::{AllocError, Global};
-
-fn copy_of_octets(alloc: Global, octets: &Octets) -> Result<Octets, AllocError>
-    ensures { IfOk result (λ copy. copy ≡ octets.now) }
-{
-    Octets::copy_of(alloc, octets.as_slice())
-}
 
 fn copy_of_message(alloc: Global, message: &Message) -> Result<Message, AllocError>
     ensures { IfOk result (λ copy. copy ≡ message.now) }

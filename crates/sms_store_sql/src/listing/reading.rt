@@ -1,5 +1,6 @@
 //! Reads the columns of a row.
-ghost use Rattle.std.specs.Prelude.{◌≡◌, ◌<◌, ◌≤◌, ◌+◌, ◌++◌, ℕ, Bool, List, Option, true, [], ◌∷◌, length, IfErr, IfNone, IfOk, OnOk, encode_utf8, IfSome, IsNone, IsUtf8, chars, encode_utf8_all, string_bytes};
+ghost use Rattle.std.specs.Prelude.{◌≡◌, ◌<◌, ◌≤◌, ◌+◌, ◌++◌, ℕ, Bool, List, Option, true, [], ◌∷◌, length, IfErr, IfNone, IfOk, OnOk, encode_utf8, IfSome};
+ghost use Rattle.std.specs.Prelude.{IsNone, IsUtf8, chars, encode_utf8_all, string_bytes};
 ghost use Rattle.std.specs.Str.{all_scalars};
 ghost use Rattle.sqlite.specs.declared.types.Value.TheVariants.{Blob, Text};
 ghost use Rattle.sms_base.specs.AddressKind.{type_of as type_numbered, type_number};
@@ -8,7 +9,8 @@ ghost use Rattle.sms_base.specs.declared.address.Address.{Address as AddressOf};
 ghost use Rattle.sqlite_sql.specs.Ops.{is_null};
 ghost use Rattle.sqlite_value.specs.Order.{column};
 ghost use Rattle.sms_store_sql.specs.listing.Addresses.{AreFew, IsStoredAddress, address_in, ton_in};
-ghost use Rattle.sms_store_sql.specs.listing.Columns.{IsOctet, IsShort, IsWord, characters_in, flag as as_flag, flag_in, if_given, number as as_number, number_in, octets_in, or_none, text_in};
+ghost use Rattle.sms_store_sql.specs.listing.Columns.{IsOctet, IsShort, IsWord, characters_in, flag as as_flag, flag_in, if_given, number as as_number};
+ghost use Rattle.sms_store_sql.specs.listing.Columns.{number_in, octets_in, or_none, text_in};
 ghost use Rattle.sms_store_sql.specs.listing.Reading.{HasAt, LacksMemory};
 
 use sms_base::{Address, Digits, Moment, Octets, TypeOfNumber};

@@ -14,7 +14,8 @@ use Rattle.sms_store_tables.specs.centre.Types.{MessageRow}
 use Rattle.sms_base.specs.AddressKind.{type_number}
 use Rattle.sms_store_sql.specs.listing.Addresses.{AreFew, IsStoredAddress, address_in}
 use Rattle.sms_store_sql.proofs.listing.Columns.{address_back}
-use Rattle.sms_store_tables.specs.centre.Pieces.{IsStoredOriginator, account_of, mark_of, originator_in, originator_back, mark_stays, wish_word, wish_in, wish_back, state_word, state_in, state_back}
+use Rattle.sms_store_tables.specs.centre.Pieces.{IsStoredOriginator, account_of, mark_of, originator_in, originator_back, mark_stays, wish_word, wish_in}
+use Rattle.sms_store_tables.specs.centre.Pieces.{wish_back, state_word, state_in, state_back}
 use Rattle.sms_store_tables.specs.Tabled.{tabled, IsTabled, computed, listed, KeepsKinds, FindsItsKey, AgreesInItsKey, IsReadBack}
 
 abbrev pub message_table : TableOf

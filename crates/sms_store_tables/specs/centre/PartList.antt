@@ -15,7 +15,8 @@ use Rattle.sms_store_sql.proofs.listing.Columns.{cast_int, cast_row_same, cast_f
 use Rattle.sms_store_tables.specs.centre.CentreSchema.{centre_schema, part_plan}
 use Rattle.sms_store_tables.specs.centre.Types.{PartRow, ConcatKey, Progress}
 use Rattle.sms_rows.specs.table.Keys.{pair_key}
-use Rattle.sms_store_tables.specs.centre.Pieces.{IsStoredKey, IsStoredProgress, reference_bits, reference_number, key_in, key_back, progress_in, progress_back, progress_columns, progress_names}
+use Rattle.sms_store_tables.specs.centre.Pieces.{IsStoredKey, IsStoredProgress, reference_bits, reference_number, key_in, key_back, progress_in, progress_back}
+use Rattle.sms_store_tables.specs.centre.Pieces.{progress_columns, progress_names}
 use Rattle.sms_store_tables.specs.amending.Amending.{AmendsOne}
 use Rattle.sms_centre_rows.specs.messages.Messages.{part_reaching}
 use Rattle.sms_store_tables.specs.Tabled.{tabled, IsTabled, computed, listed, KeepsKinds, FindsItsKey, MeetsItsKey, AgreesInItsKey, IsReadBack, IsCompiledTo}

@@ -10,7 +10,9 @@ use Rattle.sms_base.specs.TimeStamp.{IsMoment}
 use Rattle.sms_store_sql.specs.listing.Columns.{IsOctet, IsShort, number, number_in, octets_in, flag, flag_in, or_none, is_word}
 use Rattle.sms_store_sql.specs.listing.Reading.{HasAt}
 use Rattle.sms_store_sql.proofs.listing.Columns.{cast_int, cast_null, flag_back}
-use Rattle.sms_store_tables.specs.centre.Types.{FinalState, Delivered, Expired, Deleted, Undeliverable, ConcatKey, ConcatReference, EightBit, SixteenBit, Originator, Application, Handset, Wish, Nothing, Always, OnFailure, ReportKind, Receipt, Status, Unsent, Progress}
+use Rattle.sms_store_tables.specs.centre.Types.{FinalState, Delivered, Expired, Deleted, Undeliverable, ConcatKey, ConcatReference, EightBit, SixteenBit}
+use Rattle.sms_store_tables.specs.centre.Types.{Originator, Application, Handset, Wish, Nothing, Always, OnFailure, ReportKind, Receipt, Status, Unsent}
+use Rattle.sms_store_tables.specs.centre.Types.{Progress}
 
 -- ---- the place of a part in a long message
 

@@ -16,7 +16,8 @@ use Rattle.sms_store_sql.specs.listing.Listing.{rows_where, TableOf, ListOf, IsL
 use Rattle.sms_store_sql.proofs.listing.Columns.{one_found, cast_int, cast_row_same, cast_flag}
 use Rattle.sms_store_tables.specs.centre.CentreSchema.{centre_schema, report_plan}
 use Rattle.sms_store_tables.specs.centre.Types.{ReportRow, Progress}
-use Rattle.sms_store_tables.specs.centre.Pieces.{IsStoredKind, IsStoredProgress, kind_word, kind_reference, kind_tpdu, kind_in, kind_back, reference_stays, progress_in, progress_back, progress_columns, progress_names}
+use Rattle.sms_store_tables.specs.centre.Pieces.{IsStoredKind, IsStoredProgress, kind_word, kind_reference, kind_tpdu, kind_in, kind_back, reference_stays}
+use Rattle.sms_store_tables.specs.centre.Pieces.{progress_in, progress_back, progress_columns, progress_names}
 use Rattle.sms_store_tables.specs.amending.Amending.{AmendsOne}
 use Rattle.sms_centre_rows.specs.reports.Reports.{report_reaching}
 use Rattle.sms_store_tables.specs.Tabled.{tabled, IsTabled, computed, listed, KeepsKinds, FindsItsKey, AgreesInItsKey, IsReadBack, IsCompiledTo}

@@ -21,7 +21,8 @@ entry_plan = record {
   columns =
       given (codes "number") Integer ∷ given (codes "slots") Integer ∷ given (codes "kind") Text ∷ optional (codes "source_ton") Integer
       ∷ optional (codes "source_npi") Integer ∷ optional (codes "source") Text ∷ optional (codes "reference_bits") Integer
-      ∷ optional (codes "reference") Integer ∷ optional (codes "total") Integer ∷ optional (codes "part") Integer ∷ optional (codes "coding") Text ∷ optional (codes "data_coding_scheme") Integer
+      ∷ optional (codes "reference") Integer ∷ optional (codes "total") Integer ∷ optional (codes "part") Integer ∷ optional (codes "coding") Text
+      ∷ optional (codes "data_coding_scheme") Integer
       ∷ given (codes "octets") Blob ∷ [];
   key = 1;
 }

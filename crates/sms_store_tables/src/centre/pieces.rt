@@ -12,7 +12,9 @@ ghost use Rattle.sms_centre_rows.specs.declared.reports.report.ReportKind.{Repor
 ghost use Rattle.sms_centre_rows.specs.declared.waiting.progress.Progress.{Progress as ProgressOf};
 ghost use Rattle.sms_store_sql.specs.listing.Columns.{IsShort, flag, number, number_in, or_none, text_in};
 ghost use Rattle.sms_store_sql.specs.listing.Reading.{HasAt, LacksMemory};
-ghost use Rattle.sms_store_tables.specs.centre.Pieces.{HasKey, IsStoredKey, IsStoredKind, IsStoredOriginator, IsStoredProgress, IsStoredReference, account_of, key_in, kind_in, kind_reference, kind_tpdu, kind_word, mark_of, originator_in, progress_in, reference_bits, reference_in, reference_number, state_in, state_word, wish_in, wish_word};
+ghost use Rattle.sms_store_tables.specs.centre.Pieces.{HasKey, IsStoredKey, IsStoredKind, IsStoredOriginator, IsStoredProgress, IsStoredReference, account_of};
+ghost use Rattle.sms_store_tables.specs.centre.Pieces.{key_in, kind_in, kind_reference, kind_tpdu, kind_word, mark_of, originator_in, progress_in};
+ghost use Rattle.sms_store_tables.specs.centre.Pieces.{reference_bits, reference_in, reference_number, state_in, state_word, wish_in, wish_word};
 
 use sms_base::{FinalState, MessageId, Moment, Originator, Wish};
 use sms_centre_rows::reports::ReportKind;

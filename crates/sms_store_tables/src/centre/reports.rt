@@ -1,7 +1,8 @@
 //! Receipts and status reports.
 ghost use Rattle.std.specs.Prelude.{refl};
 ghost use Rattle.sms_store_tables.specs.centre.Pieces.{progress_columns};
-ghost use Rattle.sms_store_tables.specs.centre.ReportList.{amend_report, find_report, message_tests, report_amended, report_amends, report_is_found, report_is_list, report_is_sought, report_list, report_message, seek_report};
+ghost use Rattle.sms_store_tables.specs.centre.ReportList.{amend_report, find_report, message_tests, report_amended, report_amends, report_is_found};
+ghost use Rattle.sms_store_tables.specs.centre.ReportList.{report_is_list, report_is_sought, report_list, report_message, seek_report};
 ghost use Rattle.sms_centre_rows.specs.reports.Reports.{report_reaching};
 
 use crate::amending::AmendedRow;

@@ -1,7 +1,9 @@
 //! Whether a database has the tables of a centre's store.
 ghost use Rattle.std.specs.Prelude.{◌≡◌, ◌≢◌, false, IsTrue, []};
 ghost use Rattle.sqlite_value.specs.Keys.{plain};
-ghost use Rattle.sms_store_tables.specs.centre.CentreSchema.{centre_indexes, centre_schema, centre_tables, first_indexes, first_schema, first_tables, handset_plan, message_plan, part_plan, priority_plan, reference_plan, report_message_index, report_plan};
+ghost use Rattle.sms_store_tables.specs.centre.CentreSchema.{centre_indexes, centre_schema, centre_tables, first_indexes, first_schema, first_tables};
+ghost use Rattle.sms_store_tables.specs.centre.CentreSchema.{handset_plan, message_plan, part_plan, priority_plan, reference_plan, report_message_index};
+ghost use Rattle.sms_store_tables.specs.centre.CentreSchema.{report_plan};
 ghost use Rattle.sms_store_tables.specs.MetaTable.{meta_plan};
 ghost use Rattle.sms_store_tables.specs.TablePlan.{defined, key_index};
 
@@ -143,7 +145,8 @@ fn are_first_tables(
     ensures reference { IsTrue result → reference.now ≡ defined 6 reference_plan }
     ensures handset { IsTrue result → handset.now ≡ defined 8 handset_plan }
     ensures report { IsTrue result → report.now ≡ defined 10 report_plan }
-    ensures always { meta.now ≡ defined 0 meta_plan → message.now ≡ defined 2 message_plan → part.now ≡ defined 4 part_plan → reference.now ≡ defined 6 reference_plan
+    ensures always { meta.now ≡ defined 0 meta_plan → message.now ≡ defined 2 message_plan → part.now ≡ defined 4 part_plan
+        → reference.now ≡ defined 6 reference_plan
         → handset.now ≡ defined 8 handset_plan
         → report.now ≡ defined 10 report_plan → IsTrue result }
 {
@@ -168,7 +171,8 @@ fn are_next_indexes(reference: &Index, handset: &Index, report: &Index) -> bool
     ensures reference { IsTrue result → reference.now ≡ key_index 6 reference_plan }
     ensures handset { IsTrue result → handset.now ≡ key_index 8 handset_plan }
     ensures report { IsTrue result → report.now ≡ key_index 10 report_plan }
-    ensures always { reference.now ≡ key_index 6 reference_plan → handset.now ≡ key_index 8 handset_plan → report.now ≡ key_index 10 report_plan → IsTrue result }
+    ensures always { reference.now ≡ key_index 6 reference_plan → handset.now ≡ key_index 8 handset_plan → report.now ≡ key_index 10 report_plan
+        → IsTrue result }
 {
     is_index(
         reference,

@@ -52,7 +52,8 @@ pub(crate) fn group_at(row: &Row, at: usize) -> Result<Group, Error>
 
 fn reference_at(row: &Row, bits: usize, value: usize) -> Result<ConcatReference, Error>
     ensures value { IfOk result (λ reference. reference ≡ reference_in (column row.now bits) (column row.now value)) }
-    ensures only { (r : ReferenceOf) → IsStoredReference r → HasAt row.now bits (as_number (reference_bits r)) → HasAt row.now value (as_number (reference_number r))
+    ensures only { (r : ReferenceOf) → IsStoredReference r → HasAt row.now bits (as_number (reference_bits r))
+        → HasAt row.now value (as_number (reference_number r))
         → IfErr result LacksMemory }
 {
     let width = octet_at(row, bits)?;

@@ -1,6 +1,7 @@
 //! Whether a database has the tables of a handset's store.
 ghost use Rattle.std.specs.Prelude.{◌≡◌, ◌≢◌, false, IsTrue, []};
-ghost use Rattle.sms_store_tables.specs.handset.HandsetSchema.{count_plan, entry_plan, handset_indexes, handset_schema, handset_tables, last_plan, mark_plan, out_plan};
+ghost use Rattle.sms_store_tables.specs.handset.HandsetSchema.{count_plan, entry_plan, handset_indexes, handset_schema, handset_tables, last_plan, mark_plan};
+ghost use Rattle.sms_store_tables.specs.handset.HandsetSchema.{out_plan};
 ghost use Rattle.sms_store_tables.specs.MetaTable.{meta_plan};
 ghost use Rattle.sms_store_tables.specs.TablePlan.{defined, key_index};
 

@@ -4,7 +4,7 @@ use Rattle.sms_base.specs.declared.carried.Carried.{Carried}
 use Rattle.sms_base.specs.declared.carried.Kind.{Kind}
 use Rattle.sms_base.specs.declared.carried.Kind.TheVariants.{Data, Ack, Error}
 use Rattle.sms_base.specs.declared.final_state.FinalState.{FinalState}
-use Rattle.sms_base.specs.declared.final_state.FinalState.TheVariants.{Delivered, Expired, Deleted, Undeliverable}
+use Rattle.sms_base.specs.FinalWords.{final_word}
 use Rattle.sms_base.specs.declared.holder.Holder.{Holder}
 use Rattle.sms_base.specs.declared.holder.Holder.TheVariants.{Part, Report, Entry, Memory}
 use Rattle.sms_control.specs.ControlReading.{cp_at}
@@ -106,15 +106,9 @@ response_note asked answered = request_note (codes "_resp ") asked ++ answered
 
 -- ---- a receipt
 
--- the word of a receipt for a state
-abbrev pub state_word : FinalState → List ℕ
-state_word Delivered = codes "DELIVRD"
-state_word Expired = codes "EXPIRED"
-state_word Deleted = codes "DELETED"
-state_word Undeliverable = codes "UNDELIV"
-
+-- the word of a receipt for a state, or of none yet
 abbrev pub reported_word : Option FinalState → List ℕ
-reported_word (Some state) = state_word state
+reported_word (Some state) = final_word state
 reported_word None = codes "ENROUTE"
 
 unfoldable pub receipt_note : ℕ → ℕ → Option FinalState → List ℕ

@@ -1,6 +1,7 @@
 //! The cause that a frame names, in the standard's words.
 ghost use Rattle.std.specs.Prelude.{◌≡◌};
-ghost use Rattle.sms_trace.specs.drawing.Causes.{cause_of_frame, cause_number as number_of_cause, control_words as words_of_control, relay_words as words_of_relay, relayed as relayed_of, unit_cause as cause_of_unit, words as words_of};
+ghost use Rattle.sms_trace.specs.drawing.Causes.{cause_of_frame, cause_number as number_of_cause, control_words as words_of_control};
+ghost use Rattle.sms_trace.specs.drawing.Causes.{relay_words as words_of_relay, relayed as relayed_of, unit_cause as cause_of_unit, words as words_of};
 
 use sms_control::{Cp, CpCause};
 use sms_relay::{RelayFault, Rp, RpCause, read_down, read_up};
@@ -101,7 +102,7 @@ impl Cause {
         }
     }
 
-    /// Its words; empty for a cause that the standard does not name.
+    /// The words of the cause; empty where the standard does not name it.
     pub fn words(self) -> &'static str
         ensures { result.now ≡ words_of self }
     {
@@ -111,7 +112,7 @@ impl Cause {
         }
     }
 
-    /// Its number.
+    /// The number of the cause.
     pub fn number(self) -> u8
         ensures { result ≡ number_of_cause self }
     {

@@ -5,15 +5,14 @@ ghost use Rattle.sms_trace.specs.drawing.Causes.{cause_of_frame};
 ghost use Rattle.sms_trace.specs.drawing.Notes.{again_note, asked_note, bare_word as word_of_bare, behind_note, carried_note, cause_name, cause_note};
 ghost use Rattle.sms_trace.specs.drawing.Notes.{content_note, event_note, frame_note, hex_pair, holder_note, kind_word as word_of_kind, numbered, part_note};
 ghost use Rattle.sms_trace.specs.drawing.Notes.{pdu_note as note_of_pdu, reason_note, receipt_answer_note, receipt_note, reported_word};
-ghost use Rattle.sms_trace.specs.drawing.Notes.{request_note, response_note, state_word as word_of_state};
+ghost use Rattle.sms_trace.specs.drawing.Notes.{request_note, response_note};
 ghost use Rattle.sms_trace.specs.drawing.Shown.{shown_octets};
 
 use crate::drawing::causes::Cause;
 use crate::drawing::shown::{hex_digit, put_shown};
-use sms_base::{Carried, FinalState, Holder, Kind, MessageId, Octets};
+use sms_base::{Carried, FinalState, Holder, Kind, MessageId, Octets, put_decimal};
 use sms_control::Cp;
-use sms_script::report::{Answered, Direction, FrameRow, MessageState};
-use sms_trace_files::numbers::put_number;
+use sms_script::report::{Answered, Direction, FrameRow, state_text};
 use std::alloc::{AllocError, Global};
 use std::str::from_utf8;
 
@@ -31,7 +30,7 @@ fn put_numbered(out: &mut Octets, what: &str, number: u64) -> Result<(), AllocEr
     ensures { OnOk result (out.new ≡ out.old ++ numbered what.now number) }
 {
     out.append(what.as_bytes())?;
-    put_number(out, number)
+    put_decimal(out, number)
 }
 
 #[tactic(auto, unfolding(crate::specs::drawing::Notes::part_note))]
@@ -134,7 +133,7 @@ fn put_frame(out: &mut Octets, frame: &FrameRow, is_again: bool) -> Result<(), A
     ensures { OnOk result (out.new ≡ out.old ++ frame_note frame.now is_again) }
 {
     out.append(b"frame ")?;
-    put_number(out, frame.number)?;
+    put_decimal(out, frame.number)?;
     out.append(again_word(is_again).as_bytes())?;
     out.append(b": ")?;
     put_content(out, &frame.carried, frame.octets.as_slice())?;
@@ -164,7 +163,7 @@ fn pdu_note(has_pdu: bool) -> &'static str
 pub struct RequestNote {
     /// The name of its command.
     pub command: &'static str,
-    /// Its sequence number, which its answer bears, too.
+    /// The request's sequence number, which its answer bears, too.
     pub sequence: u32,
     /// Whether there is a PDU of it.
     pub has_pdu: bool,
@@ -176,7 +175,7 @@ pub enum Heading {
     None,
     /// The frame arrived before.
     Again,
-    /// It is a request.
+    /// The PDU is a request.
     Request(RequestNote),
 }
 
@@ -186,7 +185,7 @@ fn put_request(out: &mut Octets, kind: &str, asked: &RequestNote) -> Result<(), 
 {
     out.append(asked.command.as_bytes())?;
     out.append(kind.as_bytes())?;
-    put_number(out, u64::from(asked.sequence))?;
+    put_decimal(out, u64::from(asked.sequence))?;
     out.append(pdu_note(asked.has_pdu).as_bytes())?;
     out.append(b": ")
 }
@@ -221,7 +220,7 @@ fn put_event(
     ensures text { IsUtf8 line.now → OnOk result (out.new ≡ out.old ++ event_note number heading.now line.now) }
     ensures octets { (IsUtf8 line.now → ⊥) → OnOk result (out.new ≡ out.old ++ event_note number heading.now (shown_octets line.now)) }
 {
-    put_number(out, number)?;
+    put_decimal(out, number)?;
     out.append(b". ")?;
     put_asked(out, heading)?;
     put_shown(out, line)?;
@@ -272,25 +271,6 @@ pub fn response_text(
     Ok(out)
 }
 
-// The word of a receipt for a state.
-fn state_word(state: FinalState) -> &'static str
-    ensures { result.now ≡ word_of_state state }
-{
-    match state {
-        FinalState::Delivered => "DELIVRD",
-        FinalState::Expired => "EXPIRED",
-        FinalState::Deleted => "DELETED",
-        FinalState::Undeliverable => "UNDELIV",
-    }
-}
-
-fn found_word(state: MessageState) -> &'static str {
-    match state {
-        MessageState::Enroute => "ENROUTE",
-        MessageState::Final(state) => state_word(state),
-    }
-}
-
 /// What a request or an act of an owner is answered.
 pub fn answered_text(alloc: Global, answered: &Answered) -> Result<String, AllocError> {
     match answered {
@@ -299,7 +279,7 @@ pub fn answered_text(alloc: Global, answered: &Answered) -> Result<String, Alloc
             format!(in alloc; "accepted as message {id}")
         }
         Answered::Found(state) => {
-            let state = found_word(*state);
+            let state = state_text(*state);
             format!(in alloc; "{state}")
         }
         Answered::Status(status) => format!(in alloc; "{status:?}"),
@@ -318,7 +298,7 @@ fn put_state(out: &mut Octets, state: Option<FinalState>) -> Result<(), AllocErr
     ensures { OnOk result (out.new ≡ out.old ++ reported_word state) }
 {
     match state {
-        Some(state) => out.append(state_word(state).as_bytes()),
+        Some(state) => out.append(state.word().as_bytes()),
         None => out.append(b"ENROUTE"),
     }
 }

@@ -1,15 +1,6 @@
 //! The sequence numbers of a session (SMPP v3.4 3.2).
 ghost use Rattle.std.specs.Prelude.{◌≡◌};
-ghost use Rattle.sms_trace.specs.sessions.Numbering.{number_after};
-
-// The last sequence number, after which they begin again (SMPP v3.4 3.2).
-const LAST_NUMBER: u32 = 0x7FFF_FFFF;
-
-fn following(number: u32) -> u32
-    ensures { result ≡ number_after number }
-{
-    if number < LAST_NUMBER { number + 1 } else { 1 }
-}
+ghost use Rattle.smpp_pdu.specs.SequenceNumbers.{number_after};
 
 /// The last sequence numbers of an application and of the centre. Each counts its own requests, from 1; an answer bears the number of
 /// its request.
@@ -22,7 +13,7 @@ pub struct SequenceNumbers {
 }
 
 impl SequenceNumbers {
-    /// Those of a session before its first PDU.
+    /// The numbers of a session before its first PDU.
     pub fn new() -> SequenceNumbers
         ensures asked { result.asked ≡ 0 }
         ensures delivered { result.delivered ≡ 0 }
@@ -39,7 +30,7 @@ impl SequenceNumbers {
         ensures next { self.new.asked ≡ number_after self.old.asked }
         ensures delivered { self.new.delivered ≡ self.old.delivered }
     {
-        self.asked = following(self.asked);
+        self.asked = number_after(self.asked);
         self.asked
     }
 
@@ -49,7 +40,7 @@ impl SequenceNumbers {
         ensures next { self.new.delivered ≡ number_after self.old.delivered }
         ensures asked { self.new.asked ≡ self.old.asked }
     {
-        self.delivered = following(self.delivered);
+        self.delivered = number_after(self.delivered);
         self.delivered
     }
 }

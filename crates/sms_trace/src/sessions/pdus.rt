@@ -7,7 +7,7 @@ ghost use Rattle.smpp_pdu.specs.Writing.{IfThere, IsMessageRespValue, written_le
 ghost use Rattle.sms_trace.specs.sessions.Writable.{AreShort, CanBeWritten};
 
 use smpp_pdu::{Body, CancelSm, Message, MessageResp, Pdu, QuerySm, QuerySmResp, SmeAddress, Tlvs};
-use sms_base::{FinalState, Moment, OctetView, Octets};
+use sms_base::{Moment, OctetView, Octets};
 use std::alloc::{AllocError, Global};
 
 // No parameter of a script's run is longer, but for a payload.
@@ -132,17 +132,6 @@ pub(crate) fn octets_of(alloc: Global, pdu: &Pdu<'_>) -> Result<Option<Octets>, 
         Ok(Some(octets))
     } else {
         Ok(None)
-    }
-}
-
-/// message_state (SMPP v3.4 5.2.28).
-pub fn message_state(state: Option<FinalState>) -> u8 {
-    match state {
-        None => 1,
-        Some(FinalState::Delivered) => 2,
-        Some(FinalState::Expired) => 3,
-        Some(FinalState::Deleted) => 4,
-        Some(FinalState::Undeliverable) => 5,
     }
 }
 

@@ -44,7 +44,7 @@ pub(crate) fn is_owners(act: &Act<'_>) -> bool {
     )
 }
 
-/// The row of an event.
+/// What the ladder shows of an event, if that is a row of its own.
 pub(crate) fn row_of_event<S: Scene>(
     lanes: &Lanes,
     event: &WorldEvent<'_>,

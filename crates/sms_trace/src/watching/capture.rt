@@ -1,5 +1,5 @@
 //! A run over a script, written as a capture file: what reaches the centre, and what leaves it.
-use crate::sessions::{SessionSoFar, absolute_time, message_state};
+use crate::sessions::{SessionSoFar, absolute_time};
 use crate::watching::heads::{Places, act_of};
 use crate::watching::since::Since;
 use smpp_pdu::{Body, CommandStatus, MessageResp, QuerySmResp};
@@ -8,7 +8,7 @@ use sms_centre_rows::messages::MessageRow;
 use sms_centre_rows::reports::Delivery;
 use sms_play::judging::{Scene, Watcher};
 use sms_play::staging::frame_at;
-use sms_receipt::{Final, Receipt, receipt_of};
+use sms_receipt::{Final, Receipt, message_state, receipt_of};
 use sms_script::report::{Answer, Answered, Direction, FrameRow};
 use sms_script::requests::{cancel_of, query_of, submit_of};
 use sms_script::{Act, Setup, Submission, WorldEvent};

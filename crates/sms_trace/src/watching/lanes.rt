@@ -5,7 +5,7 @@ use crate::drawing::Arrow;
 use crate::watching::heads::Places;
 use sms_base::{Digits, Octets};
 use sms_script::report::{Direction, FrameRow};
-use sms_script::{Setup, Side};
+use sms_script::{EventSide, Setup};
 use std::alloc::{AllocError, Global};
 
 // More have no lane: no such script is played.
@@ -61,10 +61,10 @@ impl Lanes {
         self.at(self.places.digits(digits))
     }
 
-    pub(crate) fn side(&self, side: &Side<'_>) -> usize {
+    pub(crate) fn side(&self, side: &EventSide<'_>) -> usize {
         match side {
-            Side::Centre => self.centre(),
-            Side::Handset(number) => self.handset(number.as_slice()),
+            EventSide::Centre => self.centre(),
+            EventSide::Handset(number) => self.handset(number.as_slice()),
         }
     }
 

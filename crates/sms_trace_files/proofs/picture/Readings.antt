@@ -2,7 +2,7 @@
 use Rattle.std.proofs.Common.{◌≡◌, ◌≢◌, ℕ, Bool, true, false, cond, eqb, List, [], ◌∷◌, ◌++◌, map, refl, sym, subst, arith, eqb-true}
 use Rattle.std.specs.Prelude.{◌||◌, nat_lt, codes}
 use Rattle.std.proofs.lemmas.Bool.{eqb-false}
-use Rattle.sms_trace_files.specs.picture.Markup.{escaped, escaped_octet}
+use Rattle.sms_base.specs.Markup.{escaped, escaped_octet}
 use Rattle.sms_trace_files.specs.picture.Reading.{IsEntity, ampersand, less, greater, quotation, IsRead, nothing, plain, reference, legible}
 
 -- an entity before what is read

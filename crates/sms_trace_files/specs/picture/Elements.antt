@@ -1,7 +1,7 @@
 -- The elements of a picture as they are written (Scalable Vector Graphics 1.1: lines 9.5, uses 5.6, text 10.4). Places are
 -- counted in pixels from the left and the upper edge.
 use Rattle.std.specs.Prelude.{ℕ, List, [], ◌∷◌, ◌++◌, codes, decimal}
-use Rattle.sms_trace_files.specs.picture.Markup.{escaped}
+use Rattle.sms_base.specs.Markup.{escaped}
 use Rattle.sms_trace_files.specs.declared.picture.markup.Point.{Point}
 
 unfoldable pub attribute : List ℕ → ℕ → List ℕ

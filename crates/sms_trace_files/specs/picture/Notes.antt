@@ -1,7 +1,7 @@
 -- The notes of a picture. A longer note than 80 octets is cut behind them, and its length is said.
 use Rattle.std.specs.Prelude.{ℕ, ◌+◌, List, ◌++◌, length, take, nat_lt, nat_le, codes, decimal, if◌then◌else◌}
 use Rattle.sms_trace_files.specs.picture.Elements.{text_head}
-use Rattle.sms_trace_files.specs.picture.Markup.{escaped}
+use Rattle.sms_base.specs.Markup.{escaped}
 use Rattle.sms_trace_files.specs.declared.picture.markup.Point.{Point}
 
 unfoldable pub cut_note : List ℕ → List ℕ

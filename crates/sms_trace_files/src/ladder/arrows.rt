@@ -1,6 +1,7 @@
 //! Arrows of a ladder, place by place.
 ghost use Rattle.std.specs.Prelude.{◌≡◌};
-ghost use Rattle.sms_trace_files.specs.ladder.Arrows.{ahead as ahead_of, arrow_at as at_of_arrow, arrow_mark as mark_of_arrow, dash as dash_of, lost_at as at_of_lost, lost_mark as mark_of_lost, reach as reach_of, tip as tip_of};
+ghost use Rattle.sms_trace_files.specs.ladder.Arrows.{ahead as ahead_of, arrow_at as at_of_arrow, arrow_mark as mark_of_arrow, dash as dash_of};
+ghost use Rattle.sms_trace_files.specs.ladder.Arrows.{lost_at as at_of_lost, lost_mark as mark_of_lost, reach as reach_of, tip as tip_of};
 
 // The cross of what never arrives is so far from where it was sent.
 const LOST: u32 = 11;

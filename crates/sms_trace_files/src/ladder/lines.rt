@@ -1,6 +1,7 @@
 //! The lines of a ladder.
 ghost use Rattle.std.specs.Prelude.{◌≡◌, ◌++◌, ◌-◌, OnOk};
-ghost use Rattle.sms_trace_files.specs.ladder.Lines.{departure_at as at_of_departure, gap_marks, lane_mark as mark_of_lane, lane_marks, line_drawn, line_end, lines_drawn, mark_between as between_of, sign_letter as letter_of};
+ghost use Rattle.sms_trace_files.specs.ladder.Lines.{departure_at as at_of_departure, gap_marks, lane_mark as mark_of_lane, lane_marks, line_drawn, line_end};
+ghost use Rattle.sms_trace_files.specs.ladder.Lines.{lines_drawn, mark_between as between_of, sign_letter as letter_of};
 
 use crate::ladder::arrows::{arrow_at, lost_at};
 use crate::picture::columns::Columns;

@@ -1,6 +1,7 @@
 //! The columns in which the lanes of a picture are drawn. A lane that no row touches is left out.
 ghost use Rattle.std.specs.Prelude.{◌≡◌, IfOk, Some, None, if◌then◌else◌};
-ghost use Rattle.sms_trace_files.specs.picture.Columns.{column as column_of, column_in, columns as columns_of, drawn_before, drawn_in, is_touched as is_touched_by, placed, touches as touches_lane};
+ghost use Rattle.sms_trace_files.specs.picture.Columns.{column as column_of, column_in, columns as columns_of, drawn_before, drawn_in};
+ghost use Rattle.sms_trace_files.specs.picture.Columns.{is_touched as is_touched_by, placed, touches as touches_lane};
 
 use crate::picture::rows::{Departure, Passage, PictureRow, Shape};
 use std::alloc::{AllocError, Global};

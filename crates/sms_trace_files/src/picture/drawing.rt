@@ -1,15 +1,16 @@
 //! A picture as a whole: its lanes, their names, its rows and its legend.
 ghost use Rattle.std.specs.Prelude.{◌≡◌, ◌++◌, OnOk, Option, codes, decimal, true, false};
-ghost use Rattle.sms_trace_files.specs.picture.Drawing.{drawn_between, drawn_extent, drawn_in_columns, head as head_of, heads_drawn, lanes_drawn, legend, legend_arrow, legend_lost, legend_sign, line_in, name_in, names_drawn, legend_y as y_in_legend, pair, picture_drawn, size as size_of, tall, view_box, wide};
+ghost use Rattle.sms_trace_files.specs.picture.Drawing.{drawn_between, drawn_extent, drawn_in_columns, head as head_of, heads_drawn, lanes_drawn, legend};
+ghost use Rattle.sms_trace_files.specs.picture.Drawing.{legend_arrow, legend_lost, legend_sign, line_in, name_in, names_drawn, legend_y as y_in_legend, pair};
+ghost use Rattle.sms_trace_files.specs.picture.Drawing.{picture_drawn, size as size_of, tall, view_box, wide};
 ghost use Rattle.sms_trace_files.specs.declared.picture.rows.Sign.TheVariants.{Tick as TickSign, Act as ActSign, Restart as RestartSign};
 
-use crate::numbers::put_number;
 use crate::picture::columns::Columns;
 use crate::picture::looks::put_looks;
 use crate::picture::markup::{Point, put_attribute, put_line, put_sign, put_text};
 use crate::picture::places::{heads, lane_x, names_y, row_y};
 use crate::picture::rows::{PictureRow, Sign, arrow_class, lost_class, put_rows, sign_word};
-use sms_base::Octets;
+use sms_base::{Octets, put_decimal};
 use std::alloc::{AllocError, Global};
 
 /// How much a picture has to hold.
@@ -57,9 +58,9 @@ impl Extent {
 fn put_pair(out: &mut Octets, one: u64, other: u64) -> Result<(), AllocError>
     ensures { OnOk result (out.new ≡ out.old ++ pair one other) }
 {
-    put_number(out, one)?;
+    put_decimal(out, one)?;
     out.append(b" ")?;
-    put_number(out, other)
+    put_decimal(out, other)
 }
 
 // What a viewer shows: from the left upper corner on, all of it.
@@ -259,7 +260,8 @@ fn drawn(columns: &Columns, extent: &Extent) -> Extent
 #[tactic(auto, unfolding(crate::specs::picture::Drawing::drawn_between))]
 fn put_between(out: &mut Octets, columns: &Columns, picture: &Picture) -> Result<(), AllocError>
     ensures { OnOk result (out.new ≡ out.old
-        ++ drawn_between columns.now.table.items (record { lanes = columns.now.count; rows = picture.now.extent.rows; longest = picture.now.extent.longest }) picture.now) }
+        ++ drawn_between columns.now.table.items
+        (record { lanes = columns.now.count; rows = picture.now.extent.rows; longest = picture.now.extent.longest }) picture.now) }
 {
     let rows = picture.extent.rows;
     let lanes = picture.lanes.as_slice();
@@ -271,7 +273,8 @@ fn put_between(out: &mut Octets, columns: &Columns, picture: &Picture) -> Result
 #[tactic(auto, unfolding(crate::specs::picture::Drawing::drawn_in_columns))]
 fn put_in_columns(out: &mut Octets, columns: &Columns, picture: &Picture) -> Result<(), AllocError>
     ensures { OnOk result (out.new ≡ out.old
-        ++ drawn_in_columns columns.now.table.items (record { lanes = columns.now.count; rows = picture.now.extent.rows; longest = picture.now.extent.longest }) picture.now) }
+        ++ drawn_in_columns columns.now.table.items
+        (record { lanes = columns.now.count; rows = picture.now.extent.rows; longest = picture.now.extent.longest }) picture.now) }
 {
     let extent = drawn(columns, &picture.extent);
     put_head(out, &extent)?;

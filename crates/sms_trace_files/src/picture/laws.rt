@@ -1,7 +1,7 @@
 //! Laws of pictures, over their definitions alone.
 ghost use Rattle.std.specs.Prelude.{◌≡◌, ◌≢◌, ◌<◌, ℕ, List, map, true};
 ghost use Rattle.sms_trace_files.specs.picture.Columns.{drawn_before, is_touched};
-ghost use Rattle.sms_trace_files.specs.picture.Markup.{escaped};
+ghost use Rattle.sms_base.specs.Markup.{escaped};
 ghost use Rattle.sms_trace_files.specs.picture.Places.{cross_at, lane_x, names_y, note_at, row_y};
 ghost use Rattle.sms_trace_files.specs.picture.Reading.{IsRead, legible};
 ghost use Rattle.sms_trace_files.specs.declared.picture.rows.PictureRow.{PictureRow as RowOf};

@@ -1,10 +1,9 @@
 //! The elements of a picture as SVG (Scalable Vector Graphics 1.1), and text in them.
-ghost use Rattle.std.specs.Prelude.{◌≡◌, ◌++◌, OnOk, decimal};
-ghost use Rattle.sms_trace_files.specs.picture.Markup.{escaped, escaped_octet};
+ghost use Rattle.std.specs.Prelude.{◌≡◌, ◌++◌, OnOk};
 ghost use Rattle.sms_trace_files.specs.picture.Elements.{attribute, line_element, line_ends, place, sign_element, text_element, text_head};
 
-use crate::numbers::put_number;
-use sms_base::Octets;
+use sms_base::markup::put_escaped;
+use sms_base::{Octets, put_decimal};
 use std::alloc::AllocError;
 
 /// A place in a picture, in pixels from its left and upper edges.
@@ -12,36 +11,6 @@ use std::alloc::AllocError;
 pub(crate) struct Point {
     pub x: u64,
     pub y: u64,
-}
-
-#[tactic(auto, unfolding(crate::specs::picture::Markup::escaped_octet))]
-fn put_escaped_octet(out: &mut Octets, octet: u8) -> Result<(), AllocError>
-    ensures { OnOk result (out.new ≡ out.old ++ escaped_octet octet) }
-{
-    if octet == b'&' {
-        out.append(b"&amp;")
-    } else if octet == b'<' {
-        out.append(b"&lt;")
-    } else if octet == b'>' {
-        out.append(b"&gt;")
-    } else if octet == b'"' {
-        out.append(b"&quot;")
-    } else if octet < 32 || 126 < octet {
-        out.append(b"?")
-    } else {
-        out.push(octet)
-    }
-}
-
-/// A text as character data or as the value of an attribute. What has a meaning there is written as its entity (XML 1.0
-/// 4.6). `?` replaces each octet that is no printable ASCII.
-pub(crate) fn put_escaped(out: &mut Octets, text: &[u8]) -> Result<(), AllocError>
-    ensures { OnOk result (out.new ≡ out.old ++ escaped text.now) }
-{
-    for octet in text {
-        put_escaped_octet(out, *octet)?;
-    }
-    Ok(())
 }
 
 /// The attribute of that name with a number as its value.
@@ -52,7 +21,7 @@ pub(crate) fn put_attribute(out: &mut Octets, name: &[u8], number: u64) -> Resul
     out.append(b" ")?;
     out.append(name)?;
     out.append(b"=\"")?;
-    put_number(out, number)?;
+    put_decimal(out, number)?;
     out.append(b"\"")
 }
 

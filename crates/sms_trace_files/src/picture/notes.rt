@@ -2,9 +2,9 @@
 ghost use Rattle.std.specs.Prelude.{◌≡◌, ◌++◌, OnOk, take};
 ghost use Rattle.sms_trace_files.specs.picture.Notes.{cut_note, most_shown as most_shown_of, note_element, shown_note};
 
-use crate::numbers::put_number;
-use crate::picture::markup::{Point, put_escaped, put_text_head};
-use sms_base::Octets;
+use crate::picture::markup::{Point, put_text_head};
+use sms_base::markup::put_escaped;
+use sms_base::{Octets, put_decimal};
 use std::alloc::AllocError;
 
 // A longer note is cut behind so many octets.
@@ -24,7 +24,7 @@ fn put_cut(out: &mut Octets, note: &[u8]) -> Result<(), AllocError>
 {
     put_escaped(out, front(note))?;
     out.append(b" .. (")?;
-    put_number(out, note.len() as u64)?;
+    put_decimal(out, note.len() as u64)?;
     out.append(b" octets)")
 }
 

@@ -1,6 +1,7 @@
 //! Where lanes, rows and notes are in a picture.
 ghost use Rattle.std.specs.Prelude.{◌≡◌};
-ghost use Rattle.sms_trace_files.specs.picture.Places.{cross_at as cross_point, halfway as halfway_between, heads as heads_of, lane_x as x_of_lane, names_y as y_of_names, note_at as note_point, on_lane as point_on_lane, row_y as y_of_row};
+ghost use Rattle.sms_trace_files.specs.picture.Places.{cross_at as cross_point, halfway as halfway_between, heads as heads_of, lane_x as x_of_lane};
+ghost use Rattle.sms_trace_files.specs.picture.Places.{names_y as y_of_names, note_at as note_point, on_lane as point_on_lane, row_y as y_of_row};
 
 use crate::picture::markup::Point;
 

@@ -1,6 +1,7 @@
 //! The rows of a picture.
 ghost use Rattle.std.specs.Prelude.{◌≡◌, ◌++◌, OnOk};
-ghost use Rattle.sms_trace_files.specs.picture.Rows.{arrow_class as class_of_arrow, departure_drawn, lost_class as class_of_lost, lost_drawn, passage_drawn, row_drawn, rows_drawn, shape_drawn, sign_word as word_of_sign};
+ghost use Rattle.sms_trace_files.specs.picture.Rows.{arrow_class as class_of_arrow, departure_drawn, lost_class as class_of_lost, lost_drawn, passage_drawn};
+ghost use Rattle.sms_trace_files.specs.picture.Rows.{row_drawn, rows_drawn, shape_drawn, sign_word as word_of_sign};
 
 use crate::picture::columns::Columns;
 use crate::picture::markup::{put_line, put_sign};

@@ -22,7 +22,7 @@ use Rattle.sms_centre_spec.proofs.SoundLinks.{line_of_handset}
 use Rattle.sms_centre_spec.specs.CentreEvent.{aged, at_moment, fired, follow, frame_taken, happened, lines_awaited, lower, raise, raised, tag_of}
 use Rattle.sms_centre_spec.specs.Draft.{Core, Draft, Store, core_of, draft_of, handsets_in, references_in, waiting_in}
 use Rattle.sms_centre_spec.specs.Held.{SoundHeld}
-use Rattle.sms_centre_spec.specs.Offering.{holder_of, offer_all, offer_among, offer_load, offer_to, read_of, unit_of}
+use Rattle.sms_centre_spec.specs.Offering.{holder_of, offer_all, offer_among, offer_queued, offer_to, read_of, unit_of}
 use Rattle.sms_centre_spec.specs.Orders.{ordered}
 use Rattle.sms_centre_spec.specs.Requests.{cancel, query, submit}
 use Rattle.sms_centre_spec.specs.Sessions.{bind, deliver_answered, unbind}
@@ -61,9 +61,9 @@ module _ (s : Store) (links : Links) (number : List ℕ) where
   abbrev line : HandsetLink
   line = line_of number links.lines
 
-  load_leaves : (o : Option QueuedPart) → next s.moment (waiting_in line.handset s) ≡ o → is_ready (line_of number (offer_load line (waiting_in line.handset s) o s links).lines) ≡ true → next s.moment (waiting_in line.handset s) ≡ None
-  load_leaves None e ready = e
-  load_leaves (Some l) e ready =
+  queued_leaves : (o : Option QueuedPart) → next s.moment (waiting_in line.handset s) ≡ o → is_ready (line_of number (offer_queued line (waiting_in line.handset s) o s links).lines) ≡ true → next s.moment (waiting_in line.handset s) ≡ None
+  queued_leaves None e ready = e
+  queued_leaves (Some l) e ready =
       let t : Turn = begun s.moment l.reference (holder_of l) (unit_of l (waits_beside s.moment l (waiting_in line.handset s)) s) line.link in
       let now : HandsetLink = turned t line in
       let own : line_of number (turn_line line t (read_of l s links)).lines ≡ now =
@@ -75,16 +75,16 @@ module _ (s : Store) (links : Links) (number : List ℕ) where
   offered_to =
       let own : line.handset ≡ number = line_of_handset number links.lines in
       cond_both (is_ready line) (offer_among line (waiting_in line.handset s) s links) links (λ (a : Links). IsOfferedTo s a.lines number)
-      (λ t ready. ap (λ (n : List ℕ). next s.moment (waiting_in n s)) (sym own) ∙ load_leaves (next s.moment (waiting_in line.handset s)) refl ready)
+      (λ t ready. ap (λ (n : List ℕ). next s.moment (waiting_in n s)) (sym own) ∙ queued_leaves (next s.moment (waiting_in line.handset s)) refl ready)
       (λ t ready. let bad : true ≡ false = sym ready ∙ t in absurd cc)
 
   -- the line of another stays
   read_lines : (l : QueuedPart) → (read_of l s links).lines ≡ links.lines
   read_lines l = cond_both _ links _ (λ (a : Links). a.lines ≡ links.lines) (λ t. refl) (λ t. refl)
 
-  load_apart : (o : Option QueuedPart) (other : List ℕ) → ¬ (number ≡ other) → line_of other (offer_load line (waiting_in line.handset s) o s links).lines ≡ line_of other links.lines
-  load_apart None other ne = refl
-  load_apart (Some l) other ne =
+  queued_apart : (o : Option QueuedPart) (other : List ℕ) → ¬ (number ≡ other) → line_of other (offer_queued line (waiting_in line.handset s) o s links).lines ≡ line_of other links.lines
+  queued_apart None other ne = refl
+  queued_apart (Some l) other ne =
       let t : Turn = begun s.moment l.reference (holder_of l) (unit_of l (waits_beside s.moment l (waiting_in line.handset s)) s) line.link in
       other_line other (turned t line) (read_of l s links).lines (λ e. ne (sym (line_of_handset number links.lines) ∙ e))
       ∙ ap (λ (ls : List HandsetLink). line_of other ls) (read_lines l)
@@ -92,7 +92,7 @@ module _ (s : Store) (links : Links) (number : List ℕ) where
   pub offer_apart : (other : List ℕ) → ¬ (number ≡ other) → line_of other (offer_to number s links).lines ≡ line_of other links.lines
   offer_apart other ne =
       cond_both (is_ready line) (offer_among line (waiting_in line.handset s) s links) links (λ (a : Links). line_of other a.lines ≡ line_of other links.lines)
-      (λ t. load_apart (next s.moment (waiting_in line.handset s)) other ne) (λ t. refl)
+      (λ t. queued_apart (next s.moment (waiting_in line.handset s)) other ne) (λ t. refl)
 
 -- ---- offers to all
 

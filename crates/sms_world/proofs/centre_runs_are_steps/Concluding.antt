@@ -39,9 +39,9 @@ use Rattle.sms_world.proofs.centres_refine_the_world.Aging.{closed_refines, open
 use Rattle.sms_world.proofs.centres_refine_the_world.ByOctets.{by_octet_is}
 use Rattle.sms_world.proofs.centres_refine_the_world.Ending.{can_end, end_is_reached, ended_refines}
 use Rattle.sms_world.proofs.centres_refine_the_world.LinksChange.{again_both, late_both}
-use Rattle.sms_world.proofs.centres_refine_the_world.Loads.{none_of}
+use Rattle.sms_world.proofs.centres_refine_the_world.QueuedParts.{none_of}
 use Rattle.sms_world.proofs.centres_refine_the_world.Offers.{line_refines, lines_with}
-use Rattle.sms_world.specs.centre_runs_are_steps.Stages.{Answers, Settles}
+use Rattle.sms_world.specs.centre_runs_are_steps.Stages.{AnswersInEvent, Settles}
 use Rattle.sms_world.proofs.centre_runs_are_steps.DoneParts.{part_id}
 use Rattle.sms_world.proofs.centre_runs_are_steps.Settling.{part_settles}
 use Rattle.sms_world.proofs.centre_runs_are_steps.Stepping.{WasHanded, follows_one, reads_then, settles_store, still}
@@ -147,25 +147,25 @@ module _ (s : Store) (w : World) (sound : SoundStore s) (refines : StoreRefines 
 
 module _ (d : Draft) (w : World) (sound : SoundStore d.store) (b : World) (s : CentreRefines b d w) (handed : ℕ) (u : Frame) (was : WasHanded handed b u) (t : Carried) where
   -- what was answered already
-  too_late : Answers handed d.store.moment b (ended_with Late u.handset t.tag d) w
+  too_late : AnswersInEvent handed d.store.moment b (ended_with Late u.handset t.tag d) w
   too_late =
       still handed d.store.moment b (λ v. CentreRefines b (ended_with Late u.handset t.tag d) v) w
       (record { frames = s.frames; whole = s.whole; lines = s.lines; rows = (late_both w t.tag d.store (sound, s.rows)).1 })
 
   module _ (for_it : IsSentFor u.handset u.reference t.tag (rows_of d.store)) (small : IsNumbered t.tag) where
-    pub acknowledged : IsSent w u Down Ack → Answers handed d.store.moment b (conclude u.handset t Acknowledged d) w
+    pub acknowledged : IsSent w u Down Ack → AnswersInEvent handed d.store.moment b (conclude u.handset t Acknowledged d) w
     acknowledged sent =
-        cond_both (is_open t.tag d.store) Settled Late (λ (v : Verdict). Answers handed d.store.moment b (ended_with v u.handset t.tag d) w)
+        cond_both (is_open t.tag d.store) Settled Late (λ (v : Verdict). AnswersInEvent handed d.store.moment b (ended_with v u.handset t.tag d) w)
         (λ waits. settles_store handed d.store.moment b (holder_ended Settled t.tag d.store) d w s (acknowledged_holder d.store w sound s.rows handed b u was t.tag sent for_it small waits))
         (λ e. too_late)
 
-    pub refused : (cause : RpCause) (tpdu : Option (List ℕ)) → IsSent w u Down Error → Answers handed d.store.moment b (conclude u.handset t (RefusedWith cause tpdu) d) w
+    pub refused : (cause : RpCause) (tpdu : Option (List ℕ)) → IsSent w u Down Error → AnswersInEvent handed d.store.moment b (conclude u.handset t (RefusedWith cause tpdu) d) w
     refused cause tpdu sent =
         let code : ℕ = number_of cause in
         let m : ℕ = d.store.moment in
         let line : HandsetLink = line_of u.handset d.links.lines in
         let l : RefinesLine w.bag line = line_refines w.bag u.handset d.links.lines s.lines in
-        let P : Verdict → Type 0 = λ v. Answers handed d.store.moment b (ended_with v u.handset t.tag d) w in
+        let P : Verdict → Type 0 = λ v. AnswersInEvent handed d.store.moment b (ended_with v u.handset t.tag d) w in
         cond_both (is_open t.tag d.store) (cause_verdict code) Late P
         (λ waits. cond_both (code == 22) HandsetFull (if is_temporary code then Again else Refused) P
         (λ e. still handed m b (λ v. CentreRefines b (ended_with HandsetFull u.handset t.tag d) v) w (record {

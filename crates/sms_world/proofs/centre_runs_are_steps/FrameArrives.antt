@@ -51,7 +51,7 @@ use Rattle.sms_world.specs.centres_refine_the_world.CentreRefinement.{CentreRefi
 use Rattle.sms_world.specs.centres_refine_the_world.RefinesLines.{IsNumbered, RefinesAnswerDown, RefinesBegunDown, RefinesLine, RefinesOpenedDown}
 use Rattle.sms_world.proofs.centres_refine_the_world.LinksChange.{lost_law}
 use Rattle.sms_world.specs.centre_runs_are_steps.Handing.{IsHandedUp}
-use Rattle.sms_world.specs.centre_runs_are_steps.Stages.{Answers, Begins}
+use Rattle.sms_world.specs.centre_runs_are_steps.Stages.{AnswersInEvent, Begins}
 use Rattle.sms_world.proofs.centre_runs_are_steps.Concluding.{acknowledged, refused}
 use Rattle.sms_world.proofs.centre_runs_are_steps.Hearing.{bare_alone, bare_and_again, bare_begins, hears, hears_bare, hears_nothing, with_links}
 use Rattle.sms_world.proofs.centre_runs_are_steps.Stepping.{WasHanded, begins_still, still}
@@ -139,15 +139,15 @@ module _ (number : ℕ) (tag : Holder) (d : Draft) (w : World) (sound : SoundSto
       was : WasHanded number w (data_up line.handset number r tpdu tag)
       was = (sent, refl)
 
-      unit_law : UnitGives d.store.setup.accounts line.handset m (up_at unit) → Answers number m w (unit_received line.handset tag unit (up_at unit) (hears line opening_step d)) acked
+      unit_law : UnitGives d.store.setup.accounts line.handset m (up_at unit) → AnswersInEvent number m w (unit_received line.handset tag unit (up_at unit) (hears line opening_step d)) acked
       unit_law gives =
           let e : Draft = hears line opening_step d in
           ⊎_elim
           (λ (x : (centre : List ℕ) × (up_at unit ≡ Ok (DataUnit r centre tpdu))).
-          subst (λ (y : Result Rp RelayFault). Answers number m w (unit_received line.handset tag unit y e) acked) (sym x.1)
+          subst (λ (y : Result Rp RelayFault). AnswersInEvent number m w (unit_received line.handset tag unit y e) acked) (sym x.1)
           (data_law line.handset r tag tpdu number w e acked sound heard_refines opening awaits was (inr sent) (subst (λ (y : Result Rp RelayFault). UnitGives d.store.setup.accounts line.handset m y) x.1 gives)))
           (λ (x : (up_at unit ≡ Ok (Smma r)) × (tpdu ≡ [])).
-          subst (λ (y : Result Rp RelayFault). Answers number m w (unit_received line.handset tag unit y e) acked) (sym x.0)
+          subst (λ (y : Result Rp RelayFault). AnswersInEvent number m w (unit_received line.handset tag unit y e) acked) (sym x.0)
           (memory_law line.handset r tag tpdu number w e acked sound heard_refines opening awaits was (inr sent) x.1))
           told
 
@@ -180,15 +180,15 @@ module _ (number : ℕ) (tag : Holder) (d : Draft) (w : World) (sound : SoundSto
     closed_refines_now = hears_bare w line d w s closed_links (Some (UnitUp ToOriginator unit)) closed_line_refines (acknowledgement t) (bare_ack t low)
 
     module _ (rp : Result Rp RelayFault) (told : up_at unit ≡ rp)
-        (law : (c : Carries) → IsSentFor line.handset c.reference c.tag (rows_of d.store) → IsNumbered c.tag → Answers number m w (conclude line.handset c (ended_by c.reference rp) (hears line answer_step d)) acked) where
+        (law : (c : Carries) → IsSentFor line.handset c.reference c.tag (rows_of d.store) → IsNumbered c.tag → AnswersInEvent number m w (conclude line.handset c (ended_by c.reference rp) (hears line answer_step d)) acked) where
       -- the transfer that was under way, if there was one, has ended
       up_law : (side : Side) (c : Option Carries) → side ≡ CentreSide → IsUnderWay line.handset c (rows_of d.store) → ((x : Carries) → c ≡ Some x → IsNumbered x.tag)
-          → Answers number m w (went_up line.handset tag (option_map (unit_ended side unit) c) (hears line answer_step d)) acked
+          → AnswersInEvent number m w (went_up line.handset tag (option_map (unit_ended side unit) c) (hears line answer_step d)) acked
       up_law side None at under small = still number m w (λ v. CentreRefines w (hears line answer_step d) v) acked closed_refines_now
       up_law side (Some c) at under small =
           let e : Draft = hears line answer_step d in
-          subst (λ (x : Side). Answers number m w (conclude line.handset c (ended_by c.reference (unit_at x unit)) e) acked) (sym at)
-          (subst (λ (y : Result Rp RelayFault). Answers number m w (conclude line.handset c (ended_by c.reference y) e) acked) (sym told) (law c under.1 (small c refl)))
+          subst (λ (x : Side). AnswersInEvent number m w (conclude line.handset c (ended_by c.reference (unit_at x unit)) e) acked) (sym at)
+          (subst (λ (y : Result Rp RelayFault). AnswersInEvent number m w (conclude line.handset c (ended_by c.reference y) e) acked) (sym told) (law c under.1 (small c refl)))
 
       pub answer_law : Begins number m (frame_reported tag line (answer_taken frame unit t line.link.links) d) w
       answer_law =
@@ -203,27 +203,27 @@ module _ (number : ℕ) (tag : Holder) (d : Draft) (w : World) (sound : SoundSto
           (λ f. bare_alone number m line d w s line.link.links None same_links (rejection t) (bare_rejection t low)))
 
     -- a wrong reference puts off
-    wrong_law : (c : Carries) → Answers number m w (conclude line.handset c Wrong (hears line answer_step d)) acked
+    wrong_law : (c : Carries) → AnswersInEvent number m w (conclude line.handset c Wrong (hears line answer_step d)) acked
     wrong_law c = still number m w (λ v. CentreRefines w (conclude line.handset c Wrong (hears line answer_step d)) v) acked (lost_law w line.handset (Some c) (hears line answer_step d) acked sound closed_refines_now)
 
     ack_law : (r : ℕ) (tpdu : List ℕ) (report : Option (List ℕ)) → Among (Carried (ack_up line.handset number r tpdu tag)) w.bag
         → (c : Carries) → IsSentFor line.handset c.reference c.tag (rows_of d.store) → IsNumbered c.tag
-        → Answers number m w (conclude line.handset c (ended_by c.reference (Ok (AckUnit r report))) (hears line answer_step d)) acked
+        → AnswersInEvent number m w (conclude line.handset c (ended_by c.reference (Ok (AckUnit r report))) (hears line answer_step d)) acked
     ack_law r tpdu report sent c for_it small =
         let u : Frame = ack_up line.handset number r tpdu tag in
         let e : Draft = hears line answer_step d in
-        cond_both (r == c.reference) Acknowledged Wrong (λ (x : Ending). Answers number m w (conclude line.handset c x e) acked)
+        cond_both (r == c.reference) Acknowledged Wrong (λ (x : Ending). AnswersInEvent number m w (conclude line.handset c x e) acked)
         (λ q. acknowledged e acked sound w closed_refines_now number u (sent, refl) c
         (subst (λ (n : ℕ). IsSentFor line.handset n c.tag (rows_of d.store)) (sym (eqb-true r c.reference q)) for_it) small (inr sent, refl, refl))
         (λ q. wrong_law c)
 
     error_law : (r : ℕ) (tpdu : List ℕ) (cause : RpCause) (report : Option (List ℕ)) → Among (Carried (error_up line.handset number r tpdu tag)) w.bag
         → (c : Carries) → IsSentFor line.handset c.reference c.tag (rows_of d.store) → IsNumbered c.tag
-        → Answers number m w (conclude line.handset c (ended_by c.reference (Ok (ErrorUnit r cause report))) (hears line answer_step d)) acked
+        → AnswersInEvent number m w (conclude line.handset c (ended_by c.reference (Ok (ErrorUnit r cause report))) (hears line answer_step d)) acked
     error_law r tpdu cause report sent c for_it small =
         let u : Frame = error_up line.handset number r tpdu tag in
         let e : Draft = hears line answer_step d in
-        cond_both (r == c.reference) (RefusedWith cause report) Wrong (λ (x : Ending). Answers number m w (conclude line.handset c x e) acked)
+        cond_both (r == c.reference) (RefusedWith cause report) Wrong (λ (x : Ending). AnswersInEvent number m w (conclude line.handset c x e) acked)
         (λ q. refused e acked sound w closed_refines_now number u (sent, refl) c
         (subst (λ (n : ℕ). IsSentFor line.handset n c.tag (rows_of d.store)) (sym (eqb-true r c.reference q)) for_it) small cause report (inr sent, refl, refl))
         (λ q. wrong_law c)

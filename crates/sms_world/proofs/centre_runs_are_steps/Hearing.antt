@@ -26,7 +26,7 @@ use Rattle.sms_world.specs.centres_refine_the_world.RefinesLines.{RefinesLine, W
 use Rattle.sms_world.proofs.centres_refine_the_world.Firing.{again_carries, appended}
 use Rattle.sms_world.proofs.centres_refine_the_world.Offers.{lines_with, stacked_both, whole_both}
 use Rattle.sms_world.proofs.centres_refine_the_world.Staying.{line_still}
-use Rattle.sms_world.specs.centre_runs_are_steps.Stages.{Answers, Begins}
+use Rattle.sms_world.specs.centre_runs_are_steps.Stages.{AnswersInEvent, Begins}
 use Rattle.sms_world.proofs.centre_runs_are_steps.Stepping.{still}
 
 -- what the links of a line do of their own accord
@@ -121,7 +121,7 @@ module _ (b : World) (line : HandsetLink) (d : Draft) (w : World) (s : CentreRef
 
 -- nothing, CP-ACK or CP-ERROR alone, or CP-ACK and what was sent before
 module _ (number m : ℕ) (line : HandsetLink) (d : Draft) (w : World) (s : CentreRefines w d w) (l : LinkState) (up : Option Up) (k : RefinesLine w.bag (with_links l (still_under_way up line.link.under_way) line)) where
-  pub bare_begins : (e : Draft) (frame : List ℕ) → IsBare (cp_at frame) → Answers number m w e (record w { bag = Bare (length w.bag + 1) line.handset ∷ w.bag }) → Begins number m e w
+  pub bare_begins : (e : Draft) (frame : List ℕ) → IsBare (cp_at frame) → AnswersInEvent number m w e (record w { bag = Bare (length w.bag + 1) line.handset ∷ w.bag }) → Begins number m e w
   bare_begins e frame bare a = (Control line.handset ∷ [], ((tt, tt), (tt, tt), (tt, tt), a))
 
   pub bare_alone : (frame : List ℕ) → IsBare (cp_at frame) → Begins number m (hears line (record { state = l; out = record { frames = frame ∷ []; up = up } }) d) w

@@ -12,14 +12,14 @@ use Rattle.sms_centre_rows.specs.messages.SplitReferences.{is_among}
 use Rattle.sms_centre_rows.specs.declared.messages.message.MessageRow.{MessageRow}
 use Rattle.sms_centre_rows.specs.reports.Receipts.{Session, answered_in, receipt_ended, receipt_tried, session_key}
 use Rattle.sms_centre_rows.specs.reports.Reports.{is_receipt, is_status, report_key, report_of, report_reaching}
-use Rattle.sms_centre_rows.specs.reports.Waiting.{report_load, reports_to, with_reports as with_loads}
+use Rattle.sms_centre_rows.specs.reports.Waiting.{report_queued, reports_to, with_reports as with_queued}
 use Rattle.sms_centre_rows.specs.declared.reports.report.ReportKind.{ReportKind}
 use Rattle.sms_centre_rows.specs.declared.reports.report.ReportKind.TheVariants.{Receipt, Status, Unsent}
 use Rattle.sms_centre_rows.specs.declared.reports.report.ReportRow.{ReportRow}
 use Rattle.sms_centre_rows.proofs.reports.AllWaiting.{report_found}
 use Rattle.sms_rows.specs.table.Table.{Rises, put, row_at}
 use Rattle.sms_rows.proofs.table.Tables.{among_found, found_among}
-use Rattle.sms_centre_rows.specs.waiting.Keys.{load_key}
+use Rattle.sms_centre_rows.specs.waiting.Keys.{queued_key}
 use Rattle.sms_centre_rows.specs.waiting.Links.{Links, is_ready, line_of}
 use Rattle.sms_centre_rows.specs.waiting.Revisions.{amended}
 use Rattle.sms_centre_rows.specs.waiting.Trying.{finished}
@@ -31,7 +31,7 @@ use Rattle.sms_centre_rows.specs.declared.waiting.progress.Progress.{Progress}
 use Rattle.sms_centre_spec.proofs.SoundLinks.{line_of_handset}
 use Rattle.sms_centre_spec.specs.CentreEvent.{follow}
 use Rattle.sms_centre_spec.specs.Draft.{Core, Draft, Store, draft_of, handsets_in, messages_in, priorities_in, parts_in, reports_in, waiting_in, with_reports}
-use Rattle.sms_centre_spec.specs.Offering.{offer_all, offer_among, offer_load, offer_to}
+use Rattle.sms_centre_spec.specs.Offering.{offer_all, offer_among, offer_queued, offer_to}
 use Rattle.sms_centre_spec.specs.Requests.{account_at, queried, query, query_by}
 use Rattle.sms_centre_spec.specs.Sessions.{answered_by, receipt_answered}
 use Rattle.sms_centre_spec.specs.SoundCore.{IsReceiptRow, IsSoundCore}
@@ -45,7 +45,7 @@ nothing_to number s links k =
     let line : HandsetLink = line_of number links.lines in
     let own : line.handset ≡ number = line_of_handset number links.lines in
     cond_both (is_ready line) (offer_among line (waiting_in line.handset s) s links) links (λ (a : Links). a ≡ links)
-    (λ t. ap (λ (o : Option QueuedPart). offer_load line (waiting_in line.handset s) o s links) (ap (λ (n : List ℕ). next s.moment (waiting_in n s)) own ∙ k number t))
+    (λ t. ap (λ (o : Option QueuedPart). offer_queued line (waiting_in line.handset s) o s links) (ap (λ (n : List ℕ). next s.moment (waiting_in n s)) own ∙ k number t))
     (λ t. refl)
 
 pub nothing_offered : (hs : List HandsetRow) (s : Store) (links : Links) → IsOffered s links.lines → offer_all hs s links ≡ links
@@ -84,21 +84,21 @@ never_waits : (handset : List ℕ) (r : ReportRow) (o : Option MessageRow) → i
 never_waits handset r None e = refl
 never_waits handset r (Some m) e = ap (λ (b : Bool). (b && not r.progress.is_done) && bytes_eq m.source.digits handset) e
 
-waits_alike : (handset : List ℕ) (ms : List MessageRow) (key : ℕ) (q : Progress) (rs : List ReportRow) (loads : List QueuedPart)
+waits_alike : (handset : List ℕ) (ms : List MessageRow) (key : ℕ) (q : Progress) (rs : List ReportRow) (all_queued : List QueuedPart)
     → ((r : ReportRow) → Among r rs → report_key r ≡ key → is_status r.kind ≡ false)
-    → with_loads handset ms (amended report_key report_reaching key q rs) loads ≡ with_loads handset ms rs loads
-waits_alike handset ms key q [] loads f = refl
-waits_alike handset ms key q (r ∷ rs) loads f =
-    let rest = waits_alike handset ms key q rs loads (λ x i e. f x (inr i) e) in
-    let more : ReportRow → List QueuedPart → List QueuedPart = λ x ls. if reports_to handset x (message_at x.id ms) then put load_key (report_load x) ls else ls in
+    → with_queued handset ms (amended report_key report_reaching key q rs) all_queued ≡ with_queued handset ms rs all_queued
+waits_alike handset ms key q [] all_queued f = refl
+waits_alike handset ms key q (r ∷ rs) all_queued f =
+    let rest = waits_alike handset ms key q rs all_queued (λ x i e. f x (inr i) e) in
+    let more : ReportRow → List QueuedPart → List QueuedPart = λ x ls. if reports_to handset x (message_at x.id ms) then put queued_key (report_queued x) ls else ls in
     let head : (ls : List QueuedPart) → more (if report_key r == key then report_reaching q r else r) ls ≡ more r ls = λ ls.
     cond_both (report_key r == key) (report_reaching q r) r (λ (x : ReportRow). more x ls ≡ more r ls)
     (λ t.
     let plain : is_status r.kind ≡ false = f r (inl refl) (eqb-true (report_key r) key t) in
-    cond-false (reports_to handset (report_reaching q r) (message_at r.id ms)) (put load_key (report_load (report_reaching q r)) ls) ls (never_waits handset (report_reaching q r) (message_at r.id ms) plain)
-    ∙ sym (cond-false (reports_to handset r (message_at r.id ms)) (put load_key (report_load r) ls) ls (never_waits handset r (message_at r.id ms) plain)))
+    cond-false (reports_to handset (report_reaching q r) (message_at r.id ms)) (put queued_key (report_queued (report_reaching q r)) ls) ls (never_waits handset (report_reaching q r) (message_at r.id ms) plain)
+    ∙ sym (cond-false (reports_to handset r (message_at r.id ms)) (put queued_key (report_queued r) ls) ls (never_waits handset r (message_at r.id ms) plain)))
     (λ t. refl) in
-    head (with_loads handset ms (amended report_key report_reaching key q rs) loads) ∙ ap (λ (ls : List QueuedPart). more r ls) rest
+    head (with_queued handset ms (amended report_key report_reaching key q rs) all_queued) ∙ ap (λ (ls : List QueuedPart). more r ls) rest
 
 same_report : (r x : ReportRow) → Some r ≡ Some x → r ≡ x
 same_report r x e = cc

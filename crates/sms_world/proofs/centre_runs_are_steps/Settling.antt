@@ -32,7 +32,7 @@ use Rattle.sms_world_model.specs.WorldStep.{HasReference, IsSent, Settle, marked
 use Rattle.sms_world.proofs.centres_refine_the_world.ByOctets.{by_octet_is, by_octet_some}
 use Rattle.sms_world.proofs.centres_refine_the_world.Ending.{end_is_reached, ended_refines, rows_map}
 use Rattle.sms_world.proofs.centres_refine_the_world.Allocations.{seen_part}
-use Rattle.sms_world.proofs.centres_refine_the_world.Loads.{none_of}
+use Rattle.sms_world.proofs.centres_refine_the_world.QueuedParts.{none_of}
 use Rattle.sms_world.specs.centres_refine_the_world.CentreRefinement.{StoreRefines}
 use Rattle.sms_world.specs.centres_refine_the_world.RefinesGiven.{given_part}
 use Rattle.sms_world.specs.centres_refine_the_world.RefinesReports.{reports_by}

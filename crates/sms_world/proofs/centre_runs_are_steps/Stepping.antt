@@ -14,7 +14,7 @@ use Rattle.sms_world.proofs.centres_refine_the_world.Ending.{AllReportEnds}
 use Rattle.sms_world.proofs.centres_refine_the_world.Firing.{appended}
 use Rattle.sms_world.proofs.centres_refine_the_world.Offers.{follow_law}
 use Rattle.sms_world.proofs.centres_refine_the_world.Playing.{centre_both, follow_both, offers_follow, store_is_reached, agrees_follow}
-use Rattle.sms_world.specs.centre_runs_are_steps.Stages.{Answers, AreOfFrame, Begins, Reaches, Settles}
+use Rattle.sms_world.specs.centre_runs_are_steps.Stages.{AnswersInEvent, AreOfFrame, Begins, Reaches, Settles}
 
 -- no step at all
 pub none_of_frame : (number : ℕ) (b : World) → AreOfFrame number b [] []
@@ -40,7 +40,7 @@ reads_then number m b Seen w u x told was reads centre tells run s =
     (x ∷ [], told, (record { is_own = inr (u, x, (was.0, was.1, reads, refl)); own_centre = (centre, tt); may_follow = k.0; follows_centre = k.1 }, run, s))
 
 -- the rows come there while nothing is sent
-pub settles_store : (number m : ℕ) (b : World) (e : Store) (d : Draft) (w : World) → CentreRefines b d w → Settles number m b e w → Answers number m b (in_store e d) w
+pub settles_store : (number m : ℕ) (b : World) (e : Store) (d : Draft) (w : World) → CentreRefines b d w → Settles number m b e w → AnswersInEvent number m b (in_store e d) w
 settles_store number m b e d w s (own, follows, (are, run, (refines, bag))) =
     (own, follows, (are, run, store_is_reached b e d w (end w (items m false (own ++ follows))) s refines bag))
 

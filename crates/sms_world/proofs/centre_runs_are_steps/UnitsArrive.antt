@@ -45,7 +45,7 @@ use Rattle.sms_world.proofs.centres_refine_the_world.Entering.{SubmitsAs, entere
 use Rattle.sms_world.proofs.centres_refine_the_world.LinksChange.{due_now_both}
 use Rattle.sms_world.proofs.centres_refine_the_world.Offers.{line_refines, lines_with}
 use Rattle.sms_world.proofs.centres_refine_the_world.Playing.{store_is_reached}
-use Rattle.sms_world.specs.centre_runs_are_steps.Stages.{Answers}
+use Rattle.sms_world.specs.centre_runs_are_steps.Stages.{AnswersInEvent}
 use Rattle.sms_world.proofs.centre_runs_are_steps.Replying.{confirming, plain_ack, refusing, replies}
 use Rattle.sms_world.proofs.centre_runs_are_steps.Stepping.{WasHanded, reads_then}
 
@@ -78,14 +78,14 @@ module _ (h : List ℕ) (r : ℕ) (tag : Holder) (tpdu : List ℕ) (number : ℕ
 
   -- ---- it is refused
 
-  refuses : (refusal : SubmitRefusal) → Answers number m b (refuse h r tag refusal d) w
+  refuses : (refusal : SubmitRefusal) → AnswersInEvent number m b (refuse h r tag refusal d) w
   refuses refusal =
       reads_then number m b (λ v. CentreRefines b (refuse h r tag refusal d) v) w u (Reject u) [] was refl tt tt (came, tt)
       (replies Error r tag (error_down r (cause_of refusal) (Some (refusing_report refusal m))) (refusing r refusal m) b d w s h o awaits)
 
   -- ---- it is taken
 
-  takes : (v : Submission) (e : Option Store) → Asks u v → SubmitsAs v w m e → Answers number m b (submit_accepted h r tag e d) w
+  takes : (v : Submission) (e : Option Store) → Asks u v → SubmitsAs v w m e → AnswersInEvent number m b (submit_accepted h r tag e d) w
   takes v None asks k = refuses Congested
   takes v (Some e) asks (tickets, (can, refines)) =
       let x : World = submitted w m v tickets in
@@ -132,32 +132,32 @@ module _ (h : List ℕ) (r : ℕ) (tag : Holder) (tpdu : List ℕ) (number : ℕ
           cond_both (nat_le id 9999999999) (accept_under id None bodies made d.store) None (λ (e : Option Store). SubmitsAs whole w m e)
           (λ t. under) (λ t. tt)
 
-      made_is_reached : Answers number m b (submit_received h r tag (Ok made) d) w
+      made_is_reached : AnswersInEvent number m b (submit_received h r tag (Ok made) d) w
       made_is_reached =
           cond_both (is_duplicate made d.store) (refuse h r tag Duplicate d)
-          (if is_reference_taken made d.store then refuse h r tag ReferenceTaken d else submit_accepted h r tag (accept made d.store) d) (λ (e : Draft). Answers number m b e w)
+          (if is_reference_taken made d.store then refuse h r tag ReferenceTaken d else submit_accepted h r tag (accept made d.store) d) (λ (e : Draft). AnswersInEvent number m b e w)
           (λ t. refuses Duplicate)
-          (λ t. cond_both (is_reference_taken made d.store) (refuse h r tag ReferenceTaken d) (submit_accepted h r tag (accept made d.store) d) (λ (e : Draft). Answers number m b e w)
+          (λ t. cond_both (is_reference_taken made d.store) (refuse h r tag ReferenceTaken d) (submit_accepted h r tag (accept made d.store) d) (λ (e : Draft). AnswersInEvent number m b e w)
           (λ q. refuses ReferenceTaken)
           (λ q. takes whole (accept made d.store) asked taken))
 
-    submit_is_reached : (y : Result SubmissionRow SubmitRefusal) → from_submit accounts h m x ≡ y → ((z : SubmissionRow) → y ≡ Ok z → IsSubmission z) → Answers number m b (submit_received h r tag y d) w
+    submit_is_reached : (y : Result SubmissionRow SubmitRefusal) → from_submit accounts h m x ≡ y → ((z : SubmissionRow) → y ≡ Ok z → IsSubmission z) → AnswersInEvent number m b (submit_received h r tag y d) w
     submit_is_reached (Err refusal) e gives = refuses refusal
     submit_is_reached (Ok z) e gives =
         let same : made ≡ z = made_of accounts h m x z e in
-        subst (λ (y : SubmissionRow). Answers number m b (submit_received h r tag (Ok y) d) w) same (made_is_reached (subst (λ (y : SubmissionRow). IsSubmission y) (sym same) (gives z refl)))
+        subst (λ (y : SubmissionRow). AnswersInEvent number m b (submit_received h r tag (Ok y) d) w) same (made_is_reached (subst (λ (y : SubmissionRow). IsSubmission y) (sym same) (gives z refl)))
 
-  read_is_reached : (y : Result UpTpdu TpduFault) → tpdu_up_at InData tpdu ≡ y → ((z : SubmissionRow) → from_read accounts h m y ≡ Ok z → IsSubmission z) → Answers number m b (submit_received h r tag (from_read accounts h m y) d) w
+  read_is_reached : (y : Result UpTpdu TpduFault) → tpdu_up_at InData tpdu ≡ y → ((z : SubmissionRow) → from_read accounts h m y ≡ Ok z → IsSubmission z) → AnswersInEvent number m b (submit_received h r tag (from_read accounts h m y) d) w
   read_is_reached (Ok (SubmitTpdu x)) e gives = submit_is_reached x e (from_submit accounts h m x) refl gives
   read_is_reached (Ok (DeliverReport x)) e gives = refuses WrongType
   read_is_reached (Err fault) e gives = refuses (unread fault)
 
-  pub data_law : ((z : SubmissionRow) → from_read accounts h m (tpdu_up_at InData tpdu) ≡ Ok z → IsSubmission z) → Answers number m b (data_received h r tag tpdu d) w
+  pub data_law : ((z : SubmissionRow) → from_read accounts h m (tpdu_up_at InData tpdu) ≡ Ok z → IsSubmission z) → AnswersInEvent number m b (data_received h r tag tpdu d) w
   data_law gives = read_is_reached (tpdu_up_at InData tpdu) refl gives
 
   -- ---- RP-SMMA
 
-  pub memory_law : tpdu ≡ [] → Answers number m b (memory_available h r tag d) w
+  pub memory_law : tpdu ≡ [] → AnswersInEvent number m b (memory_available h r tag d) w
   memory_law none =
       let e : Draft = reply h Ack r tag (ack_down r None) d in
       let y = replies Ack r tag (ack_down r None) (plain_ack r) b d w s h o awaits in

@@ -11,12 +11,12 @@ use Rattle.sms_base.specs.declared.final_state.FinalState.{FinalState}
 use Rattle.sms_base.specs.declared.holder.Holder.{Holder}
 use Rattle.sms_base.specs.declared.holder.Holder.TheVariants.{Part, Report, Entry, Memory}
 use Rattle.sms_centre_rows.specs.messages.Messages.{is_pending, message_at, message_key, part_at, part_key}
-use Rattle.sms_centre_rows.specs.messages.OpenParts.{part_load, part_wait, waits_for}
+use Rattle.sms_centre_rows.specs.messages.OpenParts.{part_queued, part_wait, waits_for}
 use Rattle.sms_centre_rows.specs.declared.messages.message.MessageRow.{MessageRow}
 use Rattle.sms_centre_rows.specs.declared.messages.part.PartRow.{PartRow}
 use Rattle.sms_centre_rows.proofs.reports.AllWaiting.{part_waits_at, report_found, report_waits_at}
 use Rattle.sms_centre_rows.specs.reports.Reports.{is_open_status, is_status, report_of, status_reference}
-use Rattle.sms_centre_rows.specs.reports.Waiting.{report_load, report_wait, reports_to}
+use Rattle.sms_centre_rows.specs.reports.Waiting.{report_queued, report_wait, reports_to}
 use Rattle.sms_centre_rows.specs.declared.reports.report.ReportKind.{ReportKind}
 use Rattle.sms_centre_rows.specs.declared.reports.report.ReportKind.TheVariants.{Status}
 use Rattle.sms_centre_rows.specs.declared.reports.report.ReportRow.{ReportRow}
@@ -27,7 +27,7 @@ use Rattle.sms_tpdu.specs.MoreMessages.{compared}
 use Rattle.sms_centre_rows.proofs.waiting.Mentions.{Fits, below_next_place, cases_number, number_found, put_number, put_number_other, row_fits}
 use Rattle.sms_centre_rows.proofs.waiting.Passing.{passing_later, passing_there}
 use Rattle.sms_centre_rows.proofs.waiting.WaitingSound.{next_is_free, none_holds, not_held}
-use Rattle.sms_centre_rows.specs.waiting.Keys.{handset_key, load_key, reference_key}
+use Rattle.sms_centre_rows.specs.waiting.Keys.{handset_key, queued_key, reference_key}
 use Rattle.sms_centre_rows.specs.waiting.References.{first_passing, following, given_row, handset_at, handset_of, is_free, is_held, is_late, mentioned, or_new_handset, place_after}
 use Rattle.sms_centre_rows.specs.declared.waiting.handset.HandsetRow.{HandsetRow}
 use Rattle.sms_centre_rows.specs.declared.waiting.queued_part.QueuedPart.{QueuedPart}
@@ -43,7 +43,7 @@ use Rattle.sms_world_model.specs.References.{CanGive, IsEarlier, IsFree}
 use Rattle.sms_world_model.specs.Submission.{Submission}
 use Rattle.sms_world_model.specs.World.{Final, Allocation, IsHeld, IsUnanswered, Message, Pending, IsRecorded, State, World, find}
 use Rattle.sms_world.proofs.centres_refine_the_world.ByOctets.{by_octet_is, by_octet_same, by_octet_some}
-use Rattle.sms_world.proofs.centres_refine_the_world.Loads.{load_offered}
+use Rattle.sms_world.proofs.centres_refine_the_world.QueuedParts.{queued_offered}
 use Rattle.sms_world.specs.centres_refine_the_world.CentreRefinement.{StoreRefines}
 use Rattle.sms_world.specs.centres_refine_the_world.RefinesGiven.{RefinesHolders, second_at, seconds_by}
 use Rattle.sms_world.specs.headline.SeenWorld.{IsStateOf, PartSeen, messages_by, part_seen, parts_by}
@@ -122,12 +122,12 @@ module _ (s : Store) (w : World) (held : SoundHeld s) (holders : RefinesHolders 
       ∙ ap (λ (b : Bool). not b && (is_pending m && bytes_eq m.handset a)) undone
       ∙ ap (λ (b : Bool). b && bytes_eq m.handset a) pending.0
       ∙ (bytes_eq-Decides m.handset a).1 handset in
-      let l : QueuedPart = part_load row (priorities_in s) in
-      let found : row_at load_key (pair_key id n) (waiting_in a s) ≡ Some l =
+      let l : QueuedPart = part_queued row (priorities_in s) in
+      let found : row_at queued_key (pair_key id n) (waiting_in a s) ≡ Some l =
       part_waits_at a (messages_in s) (priorities_in s) (parts_in s) (reports_in s) id n held.parts number small
       ∙ ap (λ (y : Option PartRow). part_wait a (messages_in s) (priorities_in s) y) q.1.0
       ∙ cond-true (waits_for a row (message_at row.id (messages_in s))) (Some l) None waits in
-      (l, (found_among load_key (pair_key id n) l (waiting_in a s) found, ap (λ (y : PartSeen). y.reference) (sym q.1.1) ∙ ap (λ (y : Allocation). y.reference) (sym x.2.2)))
+      (l, (found_among queued_key (pair_key id n) l (waiting_in a s) found, ap (λ (y : PartSeen). y.reference) (sym q.1.1) ∙ ap (λ (y : Allocation). y.reference) (sym x.2.2)))
 
   report_held : (a : List ℕ) (g : Allocation) (id : ℕ) → Among g w.down → g.holder ≡ Report id → Among id w.reports → g.handset ≡ a → (l : QueuedPart) × (Among l (waiting_in a s) × (l.reference ≡ g.reference))
   report_held a g id i e unanswered to =
@@ -146,12 +146,12 @@ module _ (s : Store) (w : World) (held : SoundHeld s) (holders : RefinesHolders 
       let handset : m.source.digits ≡ a = sym (ap (λ (y : Allocation). y.handset) x.4.3) ∙ to in
       let waits : reports_to a row (message_at row.id (messages_in s)) ≡ true =
       ap (λ (y : Option MessageRow). reports_to a row y) there ∙ ap (λ (b : Bool). b && bytes_eq m.source.digits a) going ∙ (bytes_eq-Decides m.source.digits a).1 handset in
-      let l : QueuedPart = report_load row in
-      let found : row_at load_key (pair_key id 0) (waiting_in a s) ≡ Some l =
+      let l : QueuedPart = report_queued row in
+      let found : row_at queued_key (pair_key id 0) (waiting_in a s) ≡ Some l =
       report_waits_at a (messages_in s) (priorities_in s) (parts_in s) (reports_in s) id held.parts held.alone
       ∙ ap (λ (y : Option ReportRow). report_wait a (messages_in s) y) q.1.0
       ∙ cond-true (reports_to a row (message_at row.id (messages_in s))) (Some l) None waits in
-      (l, (found_among load_key (pair_key id 0) l (waiting_in a s) found, ap status_reference kind ∙ ap (λ (y : Allocation). y.reference) (sym x.4.3)))
+      (l, (found_among queued_key (pair_key id 0) l (waiting_in a s) found, ap status_reference kind ∙ ap (λ (y : Allocation). y.reference) (sym x.4.3)))
 
   held_waits : (a : List ℕ) (g : Allocation) → IsHeld w g → g.handset ≡ a → (l : QueuedPart) × (Among l (waiting_in a s) × (l.reference ≡ g.reference))
   held_waits a g (given, unanswered) to = by g.holder refl unanswered
@@ -228,11 +228,11 @@ none_passes passes n r small few none = ⊎_elim
     (λ (t : passes r ≡ false). t)
     (cases_Bool (passes r))
 
-held_load : (r : ℕ) (ls : List QueuedPart) → is_held r ls ≡ true → (l : QueuedPart) × (Among l ls × (l.reference ≡ r))
-held_load r [] e = absurd cc
-held_load r (l ∷ ls) e = ⊎_elim
+held_queued : (r : ℕ) (ls : List QueuedPart) → is_held r ls ≡ true → (l : QueuedPart) × (Among l ls × (l.reference ≡ r))
+held_queued r [] e = absurd cc
+held_queued r (l ∷ ls) e = ⊎_elim
     (λ (t : (l.reference == r) ≡ true). (l, (inl refl, eqb-true l.reference r t)))
-    (λ (t : is_held r ls ≡ true). let x = held_load r ls t in (x.0, (inr x.1.0, x.1.1)))
+    (λ (t : is_held r ls ≡ true). let x = held_queued r ls t in (x.0, (inr x.1.0, x.1.1)))
     (or_cases (l.reference == r) (is_held r ls) e)
 
 earlier_all : (gs : List Allocation) (a : List ℕ) (r now : ℕ) (g : Allocation) → IsEarlier gs a r now → Among g gs → g.handset ≡ a → g.reference ≡ r → g.moment < now
@@ -259,8 +259,8 @@ never_given s held q x e =
 module _ (s : Store) (w : World) (sound : SoundStore s) (refines : StoreRefines s w) where
   held_not_free : (number : List ℕ) (r : ℕ) → is_held r (waiting_in number s) ≡ true → IsFree w number r → ⊥
   held_not_free number r e free =
-      let x = held_load r (waiting_in number s) e in
-      let o = load_offered number x.0 s w sound refines x.1.0 in
+      let x = held_queued r (waiting_in number s) e in
+      let o = queued_offered number x.0 s w sound refines x.1.0 in
       free (record { handset = number; reference = x.0.reference; holder = holder_of x.0; moment = o.moment; tpdu = compared (tpdu_of x.0 s) }) (o.given, o.unanswered) refl x.1.1
 
   late_not_earlier : (number : List ℕ) (r : ℕ) (o : Option HandsetRow) → handset_at number (handsets_in s) ≡ o → r < 256 → (x : Option ReferenceRow)

@@ -19,7 +19,7 @@ use Rattle.sms_centre_rows.proofs.reports.AllWaiting.{report_found}
 use Rattle.sms_centre_rows.proofs.reports.ReportRows.{new_report, new_report_other}
 use Rattle.sms_centre_rows.specs.reports.Reports.{is_status, next_place, report_key, report_of}
 use Rattle.sms_centre_rows.specs.reports.SoundReports.{IsStatus}
-use Rattle.sms_centre_rows.specs.reports.Waiting.{IsNew}
+use Rattle.sms_centre_rows.specs.reports.Waiting.{IsReportApart}
 use Rattle.sms_centre_rows.specs.declared.reports.report.ReportKind.{ReportKind}
 use Rattle.sms_centre_rows.specs.declared.reports.report.ReportKind.TheVariants.{Receipt as ReceiptKind, Status as StatusKind, Unsent}
 use Rattle.sms_centre_rows.specs.declared.reports.report.ReportRow.{ReportRow}
@@ -50,7 +50,7 @@ use Rattle.sms_world_model.specs.ScriptRun.{items}
 use Rattle.sms_world_model.specs.Submission.{IsWished, Submission, Wish, IsReportOf, status_of}
 use Rattle.sms_world_model.specs.World.{Final, Allocation, Message, Pending, ReceiptOf, IsRecorded, State, World, changed}
 use Rattle.sms_world.proofs.centres_refine_the_world.Allocations.{can_give, cannot_give, preserved_given, seen_report}
-use Rattle.sms_world.proofs.centres_refine_the_world.Loads.{none_of}
+use Rattle.sms_world.proofs.centres_refine_the_world.QueuedParts.{none_of}
 use Rattle.sms_world.proofs.centres_refine_the_world.References.{states_of}
 use Rattle.sms_world.specs.centres_refine_the_world.CentreRefinement.{StoreRefines}
 use Rattle.sms_world.specs.centres_refine_the_world.RefinesGiven.{RefinesHolders, given_part, given_report, seconds_by}
@@ -247,7 +247,7 @@ module _ (f : FinalState) (n : ℕ) (m : MessageRow) (s : Store) (w : World) (ca
     abbrev more : List ReportRow
     more = put report_key (row_made m.id kind closed s) (reports_in s)
 
-    is_new : IsNew rs made
+    is_new : IsReportApart rs made
     is_new = next_is_new made rs can.consistent.held.report_keys can.none refl
 
     own_report : (id : ℕ) → m.id ≡ id → reports_by more id ≡ Some (record { kind = kind; is_done = closed })

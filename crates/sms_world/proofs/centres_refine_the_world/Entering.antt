@@ -36,7 +36,7 @@ use Rattle.sms_world_model.specs.LastAllocations.{RefinesAllocations}
 use Rattle.sms_world_model.specs.References.{CanGive, CanGiveParts, IsForPart, Ticket, given_parts, part_allocation}
 use Rattle.sms_world_model.specs.Submission.{HasPart, Submission, IsDeliverOf}
 use Rattle.sms_world_model.specs.World.{Allocation, Message, Pending, IsRecorded, State, World, find, give}
-use Rattle.sms_world_model.specs.WorldStep.{CanSubmit, IsNew, submitted}
+use Rattle.sms_world_model.specs.WorldStep.{CanSubmit, IsUnusedId, submitted}
 use Rattle.sms_world.proofs.centres_refine_the_world.ByOctets.{by_octet_is, by_octet_same, by_octet_some}
 use Rattle.sms_world.proofs.centres_refine_the_world.Allocations.{RefinesStates, can_give, preserved_given, seen_part, seen_report}
 use Rattle.std.proofs.lemmas.Option.{slice_get_within}
@@ -356,7 +356,7 @@ module _ (id submitted : ℕ) (split : Option ℕ) (u : SubmissionRow) (header :
 -- ---- a message begins
 
 -- no message of the world has the number
-new_in : (t : List Message) (id : ℕ) → ((i : ℕ) (v : Submission) (st : State) → IsRecorded t i v st → i ≡ id → ⊥) → IsNew t id
+new_in : (t : List Message) (id : ℕ) → ((i : ℕ) (v : Submission) (st : State) → IsRecorded t i v st → i ≡ id → ⊥) → IsUnusedId t id
 new_in [] id f = tt
 new_in (x ∷ t) id f =
     let head : x.submission.id ≡ id → ⊥ = λ q. f x.submission.id x.submission x.state (entered_here t x.submission x.state) q in (
@@ -432,7 +432,7 @@ module _ (id : ℕ) (split : Option ℕ) (u : SubmissionRow) (header : Bool) (bo
     all = λ j first last. absurd (let l : ⊥ = omega (arith, first, last) in l);
   }
 
-  is_new : IsNew w.table id
+  is_new : IsUnusedId w.table id
   is_new = new_in w.table id (λ i v st k q. let x = refines.table.only i v st k in message_apart i x.0 x.1 (sym q))
 
 -- the world takes that submission, and the rows see it
@@ -460,7 +460,7 @@ under_submits id split u header bodies fit s w sound refines new some few each =
     (λ j. ap (λ (n : ℕ). slice_get (data_of bodies) n) (let q : 0 + j ≡ j = omega arith in q)))
     (is_new id split u header bodies fit s w sound refines new)
   where
-    by : (o : Option Store) → AllGiven id s.moment split u header bodies fit 1 bodies (entered_world id split u header bodies fit s w sound refines new) s.moment o → IsNew w.table id → SubmitsAs (entered_as id u header bodies) w s.moment o
+    by : (o : Option Store) → AllGiven id s.moment split u header bodies fit 1 bodies (entered_world id split u header bodies fit s w sound refines new) s.moment o → IsUnusedId w.table id → SubmitsAs (entered_as id u header bodies) w s.moment o
     by None given new = tt
     by (Some e) (ts, (long, can, moment, after)) fresh =
         let whole_one : Submission = entered_as id u header bodies in

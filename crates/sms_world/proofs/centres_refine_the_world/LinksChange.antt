@@ -22,7 +22,7 @@ use Rattle.sms_centre_spec.proofs.SoundStores.{SoundStore}
 use Rattle.sms_centre_spec.proofs.Steady.{part_own, report_own}
 use Rattle.sms_centre_spec.specs.CentreEvent.{lost, lower, raise}
 use Rattle.sms_centre_spec.specs.Draft.{Draft, Store, messages_in, on_links, parts_in, reports_in, waiting_in, with_part_at, with_report_at}
-use Rattle.sms_centre_spec.specs.Receiving.{all_due, due_now, load_due, part_due, report_due}
+use Rattle.sms_centre_spec.specs.Receiving.{all_due, due_now, queued_due, part_due, report_due}
 use Rattle.sms_centre_spec.specs.Transfers.{ended_with, holder_ended, is_open, part_ended_at, part_ended_of, report_ended_at}
 use Rattle.sms_centre_spec.specs.declared.verdict.Verdict.{Verdict}
 use Rattle.sms_centre_spec.specs.declared.verdict.Verdict.TheVariants.{Again, Late}
@@ -54,14 +54,14 @@ module _ (w : World) where
   report_due_both id None s k there = k
   report_due_both id (Some r) s k there = report_both r (due_at s.moment r.progress) s k (report_own id r s there) refl
 
-  load_due_both : (l : QueuedPart) (s : Store) → Both w s → Both w (load_due l s)
-  load_due_both l s k =
+  queued_due_both : (l : QueuedPart) (s : Store) → Both w s → Both w (queued_due l s)
+  queued_due_both l s k =
       cond_both (l.number == 0) (report_due (report_of l.id (reports_in s)) s) (part_due (part_at l.id l.number (parts_in s)) s) (Both w)
       (λ t. report_due_both l.id (report_of l.id (reports_in s)) s k refl) (λ t. part_due_both (pair_key l.id l.number) (part_at l.id l.number (parts_in s)) s k refl)
 
   pub all_due_both : (ls : List QueuedPart) (s : Store) → Both w s → Both w (all_due ls s)
   all_due_both [] s k = k
-  all_due_both (l ∷ ls) s k = all_due_both ls (load_due l s) (load_due_both l s k)
+  all_due_both (l ∷ ls) s k = all_due_both ls (queued_due l s) (queued_due_both l s k)
 
   pub due_now_both : (handset : List ℕ) (s : Store) → Both w s → Both w (due_now handset s)
   due_now_both handset s k = all_due_both (waiting_in handset s) s k

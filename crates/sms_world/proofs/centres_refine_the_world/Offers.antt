@@ -40,8 +40,8 @@ use Rattle.sms_centre_spec.specs.Draft.{Draft, handsets_in, waiting_in}
 use Rattle.sms_centre_spec.specs.CentreEvent.{follow}
 use Rattle.sms_centre_spec.specs.Sessions.{send}
 use Rattle.sms_world.proofs.frames_pass_between_sides.RunsOn.{end_both, run_both}
-use Rattle.sms_centre_rows.specs.waiting.Keys.{load_key}
-use Rattle.sms_centre_spec.specs.Offering.{holder_of, is_made, offer_all, offer_among, offer_load, offer_on, offer_to, read_of, tpdu_of, unit_of}
+use Rattle.sms_centre_rows.specs.waiting.Keys.{queued_key}
+use Rattle.sms_centre_spec.specs.Offering.{holder_of, is_made, offer_all, offer_among, offer_queued, offer_on, offer_to, read_of, tpdu_of, unit_of}
 use Rattle.sms_world.proofs.frames_pass_between_sides.Linking.{begin_is, data_framed, next_below}
 use Rattle.sms_world.specs.frames_pass_between_sides.Between.{CarriesDown, IsOfKindDown}
 use Rattle.sms_world.specs.headline.SeenFrames.{frame_tpdu_down, unit_tpdu, sent_down}
@@ -52,7 +52,7 @@ use Rattle.sms_world.specs.centres_refine_the_world.CentreLaws.{AllOffer}
 use Rattle.sms_world.specs.centres_refine_the_world.CentreRefinement.{CentreRefines}
 use Rattle.sms_world.specs.centres_refine_the_world.FramesOut.{AreWholeDown, stacked_down}
 use Rattle.sms_world.specs.centres_refine_the_world.RefinesLines.{RefinesLine, RefinesLines}
-use Rattle.sms_world.proofs.centres_refine_the_world.Loads.{IsOffered, allocation_at, load_offered}
+use Rattle.sms_world.proofs.centres_refine_the_world.QueuedParts.{IsOffered, allocation_at, queued_offered}
 use Rattle.sms_world.proofs.centres_refine_the_world.Staying.{line_still}
 
 -- ---- octets
@@ -189,19 +189,19 @@ module _ (m : ℕ) (b : World) (d : Draft) (w : World) (sound : SoundStore d.sto
           ),
         )
 
-  load_law : (l : QueuedPart) (more : Bool) → is_busy line.link.links ≡ false → IsOffered line.handset l.reference w (holder_of l) (tpdu_of l d.store)
+  queued_law : (l : QueuedPart) (more : Bool) → is_busy line.link.links ≡ false → IsOffered line.handset l.reference w (holder_of l) (tpdu_of l d.store)
       → Offers m b (record d { links = turn_line line (begun d.store.moment l.reference (holder_of l) (unit_of l more d.store) line.link) (read_of l d.store d.links) }) w
-  load_law l more idle i =
-      cond_both (is_made l d.store) d.links (read_for (load_key l) d.links)
+  queued_law l more idle i =
+      cond_both (is_made l d.store) d.links (read_for (queued_key l) d.links)
       (λ (a : Links). Offers m b (record d { links = turn_line line (begun d.store.moment l.reference (holder_of l) (unit_of l more d.store) line.link) a }) w)
-      (λ t. offered l more d.links.read idle i) (λ t. offered l more (d.links.read ++ load_key l ∷ []) idle i)
+      (λ t. offered l more d.links.read idle i) (λ t. offered l more (d.links.read ++ queued_key l ∷ []) idle i)
 
   next_law : is_busy line.link.links ≡ false → (o : Option QueuedPart) → next d.store.moment (waiting_in line.handset d.store) ≡ o
-      → Offers m b (record d { links = offer_load line (waiting_in line.handset d.store) o d.store d.links }) w
+      → Offers m b (record d { links = offer_queued line (waiting_in line.handset d.store) o d.store d.links }) w
   next_law idle None e = ([], (tt, tt, s))
   next_law idle (Some l) e =
-      load_law l (waits_beside d.store.moment l (waiting_in line.handset d.store)) idle
-      (load_offered line.handset l d.store w sound s.rows (next_waits d.store.moment l (waiting_in line.handset d.store) e))
+      queued_law l (waits_beside d.store.moment l (waiting_in line.handset d.store)) idle
+      (queued_offered line.handset l d.store w sound s.rows (next_waits d.store.moment l (waiting_in line.handset d.store) e))
 
   is_idle : is_ready line ≡ true → is_busy line.link.links ≡ false
   is_idle t = not_false (is_busy line.link.links) (and_parts (not line.is_full) (not (is_busy line.link.links)) (and_parts line.is_up (not line.is_full && not (is_busy line.link.links)) t).1).1

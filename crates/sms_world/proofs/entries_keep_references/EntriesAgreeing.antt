@@ -64,8 +64,8 @@ use Rattle.sms_handset_rows.specs.outbox.References.{held_by_entries, held_messa
 use Rattle.sms_handset_rows.specs.outbox.Reports.{is_reported, reported}
 use Rattle.sms_handset_rows.specs.outbox.Settling.{is_sending, lost, most_tries, put_back, retry_delay, settled}
 use Rattle.sms_handset_rows.specs.outbox.Submits.{written_entry}
-use Rattle.sms_handset_rows.specs.declared.outbox.answers.Verdict.{Verdict}
-use Rattle.sms_handset_rows.specs.declared.outbox.answers.Verdict.TheVariants.{Acknowledged, Duplicate, Lost, Refused, Temporary}
+use Rattle.sms_handset_rows.specs.declared.outbox.answers.TransferEnd.{TransferEnd}
+use Rattle.sms_handset_rows.specs.declared.outbox.answers.TransferEnd.TheVariants.{Acknowledged, Duplicate, Lost, Refused, Temporary}
 use Rattle.sms_handset_rows.specs.declared.outbox.notice.Notice.{Notice}
 use Rattle.sms_handset_rows.specs.declared.outbox.out_entry.EntryState.{EntryState}
 use Rattle.sms_handset_rows.specs.declared.outbox.out_entry.EntryState.TheVariants.{Failed, Queued, Sending, Sent, Unsure}
@@ -78,7 +78,8 @@ use Rattle.sms_handset_draft.specs.Draft.{Core, Draft, begin, draft_of, link_of,
 use Rattle.sms_handset_draft.specs.FramesAndTicks.{at_moment, frame_heard, timed_out, timers_fired, went_up}
 use Rattle.sms_handset_draft.specs.MemoryAvailable.{first_notice, flag, freed, has_room, most_notices, notice_concluded, notice_ended, notice_failed, put_notice, remove_notice, send_notice, want_notice}
 use Rattle.sms_handset_draft.specs.Outbox.{entry_concluded, follow, holder_concluded, is_notice_next, lapse, lapse_rows, offer, offer_after, offer_entry, offer_message, offer_wanted}
-use Rattle.sms_handset_draft.specs.Receiving.{accept, acknowledge, data_received, deliver_received, fault_cause, member_received, new_part_received, no_room, note, part_received, reference_octet, refuse, reject, single_received, tpdu_received, unit_received}
+use Rattle.sms_handset_draft.specs.Receiving.{accept, acknowledge, data_received, deliver_received, member_received, new_part_received, no_room, note, part_received, refuse, reject, single_received, tpdu_received, unit_received}
+use Rattle.sms_relay.specs.Rejecting.{fault_cause, reference_octet}
 use Rattle.sms_handset_draft.specs.Storing.{completed, drop_all, ended, free_all, keep, marked, store_part, store_single}
 use Rattle.sms_handset.specs.HandsetEvent.{acted, frame_received, tag_of, ticked}
 use Rattle.sms_handset.specs.OwnersActs.{count_split, delete, delete_in, delete_out, discard, discard_at, discard_group, discard_in, discard_members, fits_outbox, write, write_part, write_parts, write_split, write_to, written}
@@ -132,7 +133,7 @@ put_back_is : (moment : ℕ) (o : OutEntry) → IsEntry o (put_back moment o)
 put_back_is moment o =
     cond_both (nat_le most_tries o.tries) (record o { state = Failed }) (record o { state = Queued; due = Some (later moment retry_delay) }) (λ (z : OutEntry). IsEntry o z) (λ t. (refl, refl)) (λ t. (refl, refl))
 
-settled_is : (moment : ℕ) (v : Verdict) (o : OutEntry) → IsEntry o (settled moment v o)
+settled_is : (moment : ℕ) (v : TransferEnd) (o : OutEntry) → IsEntry o (settled moment v o)
 settled_is moment Acknowledged o = (refl, refl)
 settled_is moment Temporary o = put_back_is moment o
 settled_is moment Duplicate o = (refl, refl)

@@ -10,8 +10,8 @@ use Rattle.sms_base.specs.declared.holder.Holder.TheVariants.{Part as PartHolder
 use Rattle.sms_control.specs.Timers.{later}
 use Rattle.sms_relay.specs.declared.cause.RpCause.{RpCause}
 use Rattle.sms_relay.specs.declared.frame.Rp.TheVariants.{AckUnit, ErrorUnit}
-use Rattle.sms_handset_rows.specs.declared.outbox.answers.Verdict.{Verdict}
-use Rattle.sms_handset_rows.specs.declared.outbox.answers.Verdict.TheVariants.{Acknowledged as Is_acknowledged, Temporary, Duplicate, Refused as Is_refused, Lost}
+use Rattle.sms_handset_rows.specs.declared.outbox.answers.TransferEnd.{TransferEnd}
+use Rattle.sms_handset_rows.specs.declared.outbox.answers.TransferEnd.TheVariants.{Acknowledged as Is_acknowledged, Temporary, Duplicate, Refused as Is_refused, Lost}
 use Rattle.sms_handset_rows.specs.declared.outbox.notice.Notice.{Notice}
 use Rattle.sms_handset_rows.specs.declared.outbox.out_entry.EntryState.{EntryState as State_of}
 use Rattle.sms_handset_rows.specs.declared.outbox.out_entry.EntryState.TheVariants.{Queued, Sending, Sent as Is_sent, Failed, Unsure}
@@ -122,7 +122,7 @@ module _ (m : ℕ) (h : List ℕ) (number r : ℕ) (tag : Holder) (octets : List
         ),
       )
 
-  verdict_law : (v : Verdict) → ¬ (v ≡ Is_acknowledged) → Among (Carried (error_of h number r octets tag)) w.bag → r ≡ o.reference → Ends m (error_of h number r octets tag) h b (put_out (settled d.moment v o) d) w
+  verdict_law : (v : TransferEnd) → ¬ (v ≡ Is_acknowledged) → Among (Carried (error_of h number r octets tag)) w.bag → r ≡ o.reference → Ends m (error_of h number r octets tag) h b (put_out (settled d.moment v o) d) w
   verdict_law Is_acknowledged no_ack sent e = absurd (no_ack refl)
   verdict_law Temporary no_ack sent e =
       cond_both (nat_le most_tries o.tries) (record o { state = Failed }) (record o { state = Queued; due = Some (later d.moment retry_delay) }) (λ (z : OutRow). Ends m (error_of h number r octets tag) h b (put_out z d) w)
@@ -134,9 +134,9 @@ module _ (m : ℕ) (h : List ℕ) (number r : ℕ) (tag : Holder) (octets : List
 
   not_acked : (cause : RpCause) (tpdu : Option (List ℕ)) → ¬ (error_verdict cause tpdu ≡ Is_acknowledged)
   not_acked cause tpdu =
-      cond_both (is_temporary cause) Temporary (cond (is_duplicate tpdu) Duplicate Is_refused) (λ (v : Verdict). ¬ (v ≡ Is_acknowledged))
+      cond_both (is_temporary cause) Temporary (cond (is_duplicate tpdu) Duplicate Is_refused) (λ (v : TransferEnd). ¬ (v ≡ Is_acknowledged))
       (λ t q. absurd cc)
-      (λ t. cond_both (is_duplicate tpdu) Duplicate Is_refused (λ (v : Verdict). ¬ (v ≡ Is_acknowledged)) (λ f q. absurd cc) (λ f q. absurd cc))
+      (λ t. cond_both (is_duplicate tpdu) Duplicate Is_refused (λ (v : TransferEnd). ¬ (v ≡ Is_acknowledged)) (λ f q. absurd cc) (λ f q. absurd cc))
 
   error_settles : Among (Carried (error_of h number r octets tag)) w.bag → (cause : RpCause) (tpdu : Option (List ℕ))
       → Ends m (error_of h number r octets tag) h b (put_out (settled d.moment (verdict_of (ended_by reference (Ok (ErrorUnit r cause tpdu)))) o) d) w

@@ -7,7 +7,7 @@ use Rattle.sms_handset_draft.specs.Draft.{Core, Draft, core_of, draft_of, link_o
 use Rattle.sms_link.specs.LinkTurn.{Turn, taken}
 use Rattle.sms_handset.specs.HandsetEvent.{frame_received}
 use Rattle.sms_handset_draft.specs.FramesAndTicks.{frame_heard}
-use Rattle.sms_handset.specs.Planning.{Rests, adopted}
+use Rattle.sms_handset.specs.Planning.{IsRevised, adopted}
 use Rattle.sms_handset_draft.specs.Outcome.{Outcome, outcome_of}
 use Rattle.sms_handset.specs.SoundCore.{IsSoundCore}
 use Rattle.sms_handset.proofs.SoundDrafts.{SoundAt, sound_from}
@@ -41,10 +41,10 @@ seen_next h b d w s = record { frames = refl; whole = tt; links = s.links; last 
 -- ---- what a plan's adopting leads to
 
 -- adopting what came of an event leads to the event's handset
-adopted_is : (c : Core) (d : Draft) → Rests c.rows d → adopted (outcome_of d) c ≡ core_of d
+adopted_is : (c : Core) (d : Draft) → IsRevised c.rows d → adopted (outcome_of d) c ≡ core_of d
 adopted_is c d q = ap (λ (z : Rows). record (core_of d) { rows = z }) (sym q)
 
 -- the handset that has adopted sees the world that the event's steps led to
-pub adopted_seen : (h : List ℕ) (b : World) (o : Outcome) (c : Core) (d : Draft) (w : World) → o ≡ outcome_of d → Rests c.rows d → Refines h b d w → Refines h w (draft_of (adopted o c)) w
+pub adopted_seen : (h : List ℕ) (b : World) (o : Outcome) (c : Core) (d : Draft) (w : World) → o ≡ outcome_of d → IsRevised c.rows d → Refines h b d w → Refines h w (draft_of (adopted o c)) w
 adopted_seen h b o c d w e q s =
     subst (λ (z : Core). Refines h w (draft_of z) w) (sym (ap (λ (z : Outcome). adopted z c) e ∙ adopted_is c d q)) (seen_next h b d w s)

@@ -7,7 +7,7 @@ use Rattle.sms_handset.specs.declared.event.HandsetEvent.{HandsetEvent}
 use Rattle.sms_handset.specs.SoundCore.{IsSoundCore}
 use Rattle.sms_world.specs.frames_pass_between_sides.FramesDown.{IsHanded}
 use Rattle.sms_handset.specs.declared.event.HandsetEvent.TheVariants.{Frame, Tick, Write, Delete, Discard}
-use Rattle.sms_handset.specs.Planning.{OfFrame, PlanOf, Plans, Rests, RestsIfDone}
+use Rattle.sms_handset.specs.Planning.{OfFrame, PlanOf, Plans, IsRevised, IsRevisedIfDone}
 use Rattle.sms_handset_draft.specs.Outcome.{Outcome, outcome_of}
 use Rattle.sms_handset.proofs.Resting.{delete_rests, discard_rests, frame_rests, tick_rests, write_rests}
 use Rattle.sms_world_model.specs.ScriptRun.{items, Event, Handed, Removed, Tick_handset, Wrote}
@@ -26,12 +26,12 @@ use Rattle.sms_world.proofs.handset_runs_are_steps.WriteEvents.{write_event}
 
 -- the plan has what came of a draft, to which the event leads
 abbrev pub IsDrafted : ℕ → Event → List ℕ → HandsetOf → PlanOf → World → Type 0
-IsDrafted m event h s plan w = (d : Draft) × ((plan.outcome ≡ outcome_of d) × Rests s.core.rows d × Happens m event h w d w)
+IsDrafted m event h s plan w = (d : Draft) × ((plan.outcome ≡ outcome_of d) × IsRevised s.core.rows d × Happens m event h w d w)
 
 drafted : (m : ℕ) (event : Event) (h : List ℕ) (s : HandsetOf) (plan : PlanOf) (w : World) (wanted : Result Draft Refusal) → Plans (Ok plan) s wanted
-    → IfDone (λ (z : Draft). Happens m event h w z w) wanted → RestsIfDone s.core.rows wanted → IsDrafted m event h s plan w
+    → IfDone (λ (z : Draft). Happens m event h w z w) wanted → IsRevisedIfDone s.core.rows wanted → IsDrafted m event h s plan w
 drafted m event h s plan w wanted (d, (e, p)) happens rests =
-    (d, (p.outcome, subst (λ (r : Result Draft Refusal). RestsIfDone s.core.rows r) e rests, subst (λ (r : Result Draft Refusal). IfDone (λ (z : Draft). Happens m event h w z w) r) e happens))
+    (d, (p.outcome, subst (λ (r : Result Draft Refusal). IsRevisedIfDone s.core.rows r) e rests, subst (λ (r : Result Draft Refusal). IfDone (λ (z : Draft). Happens m event h w z w) r) e happens))
 
 leads : (m : ℕ) (event : Event) (h : List ℕ) (s : HandsetOf) (plan : PlanOf) (w : World) → IsDrafted m event h s plan w → LeadsOn m event h s plan w
 leads m event h s plan w (d, (o, q, y)) =

@@ -18,7 +18,7 @@ use Rattle.sms_link.specs.LinkTurn.{Turn, fired, taken}
 use Rattle.sms_handset_draft.specs.Draft.{Core, Draft, core_of, draft_of, link_of, recovered, with_turn}
 use Rattle.sms_handset_draft.specs.FirstRows.{first_rows}
 use Rattle.sms_handset_draft.specs.FramesAndTicks.{at_moment, frame_heard, timers_fired}
-use Rattle.sms_handset_draft.specs.Receiving.{reference_octet}
+use Rattle.sms_relay.specs.Rejecting.{reference_octet}
 use Rattle.sms_handset.specs.HandsetEvent.{acted, frame_received, tag_of, ticked}
 use Rattle.sms_handset.specs.OwnersActs.{delete, discard, write}
 use Rattle.sms_handset.specs.declared.event.HandsetEvent.{HandsetEvent}

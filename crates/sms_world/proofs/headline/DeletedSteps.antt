@@ -6,7 +6,7 @@ use Rattle.sms_base.specs.Among.{Among}
 use Rattle.sms_base.specs.declared.final_state.FinalState.TheVariants.{Deleted, Delivered, Expired, Undeliverable}
 use Rattle.sms_script.specs.declared.event.Act.{Act}
 use Rattle.sms_script.specs.declared.event.Act.TheVariants.{Cancel, Delete as DeleteAct, Deliver, Discard, Query, Submit as SubmitAct, Tick, Write as WriteAct}
-use Rattle.sms_script.specs.declared.event.Side.TheVariants.{Centre, Handset}
+use Rattle.sms_script.specs.declared.event.EventSide.TheVariants.{Centre, Handset}
 use Rattle.sms_script.specs.declared.event.StopPoint.TheVariants.{After as StopAfter, Before as StopBefore}
 use Rattle.sms_script.specs.declared.event.WorldEvent.{WorldEvent}
 use Rattle.sms_script.specs.declared.event.WorldEvent.TheVariants.{Restart, Stopped, Whole as WholeAct}

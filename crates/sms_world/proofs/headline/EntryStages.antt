@@ -67,8 +67,8 @@ use Rattle.sms_handset_rows.specs.outbox.References.{held_message_references, he
 use Rattle.sms_handset_rows.specs.outbox.Reports.{is_reported, reported}
 use Rattle.sms_handset_rows.specs.outbox.Settling.{is_sending, lost, most_tries, put_back, retry_delay, settled}
 use Rattle.sms_handset_rows.specs.outbox.Submits.{submit_for, submit_octets, written_entry}
-use Rattle.sms_handset_rows.specs.declared.outbox.answers.Verdict.{Verdict}
-use Rattle.sms_handset_rows.specs.declared.outbox.answers.Verdict.TheVariants.{Acknowledged, Duplicate, Lost, Refused, Temporary}
+use Rattle.sms_handset_rows.specs.declared.outbox.answers.TransferEnd.{TransferEnd}
+use Rattle.sms_handset_rows.specs.declared.outbox.answers.TransferEnd.TheVariants.{Acknowledged, Duplicate, Lost, Refused, Temporary}
 use Rattle.sms_handset_rows.specs.declared.outbox.notice.Notice.{Notice}
 use Rattle.sms_handset_rows.specs.declared.outbox.out_entry.EntryState.TheVariants.{Failed, Queued, Sending, Unsure}
 use Rattle.sms_handset_rows.specs.declared.outbox.out_entry.OutEntry.{OutEntry}
@@ -77,7 +77,8 @@ use Rattle.sms_handset_draft.specs.Draft.{Core, Draft, begin, draft_of, link_of,
 use Rattle.sms_handset_draft.specs.FramesAndTicks.{at_moment, frame_heard, timed_out, timers_fired, went_up}
 use Rattle.sms_handset_draft.specs.MemoryAvailable.{first_notice, flag, freed, has_room, notice_concluded, notice_ended, notice_failed, put_notice, remove_notice, send_notice, want_notice}
 use Rattle.sms_handset_draft.specs.Outbox.{entry_concluded, follow, holder_concluded, is_notice_next, lapse, lapse_rows, offer, offer_after, offer_entry, offer_message, offer_wanted}
-use Rattle.sms_handset_draft.specs.Receiving.{accept, acknowledge, data_received, deliver_received, fault_cause, member_received, new_part_received, no_room, note, part_received, reference_octet, refuse, reject, single_received, tpdu_received, unit_received}
+use Rattle.sms_handset_draft.specs.Receiving.{accept, acknowledge, data_received, deliver_received, member_received, new_part_received, no_room, note, part_received, refuse, reject, single_received, tpdu_received, unit_received}
+use Rattle.sms_relay.specs.Rejecting.{fault_cause, reference_octet}
 use Rattle.sms_handset_draft.specs.Storing.{completed, drop_all, ended, free_all, keep, marked, store_part, store_single}
 use Rattle.sms_handset.specs.HandsetEvent.{acted, tag_of}
 use Rattle.sms_handset.specs.OwnersActs.{count_split, delete, delete_in, delete_out, discard, discard_at, discard_group, discard_in, discard_members, fits_outbox, write, write_part, write_parts, write_split, write_to, written}
@@ -317,7 +318,7 @@ module _ (Known : ℕ → List ℕ → Type 0) (again : (n : ℕ) (t : List ℕ)
       cond_both (nat_le most_tries o.tries) (record o { state = Failed }) (record o { state = Queued; due = Some (later moment retry_delay) }) (λ (z : OutEntry). IsKnownEntry z)
       (λ t. entry_more o (record o { state = Failed }) refl refl e) (λ t. entry_more o (record o { state = Queued; due = Some (later moment retry_delay) }) refl refl e)
 
-  settled_known : (moment : ℕ) (v : Verdict) (o : OutEntry) → IsKnownEntry o → IsKnownEntry (settled moment v o)
+  settled_known : (moment : ℕ) (v : TransferEnd) (o : OutEntry) → IsKnownEntry o → IsKnownEntry (settled moment v o)
   settled_known moment Acknowledged o e = entry_more o (settled moment Acknowledged o) refl refl e
   settled_known moment Temporary o e = put_back_known moment o e
   settled_known moment Duplicate o e = entry_more o (settled moment Duplicate o) refl refl e

@@ -6,8 +6,8 @@ use Rattle.sms_script.specs.declared.report.answers.Answered.TheVariants.{Stoppe
 use Rattle.sms_script.specs.declared.report.rows.GivenRow.{GivenRow}
 use Rattle.sms_centre_rows.specs.declared.reports.delivery.Delivery.{Delivery}
 use Rattle.sms_script.specs.declared.event.Act.{Act}
-use Rattle.sms_script.specs.declared.event.Side.{Side}
-use Rattle.sms_script.specs.declared.event.Side.TheVariants.{Centre, Handset}
+use Rattle.sms_script.specs.declared.event.EventSide.{EventSide}
+use Rattle.sms_script.specs.declared.event.EventSide.TheVariants.{Centre, Handset}
 use Rattle.sms_script.specs.declared.event.StopPoint.{StopPoint}
 use Rattle.sms_script.specs.declared.event.StopPoint.TheVariants.{Before, After}
 use Rattle.sms_script.specs.declared.event.WorldEvent.{WorldEvent}
@@ -117,7 +117,7 @@ module _ (rows : List GivenRow) (n : ℕ) where
   handset_back None c d k q = absurd cc
   handset_back (Some p) c d k q = subst (λ (z : PlayState). ExtendsRows rows z) (same_play _ d q) k
 
-  side_back : (side : Side) (c d : PlayState) → ExtendsRows rows c → restart n side c ≡ Ok d → ExtendsRows rows d
+  side_back : (side : EventSide) (c d : PlayState) → ExtendsRows rows c → restart n side c ≡ Ok d → ExtendsRows rows d
   side_back Centre c d k q = subst (λ (z : PlayState). ExtendsRows rows z) (same_play _ d q) k
   side_back (Handset h) c d k q = handset_back (party_at h c.parties) c d k q
 

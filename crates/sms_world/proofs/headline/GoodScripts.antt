@@ -13,8 +13,8 @@ use Rattle.sms_script.specs.Hexadecimal.{text_of}
 use Rattle.sms_script.specs.Lines.{lines_of}
 use Rattle.sms_script.specs.declared.event.Act.{Act}
 use Rattle.sms_script.specs.declared.event.Act.TheVariants.{Submit, Query, Cancel, Write, Delete, Discard, Deliver, Tick}
-use Rattle.sms_script.specs.declared.event.Side.{Side}
-use Rattle.sms_script.specs.declared.event.Side.TheVariants.{Centre, Handset}
+use Rattle.sms_script.specs.declared.event.EventSide.{EventSide}
+use Rattle.sms_script.specs.declared.event.EventSide.TheVariants.{Centre, Handset}
 use Rattle.sms_script.specs.declared.event.WorldEvent.{WorldEvent}
 use Rattle.sms_script.specs.declared.event.WorldEvent.TheVariants.{Whole, Stopped, Restart}
 use Rattle.sms_script.specs.declared.fault.LineFault.{LineFault}
@@ -47,7 +47,7 @@ second_good (Ok n) now e =
     (λ (f : b ≡ false). let bad : unread ≡ read now = sym (cond-false b (read n) unread f) ∙ e in absurd cc)
     (cases_Bool b)
 
-tick_good : (side : Side) (now : ℕ) (second : List ℕ) → moment_of second ≡ Ok now → IsGoodTick side now
+tick_good : (side : EventSide) (now : ℕ) (second : List ℕ) → moment_of second ≡ Ok now → IsGoodTick side now
 tick_good Centre now second e = second_good (number_of second) now e
 tick_good (Handset number) now second e = tt
 

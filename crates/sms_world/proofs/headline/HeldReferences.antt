@@ -10,8 +10,8 @@ use Rattle.sms_script.specs.declared.report.rows.FrameRow.{FrameRow}
 use Rattle.sms_centre_rows.specs.declared.reports.delivery.Delivery.{Delivery}
 use Rattle.sms_script.specs.declared.event.Act.{Act}
 use Rattle.sms_script.specs.declared.event.Act.TheVariants.{Submit as SubmitAct, Query, Cancel, Write as WriteAct, Delete as DeleteAct, Discard as DiscardAct, Deliver, Tick as TickAct}
-use Rattle.sms_script.specs.declared.event.Side.{Side}
-use Rattle.sms_script.specs.declared.event.Side.TheVariants.{Centre, Handset}
+use Rattle.sms_script.specs.declared.event.EventSide.{EventSide}
+use Rattle.sms_script.specs.declared.event.EventSide.TheVariants.{Centre, Handset}
 use Rattle.sms_script.specs.declared.event.StopPoint.{StopPoint}
 use Rattle.sms_script.specs.declared.event.StopPoint.TheVariants.{Before, After}
 use Rattle.sms_script.specs.declared.event.WorldEvent.{WorldEvent}
@@ -197,7 +197,7 @@ module _ (n : ℕ) where
     handset_back h None d e q = absurd cc
     handset_back h (Some p) d e q = subst (λ (z : PlayState). Apart z) (same_play _ d q) (party_apart p c (party_found h c.parties p e).0 k)
 
-    side_back : (side : Side) (d : PlayState) → restart n side c ≡ Ok d → Apart d
+    side_back : (side : EventSide) (d : PlayState) → restart n side c ≡ Ok d → Apart d
     side_back Centre d q = subst (λ (z : PlayState). Apart z) (same_play _ d q) k
     side_back (Handset h) d q = handset_back h (party_at h c.parties) d refl q
 

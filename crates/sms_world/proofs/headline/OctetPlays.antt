@@ -29,8 +29,8 @@ use Rattle.sms_script.specs.declared.report.rows.FrameRow.{FrameRow}
 use Rattle.sms_centre_rows.specs.declared.reports.delivery.Delivery.{Delivery}
 use Rattle.sms_script.specs.declared.event.Act.{Act}
 use Rattle.sms_script.specs.declared.event.Act.TheVariants.{Submit, Query, Cancel, Write, Delete, Discard, Deliver, Tick}
-use Rattle.sms_script.specs.declared.event.Side.{Side}
-use Rattle.sms_script.specs.declared.event.Side.TheVariants.{Centre, Handset}
+use Rattle.sms_script.specs.declared.event.EventSide.{EventSide}
+use Rattle.sms_script.specs.declared.event.EventSide.TheVariants.{Centre, Handset}
 use Rattle.sms_script.specs.declared.event.StopPoint.{StopPoint}
 use Rattle.sms_script.specs.declared.event.StopPoint.TheVariants.{Before, After}
 use Rattle.sms_script.specs.declared.event.WorldEvent.{WorldEvent}
@@ -325,7 +325,7 @@ module _ (c : PlayState) (w : World) (s : PlayRefines c w) (k : PlayKeepsOctets 
   handset_back h None d e q = absurd cc
   handset_back h (Some p) d e q = subst (λ (z : PlayState). PlayKeepsOctets z) (same_play _ d q) (party_keeps p c k (k.parties p (party_found h c.parties p e).0))
 
-  side_back : (side : Side) (d : PlayState) → restart n side c ≡ Ok d → PlayKeepsOctets d
+  side_back : (side : EventSide) (d : PlayState) → restart n side c ≡ Ok d → PlayKeepsOctets d
   side_back Centre d q = subst (λ (z : PlayState). PlayKeepsOctets z) (same_play _ d q) (record { parties = k.parties; bag = k.bag })
   side_back (Handset h) d q = handset_back h (party_at h c.parties) d refl q
 

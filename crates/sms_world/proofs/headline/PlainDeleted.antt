@@ -24,8 +24,8 @@ use Rattle.sms_script.specs.declared.event.StopPoint.TheVariants.{After}
 use Rattle.sms_script.specs.declared.event.WorldEvent.{WorldEvent}
 use Rattle.sms_script.specs.declared.event.WorldEvent.TheVariants.{Stopped, Whole}
 use Rattle.sms_script.specs.declared.report.Report.{Report}
-use Rattle.sms_script.specs.declared.report.answers.MessageState.TheVariants.{Final as FinalLine}
-use Rattle.sms_script.specs.declared.report.rows.ReportedMessage.{ReportedMessage}
+use Rattle.sms_centre_rows.specs.declared.report_lines.MessageState.TheVariants.{Final as FinalLine}
+use Rattle.sms_centre_rows.specs.declared.report_lines.ReportedMessage.{ReportedMessage}
 use Rattle.sms_world.proofs.headline.DeletedSteps.{Cancels, EventDeletesNone, event_case, steps_were}
 use Rattle.sms_world.proofs.headline.PlainSteps.{IsStep, one_at, parted_at, step_of}
 use Rattle.sms_world.proofs.headline.Tables.{line_of, line_stays, line_there, one_line, row_of_line, same_end, state_final}

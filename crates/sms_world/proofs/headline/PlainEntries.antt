@@ -48,8 +48,8 @@ use Rattle.sms_handset.specs.declared.refusal.Refusal.{Refusal}
 use Rattle.sms_handset.proofs.SoundDrafts.{sound_from}
 use Rattle.sms_script.specs.declared.event.Act.{Act}
 use Rattle.sms_script.specs.declared.event.Act.TheVariants.{Submit, Query, Cancel, Write, Delete, Discard, Deliver, Tick}
-use Rattle.sms_script.specs.declared.event.Side.{Side}
-use Rattle.sms_script.specs.declared.event.Side.TheVariants.{Centre, Handset}
+use Rattle.sms_script.specs.declared.event.EventSide.{EventSide}
+use Rattle.sms_script.specs.declared.event.EventSide.TheVariants.{Centre, Handset}
 use Rattle.sms_script.specs.declared.event.StopPoint.{StopPoint}
 use Rattle.sms_script.specs.declared.event.StopPoint.TheVariants.{Before, After}
 use Rattle.sms_script.specs.declared.event.WorldEvent.{WorldEvent}
@@ -618,7 +618,7 @@ module _ (script : Script) (after : ℕ → Report) where
       handset_back h None found q = absurd cc
       handset_back h (Some p) found q = subst (λ (z : PlayState). OwnersKnown z) (same_play _ st.next q) (party_known p c k (k.parties p (party_found h c.parties p found).0))
 
-      side_back : (side : Side) → restart n side c ≡ ok_play st.next → OwnersKnown st.next
+      side_back : (side : EventSide) → restart n side c ≡ ok_play st.next → OwnersKnown st.next
       side_back Centre q = subst (λ (z : PlayState). OwnersKnown z) (same_play _ st.next q) (record { parties = k.parties; bag = k.bag; numbers = k.numbers })
       side_back (Handset h) q = handset_back h (party_at h c.parties) refl q
 

@@ -78,7 +78,7 @@ use Rattle.sms_tpdu.specs.declared.submit.Submit.{Submit as SubmitOf}
 use Rattle.sms_tpdu.specs.declared.up.Up.{Up as UpUnit}
 use Rattle.sms_tpdu.specs.declared.up.Up.TheVariants.{Submit as SubmitUp}
 use Rattle.sms_world.specs.frames_pass_between_sides.FramesUp.{IsBare, IsOfKind, IsWhole}
-use Rattle.sms_world.specs.headline.Origins.{ActMakes, IsDeliverFor, IsFrom, Makes, part_numbered}
+use Rattle.sms_world.specs.headline.Origins.{ActMakes, IsDeliverFor, IsFrom, MakesMessage, part_numbered}
 use Rattle.sms_world.specs.headline.Origins.{IsOfApplication as IsRowOfApplication, IsOfHandset as IsRowOfHandset}
 use Rattle.sms_world.specs.headline.PlainLaws.{AreReports}
 use Rattle.sms_world.specs.headline.PlainReport.{HasLine, IsAnswered, IsOfApplication, IsOfEvent, IsOfOwner, Origin}
@@ -464,7 +464,7 @@ module _ (script : Script) (after : ℕ → Report) (typed : AreTyped script.eve
     act_made (Deliver number) does k there = owner number does k
     act_made (Tick side now) does k there = absurd k
 
-    made_by : (x : WorldEvent) → x ≡ e → Makes x st.first m c.centre.rows.parts → WasStoredIn st.next m.id → IsMade script after c m at
+    made_by : (x : WorldEvent) → x ≡ e → MakesMessage x st.first m c.centre.rows.parts → WasStoredIn st.next m.id → IsMade script after c m at
     made_by (Whole act) is k there = act_made act (inl (sym is)) k there
     made_by (Stopped After act) is k there = act_made act (inr (sym is)) k there
     made_by (Stopped Before act) is k there = absurd k
@@ -490,7 +490,7 @@ module _ (script : Script) (after : ℕ → Report) (typed : AreTyped script.eve
       let next : f.next ≡ s.next = one_course (play_state_of script.setup (f.some ++ f.event ∷ [])) f.next s.next f.leads_next s.then in
       let there : WasStoredIn s.next m.id = (f.there.0, ap (λ (z : PlayState). message_at m.id z.centre.rows.messages) (sym next) ∙ f.there.1) in
       let k : IsMade script after last m (suc (length f.some)) =
-      made_by f.some f.event f.others f.among last m few f.event refl (subst (λ (z : PlayState). Makes f.event z m last.centre.rows.parts) first f.makes) there in
+      made_by f.some f.event f.others f.among last m few f.event refl (subst (λ (z : PlayState). MakesMessage f.event z m last.centre.rows.parts) first f.makes) there in
       let number : m.id ≡ next_number s.first.centre.rows = made_next f.event f.before m last.centre.rows.parts f.makes ∙ ap (λ (z : PlayState). next_number z.centre.rows) first in
       record {
         event = record {
@@ -524,7 +524,7 @@ module _ (script : Script) (after : ℕ → Report) (typed : AreTyped script.eve
       act_next (Deliver number) c m ps k = k.next
       act_next (Tick side now) c m ps k = absurd k
 
-      made_next : (e : WorldEvent) (c : PlayState) (m : MessageRow) (ps : List PartRow) → Makes e c m ps → m.id ≡ next_number c.centre.rows
+      made_next : (e : WorldEvent) (c : PlayState) (m : MessageRow) (ps : List PartRow) → MakesMessage e c m ps → m.id ≡ next_number c.centre.rows
       made_next (Whole act) c m ps k = act_next act c m ps k
       made_next (Stopped After act) c m ps k = act_next act c m ps k
       made_next (Stopped Before act) c m ps k = absurd k

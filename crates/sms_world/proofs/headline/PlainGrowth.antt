@@ -17,8 +17,8 @@ use Rattle.sms_handset.specs.declared.event.HandsetEvent.{HandsetEvent}
 use Rattle.sms_handset.specs.declared.refusal.Refusal.{Refusal}
 use Rattle.sms_handset_draft.specs.Draft.{Draft}
 use Rattle.sms_script.specs.declared.event.Act.{Act}
-use Rattle.sms_script.specs.declared.event.Side.{Side}
-use Rattle.sms_script.specs.declared.event.Side.TheVariants.{Centre, Handset}
+use Rattle.sms_script.specs.declared.event.EventSide.{EventSide}
+use Rattle.sms_script.specs.declared.event.EventSide.TheVariants.{Centre, Handset}
 use Rattle.sms_script.specs.declared.event.StopPoint.{StopPoint}
 use Rattle.sms_script.specs.declared.event.StopPoint.TheVariants.{Before, After}
 use Rattle.sms_script.specs.declared.event.WorldEvent.{WorldEvent}
@@ -142,7 +142,7 @@ module _ (n : ℕ) (c : PlayState) (w : World) (s : PlayRefines c w) where
   handset_back None d q = absurd cc
   handset_back (Some p) d q = subst (λ (z : PlayState). Leaves c z) (same_play _ d q) (record { setup = refl; bag = λ f i. i })
 
-  side_back : (side : Side) (d : PlayState) → restart n side c ≡ ok_play d → Leaves c d
+  side_back : (side : EventSide) (d : PlayState) → restart n side c ≡ ok_play d → Leaves c d
   side_back Centre d q = subst (λ (z : PlayState). Leaves c z) (same_play _ d q) (record { setup = refl; bag = λ f i. i })
   side_back (Handset h) d q = handset_back (party_at h c.parties) d q
 

@@ -26,7 +26,7 @@ use Rattle.sms_script.specs.declared.report.Report.{Report}
 use Rattle.sms_script.specs.declared.report.rows.Direction.TheVariants.{Down}
 use Rattle.sms_script.specs.declared.report.rows.GivenRow.{GivenRow}
 use Rattle.sms_script.specs.declared.report.rows.JoinedRow.{JoinedRow}
-use Rattle.sms_script.specs.declared.report.rows.ReportedMessage.{ReportedMessage}
+use Rattle.sms_centre_rows.specs.declared.report_lines.ReportedMessage.{ReportedMessage}
 use Rattle.sms_script.specs.declared.script.Script.{Script}
 use Rattle.sms_tpdu.specs.MoreMessages.{compared}
 use Rattle.sms_tpdu.specs.declared.deliver.Deliver.{Deliver as DeliverOf}

@@ -31,7 +31,7 @@ use Rattle.sms_world.proofs.headline.PlainSteps.{IsStep, at_place, is_script, la
 use Rattle.sms_world.proofs.messages_have_origins.OriginClaims.{origin_is}
 use Rattle.sms_world.proofs.scripts_are_runs.Events.{ok_play, same_play}
 use Rattle.sms_world.specs.headline.HeadlineLaws.{LeadsOn}
-use Rattle.sms_world.specs.headline.Origins.{ActMakes, IsFrom, IsOfApplication, Makes}
+use Rattle.sms_world.specs.headline.Origins.{ActMakes, IsFrom, IsOfApplication, MakesMessage}
 use Rattle.sms_world.specs.headline.PlainLaws.{AreReports}
 use Rattle.sms_world.specs.headline.PlainReport.{HasLine, IsOwn}
 use Rattle.sms_world.specs.headline.PlainScript.{Does}
@@ -113,7 +113,7 @@ module _ (name : List ℕ) (before : PlayState) (m : MessageRow) (parts : List P
   after_made (Deliver number) k = absurd (not_handsets name m.originator k.submit.message_reference k.originator own)
   after_made (Tick side now) k = absurd k
 
-  made_by : (e : WorldEvent) → Makes e before m parts → IsMade name e before m parts
+  made_by : (e : WorldEvent) → MakesMessage e before m parts → IsMade name e before m parts
   made_by (Whole act) k = whole_made act k
   made_by (Stopped After act) k = after_made act k
   made_by (Stopped Before act) k = absurd k

@@ -11,7 +11,7 @@ use Rattle.sms_rows.specs.table.Table.{Rises}
 use Rattle.sms_script.specs.declared.event.WorldEvent.{WorldEvent}
 use Rattle.sms_script.specs.declared.play_fault.PlayFault.{PlayFault}
 use Rattle.sms_script.specs.declared.report.answers.Answer.{Answer}
-use Rattle.sms_script.specs.declared.report.rows.ReportedMessage.{ReportedMessage}
+use Rattle.sms_centre_rows.specs.declared.report_lines.ReportedMessage.{ReportedMessage}
 use Rattle.sms_world.proofs.headline.NamedAnswers.{GrowsNamed, IsSubmitting, event_grows, last_or}
 use Rattle.sms_world.proofs.headline.Tables.{row_of_line}
 use Rattle.sms_world.proofs.scripts_are_runs.Events.{ok_play, same_play}

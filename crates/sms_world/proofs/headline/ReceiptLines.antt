@@ -8,7 +8,7 @@ use Rattle.sms_centre_rows.specs.declared.messages.message.MessageRow.{MessageRo
 use Rattle.sms_centre_rows.specs.reports.Reports.{report_key}
 use Rattle.sms_centre_rows.specs.reports.SoundReports.{AreOnce as AreOnceRows}
 use Rattle.sms_centre_rows.specs.declared.reports.report.ReportRow.{ReportRow}
-use Rattle.sms_script.specs.declared.report.rows.ReceiptRow.{ReceiptRow}
+use Rattle.sms_centre_rows.specs.declared.report_lines.ReceiptRow.{ReceiptRow}
 use Rattle.sms_rows.specs.table.Table.{Rises}
 use Rattle.sms_rows.proofs.table.Tables.{found_key}
 use Rattle.sms_centre_spec.proofs.SteadyTimes.{above_among}

@@ -5,8 +5,8 @@ use Rattle.sms_base.specs.Reading.{◌>>=◌}
 use Rattle.sms_script.specs.declared.report.answers.Answered.TheVariants.{Stopped as AnsweredStopped}
 use Rattle.sms_centre_rows.specs.declared.reports.delivery.Delivery.{Delivery}
 use Rattle.sms_script.specs.declared.event.Act.{Act}
-use Rattle.sms_script.specs.declared.event.Side.{Side}
-use Rattle.sms_script.specs.declared.event.Side.TheVariants.{Centre, Handset}
+use Rattle.sms_script.specs.declared.event.EventSide.{EventSide}
+use Rattle.sms_script.specs.declared.event.EventSide.TheVariants.{Centre, Handset}
 use Rattle.sms_script.specs.declared.event.StopPoint.{StopPoint}
 use Rattle.sms_script.specs.declared.event.StopPoint.TheVariants.{Before, After}
 use Rattle.sms_script.specs.declared.event.WorldEvent.{WorldEvent}
@@ -108,7 +108,7 @@ module _ (ns : List (List ℕ)) (n : ℕ) where
   handset_back None c d k q = absurd cc
   handset_back (Some p) c d k q = subst (λ (z : PlayState). AreThose ns z) (same_play _ d q) (party_those p c k)
 
-  side_back : (side : Side) (c d : PlayState) → AreThose ns c → restart n side c ≡ Ok d → AreThose ns d
+  side_back : (side : EventSide) (c d : PlayState) → AreThose ns c → restart n side c ≡ Ok d → AreThose ns d
   side_back Centre c d k q = subst (λ (z : PlayState). AreThose ns z) (same_play _ d q) k
   side_back (Handset h) c d k q = handset_back (party_at h c.parties) c d k q
 

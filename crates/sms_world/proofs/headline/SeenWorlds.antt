@@ -14,7 +14,7 @@ use Rattle.sms_play.specs.PlayState.{PlayState, Party, numbers_of}
 use Rattle.sms_play.specs.Playing.{receipt_line, receipt_lines, receipt_of}
 use Rattle.sms_rows.proofs.table.Tables.{among_found, found_among, found_key}
 use Rattle.sms_rows.specs.table.Table.{row_at}
-use Rattle.sms_script.specs.declared.report.rows.ReceiptRow.{ReceiptRow}
+use Rattle.sms_centre_rows.specs.declared.report_lines.ReceiptRow.{ReceiptRow}
 use Rattle.sms_world.proofs.headline.ReceiptLines.{from_report}
 use Rattle.sms_world.proofs.headline.Tables.{same_end}
 use Rattle.sms_world.proofs.headline.Takers.{TakersThere, of_number}

@@ -20,7 +20,7 @@ use Rattle.sms_play.specs.Playing.{receipt_lines}
 use Rattle.sms_rows.proofs.table.Tables.{found_among, found_key}
 use Rattle.sms_script.specs.declared.event.WorldEvent.{WorldEvent}
 use Rattle.sms_script.specs.declared.event.WorldEvent.TheVariants.{Restart, Stopped, Whole}
-use Rattle.sms_script.specs.declared.report.rows.ReceiptRow.{ReceiptRow}
+use Rattle.sms_centre_rows.specs.declared.report_lines.ReceiptRow.{ReceiptRow}
 use Rattle.sms_world.proofs.headline.SeenWorlds.{receipt_there, receipts_listed, receipts_of_world}
 use Rattle.sms_world.proofs.scripts_are_runs.Meetings.{Meets, meets}
 use Rattle.sms_world.proofs.headline.SentSessions.{Goes, goes_to}

@@ -7,8 +7,8 @@ use Rattle.sms_centre_rows.specs.declared.messages.part.PartRow.{PartRow}
 use Rattle.sms_script.specs.declared.report.answers.Answered.TheVariants.{Stopped as AnsweredStopped}
 use Rattle.sms_centre_rows.specs.declared.reports.delivery.Delivery.{Delivery}
 use Rattle.sms_script.specs.declared.event.Act.{Act}
-use Rattle.sms_script.specs.declared.event.Side.{Side}
-use Rattle.sms_script.specs.declared.event.Side.TheVariants.{Centre, Handset}
+use Rattle.sms_script.specs.declared.event.EventSide.{EventSide}
+use Rattle.sms_script.specs.declared.event.EventSide.TheVariants.{Centre, Handset}
 use Rattle.sms_script.specs.declared.event.StopPoint.{StopPoint}
 use Rattle.sms_script.specs.declared.event.StopPoint.TheVariants.{Before, After}
 use Rattle.sms_script.specs.declared.event.WorldEvent.{WorldEvent}
@@ -122,7 +122,7 @@ module _ (Q : Rows → Type 0) (keeps : (event : CentreEvent) (c : Core) → IsS
       handset_back None d q = absurd cc
       handset_back (Some p) d q = subst (λ (z : PlayState). Has z) (same_play _ d q) k
 
-      side_back : (side : Side) (d : PlayState) → restart n side c ≡ Ok d → Has d
+      side_back : (side : EventSide) (d : PlayState) → restart n side c ≡ Ok d → Has d
       side_back Centre d q = subst (λ (z : PlayState). Has z) (same_play _ d q) k
       side_back (Handset h) d q = handset_back (party_at h c.parties) d q
 

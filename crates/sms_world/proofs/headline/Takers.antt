@@ -11,7 +11,7 @@ use Rattle.sms_script.specs.declared.report.rows.Direction.TheVariants.{Up as Up
 use Rattle.sms_script.specs.declared.report.rows.FrameRow.{FrameRow}
 use Rattle.sms_script.specs.declared.event.Act.{Act}
 use Rattle.sms_script.specs.declared.event.Act.TheVariants.{Submit as SubmitAct, Query, Cancel, Write as WriteAct, Delete as DeleteAct, Discard, Deliver, Tick}
-use Rattle.sms_script.specs.declared.event.Side.TheVariants.{Centre, Handset}
+use Rattle.sms_script.specs.declared.event.EventSide.TheVariants.{Centre, Handset}
 use Rattle.sms_script.specs.declared.event.WorldEvent.{WorldEvent}
 use Rattle.sms_script.specs.declared.event.WorldEvent.TheVariants.{Whole as WholeAct, Stopped as StoppedAct, Restart}
 use Rattle.sms_handset.specs.declared.event.HandsetEvent.{HandsetEvent}

@@ -35,7 +35,7 @@ use Rattle.sms_script.specs.declared.event.WorldEvent.TheVariants.{Restart, Stop
 use Rattle.sms_script.specs.declared.report.answers.Answer.{Answer}
 use Rattle.sms_script.specs.declared.report.answers.Answered.{Answered}
 use Rattle.sms_script.specs.declared.report.answers.Answered.TheVariants.{Found, Status}
-use Rattle.sms_script.specs.declared.report.answers.MessageState.{MessageState}
+use Rattle.sms_centre_rows.specs.declared.report_lines.MessageState.{MessageState}
 use Rattle.sms_world.proofs.headline.AnsweredSubmits.{last_same, one_longer, whole_answers}
 use Rattle.sms_world.proofs.messages_have_origins.Unmoved.{Rows, meets_leaves}
 use Rattle.sms_world.proofs.scripts_are_runs.Events.{ok_play, same_play}

@@ -13,8 +13,8 @@ use Rattle.sms_intake.specs.PartBodies.{bodies_under}
 use Rattle.sms_centre_rows.specs.messages.Messages.{message_key, part_at, part_key}
 use Rattle.sms_centre_rows.specs.declared.messages.message.MessageRow.{MessageRow}
 use Rattle.sms_centre_rows.specs.declared.messages.part.PartRow.{PartRow}
-use Rattle.sms_script.specs.declared.report.answers.MessageState.TheVariants.{Final}
-use Rattle.sms_script.specs.declared.report.rows.ReportedMessage.{ReportedMessage}
+use Rattle.sms_centre_rows.specs.declared.report_lines.MessageState.TheVariants.{Final}
+use Rattle.sms_centre_rows.specs.declared.report_lines.ReportedMessage.{ReportedMessage}
 use Rattle.sms_script.specs.declared.event.Act.{Act}
 use Rattle.sms_script.specs.declared.event.Act.TheVariants.{Submit, Query, Cancel, Write, Delete, Discard, Deliver, Tick}
 use Rattle.sms_script.specs.declared.event.StopPoint.TheVariants.{After, Before}
@@ -28,7 +28,7 @@ use Rattle.sms_world.specs.headline.Claims.{pair_in_row, DeliveredOnce, IsAccept
 use Rattle.sms_world.proofs.headline.Claimed.{delivered_is, run_is}
 use Rattle.sms_world.proofs.headline.ReceiptLines.{from_report}
 use Rattle.sms_world.proofs.headline.Tables.{row_of_line}
-use Rattle.sms_world.specs.headline.Origins.{IsDeliverFor, part_numbered, ActAccepted, ActMakes, AllAccepted, AreFromEvents, IsDeliveredFrom, Makes, SubmitAccepted, WasAccepted}
+use Rattle.sms_world.specs.headline.Origins.{IsDeliverFor, part_numbered, ActAccepted, ActMakes, AllAccepted, AreFromEvents, IsDeliveredFrom, MakesMessage, SubmitAccepted, WasAccepted}
 use Rattle.sms_world.proofs.submissions_stay.Delivers.{same_number, within}
 use Rattle.sms_world.specs.messages_have_origins.OriginLaws.{DeliveredLaw}
 use Rattle.sms_world.proofs.messages_have_origins.OriginClaims.{origin_is}
@@ -77,7 +77,7 @@ module _ (c : PlayState) (m : MessageRow) (few : (p : PartRow) → Among p c.cen
       let found : SubmitAccepted c m makes.submit = (pair_in_row m makes.part, ((o.0.0, (o.0.1.0, o.0.1.1, o.0.1.2, given_at 1 makes.part o)), makes.carries)) in found
   act_accepted (Tick side now) before makes = absurd makes
 
-  pub was_accepted : (e : WorldEvent) (before : PlayState) (makes : Makes e before m c.centre.rows.parts) → WasAccepted e c before m makes
+  pub was_accepted : (e : WorldEvent) (before : PlayState) (makes : MakesMessage e before m c.centre.rows.parts) → WasAccepted e c before m makes
   was_accepted (Whole act) before makes = act_accepted act before makes
   was_accepted (Stopped Before act) before makes = absurd makes
   was_accepted (Stopped After act) before makes = act_accepted act before makes

@@ -18,8 +18,8 @@ use Rattle.sms_handset_draft.specs.Draft.{Draft}
 use Rattle.sms_script.specs.declared.play_fault.PlayFault.{PlayFault}
 use Rattle.sms_script.specs.declared.report.answers.Answered.TheVariants.{Stopped as AnsweredStopped}
 use Rattle.sms_script.specs.declared.event.Act.{Act}
-use Rattle.sms_script.specs.declared.event.Side.{Side}
-use Rattle.sms_script.specs.declared.event.Side.TheVariants.{Centre, Handset}
+use Rattle.sms_script.specs.declared.event.EventSide.{EventSide}
+use Rattle.sms_script.specs.declared.event.EventSide.TheVariants.{Centre, Handset}
 use Rattle.sms_script.specs.declared.event.StopPoint.{StopPoint}
 use Rattle.sms_script.specs.declared.event.StopPoint.TheVariants.{Before, After}
 use Rattle.sms_script.specs.declared.event.WorldEvent.{WorldEvent}
@@ -116,7 +116,7 @@ module _ (n : ℕ) (c : PlayState) (w : World) (s : PlayRefines c w) (Says : Mes
   handset_back None d q = absurd cc
   handset_back (Some p) d q = subst (λ (z : PlayState). Numbers z) (same_play _ d q) none_came
 
-  side_back : (side : Side) (d : PlayState) → restart n side c ≡ Ok d → Numbers d
+  side_back : (side : EventSide) (d : PlayState) → restart n side c ≡ Ok d → Numbers d
   side_back Centre d q = subst (λ (z : PlayState). Numbers z) (same_play _ d q) none_came
   side_back (Handset h) d q = handset_back (party_at h c.parties) d q
 

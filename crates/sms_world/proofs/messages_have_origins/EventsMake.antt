@@ -26,7 +26,7 @@ use Rattle.sms_centre_spec.specs.MessageNumbers.{next_number}
 use Rattle.sms_centre_spec.specs.Requests.{account_at}
 use Rattle.sms_centre_spec.specs.SoundCore.{IsEvent, IsSoundCore}
 use Rattle.sms_script.specs.declared.event.Act.TheVariants.{Submit, Query, Cancel, Write, Delete, Discard, Deliver, Tick}
-use Rattle.sms_script.specs.declared.event.Side.TheVariants.{Centre, Handset}
+use Rattle.sms_script.specs.declared.event.EventSide.TheVariants.{Centre, Handset}
 use Rattle.sms_script.specs.declared.event.StopPoint.TheVariants.{After, Before}
 use Rattle.sms_script.specs.declared.event.Submission.{Submission as ScriptSubmission}
 use Rattle.sms_script.specs.declared.event.WorldEvent.{WorldEvent}
@@ -48,7 +48,7 @@ use Rattle.sms_world.specs.scripts_are_runs.Happening.{HandsOctets, IsGoodEvent}
 use Rattle.sms_world.specs.headline.OneRun.{happening_of}
 use Rattle.sms_world.proofs.scripts_are_runs.Events.{event_leads, ok_play, same_play}
 use Rattle.sms_world.proofs.scripts_are_runs.Runs.{run_leads}
-use Rattle.sms_world.specs.headline.Origins.{IsSubmitted, IsOfApplication, IsOfHandset, Makes}
+use Rattle.sms_world.specs.headline.Origins.{IsSubmitted, IsOfApplication, IsOfHandset, MakesMessage}
 use Rattle.sms_world.proofs.submissions_stay.NewMessages.{made_is}
 use Rattle.sms_world.proofs.submissions_stay.StaysSubmitted.{HasSubmitted, stays_submitted}
 use Rattle.sms_world.proofs.headline.SplitPlays.{all_preserved}
@@ -181,7 +181,7 @@ module _ (n : ℕ) (e : WorldEvent) (es : List WorldEvent) (c next d : PlayState
 
   either_makes : (event : WorldEvent) → event ≡ e → WasStoredIn next m.id → (u : Submission) → IsInTable m.id u (end w (happened_in h (event_leads n e c next w s good octets is).0)).table
       → EntersAs w (happening_of event c.centre.moment).event (happening_of event c.centre.moment).went u → m.id ≡ next_number c.centre.rows
-      → message_at m.id c.centre.rows.messages ≡ None → WasStoredIn c m.id ⊎ Makes event c m d.centre.rows.parts
+      → message_at m.id c.centre.rows.messages ≡ None → WasStoredIn c m.id ⊎ MakesMessage event c m d.centre.rows.parts
   either_makes (Whole (Submit x)) same there u k enters new none = of_application x (whole_leads n x c next (ap (λ (z : WorldEvent). played n z c) same ∙ is)) there new
   either_makes (Whole (Query name id)) same there u k enters new none = absurd enters
   either_makes (Whole (Cancel name id)) same there u k enters new none = absurd enters
@@ -205,11 +205,11 @@ module _ (n : ℕ) (e : WorldEvent) (es : List WorldEvent) (c next d : PlayState
   either_makes (Stopped After (Tick (Handset a) now)) same there u k enters new none = absurd enters
   either_makes (Restart side) same there u k enters new none = absurd enters
 
-  pub event_makes : WasStoredIn next m.id → WasStoredIn c m.id ⊎ Makes e c m d.centre.rows.parts
+  pub event_makes : WasStoredIn next m.id → WasStoredIn c m.id ⊎ MakesMessage e c m d.centre.rows.parts
   event_makes (x, there) = by (message_at m.id c.centre.rows.messages) refl
     where
-      by : (o : Option MessageRow) → message_at m.id c.centre.rows.messages ≡ o → WasStoredIn c m.id ⊎ Makes e c m d.centre.rows.parts
-      by (Some y) old = let found : WasStoredIn c m.id ⊎ Makes e c m d.centre.rows.parts = inl (y, old) in found
+      by : (o : Option MessageRow) → message_at m.id c.centre.rows.messages ≡ o → WasStoredIn c m.id ⊎ MakesMessage e c m d.centre.rows.parts
+      by (Some y) old = let found : WasStoredIn c m.id ⊎ MakesMessage e c m d.centre.rows.parts = inl (y, old) in found
       by None none =
           let new : m.id ≡ next_number c.centre.rows = next_is n c w s e next good octets is m.id x there none in
           let l = event_leads n e c next w s good octets is in
@@ -217,6 +217,6 @@ module _ (n : ℕ) (e : WorldEvent) (es : List WorldEvent) (c next d : PlayState
           let t = l.1.2.centre.rows.table.there m.id x there in
           let k : IsInTable m.id t.0 (end w (happened_in h l.0)).table = subst (λ (i : ℕ). IsInTable i t.0 (end w (happened_in h l.0)).table) own (t.1, t.2.0) in
           ⊎_elim
-          (λ (old : IsInTable m.id t.0 w.table). let found : WasStoredIn c m.id ⊎ Makes e c m d.centre.rows.parts = inl (s.centre.rows.table.only m.id t.0 old.0 old.1) in found)
+          (λ (old : IsInTable m.id t.0 w.table). let found : WasStoredIn c m.id ⊎ MakesMessage e c m d.centre.rows.parts = inl (s.centre.rows.table.only m.id t.0 old.0 old.1) in found)
           (λ (enters : EntersAs w h.event h.went t.0). either_makes e refl (x, there) t.0 k enters new none)
           (event_was w h h.went l.0 m.id t.0 l.1.0 l.1.1 k)

@@ -41,7 +41,7 @@ use Rattle.sms_world.proofs.headline.Claimed.{can_play, script_hands, unplayed}
 use Rattle.sms_world.proofs.headline.Parting.{others_good, parted}
 use Rattle.sms_world.proofs.headline.SplitClaimed.{between, first_of}
 use Rattle.sms_world.proofs.headline.SplitPlays.{all_preserved}
-use Rattle.sms_world.specs.headline.Origins.{IsSubmitted, IsFrom, Makes}
+use Rattle.sms_world.specs.headline.Origins.{IsSubmitted, IsFrom, MakesMessage}
 use Rattle.sms_world.proofs.submissions_stay.NewMessages.{made_is}
 use Rattle.sms_world.proofs.submissions_stay.StaysSubmitted.{HasSubmitted}
 use Rattle.sms_world.specs.messages_have_origins.OriginLaws.{OriginLaw, SubmitLaw}
@@ -60,7 +60,7 @@ record IsFound (n : ℕ) (events : List WorldEvent) (c : PlayState) (m : Message
   among : events ≡ some ++ event ∷ others
   before : PlayState
   leads : played_on n some c ≡ ok_play before
-  makes : Makes event before m parts
+  makes : MakesMessage event before m parts
   submitted : m.submitted ≡ before.centre.moment
   next : PlayState
   then : played_on n (some ++ event ∷ []) c ≡ ok_play next
@@ -81,7 +81,7 @@ traced n (e ∷ es) c d w m s good octets q at =
     ⊎_elim
     (λ (there : WasStoredIn f.next m.id). ⊎_elim
     (λ (old : WasStoredIn c m.id). let found : WasStoredIn c m.id ⊎ IsFound n (e ∷ es) c m d.centre.rows.parts = inl old in found)
-    (λ (makes : Makes e c m d.centre.rows.parts).
+    (λ (makes : MakesMessage e c m d.centre.rows.parts).
     if_new n (e ∷ es) c m d.centre.rows.parts (message_at m.id c.centre.rows.messages) refl
     (λ none. record {
       some = [];

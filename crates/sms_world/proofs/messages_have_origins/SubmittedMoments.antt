@@ -48,7 +48,7 @@ use Rattle.sms_world_model.specs.World.{World}
 use Rattle.sms_world_model.specs.WorldStep.{end as world_end}
 use Rattle.sms_world.specs.centre_runs_are_steps.RunEvents.{moment_at}
 use Rattle.sms_world.specs.headline.OneRun.{act_moment, happening_of}
-use Rattle.sms_world.specs.headline.Origins.{Makes}
+use Rattle.sms_world.specs.headline.Origins.{MakesMessage}
 use Rattle.sms_world.specs.scripts_are_runs.Happening.{HandsOctets, IsGoodEvent}
 use Rattle.sms_world.specs.scripts_are_runs.PlayRefinement.{PlayRefines}
 use Rattle.sms_world.specs.scripts_are_runs.PlayRuns.{AllHandOctets, AreGood}
@@ -196,7 +196,7 @@ module _ (n : ℕ) (e : WorldEvent) (es : List WorldEvent) (c next d : PlayState
       let k : MeetsCentre act c w ev = meets c w s n act fine hands (AtCentre ev) q in
       submitted_then ev c.centre s.sound is_event (k.moment ∙ still) x i none
 
-  says_then : (x : WorldEvent) → IsGoodEvent x → HandsOctets x c → Makes x c m d.centre.rows.parts → EventSays n c w s IsThen x
+  says_then : (x : WorldEvent) → IsGoodEvent x → HandsOctets x c → MakesMessage x c m d.centre.rows.parts → EventSays n c w s IsThen x
   says_then (Whole (Submit a)) fine hands k = by_act (Submit a) fine hands refl
   says_then (Whole (Query name id)) fine hands k = absurd k
   says_then (Whole (Cancel name id)) fine hands k = absurd k
@@ -217,7 +217,7 @@ module _ (n : ℕ) (e : WorldEvent) (es : List WorldEvent) (c next d : PlayState
   says_then (Restart side) fine hands k = absurd k
 
   -- a message that the event made was submitted at the centre's moment
-  pub made_then : Makes e c m d.centre.rows.parts → WasStoredIn next m.id → message_at m.id c.centre.rows.messages ≡ None → IsThen m
+  pub made_then : MakesMessage e c m d.centre.rows.parts → WasStoredIn next m.id → message_at m.id c.centre.rows.messages ≡ None → IsThen m
   made_then makes (x, there) none =
       let own : x.id ≡ m.id = found_key message_key m.id x next.centre.rows.messages there in
       let new : IsThen x =

@@ -5,7 +5,7 @@ use Rattle.sms_centre_spec.specs.CentreEvent.{started}
 use Rattle.sms_centre_spec.specs.SoundRows.{first_rows}
 use Rattle.sms_centre_spec.specs.declared.rows.Rows.{Rows}
 use Rattle.sms_centre_spec.specs.declared.setup.Setup.{Setup as CentreSetup}
-use Rattle.sms_play.specs.judging.Premises.{IsNew, NoneAccepted}
+use Rattle.sms_play.specs.judging.Premises.{IsNewPlay, NoneAccepted}
 use Rattle.sms_play.specs.PlayState.{Party, numbers_of}
 use Rattle.sms_play.specs.PlayedEvent.{sessions_from}
 use Rattle.sms_play.specs.Setups.{beginning, centre_setup, parties_of}
@@ -47,5 +47,5 @@ none_accepted s [] = tt
 none_accepted s (h ∷ hs) = (refl, none_accepted s hs)
 
 -- nothing was given or accepted yet
-pub is_new : (s : Setup) → IsNew (beginning s)
+pub is_new : (s : Setup) → IsNewPlay (beginning s)
 is_new s = record { given = refl; parties = none_accepted s s.handsets }

@@ -13,7 +13,7 @@ use Rattle.sms_player.specs.playing.Played.{PlayingOf}
 use Rattle.sms_player.specs.playing.Playing.{LeadsTo, or_no_memory}
 use Rattle.sms_script.specs.declared.report.Broken.{Broken}
 use Rattle.sms_script.specs.declared.report.Report.{Report}
-use Rattle.sms_world.specs.running.Reporting.{Decides, FaultsAs, Gives, Reports, report_on}
+use Rattle.sms_world.specs.running.Reporting.{Decides, FaultsAs, ReportsAs, Reports, report_on}
 use Rattle.sms_world.specs.declared.running.ending.Judged.{Judged}
 use Rattle.sms_script.specs.declared.event.WorldEvent.{WorldEvent}
 use Rattle.sms_script.specs.declared.setup.Setup.{Setup}
@@ -28,14 +28,14 @@ pub report_reported : {E : Type 0} (res : Result Report E) (told : Result Report
 report_reported res told event wanted e is = subst (λ (r : Result Report PlayFault). Reports r (Ok wanted)) (sym e) (report_made res event wanted is)
 
 -- all events were played, and this is told of where they lead
-pub report_there : {X : Type 0} (part : X → Report) (told : Result X PlayFault) (events : List WorldEvent) (c d : PlayState) → played_on 1 events c ≡ Ok d → Gives part told (Ok (report_of d)) → Gives part told (report_on events c)
-report_there part told events c d leads is = subst (λ (w : Result PlayState PlayFault). Gives part told (w >>= λ (x : PlayState). Ok (report_of x))) (sym leads) is
+pub report_there : {X : Type 0} (part : X → Report) (told : Result X PlayFault) (events : List WorldEvent) (c d : PlayState) → played_on 1 events c ≡ Ok d → ReportsAs part told (Ok (report_of d)) → ReportsAs part told (report_on events c)
+report_there part told events c d leads is = subst (λ (w : Result PlayState PlayFault). ReportsAs part told (w >>= λ (x : PlayState). Ok (report_of x))) (sym leads) is
 
 unreported : (fault : PlayFault) (wanted : Result PlayState PlayFault) → wanted ≡ Err fault → (wanted >>= λ (x : PlayState). Ok (report_of x)) ≡ Err fault
 unreported fault wanted e = ap (λ (w : Result PlayState PlayFault). w >>= λ (x : PlayState). Ok (report_of x)) e
 
 -- one of them has a fault
-pub no_report : {X : Type 0} (part : X → Report) (fault : PlayFault) (q : PlayingOf) (wanted : Result PlayState PlayFault) → LeadsTo {X = Unit {0}} (Err fault) q wanted → Gives part (Err fault) (wanted >>= λ (x : PlayState). Ok (report_of x))
+pub no_report : {X : Type 0} (part : X → Report) (fault : PlayFault) (q : PlayingOf) (wanted : Result PlayState PlayFault) → LeadsTo {X = Unit {0}} (Err fault) q wanted → ReportsAs part (Err fault) (wanted >>= λ (x : PlayState). Ok (report_of x))
 no_report part (NoMemory event) q wanted leads = tt
 no_report part (NoSuchFrame event) q wanted leads = unreported (NoSuchFrame event) wanted leads
 no_report part (NoSuchSide event) q wanted leads = unreported (NoSuchSide event) wanted leads
@@ -95,8 +95,8 @@ fault_reported s events fault e =
     (unplayed (if can_be_played s then played_on 1 events (beginning s) else Err BadSetup) fault e)
 
 -- what is told of the report and of what was found is told of the premises
-pub premises_reported : (res : Result Judged PlayFault) (s : Setup) (events : List WorldEvent) → Gives (λ (judged : Judged). judged.report) res (play_of s events)
-    → IfOk res (λ judged. Decides (λ (broken : Option Broken). judged.broken ≡ broken) (premises_of s events)) → Gives (λ (judged : Judged). judged.broken) res (premises_of s events)
+pub premises_reported : (res : Result Judged PlayFault) (s : Setup) (events : List WorldEvent) → ReportsAs (λ (judged : Judged). judged.report) res (play_of s events)
+    → IfOk res (λ judged. Decides (λ (broken : Option Broken). judged.broken ≡ broken) (premises_of s events)) → ReportsAs (λ (judged : Judged). judged.broken) res (premises_of s events)
 premises_reported (Ok judged) s events is (broken, (decided, told)) = decided ∙ ap (λ (b : Option Broken). Ok b) (sym told)
 premises_reported (Err (NoMemory event)) s events is told = tt
 premises_reported (Err (NoSuchFrame event)) s events is told = fault_reported s events (NoSuchFrame event) is
@@ -107,7 +107,7 @@ premises_reported (Err BadSetup) s events is told = fault_reported s events BadS
 -- ---- parts of what is told
 
 -- a fault is one of every part
-pub same_fault : {X Y Z : Type 0} (part : X → Z) (other : Y → Z) (fault : PlayFault) (wanted : Result Z PlayFault) → Gives part (Err fault) wanted → Gives other (Err fault) wanted
+pub same_fault : {X Y Z : Type 0} (part : X → Z) (other : Y → Z) (fault : PlayFault) (wanted : Result Z PlayFault) → ReportsAs part (Err fault) wanted → ReportsAs other (Err fault) wanted
 same_fault part other (NoMemory event) wanted is = tt
 same_fault part other (NoSuchFrame event) wanted is = is
 same_fault part other (NoSuchSide event) wanted is = is
@@ -115,7 +115,7 @@ same_fault part other (NoSuchAccount event) wanted is = is
 same_fault part other BadSetup wanted is = is
 
 -- a fault of a part is a fault as it was wanted
-pub fault_as : {X Z : Type 0} (Y : Type 0) (part : X → Z) (fault : PlayFault) (wanted : Result Z PlayFault) → Gives part (Err fault) wanted → FaultsAs {X = Y} (Err fault) wanted
+pub fault_as : {X Z : Type 0} (Y : Type 0) (part : X → Z) (fault : PlayFault) (wanted : Result Z PlayFault) → ReportsAs part (Err fault) wanted → FaultsAs {X = Y} (Err fault) wanted
 fault_as Y part (NoMemory event) wanted is = tt
 fault_as Y part (NoSuchFrame event) wanted is = is
 fault_as Y part (NoSuchSide event) wanted is = is

@@ -9,7 +9,7 @@ use Rattle.sms_player.specs.playing.Playing.{or_no_memory}
 use Rattle.sms_script.specs.report.ReportText.{report_text}
 use Rattle.sms_script.specs.declared.report.Broken.{Broken}
 use Rattle.sms_script.specs.declared.report.Report.{Report}
-use Rattle.sms_world.specs.running.Reporting.{Gives, Reports}
+use Rattle.sms_world.specs.running.Reporting.{ReportsAs, Reports}
 use Rattle.sms_world.specs.running.RunEnd.{EndsFor, Outputs, Reads, error_in, error_of, text_of_report}
 use Rattle.sms_world.specs.declared.running.run.SimError.{SimError}
 use Rattle.sms_world.specs.declared.running.run.SimError.TheVariants.{BadLine as IsBadLine, BadSetup as IsBadSetup, Io as IsIo, NoMemory as IsNoMemory, NoSuchAccount as IsNoSuchAccount, NoSuchFrame as IsNoSuchFrame, NoSuchSide as IsNoSuchSide}
@@ -36,7 +36,7 @@ module _ (report : Report) (broken : Option Broken) (w : Result Report PlayFault
 untold : (p : Result (Option Broken) PlayFault) (fault : PlayFault) (wanted : Result Report PlayFault) → wanted ≡ Err fault → text_of_report wanted p ≡ Err fault
 untold p fault wanted e = ap (λ (w : Result Report PlayFault). text_of_report w p) e
 
-pub no_text : {X : Type 0} (part : X → Report) (p : Result (Option Broken) PlayFault) (fault : PlayFault) (wanted : Result Report PlayFault) → Gives part (Err fault) wanted → Reports {X = List ℕ} (Err fault) (text_of_report wanted p)
+pub no_text : {X : Type 0} (part : X → Report) (p : Result (Option Broken) PlayFault) (fault : PlayFault) (wanted : Result Report PlayFault) → ReportsAs part (Err fault) wanted → Reports {X = List ℕ} (Err fault) (text_of_report wanted p)
 no_text part p (NoMemory event) wanted is = tt
 no_text part p (NoSuchFrame event) wanted is = untold p (NoSuchFrame event) wanted is
 no_text part p (NoSuchSide event) wanted is = untold p (NoSuchSide event) wanted is

@@ -45,7 +45,7 @@ use Rattle.sms_centre_spec.specs.Draft.{Core, Draft, Store, draft_of, handsets_i
 use Rattle.sms_centre_spec.specs.MessageNumbers.{next_number}
 use Rattle.sms_centre_spec.specs.Ends.{end}
 use Rattle.sms_centre_spec.specs.Numbers.{id_in}
-use Rattle.sms_centre_spec.specs.Receiving.{all_due, is_duplicate, load_due, part_due, report_due, submit_accepted, submit_received, unit_received}
+use Rattle.sms_centre_spec.specs.Receiving.{all_due, is_duplicate, queued_due, part_due, report_due, submit_accepted, submit_received, unit_received}
 use Rattle.sms_centre_spec.specs.declared.order.Order.{Order}
 use Rattle.sms_centre_spec.specs.declared.order.Order.TheVariants.{Retry, Delete}
 use Rattle.sms_centre_spec.specs.Orders.{ordered, parts_among, retried}
@@ -145,7 +145,7 @@ module _ (k : ℕ) where
   all_due_stays : (ls : List QueuedPart) (s : Store) → At s → At (all_due ls s)
   all_due_stays [] s e = e
   all_due_stays (l ∷ ls) s e =
-      all_due_stays ls (load_due l s)
+      all_due_stays ls (queued_due l s)
       (cond_both (l.number == 0) (report_due (report_of l.id (reports_in s)) s) (part_due (part_at l.id l.number (parts_in s)) s) (λ (x : Store). At x)
       (λ t. report_due_stays (report_of l.id (reports_in s)) s e) (λ t. part_due_stays (part_at l.id l.number (parts_in s)) s e))
 

@@ -4,8 +4,8 @@ use Rattle.std.specs.Prelude.{if◌then◌else◌}
 use Rattle.sms_base.specs.Reading.{◌>>=◌}
 use Rattle.sms_script.specs.declared.report.answers.Answered.TheVariants.{Stopped as AnsweredStopped}
 use Rattle.sms_script.specs.declared.event.Act.{Act}
-use Rattle.sms_script.specs.declared.event.Side.{Side}
-use Rattle.sms_script.specs.declared.event.Side.TheVariants.{Centre, Handset}
+use Rattle.sms_script.specs.declared.event.EventSide.{EventSide}
+use Rattle.sms_script.specs.declared.event.EventSide.TheVariants.{Centre, Handset}
 use Rattle.sms_script.specs.declared.event.StopPoint.{StopPoint}
 use Rattle.sms_script.specs.declared.event.StopPoint.TheVariants.{Before, After}
 use Rattle.sms_script.specs.declared.event.WorldEvent.TheVariants.{Whole, Stopped, Restart}
@@ -72,7 +72,7 @@ handset_back : (n : ℕ) (h : List ℕ) (o : Option Party) (c d : PlayState) (w 
 handset_back n h None c d w s e q = absurd cc
 handset_back n h (Some p) c d w s e q = subst (λ (z : PlayState). PlayRefines z w) (same_play _ d q) (restart_refines c w s p (party_found h c.parties p e).0)
 
-side_back : (n : ℕ) (side : Side) (c d : PlayState) (w : World) → PlayRefines c w → restart n side c ≡ Ok d → PlayRefines d w
+side_back : (n : ℕ) (side : EventSide) (c d : PlayState) (w : World) → PlayRefines c w → restart n side c ≡ Ok d → PlayRefines d w
 side_back n Centre c d w s q = subst (λ (z : PlayState). PlayRefines z w) (same_play _ d q) (centre_restarts c w s)
 side_back n (Handset h) c d w s q = handset_back n h (party_at h c.parties) c d w s refl q
 

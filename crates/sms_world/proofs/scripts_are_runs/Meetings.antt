@@ -8,8 +8,8 @@ use Rattle.sms_script.specs.declared.report.rows.Direction.TheVariants.{Up, Down
 use Rattle.sms_script.specs.declared.report.rows.FrameRow.{FrameRow}
 use Rattle.sms_script.specs.declared.event.Act.{Act}
 use Rattle.sms_script.specs.declared.event.Act.TheVariants.{Submit, Query, Cancel, Write, Delete, Discard, Deliver, Tick}
-use Rattle.sms_script.specs.declared.event.Side.{Side}
-use Rattle.sms_script.specs.declared.event.Side.TheVariants.{Centre, Handset}
+use Rattle.sms_script.specs.declared.event.EventSide.{EventSide}
+use Rattle.sms_script.specs.declared.event.EventSide.TheVariants.{Centre, Handset}
 use Rattle.sms_centre_spec.specs.CentreEvent.{tag_of as centre_tag}
 use Rattle.sms_centre_spec.specs.SoundCore.{IsEvent}
 use Rattle.sms_centre_spec.specs.declared.event.CentreEvent.{CentreEvent}
@@ -138,7 +138,7 @@ module _ (c : PlayState) (w : World) (s : PlayRefines c w) (n : ℕ) where
 
   -- ---- timers
 
-  meets_tick : (side : Side) (now : ℕ) → IsGoodTick side now → (m : Meeting) → meeting_of n (Tick side now) c ≡ Ok m → Meets (Tick side now) c w m
+  meets_tick : (side : EventSide) (now : ℕ) → IsGoodTick side now → (m : Meeting) → meeting_of n (Tick side now) c ≡ Ok m → Meets (Tick side now) c w m
   meets_tick Centre now good m q =
       let x : AtCentre (CentreTick now) ≡ m = same_meeting (AtCentre (CentreTick now)) m q in
       subst (λ (z : Meeting). Meets (Tick Centre now) c w z) x (record { is = good; may = tt; scripted = tt; plays = λ steps a. a; moment = refl })

@@ -14,7 +14,7 @@ use Rattle.sms_centre_rows.specs.messages.SplitReferences.{next_split}
 use Rattle.sms_centre_rows.specs.reports.Reports.{report_key, report_of, report_reaching}
 use Rattle.sms_centre_rows.specs.declared.reports.report.ReportKind.{ReportKind}
 use Rattle.sms_centre_rows.specs.declared.reports.report.ReportRow.{ReportRow}
-use Rattle.sms_centre_rows.specs.reports.Waiting.{IsNew}
+use Rattle.sms_centre_rows.specs.reports.Waiting.{IsReportApart}
 use Rattle.sms_centre_rows.proofs.reports.AllWaiting.{report_found}
 use Rattle.sms_centre_rows.proofs.reports.ReportRows.{far_none, far_of, new_report, new_report_other, so_far}
 use Rattle.sms_rows.specs.table.Table.{Rises, put}
@@ -52,7 +52,7 @@ use Rattle.sms_world.proofs.scripts_are_runs.Growing.{among_last}
 -- each report that came was of a message that had none, over the rows that those behind it led to
 abbrev pub ReportsMove : List (Revision ReportRow) → List ReportRow → Type 0
 ReportsMove [] rs = Unit {0}
-ReportsMove (Put r ∷ news) rs = IsNew (rows_after report_key report_reaching news rs) r × ReportsMove news rs
+ReportsMove (Put r ∷ news) rs = IsReportApart (rows_after report_key report_reaching news rs) r × ReportsMove news rs
 ReportsMove (Amend n progress ∷ news) rs = ReportsMove news rs
 ReportsMove (Remove n ∷ news) rs = ⊥
 
@@ -197,7 +197,7 @@ far_kind n p s = cond_both (s.place == n) (report_reaching p s) s (λ (x : Repor
 amend_still : (id n : ℕ) (p : Progress) (kind : ReportKind) (rs : List ReportRow) → Still id kind rs → Still id kind (amended report_key report_reaching n p rs)
 amend_still id n p kind rs x = (so_far n p x.0, (far_of id n p rs x.0 x.1.0, far_kind n p x.0 ∙ x.1.1))
 
-put_still : (id : ℕ) (r : ReportRow) (kind : ReportKind) (rs : List ReportRow) → IsNew rs r → Still id kind rs → Still id kind (put report_key r rs)
+put_still : (id : ℕ) (r : ReportRow) (kind : ReportKind) (rs : List ReportRow) → IsReportApart rs r → Still id kind rs → Still id kind (put report_key r rs)
 put_still id r kind rs new x =
     let f = report_found id x.0 rs x.1.0 in
     (x.0, (new_report_other id r rs new (λ e. new.message x.0 f.0 (f.1 ∙ sym e)) ∙ x.1.0, x.1.1))
@@ -223,7 +223,7 @@ put_report_new r [] rs moves i = absurd i
 put_report_new r (Put x ∷ news) rs moves i = ⊎_elim
     (λ (e : Put r ≡ Put x).
     let same : r ≡ x = cc in
-    let new : IsNew (rows news rs) r = subst (λ (z : ReportRow). IsNew (rows news rs) z) (sym same) moves.0 in
+    let new : IsReportApart (rows news rs) r = subst (λ (z : ReportRow). IsReportApart (rows news rs) z) (sym same) moves.0 in
     record {
       none = was_none r.id news rs moves.1 new.message (report_of r.id rs) refl;
       stays = subst (λ (z : ReportRow). Still r.id r.kind (put report_key z (rows news rs))) same (r, (new_report r (rows news rs) new, refl));

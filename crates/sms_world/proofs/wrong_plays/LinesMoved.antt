@@ -1,6 +1,6 @@
 -- Lines and receipts that go, or change.
 use Rattle.std.proofs.Common.{refl, sym, ◌∙◌, inl}
-use Rattle.sms_script.specs.declared.report.answers.MessageState.TheVariants.{Enroute, Final}
+use Rattle.sms_centre_rows.specs.declared.report_lines.MessageState.TheVariants.{Enroute, Final}
 use Rattle.sms_base.specs.declared.final_state.FinalState.TheVariants.{Delivered, Expired}
 use Rattle.sms_world.proofs.wrong_reports.Apart.{delivered_is_not_expired, only_line}
 use Rattle.sms_world.proofs.wrong_reports.GivenTwice.{refused as given_is_refused}

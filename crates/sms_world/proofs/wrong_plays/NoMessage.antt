@@ -8,7 +8,7 @@ use Rattle.sms_play.specs.Playing.{report_of}
 use Rattle.sms_script.specs.declared.event.WorldEvent.{WorldEvent}
 use Rattle.sms_script.specs.declared.play_fault.PlayFault.{PlayFault}
 use Rattle.sms_script.specs.declared.report.Report.{Report}
-use Rattle.sms_script.specs.declared.report.answers.MessageState.TheVariants.{Enroute}
+use Rattle.sms_centre_rows.specs.declared.report_lines.MessageState.TheVariants.{Enroute}
 use Rattle.sms_world.specs.headline.Origins.{IsFrom}
 use Rattle.sms_world.specs.wrong_plays.Plays.{first, from_application, setup}
 use Rattle.sms_world.specs.wrong_plays.Told.{FromNoneLaw, LineOfNoneLaw, NobodysLaw, ReceiptOfNoneLaw}

@@ -11,7 +11,7 @@ use Rattle.sms_script.specs.declared.event.WorldEvent.TheVariants.{Stopped}
 use Rattle.sms_script.specs.declared.play_fault.PlayFault.{PlayFault}
 use Rattle.sms_centre_rows.specs.declared.messages.message.MessageRow.{MessageRow}
 use Rattle.sms_centre_rows.specs.declared.messages.part.PartRow.{PartRow}
-use Rattle.sms_world.specs.headline.Origins.{IsFrom, Makes}
+use Rattle.sms_world.specs.headline.Origins.{IsFrom, MakesMessage}
 use Rattle.sms_world.specs.wrong_plays.Happened.{FromQueryLaw, FromStoppedLaw, OtherIdLaw, OtherMomentLaw, queries}
 use Rattle.sms_world.specs.wrong_plays.Plays.{first, from_application, part_one, setup}
 use Rattle.sms_world.specs.wrong_reports.Literals.{asked, submits}
@@ -35,8 +35,8 @@ is_first e (y ∷ ys) x others q = absurd (no_events ys x others tail)
     tail : [] ≡ ys ++ x ∷ others
     tail = cc
 
-makes : (e : WorldEvent) (m : MessageRow) (parts : List PartRow) (o : IsFrom setup (e ∷ []) m parts) → Makes e o.before m parts
-makes e m parts o = subst (λ (x : WorldEvent). Makes x o.before m parts) (sym (is_event e o.some o.event o.others o.among)) o.makes
+makes : (e : WorldEvent) (m : MessageRow) (parts : List PartRow) (o : IsFrom setup (e ∷ []) m parts) → MakesMessage e o.before m parts
+makes e m parts o = subst (λ (x : WorldEvent). MakesMessage x o.before m parts) (sym (is_event e o.some o.event o.others o.among)) o.makes
 
 abbrev Leads : Result PlayState PlayFault → PlayState → Type 0
 Leads found c = found ≡ Ok c

@@ -1,8 +1,8 @@
 use Rattle.std.proofs.Common.{◌≡◌, ℕ, List, [], ◌∷◌, refl, sym, ap, inl, inr, ⊎_elim}
 use Rattle.sms_base.specs.Among.{Among}
-use Rattle.sms_script.specs.declared.report.rows.ReportedMessage.{ReportedMessage}
-use Rattle.sms_script.specs.declared.report.answers.MessageState.{MessageState}
-use Rattle.sms_script.specs.declared.report.answers.MessageState.TheVariants.{Enroute, Final}
+use Rattle.sms_centre_rows.specs.declared.report_lines.ReportedMessage.{ReportedMessage}
+use Rattle.sms_centre_rows.specs.declared.report_lines.MessageState.{MessageState}
+use Rattle.sms_centre_rows.specs.declared.report_lines.MessageState.TheVariants.{Enroute, Final}
 use Rattle.sms_base.specs.declared.final_state.FinalState.TheVariants.{Deleted}
 use Rattle.sms_world.proofs.wrong_reports.Apart.{enroute_is_not_deleted}
 use Rattle.smpp_pdu.specs.declared.status.CommandStatus.TheVariants.{ESME_RCANCELFAIL, ESME_ROK}

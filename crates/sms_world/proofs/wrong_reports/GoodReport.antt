@@ -1,9 +1,9 @@
 use Rattle.std.proofs.Common.{arith, ◌≡◌, ℕ, zero, suc, List, [], ◌∷◌, false, refl, sym, ◌∙◌, ap, subst, inl, ⊎_elim, Some, ◌<◌}
 use Rattle.sms_base.specs.Among.{Among}
-use Rattle.sms_script.specs.declared.report.rows.ReportedMessage.{ReportedMessage}
-use Rattle.sms_script.specs.declared.report.rows.ReceiptRow.{ReceiptRow}
-use Rattle.sms_script.specs.declared.report.answers.MessageState.{MessageState}
-use Rattle.sms_script.specs.declared.report.answers.MessageState.TheVariants.{Enroute, Final}
+use Rattle.sms_centre_rows.specs.declared.report_lines.ReportedMessage.{ReportedMessage}
+use Rattle.sms_centre_rows.specs.declared.report_lines.ReceiptRow.{ReceiptRow}
+use Rattle.sms_centre_rows.specs.declared.report_lines.MessageState.{MessageState}
+use Rattle.sms_centre_rows.specs.declared.report_lines.MessageState.TheVariants.{Enroute, Final}
 use Rattle.sms_base.specs.declared.final_state.FinalState.{FinalState}
 use Rattle.sms_base.specs.declared.final_state.FinalState.TheVariants.{Delivered, Deleted}
 use Rattle.std.specs.Prelude.{◌≤◌}
@@ -15,7 +15,7 @@ use Rattle.sms_world.proofs.wrong_reports.Read.{part, content, octets_are}
 use Rattle.sms_world.specs.wrong_reports.Literals.{account, accepted, answer, asked, events, given, good, handed, handset, hello_octets, line, name, nothing, receipt, reports, setup, source, submits, taken}
 use Rattle.sms_base.specs.HandsetNumber.{own_address}
 use Rattle.sms_intake.specs.PartTexts.{deliver_octets}
-use Rattle.sms_world.specs.headline.PlainHeadline.{Answers}
+use Rattle.sms_world.specs.headline.PlainHeadline.{AnswersAreTrue}
 use Rattle.sms_world.specs.headline.PlainReport.{Appears, IsAcceptedOnce, IsOfApplication, IsOfEvent, IsPartOf, NamesMessage, Origin, Stays, WasDelivered, compared_line}
 use Rattle.sms_world.specs.headline.PlainScript.{IsAskedBy}
 use Rattle.sms_world.specs.headline.PlainWords.{numbered}
@@ -172,7 +172,7 @@ no_status a e f = no (ap (λ (z : Answer). z.answered) (sym e) ∙ f)
 only_answer : (a : Answer) → Among a (answer ∷ []) → a ≡ answer
 only_answer a i = ⊎_elim (λ (e : a ≡ answer). e) (λ (n : ⊥). absurd n) i
 
-answers : Answers events (reports good) good
+answers : AnswersAreTrue events (reports good) good
 answers = record {
   ascend = (λ x i. absurd i, tt);
   named = λ a id i f.

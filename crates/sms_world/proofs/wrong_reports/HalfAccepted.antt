@@ -17,7 +17,7 @@ use Rattle.sms_script.specs.declared.event.StopPoint.TheVariants.{After}
 use Rattle.sms_script.specs.declared.event.Submission.{Submission as ScriptSubmission}
 use Rattle.sms_script.specs.declared.event.WorldEvent.{WorldEvent}
 use Rattle.sms_script.specs.declared.event.WorldEvent.TheVariants.{Stopped, Whole}
-use Rattle.sms_script.specs.declared.report.answers.MessageState.TheVariants.{Final}
+use Rattle.sms_centre_rows.specs.declared.report_lines.MessageState.TheVariants.{Final}
 use Rattle.sms_script.specs.declared.report.Report.{Report}
 use Rattle.sms_script.specs.declared.report.rows.AcceptedRow.{AcceptedRow}
 use Rattle.sms_script.specs.declared.report.rows.GivenRow.{GivenRow}

@@ -1,5 +1,5 @@
 use Rattle.std.proofs.Common.{arith, refl, inl, ◌<◌}
-use Rattle.sms_script.specs.declared.report.answers.MessageState.TheVariants.{Enroute}
+use Rattle.sms_centre_rows.specs.declared.report_lines.MessageState.TheVariants.{Enroute}
 use Rattle.sms_world.specs.wrong_reports.Literals.{line}
 use Rattle.sms_world.specs.wrong_reports.Tried.{LineLaw}
 

@@ -1,7 +1,7 @@
 use Rattle.std.proofs.Common.{◌≡◌, ℕ, suc, refl, subst, inl, inr}
 use Rattle.sms_base.specs.Among.{Among}
-use Rattle.sms_script.specs.declared.report.rows.ReportedMessage.{ReportedMessage}
-use Rattle.sms_script.specs.declared.report.answers.MessageState.TheVariants.{Enroute}
+use Rattle.sms_centre_rows.specs.declared.report_lines.ReportedMessage.{ReportedMessage}
+use Rattle.sms_centre_rows.specs.declared.report_lines.MessageState.TheVariants.{Enroute}
 use Rattle.sms_world.specs.wrong_reports.Literals.{line}
 use Rattle.sms_script.specs.declared.report.answers.Answered.TheVariants.{Accepted}
 use Rattle.sms_world.specs.headline.PlainReport.{Appears}

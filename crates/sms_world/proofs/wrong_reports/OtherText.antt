@@ -1,6 +1,6 @@
 use Rattle.std.proofs.Common.{◌≡◌, [], ◌∷◌, refl, sym, ◌∙◌, ap, inl, ⊎_elim}
 use Rattle.sms_base.specs.Among.{Among}
-use Rattle.sms_script.specs.declared.report.answers.MessageState.TheVariants.{Final}
+use Rattle.sms_centre_rows.specs.declared.report_lines.MessageState.TheVariants.{Final}
 use Rattle.sms_base.specs.declared.final_state.FinalState.TheVariants.{Delivered}
 use Rattle.sms_tpdu.specs.MoreMessages.{compared}
 use Rattle.sms_world.proofs.wrong_reports.Read.{part, first_part, is_read, octets_are}

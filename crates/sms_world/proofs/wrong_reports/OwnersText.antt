@@ -24,8 +24,8 @@ use Rattle.sms_script.specs.declared.event.WorldEvent.TheVariants.{Stopped, Whol
 use Rattle.sms_script.specs.declared.report.Report.{Report}
 use Rattle.sms_script.specs.declared.report.rows.FrameRow.{FrameRow}
 use Rattle.sms_script.specs.declared.report.rows.GivenRow.{GivenRow}
-use Rattle.sms_script.specs.declared.report.rows.ReceiptRow.{ReceiptRow}
-use Rattle.sms_script.specs.declared.report.rows.ReportedMessage.{ReportedMessage}
+use Rattle.sms_centre_rows.specs.declared.report_lines.ReceiptRow.{ReceiptRow}
+use Rattle.sms_centre_rows.specs.declared.report_lines.ReportedMessage.{ReportedMessage}
 use Rattle.sms_world.specs.headline.PlainReport.{Appears, IsEntered, IsOfApplication, IsOfEvent, IsOfOwner, Stays}
 use Rattle.sms_world.specs.headline.PlainScript.{Does, IsWrittenBy}
 use Rattle.sms_world.specs.headline.PlainWords.{numbered}

@@ -1,7 +1,7 @@
 -- What the one submission of the small script is, read from its words.
 use Rattle.std.proofs.Common.{◌≡◌, ℕ, zero, suc, List, [], ◌∷◌, Bool, false, refl, sym, ◌∙◌, ap, subst, ⊎_elim, Some, None, Ok, Result}
 use Rattle.sms_base.specs.Among.{Among}
-use Rattle.sms_script.specs.declared.report.rows.ReportedMessage.{ReportedMessage}
+use Rattle.sms_centre_rows.specs.declared.report_lines.ReportedMessage.{ReportedMessage}
 use Rattle.sms_world.specs.wrong_reports.Literals.{asked, account, events, hello, hello_octets, deliver, setup, source}
 use Rattle.sms_base.specs.HandsetNumber.{own_address}
 use Rattle.sms_intake.specs.SmppText.{plain_text, text_in}

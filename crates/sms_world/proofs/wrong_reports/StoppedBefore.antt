@@ -4,7 +4,7 @@ use Rattle.sms_script.specs.declared.event.Act.TheVariants.{Deliver, Submit}
 use Rattle.sms_script.specs.declared.event.StopPoint.TheVariants.{After, Before}
 use Rattle.sms_script.specs.declared.event.WorldEvent.{WorldEvent}
 use Rattle.sms_script.specs.declared.event.WorldEvent.TheVariants.{Stopped, Whole}
-use Rattle.sms_script.specs.declared.report.answers.MessageState.TheVariants.{Enroute}
+use Rattle.sms_centre_rows.specs.declared.report_lines.MessageState.TheVariants.{Enroute}
 use Rattle.sms_world.specs.headline.PlainReport.{IsOfApplication, IsOfOwner}
 use Rattle.sms_world.specs.headline.PlainScript.{Does}
 use Rattle.sms_world.specs.headline.PlainWords.{numbered}

@@ -4,8 +4,8 @@ use Rattle.sms_base.specs.Among.{Among}
 use Rattle.sms_script.specs.declared.event.Act.TheVariants.{Submit}
 use Rattle.sms_script.specs.declared.event.StopPoint.TheVariants.{After}
 use Rattle.sms_script.specs.declared.event.WorldEvent.TheVariants.{Stopped, Whole}
-use Rattle.sms_script.specs.declared.report.answers.MessageState.TheVariants.{Enroute}
-use Rattle.sms_script.specs.declared.report.rows.ReportedMessage.{ReportedMessage}
+use Rattle.sms_centre_rows.specs.declared.report_lines.MessageState.TheVariants.{Enroute}
+use Rattle.sms_centre_rows.specs.declared.report_lines.ReportedMessage.{ReportedMessage}
 use Rattle.sms_concat.specs.Cutting.{split_of}
 use Rattle.sms_world.specs.headline.PlainReport.{Appears, IsOfApplication, IsOfEvent, Stays}
 use Rattle.sms_world.specs.wrong_reports.Literals.{asked, line, nothing, setup, stopped, stopping, unanswered}

@@ -1,8 +1,8 @@
 -- A receipt that says DELIVRD of a message that was never accepted.
 use Rattle.std.proofs.Common.{◌≡◌, inl, refl, subst, ⊎_elim}
 use Rattle.sms_base.specs.declared.final_state.FinalState.TheVariants.{Expired}
-use Rattle.sms_script.specs.declared.report.answers.MessageState.TheVariants.{Final}
-use Rattle.sms_script.specs.declared.report.rows.ReportedMessage.{ReportedMessage}
+use Rattle.sms_centre_rows.specs.declared.report_lines.MessageState.TheVariants.{Final}
+use Rattle.sms_centre_rows.specs.declared.report_lines.ReportedMessage.{ReportedMessage}
 use Rattle.sms_world.proofs.wrong_reports.Read.{first_part, is_read, part}
 use Rattle.sms_world.specs.headline.PlainReport.{WasDelivered}
 use Rattle.sms_world.specs.wrong_reports.Literals.{events, line, receipt, receipt_of_expired, reports, setup}

@@ -1,7 +1,7 @@
 use Rattle.std.proofs.Common.{◌≡◌, ℕ, zero, suc, List, [], ◌∷◌, refl, ap, subst, inl, ⊎_elim, Some}
 use Rattle.sms_base.specs.Among.{Among}
-use Rattle.sms_script.specs.declared.report.answers.MessageState.{MessageState}
-use Rattle.sms_script.specs.declared.report.answers.MessageState.TheVariants.{Enroute}
+use Rattle.sms_centre_rows.specs.declared.report_lines.MessageState.{MessageState}
+use Rattle.sms_centre_rows.specs.declared.report_lines.MessageState.TheVariants.{Enroute}
 use Rattle.sms_world.specs.wrong_reports.Literals.{name, id_one, line, asking, asked, asked_then, submits, answer}
 use Rattle.sms_world.specs.headline.PlainReport.{Appears, IsFoundTruly, IsOwn}
 use Rattle.sms_world.specs.headline.PlainWords.{numbered}

@@ -5,7 +5,7 @@ use Rattle.sms_script.specs.declared.event.StopPoint.TheVariants.{After}
 use Rattle.sms_script.specs.declared.event.WorldEvent.{WorldEvent}
 use Rattle.sms_script.specs.declared.event.WorldEvent.TheVariants.{Stopped, Whole}
 use Rattle.sms_script.specs.declared.report.answers.Answered.TheVariants.{Accepted}
-use Rattle.sms_script.specs.declared.report.answers.MessageState.TheVariants.{Enroute}
+use Rattle.sms_centre_rows.specs.declared.report_lines.MessageState.TheVariants.{Enroute}
 use Rattle.sms_world.specs.headline.PlainReport.{IsAnswered, IsOfApplication, IsOfOwner}
 use Rattle.sms_world.specs.headline.PlainWords.{numbered}
 use Rattle.sms_world.specs.wrong_reports.Literals.{line, setup, stopped, submits}

@@ -22,8 +22,8 @@ Reaches number moment before Seen w =
     × (AreOfFrame number before own follows × Run w (items moment false (own ++ follows)) × Seen (end w (items moment false (own ++ follows))))
 
 -- by a centre in the middle of the event
-abbrev pub Answers : ℕ → ℕ → World → Draft → World → Type 0
-Answers number moment before d w = Reaches number moment before (λ v. CentreRefines before d v) w
+abbrev pub AnswersInEvent : ℕ → ℕ → World → Draft → World → Type 0
+AnswersInEvent number moment before d w = Reaches number moment before (λ v. CentreRefines before d v) w
 
 -- by its rows, while nothing is sent
 abbrev pub Settles : ℕ → ℕ → World → Store → World → Type 0
@@ -33,4 +33,4 @@ Settles number moment before s w = Reaches number moment before (λ v. StoreRefi
 abbrev pub Begins : ℕ → ℕ → Draft → World → Type 0
 Begins number moment d w =
     (control : List Step)
-    × (AllControl control × AllOfCentre control × Run w (items moment false control) × Answers number moment w d (end w (items moment false control)))
+    × (AllControl control × AllOfCentre control × Run w (items moment false control) × AnswersInEvent number moment w d (end w (items moment false control)))

@@ -5,7 +5,7 @@ use Rattle.sms_world_model.specs.World.{World}
 use Rattle.sms_world_model.specs.ScriptRun.{Event, IsPlayed, items, Handed, Removed, Tick_handset, Wrote}
 use Rattle.sms_world_model.specs.Sides.{AllOfHandset}
 use Rattle.sms_world_model.specs.WorldStep.{Step, Run, end}
-use Rattle.sms_handset.specs.Planning.{OfDelete, OfDiscard, OfFrame, OfTick, OfWrite, PlanOf, Plans, Rests, adopted}
+use Rattle.sms_handset.specs.Planning.{OfDelete, OfDiscard, OfFrame, OfTick, OfWrite, PlanOf, Plans, IsRevised, adopted}
 use Rattle.sms_handset_draft.specs.Outcome.{Outcome, outcome_of}
 use Rattle.sms_handset.specs.HandsetEvent.{deleted, discarded, frame_received, tag_of, ticked, wrote}
 use Rattle.sms_handset.specs.SoundCore.{IsSoundCore}
@@ -50,5 +50,5 @@ PlanLaw =
 -- whoever adopts what an event led to sees the world that the event led to
 abbrev pub AdoptedLaw : Type 0
 AdoptedLaw =
-    (h : List ℕ) (b : World) (o : Outcome) (c : Core) (d : Draft) (w : World) → o ≡ outcome_of d → Rests c.rows d → Refines h b d w
+    (h : List ℕ) (b : World) (o : Outcome) (c : Core) (d : Draft) (w : World) → o ≡ outcome_of d → IsRevised c.rows d → Refines h b d w
     → Refines h w (draft_of (adopted o c)) w

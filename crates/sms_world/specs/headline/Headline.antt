@@ -6,7 +6,8 @@ use Rattle.sms_play.specs.answers.AnswerLaws.{HaveNoSystemError}
 use Rattle.sms_script.specs.declared.event.WorldEvent.{WorldEvent}
 use Rattle.sms_script.specs.declared.report.Report.{Report}
 use Rattle.sms_script.specs.declared.setup.Setup.{Setup}
-use Rattle.sms_world.specs.headline.Claims.{AllTimely, AreOnce, DeliveredOnce, FinalStays, GivenOnce, HeldDiffer, JoinedWhole, LinesStay, PartsOnce, ReceiptsStay, ReceiptsHaveState, SentSubmitted, ConfirmedAreThere, StatusReportsAreListed, AllFresh}
+use Rattle.sms_world.specs.headline.Claims.{AllTimely, AreOnce, DeliveredOnce, FinalStays, GivenOnce, HeldDiffer, JoinedWhole, LinesStay, PartsOnce}
+use Rattle.sms_world.specs.headline.Claims.{ReceiptsStay, ReceiptsHaveState, SentSubmitted, ConfirmedAreThere, StatusReportsAreListed, AllFresh}
 use Rattle.sms_world.specs.headline.OneRun.{Runs}
 use Rattle.sms_world.specs.headline.PlainReport.{AreAscending}
 use Rattle.sms_world.specs.headline.ReportClaims.{StatusReportsSay}

@@ -6,7 +6,9 @@ use Rattle.sms_script.specs.declared.event.WorldEvent.{WorldEvent}
 use Rattle.sms_script.specs.declared.report.Report.{Report}
 use Rattle.sms_script.specs.declared.script.Script.{Script}
 use Rattle.sms_script.specs.declared.setup.Setup.{Setup}
-use Rattle.sms_world.specs.headline.Claims.{AllTimely, AreOnce, DeliveredOnce, FinalStays, GivenOnce, HasOneLine, HeldDiffer, JoinedOfParts, JoinedOnce, JoinedWhole, LinesStay, PartsOnce, ReceiptsStay, ReceiptsHaveState, SentSubmitted, ReportedOnce, ConfirmedAreThere, StatusReportsAreListed, AllFresh}
+use Rattle.sms_world.specs.headline.Claims.{AllTimely, AreOnce, DeliveredOnce, FinalStays, GivenOnce, HasOneLine, HeldDiffer, JoinedOfParts, JoinedOnce}
+use Rattle.sms_world.specs.headline.Claims.{JoinedWhole, LinesStay, PartsOnce, ReceiptsStay, ReceiptsHaveState, SentSubmitted, ReportedOnce, ConfirmedAreThere}
+use Rattle.sms_world.specs.headline.Claims.{StatusReportsAreListed, AllFresh}
 use Rattle.sms_world.specs.headline.Headline.{Headline}
 use Rattle.sms_world.specs.headline.OneRun.{Runs}
 use Rattle.sms_world.specs.headline.ReportClaims.{StatusReportsSay}

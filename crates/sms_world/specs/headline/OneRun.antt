@@ -1,9 +1,10 @@
 -- One run of the world through all events of a script. Each event is steps of the world, and each play state on the way shows the world there.
 use Rattle.sms_script.specs.declared.event.Act.{Act}
 use Rattle.sms_script.specs.declared.event.Act.TheVariants.{Submit, Query, Cancel, Write, Delete, Discard, Deliver, Tick}
-use Rattle.sms_script.specs.declared.event.Side.{Side}
-use Rattle.sms_script.specs.declared.event.Side.TheVariants.{Centre, Handset}
-use Rattle.sms_world_model.specs.ScriptRun.{Asked, Cancelled, Event, Handed, Removed, Submitted, Tick_centre, Tick_handset, Wrote, After, Before, Happening, Restarted, Went, Whole as WentWhole, Belongs, happened}
+use Rattle.sms_script.specs.declared.event.EventSide.{EventSide}
+use Rattle.sms_script.specs.declared.event.EventSide.TheVariants.{Centre, Handset}
+use Rattle.sms_world_model.specs.ScriptRun.{Asked, Cancelled, Event, Handed, Removed, Submitted, Tick_centre, Tick_handset, Wrote, After, Before, Happening}
+use Rattle.sms_world_model.specs.ScriptRun.{Restarted, Went, Whole as WentWhole, Belongs, happened}
 use Rattle.std.specs.Prelude.{ℕ, max, List, [], ◌+◌, ◌↔◌, ◌∷◌, ◌≡◌, Ok, true}
 use Rattle.sms_script.specs.declared.event.StopPoint.{StopPoint}
 use Rattle.sms_script.specs.declared.event.StopPoint.TheVariants.{Before as StopBefore, After as StopAfter}
@@ -27,7 +28,7 @@ use Rattle.sms_world.specs.headline.SeenPlay.{SeenWorld}
 
 -- ---- which event of the world it is
 
-abbrev pub tick_of : Side → Event
+abbrev pub tick_of : EventSide → Event
 tick_of Centre = Tick_centre
 tick_of (Handset number) = Tick_handset
 
@@ -43,7 +44,7 @@ event_of (Tick side now) = tick_of side
 
 -- ---- when: only a tick of the centre moves its time, and never back
 
-abbrev pub side_moment : Side → ℕ → ℕ → ℕ
+abbrev pub side_moment : EventSide → ℕ → ℕ → ℕ
 side_moment Centre now moment = max moment now
 side_moment (Handset number) now moment = moment
 

@@ -43,9 +43,9 @@ use Rattle.sms_world_model.specs.World.{Accepted}
 use Rattle.sms_script.specs.declared.report.rows.GivenRow.{GivenRow}
 use Rattle.sms_world.specs.headline.Claims.{IsGivenTo}
 use Rattle.sms_base.specs.declared.final_state.FinalState.TheVariants.{Delivered}
-use Rattle.sms_script.specs.declared.report.answers.MessageState.TheVariants.{Final}
-use Rattle.sms_script.specs.declared.report.rows.ReportedMessage.{ReportedMessage}
-use Rattle.sms_script.specs.declared.report.rows.ReceiptRow.{ReceiptRow}
+use Rattle.sms_centre_rows.specs.declared.report_lines.MessageState.TheVariants.{Final}
+use Rattle.sms_centre_rows.specs.declared.report_lines.ReportedMessage.{ReportedMessage}
+use Rattle.sms_centre_rows.specs.declared.report_lines.ReceiptRow.{ReceiptRow}
 
 -- ---- a submission, and the rows of its message
 
@@ -151,11 +151,11 @@ ActMakes (Deliver number) before m parts = IsOfHandset number before m parts
 ActMakes (Tick side now) before m parts = ⊥
 
 -- a side that is stopped before its store call has stored nothing of the event
-abbrev pub Makes : WorldEvent → PlayState → MessageRow → List PartRow → Type 0
-Makes (Whole act) before m parts = ActMakes act before m parts
-Makes (Stopped Before act) before m parts = ⊥
-Makes (Stopped After act) before m parts = ActMakes act before m parts
-Makes (Restart side) before m parts = ⊥
+abbrev pub MakesMessage : WorldEvent → PlayState → MessageRow → List PartRow → Type 0
+MakesMessage (Whole act) before m parts = ActMakes act before m parts
+MakesMessage (Stopped Before act) before m parts = ⊥
+MakesMessage (Stopped After act) before m parts = ActMakes act before m parts
+MakesMessage (Restart side) before m parts = ⊥
 
 -- One of the events, at the play state that those before it led to, made the message. It is there from that event on.
 pub record IsFrom (s : Setup) (events : List WorldEvent) (m : MessageRow) (parts : List PartRow) : Type 0 where
@@ -165,7 +165,7 @@ pub record IsFrom (s : Setup) (events : List WorldEvent) (m : MessageRow) (parts
   pub among : events ≡ some ++ event ∷ others
   pub before : PlayState
   pub leads : play_state_of s some ≡ Ok before
-  pub makes : Makes event before m parts
+  pub makes : MakesMessage event before m parts
   -- at the centre's moment then, which its receipt or status report says
   pub submitted : m.submitted ≡ before.centre.moment
   pub next : PlayState
@@ -203,7 +203,7 @@ ActAccepted (Discard handset entry) c before m makes = ⊥
 ActAccepted (Deliver number) c before m makes = SubmitAccepted c m makes.submit
 ActAccepted (Tick side now) c before m makes = ⊥
 
-abbrev pub WasAccepted : (e : WorldEvent) → (c before : PlayState) → (m : MessageRow) → Makes e before m c.centre.rows.parts → Type 0
+abbrev pub WasAccepted : (e : WorldEvent) → (c before : PlayState) → (m : MessageRow) → MakesMessage e before m c.centre.rows.parts → Type 0
 WasAccepted (Whole act) c before m makes = ActAccepted act c before m makes
 WasAccepted (Stopped Before act) c before m makes = ⊥
 WasAccepted (Stopped After act) c before m makes = ActAccepted act c before m makes

@@ -17,7 +17,7 @@ use Rattle.sms_play.specs.Playing.{receipt_lines}
 use Rattle.sms_receipt.specs.StatusReports.{status_of}
 use Rattle.sms_script.specs.declared.report.rows.Direction.TheVariants.{Down}
 use Rattle.sms_script.specs.declared.report.rows.FrameRow.{FrameRow}
-use Rattle.sms_script.specs.declared.report.rows.ReceiptRow.{ReceiptRow}
+use Rattle.sms_centre_rows.specs.declared.report_lines.ReceiptRow.{ReceiptRow}
 use Rattle.sms_tpdu.specs.Codes.{status_octet}
 use Rattle.sms_tpdu.specs.TpduReading.{down_at}
 use Rattle.sms_tpdu.specs.declared.carrier.Carrier.TheVariants.{InData}

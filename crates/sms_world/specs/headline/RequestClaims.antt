@@ -17,7 +17,7 @@ use Rattle.sms_script.specs.declared.event.WorldEvent.{WorldEvent}
 use Rattle.sms_script.specs.declared.event.WorldEvent.TheVariants.{Whole}
 use Rattle.sms_script.specs.declared.report.answers.Answered.{Answered}
 use Rattle.sms_script.specs.declared.report.answers.Answered.TheVariants.{Found, Status}
-use Rattle.sms_script.specs.declared.report.answers.MessageState.{MessageState}
+use Rattle.sms_centre_rows.specs.declared.report_lines.MessageState.{MessageState}
 
 -- the event of that number, which led from the one play state to the other, was answered so
 abbrev pub IsAnswered : ℕ → PlayState → PlayState → Answered → Type 0

@@ -13,8 +13,10 @@ use Rattle.sms_tpdu.specs.MoreMessages.{compared}
 use Rattle.sms_base.specs.Among.{Among}
 use Rattle.sms_base.specs.declared.final_state.FinalState.{FinalState}
 use Rattle.sms_tpdu.specs.declared.user_data.UserData.{UserData}
-use Rattle.sms_world_model.specs.World.{Final, Message, Pending, IsRecorded, State, ReceiptOf, Allocation, Sent as Sent_frame, is_same_handset, Accepted, Joined, EntryState, Queued as Is_queued, Sending as Is_sending, Sent_up, Failed as Is_failed, Unsure as Is_unsure, OutEntry, World}
-use Rattle.sms_script.specs.declared.report.rows.ReceiptRow.{ReceiptRow}
+use Rattle.sms_world_model.specs.World.{Final, Message, Pending, IsRecorded, State, ReceiptOf, Allocation, Sent as Sent_frame, is_same_handset, Accepted}
+use Rattle.sms_world_model.specs.World.{Joined, EntryState, Queued as Is_queued, Sending as Is_sending, Sent_up, Failed as Is_failed, Unsure as Is_unsure}
+use Rattle.sms_world_model.specs.World.{OutEntry, World}
+use Rattle.sms_centre_rows.specs.declared.report_lines.ReceiptRow.{ReceiptRow}
 use Rattle.std.specs.Str.{bytes_eq}
 use Rattle.sms_base.specs.declared.holder.Holder.{Holder}
 use Rattle.sms_base.specs.declared.holder.Holder.TheVariants.{Part, Report, Entry, Memory}

@@ -10,17 +10,17 @@ use Rattle.sms_script.specs.declared.report.Report.{Report}
 use Rattle.sms_script.specs.declared.event.WorldEvent.{WorldEvent}
 
 -- This part of it is what was wanted, or the fault is reported that was wanted in its place. Or there was no memory for it.
-abbrev pub Gives : {X Y : Type 0} → (X → Y) → Result X PlayFault → Result Y PlayFault → Type 0
-Gives part (Ok x) wanted = wanted ≡ Ok (part x)
-Gives part (Err (NoMemory event)) wanted = Unit {0}
-Gives part (Err (NoSuchFrame event)) wanted = wanted ≡ Err (NoSuchFrame event)
-Gives part (Err (NoSuchSide event)) wanted = wanted ≡ Err (NoSuchSide event)
-Gives part (Err (NoSuchAccount event)) wanted = wanted ≡ Err (NoSuchAccount event)
-Gives part (Err BadSetup) wanted = wanted ≡ Err BadSetup
+abbrev pub ReportsAs : {X Y : Type 0} → (X → Y) → Result X PlayFault → Result Y PlayFault → Type 0
+ReportsAs part (Ok x) wanted = wanted ≡ Ok (part x)
+ReportsAs part (Err (NoMemory event)) wanted = Unit {0}
+ReportsAs part (Err (NoSuchFrame event)) wanted = wanted ≡ Err (NoSuchFrame event)
+ReportsAs part (Err (NoSuchSide event)) wanted = wanted ≡ Err (NoSuchSide event)
+ReportsAs part (Err (NoSuchAccount event)) wanted = wanted ≡ Err (NoSuchAccount event)
+ReportsAs part (Err BadSetup) wanted = wanted ≡ Err BadSetup
 
 -- the same of all of it
 abbrev pub Reports : {X : Type 0} → Result X PlayFault → Result X PlayFault → Type 0
-Reports result wanted = Gives (λ (x : _). x) result wanted
+Reports result wanted = ReportsAs (λ (x : _). x) result wanted
 
 -- A fault is the one that was wanted, or there was no memory.
 abbrev pub FaultsAs : {X Y : Type 0} → Result X PlayFault → Result Y PlayFault → Type 0

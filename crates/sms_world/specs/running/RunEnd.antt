@@ -2,7 +2,8 @@
 use Rattle.std.specs.Prelude.{◌≡◌, ℕ, List, Option, Result, Ok, Err}
 use Rattle.sms_base.specs.Reading.{◌>>=◌}
 use Rattle.sms_script.specs.declared.play_fault.PlayFault.{PlayFault}
-use Rattle.sms_script.specs.declared.play_fault.PlayFault.TheVariants.{BadSetup as HasBadSetup, NoMemory as HasNoMemory, NoSuchAccount as HasNoSuchAccount, NoSuchFrame as HasNoSuchFrame, NoSuchSide as HasNoSuchSide}
+use Rattle.sms_script.specs.declared.play_fault.PlayFault.TheVariants.{BadSetup as HasBadSetup, NoMemory as HasNoMemory, NoSuchAccount as HasNoSuchAccount}
+use Rattle.sms_script.specs.declared.play_fault.PlayFault.TheVariants.{NoSuchFrame as HasNoSuchFrame, NoSuchSide as HasNoSuchSide}
 use Rattle.sms_play.specs.Running.{BadLine as HasBadLine, Ran, Stopped, Wrote}
 use Rattle.sms_world.specs.declared.running.run.SimError.{SimError}
 use Rattle.sms_world.specs.declared.running.run.SimError.TheVariants.{BadLine, BadSetup, Io, NoMemory, NoSuchAccount, NoSuchFrame, NoSuchSide}

@@ -7,15 +7,15 @@ use Rattle.sms_script.specs.declared.report.rows.Direction.TheVariants.{Up, Down
 use Rattle.sms_script.specs.declared.report.rows.FrameRow.{FrameRow}
 use Rattle.sms_script.specs.declared.event.Act.{Act}
 use Rattle.sms_script.specs.declared.event.Act.TheVariants.{Submit, Query, Cancel, Write, Delete, Discard, Deliver, Tick}
-use Rattle.sms_script.specs.declared.event.Side.{Side}
-use Rattle.sms_script.specs.declared.event.Side.TheVariants.{Centre, Handset}
+use Rattle.sms_script.specs.declared.event.EventSide.{EventSide}
+use Rattle.sms_script.specs.declared.event.EventSide.TheVariants.{Centre, Handset}
 use Rattle.sms_script.specs.declared.event.WorldEvent.{WorldEvent}
 use Rattle.sms_script.specs.declared.event.WorldEvent.TheVariants.{Whole as WholeAct, Stopped, Restart}
 use Rattle.sms_play.specs.PlayState.{PlayState, frame_at}
 
 -- ---- what a script that was read says of its acts: the moment of a tick is one that time stamps write
 
-abbrev pub IsGoodTick : Side → ℕ → Type 0
+abbrev pub IsGoodTick : EventSide → ℕ → Type 0
 IsGoodTick Centre now = IsMoment now
 IsGoodTick (Handset number) now = Unit {0}
 

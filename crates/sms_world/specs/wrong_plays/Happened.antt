@@ -14,7 +14,7 @@ use Rattle.sms_script.specs.declared.event.WorldEvent.{WorldEvent}
 use Rattle.sms_script.specs.declared.event.WorldEvent.TheVariants.{Stopped, Whole}
 use Rattle.sms_script.specs.declared.event.Act.TheVariants.{Submit}
 use Rattle.sms_script.specs.declared.report.answers.Answered.TheVariants.{Accepted, Found, Status}
-use Rattle.sms_script.specs.declared.report.answers.MessageState.TheVariants.{Enroute, Final}
+use Rattle.sms_centre_rows.specs.declared.report_lines.MessageState.TheVariants.{Enroute, Final}
 use Rattle.sms_world.specs.headline.OneRun.{EntersNext, SubmitsAsAnswered, happening_of}
 use Rattle.sms_world.specs.headline.Origins.{IsFrom}
 use Rattle.sms_world.specs.headline.ReportClaims.{IsReceiptSent}

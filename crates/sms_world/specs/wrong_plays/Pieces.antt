@@ -16,7 +16,8 @@ use Rattle.sms_script.specs.declared.report.rows.GivenRow.{GivenRow}
 use Rattle.sms_world.specs.centres_refine_the_world.RefinesReports.{RefinesReports, reports_by}
 use Rattle.sms_world.specs.headline.Claims.{JoinedWhole, SentSubmitted}
 use Rattle.sms_world.specs.headline.SeenWorld.{RefinesHandset, entry_seen}
-use Rattle.sms_world.specs.wrong_plays.Plays.{entry, from_application, from_writer, of_handset, part_one, part_two, party, report_row, sent, setup, status_report, with_rows, writers_core}
+use Rattle.sms_world.specs.wrong_plays.Plays.{entry, from_application, from_writer, of_handset, part_one, part_two, party, report_row, sent, setup}
+use Rattle.sms_world.specs.wrong_plays.Plays.{status_report, with_rows, writers_core}
 use Rattle.sms_world.specs.wrong_plays.Shown.{receipt_there}
 use Rattle.sms_world.specs.wrong_reports.Literals.{given, handset, joined_row, writer}
 use Rattle.sms_world_model.specs.World.{empty}
@@ -75,7 +76,8 @@ JoinedUnknownLaw = ¬ RefinesHandset (record (party handset [] writers_core) { j
 
 abbrev pub EntryWithoutRowLaw : Type 0
 EntryWithoutRowLaw =
-    ¬ RefinesHandset (party writer [] (handset_recovered (first_rows (handset_setup setup of_handset)))) (record empty { outbox = entry_seen writer entry ∷ [] })
+    ¬ RefinesHandset (party writer [] (handset_recovered (first_rows (handset_setup setup of_handset))))
+    (record empty { outbox = entry_seen writer entry ∷ [] })
 
 abbrev pub ReportUnknownLaw : Type 0
 ReportUnknownLaw = ¬ RefinesReports (reports_by (report_row 1 1 Receipt ∷ [])) [] []

@@ -18,7 +18,7 @@ use Rattle.sms_script.specs.declared.event.Act.TheVariants.{Deliver}
 use Rattle.sms_script.specs.declared.event.WorldEvent.{WorldEvent}
 use Rattle.sms_script.specs.declared.event.WorldEvent.TheVariants.{Whole}
 use Rattle.sms_script.specs.declared.report.Report.{Report}
-use Rattle.sms_script.specs.declared.report.answers.MessageState.TheVariants.{Enroute, Final}
+use Rattle.sms_centre_rows.specs.declared.report_lines.MessageState.TheVariants.{Enroute, Final}
 use Rattle.sms_script.specs.declared.report.rows.Direction.TheVariants.{Down, Up}
 use Rattle.sms_script.specs.declared.report.rows.FrameRow.{FrameRow}
 use Rattle.sms_world.specs.headline.Claims.{AllFresh, AllTimely}
@@ -29,7 +29,8 @@ use Rattle.sms_world.specs.headline.SplitClaims.{IsSplitOf}
 use Rattle.sms_world.specs.wrong_plays.Happened.{queries}
 use Rattle.sms_world.specs.wrong_plays.Plays.{first, from_application, part_one}
 use Rattle.sms_world.specs.wrong_plays.Shown.{submission}
-use Rattle.sms_world.specs.wrong_reports.Literals.{accepted, answer, deliver, given, handset, hello, hello_octets, line, name, receipt, setup, source, submits, writer, zeros}
+use Rattle.sms_world.specs.wrong_reports.Literals.{accepted, answer, deliver, given, handset, hello, hello_octets, line, name, receipt, setup, source, submits}
+use Rattle.sms_world.specs.wrong_reports.Literals.{writer, zeros}
 use Rattle.sms_world.specs.wrong_reports.Worlds.{first_given, first_of_two}
 use Rattle.sms_world_model.specs.World.{empty}
 use Rattle.sms_world_model.specs.WorldStep.{Step, Submit as SubmitStep}

@@ -74,7 +74,8 @@ given_two = record { handset = handset; direction = Down; reference = 1; holder 
 -- ---- their receipt and status report
 
 abbrev pub report_row : ℕ → ℕ → ReportKind → ReportRow
-report_row place id kind = record { place = place; id = id; kind = kind; made = 946684860; progress = record { is_done = false; attempts = 0; due = 946684860 } }
+report_row place id kind =
+    record { place = place; id = id; kind = kind; made = 946684860; progress = record { is_done = false; attempts = 0; due = 946684860 } }
 
 -- under TP-MR 7, of the writer's message to the handset, which was received (3GPP TS 23.040 9.2.2.3)
 abbrev pub status_report : List ℕ

@@ -4,15 +4,18 @@ use Rattle.sms_base.specs.declared.final_state.FinalState.TheVariants.{Delivered
 use Rattle.sms_centre_rows.specs.declared.messages.message.MessageRow.{MessageRow}
 use Rattle.sms_centre_rows.specs.declared.messages.part.PartRow.{PartRow}
 use Rattle.sms_play.specs.answers.AnswerLaws.{HaveNoSystemError}
-use Rattle.sms_script.specs.declared.report.answers.MessageState.TheVariants.{Enroute, Final}
-use Rattle.sms_world.specs.headline.Claims.{AreOnce, ConfirmedAreThere, DeliveredOnce, FinalStays, GivenOnce, HeldDiffer, JoinedWhole, LinesStay, PartsOnce, ReceiptsHaveState, ReceiptsStay, SentSubmitted, StatusReportsAreListed}
+use Rattle.sms_centre_rows.specs.declared.report_lines.MessageState.TheVariants.{Enroute, Final}
+use Rattle.sms_world.specs.headline.Claims.{AreOnce, ConfirmedAreThere, DeliveredOnce, FinalStays, GivenOnce, HeldDiffer, JoinedWhole, LinesStay, PartsOnce}
+use Rattle.sms_world.specs.headline.Claims.{ReceiptsHaveState, ReceiptsStay, SentSubmitted, StatusReportsAreListed}
 use Rattle.sms_world.specs.headline.Headline.{Headline}
 use Rattle.sms_world.specs.headline.Origins.{AreFromEvents, LinesDelivered, ReportedDelivered}
 use Rattle.sms_world.specs.headline.PlainReport.{AreAscending}
 use Rattle.sms_world.specs.headline.ReportClaims.{StatusReportsSay}
 use Rattle.sms_world.specs.headline.SplitClaims.{SplitsJoined}
-use Rattle.sms_world.specs.wrong_reports.Literals.{accepted, answer, ended, given_twice, good, handset, hello_octets, joined_row, line, nothing, other_octets, receipt_of_expired, system_error, taken, two_lines, two_receipts, writer}
-use Rattle.sms_world.specs.wrong_plays.Plays.{delivered, frame_to, from_application, from_writer, joined, part_one, part_two, progress, reporting, sent, setup, with_rows}
+use Rattle.sms_world.specs.wrong_reports.Literals.{accepted, answer, ended, given_twice, good, handset, hello_octets, joined_row, line, nothing, other_octets}
+use Rattle.sms_world.specs.wrong_reports.Literals.{receipt_of_expired, system_error, taken, two_lines, two_receipts, writer}
+use Rattle.sms_world.specs.wrong_plays.Plays.{delivered, frame_to, from_application, from_writer, joined, part_one, part_two, progress, reporting, sent, setup}
+use Rattle.sms_world.specs.wrong_plays.Plays.{with_rows}
 
 -- ---- a report that its script does not lead to: it has a message that nobody submitted
 

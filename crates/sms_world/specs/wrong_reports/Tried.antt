@@ -1,15 +1,21 @@
 -- For each claim a report that does not have it, and reports that do.
 use Rattle.std.specs.Prelude.{[], ◌∷◌, None}
-use Rattle.sms_world.specs.headline.PlainHeadline.{Answers, Deliveries, Messages, PlainHeadline, Receipts}
-use Rattle.sms_world.specs.headline.PlainReport.{AreAscending, CancelsAreTrue, EachJoined, GivenOnce, HaveNoneInCommon, IsSent, NoSystemError, OnlyCancelsDelete, Piece, QueriesAreTrue, Stays, WasDelivered}
+use Rattle.sms_world.specs.headline.PlainHeadline.{AnswersAreTrue, Deliveries, Messages, PlainHeadline, Receipts}
+use Rattle.sms_world.specs.headline.PlainReport.{AreAscending, CancelsAreTrue, EachJoined, GivenOnce, HaveNoneInCommon, IsSent, NoSystemError}
+use Rattle.sms_world.specs.headline.PlainReport.{OnlyCancelsDelete, Piece, QueriesAreTrue, Stays, WasDelivered}
 use Rattle.sms_script.specs.declared.event.Act.TheVariants.{Query, Cancel}
 use Rattle.sms_script.specs.declared.event.StopPoint.TheVariants.{After, Before}
 use Rattle.sms_script.specs.declared.report.rows.EntryState.TheVariants.{Sent}
 use Rattle.sms_script.specs.declared.report.answers.Answered.TheVariants.{Found, Status}
-use Rattle.sms_script.specs.declared.report.answers.MessageState.TheVariants.{Enroute, Final}
+use Rattle.sms_centre_rows.specs.declared.report_lines.MessageState.TheVariants.{Enroute, Final}
 use Rattle.sms_base.specs.declared.final_state.FinalState.TheVariants.{Delivered, Expired, Deleted}
 use Rattle.smpp_pdu.specs.declared.status.CommandStatus.TheVariants.{ESME_RCANCELFAIL, ESME_ROK}
-use Rattle.sms_world.specs.wrong_reports.Literals.{accepted_of_nobody, accepted_twice, asked_then, asking, both, both_one, both_parts, both_reports, deleted_by_nobody, ended, events, given_twice, good, half, half_reports, handset, id_one, joined_of_nothing, joined_twice, line, long_events, name, never_accepted, nothing, of_nobody, other_text, owner_events, owner_line, owner_reports, owner_setup, piece_events, piece_reports, receipt_of_expired, reports, sent_of_nobody, setup, stopped, stopping, submits, system_error, taken, twice_answered, two_lines, two_receipts, unlisted, writer}
+use Rattle.sms_world.specs.wrong_reports.Literals.{accepted_of_nobody, accepted_twice, asked_then, asking, both, both_one, both_parts, both_reports}
+use Rattle.sms_world.specs.wrong_reports.Literals.{deleted_by_nobody, ended, events, given_twice, good, half, half_reports, handset, id_one, joined_of_nothing}
+use Rattle.sms_world.specs.wrong_reports.Literals.{joined_twice, line, long_events, name, never_accepted, nothing, of_nobody, other_text, owner_events}
+use Rattle.sms_world.specs.wrong_reports.Literals.{owner_line, owner_reports, owner_setup, piece_events, piece_reports, receipt_of_expired, reports}
+use Rattle.sms_world.specs.wrong_reports.Literals.{sent_of_nobody, setup, stopped, stopping, submits, system_error, taken, twice_answered, two_lines}
+use Rattle.sms_world.specs.wrong_reports.Literals.{two_receipts, unlisted, writer}
 
 abbrev pub GoodLaw : Type 0
 GoodLaw = PlainHeadline setup events (reports good) None
@@ -33,7 +39,7 @@ abbrev pub ReceiptsLaw : Type 0
 ReceiptsLaw = ¬ Receipts two_receipts
 
 abbrev pub NumberLaw : Type 0
-NumberLaw = ¬ Answers (submits ∷ submits ∷ []) both_reports both_one
+NumberLaw = ¬ AnswersAreTrue (submits ∷ submits ∷ []) both_reports both_one
 
 -- answered DELIVRD of a message that is under way
 abbrev pub QueryLaw : Type 0
@@ -114,7 +120,7 @@ abbrev pub StatusLaw : Type 0
 StatusLaw = ¬ Receipts unlisted
 
 abbrev pub AscendLaw : Type 0
-AscendLaw = ¬ Answers events (reports twice_answered) twice_answered
+AscendLaw = ¬ AnswersAreTrue events (reports twice_answered) twice_answered
 
 -- a text of two parts is DELIVRD, and its second part was not accepted
 abbrev pub SplitLaw : Type 0

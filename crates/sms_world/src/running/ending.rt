@@ -4,7 +4,7 @@ ghost use Rattle.sms_play.specs.PlayState.{PlayState};
 ghost use Rattle.sms_play.specs.Playing.{report_of as report_of_play};
 ghost use Rattle.sms_player.specs.playing.Plays.{Represents};
 ghost use Rattle.sms_script.specs.declared.report.Broken.{Broken as BrokenOf};
-ghost use Rattle.sms_world.specs.running.Reporting.{Gives, Reports};
+ghost use Rattle.sms_world.specs.running.Reporting.{ReportsAs, Reports};
 ghost use Rattle.sms_world.specs.declared.running.ending.Judged.{Judged as JudgedOf};
 
 use crate::running::verdict::Finder;
@@ -31,7 +31,7 @@ pub(crate) fn finish<W: Finder>(
     watcher: &W,
     events: usize,
 ) -> Result<Judged, PlayFault>
-    ensures report { (c : PlayState) → Represents c playing.entry → Gives (λ (judged : JudgedOf). judged.report) result (Ok (report_of_play c)) }
+    ensures report { (c : PlayState) → Represents c playing.entry → ReportsAs (λ (judged : JudgedOf). judged.report) result (Ok (report_of_play c)) }
     ensures verdict { (broken : Option BrokenOf) (c : PlayState) → W.has_seen watcher.now broken c → IfOk result (λ judged. W.reports judged.broken broken) }
 {
     match report_of(playing, events) {

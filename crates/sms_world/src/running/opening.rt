@@ -3,7 +3,7 @@ ghost use Rattle.std.specs.Prelude.{◌≡◌, ◌≤◌, length, IfOk, None, tr
 ghost use Rattle.sms_play.specs.PlayState.{numbers_of as numbers_of_parties};
 ghost use Rattle.sms_play.specs.Playing.{broken_on, play_of, premises_of};
 ghost use Rattle.sms_world.specs.running.Begun.{IsBegun};
-ghost use Rattle.sms_world.specs.running.Reporting.{Decides, Gives, report_on};
+ghost use Rattle.sms_world.specs.running.Reporting.{Decides, ReportsAs, report_on};
 ghost use Rattle.sms_world.specs.declared.running.ending.Judged.{Judged as JudgedOf};
 ghost use Rattle.sms_script.specs.declared.setup.Setup.{Setup as SetupOf};
 ghost use Rattle.sms_centre_spec.specs.CentreEvent.{started};
@@ -67,7 +67,7 @@ fn play_by<W: Finder>(
     requires consistent { IsSomeCentre centre.old (rows_in keep.old) }
     requires handsets { AreHandsets handsets.now }
     ensures report { (s : SetupOf) → IsBegun s centre.old (rows_in keep.old) handsets.now parties.old
-        → Gives (λ (judged : JudgedOf). judged.report) result (report_on events.now (beginning s)) }
+        → ReportsAs (λ (judged : JudgedOf). judged.report) result (report_on events.now (beginning s)) }
     ensures verdict { (s : SetupOf) → IsBegun s centre.old (rows_in keep.old) handsets.now parties.old → W.has_seen watcher.old None (beginning s)
         → IfOk result (λ judged. Decides (W.reports judged.broken) (broken_on 1 events.now (beginning s))) }
 {
@@ -93,7 +93,7 @@ fn play_at<W: Finder>(
     requires handsets { AreHandsets handsets.now }
     requires centre_state { Represents (started (first_rows_of setup.now) handsets.now (sessions_from 0 setup.now.accounts)) centre.old }
     ensures report { (s : SetupOf) → setup.now ≡ centre_setup_of s → handsets.now ≡ numbers_of_parties (parties_of_head s s.handsets)
-        → parties.old ≡ parties_of_head s s.handsets → Gives (λ (judged : JudgedOf). judged.report) result (report_on events.now (beginning s)) }
+        → parties.old ≡ parties_of_head s s.handsets → ReportsAs (λ (judged : JudgedOf). judged.report) result (report_on events.now (beginning s)) }
     ensures verdict { (s : SetupOf) → setup.now ≡ centre_setup_of s → handsets.now ≡ numbers_of_parties (parties_of_head s s.handsets)
         → parties.old ≡ parties_of_head s s.handsets → W.has_seen watcher.old None (beginning s)
         → IfOk result (λ judged. Decides (W.reports judged.broken) (broken_on 1 events.now (beginning s))) }
@@ -120,7 +120,7 @@ fn play_from<W: Finder>(
     requires few { length setup.now.accounts ≤ 32 }
     requires handsets { AreHandsets handsets.now }
     ensures report { (s : SetupOf) → setup.now ≡ centre_setup_of s → handsets.now ≡ numbers_of_parties (parties_of_head s s.handsets)
-        → parties.old ≡ parties_of_head s s.handsets → Gives (λ (judged : JudgedOf). judged.report) result (report_on events.now (beginning s)) }
+        → parties.old ≡ parties_of_head s s.handsets → ReportsAs (λ (judged : JudgedOf). judged.report) result (report_on events.now (beginning s)) }
     ensures verdict { (s : SetupOf) → setup.now ≡ centre_setup_of s → handsets.now ≡ numbers_of_parties (parties_of_head s s.handsets)
         → parties.old ≡ parties_of_head s s.handsets → W.has_seen watcher.old None (beginning s)
         → IfOk result (λ judged. Decides (W.reports judged.broken) (broken_on 1 events.now (beginning s))) }
@@ -146,7 +146,7 @@ fn play_among<W: Finder>(
     requires setup { can_be_played setup.now ≡ true }
     requires start { start ≡ setup.now.start }
     requires parties { parties.old.items ≡ parties_of_head setup.now setup.now.handsets }
-    ensures report { Gives (λ (judged : JudgedOf). judged.report) result (report_on events.now (beginning setup.now)) }
+    ensures report { ReportsAs (λ (judged : JudgedOf). judged.report) result (report_on events.now (beginning setup.now)) }
     ensures verdict { W.has_seen watcher.old None (beginning setup.now)
         → IfOk result (λ judged. Decides (W.reports judged.broken) (broken_on 1 events.now (beginning setup.now))) }
 {
@@ -172,7 +172,7 @@ fn play_head<W: Finder>(
 ) -> Result<Judged, PlayFault>
     requires setup { can_be_played setup.now ≡ true }
     requires start { start ≡ setup.now.start }
-    ensures report { Gives (λ (judged : JudgedOf). judged.report) result (report_on events.now (beginning setup.now)) }
+    ensures report { ReportsAs (λ (judged : JudgedOf). judged.report) result (report_on events.now (beginning setup.now)) }
     ensures verdict { W.has_seen watcher.old None (beginning setup.now)
         → IfOk result (λ judged. Decides (W.reports judged.broken) (broken_on 1 events.now (beginning setup.now))) }
 {
@@ -192,7 +192,7 @@ pub(crate) fn play_before<W: Finder>(
     events: &[WorldEvent<'_>],
     watcher: &mut W,
 ) -> Result<Judged, PlayFault>
-    ensures report { Gives (λ (judged : JudgedOf). judged.report) result (play_of setup.now events.now) }
+    ensures report { ReportsAs (λ (judged : JudgedOf). judged.report) result (play_of setup.now events.now) }
     ensures verdict { W.has_seen watcher.old None (beginning setup.now)
         → IfOk result (λ judged. Decides (W.reports judged.broken) (premises_of setup.now events.now)) }
 {

@@ -4,17 +4,17 @@ ghost use Rattle.sms_world.specs.headline.TypedEvents.{AreTyped, IsTextAct, IsTy
 ghost use Rattle.sms_world.specs.scripts_are_runs.Happening.{IsGoodAct, IsGoodTick};
 
 use sms_base::Moment;
-use sms_script::{Act, Side, WorldEvent};
+use sms_script::{Act, EventSide, WorldEvent};
 
-fn tick_is_typed(side: &Side<'_>, now: Moment)
+fn tick_is_typed(side: &EventSide<'_>, now: Moment)
     ensures { IsGoodTick side.now now }
 {
     match side {
-        Side::Centre => {
+        EventSide::Centre => {
             // The call gives the range.
             let _seconds = now.seconds();
         }
-        Side::Handset(_) => (),
+        EventSide::Handset(_) => (),
     }
 }
 

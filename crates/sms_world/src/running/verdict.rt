@@ -8,7 +8,7 @@ use sms_trace::watching::{Capture, Judge, Ladder, Watcher};
 
 /// Who looks on while a script is played, and reports in the end which event was the first that broke a premise.
 pub(crate) trait Finder: Watcher {
-    /// It reports that where this event was the first. Who judges nothing may report anything.
+    /// The verdict reports that where this event was the first. Who judges nothing may report anything.
     ghost reports: { Option BrokenOf → Option BrokenOf → Type 0 } = { λ reported broken. ⊤ };
 
     /// The first event that broke a premise.

@@ -5,7 +5,7 @@ ghost use Rattle.sms_world.specs.headline.DecidedPremises.{Premises};
 ghost use Rattle.sms_world.specs.headline.Headline.{Headline};
 ghost use Rattle.sms_world.specs.headline.PlainReports.{HasPlainHeadline};
 ghost use Rattle.sms_world.specs.headline.WorldPremises.{WorldPremises};
-ghost use Rattle.sms_world.specs.running.Reporting.{FaultsAs, Gives, Reports};
+ghost use Rattle.sms_world.specs.running.Reporting.{FaultsAs, ReportsAs, Reports};
 ghost use Rattle.sms_world.specs.declared.running.ending.Judged.{Judged as JudgedOf};
 
 use crate::running::ending::Judged;
@@ -22,8 +22,8 @@ pub(crate) fn judge(
     setup: &Setup<'_>,
     events: &[WorldEvent<'_>],
 ) -> Result<Judged, PlayFault>
-    ensures report { Gives (λ (judged : JudgedOf). judged.report) result (play_of setup.now events.now) }
-    ensures premises { Gives (λ (judged : JudgedOf). judged.broken) result (premises_of setup.now events.now) }
+    ensures report { ReportsAs (λ (judged : JudgedOf). judged.report) result (play_of setup.now events.now) }
+    ensures premises { ReportsAs (λ (judged : JudgedOf). judged.broken) result (premises_of setup.now events.now) }
 {
     let mut judge = Judge::new(alloc);
     play_before(alloc, setup, events, &mut judge)

@@ -1,7 +1,8 @@
 //! What both sides of the queue do.
 ghost use Rattle.std.specs.Prelude.{◌≡◌, ◌<◌, ◌+◌, ◌++◌, ◌∷◌, [], length, IfOk, MatchOption, MatchResult};
 ghost use Rattle.smsc_arrivals.specs.Sharing.{AreShared};
-ghost use Rattle.smsc_arrivals.specs.Ways.{IsNewGiver, IsNewTaker, IsSameGiver, IsSameTaker, IsWayOf, given_by, known_by, made_by, returned_to, seat_of, settled_at, taken_by};
+ghost use Rattle.smsc_arrivals.specs.Ways.{IsNewGiver, IsNewTaker, IsSameGiver, IsSameTaker, IsWayOf, given_by, known_by, made_by, returned_to, seat_of};
+ghost use Rattle.smsc_arrivals.specs.Ways.{settled_at, taken_by};
 
 use crate::sharing::ends::{Giver, Taker};
 use crate::sharing::{Gives, NextSeat, SettleSeat, Takes, TakesBack};

@@ -1,5 +1,6 @@
 -- Accounts in TOML: a table `[[account]]` for each, in order.
-use Rattle.std.specs.Prelude.{◌≡◌, ◌≢◌, ◌==◌, ⊤, is_ok, if◌then◌else◌, ◌<◌, ◌≤◌, ◌||◌, ◌&&◌, ℕ, zero, suc, pos, Bool, true, false, List, [], ◌∷◌, ◌++◌, length, Option, Some, None, Ok, IsAscii, not, option_and_then, bytes_eq, codes}
+use Rattle.std.specs.Prelude.{◌≡◌, ◌≢◌, ◌==◌, ⊤, is_ok, if◌then◌else◌, ◌<◌, ◌≤◌, ◌||◌, ◌&&◌, ℕ, zero, suc, pos, Bool, true, false, List, [], ◌∷◌, ◌++◌, length}
+use Rattle.std.specs.Prelude.{Option, Some, None, Ok, IsAscii, not, option_and_then, bytes_eq, codes}
 use Rattle.std.specs.List.{AllByRecursion}
 use Rattle.std.specs.Str.{chars}
 use Rattle.hex.specs.Hex.{decode_sized}

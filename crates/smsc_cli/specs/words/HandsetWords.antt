@@ -43,7 +43,8 @@ abbrev pub show_value : List ℕ → List (List ℕ) → Option (List ℕ)
 show_value name words = first_of name (matches_of show_command words)
 
 -- the values of the seven options spell what a run is to do
-abbrev pub SpelledRun : Option (List ℕ) → Option (List ℕ) → Option (List ℕ) → Option (List ℕ) → Option (List ℕ) → Option (List ℕ) → Option (List ℕ) → HandsetWords → Type 0
+abbrev pub SpelledRun : Option (List ℕ) → Option (List ℕ) → Option (List ℕ) → Option (List ℕ) → Option (List ℕ) → Option (List ℕ) → Option (List ℕ)
+    → HandsetWords → Type 0
 SpelledRun given_connect given_number given_centre given_slots given_store given_frames given_secret (Run connect number centre slots store frames secret) =
     Gives (SpellsFrom 1) given_connect connect × Gives SpellsNumber given_number number × Gives SpellsNumber given_centre centre
     × Gives (SpellsFrom 1) given_slots slots × (given_store ≡ Some store.now) × Gives SpellsCount given_frames frames

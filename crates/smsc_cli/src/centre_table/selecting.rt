@@ -2,7 +2,8 @@
 ghost use Rattle.std.specs.Prelude.{◌≡◌, ◌==◌, filter as filter_list, option_map};
 ghost use Rattle.std.specs.Str.{bytes_eq};
 ghost use Rattle.smsc_cli.specs.centre_table.CentreTable.{state_word as state_word_of};
-ghost use Rattle.smsc_cli.specs.centre_table.Selecting.{is_between as is_between_of, is_named as is_named_of, is_of_account as is_of_account_of, is_selected as is_selected_by, is_wanted, last_of as last_among};
+ghost use Rattle.smsc_cli.specs.centre_table.Selecting.{is_between as is_between_of, is_named as is_named_of, is_of_account as is_of_account_of};
+ghost use Rattle.smsc_cli.specs.centre_table.Selecting.{is_selected as is_selected_by, is_wanted, last_of as last_among};
 
 use crate::centre_table::messages::state_word;
 use sms_base::{Digits, FinalState, MessageId, Originator};

@@ -3,8 +3,8 @@ ghost use Rattle.std.specs.Prelude.{◌≡◌, ◌++◌, OnOk};
 ghost use Rattle.smsc_cli.specs.centre_table.CentreTable.{counted, is_state as is_state_of, place_of as place_of_state, total_line, totals};
 
 use crate::centre_table::messages::state_word;
-use crate::columns::{put_cell, put_decimal};
-use sms_base::{FinalState, Octets};
+use crate::columns::put_cell;
+use sms_base::{FinalState, Octets, put_decimal};
 use sms_centre_rows::messages::MessageRow;
 use std::alloc::AllocError;
 

@@ -45,14 +45,6 @@ pub fn put_cell(out: &mut Octets, width: usize, word: &[u8]) -> Result<(), Alloc
     put_spaces(out, width.saturating_sub(word.len()))
 }
 
-/// A number in decimal digits.
-pub fn put_decimal(out: &mut Octets, number: u64) -> Result<(), AllocError>
-    ensures { OnOk result (out.new ≡ out.old ++ decimal number) }
-{
-    let mut buffer = Buffer::new();
-    out.append(buffer.format(number).as_bytes())
-}
-
 /// A number in decimal digits, filled up with spaces to the width.
 pub fn put_number(out: &mut Octets, width: usize, number: u64) -> Result<(), AllocError>
     ensures { OnOk result (out.new ≡ out.old ++ cell width (decimal number)) }

@@ -7,9 +7,9 @@ ghost use Rattle.sms_tpdu.specs.TpduReading.{down_at, up_at};
 ghost use Rattle.sms_tpdu.specs.declared.carrier.Carrier.TheVariants.{InData};
 ghost use Rattle.smsc_cli.specs.handset_table.MessageText.{content_text, delivered_text, no_text, read_text, submitted_text, units_text, user_data_text};
 
-use crate::columns::{put_decimal, put_text};
+use crate::columns::put_text;
 use sms_alphabet::{Coding, ReadingError, Ucs2Error, UnpackError, text_of, ucs2_text};
-use sms_base::Octets;
+use sms_base::{Octets, put_decimal};
 use sms_concat::{Content, part_of};
 use sms_tpdu::{Carrier, Down, Up, UserData, read_down, read_up};
 use std::alloc::{AllocError, Global};

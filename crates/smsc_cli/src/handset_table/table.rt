@@ -3,11 +3,12 @@ ghost use Rattle.std.specs.Prelude.{◌≡◌, ◌++◌, codes, decimal, IfOk, O
 ghost use Rattle.sms_tpdu.specs.TpduReading.{down_at};
 ghost use Rattle.sms_tpdu.specs.declared.carrier.Carrier.TheVariants.{InData};
 ghost use Rattle.smsc_cli.specs.columns.Columns.{lines};
-ghost use Rattle.smsc_cli.specs.handset_table.HandsetTable.{entry_line, handset_table, head_line, message_state, message_text, number_cell, originator, out_line, party_cell, source_of, state_cell, state_word};
+ghost use Rattle.smsc_cli.specs.handset_table.HandsetTable.{entry_line, handset_table, head_line, message_state, message_text, number_cell, originator};
+ghost use Rattle.smsc_cli.specs.handset_table.HandsetTable.{out_line, party_cell, source_of, state_cell, state_word};
 
-use crate::columns::{put_cell, put_decimal, put_name, put_number};
+use crate::columns::{put_cell, put_name, put_number};
 use crate::handset_table::content::{put_content, put_delivered, put_submitted};
-use sms_base::Octets;
+use sms_base::{Octets, put_decimal};
 use sms_handset_rows::inbox::{Entry, Message};
 use sms_handset_rows::outbox::{EntryState, OutEntry};
 use sms_tpdu::{Carrier, Down, read_down};

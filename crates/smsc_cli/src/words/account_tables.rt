@@ -1,12 +1,18 @@
 //! Accounts in TOML.
-ghost use Rattle.std.specs.Prelude.{◌≡◌, ◌≢◌, ◌↔◌, ◌+◌, ◌<◌, ◌^◌, ℕ, List, Bool, true, false, None, Some, Option, codes, length, option_map, Err, IfNone, IfSome, MatchOption, OnErr, OnOk};
+ghost use Rattle.std.specs.Prelude.{◌≡◌, ◌≢◌, ◌↔◌, ◌+◌, ◌<◌, ◌^◌, ℕ, List, Bool, true, false, None, Some, Option, codes, length, option_map, Err, IfNone};
+ghost use Rattle.std.specs.Prelude.{IfSome, MatchOption, OnErr, OnOk};
 ghost use Rattle.std.specs.List.{list_all};
 ghost use Rattle.toml.specs.Data.{Items, as_array, as_str, get_member, no_items};
 ghost use Rattle.toml.specs.View.{items_view, table_view, view};
 ghost use Rattle.toml.specs.declared.value.Value.{Value as ValueOf};
-ghost use Rattle.smsc_cli.specs.words.AccountTables.{AddsNoValue, AddsValue, AddsValues, AreSources, HasRoomFor, HasValues, IsNewName, IsSalt, IsUpTo, SaysPassword, SaysRate, SaysSessions, SaysSources, SaysSuspended};
-ghost use Rattle.smsc_cli.specs.words.AccountTables.{SpellsDigest, SpellsName, SpellsPassword, SpellsSalt, SpellsSource, SpellsTable, SpellsValue, StopsAtValue};
-ghost use Rattle.smsc_cli.specs.words.AccountTables.{are_account_keys, are_file_keys, ends_starred, is_name_text as is_name_text_of, is_prefix, is_source as is_source_of, is_text_of_source, unstarred as unstarred_of, is_account_key as is_account_key_of, is_file_key as is_file_key_of, is_limit_key as is_limit_key_of, is_password_key as is_password_key_of, text_at as text_in};
+ghost use Rattle.smsc_cli.specs.words.AccountTables.{AddsNoValue, AddsValue, AddsValues, AreSources, HasRoomFor, HasValues, IsNewName, IsSalt, IsUpTo};
+ghost use Rattle.smsc_cli.specs.words.AccountTables.{SaysPassword, SaysRate, SaysSessions, SaysSources, SaysSuspended};
+ghost use Rattle.smsc_cli.specs.words.AccountTables.{SpellsDigest, SpellsName, SpellsPassword, SpellsSalt, SpellsSource, SpellsTable, SpellsValue};
+ghost use Rattle.smsc_cli.specs.words.AccountTables.{StopsAtValue};
+ghost use Rattle.smsc_cli.specs.words.AccountTables.{are_account_keys, are_file_keys, ends_starred, is_name_text as is_name_text_of, is_prefix};
+ghost use Rattle.smsc_cli.specs.words.AccountTables.{is_source as is_source_of, is_text_of_source, unstarred as unstarred_of};
+ghost use Rattle.smsc_cli.specs.words.AccountTables.{is_account_key as is_account_key_of, is_file_key as is_file_key_of, is_limit_key as is_limit_key_of};
+ghost use Rattle.smsc_cli.specs.words.AccountTables.{is_password_key as is_password_key_of, text_at as text_in};
 ghost use Rattle.smsc_cli.specs.words.Secrets.{is_number_text as is_number_of};
 ghost use Rattle.smsc_cli.specs.words.SimWords.{Gives, Spells, SpellsNumber};
 ghost use Rattle.smsc_cli.specs.declared.words.account_tables.PasswordWords.{PasswordWords as PasswordWordsOf};
@@ -42,7 +48,7 @@ pub enum PasswordWords<'a> {
 pub struct TableAccount<'a> {
     /// The system_id: 1 to 15 ASCII characters.
     pub name: &'a str,
-    /// Its password, or what was made of it.
+    /// The account's password, or what was made of it.
     pub password: PasswordWords<'a>,
     /// The source of its messages that name none.
     pub address: Address,
@@ -50,7 +56,7 @@ pub struct TableAccount<'a> {
     pub sessions: u8,
     /// How many requests it may put in a second; as many as it likes where this is none.
     pub rate: Option<u32>,
-    /// It may have no session for now.
+    /// The account may have no session for now.
     pub is_suspended: bool,
     /// The sources that its messages may name beside its number, each a text that `source_of` knows; any where there are none.
     pub sources: &'a [Value],
@@ -63,7 +69,7 @@ pub enum SourceWords<'a> {
     Number(&'a str),
     /// The numbers that begin with these digits: an asterisk is behind them.
     Prefix(&'a str),
-    /// A name.
+    /// An alphanumeric originator, as it is spelled.
     Name(&'a str),
 }
 
@@ -387,7 +393,8 @@ fn are_sources(values: &[Value]) -> bool
 
 #[tactic(auto, using(crate::proofs::words::SourceTexts::some_items))]
 fn some_sources(values: &[Value]) -> Option<&[Value]>
-    ensures found { IfSome result (λ sources. (sources.now ≡ values.entry.now) × (items_view values.entry.now ≢ no_items) × AreSources (items_view values.entry.now)) }
+    ensures found { IfSome result (λ sources. (sources.now ≡ values.entry.now) × (items_view values.entry.now ≢ no_items)
+        × AreSources (items_view values.entry.now)) }
     ensures none { IfNone result (¬ ((items_view values.entry.now ≢ no_items) × AreSources (items_view values.entry.now))) }
 {
     if values.is_empty() || !are_sources(values) {
@@ -511,7 +518,7 @@ fn add_value<'a>(accounts: &mut Vec<TableAccount<'a>>, value: &'a Value) -> Resu
 /// Why a file in TOML has no accounts to add.
 #[derive(Clone, Copy, Debug, PartialEq, Eq, Error)]
 pub enum TableFault {
-    /// It has another key than `account`, or that is no array.
+    /// The text has another key than `account`, or that is no array.
     #[error("no accounts")]
     NoAccounts,
     /// The account of this number, from 1, is none, or one too many, or has a name that is there.

@@ -3,7 +3,9 @@ ghost use Rattle.std.specs.Prelude.{◌≡◌, map, drop, option_map, slice_get,
 ghost use Rattle.clap.specs.Words.{app_of, first_value, found_of, kind_of, takes};
 ghost use Rattle.clap.specs.declared.error.kind.ErrorKind.TheVariants.{OutOfMemory};
 ghost use Rattle.smsc_cli.specs.declared.words.fault.WordsFault.TheVariants.{BadWords, NoMemory};
-ghost use Rattle.smsc_cli.specs.words.HandsetWords.{AskForRun, AskForShow, AskForSome, AsksFor, AsksToRun, AsksToShow, SpelledRun, SpellsRun, is_show, link_command, needed_command, refusing_command, run_command, run_value, show_command, show_value, wrong_command};
+ghost use Rattle.smsc_cli.specs.words.HandsetWords.{AskForRun, AskForShow, AskForSome, AsksFor, AsksToRun, AsksToShow, SpelledRun, SpellsRun, is_show};
+ghost use Rattle.smsc_cli.specs.words.HandsetWords.{link_command, needed_command, refusing_command, run_command, run_value, show_command, show_value};
+ghost use Rattle.smsc_cli.specs.words.HandsetWords.{wrong_command};
 
 use crate::words::fault::{WordsFault, fault_of};
 use crate::words::number::{address_of, count_of, port_of, slots_of};
@@ -27,7 +29,7 @@ pub enum HandsetWords<'a> {
         slots: u8,
         /// The path of its store.
         store: &'a str,
-        /// It ends after so many frames.
+        /// The run ends after so many frames.
         frames: u32,
         /// The path of a file with the secret of its links.
         secret: Option<&'a str>,

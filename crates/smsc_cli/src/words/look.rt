@@ -5,7 +5,9 @@ ghost use Rattle.clap.specs.declared.error.kind.ErrorKind.TheVariants.{OutOfMemo
 ghost use Rattle.sms_base.specs.MessageId.{IsIdText};
 ghost use Rattle.smsc_cli.specs.declared.words.fault.WordsFault.TheVariants.{BadWords, NoMemory};
 ghost use Rattle.smsc_cli.specs.words.Options.{is_given};
-ghost use Rattle.smsc_cli.specs.words.LookWords.{AreLookOptions, AskForLook, IsIdOf, IsMessageText, IsNameText, IsNumberText, IsPartyText, IsStateWord, MayBe, SpelledFilter, SpelledLook, SpellsDigits, SpellsFilter, SpellsLook, Wants, is_state_word, look_command, look_value, parties_command};
+ghost use Rattle.smsc_cli.specs.words.LookWords.{AreLookOptions, AskForLook, IsIdOf, IsMessageText, IsNameText, IsNumberText, IsPartyText, IsStateWord, MayBe};
+ghost use Rattle.smsc_cli.specs.words.LookWords.{SpelledFilter, SpelledLook, SpellsDigits, SpellsFilter, SpellsLook, Wants, is_state_word, look_command};
+ghost use Rattle.smsc_cli.specs.words.LookWords.{look_value, parties_command};
 
 use crate::centre_table::Filter;
 use crate::words::fault::{WordsFault, fault_of};

@@ -5,7 +5,9 @@ ghost use Rattle.clap.specs.declared.error.kind.ErrorKind.TheVariants.{OutOfMemo
 ghost use Rattle.smsc_cli.specs.declared.words.fault.WordsFault.TheVariants.{BadWords, NoMemory};
 ghost use Rattle.smsc_cli.specs.words.HandsetWords.{run_command, run_value};
 ghost use Rattle.smsc_cli.specs.words.LookWords.{IsCountText, MayBe, Wants};
-ghost use Rattle.smsc_cli.specs.words.MisbehaviourWords.{AreMisbehaviourOptions, AskForMisbehaviour, IsCauseText, IsPercentText, IsRefusalText, SpelledMisbehaviour, SpelledMisbehaviourOptions, SpellsCause, SpellsMisbehaviour, SpellsPercent, SpellsRefusal};
+ghost use Rattle.smsc_cli.specs.words.MisbehaviourWords.{AreMisbehaviourOptions, AskForMisbehaviour, IsCauseText, IsPercentText, IsRefusalText};
+ghost use Rattle.smsc_cli.specs.words.MisbehaviourWords.{SpelledMisbehaviour, SpelledMisbehaviourOptions, SpellsCause, SpellsMisbehaviour, SpellsPercent};
+ghost use Rattle.smsc_cli.specs.words.MisbehaviourWords.{SpellsRefusal};
 
 use crate::words::account::at_colon;
 use crate::words::fault::{WordsFault, fault_of};
@@ -20,20 +22,20 @@ use std::alloc::Global;
 pub struct Refusal {
     /// The cause of the RP-ERROR, 0 to 127 (3GPP TS 24.011 8.2.5.4).
     pub cause: u8,
-    /// It refuses so many and takes the next; all of them where this is none.
+    /// The handset refuses so many and takes the next; all of them where this is none.
     pub count: Option<u32>,
 }
 
 /// What a handset is to do wrong on purpose.
 #[derive(Clone, Copy, Debug, PartialEq, Eq)]
 pub struct Misbehaviour {
-    /// It refuses what is offered.
+    /// The handset refuses what is offered.
     pub refuses: Option<Refusal>,
-    /// It lets so many seconds pass before it looks at an offer.
+    /// The handset lets so many seconds pass before it looks at an offer.
     pub slow: Option<u32>,
-    /// It is full once it has taken so many offers.
+    /// The handset is full once it has taken so many offers.
     pub full_after: Option<u32>,
-    /// It takes offers and never answers.
+    /// The handset takes offers and never answers.
     pub is_silent: bool,
     /// So many of a hundred frames get lost, to it and from it.
     pub drops: Option<u8>,

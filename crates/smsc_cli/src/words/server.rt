@@ -9,8 +9,14 @@ ghost use Rattle.smsc_cli.specs.words.SimWords.{Gives, Spells};
 ghost use Rattle.sms_base.specs.MessageId.{IsIdText};
 ghost use Rattle.smsc_cli.specs.words.LookWords.{AskForLook, IsIdOf, MayBe, Wants};
 ghost use Rattle.smsc_cli.specs.words.Numbers.{IsCount, SpellsCount, SpellsFrom};
-ghost use Rattle.smsc_cli.specs.words.ServerWords.{AreOptionsOf, AskForEnd, AskForPassword, AskForReload, AskForSave, AskForServer, AskForStop, AskServer, AskToOrder, AsksForPassword, AsksOfServer, AsksToEnd, AsksToLook, AsksToOrder, AsksToReload, AsksToSave, AsksToServe, AsksToStop, IsPortText, SpelledOptions, SpelledServer, SpellsEnd, SpellsOrder, SpellsServer, SpellsStop};
-ghost use Rattle.smsc_cli.specs.words.ServerWords.{account_texts, end_command, end_value, id_word, is_word, keeping_command, listed, listed_words, more_command, needed_command, order_command, order_value, paths_command, port_command, reload_command, reload_value, save_command, save_value, seat_word, server_command, server_value, store_command, stop_command, stop_value};
+ghost use Rattle.smsc_cli.specs.words.ServerWords.{AreOptionsOf, AskForEnd, AskForPassword, AskForReload, AskForSave, AskForServer, AskForStop, AskServer};
+ghost use Rattle.smsc_cli.specs.words.ServerWords.{AskToOrder, AsksForPassword, AsksOfServer, AsksToEnd, AsksToLook, AsksToOrder, AsksToReload, AsksToSave};
+ghost use Rattle.smsc_cli.specs.words.ServerWords.{AsksToServe, AsksToStop, IsPortText, SpelledOptions, SpelledServer, SpellsEnd, SpellsOrder, SpellsServer};
+ghost use Rattle.smsc_cli.specs.words.ServerWords.{SpellsStop};
+ghost use Rattle.smsc_cli.specs.words.ServerWords.{account_texts, end_command, end_value, id_word, is_word, keeping_command, listed, listed_words};
+ghost use Rattle.smsc_cli.specs.words.ServerWords.{more_command, needed_command, order_command, order_value, paths_command, port_command, reload_command};
+ghost use Rattle.smsc_cli.specs.words.ServerWords.{reload_value, save_command, save_value, seat_word, server_command, server_value, store_command};
+ghost use Rattle.smsc_cli.specs.words.ServerWords.{stop_command, stop_value};
 
 use crate::centre_table::Filter;
 use crate::words::account::AccountWords;
@@ -35,7 +41,7 @@ pub struct ServerRun<'a> {
     pub links: u16,
     /// The number of the centre.
     pub centre: Address,
-    /// It ends after so many connections; by an order alone where they are not counted.
+    /// The run ends after so many connections; by an order alone where they are not counted.
     pub sessions: Option<u32>,
     /// The path of a file with accounts, one a line.
     pub accounts: Option<&'a str>,
@@ -119,9 +125,9 @@ pub enum ServerWords<'a> {
 /// What can be ordered of a message.
 #[derive(Clone, Copy, Debug, PartialEq, Eq)]
 pub enum OrderWord {
-    /// What waits of it is due now.
+    /// What waits of the message is due now.
     Retry,
-    /// It is deleted.
+    /// The message is deleted.
     Cancel,
 }
 
@@ -671,9 +677,9 @@ pub(crate) fn is_second(words: &[&str], wanted: &str) -> bool
 /// - `save --store FILE --to FILE`, `stop --control PATH`, perhaps with `--wait SECONDS`, `end --control PATH SEAT`, `reload --control PATH`,
 ///   `retry --control PATH ID`, `cancel --control PATH ID`, `password`
 ///
-/// The WORD of the log is `messages` or `access`. A FILE or PATH is a path, a PORT 1 to 65535, and a NUMBER 1 to 20 digits 0 to 9. N, SEAT and DAYS are 0 to 4294967295. An ID is
-/// ten decimal digits, not all 0. The
-/// first two colons of an account end its NAME, 1 to 15 ASCII characters, and its PASSWORD, up to 8. SESSIONS is 1 to 32. All else is bad
+/// The WORD of the log is `messages` or `access`. A FILE or PATH is a path, a PORT 1 to 65535, and a NUMBER 1 to 20
+/// digits 0 to 9. N, SEAT and DAYS are 0 to 4294967295. An ID is ten decimal digits, not all 0. The first two colons of
+/// an account end its NAME, 1 to 15 ASCII characters, and its PASSWORD, up to 8. SESSIONS is 1 to 32. All else is bad
 /// words.
 /// Words that ask for something are refused for want of memory alone.
 pub fn server_words<'a>(alloc: Global, words: &'a [&'a str]) -> Result<ServerWords<'a>, WordsFault>

@@ -16,7 +16,7 @@ use Rattle.smsc_loop.specs.Phases.{Serves}
 use Rattle.smsc_loop.specs.Served.{Served}
 use Rattle.std.specs.declared.net.socket_addr.SocketAddr.{SocketAddr}
 use Rattle.smsc_arrivals.specs.declared.arrival.Arrival.{Arrival}
-use Rattle.smsc_arrivals.specs.declared.arrival.Side.TheVariants.{Application, Handset}
+use Rattle.smsc_arrivals.specs.declared.arrival.PeerKind.TheVariants.{Application, Handset}
 use Rattle.smsc_server.specs.declared.serving.connection.Socket.{Socket}
 use Rattle.smpp_session.specs.declared.account.Account.{Account}
 use Rattle.smsc_server.specs.serving.AccountBooks.{MayAdmit}

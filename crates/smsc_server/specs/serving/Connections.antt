@@ -18,8 +18,8 @@ use Rattle.smsc_loop.specs.Courses.{standing}
 use Rattle.smsc_loop.specs.Phases.{Serves}
 use Rattle.smsc_loop.specs.Served.{Served}
 use Rattle.smsc_arrivals.specs.declared.arrival.Arrival.{Arrival}
-use Rattle.smsc_arrivals.specs.declared.arrival.Side.{Side}
-use Rattle.smsc_arrivals.specs.declared.arrival.Side.TheVariants.{Application, Handset}
+use Rattle.smsc_arrivals.specs.declared.arrival.PeerKind.{PeerKind}
+use Rattle.smsc_arrivals.specs.declared.arrival.PeerKind.TheVariants.{Application, Handset}
 use Rattle.smsc_server.specs.declared.serving.connection.Socket.{Socket}
 use Rattle.smsc_arrivals.specs.PieceEnds.{left_at}
 use Rattle.smsc_server.specs.serving.AccountBooks.{Book, MayAdmit}
@@ -34,7 +34,7 @@ admits accounts access = record { accounts = accounts; access = access }
 
 module _ {S : Type 0} where
   -- a connection as it came
-  abbrev pub arrival_of : S → Side → SocketAddr → Arrival S
+  abbrev pub arrival_of : S → PeerKind → SocketAddr → Arrival S
   arrival_of stream side peer = record { stream = stream; side = side; peer = peer }
 
   -- the octets that a wire has still to give, where its stream states them
@@ -63,7 +63,8 @@ module _ {S : Type 0} (remaining contents : S → Option (List ℕ)) where
 
   -- An endpoint that was served on the wire of a connection of that side. From its opening it ran on what the stream gave and on the replies that it heard.
   -- What it sent was written, and the seat put its jobs, until the connection ended for some reason and the endpoint had left its seat.
-  pub record Visit {V : Type 0} (waits : V → List ℕ) (over owing : V → Bool) (does : Call → V → V → Type 0) (any_job : V → Bool) (opened : V) (side : Side) : Type 0 where
+  pub record Visit {V : Type 0} (waits : V → List ℕ) (over owing : V → Bool) (does : Call → V → V → Type 0) (any_job : V → Bool)
+      (opened : V) (side : PeerKind) : Type 0 where
     pub arrival : Arrival S
     pub side_so : arrival.side ≡ side
     pub reader : S
@@ -80,7 +81,8 @@ module _ {S : Type 0} (remaining contents : S → Option (List ℕ)) where
   -- the session of an application, which is admitted by these accounts
   abbrev pub SessionVisit : List Account → Type 0
   SessionVisit accounts =
-      Visit octets_of is_over (λ (e : EsmeView). is_any_request e.waiting) EsmeDoes (λ (e : EsmeView). is_any e.outbox.jobs) (opened_session accounts) Application
+      Visit octets_of is_over (λ (e : EsmeView). is_any_request e.waiting) EsmeDoes (λ (e : EsmeView). is_any e.outbox.jobs)
+      (opened_session accounts) Application
 
   module _ (admitted : Admitted) where
     -- the link of a handset

@@ -3,7 +3,7 @@ use Rattle.std.specs.Prelude.{ℕ, ◌==◌, nat_le, Bool, true, false, Option, 
 use Rattle.std.specs.declared.net.socket_addr.SocketAddr.{SocketAddr}
 use Rattle.sms_base.specs.declared.final_state.FinalState.{FinalState}
 use Rattle.sms_centre_rows.specs.declared.messages.message.MessageRow.{MessageRow}
-use Rattle.smsc_arrivals.specs.declared.arrival.Side.{Side}
+use Rattle.smsc_arrivals.specs.declared.arrival.PeerKind.{PeerKind}
 use Rattle.smsc_loop.specs.declared.note.LeaveReason.{LeaveReason}
 use Rattle.smsc_loop.specs.declared.note.Note.{Note}
 use Rattle.smsc_loop.specs.declared.note.Note.TheVariants.{SubmitRefused as RefusedNote, Ended}
@@ -15,12 +15,12 @@ abbrev pub account_numbered : ℕ → Option ℕ
 account_numbered number = if number == 255 then None else Some number
 
 -- a connection that ends is one of nobody where it did not say who it is
-abbrev pub event_of_end : Bool → ℕ → Side → SocketAddr → LeaveReason → Note → Event
+abbrev pub event_of_end : Bool → ℕ → PeerKind → SocketAddr → LeaveReason → Note → Event
 event_of_end true seat side peer why note = Endpoint seat peer note
 event_of_end false seat side peer why note = Unknown side peer why
 
 -- A refused submit_sm is told by the account that was bound last, and all else by the seat and the address of the other side.
-abbrev pub note_told : ℕ → Side → SocketAddr → Bool → Option ℕ → Note → Event
+abbrev pub note_told : ℕ → PeerKind → SocketAddr → Bool → Option ℕ → Note → Event
 note_told seat side peer known account (RefusedNote status) = SubmitRefused account status
 note_told seat side peer known account (Ended why counts) = event_of_end known seat side peer why (Ended why counts)
 note_told seat side peer known account note = Endpoint seat peer note

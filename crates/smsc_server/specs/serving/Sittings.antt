@@ -36,13 +36,15 @@ module _ {S : Type 0} (remaining contents : S → Option (List ℕ)) (admitted :
   abbrev pub AllSatDown : List (Option Job) → List Reply → List (Connection remaining contents admitted) → Type 0
   AllSatDown put taken [] = ⊤
   AllSatDown put taken (c ∷ cs) =
-      SatDown put taken c × AllSatDown (put ++ jobs_put (calls_of remaining contents admitted c)) (taken ++ replies_taken (calls_of remaining contents admitted c)) cs
+      SatDown put taken c
+      × AllSatDown (put ++ jobs_put (calls_of remaining contents admitted c)) (taken ++ replies_taken (calls_of remaining contents admitted c)) cs
 
   -- Where each sat down, the seat had each answer to those before it.
   abbrev pub InTurn : List (Option Job) → List Reply → List (Connection remaining contents admitted) → Type 0
   InTurn put taken [] = ⊤
   InTurn put taken (c ∷ cs) =
-      IsCleared put taken × InTurn (put ++ jobs_put (calls_of remaining contents admitted c)) (taken ++ replies_taken (calls_of remaining contents admitted c)) cs
+      IsCleared put taken
+      × InTurn (put ++ jobs_put (calls_of remaining contents admitted c)) (taken ++ replies_taken (calls_of remaining contents admitted c)) cs
 
   -- Between these two moments some connections sat at the seat: those that it took meanwhile, in the order in which it took them.
   pub record HaveSat (s t : Seat Job Reply) (took taken_then : List (Arrival S)) : Type 0 where
@@ -64,8 +66,8 @@ module _ {S : Type 0} (remaining contents : S → Option (List ℕ)) (admitted :
     pub untaken : List Reply
     pub taken : taken_by t ≡ replies_to connections ++ untaken
 
-  -- All that one seat did. Each connection that it took sat there, in order. The jobs that were run for it are those that its connections put, one connection after the other. The replies
-  -- that were given to it begin with those that they heard or dropped, in order.
+  -- All that one seat did. Each connection that it took sat there, in order. The jobs that were run for it are those that its connections put, one
+  -- connection after the other. The replies that were given to it begin with those that they heard or dropped, in order.
   pub record SeatDid (ran : List Job) (given : List Reply) (took : List (Arrival S)) : Type 0 where
     pub connections : List (Connection remaining contents admitted)
     pub came : took ≡ arrivals_of connections

@@ -1,6 +1,5 @@
 //! Frames over the link.
 ghost use Rattle.std.specs.Prelude.{◌≡◌, ◌++◌, ◌≤◌, ◌<◌, ◌+◌, ◌-◌, ℕ, List, map, length, option_map, None, Ok, IfOk, OnOk};
-ghost use Rattle.std.specs.Char.{encode_utf8};
 ghost use Rattle.std.specs.Str.{encode_utf8_all};
 ghost use Rattle.std.specs.Io.KnownBytes.{Appends};
 ghost use Rattle.sms_link.specs.framing.Framing.{framed, front_of, joined};
@@ -11,7 +10,7 @@ ghost use Rattle.smsc_server.specs.link_run.Run.{Meets, Sends, received, on_link
 ghost use Rattle.sms_handset.specs.machine.InMachine.{core_in};
 
 use crate::link_run::run_error::LinkStop;
-use sms_base::{Moment, OctetView, Octets};
+use sms_base::{Moment, OctetView, Octets, put_characters};
 use sms_handset::machine::HandsetMachine;
 use sms_handset::{Changes, HandsetEvent, Rows};
 use sms_link::Outgoing;
@@ -95,17 +94,8 @@ fn spelled(alloc: Global, digits: &[char]) -> Result<Octets, LinkStop>
     ensures { IfOk result (λ octets. octets ≡ encode_utf8_all digits.now) }
 {
     let mut number = Octets::new(alloc);
-    for digit in digits {
-        push_digit(&mut number, *digit)?;
-    }
+    put_characters(&mut number, digits)?;
     Ok(number)
-}
-
-fn push_digit(out: &mut Octets, digit: char) -> Result<(), LinkStop>
-    ensures { OnOk result (out.new ≡ out.old ++ encode_utf8 digit) }
-{
-    let mut octets = [0; 4];
-    Ok(out.append(digit.encode_utf8(&mut octets).as_bytes())?)
 }
 
 /// Lets time pass.

@@ -154,7 +154,8 @@ pub fn run_handset<
     // What is on the link behind the first frame is what the definition puts there for what the owner asked, and then for the
     // frames that were read. Before each act, and at each read, is one tick. The handset is the one that all these lead to. The answers are
     // those of the acts, by how the handset is then. It is done once so many frames were met, or a read brought nothing.
-    ensures { IfOk result (IsRun (C.reads clock.now) frames (map event_of acts.now) number.now (option_map (λ s. s.now) secret.entry) (core_in machine.old) (core_in machine.new) (R.remaining link_in.old)
+    ensures { IfOk result (IsRun (C.reads clock.now) frames (map event_of acts.now) number.now (option_map (λ s. s.now) secret.entry)
+        (core_in machine.old) (core_in machine.new) (R.remaining link_in.old)
         (R.remaining link_in.new) (W.contents link_out.old) (W.contents link_out.new) (A.contents answers.old) (A.contents answers.new)) }
 {
     match run(
@@ -179,7 +180,8 @@ fn run<K: Keep<Rows = Rows, Changes = Changes> + Drop, R: Read, W: Write, A: Wri
     frames: u32,
 ) -> Result<(), LinkStop>
     requires { MakesTheChanges K.after }
-    ensures { OnOk result (IsRunDone (C.reads clock.now) frames (map event_of acts.now) number.now (option_map (λ s. s.now) secret.entry) (core_in machine.old) (core_in machine.new) (R.remaining link_in.old)
+    ensures { OnOk result (IsRunDone (C.reads clock.now) frames (map event_of acts.now) number.now
+        (option_map (λ s. s.now) secret.entry) (core_in machine.old) (core_in machine.new) (R.remaining link_in.old)
         (R.remaining link_in.new) (W.contents link_out.old) (W.contents link_out.new) (A.contents answers.old) (A.contents answers.new)) }
 {
     greet(alloc, link_out, number.digits.as_slice(), secret)?;

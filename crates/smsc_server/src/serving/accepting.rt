@@ -8,7 +8,7 @@ use crate::serving::clock::milliseconds;
 use crate::serving::entrance::Entrance;
 use crate::serving::observer::{Event, Observer};
 use crate::serving::poller::Poller;
-use smsc_arrivals::{Door, Side};
+use smsc_arrivals::{Door, PeerKind};
 use std::sync::{Arc, Wait};
 use std::thread;
 use std::time::{Clock, Duration};
@@ -54,7 +54,7 @@ impl<R: Wait + Clock, S: Drop, L: Door<Stream = S>, T: Observer> Acceptor<R, L, 
     }
 
     // Takes the next connection that waits at that side. Says whether there was one and the seats have it.
-    fn take(&mut self, side: Side) -> bool
+    fn take(&mut self, side: PeerKind) -> bool
         ensures entered { (start : DoorsOf L) → HaveEntered L.came start self.old.entrance → HaveEntered L.came start self.new.entrance }
         ensures seats { HasSameSeats self.old.entrance.giver self.new.entrance.giver }
     {
@@ -136,8 +136,8 @@ impl<R: Wait + Clock, S: Drop, L: Door<Stream = S>, T: Observer> Acceptor<R, L, 
         ensures entered { (start : DoorsOf L) → HaveEntered L.came start self.old.entrance → HaveEntered L.came start self.new.entrance }
         ensures seats { HasSameSeats self.old.entrance.giver self.new.entrance.giver }
     {
-        let first = self.take(Side::Application);
-        let second = self.take(Side::Handset);
+        let first = self.take(PeerKind::Application);
+        let second = self.take(PeerKind::Handset);
         (first, second)
     }
 

@@ -50,7 +50,7 @@ impl AccountBook {
         })
     }
 
-    /// These accounts take the place of those that are in force. False where none may, or where they have other names.
+    /// The accounts take the place of those that are in force. False where none may, or where they have other names.
     pub fn renew<R: Wait>(
         &self,
         rt: &R,

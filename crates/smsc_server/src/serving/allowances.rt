@@ -52,7 +52,7 @@ impl Turnstile {
 /// What an account may do.
 #[derive(Clone, Copy, Debug, PartialEq, Eq)]
 pub struct Allowance {
-    /// It may have no session for now.
+    /// The account may have no session for now.
     pub is_suspended: bool,
     /// How many requests it may put in a second. One without a rate puts as many as it likes.
     pub rate: Option<u32>,

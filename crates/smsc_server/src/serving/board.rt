@@ -7,7 +7,7 @@ use mio::Waker;
 use smpp_session::FullAccounts;
 use sms_base::Digits;
 use sms_centre_spec::jobs::Job;
-use smsc_arrivals::Side;
+use smsc_arrivals::PeerKind;
 use std::alloc::{AllocError, Global};
 use std::sync::atomic::{AtomicBool, Ordering};
 use std::sync::{Arc, Mutex, Wait};
@@ -72,27 +72,27 @@ impl Board {
     }
 
     /// Whether one more connection of that side may take a seat.
-    pub(crate) fn has_room(&self, side: Side) -> bool {
+    pub(crate) fn has_room(&self, side: PeerKind) -> bool {
         self.seating.has_room(side)
     }
 
     /// Whether no seat is free, for either side.
     pub(crate) fn is_full(&self) -> bool {
-        !self.has_room(Side::Application) && !self.has_room(Side::Handset)
+        !self.has_room(PeerKind::Application) && !self.has_room(PeerKind::Handset)
     }
 
     /// Whether one side has no seat left.
     pub(crate) fn is_full_of_some(&self) -> bool {
-        !self.has_room(Side::Application) || !self.has_room(Side::Handset)
+        !self.has_room(PeerKind::Application) || !self.has_room(PeerKind::Handset)
     }
 
     /// A connection of that side takes a seat.
-    pub(crate) fn sit(&self, side: Side) {
+    pub(crate) fn sit(&self, side: PeerKind) {
         self.seating.sit(side);
     }
 
     /// A seat that a connection of that side had is free again.
-    pub(crate) fn rise(&self, side: Side) {
+    pub(crate) fn rise(&self, side: PeerKind) {
         self.seating.rise(side);
         let _ = self.waker.wake();
     }

@@ -8,7 +8,7 @@ use crate::serving::poller::Poller;
 use crate::serving::refusing::refuse;
 use crossbeam_channel::TryRecvError;
 use mio::Waker;
-use smsc_arrivals::{Doors, Piece, PieceReceiver, Reading, Side, open_pieces};
+use smsc_arrivals::{Doors, PeerKind, Piece, PieceReceiver, Reading, open_pieces};
 use smsc_loop::{Found, LeaveReason, Wire};
 use std::alloc::Global;
 use std::io::{self, Read, Write};
@@ -95,7 +95,7 @@ impl<S: OpenStream + Read + Write + Drop> Socket<S> {
     pub(crate) fn open(
         alloc: Global,
         stream: S,
-        side: Side,
+        side: PeerKind,
     ) -> Result<(Socket<S>, Reading<S>), LeaveReason>
         ensures remaining { IfOk result (λ r. left_at r.0.pieces ≡ S.remaining r.1.stream) }
         ensures written { IfOk result (λ r. S.contents r.0.stream ≡ S.contents stream) }

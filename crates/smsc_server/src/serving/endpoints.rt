@@ -6,7 +6,7 @@ ghost use Rattle.smsc_endpoint.specs.declared.link_access.LinkAccess.{LinkAccess
 ghost use Rattle.sms_seats.specs.Seats.{IsSameSeat, put_by, taken_by};
 ghost use Rattle.smsc_loop.specs.Owing.{IsCleared};
 ghost use Rattle.smsc_arrivals.specs.Ways.{IsSameTaker, taken_by as items_taken};
-ghost use Rattle.smsc_arrivals.specs.declared.arrival.Side.TheVariants.{Application as ForApplication, Handset as ForHandset};
+ghost use Rattle.smsc_arrivals.specs.declared.arrival.PeerKind.TheVariants.{Application as ForApplication, Handset as ForHandset};
 ghost use Rattle.smsc_server.specs.serving.SeatEvents.{ends_intake as ends_intake_after, ends_waiting as ends_waiting_after};
 ghost use Rattle.smsc_server.specs.serving.AccountBooks.{Book};
 ghost use Rattle.smsc_server.specs.serving.Connections.{HasSat, IsOpened, admits, arrival_of};
@@ -25,7 +25,7 @@ use crossbeam_channel::Sender;
 use smpp_session::FullAccounts;
 use sms_centre_spec::jobs::{Job, Reply};
 use sms_keeper::Seat;
-use smsc_arrivals::{Arrival, Reading, Side};
+use smsc_arrivals::{Arrival, PeerKind, Reading};
 use smsc_endpoint::{Esme, LinkAccess, LinkEndpoint};
 use smsc_loop::{Activity, Counts, LeaveReason, Note, OpenSeat, Order, Surroundings, Wire, serve};
 use std::alloc::Global;
@@ -76,7 +76,7 @@ struct SeatSurroundings<'a, R: Wait, T> {
     rt: &'a R,
     board: &'a Board,
     observer: &'a T,
-    side: Side,
+    side: PeerKind,
     peer: SocketAddr,
     // The endpoint said who it is.
     is_known: AtomicBool,
@@ -118,7 +118,7 @@ impl<'a, R: Wait + Clock, T: Observer> SeatSurroundings<'a, R, T> {
 
     // Whether the endpoint may be bound yet.
     fn may_bind(&self) -> bool {
-        self.side == Side::Application && !self.is_known.load(Ordering::SeqCst)
+        self.side == PeerKind::Application && !self.is_known.load(Ordering::SeqCst)
     }
 
     // Since when the run is to end: now, where it was not known.
@@ -167,7 +167,7 @@ impl<'a, R: Wait + Clock, T: Observer> Surroundings for SeatSurroundings<'a, R, 
 
     // A link's requests are of no account: it asks nothing by them.
     fn admits(&self, request: &Job) -> bool {
-        self.side == Side::Handset || self.board.admit(self.rt, request)
+        self.side == PeerKind::Handset || self.board.admit(self.rt, request)
     }
 
     fn order(&self, seat: usize) -> Order {
@@ -208,7 +208,7 @@ impl<'a, R: Wait + Clock, T: Observer> Surroundings for SeatSurroundings<'a, R, 
 }
 
 // There is no memory for an endpoint.
-fn refuse_new<A: Surroundings, W: Wire>(side: Side, around: &A, seat: &OpenSeat, wire: &mut W) {
+fn refuse_new<A: Surroundings, W: Wire>(side: PeerKind, around: &A, seat: &OpenSeat, wire: &mut W) {
     let _ = wire.write_soon(no_room(side));
     around.observe(
         seat.number(),
@@ -228,7 +228,7 @@ fn serve_application<R: Wait + Clock, S: OpenStream + Read + Write + Drop, T: Ob
         → HasSat S.remaining S.contents (admits book.now access) (arrival_of stream ForApplication peer) seat.old.seat seat.new.seat }
 {
     let Ok(accounts) = book.in_force(rt) else {
-        return refuse_new(Side::Application, around, seat, wire);
+        return refuse_new(PeerKind::Application, around, seat, wire);
     };
     let mut endpoint = Esme::new(alloc, accounts);
     serve(rt, alloc, around, wire, seat, &mut endpoint);
@@ -246,14 +246,14 @@ fn serve_handset<R: Wait + Clock, S: OpenStream + Read + Write + Drop, T: Observ
         → HasSat S.remaining S.contents (admits book (arc_value access.now)) (arrival_of stream ForHandset peer) seat.old.seat seat.new.seat }
 {
     let Ok(access) = Arc::try_clone(access) else {
-        return refuse_new(Side::Handset, around, seat, wire);
+        return refuse_new(PeerKind::Handset, around, seat, wire);
     };
     let mut endpoint = LinkEndpoint::new(alloc, access);
     serve(rt, alloc, around, wire, seat, &mut endpoint);
 }
 
 impl<R: Wait + Clock, S: OpenStream + Read + Write + Drop, T: Observer> SeatContext<R, S, T> {
-    fn surroundings(&self, side: Side, peer: SocketAddr) -> SeatSurroundings<'_, R, T> {
+    fn surroundings(&self, side: PeerKind, peer: SocketAddr) -> SeatSurroundings<'_, R, T> {
         SeatSurroundings {
             rt: &self.rt,
             board: &self.board,
@@ -271,7 +271,7 @@ impl<R: Wait + Clock, S: OpenStream + Read + Write + Drop, T: Observer> SeatCont
         &self,
         around: &SeatSurroundings<'_, R, T>,
         seat: &mut OpenSeat,
-        side: Side,
+        side: PeerKind,
         socket: &mut Socket<S>,
     )
         ensures { (stream reader : S) → IsOpened S.remaining S.contents stream reader socket.old → (peer : PeerOf)
@@ -279,17 +279,17 @@ impl<R: Wait + Clock, S: OpenStream + Read + Write + Drop, T: Observer> SeatCont
             seat.old.seat seat.new.seat }
     {
         match side {
-            Side::Application => {
+            PeerKind::Application => {
                 serve_application(&self.rt, self.alloc, &self.accounts, around, seat, socket)
             }
-            Side::Handset => {
+            PeerKind::Handset => {
                 serve_handset(&self.rt, self.alloc, &self.access, around, seat, socket)
             }
         }
     }
 
     // The wire of the connection, which is read from now on.
-    fn open_socket(&self, stream: S, side: Side) -> Result<Socket<S>, LeaveReason>
+    fn open_socket(&self, stream: S, side: PeerKind) -> Result<Socket<S>, LeaveReason>
         ensures { IfOk result (λ wire. (reader : S) × IsOpened S.remaining S.contents stream reader wire) }
     {
         let (socket, reading) = Socket::open(self.alloc, stream, side)?;
@@ -304,7 +304,7 @@ impl<R: Wait + Clock, S: OpenStream + Read + Write + Drop, T: Observer> SeatCont
         &self,
         around: &SeatSurroundings<'_, R, T>,
         seat: &mut OpenSeat,
-        side: Side,
+        side: PeerKind,
         socket: Socket<S>,
     )
         ensures { (stream reader : S) → IsOpened S.remaining S.contents stream reader socket → (peer : PeerOf)
@@ -321,7 +321,7 @@ impl<R: Wait + Clock, S: OpenStream + Read + Write + Drop, T: Observer> SeatCont
         around: &SeatSurroundings<'_, R, T>,
         seat: &mut OpenSeat,
         stream: S,
-        side: Side,
+        side: PeerKind,
     )
         ensures { (peer : PeerOf) → HasSat S.remaining S.contents (admits (arc_value self.now.accounts) (arc_value self.now.access))
             (arrival_of stream side peer) seat.old.seat seat.new.seat }

@@ -7,7 +7,7 @@ ghost use Rattle.smsc_server.specs.serving.Entering.{HasSameSeats, HaveEntered, 
 
 use crate::serving::board::Board;
 use crate::serving::orders::SEATS;
-use smsc_arrivals::{Arrival, Door, Doors, Giver, Side, Taker};
+use smsc_arrivals::{Arrival, Door, Doors, Giver, PeerKind, Taker};
 use std::snapshot::Snapshot;
 use std::sync::Wait;
 use std::thread::{Promise, PromisedHandle};
@@ -77,7 +77,7 @@ impl<S: Drop, L: Door<Stream = S>> Entrance<L, S> {
     }
 
     /// Takes the next connection that waits at that side, if there is one, and gives it to the seats. Says whether they have it.
-    pub(crate) fn let_in<R: Wait>(&mut self, rt: &R, board: &Board, side: Side) -> Option<bool>
+    pub(crate) fn let_in<R: Wait>(&mut self, rt: &R, board: &Board, side: PeerKind) -> Option<bool>
         ensures entered { (start : DoorsOf L) → HaveEntered L.came start self.old → HaveEntered L.came start self.new }
         ensures seats { HasSameSeats self.old.giver self.new.giver }
     {

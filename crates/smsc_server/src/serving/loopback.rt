@@ -19,9 +19,9 @@ use std::time::Clock as SystemClock;
 /// Where a server of this process listens.
 #[derive(Clone, Copy, Debug, PartialEq, Eq)]
 pub struct Loopback {
-    /// For applications.
+    /// The port for applications.
     pub applications: SocketAddr,
-    /// For handsets.
+    /// The port for handsets.
     pub links: SocketAddr,
 }
 

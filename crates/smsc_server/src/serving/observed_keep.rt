@@ -11,7 +11,7 @@ use sms_rows::table::{Change, Key};
 /// rows that the keep in it holds.
 #[derive(Drop)]
 pub struct ObservedKeep<'a, K, T> {
-    /// The keep.
+    /// The keep that is observed.
     pub keep: K,
     /// Who observes it, if anybody does.
     pub observer: Option<&'a T>,

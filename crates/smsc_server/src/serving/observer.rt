@@ -3,17 +3,17 @@ use crate::serving::occupancy::Seated;
 use sms_base::{Digits, FinalState, MessageId};
 use sms_centre_spec::Changes;
 use sms_rows::keep::KeepError;
-use smsc_arrivals::Side;
+use smsc_arrivals::PeerKind;
 use smsc_loop::{Activity, LeaveReason, Note};
 use std::net::SocketAddr;
 
 /// What happens in a run.
 #[derive(Clone, Copy, Debug, PartialEq, Eq)]
 pub enum Event {
-    /// This happened to the endpoint at the seat of this number, whose other side has this address.
+    /// What the note says happened to the endpoint at the seat of the number. The endpoint's other side has the address.
     Endpoint(usize, SocketAddr, Note),
     /// A connection from this address ended without having said who it is.
-    Unknown(Side, SocketAddr, LeaveReason),
+    Unknown(PeerKind, SocketAddr, LeaveReason),
     /// A submit_sm of the account at this place was refused with this command_status; of none where nobody was bound.
     SubmitRefused(Option<u8>, u32),
     /// A connection waits at a port, and these have the seats of its side. It is told once a second at most.
@@ -41,7 +41,7 @@ pub trait Observer {
     /// The keeper gave the outs of a group of so many items, at most 64.
     fn end_group(&self, _count: usize) {}
 
-    /// A commit begins.
+    /// A commit of the group is about to be made.
     fn begin_commit(&self) {}
 
     /// The commit ended. Where it was refused, it says why.

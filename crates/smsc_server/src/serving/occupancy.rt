@@ -2,11 +2,12 @@
 ghost use Rattle.std.specs.Prelude.{◌≡◌, ◌<◌, ◌≤◌, ℕ, not, None, IfOk, length, replicate, slice_set};
 ghost use Rattle.smpp_session.specs.Logins.{is_full};
 ghost use Rattle.smsc_server.specs.serving.KeptSeats.{may_sit as may_sit_of};
-ghost use Rattle.smsc_server.specs.serving.SessionLimits.{bound_at, bound_where, count_of, full_where, has_room as has_room_of, is_of as is_of_account, is_suspended_at, limit_of, may_be_bound, may_have_more as may_have_more_of, AreWithin};
+ghost use Rattle.smsc_server.specs.serving.SessionLimits.{bound_at, bound_where, count_of, full_where, has_room as has_room_of, is_of as is_of_account};
+ghost use Rattle.smsc_server.specs.serving.SessionLimits.{is_suspended_at, limit_of, may_be_bound, may_have_more as may_have_more_of, AreWithin};
 
 use crate::serving::orders::SEATS;
 use smpp_session::FullAccounts;
-use smsc_arrivals::Side;
+use smsc_arrivals::PeerKind;
 use std::alloc::{AllocError, Global};
 use std::sync::atomic::{AtomicUsize, Ordering};
 
@@ -16,12 +17,12 @@ const KEPT: usize = 8;
 // So many seats one side takes at most.
 const MOST: usize = SEATS - KEPT;
 
-fn may_sit(side: Side, applications: usize, links: usize) -> bool
+fn may_sit(side: PeerKind, applications: usize, links: usize) -> bool
     ensures { result ≡ may_sit_of side applications links }
 {
     let own = match side {
-        Side::Application => applications,
-        Side::Handset => links,
+        PeerKind::Application => applications,
+        PeerKind::Handset => links,
     };
     applications.saturating_add(links) < SEATS && own < MOST
 }
@@ -256,25 +257,25 @@ impl Seating {
         }
     }
 
-    fn of(&self, side: Side) -> &AtomicUsize {
+    fn of(&self, side: PeerKind) -> &AtomicUsize {
         match side {
-            Side::Application => &self.applications,
-            Side::Handset => &self.links,
+            PeerKind::Application => &self.applications,
+            PeerKind::Handset => &self.links,
         }
     }
 
-    /// One more of that side sits.
-    pub(crate) fn sit(&self, side: Side) {
+    /// Counts one more seat of that side as taken.
+    pub(crate) fn sit(&self, side: PeerKind) {
         self.of(side).fetch_add(1, Ordering::SeqCst);
     }
 
-    /// One of that side has left.
-    pub(crate) fn rise(&self, side: Side) {
+    /// Counts one seat of that side as free.
+    pub(crate) fn rise(&self, side: PeerKind) {
         self.of(side).fetch_sub(1, Ordering::SeqCst);
     }
 
     /// Whether one more of that side may sit.
-    pub(crate) fn has_room(&self, side: Side) -> bool {
+    pub(crate) fn has_room(&self, side: PeerKind) -> bool {
         let applications = self.applications.load(Ordering::SeqCst);
         let links = self.links.load(Ordering::SeqCst);
         may_sit(side, applications, links)

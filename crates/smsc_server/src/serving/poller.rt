@@ -31,7 +31,7 @@ fn watch_both<N: Net>(net: &N, ports: [RawFd; 2]) -> io::Result<Poll> {
 }
 
 impl Poller {
-    /// That of these ports, and what rings it beside them.
+    /// A poller of the two ports, and what rings it beside them.
     pub(crate) fn of<N: Net, L: AsRawFd>(
         net: &N,
         alloc: Global,

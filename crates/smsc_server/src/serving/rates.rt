@@ -1,6 +1,8 @@
 //! How many requests of an account are put in a second.
 ghost use Rattle.std.specs.Prelude.{◌≡◌, ◌≤◌, ℕ, List, Some, IfOk, map, true, slice_get, slice_set};
-ghost use Rattle.smsc_server.specs.serving.Rates.{AreInOrder, account_asking, after_request, count_put, first_rate, has_place as has_place_of, is_admitted, limited_all as limited_all_to, limited_at as limited_at_place, new_rate, one_more, limited as limited_to, put_in as put_in_of, rate_of, rates_after, second_of as second_of_moment};
+ghost use Rattle.smsc_server.specs.serving.Rates.{AreInOrder, account_asking, after_request, count_put, first_rate, has_place as has_place_of, is_admitted};
+ghost use Rattle.smsc_server.specs.serving.Rates.{limited_all as limited_all_to, limited_at as limited_at_place, new_rate, one_more, limited as limited_to};
+ghost use Rattle.smsc_server.specs.serving.Rates.{put_in as put_in_of, rate_of, rates_after, second_of as second_of_moment};
 
 use crate::serving::allowances::Allowance;
 use crate::serving::clock::milliseconds;

@@ -1,20 +1,20 @@
 //! A connection that is refused.
-use smsc_arrivals::Side;
+use smsc_arrivals::PeerKind;
 use smsc_endpoint::{CONGESTION, NO_ROOM};
 use std::io::{Read, Write};
 use std::net::OpenStream;
 
 /// The octets by which this side learns that there is no room.
-pub(crate) fn no_room(side: Side) -> &'static [u8] {
+pub(crate) fn no_room(side: PeerKind) -> &'static [u8] {
     match side {
-        Side::Application => &NO_ROOM,
-        Side::Handset => &CONGESTION,
+        PeerKind::Application => &NO_ROOM,
+        PeerKind::Handset => &CONGESTION,
     }
 }
 
 /// Sends the other side that there is no room, as far as it listens. What it sent is read first: a connection that is
 /// closed over octets that nobody read loses what was sent to it.
-pub(crate) fn refuse<S: OpenStream + Read + Write + Drop>(stream: S, side: Side) {
+pub(crate) fn refuse<S: OpenStream + Read + Write + Drop>(stream: S, side: PeerKind) {
     let mut stream = stream;
     if stream.set_nonblocking(true).is_err() {
         return;

@@ -48,12 +48,12 @@ use std::time::Clock as SystemClock;
 // Tells how large groups were, and that the store refused one. It keeps no item. Where the machine could not be opened again, it orders
 // the run to end: each seat leaves once its requests have their answers.
 #[derive(Drop)]
-struct Watch<'a, T> {
+struct GroupWatch<'a, T> {
     observer: &'a T,
     orders: &'a Orders,
 }
 
-impl<'a, T: Observer> Recorder<Job, Reply> for Watch<'a, T> {
+impl<'a, T: Observer> Recorder<Job, Reply> for GroupWatch<'a, T> {
     ghost use Rattle.std.specs.Prelude.{⊤};
 
     ghost has = { λ watch told. ⊤ };
@@ -93,7 +93,7 @@ fn run_keeper<R: Wait, M: Machine<Job, Reply>, G: Gate, C: Clock, T: Observer>(
     ensures closed { IsClosed keeper.new }
     ensures before { M.is_honest machine.new → M.is_honest machine.old }
 {
-    let mut watch = Watch { observer, orders };
+    let mut watch = GroupWatch { observer, orders };
     match run_terms(rt, alloc, keeper, machine, gate, clock, &mut watch) {
         Ok(()) => Ok(()),
         Err(fault) => Err(ServeFault::from(fault)),

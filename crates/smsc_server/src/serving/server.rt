@@ -241,7 +241,8 @@ impl<S: OpenStream + Read + Write + Drop + Send + 'static> Server<S> {
     ) -> Result<ArrivalGiver<S>, ServeFault>
         requires none { self.old.seats.items ≡ [] }
         requires new { (n : ℕ) (s : SeatOf JobOf ReplyOf) → slice_get seats.items n ≡ Some s → (put_by s ≡ []) × (taken_by s ≡ []) }
-        ensures { IfOk result (λ giver. HaveStarted (admits (arc_value shared.now.accounts) (arc_value shared.now.access)) giver seats.items self.new.seats.items) }
+        ensures { IfOk result (λ giver. HaveStarted (admits (arc_value shared.now.accounts) (arc_value shared.now.access))
+            giver seats.items self.new.seats.items) }
     {
         let mut giver = share(alloc, PLACES)?;
         shared.board.open(&rt);

@@ -4,7 +4,7 @@ ghost use Rattle.smsc_server.specs.serving.SeatEvents.{account_numbered, message
 
 use crate::serving::observer::Event;
 use sms_centre_rows::messages::MessageRow;
-use smsc_arrivals::Side;
+use smsc_arrivals::PeerKind;
 use smsc_loop::Note;
 use std::net::SocketAddr;
 
@@ -24,7 +24,7 @@ pub(crate) fn account_in(number: u8) -> Option<u8>
 /// What is told of what happened at the seat. The endpoint has said who it is, or not, and the account was bound there last.
 pub(crate) fn event_of_note(
     seat: usize,
-    side: Side,
+    side: PeerKind,
     peer: SocketAddr,
     is_known: bool,
     account: Option<u8>,

@@ -31,9 +31,9 @@ pub struct Client {
 pub enum Heard {
     /// Nothing yet.
     Nothing,
-    /// It asks for this.
+    /// The client asks for this.
     Asked(Wanted),
-    /// It has left, or its connection failed.
+    /// The client has left, or its connection failed.
     Left,
 }
 
@@ -91,7 +91,7 @@ impl Client {
         }
     }
 
-    /// It is to be sent these octets.
+    /// The client is to be sent these octets.
     pub fn answer(&mut self, octets: Octets) {
         self.out = Some(octets);
     }

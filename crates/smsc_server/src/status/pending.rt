@@ -2,7 +2,7 @@
 //!
 //! A commit has the rows that it changes. So a run keeps of each message that is pending for which handset it is and when it was
 //! submitted, and of each of its parts that waits how often it failed and when it is offered next.
-use sms_base::{Digits, MessageId, Moment};
+use sms_base::{Digits, MessageId, Moment, earlier};
 use sms_centre_rows::messages::{MessageRow, PartRow};
 use sms_centre_rows::waiting::{Progress, Revision};
 use sms_centre_spec::{Changes, Rows};
@@ -89,14 +89,6 @@ fn numbers_of(key: Key) -> (u64, u8) {
     (message, (number % 256) as u8)
 }
 
-fn sooner(one: Moment, other: Moment) -> Moment {
-    if other.seconds() < one.seconds() {
-        other
-    } else {
-        one
-    }
-}
-
 impl Shelf {
     fn place(&self, message: u64, number: u8) -> Option<usize> {
         self.parts
@@ -128,7 +120,7 @@ impl Shelf {
     fn since(&self, first: Moment) -> Moment {
         let mut since = first;
         for part in self.parts.iter() {
-            since = sooner(since, part.submitted);
+            since = earlier(since, part.submitted);
         }
         since
     }
@@ -144,7 +136,7 @@ impl Shelf {
     fn due(&self, first: Moment) -> Moment {
         let mut due = first;
         for part in self.parts.iter() {
-            due = sooner(due, part.due);
+            due = earlier(due, part.due);
         }
         due
     }

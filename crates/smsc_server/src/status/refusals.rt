@@ -82,14 +82,14 @@ impl RefusalTable {
         Ok(RefusalTable { counts })
     }
 
-    /// One more was refused.
+    /// Counts one more refusal.
     pub fn count(&self, account: Option<u8>, status: u32) {
         if let Some(counter) = self.counts.get(place_of(account, status)) {
             counter.fetch_add(1, Ordering::SeqCst);
         }
     }
 
-    /// Those that were refused so far.
+    /// The refusals so far.
     pub fn all(&self, alloc: Global) -> Result<Vec<Refusals>, AllocError> {
         let mut all = Vec::new(alloc);
         for place in 0..self.counts.len() {
@@ -106,7 +106,7 @@ impl RefusalTable {
         self.counts.len()
     }
 
-    /// Those of the kind of this number that were refused since this was asked last, if there are any.
+    /// The refusals of the kind of this number since this was asked last, if there are any.
     pub fn take(&self, kind: usize) -> Option<Refusals> {
         let counter = self.counts.get(kind)?;
         match counter.swap(0, Ordering::SeqCst) {

@@ -12,7 +12,7 @@ pub const NO_MESSAGES: MessageFigures = MessageFigures {
     undeliverable: 0,
 };
 
-/// One more message is in this state.
+/// Counts one more message in this state.
 pub fn with_message(figures: MessageFigures, state: Option<FinalState>) -> MessageFigures {
     let mut figures = figures;
     match state {

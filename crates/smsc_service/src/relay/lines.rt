@@ -1,11 +1,9 @@
 //! Lines of hexadecimal digits.
 ghost use Rattle.std.specs.Prelude.{◌≡◌, ◌++◌, ◌==◌, ◌<◌, ℕ, length, position, OnOk, IfSome};
 ghost use Rattle.smsc_service.specs.relay.LineReading.{ReadsLine};
-ghost use Rattle.std.specs.Char.{encode_utf8};
-ghost use Rattle.std.specs.Str.{encode_utf8_all};
 ghost use Rattle.smsc_service.specs.relay.Lines.{first_line, behind_line, frame_in, line_of};
 
-use sms_base::Octets;
+use sms_base::{Octets, put_characters};
 use std::alloc::{AllocError, Global};
 
 /// Octets in a line of input, its end not counted.
@@ -63,25 +61,9 @@ pub(crate) fn push_line(
 ) -> Result<(), AllocError>
     ensures { OnOk result (out.new ≡ out.old ++ line_of number.now frame.now) }
 {
-    push_text(out, number)?;
+    put_characters(out, number)?;
     out.push(b' ')?;
     let digits = hex::encode_upper(alloc, frame)?;
     out.append(digits.as_bytes())?;
     out.push(b'\n')
-}
-
-fn push_text(out: &mut Octets, text: &[char]) -> Result<(), AllocError>
-    ensures { OnOk result (out.new ≡ out.old ++ encode_utf8_all text.now) }
-{
-    for character in text {
-        push_character(out, *character)?;
-    }
-    Ok(())
-}
-
-fn push_character(out: &mut Octets, character: char) -> Result<(), AllocError>
-    ensures { OnOk result (out.new ≡ out.old ++ encode_utf8 character) }
-{
-    let mut octets = [0; 4];
-    out.append(character.encode_utf8(&mut octets).as_bytes())
 }

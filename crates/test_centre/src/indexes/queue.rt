@@ -7,7 +7,7 @@ use sms_centre_rows::waiting::QueuedPart;
 use std::alloc::Global;
 use std::test::Fail;
 
-fn load(id: u32, number: u8, priority: u8, seconds: u32) -> Result<QueuedPart, Fail> {
+fn queued(id: u32, number: u8, priority: u8, seconds: u32) -> Result<QueuedPart, Fail> {
     Ok(QueuedPart {
         id: message(id)?,
         number,
@@ -20,7 +20,7 @@ fn load(id: u32, number: u8, priority: u8, seconds: u32) -> Result<QueuedPart, F
 // The message that goes first at that time, and the number of its part.
 fn next(queue: &DeliveryQueue, seconds: u32) -> Result<(u64, u8), Fail> {
     match queue.next(at(seconds)?) {
-        Some(load) => Ok((load.id.number(), load.number)),
+        Some(queued) => Ok((queued.id.number(), queued.number)),
         None => Ok((0, 0)),
     }
 }
@@ -31,9 +31,9 @@ fn goes_next(queue: &DeliveryQueue, seconds: u32, id: u64, number: u8) -> Result
 
 // Message 1 in two parts, the second due in an hour, and message 2 of a higher priority, due in a minute.
 fn put_three(queue: &mut DeliveryQueue) -> Result<(), Fail> {
-    queue.put(load(1, 1, 0, 0)?)?;
-    queue.put(load(1, 2, 0, 3_600)?)?;
-    queue.put(load(2, 1, 1, 60)?)?;
+    queue.put(queued(1, 1, 0, 0)?)?;
+    queue.put(queued(1, 2, 0, 3_600)?)?;
+    queue.put(queued(2, 1, 1, 60)?)?;
     Ok(())
 }
 
@@ -41,7 +41,7 @@ fn waits_in_order(queue: &mut DeliveryQueue) -> Result<(), Fail> {
     put_three(queue)?;
     holds(goes_next(queue, 0, 1, 1)?, "what is due")?;
     holds(goes_next(queue, 60, 2, 1)?, "what has the higher priority")?;
-    let first = load(1, 1, 0, 0)?;
+    let first = queued(1, 1, 0, 0)?;
     holds(
         !queue.waits_beside(at(0)?, &first) && queue.waits_beside(at(60)?, &first),
         "another one beside",
@@ -52,7 +52,7 @@ fn goes_on(queue: &mut DeliveryQueue) -> Result<(), Fail> {
     queue.remove(message(2)?, 1)?;
     queue.due_at(at(90)?)?;
     holds(goes_next(queue, 90, 1, 1)?, "all is due")?;
-    holds(queue.load(message(1)?, 2).is_some(), "the second part")?;
+    holds(queue.queued(message(1)?, 2).is_some(), "the second part")?;
     queue.withdraw(message(1)?)?;
     holds(queue.waiting()?.is_empty(), "nothing")
 }
@@ -64,7 +64,7 @@ fn waits_and_goes_on(queue: &mut DeliveryQueue) -> Result<(), Fail> {
 
 fn put_many(queue: &mut DeliveryQueue) -> Result<(), Fail> {
     for id in 1u32..41 {
-        queue.put(load(id, 1, 0, 0)?)?;
+        queue.put(queued(id, 1, 0, 0)?)?;
     }
     Ok(())
 }
@@ -75,7 +75,7 @@ fn waits(queue: &DeliveryQueue, count: usize, id: u64) -> Result<bool, Fail> {
 
 // One more comes behind the others, and the first, which the queue has too, goes.
 fn changes(copy: &mut DeliveryQueue) -> Result<(), Fail> {
-    copy.put(load(41, 1, 0, 0)?)?;
+    copy.put(queued(41, 1, 0, 0)?)?;
     holds(waits(copy, 41, 1)?, "one more")?;
     copy.remove(message(1)?, 1)?;
     holds(waits(copy, 40, 2)?, "without the first")

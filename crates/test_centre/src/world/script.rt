@@ -1,7 +1,7 @@
 //! Scripts that are read, and the numbers of bad lines.
 use crate::rows::holds;
 use sms_base::{OctetView, Octets};
-use sms_script::{Act, Script, ScriptFault, Setup, Side, StopPoint, WorldEvent, read_script};
+use sms_script::{Act, EventSide, Script, ScriptFault, Setup, StopPoint, WorldEvent, read_script};
 use std::alloc::Global;
 use std::test::Fail;
 
@@ -66,13 +66,13 @@ fn word_of(event: &WorldEvent<'_>) -> &'static str {
         WorldEvent::Whole(Act::Discard { entry: 7, .. }) => "discard",
         WorldEvent::Whole(
             Act::Tick {
-                side: Side::Centre,
+                side: EventSide::Centre,
                 now,
             },
         ) if now.seconds() == 946_684_800 => "tick centre",
         WorldEvent::Whole(
             Act::Tick {
-                side: Side::Handset(_),
+                side: EventSide::Handset(_),
                 now,
             },
         ) if now.seconds() == 4_102_444_799 => "tick",
@@ -80,8 +80,8 @@ fn word_of(event: &WorldEvent<'_>) -> &'static str {
         WorldEvent::Whole(Act::Deliver(2)) => "deliver 2",
         WorldEvent::Whole(Act::Deliver(3)) => "deliver 3",
         WorldEvent::Whole(Act::Deliver(4)) => "deliver 4",
-        WorldEvent::Restart(Side::Centre) => "restart centre",
-        WorldEvent::Restart(Side::Handset(number)) if is(number, b"2") => "restart",
+        WorldEvent::Restart(EventSide::Centre) => "restart centre",
+        WorldEvent::Restart(EventSide::Handset(number)) if is(number, b"2") => "restart",
         WorldEvent::Stopped(StopPoint::Before, Act::Deliver(9)) => "stopped before",
         WorldEvent::Stopped(StopPoint::After, Act::Submit(_)) => "stopped after",
         _ => "another event",

@@ -13,7 +13,7 @@ pub enum Reply {
     Failed,
 }
 
-/// It adds up the jobs and answers each but 0 with the sum so far. It refuses one job, or the commit of the group that has it, by
+/// Adds up the jobs and answers each but 0 with the sum so far. Refuses one job, or the commit of the group that has it, by
 /// its place from 1, and forgets its sum then.
 #[derive(Drop)]
 pub struct Counter {
@@ -48,7 +48,7 @@ impl Counter {
         }
     }
 
-    /// One that refuses the commit of the group with the job of that place.
+    /// A counter that refuses the commit of the group with the job of that place.
     pub fn uncommitted(place: u64) -> Counter {
         Counter {
             sum: 0,

@@ -44,7 +44,7 @@ pub(crate) fn session(alloc: Global) -> Result<Session, Fail> {
 #[derive(Clone, Copy)]
 pub(crate) enum Given {
     Nothing,
-    /// This answer, and nothing else.
+    /// An answer of these octets, and nothing else.
     Answer(&'static [u8]),
     /// A bind that is answered so.
     Bind(&'static [u8]),
@@ -56,7 +56,7 @@ pub(crate) enum Given {
     BindRefused(&'static [u8], CommandStatus, &'static [u8]),
     /// The account is bound no longer.
     Unbound,
-    /// This answer, and the account is bound no longer.
+    /// An answer of these octets, and the account is bound no longer.
     AnswerAndUnbound(&'static [u8]),
 }
 
@@ -122,7 +122,7 @@ pub(crate) enum Step {
     Answers(&'static [u8]),
     /// The centre sends this unbind.
     Unbinds(&'static [u8]),
-    /// It is in that state.
+    /// The session is in that state.
     Is(SessionState),
 }
 

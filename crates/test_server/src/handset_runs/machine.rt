@@ -74,7 +74,7 @@ fn address(digits: &str) -> Result<Address, Fail>
     }
 }
 
-/// Its number.
+/// The number of the handset.
 pub(crate) fn number() -> Result<Address, Fail>
     ensures { IfOk result (λ number. IsAddress number) }
 {

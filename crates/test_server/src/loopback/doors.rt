@@ -5,7 +5,9 @@ use crate::clock_and_gate::Open;
 use crate::rows::holds;
 use crate::service::centre::{book, clock, keep};
 use smsc_endpoint::LinkAccess;
-use smsc_server::{Allowances, Door, Doors, Event, Given, Observer, Orders, Ports, Side, serve};
+use smsc_server::{
+    Allowances, Door, Doors, Event, Given, Observer, Orders, PeerKind, Ports, serve,
+};
 use smsc_service::{Forgetting, NoArchive};
 use std::alloc::Global;
 use std::io::{self, ErrorKind, Read, Write};
@@ -115,8 +117,8 @@ impl Observer for Sums {
     fn observe(&self, event: &Event) {
         if let Event::Unknown(side, peer, _) = event {
             let sum = match side {
-                Side::Application => &self.applications,
-                Side::Handset => &self.links,
+                PeerKind::Application => &self.applications,
+                PeerKind::Handset => &self.links,
             };
             sum.fetch_add(u32::from(peer.port()), Ordering::SeqCst);
         }

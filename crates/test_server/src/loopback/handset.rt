@@ -16,7 +16,7 @@ fn linked<N: Net<Stream = TcpStream>>(net: &N, server: SocketAddr) -> io::Result
     Ok(link)
 }
 
-/// It takes so many frames of its link.
+/// The handset takes so many frames of its link.
 pub(crate) fn attends<N: Net<Stream = TcpStream>>(
     net: &N,
     alloc: Global,

@@ -70,7 +70,7 @@ pub(crate) enum Noted {
     LinkUp,
     /// The handset has another link.
     Taken,
-    /// That other link did not end.
+    /// The handset's other link did not end.
     NotReplaced,
 }
 
@@ -79,34 +79,34 @@ pub(crate) enum Noted {
 pub(crate) enum Act {
     /// The account at place 0 is full, or not.
     IsToldFull(bool),
-    /// These octets come.
+    /// The endpoint takes these octets.
     Comes(&'static [u8]),
-    /// It is told this.
+    /// The endpoint is told this.
     Hears(ExpectedReply),
     /// So many of its octets are sent.
     Sent(usize),
-    /// Its next job is handed back.
+    /// The endpoint's next job is handed back.
     HandsBack,
-    /// It has not said who it is for too long.
+    /// The endpoint has not said who it is for too long.
     GivesUp,
-    /// It is this time, in milliseconds.
+    /// The clock shows this time, in milliseconds.
     IsAt(u64),
-    /// It is to leave.
+    /// The endpoint is asked to leave.
     IsToLeave,
 }
 
 /// What is to be seen of an endpoint.
 #[derive(Clone, Copy)]
 pub(crate) enum Refinement {
-    /// It has these octets to send.
+    /// The endpoint has these octets to send.
     Sends(&'static [u8]),
-    /// It has so many octets to send.
+    /// The endpoint has so many octets to send.
     SendsSoMany(usize),
-    /// Its next job is this.
+    /// The endpoint's next job is this.
     Asks(Request),
-    /// It has no job to put.
+    /// The endpoint has no job to put.
     AsksNothing,
-    /// Its next note is this.
+    /// The endpoint's next note is this.
     Notes(Noted),
     /// So many answers to its requests are to come.
     Awaits(usize),
@@ -114,13 +114,13 @@ pub(crate) enum Refinement {
     IsKnown(bool),
     /// Whether no more of its octets are to be read.
     IsFull(bool),
-    /// Its oldest deliver_sm without an answer was sent then.
+    /// The oldest deliver_sm without an answer was sent then.
     Owes(u64),
-    /// It has no next job now.
+    /// The endpoint has no next job now.
     AsksNoMore,
-    /// It takes and gives nothing any more.
+    /// The endpoint takes and gives nothing any more.
     IsOver,
-    /// It still takes and gives.
+    /// The endpoint still takes and gives.
     GoesOn,
     /// As its connection ends this is its last job.
     ClosesWith(Request),

@@ -87,7 +87,7 @@ pub(crate) fn logins(alloc: Global) -> Result<Arc<Accounts>, Fail> {
     Ok(Arc::new(alloc, Accounts::from_vec(logins))?)
 }
 
-/// The same for a run, in which no other takes its place.
+/// What may bind in a run, where no other list takes its place.
 pub(crate) fn book(alloc: Global) -> Result<Arc<AccountBook>, Fail> {
     let logins = vec![in alloc; login(alloc)?]?;
     let book = AccountBook::new(alloc, logins, false)?;

@@ -13,7 +13,7 @@ pub(crate) enum ExpectedReply {
     Failed,
     /// The receipt of that message.
     Receipt(u64),
-    /// This frame.
+    /// A frame of these octets.
     Frame(&'static [u8]),
     /// Another seat has the link.
     Taken,

@@ -22,7 +22,7 @@ pub(crate) struct Tally {
     pub(crate) down: u32,
 }
 
-/// It promises nothing of what it gives: tests look at its counts.
+/// The counter promises nothing of what it gives: tests look at its counts.
 #[derive(Drop)]
 pub(crate) struct Counter {
     alloc: Global,

@@ -2,7 +2,7 @@
 use crate::rows::holds;
 use crate::service::centre::clock;
 use crate::serving::answering::{Counter, FRAME};
-use crate::serving::table::{ANSWERS, REQUESTS, Side, Table, is_even, is_whole, make_room, run};
+use crate::serving::table::{ANSWERS, REQUESTS, Sitter, Table, is_even, is_whole, make_room, run};
 use crate::serving::wire::Script;
 use std::alloc::Global;
 use std::sync::Wait;
@@ -63,10 +63,10 @@ fn meets<R: Threads + Wait + Sync>(
 }
 
 // The wire of the first seat, which refuses its calls from that one on.
-fn wire_of(side: Side, refused: Refused, call: u32) -> Script<'static> {
+fn wire_of(side: Sitter, refused: Refused, call: u32) -> Script<'static> {
     let mut wire = match side {
-        Side::Application => Script::well(&REQUESTS, ANSWERS),
-        Side::Handset => Script::well(&FRAMES, SENT),
+        Sitter::Application => Script::well(&REQUESTS, ANSWERS),
+        Sitter::Handset => Script::well(&FRAMES, SENT),
     };
     match refused {
         Refused::Reads => wire.reads = call,
@@ -104,27 +104,27 @@ fn each_call<R: Threads + Wait + Sync>(
 
 // Whose calls are refused, which, and how many there are at least. A session's octets come in seven pieces; what it is sent goes in two
 // pieces for the first answer, and one for each of the others. A link is sent 123 octets, 20 at most at once.
-const REFUSALS: &[(Side, Refused, u32, &'static str)] = &[
+const REFUSALS: &[(Sitter, Refused, u32, &'static str)] = &[
     (
-        Side::Application,
+        Sitter::Application,
         Refused::Reads,
         7,
         "a session that can not be read",
     ),
     (
-        Side::Application,
+        Sitter::Application,
         Refused::Writes,
         3,
         "a session that can not be written",
     ),
     (
-        Side::Handset,
+        Sitter::Handset,
         Refused::Reads,
         2,
         "a link that can not be read",
     ),
     (
-        Side::Handset,
+        Sitter::Handset,
         Refused::Writes,
         7,
         "a link that can not be written",
@@ -134,7 +134,7 @@ const REFUSALS: &[(Side, Refused, u32, &'static str)] = &[
 fn plays<R: Threads + Wait + Sync>(
     rt: &R,
     alloc: Global,
-    row: &(Side, Refused, u32, &'static str),
+    row: &(Sitter, Refused, u32, &'static str),
 ) -> Result<(), Fail> {
     let (side, refused, at_least, name) = row;
     let table = Table::new(alloc, *side)?;

@@ -3,7 +3,8 @@ use crate::rows::holds;
 use crate::service::centre::clock;
 use crate::serving::answering::Counter;
 use crate::serving::table::{
-    ANSWERS, ENDED, REQUESTS, Room, SILENT, STALLED, Side, Table, is_even, is_whole, make_room, run,
+    ANSWERS, ENDED, REQUESTS, Room, SILENT, STALLED, Sitter, Table, is_even, is_whole, make_room,
+    run,
 };
 use crate::serving::wire::Script;
 use sms_base::lending::put;
@@ -54,7 +55,7 @@ fn leaves_table<R: Threads + Wait + Sync>(
 
 // Who leaves: its name, its side and octets, how many octets it takes before it hangs up, whether it takes any, its last note, and how
 // many octets go to it.
-type Leaving = (&'static str, Side, &'static [u8], usize, bool, u32, usize);
+type Leaving = (&'static str, Sitter, &'static [u8], usize, bool, u32, usize);
 
 // Half a PDU.
 const HALF: [u8; 20] = [
@@ -67,7 +68,7 @@ const HALF: [u8; 20] = [
 const LEAVINGS: &[Leaving] = &[
     (
         "who says nothing is given up",
-        Side::Application,
+        Sitter::Application,
         &[],
         usize::MAX,
         true,
@@ -76,7 +77,7 @@ const LEAVINGS: &[Leaving] = &[
     ),
     (
         "who says half a PDU is given up",
-        Side::Application,
+        Sitter::Application,
         &HALF,
         usize::MAX,
         true,
@@ -85,7 +86,7 @@ const LEAVINGS: &[Leaving] = &[
     ),
     (
         "a handset that says nothing is given up",
-        Side::Handset,
+        Sitter::Handset,
         &[],
         usize::MAX,
         true,
@@ -94,7 +95,7 @@ const LEAVINGS: &[Leaving] = &[
     ),
     (
         "who binds and takes no answer is given up",
-        Side::Application,
+        Sitter::Application,
         &REQUESTS,
         usize::MAX,
         false,
@@ -103,7 +104,7 @@ const LEAVINGS: &[Leaving] = &[
     ),
     (
         "who leaves in a request leaves",
-        Side::Application,
+        Sitter::Application,
         &HALF,
         0,
         true,
@@ -112,7 +113,7 @@ const LEAVINGS: &[Leaving] = &[
     ),
     (
         "who sends garbage is told",
-        Side::Application,
+        Sitter::Application,
         b"GET / HTTP/1.1\r\n\r\n",
         usize::MAX,
         true,
@@ -122,7 +123,7 @@ const LEAVINGS: &[Leaving] = &[
     // A half close behind two requests: both are answered before the connection ends.
     (
         "who sends no more is answered",
-        Side::Application,
+        Sitter::Application,
         &REQUESTS,
         0,
         true,

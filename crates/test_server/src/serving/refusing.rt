@@ -4,7 +4,7 @@ use crate::clock_and_gate::{Open, Still};
 use crate::rows::holds;
 use crate::service::centre::clock;
 use crate::serving::answering::Counter;
-use crate::serving::table::{ANSWERS, REQUESTS, Room, Side, Table, is_even, is_whole, make_room};
+use crate::serving::table::{ANSWERS, REQUESTS, Room, Sitter, Table, is_even, is_whole, make_room};
 use crate::serving::wire::Script;
 use sms_centre_spec::jobs::{Job, Reply};
 use sms_hub::{HubFault, run_terms};
@@ -67,7 +67,7 @@ fn are_answered(
 
 // Whether the machine failed, which commits so many groups.
 fn refuses<R: Threads + Wait + Sync>(rt: &R, alloc: Global, commits: u32) -> Result<bool, Fail> {
-    let table = Table::new(alloc, Side::Application)?;
+    let table = Table::new(alloc, Sitter::Application)?;
     let clock = clock()?;
     let mut counter = Counter::new(alloc);
     counter.commits = commits;

@@ -6,7 +6,7 @@ use crate::seats::turns::end;
 use crate::service::centre::clock;
 use crate::serving::answering::{Counter, Tally};
 use crate::serving::table::{
-    ANSWERS, LastReply, REQUESTS, Room, Side, Table, keeps, make_room, make_room_for, run,
+    ANSWERS, LastReply, REQUESTS, Room, Sitter, Table, keeps, make_room, make_room_for, run,
 };
 use crate::serving::wire::Script;
 use sms_base::Octets;
@@ -151,7 +151,7 @@ fn follow_each_other<R: Threads + Wait + Sync>(
 
 // The first application takes so many writes, and leaves with two requests, their answers and its receipt under way.
 fn comes_after<R: Threads + Wait + Sync>(rt: &R, alloc: Global, writes: u32) -> Result<(), Fail> {
-    let table = Table::new(alloc, Side::Application)?;
+    let table = Table::new(alloc, Sitter::Application)?;
     let mut counter = Counter::new(alloc);
     put(&mut counter.receipt, Some(end()?));
     let mut leaving = Script::well(&REQUESTS, ANSWERS);
@@ -183,7 +183,7 @@ fn a_used_seat_has_nothing_of_another(rt: HostRuntime) -> Result<(), Fail> {
 
 // One job waits at most, and both seats put theirs.
 fn shares_one_slot<R: Threads + Wait + Sync>(rt: &R, alloc: Global) -> Result<(), Fail> {
-    let table = Table::new(alloc, Side::Application)?;
+    let table = Table::new(alloc, Sitter::Application)?;
     let clock = clock()?;
     let room = make_room_for(alloc, 1)?;
     let mut one = Script::well(&REQUESTS, ANSWERS);

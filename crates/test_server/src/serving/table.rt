@@ -42,10 +42,10 @@ pub(crate) const ANSWERS: usize = 58;
 /// The number of the note that the connection has ended.
 pub(crate) const ENDED: u32 = 1;
 
-/// That of the note that nobody said who it is.
+/// The number of the note that nobody said who it is.
 pub(crate) const SILENT: u32 = 2;
 
-/// That of the note that no octets are taken.
+/// The number of the note that no octets are taken.
 pub(crate) const STALLED: u32 = 3;
 
 /// The last note of the first seat, and the time: each look at it takes a millisecond.
@@ -188,7 +188,7 @@ pub(crate) fn make_room_for(alloc: Global, slots: usize) -> Result<Room, Fail>
 
 /// Who sits at the first seat.
 #[derive(Clone, Copy)]
-pub(crate) enum Side {
+pub(crate) enum Sitter {
     Application,
     Handset,
 }
@@ -198,14 +198,14 @@ pub(crate) enum Side {
 pub(crate) struct Table {
     pub(crate) alloc: Global,
     pub(crate) accounts: Arc<Accounts>,
-    pub(crate) side: Side,
+    pub(crate) side: Sitter,
     pub(crate) around: LastReply,
     // What the second seat has: time goes on by its own looks.
     other: LastReply,
 }
 
 impl Table {
-    pub(crate) fn new(alloc: Global, side: Side) -> Result<Table, Fail> {
+    pub(crate) fn new(alloc: Global, side: Sitter) -> Result<Table, Fail> {
         Ok(Table {
             alloc,
             accounts: logins(alloc)?,
@@ -220,10 +220,10 @@ impl Table {
             return;
         };
         match self.side {
-            Side::Application => {
+            Sitter::Application => {
                 application_sits(rt, self.alloc, wire, seat, accounts, &self.around)
             }
-            Side::Handset => link_sits(rt, self.alloc, wire, seat, &self.around),
+            Sitter::Handset => link_sits(rt, self.alloc, wire, seat, &self.around),
         }
     }
 

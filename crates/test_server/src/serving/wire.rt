@@ -9,7 +9,7 @@ use std::sync::Wait;
 // So many octets are read at once, and so many written.
 const PIECE: usize = 20;
 
-/// It gives these octets, takes as many as are wanted, and ends then. It refuses reads from one of them on, or writes from one of them on.
+/// Gives these octets, takes as many as are wanted, and ends then. Refuses reads from one of them on, or writes from one of them on.
 #[derive(Drop)]
 pub(crate) struct Script<'a> {
     pub(crate) octets: &'a [u8],
@@ -22,7 +22,7 @@ pub(crate) struct Script<'a> {
     pub(crate) writes: u32,
     /// A call was refused.
     pub(crate) has_failed: bool,
-    /// It takes octets.
+    /// The wire takes octets.
     pub(crate) has_room: bool,
     pub(crate) piece: &'a [u8],
     pub(crate) has_ended: bool,

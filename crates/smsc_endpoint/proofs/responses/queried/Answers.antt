@@ -3,7 +3,7 @@ use Rattle.std.specs.Prelude.{IfOk}
 use Rattle.sms_base.specs.MessageId.{id_text}
 use Rattle.smpp_session.specs.declared.answer.Answer.TheVariants.{Queried}
 use Rattle.smpp_session.specs.Answers.{answered}
-use Rattle.smsc_endpoint.specs.Responses.{state_number}
+use Rattle.sms_receipt.specs.Receipts.{state_number}
 use Rattle.smsc_endpoint.proofs.responses.queried.Goals as goal
 
 pub returns-clause-octets : goal.returns-clause-octets

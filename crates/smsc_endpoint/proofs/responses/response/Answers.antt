@@ -4,7 +4,8 @@ use Rattle.sms_base.specs.MessageId.{id_text}
 use Rattle.smpp_session.specs.declared.answer.Answer.TheVariants.{Queried}
 use Rattle.smpp_session.specs.Answers.{answered}
 use Rattle.sms_centre_spec.specs.declared.answer.CentreAnswer.{CentreAnswer}
-use Rattle.smsc_endpoint.specs.Responses.{response as response_to, state_number}
+use Rattle.sms_receipt.specs.Receipts.{state_number}
+use Rattle.smsc_endpoint.specs.Responses.{response as response_to}
 use Rattle.smsc_endpoint.proofs.responses.response.Goals as goal
 
 pub returns-in_ok-date-in-Queried-clause-octets : goal.returns-in_ok-date-in-Queried-clause-octets

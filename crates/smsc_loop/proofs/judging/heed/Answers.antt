@@ -1,5 +1,5 @@
 use Rattle.std.proofs.Common.{Bool, refl, sym, subst}
-use Rattle.smpp_session.specs.declared.patience.Verdict.TheVariants.{Waits, AsksLink, Silent, Stalled, Unanswered, Inactive}
+use Rattle.smpp_session.specs.declared.patience.WaitOutcome.TheVariants.{Waits, AsksLink, Silent, Stalled, Unanswered, Inactive}
 use Rattle.smsc_loop.specs.Calls.{AskedLink}
 use Rattle.smsc_loop.proofs.Duties.{heeds_as}
 use Rattle.smsc_loop.proofs.Went.{match_refused, not_ok}

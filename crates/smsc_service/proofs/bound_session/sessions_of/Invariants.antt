@@ -5,4 +5,4 @@ use Rattle.smsc_service.proofs.bound_session.sessions_of.Given as goal
 
 abbrev pub invariant-loop-bound_session : goal.invariant-loop-bound_session
 invariant-loop-bound_session l =
-    (sessions_from l.rows.setup.accounts l.sessions.rows (drop l.bound_session-index l.seat_map.sittings) ≡ sessions_of l.rows.setup.accounts l.seat_map.sittings) × AreNew l.sessions.rows
+    (sessions_from l.rows.setup.accounts l.sessions.rows (drop l.bound_session-index l.seat_map.bound_sessions) ≡ sessions_of l.rows.setup.accounts l.seat_map.bound_sessions) × AreNew l.sessions.rows

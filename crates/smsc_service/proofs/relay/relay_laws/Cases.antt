@@ -47,7 +47,8 @@ use Rattle.sms_centre_rows.specs.waiting.Links.{Links, line_at, line_of, or_new_
 use Rattle.sms_centre_spec.specs.CentreEvent.{follow, lines_up}
 use Rattle.sms_centre_spec.specs.Draft.{Draft, Store}
 use Rattle.sms_centre_spec.specs.Offering.{offer_on}
-use Rattle.sms_centre_spec.specs.Receiving.{fault_cause, has_memory, reference_octet, refuse, reject, reply, submit_received, unit_received}
+use Rattle.sms_centre_spec.specs.Receiving.{has_memory, refuse, reject, reply, submit_received, unit_received}
+use Rattle.sms_relay.specs.Rejecting.{fault_cause, reference_octet}
 use Rattle.sms_centre_spec.proofs.UnitOctets.{tpdu_octets}
 use Rattle.smsc_service.specs.relay.relay_laws.Relay.{IsAccepted, IsAnswer, IsRefused, RelaysTpdu, RelaysUnit, cause_of, deliver_for, failure_cause_of, refusal_of, report_of, unreadable_answer, unreadable_cause}
 use Rattle.smsc_service.specs.relay.relay_laws.Relaying.{Relays, destination_in, destination_of, frames_of, others_for, outputs}

@@ -28,22 +28,22 @@ use Rattle.sms_centre_rows.specs.declared.waiting.queued_part.QueuedPart.{Queued
 use Rattle.sms_centre_rows.specs.waiting.Links.{Links, turn_line}
 use Rattle.sms_centre_rows.specs.waiting.Waiting.{next, preceding, waits_beside}
 use Rattle.sms_centre_spec.specs.Draft.{Store, waiting_in}
-use Rattle.sms_centre_spec.specs.Offering.{offer_among, offer_load, offer_on, read_of, unit_of}
+use Rattle.sms_centre_spec.specs.Offering.{offer_among, offer_queued, offer_on, read_of, unit_of}
 use Rattle.smsc_service.specs.relay.relay_laws.Relaying.{outputs}
 use Rattle.smsc_service.proofs.relay.relay_laws.Accepting.{accepted_store, body, submitted, tpdu}
 use Rattle.smsc_service.proofs.relay.relay_laws.FirstFrame.{links_of, itself}
 
 -- it waits alone, and is due
-abbrev pub waiting_load : ℕ → QueuedPart
-waiting_load now = record { id = 1; number = 1; reference = 0; priority = 0; due = now }
+abbrev pub waiting_queued : ℕ → QueuedPart
+waiting_queued now = record { id = 1; number = 1; reference = 0; priority = 0; due = now }
 
 now_is_due : (now : ℕ) → nat_le now now ≡ true
 now_is_due now = le-leb now now (omega arith)
 
-picked : (now : ℕ) → next now (waiting_load now ∷ []) ≡ Some (waiting_load now)
-picked now = ap (λ (o : Option QueuedPart). preceding o None) (cond-true (nat_le now now) (Some (waiting_load now)) None (now_is_due now))
+picked : (now : ℕ) → next now (waiting_queued now ∷ []) ≡ Some (waiting_queued now)
+picked now = ap (λ (o : Option QueuedPart). preceding o None) (cond-true (nat_le now now) (Some (waiting_queued now)) None (now_is_due now))
 
-alone : (now : ℕ) → waits_beside now (waiting_load now) (waiting_load now ∷ []) ≡ false
+alone : (now : ℕ) → waits_beside now (waiting_queued now) (waiting_queued now ∷ []) ≡ false
 alone now = or_from (nat_le now now && false) false (and_right (nat_le now now) false refl) refl
 
 -- a line that is up, on which this side began nothing yet
@@ -79,8 +79,8 @@ module _ (centre : Address) (from : List ℕ) (now : ℕ) (s : SubmitOf) where
   abbrev store : Store
   store = accepted_store centre from now s
 
-  waits : waiting_in to store ≡ waiting_load now ∷ []
-  waits = cond-true (bytes_eq to to) (waiting_load now ∷ []) [] (itself to)
+  waits : waiting_in to store ≡ waiting_queued now ∷ []
+  waits = cond-true (bytes_eq to to) (waiting_queued now ∷ []) [] (itself to)
 
   abbrev pub unit_down : List ℕ
   unit_down = data_down 0 (relay_address centre) (tpdu centre from now s)
@@ -91,13 +91,13 @@ module _ (centre : Address) (from : List ℕ) (now : ℕ) (s : SubmitOf) where
   abbrev offered_links : Option Opened → Option Carried → Bool → Links → Links
   offered_links opened answered more links =
       let line : HandsetLink = idle to opened answered in
-      turn_line line (begun now 0 (Part 1 1) (unit_of (waiting_load now) more store) line.link) (read_of (waiting_load now) store links)
+      turn_line line (begun now 0 (Part 1 1) (unit_of (waiting_queued now) more store) line.link) (read_of (waiting_queued now) store links)
 
   taken_up : (opened : Option Opened) (answered : Option Carried) (links : Links) → offer_on (idle to opened answered) store links ≡ offered_links opened answered false links
   taken_up opened answered links =
       let line : HandsetLink = idle to opened answered in
       ap (λ (ls : List QueuedPart). offer_among line ls store links) waits
-      ∙ ap (λ (o : Option QueuedPart). offer_load line (waiting_load now ∷ []) o store links) (picked now)
+      ∙ ap (λ (o : Option QueuedPart). offer_queued line (waiting_queued now ∷ []) o store links) (picked now)
       ∙ ap (λ (more : Bool). offered_links opened answered more links) (alone now)
 
   told_alone : with_more_messages false (tpdu centre from now s) ≡ tpdu centre from now s

@@ -4,7 +4,8 @@ use Rattle.sms_base.specs.declared.address.Address.{Address}
 use Rattle.sms_relay.specs.declared.cause.RpCause.{RpCause}
 use Rattle.sms_relay.specs.declared.cause.RpCause.TheVariants.{ShortMessageTransferRejected, InvalidMandatoryInformation, MessageTypeNonExistent}
 use Rattle.sms_relay.specs.declared.fault.RelayFault.{RelayFault}
-use Rattle.sms_relay.specs.declared.fault.RelayFault.TheVariants.{Truncated as RelayTruncated, Trailing as RelayTrailing, Unknown as RelayUnknown, BadLength as RelayBadLength}
+use Rattle.sms_relay.specs.declared.fault.RelayFault.TheVariants.{Truncated as RelayTruncated, Trailing as RelayTrailing, Unknown as RelayUnknown}
+use Rattle.sms_relay.specs.declared.fault.RelayFault.TheVariants.{BadLength as RelayBadLength}
 use Rattle.sms_relay.specs.declared.frame.Rp.{Rp}
 use Rattle.sms_relay.specs.declared.frame.Rp.TheVariants.{DataUnit, AckUnit, ErrorUnit, Smma}
 use Rattle.sms_relay.specs.RelayGrammar.{data_down, ack_down, error_down}
@@ -12,7 +13,8 @@ use Rattle.sms_relay.specs.RelayReading.{up_at}
 use Rattle.sms_tpdu.specs.declared.carrier.Carrier.TheVariants.{InData}
 use Rattle.sms_tpdu.specs.declared.deliver.Deliver.{Deliver}
 use Rattle.sms_tpdu.specs.declared.fault.TpduFault.{TpduFault}
-use Rattle.sms_tpdu.specs.declared.fault.TpduFault.TheVariants.{Truncated, TrailingOctets, BadAddress, BadTime, UserDataTooLong, UnsupportedType, UnsupportedValidity, SpareBits, BadHeader}
+use Rattle.sms_tpdu.specs.declared.fault.TpduFault.TheVariants.{Truncated, TrailingOctets, BadAddress, BadTime, UserDataTooLong, UnsupportedType}
+use Rattle.sms_tpdu.specs.declared.fault.TpduFault.TheVariants.{UnsupportedValidity, SpareBits, BadHeader}
 use Rattle.sms_tpdu.specs.declared.submit.Submit.{Submit as SubmitOf}
 use Rattle.sms_tpdu.specs.declared.submit_report.SubmitReport.{SubmitReport}
 use Rattle.sms_tpdu.specs.declared.up.Up.{Up}

@@ -18,15 +18,15 @@ pub const UNSPECIFIED_ERROR: u8 = 0xFF;
 /// Why a SUBMIT is refused.
 #[derive(Clone, Copy, Debug, PartialEq, Eq)]
 pub(crate) enum Refusal {
-    /// It is of a type that isn't supported.
+    /// The SUBMIT's type isn't supported.
     WrongType,
-    /// The format of its validity period isn't supported.
+    /// The format of the SUBMIT's validity period isn't supported.
     WrongValidityFormat,
-    /// It can't be read for another reason.
+    /// The SUBMIT can't be read for another reason.
     Unreadable,
-    /// Its destination names no handset.
+    /// The SUBMIT's destination names no handset.
     NoHandset,
-    /// It would be past its limit at once.
+    /// The message would be past its limit at once.
     PastLimit,
 }
 

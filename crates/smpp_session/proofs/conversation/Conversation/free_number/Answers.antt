@@ -17,4 +17,4 @@ pub loop-passed-preserved : goal.loop-passed-preserved
 loop-passed-preserved c =
     let fits : c.loop-passed._passed < 10 = omega arith in
     let waits : is_among c.loop-passed.number c.args.self.now.unanswered ≡ true = sym c.if-not-contains.ensures in
-    sym (passed_over c.loop-passed._passed c.loop-passed.number c.after-number.result c.args.self.now.next_number c.args.self.now.unanswered fits waits c.after-number.ensures) ∙ c.loop-passed.invariant
+    sym (passed_over c.loop-passed._passed c.loop-passed.number c.number_after-number.result c.args.self.now.next_number c.args.self.now.unanswered fits waits c.number_after-number.ensures) ∙ c.loop-passed.invariant

@@ -3,7 +3,7 @@ use Rattle.std.specs.Prelude.{slice_get}
 use Rattle.std.proofs.lemmas.List.{take_all}
 use Rattle.sms_centre_rows.specs.declared.messages.message.MessageRow.{MessageRow}
 use Rattle.sms_centre_reports.specs.report_log.Reporting.{message_lines}
-use Rattle.sms_script.specs.declared.report.rows.ReportedMessage.{ReportedMessage}
+use Rattle.sms_centre_rows.specs.declared.report_lines.ReportedMessage.{ReportedMessage}
 use Rattle.sms_centre.specs.state.MessageLines.{line_at}
 use Rattle.sms_centre.proofs.state.Listed.{message_next}
 use Rattle.sms_centre.proofs.state.reporting.message_lines.Goals as goal

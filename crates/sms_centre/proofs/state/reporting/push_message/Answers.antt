@@ -5,7 +5,7 @@ use Rattle.sms_centre_messages.specs.declared.message_index.summary.MessageSumma
 use Rattle.sms_centre_messages.specs.message_index.Summaries.{summary_of}
 use Rattle.sms_centre_rows.specs.declared.messages.message.MessageRow.{MessageRow}
 use Rattle.sms_centre_reports.specs.report_log.Reporting.{message_line}
-use Rattle.sms_script.specs.declared.report.rows.ReportedMessage.{ReportedMessage}
+use Rattle.sms_centre_rows.specs.declared.report_lines.ReportedMessage.{ReportedMessage}
 use Rattle.sms_centre.specs.state.MessageLines.{line_at}
 use Rattle.sms_centre.proofs.state.reporting.push_message.Goals as goal
 

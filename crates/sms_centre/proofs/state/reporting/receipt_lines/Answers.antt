@@ -4,7 +4,7 @@ use Rattle.sms_centre_rows.specs.messages.Messages.{message_at}
 use Rattle.sms_centre_reports.specs.declared.report_log.log.LoggedReport.{LoggedReport}
 use Rattle.sms_centre_reports.specs.report_log.ReportLog.{made_report}
 use Rattle.sms_centre_reports.specs.report_log.Reporting.{receipt_line, receipt_lines}
-use Rattle.sms_script.specs.declared.report.rows.ReceiptRow.{ReceiptRow}
+use Rattle.sms_centre_rows.specs.declared.report_lines.ReceiptRow.{ReceiptRow}
 use Rattle.sms_centre_rows.specs.declared.reports.report.ReportRow.{ReportRow}
 use Rattle.sms_centre.proofs.state.Listed.{receipt_next}
 use Rattle.sms_centre.proofs.state.reporting.receipt_lines.Goals as goal

@@ -2,7 +2,7 @@ use Rattle.std.proofs.Common.{◌≡◌, true, false, sym, ◌∙◌, subst}
 use Rattle.sms_rows.specs.table.Keys.{pair_key}
 use Rattle.sms_rows.specs.table.Table.{without}
 use Rattle.sms_centre_rows.specs.declared.messages.parts.PartEntry.{PartEntry}
-use Rattle.sms_centre_rows.specs.waiting.Keys.{load_key}
+use Rattle.sms_centre_rows.specs.waiting.Keys.{queued_key}
 use Rattle.sms_centre_queue.specs.queues.Representing.{Waits}
 use Rattle.sms_centre_spec.specs.Draft.{with_part_at}
 use Rattle.sms_centre_draft.specs.CentreDraft.{Represents, CentreDraftOf, all_waiting}
@@ -19,5 +19,5 @@ returns c = λ d p represents there is of done.
     part_far_represented d w p q c.amend_part.new.self c.remove.new.queues was there (λ e. let bad : true ≡ false = sym done ∙ e in absurd cc)
     (c.in_ok-amend_part.ensures d.store.messages p was.messages there is)
     (c.in_ok-remove.ensures d.store.allocations d.links (all_waiting d.store) (all_waiting (with_part_at p q d.store)) was.queues
-    (subst (λ (e : PartEntry). Waits m.handset (without load_key (pair_key e.id e.number)) (all_waiting d.store) (all_waiting (with_part_at p q d.store))) is
+    (subst (λ (e : PartEntry). Waits m.handset (without queued_key (pair_key e.id e.number)) (all_waiting d.store) (all_waiting (with_part_at p q d.store))) is
     (part_done_waits d.store p q m was.consistent.held there of done)))

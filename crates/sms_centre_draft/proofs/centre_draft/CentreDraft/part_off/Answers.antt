@@ -2,8 +2,8 @@ use Rattle.std.proofs.Common.{◌≡◌, Some, sym, subst}
 use Rattle.sms_rows.specs.table.Keys.{pair_key}
 use Rattle.sms_rows.specs.table.Table.{row_at}
 use Rattle.sms_centre_rows.specs.declared.messages.parts.PartEntry.{PartEntry}
-use Rattle.sms_centre_rows.specs.messages.OpenParts.{part_load}
-use Rattle.sms_centre_rows.specs.waiting.Keys.{load_key}
+use Rattle.sms_centre_rows.specs.messages.OpenParts.{part_queued}
+use Rattle.sms_centre_rows.specs.waiting.Keys.{queued_key}
 use Rattle.sms_centre_spec.specs.Draft.{priorities_in, with_part_at}
 use Rattle.sms_centre_draft.specs.CentreDraft.{Represents, CentreDraftOf, all_waiting}
 use Rattle.sms_centre_draft.proofs.MovesWaiting.{part_off_waits, part_waiting}
@@ -18,7 +18,7 @@ returns c = λ d p represents there is of pending undone off.
     let q = c.args.progress.now in
     part_far_represented d w p q c.amend_part.new.self c.put_off.new.queues was there (λ e. undone)
     (c.in_ok-amend_part.ensures d.store.messages p was.messages there is)
-    (c.in_ok-put_off.ensures d.store.allocations d.links (all_waiting d.store) (all_waiting (with_part_at p q d.store)) (part_load p (priorities_in d.store)) was.queues
-    (subst (λ (e : PartEntry). row_at load_key (pair_key e.id e.number) (all_waiting d.store m.handset) ≡ Some (part_load p (priorities_in d.store))) is
+    (c.in_ok-put_off.ensures d.store.allocations d.links (all_waiting d.store) (all_waiting (with_part_at p q d.store)) (part_queued p (priorities_in d.store)) was.queues
+    (subst (λ (e : PartEntry). row_at queued_key (pair_key e.id e.number) (all_waiting d.store m.handset) ≡ Some (part_queued p (priorities_in d.store))) is
     (part_waiting d.store p m was.consistent.held there of pending undone))
     (part_off_waits d.store p q m was.consistent.held there of pending off))

@@ -3,7 +3,7 @@ use Rattle.sms_rows.specs.table.Table.{put}
 use Rattle.sms_centre_rows.specs.declared.messages.part.PartRow.{PartRow}
 use Rattle.sms_centre_rows.specs.messages.Messages.{put_part}
 use Rattle.sms_centre_messages.specs.message_index.MessageIndex.{DraftRepresents as RepresentsMessages}
-use Rattle.sms_centre_rows.specs.waiting.Keys.{load_key}
+use Rattle.sms_centre_rows.specs.waiting.Keys.{queued_key}
 use Rattle.sms_centre_rows.specs.waiting.References.{give, handset_of}
 use Rattle.sms_centre_queue.specs.queues.Representing.{Waits}
 use Rattle.sms_centre_spec.specs.Draft.{handsets_in, with_given}
@@ -26,5 +26,5 @@ returns c = λ d represents can few next.
     (c.in_ok-put_part.ensures d.store.messages was.messages))
     (c.in_ok-put.ensures (give h c.args.reference w.moment d.store.allocations) d.links (all_waiting d.store) after
     (c.in_ok-give.ensures (given_number d w c.args.id u c.args.number was can) d.store.allocations d.links (all_waiting d.store) was.queues)
-    (subst (λ (k : ℕ). Waits u.handset (put load_key (record { id = c.args.id; number = c.args.number; reference = c.args.reference; priority = k; due = u.due })) (all_waiting d.store) after) (sym c.level-priority.ensures.value)
+    (subst (λ (k : ℕ). Waits u.handset (put queued_key (record { id = c.args.id; number = c.args.number; reference = c.args.reference; priority = k; due = u.due })) (all_waiting d.store) after) (sym c.level-priority.ensures.value)
     (given_waits d w c.args.id u c.args.number b c.args.reference was can few)))

@@ -2,7 +2,7 @@ use Rattle.std.proofs.Common.{◌≡◌, true, false, sym, ◌∙◌, subst}
 use Rattle.sms_rows.specs.table.Keys.{pair_key}
 use Rattle.sms_rows.specs.table.Table.{without}
 use Rattle.sms_centre_reports.specs.declared.open_reports.entry.ReportEntry.{ReportEntry}
-use Rattle.sms_centre_rows.specs.waiting.Keys.{load_key}
+use Rattle.sms_centre_rows.specs.waiting.Keys.{queued_key}
 use Rattle.sms_centre_queue.specs.queues.Representing.{Waits}
 use Rattle.sms_centre_spec.specs.Draft.{messages_in, with_report_at}
 use Rattle.sms_centre_draft.specs.CentreDraft.{Represents, CentreDraftOf, all_waiting}
@@ -19,5 +19,5 @@ returns c = λ d r represents there is status of done.
     report_far_represented d w r q c.amend_status.new.self c.remove.new.queues was there (λ e. let bad : true ≡ false = sym done ∙ e in absurd cc)
     (c.in_ok-amend_status.ensures (messages_in d.store) d.store.reports r was.reports there is status)
     (c.in_ok-remove.ensures d.store.allocations d.links (all_waiting d.store) (all_waiting (with_report_at r q d.store)) was.queues
-    (subst (λ (e : ReportEntry). Waits m.source.digits (without load_key (pair_key e.id 0)) (all_waiting d.store) (all_waiting (with_report_at r q d.store))) (sym is)
+    (subst (λ (e : ReportEntry). Waits m.source.digits (without queued_key (pair_key e.id 0)) (all_waiting d.store) (all_waiting (with_report_at r q d.store))) (sym is)
     (status_done_waits d.store r q m was.consistent.held there of done)))

@@ -6,4 +6,4 @@ pub returns : goal.returns
 returns c = λ d represents.
     let w : CentreDraftOf = record { setup = c.self.inside.setup.now; moment = c.self.inside.moment; messages = c.self.inside.messages; queues = c.self.inside.queues; reports = c.self.inside.reports; bindings = c.self.inside.bindings; answer = c.self.inside.answer } in
     let was : Represents d w = subst (λ (x : CentreDraftOf). Represents d x) (sym c.self.view_is) represents in
-    c.in_ok-loads.ensures d.store.allocations d.links (all_waiting d.store) was.queues
+    c.in_ok-all_queued.ensures d.store.allocations d.links (all_waiting d.store) was.queues

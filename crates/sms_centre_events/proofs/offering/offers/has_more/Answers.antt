@@ -8,4 +8,4 @@ pub returns : goal.returns
 returns c = λ d represents.
     let w : CentreDraftOf = record { setup = c.draft.inside.setup.now; moment = c.draft.inside.moment; messages = c.draft.inside.messages; queues = c.draft.inside.queues; reports = c.draft.inside.reports; bindings = c.draft.inside.bindings; answer = c.draft.inside.answer } in
     let was : Represents d w = subst (λ (x : CentreDraftOf). Represents d x) (sym c.draft.view_is) represents in
-    c.waits_beside.ensures d.store.allocations d.links (all_waiting d.store) was.queues ∙ ap (λ (n : ℕ). waits_beside n c.args.load.now (waiting_in c.args.handset.now d.store)) (c.now.ensures d represents)
+    c.waits_beside.ensures d.store.allocations d.links (all_waiting d.store) was.queues ∙ ap (λ (n : ℕ). waits_beside n c.args.queued.now (waiting_in c.args.handset.now d.store)) (c.now.ensures d represents)

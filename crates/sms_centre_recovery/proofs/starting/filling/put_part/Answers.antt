@@ -5,8 +5,8 @@ use Rattle.sms_centre_queue.specs.queues.Representing.{Waits}
 use Rattle.sms_centre_recovery.specs.soundness.RowsOf.{rows_of}
 use Rattle.sms_rows.specs.table.Table.{put, row_at}
 use Rattle.sms_centre_rows.specs.declared.waiting.queued_part.QueuedPart.{QueuedPart}
-use Rattle.sms_centre_rows.specs.waiting.Keys.{load_key}
-use Rattle.sms_centre_recovery.proofs.starting.LoadsWait.{handset_digits, if_ok, part_waits}
+use Rattle.sms_centre_rows.specs.waiting.Keys.{queued_key}
+use Rattle.sms_centre_recovery.proofs.starting.QueuedWait.{handset_digits, if_ok, part_waits}
 use Rattle.sms_centre_recovery.proofs.starting.filling.put_part.Goals as goal
 
 pub put-requires : goal.put-requires
@@ -29,6 +29,6 @@ returns c =
     if_ok c.put.result
     (λ f g links ps rises represents.
     f g links (λ (h : List ℕ). parts_waiting h ms qs ps) (λ (h : List ℕ). parts_waiting h ms qs (p ∷ ps)) represents
-    (subst (λ (l : QueuedPart). Waits m.handset (put load_key l) (λ (h : List ℕ). parts_waiting h ms qs ps) (λ (h : List ℕ). parts_waiting h ms qs (p ∷ ps))) (sym c.part_load.ensures)
+    (subst (λ (l : QueuedPart). Waits m.handset (put queued_key l) (λ (h : List ℕ). parts_waiting h ms qs ps) (λ (h : List ℕ). parts_waiting h ms qs (p ∷ ps))) (sym c.part_queued.ensures)
     (part_waits ms qs p m ps found open_part rises)))
     c.put.ensures

@@ -5,8 +5,8 @@ use Rattle.sms_centre_queue.specs.queues.Representing.{Waits}
 use Rattle.sms_centre_recovery.specs.soundness.RowsOf.{rows_of}
 use Rattle.sms_rows.specs.table.Table.{put, row_at}
 use Rattle.sms_centre_rows.specs.declared.waiting.queued_part.QueuedPart.{QueuedPart}
-use Rattle.sms_centre_rows.specs.waiting.Keys.{load_key}
-use Rattle.sms_centre_recovery.proofs.starting.LoadsWait.{if_ok, report_waits, source_digits}
+use Rattle.sms_centre_rows.specs.waiting.Keys.{queued_key}
+use Rattle.sms_centre_recovery.proofs.starting.QueuedWait.{if_ok, report_waits, source_digits}
 use Rattle.sms_centre_recovery.proofs.starting.filling.put_report.Goals as goal
 
 pub put-requires : goal.put-requires
@@ -28,6 +28,6 @@ returns c =
     if_ok c.put.result
     (λ f g links rs w represents.
     f g links (λ (h : List ℕ). with_reports h ms rs (w h)) (λ (h : List ℕ). with_reports h ms (r ∷ rs) (w h)) represents
-    (subst (λ (l : QueuedPart). Waits m.source.digits (put load_key l) (λ (h : List ℕ). with_reports h ms rs (w h)) (λ (h : List ℕ). with_reports h ms (r ∷ rs) (w h))) (sym c.report_load.ensures)
+    (subst (λ (l : QueuedPart). Waits m.source.digits (put queued_key l) (λ (h : List ℕ). with_reports h ms rs (w h)) (λ (h : List ℕ). with_reports h ms (r ∷ rs) (w h))) (sym c.report_queued.ensures)
     (report_waits ms w r m rs found waits_now)))
     c.put.ensures

@@ -4,7 +4,7 @@ use Rattle.sms_play.specs.Meeting.{AtHandset}
 use Rattle.sms_player.specs.playing.Playing.{acted, met_as}
 use Rattle.sms_player.proofs.playing.Outcomes.{at_side, no_side, or_none}
 use Rattle.sms_script.specs.declared.event.Act.TheVariants.{Tick}
-use Rattle.sms_script.specs.declared.event.Side.TheVariants.{Handset}
+use Rattle.sms_script.specs.declared.event.EventSide.TheVariants.{Handset}
 use Rattle.sms_player.proofs.playing.Playing.handset_ticked.Goals as goal
 
 pub returns-in_default : goal.returns-in_default

@@ -1,7 +1,7 @@
 use Rattle.std.proofs.Common.{◌∙◌, ap, Err, List, sym, subst}
 use Rattle.sms_play.specs.Playing.{play_of, premises_of}
 use Rattle.sms_world.proofs.running.Written.{no_text, text_given}
-use Rattle.sms_world.specs.running.Reporting.{Gives}
+use Rattle.sms_world.specs.running.Reporting.{ReportsAs}
 use Rattle.sms_world.specs.declared.running.ending.Judged.{Judged}
 use Rattle.sms_script.specs.declared.event.WorldEvent.{WorldEvent}
 use Rattle.sms_world.proofs.running.run.report.Goals as goal
@@ -17,4 +17,4 @@ returns-in-Ok c =
 pub returns-in-Err : goal.returns-in-Err
 returns-in-Err c =
     no_text (λ (judged : Judged). judged.report) (premises_of c.args.script.now.setup c.args.script.now.events) c.in-Err.fault (play_of c.args.script.now.setup c.args.script.now.events)
-    (subst (λ (events : List WorldEvent). Gives (λ (judged : Judged). judged.report) (Err c.in-Err.fault) (play_of c.args.script.now.setup events)) c.as_slice-events.ensures c.in-Err.ensures.report)
+    (subst (λ (events : List WorldEvent). ReportsAs (λ (judged : Judged). judged.report) (Err c.in-Err.fault) (play_of c.args.script.now.setup events)) c.as_slice-events.ensures c.in-Err.ensures.report)

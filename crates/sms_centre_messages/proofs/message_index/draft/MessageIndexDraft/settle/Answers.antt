@@ -1,7 +1,7 @@
 use Rattle.std.proofs.Common.{ℕ, List, length, sym, ◌∙◌, ap, subst}
 use Rattle.sms_centre_rows.specs.declared.messages.message.MessageRow.{MessageRow}
 use Rattle.sms_rows.specs.declared.table.change.Change.{Change}
-use Rattle.sms_centre_messages.specs.message_index.MessageIndex.{Fits, MessageIndexDraftOf, DraftRepresents}
+use Rattle.sms_centre_messages.specs.message_index.MessageIndex.{FitsTheMessages, MessageIndexDraftOf, DraftRepresents}
 use Rattle.sms_centre_messages.proofs.message_index.Settles.{settled}
 use Rattle.sms_centre_messages.proofs.message_index.draft.MessageIndexDraft.settle.Goals as goal
 
@@ -13,6 +13,6 @@ returns-in-Ok-clause-settled c = λ m s.
 
 pub returns-in-Ok-clause-fits : goal.returns-in-Ok-clause-fits
 returns-in-Ok-clause-fits c =
-    subst (λ (n : ℕ). Fits c.in-Ok.parts.reserve n c.args.index.now)
+    subst (λ (n : ℕ). FitsTheMessages c.in-Ok.parts.reserve n c.args.index.now)
     (c.len-count.ensures ∙ ap (λ (l : List (Change MessageRow)). length l) (sym (c.from_vec-messages.ensures ∙ c.into_vec.ensures)))
     c.in-Ok.ensures.fits

@@ -1,9 +1,9 @@
 use Rattle.sms_rows.specs.table.Table.{put}
-use Rattle.sms_centre_rows.specs.waiting.Keys.{load_key}
+use Rattle.sms_centre_rows.specs.waiting.Keys.{queued_key}
 use Rattle.sms_centre_queue.proofs.queues.RepresentedMoves.{waits_done}
 use Rattle.sms_centre_queue.proofs.queues.draft.DeliveryQueuesDraft.put.Goals as goal
 
 pub returns : goal.returns
 returns c =
-    waits_done c.args.number (put load_key c.args.load) c.in_ok-placed.placed c.put-done.new.self c.args.self.now c.take_out.new.self c.put_back.new.self c.put-done.result c.requires.digits
+    waits_done c.args.number (put queued_key c.args.queued) c.in_ok-placed.placed c.put-done.new.self c.args.self.now c.take_out.new.self c.put_back.new.self c.put-done.result c.requires.digits
     c.in_ok-placed.ensures c.put-done.ensures c.in_ok-put_back.ensures
