@@ -11,10 +11,9 @@ ghost use Rattle.sms_rows.specs.table.Table.{Rises, put, row_at};
 
 use crate::references::counts::Counts;
 use crate::references::message_ends::MessageEnds;
-use crate::references::moves::is_delivered;
 use crate::references::reference_index::ReferenceIndex;
 use sms_base::{FinalState, Originator};
-use sms_centre_rows::messages::MessageRow;
+use sms_centre_rows::messages::{MessageRow, is_delivered};
 use sms_concat::{ConcatKey, ConcatReference};
 use std::alloc::AllocError;
 
@@ -75,7 +74,7 @@ fn drop_held(held: &mut Counts, row: &MessageRow, state: FinalState)
     let Some(reference) = row.split_reference else {
         return;
     };
-    if !is_delivered(&Some(state)) {
+    if !is_delivered(Some(state)) {
         return;
     }
     held.take(MessageEnds::of(&row.source, &row.handset, reference));
@@ -89,7 +88,7 @@ fn drop_barred(barred: &mut Counts, row: &MessageRow, state: FinalState)
     if row.split_reference.is_none() {
         return;
     }
-    if !is_delivered(&Some(state)) {
+    if !is_delivered(Some(state)) {
         return;
     }
     barred.take(MessageEnds::of(&row.source, &row.handset, 0));

@@ -1,6 +1,6 @@
 //! Whether rows of messages, parts and priorities are sound.
 ghost use Rattle.std.specs.Prelude.{◌≡◌, Some, nat_lt};
-ghost use Rattle.sms_centre_rows.specs.messages.SplitReferences.{is_delivered as is_delivered_of, is_same_address as is_same_address_of};
+ghost use Rattle.sms_centre_rows.specs.messages.SplitReferences.{is_same_address as is_same_address_of};
 ghost use Rattle.sms_tpdu.specs.TpduReading.{down_at};
 ghost use Rattle.sms_tpdu.specs.declared.carrier.Carrier.TheVariants.{InData as Data};
 ghost use Rattle.sms_centre_rows.specs.conditions.MessageTest.{carries as carries_of, ends_so as ends_so_of, has_rows as has_rows_of};
@@ -10,7 +10,7 @@ ghost use Rattle.sms_centre_rows.specs.conditions.MessageTest.{is_priority as is
 ghost use Rattle.std.specs.List.{list_all};
 
 use crate::conditions::addresses::is_address;
-use crate::messages::{MessageRow, PartRow, PriorityRow};
+use crate::messages::{MessageRow, PartRow, PriorityRow, is_delivered};
 use sms_base::{Address, Digits, FinalState, MessageId, Moment};
 use sms_rows::table::{Key, Table};
 use sms_tpdu::{Carrier, Down, read_down};
@@ -40,12 +40,6 @@ fn ends_so(state: Option<FinalState>, done: Option<Moment>) -> bool
         Some(_) => done.is_some(),
         None => done.is_none(),
     }
-}
-
-fn is_delivered(state: Option<FinalState>) -> bool
-    ensures { result ≡ is_delivered_of state }
-{
-    matches!(state, Some(FinalState::Delivered))
 }
 
 fn are_done(parts: &[PartRow]) -> bool
