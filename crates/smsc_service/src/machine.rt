@@ -94,7 +94,7 @@ impl<K: CentreStore + Drop> CentreMachine<K> {
         ensures archived { (c : Core) → Represents c (centre_in self.now)
             → OnOk result (AreArchived (A.keeps archive.new) (going_now before from most c) c.rows.messages) }
         ensures kept { Stays (A.keeps archive.old) (A.keeps archive.new) }
-        ensures fits { IfOk result (Fits (centre_in self.now)) }
+        ensures fits { IfOk result (FitsTheCentre (centre_in self.now)) }
     {
         self.centre.plan_forget(archive, before, from, most)
     }
