@@ -1,3 +1,4 @@
+pub mod Bodies
 pub mod BodyLaws
 pub mod FaultLaws
 pub mod FieldLaws
@@ -8,6 +9,6 @@ pub mod PduReasons
 pub mod Puts
 pub mod Rows
 pub mod Scans
-pub mod ShortBodies
+pub mod TlvFaults
 pub mod TlvLaws
 pub mod WriteLaws

@@ -20,10 +20,10 @@ use Rattle.smpp_pdu.specs.FieldReading.{four_in}
 use Rattle.smpp_pdu.specs.PduGrammar.{command_of_body, header_octets, pdu_octets, IsPdu}
 use Rattle.smpp_pdu.specs.PduReading.{body_at, cut_short, body_in, pdu_at}
 use Rattle.smpp_pdu.proofs.FieldLaws.{four_takes, four_again}
-use Rattle.smpp_pdu.proofs.FaultLaws.{IsWrong, wrong_is, body_stays, short_four}
+use Rattle.smpp_pdu.proofs.Bodies.{IsMissing, IsWrong, body_continues, body_has_front, body_stays, never_unknown}
+use Rattle.smpp_pdu.proofs.FaultLaws.{wrong_is, short_four}
 use Rattle.smpp_pdu.proofs.Fronts.{body_front}
 use Rattle.smpp_pdu.proofs.PduLaws.{command_of_is, command_of-number, body_takes, body_again, pdu_takes, pdu_again, four_short, four_left}
-use Rattle.smpp_pdu.proofs.ShortBodies.{IsMissing, body_continues, body_has_front, never_unknown}
 
 no_fault : {A : Type 0} (x : A) (f : PduFault) → (let r : Result A PduFault = Ok x in r ≡ Err f) → ⊥
 no_fault x f e = absurd cc

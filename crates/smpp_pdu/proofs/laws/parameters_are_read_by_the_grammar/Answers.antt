@@ -1,5 +1,5 @@
 use Rattle.smpp_pdu.proofs.TlvLaws.{parameters_take, parameters_again}
-use Rattle.smpp_pdu.proofs.Fronts.{only_bad_tlv}
+use Rattle.smpp_pdu.proofs.TlvFaults.{only_bad_tlv}
 use Rattle.smpp_pdu.proofs.laws.parameters_are_read_by_the_grammar.Goals as goal
 
 pub returns-clause-found : goal.returns-clause-found

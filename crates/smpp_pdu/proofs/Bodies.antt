@@ -1,4 +1,5 @@
--- A body in which octets are missing goes on to be a body, and of a body behind which octets are left over a front is one.
+-- What is read of fields and of bodies, whatever the command. Each reading is walked once, for all that is asked of it:
+-- where octets are missing, some may follow; of a body behind which octets are left over, a front is one; a wrong octet stays wrong.
 use Rattle.std.proofs.Common.{◌≡◌, ◌⊎◌, ℕ, zero, suc, ◌+◌, ◌-◌, ◌*◌, ◌<◌, ◌≤◌, Bool, true, false, ◌||◌, cond, eqb, ltb, List, [], ◌∷◌, ◌++◌, length, take, drop, Option, Some, None, Result, Ok, Err, refl, sym, ap, subst, ◌∙◌, arith, inl, inr, append_assoc}
 use Rattle.std.specs.List.{AllByRecursion}
 use Rattle.std.proofs.lemmas.Bool.{eqb-false}
@@ -15,14 +16,14 @@ use Rattle.smpp_pdu.specs.declared.body.Body.TheVariants.{BindReceiver, BindTran
 use Rattle.smpp_pdu.specs.declared.tlv.Tlvs.{Tlvs}
 use Rattle.smpp_pdu.specs.Fields.{c_string, two, IsText}
 use Rattle.smpp_pdu.specs.FaultReasons.{IsBodyOf}
-use Rattle.smpp_pdu.specs.FieldReading.{two_in, text_in, c_string_in, time_in, short_message_in}
+use Rattle.smpp_pdu.specs.FieldReading.{two_in, four_in, text_in, c_string_in, time_in, short_message_in}
 use Rattle.smpp_pdu.specs.Tlvs.{Tlv, tlv_octets, values_of}
 use Rattle.smpp_pdu.specs.TlvReading.{tlv_in, parameters_in, tlvs_at}
 use Rattle.smpp_pdu.specs.BodyReading.{address_in, bind_at, bind_resp_at, message_at, message_resp_at, query_at, query_resp_at, cancel_at}
 use Rattle.smpp_pdu.specs.PduReading.{or_none, body_at}
 use Rattle.smpp_pdu.proofs.FieldLaws.{text_takes, c_string_again}
-use Rattle.smpp_pdu.proofs.Fronts.{only_bad_tlv, tlv_faults}
 use Rattle.smpp_pdu.proofs.PduLaws.{body_takes}
+use Rattle.smpp_pdu.proofs.TlvFaults.{only_bad_tlv, tlv_faults}
 use Rattle.smpp_pdu.proofs.TlvLaws.{tlv_shorter, tlv_takes, parameters_again}
 
 -- the faults of octets that are missing in a body
@@ -38,6 +39,19 @@ IsMissing ShortMessageTooLong = ⊥
 missing_too : {A : Type 0} (f g : PduFault) → IsMissing f → (let r : Result A PduFault = Err g in r ≡ Err f) → IsMissing g
 missing_too {A} f g m e = subst IsMissing (sym (err_is {A = A} g f e)) m
 
+-- the faults of an octet that is wrong, whatever follows it
+abbrev pub IsWrong : PduFault → Type 0
+IsWrong FieldTooLong = Unit {0}
+IsWrong ShortMessageTooLong = Unit {0}
+IsWrong Truncated = ⊥
+IsWrong BadLength = ⊥
+IsWrong UnknownCommand = ⊥
+IsWrong NoTerminator = ⊥
+IsWrong BadTlv = ⊥
+
+wrong_too : {A : Type 0} (f g : PduFault) → IsWrong f → (let r : Result A PduFault = Err g in r ≡ Err f) → IsWrong g
+wrong_too {A} f g w e = subst IsWrong (sym (err_is {A = A} g f e)) w
+
 -- the faults that no field has
 abbrev IsOther : PduFault → Type 0
 IsOther BadLength = Unit {0}
@@ -51,7 +65,7 @@ IsOther ShortMessageTooLong = ⊥
 other_too : {A : Type 0} (f g : PduFault) → IsOther f → (let r : Result A PduFault = Err g in r ≡ Err f) → IsOther g
 other_too {A} f g m e = subst IsOther (sym (err_is {A = A} g f e)) m
 
-no_fault : {A : Type 0} (x : A) (f : PduFault) → (let r : Result A PduFault = Ok x in r ≡ Err f) → ⊥
+pub no_fault : {A : Type 0} (x : A) (f : PduFault) → (let r : Result A PduFault = Ok x in r ≡ Err f) → ⊥
 no_fault x f e = absurd cc
 
 -- ---- fields
@@ -64,15 +78,25 @@ Continues read = (xs : List ℕ) (f : PduFault) → AreOctets xs → IsMissing f
 abbrev NoOther : {X : Type 0} → Reads PduFault X → Type 0
 NoOther read = (xs : List ℕ) (f : PduFault) → IsOther f → read xs ≡ Err f → ⊥
 
+-- a wrong octet stays wrong
+abbrev pub Stays : {Z : Type 0} → (List ℕ → Result Z PduFault) → Type 0
+Stays read = (xs ys : List ℕ) (f : PduFault) → IsWrong f → read xs ≡ Err f → read (xs ++ ys) ≡ Err f
+
 abbrev Part : {X : Type 0} → Reads PduFault X → Type 0
-Part read = TakesFront read × Continues read × NoOther read
+Part read = TakesFront read × Continues read × NoOther read × Stays read
 
 -- a part that some octets are
 abbrev Field : {X : Type 0} → Reads PduFault X → Type 0
 Field read = Part read × CanReadFurther read []
 
-longer : {X : Type 0} (r : Reads PduFault X) (xs : List ℕ) (x : X) (rest ys : List ℕ) → TakesFront r → r xs ≡ Ok (x, rest) → r (xs ++ ys) ≡ Ok (x, rest ++ ys)
+pub longer : {X : Type 0} (r : Reads PduFault X) (xs : List ℕ) (x : X) (rest ys : List ℕ) → TakesFront r → r xs ≡ Ok (x, rest) → r (xs ++ ys) ≡ Ok (x, rest ++ ys)
 longer r xs x rest ys h e = let f = h xs (x, rest) e in ap r (ap (λ (l : List ℕ). l ++ ys) f.1 ∙ append_assoc f.0 rest ys) ∙ f.2 (rest ++ ys)
+
+then_stays : {X Z : Type 0} (r : Reads PduFault X) (k : X × List ℕ → Result Z PduFault) → TakesFront r → Stays r → ((x : X) → Stays (λ rest. k (x, rest))) → Stays (λ xs. r xs >>= k)
+then_stays {X} {Z} r k front h hk xs ys f w e = elim (bind_err (r xs) k f e) [
+  | inl q ↦ ap (λ (m : Result (X × List ℕ) PduFault). m >>= k) (h xs ys f w q)
+  | inr q ↦ ap (λ (m : Result (X × List ℕ) PduFault). m >>= k) (longer r xs q.0.0 q.0.1 ys front q.1) ∙ hk q.0.0 q.0.1 ys f w q.2
+]
 
 -- one reading behind another
 module _ {X Y : Type 0} (r : Reads PduFault X) (k : X × List ℕ → Result (Y × List ℕ) PduFault) where
@@ -109,7 +133,7 @@ module _ {X Y : Type 0} (r : Reads PduFault X) (k : X × List ℕ → Result (Y 
       behind_reads_further xs x rest h e (hk x rest f (octets_back one.0 rest xs one.1 octets).1 m q)
 
   field_then : Field r → ((x : X) → Field (Behind x)) → Field Then
-  field_then h hk = ((front_then h.0.0 (λ x. (hk x).0.0), continues, none_then h.0.2 (λ x. (hk x).0.2)), some) where
+  field_then h hk = ((front_then h.0.0 (λ x. (hk x).0.0), continues, none_then h.0.2 (λ x. (hk x).0.2), then_stays r k h.0.0 h.0.3 (λ x. (hk x).0.3)), some) where
     joined : (xs : List ℕ) → CanReadFurther r xs → CanReadFurther Then xs
     joined xs g =
         let x = g.2.0 in
@@ -126,7 +150,15 @@ module _ {X Y : Type 0} (r : Reads PduFault X) (k : X × List ℕ → Result (Y 
     ]
 
 pure_field : {X : Type 0} (x : X) → Field {X = X} (λ xs. Ok (x, xs))
-pure_field {X} x = ((front, (λ xs f octets m e. absurd (no_fault {A = X × List ℕ} (x, xs) f e)), (λ xs f o e. no_fault {A = X × List ℕ} (x, xs) f e)), ([], tt, (x, refl))) where
+pure_field {X} x = (
+  (
+    front,
+    (λ xs f octets m e. absurd (no_fault {A = X × List ℕ} (x, xs) f e)),
+    (λ xs f o e. no_fault {A = X × List ℕ} (x, xs) f e),
+    (λ xs ys f w e. absurd (no_fault {A = X × List ℕ} (x, xs) f e)),
+  ),
+  ([], tt, (x, refl)),
+) where
   front : TakesFront {E = PduFault} {X = X} (λ xs. Ok (x, xs))
   front xs z e =
       subst (λ (y : X × List ℕ). (front : List ℕ) × (xs ≡ front ++ y.1) × ((rest : List ℕ) → (let s : Result (X × List ℕ) PduFault = Ok (x, front ++ rest) in s ≡ Ok (y.0, rest))))
@@ -136,14 +168,23 @@ pure_field {X} x = ((front, (λ xs f octets m e. absurd (no_fault {A = X × List
 test_part : {X : Type 0} (b : Bool) (bad : PduFault) (r : Reads PduFault X) → (IsMissing bad → ⊥) → (IsOther bad → ⊥) → Part r → Part (λ xs. only_if b bad >>= (λ u. r xs))
 test_part true bad r fit none h = h
 test_part {X} false bad r fit none h =
-    ((λ xs z e. absurd cc), (λ xs f octets m e. absurd (fit (missing_too {A = X × List ℕ} f bad m e))), (λ xs f o e. none (other_too {A = X × List ℕ} f bad o e)))
+    (
+      (λ xs z e. absurd cc),
+      (λ xs f octets m e. absurd (fit (missing_too {A = X × List ℕ} f bad m e))),
+      (λ xs f o e. none (other_too {A = X × List ℕ} f bad o e)),
+      (λ xs ys f w e. e),
+    )
 
 -- the two faults of sms_base's parts, of which only the first is met in octets and runs of octets
 abbrev cut : Ends PduFault
 cut = record { short = Truncated; spare = BadLength; apart = λ e. absurd cc }
 
 octet_is_part : Part (octet_in Truncated)
-octet_is_part = ((octet_part cut).0, continues, none) where
+octet_is_part = ((octet_part cut).0, continues, none, stays) where
+  stays : Stays (octet_in Truncated)
+  stays [] ys f w e = absurd (wrong_too {A = ℕ × List ℕ} f Truncated w e)
+  stays (x ∷ xs) ys f w e = absurd (no_fault {A = ℕ × List ℕ} (x, xs) f e)
+
   none : NoOther (octet_in Truncated)
   none [] f o e = other_too {A = ℕ × List ℕ} f Truncated o e
   none (x ∷ xs) f o e = no_fault {A = ℕ × List ℕ} (x, xs) f e
@@ -157,7 +198,11 @@ octet_field = (octet_is_part, (0 ∷ [], (omega arith, tt), (0, refl)))
 
 run_is_part : (n : ℕ) → Part (run_in Truncated n)
 unfolding run_in
-run_is_part n = ((run_part cut n).0, continues, λ xs f o e. none (ltb (length xs) n) xs f o e) where
+run_is_part n = ((run_part cut n).0, continues, (λ xs f o e. none (ltb (length xs) n) xs f o e), (λ xs ys f w e. absurd (wrong (ltb (length xs) n) xs f w e))) where
+  wrong : (b : Bool) (xs : List ℕ) (f : PduFault) → IsWrong f → cond {A = Result (List ℕ × List ℕ) PduFault} b (Err Truncated) (Ok (take n xs, drop n xs)) ≡ Err f → ⊥
+  wrong true xs f w e = wrong_too {A = List ℕ × List ℕ} f Truncated w e
+  wrong false xs f w e = no_fault {A = List ℕ × List ℕ} (take n xs, drop n xs) f e
+
   none : (b : Bool) (xs : List ℕ) (f : PduFault) → IsOther f → cond {A = Result (List ℕ × List ℕ) PduFault} b (Err Truncated) (Ok (take n xs, drop n xs)) ≡ Err f → ⊥
   none true xs f o e = other_too {A = List ℕ × List ℕ} f Truncated o e
   none false xs f o e = no_fault {A = List ℕ × List ℕ} (take n xs, drop n xs) f e
@@ -173,10 +218,37 @@ run_is_part n = ((run_part cut n).0, continues, λ xs f o e. none (ltb (length x
 -- an octet and what stands behind it, where some octets are read to their end
 octet_then : {Y : Type 0} (k : ℕ × List ℕ → Result (Y × List ℕ) PduFault) → CanReadFurther (λ xs. octet_in Truncated xs >>= k) [] → ((o : ℕ) → Part (λ rest. k (o, rest))) → Field (λ xs. octet_in Truncated xs >>= k)
 octet_then {Y} k some h =
-    ((front_then (octet_in Truncated) k octet_is_part.0 (λ o. (h o).0), continues, none_then (octet_in Truncated) k octet_is_part.2 (λ o. (h o).2)), some) where
+    (
+      (
+        front_then (octet_in Truncated) k octet_is_part.0 (λ o. (h o).0),
+        continues,
+        none_then (octet_in Truncated) k octet_is_part.2 (λ o. (h o).2),
+        then_stays (octet_in Truncated) k octet_is_part.0 octet_is_part.3 (λ o. (h o).3),
+      ),
+      some,
+    ) where
       continues : Continues (λ xs. octet_in Truncated xs >>= k)
       continues [] f octets m e = some
       continues (o ∷ xs) f octets m e = later_continues (octet_in Truncated) k (o ∷ xs) f octet_is_part.0 (λ x. (h x).1) octets m o xs refl e
+
+-- ---- numbers
+
+two_field : Field (two_in Truncated)
+unfolding two_in
+two_field =
+    field_then (octet_in Truncated) _ octet_field (λ high.
+    field_then (octet_in Truncated) _ octet_field (λ low.
+    pure_field (256 * high + low)))
+
+four_field : Field four_in
+unfolding four_in
+four_field =
+    field_then (two_in Truncated) _ two_field (λ high.
+    field_then (two_in Truncated) _ two_field (λ low.
+    pure_field (65536 * high + low)))
+
+pub four_front : TakesFront four_in
+four_front = four_field.0.0
 
 -- ---- C-octet strings
 
@@ -210,6 +282,25 @@ text_no_other (suc limit) (o ∷ xs) f other e = by_test (eqb o 0) e (λ q. text
     | inr q ↦ no_fault {A = List ℕ × List ℕ} (o ∷ q.0.0, q.0.1) f q.2
   ]
 
+text_stays : (limit : ℕ) → Stays (text_in limit)
+unfolding text_in
+text_stays zero xs ys f w e = e
+text_stays (suc limit) [] ys f w e = absurd (wrong_too {A = List ℕ × List ℕ} f NoTerminator w e)
+text_stays (suc limit) (o ∷ xs) ys f w e = by_test (eqb o 0) e (λ q. text_stays limit xs ys f w q) where
+  by_test : (b : Bool) → cond {A = Result (List ℕ × List ℕ) PduFault} b (Ok ([], xs)) (text_in limit xs >>= (λ more. Ok (o ∷ more.0, more.1))) ≡ Err f
+      → (text_in limit xs ≡ Err f → text_in limit (xs ++ ys) ≡ Err f)
+      → cond {A = Result (List ℕ × List ℕ) PduFault} b (Ok ([], xs ++ ys)) (text_in limit (xs ++ ys) >>= (λ more. Ok (o ∷ more.0, more.1))) ≡ Err f
+  by_test true h again = absurd (no_fault {A = List ℕ × List ℕ} ([], xs) f h)
+  by_test false h again = elim (bind_err (text_in limit xs) (λ more. Ok (o ∷ more.0, more.1)) f h) [
+    | inl q ↦ ap (λ (m : Result (List ℕ × List ℕ) PduFault). m >>= (λ more. let r : Result (List ℕ × List ℕ) PduFault = Ok (o ∷ more.0, more.1) in r)) (again q)
+    | inr q ↦ absurd (no_fault {A = List ℕ × List ℕ} (o ∷ q.0.0, q.0.1) f q.2)
+  ]
+
+c_string_stays : (limit : ℕ) → Stays (c_string_in limit)
+unfolding c_string_in
+c_string_stays limit [] ys f w e = absurd (wrong_too {A = List ℕ × List ℕ} f Truncated w e)
+c_string_stays limit (o ∷ xs) ys f w e = text_stays limit (o ∷ xs) ys f w e
+
 c_string_front : (limit : ℕ) → TakesFront (c_string_in limit)
 unfolding c_string_in
 c_string_front limit [] z e = absurd cc
@@ -230,7 +321,7 @@ ended : (limit : ℕ) (text : List ℕ) → IsText limit text → c_string_in li
 ended limit text h = ap (c_string_in limit) (sym (append-nil (c_string text))) ∙ c_string_again limit text [] h
 
 c_string_field : (limit : ℕ) → Field (c_string_in (suc limit))
-c_string_field limit = ((c_string_front (suc limit), continues, c_string_no_other (suc limit)), (0 ∷ [], (omega arith, tt), ([], ended (suc limit) [] none))) where
+c_string_field limit = ((c_string_front (suc limit), continues, c_string_no_other (suc limit), c_string_stays (suc limit)), (0 ∷ [], (omega arith, tt), ([], ended (suc limit) [] none))) where
   none : IsText (suc limit) []
   none = record { no_nul = tt; short = omega arith }
 
@@ -300,6 +391,7 @@ time_part = (
   front_then (c_string_in 17) _ (c_string_front 17) (λ t. (tested (eqb (length t) 0 || eqb (length t) 16) t).0),
   (λ xs f octets m e. continues xs f m (bind_err (c_string_in 17 xs) _ f e)),
   none_then (c_string_in 17) _ (c_string_no_other 17) (λ t. (tested (eqb (length t) 0 || eqb (length t) 16) t).2),
+  then_stays (c_string_in 17) _ (c_string_front 17) (c_string_stays 17) (λ t. (tested (eqb (length t) 0 || eqb (length t) 16) t).3),
 ) where
   continues : (xs : List ℕ) (f : PduFault) → IsMissing f
       → (c_string_in 17 xs ≡ Err f) ⊎ ((x : List ℕ × List ℕ) × (c_string_in 17 xs ≡ Ok x)
@@ -413,6 +505,7 @@ Whole read =
     × ((xs : List ℕ) → read xs ≡ Err BadLength → Fronted read xs)
     × Completed read []
     × ((xs : List ℕ) → read xs ≡ Err UnknownCommand → ⊥)
+    × Stays read
 
 -- a field, and the rest of a body behind it
 module _ {X Z : Type 0} (r : Reads PduFault X) (k : X × List ℕ → Result Z PduFault) where
@@ -426,7 +519,7 @@ module _ {X Z : Type 0} (r : Reads PduFault X) (k : X × List ℕ → Result Z P
   all_reads_further xs x rest h e g = (g.0, g.1, (g.2.0, ap (λ (m : Result (X × List ℕ) PduFault). m >>= k) (longer r xs x rest g.0 h e) ∙ g.2.1))
 
   then : Field r → ((x : X) → Whole (Rest x)) → Whole All
-  then h hk = (continues, long, some, λ xs e. unknown xs (bind_err (r xs) k UnknownCommand e)) where
+  then h hk = (continues, long, some, (λ xs e. unknown xs (bind_err (r xs) k UnknownCommand e)), then_stays r k h.0.0 h.0.3 (λ x. (hk x).4)) where
     unknown : (xs : List ℕ) → (r xs ≡ Err UnknownCommand) ⊎ ((x : X × List ℕ) × (r xs ≡ Ok x) × (k x ≡ Err UnknownCommand)) → ⊥
     unknown xs (inl q) = h.0.2 xs UnknownCommand tt q
     unknown xs (inr q) = (hk q.0.0).3 q.0.1 q.2
@@ -460,7 +553,11 @@ module _ {X Z : Type 0} (r : Reads PduFault X) (k : X × List ℕ → Result Z P
     ]
 
 at_end : {Z : Type 0} (v : Z) → Whole (λ xs. end_in BadLength xs >>= (λ u. Ok v))
-at_end {Z} v = (continues, long, ([], tt, (v, refl)), unknown) where
+at_end {Z} v = (continues, long, ([], tt, (v, refl)), unknown, stays) where
+  stays : Stays {Z = Z} (λ xs. end_in BadLength xs >>= (λ u. Ok v))
+  stays [] ys f w e = absurd (no_fault {A = Z} v f e)
+  stays (o ∷ xs) ys f w e = absurd (wrong_too {A = Z} f BadLength w e)
+
   unknown : (xs : List ℕ) → (end_in BadLength xs >>= (λ u. let r : Result Z PduFault = Ok v in r)) ≡ Err UnknownCommand → ⊥
   unknown [] e = no_fault {A = Z} v UnknownCommand e
   unknown (o ∷ xs) e = absurd (let f = err_is {A = Z} BadLength UnknownCommand e in cc)
@@ -492,7 +589,17 @@ abbrev mapped : {A B : Type 0} → (A → B) → Result A PduFault → Result B 
 mapped k m = m >>= (λ x. Ok (k x))
 
 at_tlvs : {Z : Type 0} (k : Tlvs → Z) → Whole (λ xs. tlvs_at xs >>= (λ tlvs. Ok (k tlvs)))
-at_tlvs {Z} k = (continues, long, ([], tt, (k (values_of []), ap (λ (m : Result Tlvs PduFault). mapped k m) no_tlvs_read)), λ xs e. unknown xs (bind_err (tlvs_at xs) (λ tlvs. Ok (k tlvs)) UnknownCommand e)) where
+at_tlvs {Z} k = (
+  continues,
+  long,
+  ([], tt, (k (values_of []), ap (λ (m : Result Tlvs PduFault). mapped k m) no_tlvs_read)),
+  (λ xs e. unknown xs (bind_err (tlvs_at xs) (λ tlvs. Ok (k tlvs)) UnknownCommand e)),
+  (λ xs ys f w e. absurd (wrong xs f w (bind_err (tlvs_at xs) (λ tlvs. Ok (k tlvs)) f e))),
+) where
+  wrong : (xs : List ℕ) (f : PduFault) → IsWrong f → (tlvs_at xs ≡ Err f) ⊎ ((x : Tlvs) × (tlvs_at xs ≡ Ok x) × ((let r : Result Z PduFault = Ok (k x) in r) ≡ Err f)) → ⊥
+  wrong xs f w (inl q) = subst IsWrong (only_bad_tlv xs f q) w
+  wrong xs f w (inr q) = no_fault {A = Z} (k q.0) f q.2
+
   unknown : (xs : List ℕ) → (tlvs_at xs ≡ Err UnknownCommand) ⊎ ((x : Tlvs) × (tlvs_at xs ≡ Ok x) × ((let r : Result Z PduFault = Ok (k x) in r) ≡ Err UnknownCommand)) → ⊥
   unknown xs (inl q) = absurd (let only = only_bad_tlv xs UnknownCommand q in cc)
   unknown xs (inr q) = no_fault {A = Z} (k q.0) UnknownCommand q.2
@@ -588,7 +695,13 @@ cancel_whole =
     at_end (record { service_type = service_type; message_id = message_id; source = source; destination = destination })))))
 
 map_whole : {A B : Type 0} (read : AllReads A) (k : A → B) → Whole read → Whole (λ xs. read xs >>= (λ x. Ok (k x)))
-map_whole {A} {B} read k h = (continues, long, made [] h.2, λ xs e. unknown xs (bind_err (read xs) (λ x. Ok (k x)) UnknownCommand e)) where
+map_whole {A} {B} read k h = (continues, long, made [] h.2, (λ xs e. unknown xs (bind_err (read xs) (λ x. Ok (k x)) UnknownCommand e)), stays) where
+  stays : Stays (λ xs. mapped k (read xs))
+  stays xs ys f w e = elim (bind_err (read xs) (λ x. Ok (k x)) f e) [
+    | inl q ↦ ap (λ (m : Result A PduFault). mapped k m) (h.4 xs ys f w q)
+    | inr q ↦ absurd (no_fault {A = B} (k q.0) f q.2)
+  ]
+
   unknown : (xs : List ℕ) → (read xs ≡ Err UnknownCommand) ⊎ ((x : A) × (read xs ≡ Ok x) × ((let r : Result B PduFault = Ok (k x) in r) ≡ Err UnknownCommand)) → ⊥
   unknown xs (inl q) = h.3 xs q
   unknown xs (inr q) = no_fault {A = B} (k q.0) UnknownCommand q.2
@@ -609,7 +722,14 @@ map_whole {A} {B} read k h = (continues, long, made [] h.2, λ xs e. unknown xs 
   ]
 
 or_none_whole : {A : Type 0} (read : AllReads A) → Whole read → Whole (or_none read)
-or_none_whole {A} read h = (continues, long, ([], tt, (None, refl)), unknown) where
+or_none_whole {A} read h = (continues, long, ([], tt, (None, refl)), unknown, stays) where
+  stays : Stays (or_none read)
+  stays [] ys f w e = absurd (no_fault {A = Option A} None f e)
+  stays (o ∷ xs) ys f w e = elim (bind_err (read (o ∷ xs)) (λ x. Ok (Some x)) f e) [
+    | inl q ↦ ap (λ (m : Result A PduFault). mapped (λ x. Some x) m) (h.4 (o ∷ xs) ys f w q)
+    | inr q ↦ absurd (no_fault {A = Option A} (Some q.0) f q.2)
+  ]
+
   in_some : (xs : List ℕ) → (read xs ≡ Err UnknownCommand) ⊎ ((x : A) × (read xs ≡ Ok x) × ((let r : Result (Option A) PduFault = Ok (Some x) in r) ≡ Err UnknownCommand)) → ⊥
   in_some xs (inl q) = h.3 xs q
   in_some xs (inr q) = no_fault {A = Option A} (Some q.0) UnknownCommand q.2
@@ -672,3 +792,6 @@ body_has_front c xs octets e =
 
 pub never_unknown : (c : CommandId) (xs : List ℕ) → body_at c xs ≡ Err UnknownCommand → ⊥
 never_unknown c xs e = (body_whole c).3 xs e
+
+pub body_stays : (c : CommandId) → Stays (body_at c)
+body_stays c = (body_whole c).4
