@@ -36,7 +36,7 @@ use Rattle.sms_rows.specs.table.Table.{Rises, put, row_at, without}
 use Rattle.sms_rows.proofs.table.Tables.{among_found, among_put, among_without, rises_put, rises_without}
 use Rattle.smsc_service.specs.Asking.{asked, asked_by, link_for, of_handset}
 use Rattle.smsc_service.specs.Numbers.{is_number}
-use Rattle.smsc_service.specs.Replies.{answer_for, answer_out, asker, end_of, failed, failed_by, frame_out, frame_outs, is_that, receipt_out, receipt_outs, replies_at, risen_by, seat_for, taken_by, seat_answer}
+use Rattle.smsc_service.specs.Replies.{answer_for, answer_out, asker, end_of, failed, failed_by, frame_out, frame_outs, is_that, nothing_by, receipt_out, receipt_outs, replies_at, risen_by, seat_for, taken_by, seat_answer, vacancy}
 use Rattle.smsc_service.specs.Seats.{Seats, followed, handset_at, handset_of, link_key, nobody, raised, seat_of}
 use Rattle.smsc_service.specs.Serving.{Serving, after, after_for, followed_by, gives, gives_for, refusal_for, restarted, unless_refused}
 use Rattle.smsc_service.specs.declared.asking.SeatRequest.{SeatRequest}
@@ -74,6 +74,11 @@ module _ (n : ℕ) (octets : List ℕ) where
   none_failed (JobOf from job) there = no_failure (is_request job) from ESME_RSYSERR there
   none_failed (Tick now) there = there
   none_failed (Own errand) there = there
+
+  none_by_nothing : (seats : Seats) (stimulus : Stimulus Job) → Among (frame_for n octets) (nothing_by seats stimulus) → ⊥
+  none_by_nothing seats (JobOf from job) there = no_failure (is_request job) from (vacancy from seats) there
+  none_by_nothing seats (Tick now) there = there
+  none_by_nothing seats (Own errand) there = there
 
   none_taken : (stimulus : Stimulus Job) → Among (frame_for n octets) (taken_by stimulus) → ⊥
   none_taken (JobOf from job) (inl e) = let k : FrameOut octets ≡ TakenOut = ap (λ (o : Out Reply). o.out) e in absurd cc
@@ -121,18 +126,18 @@ module _ (n : ℕ) (octets : List ℕ) where
     request_sent stimulus (Event event) Done refusal e there =
         let d = happened event s.core in
         (event, e, replied (risen_by stimulus) (asker stimulus) s.seats.links (seat_answer stimulus d.answer) d.links.frames (messages_in d.store) d.bindings.deliveries there)
-    request_sent stimulus Nothing Done refusal e there = absurd (none_failed stimulus there)
+    request_sent stimulus Nothing Done refusal e there = absurd (none_by_nothing s.seats stimulus there)
     request_sent stimulus Taken Done refusal e there = absurd (none_taken stimulus there)
     request_sent stimulus (Forget before from most) Done refusal e there = absurd there
     request_sent stimulus (Event event) Refused refusal e there = absurd (none_failed stimulus there)
-    request_sent stimulus Nothing Refused refusal e there = absurd (none_failed stimulus there)
+    request_sent stimulus Nothing Refused refusal e there = absurd (none_by_nothing s.seats stimulus there)
     request_sent stimulus Taken Refused refusal e there = absurd (none_taken stimulus there)
     request_sent stimulus (Forget before from most) Refused refusal e there = absurd (none_failed stimulus there)
     request_sent (JobOf from job) a NoMemory (Some status) e there = absurd (no_failure true from status there)
     request_sent (Tick now) a NoMemory (Some status) e there = absurd there
     request_sent (Own errand) a NoMemory (Some status) e there = absurd there
     request_sent stimulus (Event event) NoMemory None e there = absurd (none_failed stimulus there)
-    request_sent stimulus Nothing NoMemory None e there = absurd (none_failed stimulus there)
+    request_sent stimulus Nothing NoMemory None e there = absurd (none_by_nothing s.seats stimulus there)
     request_sent stimulus Taken NoMemory None e there = absurd (none_taken stimulus there)
     request_sent stimulus (Forget before from most) NoMemory None e there = absurd (none_failed stimulus there)
 

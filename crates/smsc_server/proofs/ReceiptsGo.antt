@@ -59,7 +59,7 @@ use Rattle.smsc_server.specs.ReceiptsGiven.{Binding, GoToAccounts, IsOfAccount, 
 use Rattle.smsc_server.specs.Forgotten.{KeepsOrForgets, message_left}
 use Rattle.smsc_server.specs.RunPromises.{AreAsked, receipt_for}
 use Rattle.smsc_server.proofs.BoundSessions.{Becomes, Each, Sends, StaysBut, StaysSo, sends_of}
-use Rattle.smsc_server.proofs.RunKept.{IsGood, among_parts, asked_parts, between, history_more, item_good, no_answer, no_failure, no_frames, none_failed, none_taken, restart_sound, run_good, run_left}
+use Rattle.smsc_server.proofs.RunKept.{IsGood, among_parts, asked_parts, between, history_more, item_good, no_answer, no_failure, no_frames, none_by_nothing, none_failed, none_taken, restart_sound, run_good, run_left}
 
 -- ---- which events bind
 
@@ -398,18 +398,18 @@ module _ (seat : ℕ) (end : Final) where
     request_sent : (stimulus : Stimulus Job) (a : SeatRequest) (fate : Fate) (refusal : Option CommandStatus) → asked_by s.seats stimulus ≡ a
         → Among (receipt_for seat end) (unless_refused fate refusal stimulus (gives_for a fate s stimulus)) → WasSent stimulus fate
     request_sent stimulus (Event event) Done refusal e there = (event, e, refl, replied_delivery (risen_by stimulus) (asker stimulus) (seat_answer stimulus (happened event s.core).answer) s event there)
-    request_sent stimulus Nothing Done refusal e there = absurd (none_failed seat end stimulus there)
+    request_sent stimulus Nothing Done refusal e there = absurd (none_by_nothing seat end s.seats stimulus there)
     request_sent stimulus Taken Done refusal e there = absurd (none_taken seat end stimulus there)
     request_sent stimulus (Forget before from most) Done refusal e there = absurd there
     request_sent stimulus (Event event) Refused refusal e there = absurd (none_failed seat end stimulus there)
-    request_sent stimulus Nothing Refused refusal e there = absurd (none_failed seat end stimulus there)
+    request_sent stimulus Nothing Refused refusal e there = absurd (none_by_nothing seat end s.seats stimulus there)
     request_sent stimulus Taken Refused refusal e there = absurd (none_taken seat end stimulus there)
     request_sent stimulus (Forget before from most) Refused refusal e there = absurd (none_failed seat end stimulus there)
     request_sent (JobOf from job) a NoMemory (Some status) e there = absurd (no_failure seat end true from status there)
     request_sent (Tick now) a NoMemory (Some status) e there = absurd there
     request_sent (Own errand) a NoMemory (Some status) e there = absurd there
     request_sent stimulus (Event event) NoMemory None e there = absurd (none_failed seat end stimulus there)
-    request_sent stimulus Nothing NoMemory None e there = absurd (none_failed seat end stimulus there)
+    request_sent stimulus Nothing NoMemory None e there = absurd (none_by_nothing seat end s.seats stimulus there)
     request_sent stimulus Taken NoMemory None e there = absurd (none_taken seat end stimulus there)
     request_sent stimulus (Forget before from most) NoMemory None e there = absurd (none_failed seat end stimulus there)
 
