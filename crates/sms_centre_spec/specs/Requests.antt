@@ -136,7 +136,7 @@ cancel place c d = cancel_by (account_at place d.store.setup.accounts) c d
 -- the status of an answer that refuses
 abbrev pub status_of : CentreAnswer → Option CommandStatus
 status_of (Submitted id) = None
-status_of (Queried id state done) = None
+status_of (Queried id state moment) = None
 status_of Cancelled = None
 status_of (Refused status) = Some status
 

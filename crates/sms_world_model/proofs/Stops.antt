@@ -427,3 +427,21 @@ pub all_before : (w v : World) (group : List Happening) → AllWent Before group
 all_before w v [] went plays = sym plays
 all_before w v (h ∷ group) went (ss, (belongs, run, plays)) =
     all_before (end w (happened h ss)) v group went.1 plays ∙ before_event w h.event h.went h.moment ss went.0 belongs
+
+-- ---- a run that stops in a group
+
+plays_cut : (w v : World) (earlier group : List Happening) → Plays w (earlier ++ group) v → (x : World) × (Plays w earlier x × Plays x group v)
+plays_cut w v [] group plays = (w, (refl, plays))
+plays_cut w v (h ∷ earlier) group (ss, (belongs, run, plays)) =
+    let rest = plays_cut (end w (happened h ss)) v earlier group plays in (rest.0, ((ss, (belongs, run, rest.1.0)), rest.1.1))
+
+pub stops_before : (w v : World) (earlier group : List Happening) → AllWent Before group → Plays w (earlier ++ group) v → Plays w earlier v
+stops_before w v earlier group went plays =
+    let cut = plays_cut w v earlier group plays in
+    subst (λ (x : World). Plays w earlier x) (sym (all_before cut.0 v group went cut.1.1)) cut.1.0
+
+pub stops_after : (w v : World) (earlier group : List Happening) → AllWent After group → Plays w (earlier ++ group) v
+    → (x : World) × (Plays w earlier x × IsAfterAll x group v × (v.bag ≡ x.bag))
+stops_after w v earlier group went plays =
+    let cut = plays_cut w v earlier group plays in
+    let stop = all_after cut.0 v group went cut.1.1 in (cut.0, (cut.1.0, stop.0, stop.1))

@@ -117,6 +117,14 @@ pub fn a_stopped_group_is_before_or_after()
     ensures after { (w v : World) (group : List Happening) → AllWent After group → Plays w group v → IsAfterAll w group v × (v.bag ≡ w.bag) }
 {}
 
+/// A run that stops inside the commit of a group ends where a group ends. Its world has each event that came before the group, and
+/// this group whole or not at all. Each frame that was sent was sent by an event before the group.
+pub fn a_run_stops_at_the_end_of_a_group()
+    ensures before { (w v : World) (earlier group : List Happening) → AllWent Before group → Plays w (earlier ++ group) v → Plays w earlier v }
+    ensures after { (w v : World) (earlier group : List Happening) → AllWent After group → Plays w (earlier ++ group) v
+        → (x : World) × (Plays w earlier x × IsAfterAll x group v × (v.bag ≡ x.bag)) }
+{}
+
 /// A restart of either side leaves the world as it was.
 pub fn restart_leaves_the_world()
     ensures { (w v : World) (m : ℕ) → Leads w (record { event = Restarted; went = Whole; moment = m }) v → v ≡ w }
