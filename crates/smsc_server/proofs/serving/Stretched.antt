@@ -2,9 +2,10 @@
 use Rattle.std.proofs.Common.{◌≡◌, ◌==◌, ◌+◌, ◌⊎◌, ◌∙◌, inl, inr, ℕ, zero, suc, Bool, true, false, true≢false, List, [], ◌∷◌, ◌++◌, Option, Some, None, if◌then◌else◌, refl, sym, ap, subst, append_assoc, append-nil, zero-add, arith}
 use Rattle.std.specs.Prelude.{⊤}
 use Rattle.std.proofs.lemmas.Bool.{eqb-true}
-use Rattle.smpp_pdu.specs.declared.status.CommandStatus.TheVariants.{ESME_RSYSERR}
+use Rattle.smpp_pdu.specs.declared.status.CommandStatus.{CommandStatus}
+use Rattle.smpp_pdu.specs.declared.status.CommandStatus.TheVariants.{ESME_RINVMSGID, ESME_RSYSERR}
 use Rattle.sms_centre_spec.specs.declared.answer.CentreAnswer.{CentreAnswer}
-use Rattle.sms_centre_spec.specs.declared.answer.CentreAnswer.TheVariants.{Refused}
+use Rattle.sms_centre_spec.specs.declared.answer.CentreAnswer.TheVariants.{Submitted, Queried, Cancelled, Refused}
 use Rattle.sms_centre_spec.specs.declared.jobs.job.Job.{Job}
 use Rattle.sms_centre_spec.specs.declared.jobs.reply.Reply.{Reply}
 use Rattle.sms_centre_spec.specs.declared.jobs.reply.Reply.TheVariants.{Answer, Receipt, Frame, Taken}
@@ -17,13 +18,15 @@ use Rattle.sms_keeper.specs.declared.machine.Stimulus.TheVariants.{Job as JobOf,
 use Rattle.sms_keeper.specs.declared.outs.Out.{Out}
 use Rattle.sms_keeper.specs.History.{IsHistory, answers_in as replies_in, asked, asked_by, for_seat, jobs_of, outs_to}
 use Rattle.smsc_loop.specs.Calls.{Call, jobs_put, replies_taken}
-use Rattle.smsc_loop.specs.Owing.{IsCleared, answers_in, asks_nothing, ends_answered, ends_asked, is_answer, is_asking_nothing, requests_in}
-use Rattle.smsc_loop.proofs.Counting.{ends_with}
+use Rattle.smsc_loop.specs.Owing.{IsCleared, answers_in, asks_nothing, ends_answered, ends_asked, ends_vacant, is_answer, is_asking_nothing, is_vacancy, requests_in}
+use Rattle.smsc_loop.proofs.Counting.{ends_with, vacant_with}
+use Rattle.smsc_service.specs.Replies.{vacancy}
+use Rattle.smsc_service.specs.Seats.{is_vacant}
 use Rattle.smsc_service.specs.Serving.{Serving, after, gives}
 use Rattle.smsc_server.specs.serving.Connections.{Admitted, Connection, calls_of}
 use Rattle.smsc_server.specs.serving.Sittings.{InTurn, jobs_by, replies_to}
-use Rattle.smsc_server.specs.serving.Stretches.{HaveStretches, IsLastStretch, IsStretch}
-use Rattle.smsc_server.proofs.serving.OneAnswer.{nothing_given, one_given, one_if, requests_of}
+use Rattle.smsc_server.specs.serving.Stretches.{HaveStretches, HaveVacated, IsLastStretch, IsStretch}
+use Rattle.smsc_server.proofs.serving.OneAnswer.{nothing_after, nothing_given, one_given, one_if, requests_of}
 
 -- ---- what counts in two parts
 
@@ -351,7 +354,7 @@ off_jobs (j ∷ a) x y e = off_jobs a x y (other_jobs j j (a ++ x) (a ++ y) e)
 -- the last answer says that nobody is at the seat
 vacancy_is : (answer : CentreAnswer) → is_vacancy (Answer answer) ≡ true → answer ≡ Refused ESME_RINVMSGID
 vacancy_is (Submitted id) h = absurd (true≢false (sym h))
-vacancy_is (Queried id state done) h = absurd (true≢false (sym h))
+vacancy_is (Queried id state moment) h = absurd (true≢false (sym h))
 vacancy_is Cancelled h = absurd (true≢false (sym h))
 vacancy_is (Refused status) h = ap (λ (s : CommandStatus). Refused s) (status_is status h)
 
@@ -382,12 +385,12 @@ module _ {S : Type 0} (remaining contents : S → Option (List ℕ)) (admitted :
 
   abbrev Stretched : List (Connection remaining contents admitted) → Type 0
   Stretched cs =
-      (s : Serving) (items : List (Item Job Reply)) (t : Serving) (untaken : List Reply) → IsHistory gives after s items t → is_vacant n s.seats ≡ true
+      (s : Serving) (items : List (Item Job Reply)) (t : Serving) (untaken : List Reply) → IsHistory gives after s items t
       → InTurn remaining contents admitted [] [] cs → jobs_of n items ≡ jobs_among (jobs_by remaining contents admitted cs)
       → replies_in n items ≡ replies_to remaining contents admitted cs ++ untaken → HaveVacated remaining contents admitted n s cs items
 
   last_stretch : (c : Connection remaining contents admitted) → Stretched (c ∷ [])
-  last_stretch c s items t untaken h vacant turn jobs replies =
+  last_stretch c s items t untaken h turn jobs replies =
       let calls = calls_of remaining contents admitted c in record {
         jobs = jobs ∙ ap jobs_among (append-nil (jobs_put calls));
         left = untaken;
@@ -397,7 +400,7 @@ module _ {S : Type 0} (remaining contents : S → Option (List ℕ)) (admitted :
   -- a connection that put nothing took nothing
   empty_stretch : (c next : Connection remaining contents admitted) (cs : List (Connection remaining contents admitted)) → Stretched (next ∷ cs)
       → jobs_put (calls_of remaining contents admitted c) ≡ [] → Stretched (c ∷ next ∷ cs)
-  empty_stretch c next cs later none s items t untaken h vacant turn jobs replies =
+  empty_stretch c next cs later none s items t untaken h turn jobs replies =
       let calls = calls_of remaining contents admitted c in
       let cleared = turn.1.0 in
       let nothing : replies_taken calls ≡ [] = no_more (replies_taken calls) cleared.2 (sym cleared.0 ∙ ap requests_in none) in (
@@ -407,15 +410,15 @@ module _ {S : Type 0} (remaining contents : S → Option (List ℕ)) (admitted :
         refl,
         record { jobs = sym (ap jobs_among none); replies = sym nothing },
         refl,
-        vacant,
-        later s items t untaken h vacant (from_here (jobs_put calls) (replies_taken calls) (next ∷ cs) cleared turn.1)
+        λ v. v,
+        later s items t untaken h (from_here (jobs_put calls) (replies_taken calls) (next ∷ cs) cleared turn.1)
             (jobs ∙ ap (λ (l : List (Option Job)). jobs_among (l ++ jobs_by remaining contents admitted (next ∷ cs))) none)
             (replies ∙ ap (λ (l : List Reply). (l ++ replies_to remaining contents admitted (next ∷ cs)) ++ untaken) nothing),
       )
 
   own_stretch : (c next : Connection remaining contents admitted) (cs : List (Connection remaining contents admitted)) → Stretched (next ∷ cs)
       → EndsAsked (jobs_among (jobs_put (calls_of remaining contents admitted c))) → Stretched (c ∷ next ∷ cs)
-  own_stretch c next cs later ends s items t untaken h vacant turn jobs replies =
+  own_stretch c next cs later ends s items t untaken h turn jobs replies =
       let calls = calls_of remaining contents admitted c in
       let put = jobs_put calls in
       let taken = replies_taken calls in
@@ -443,23 +446,33 @@ module _ {S : Type 0} (remaining contents : S → Option (List ℕ)) (admitted :
         x.split,
         record { jobs = own_jobs_so; replies = same },
         x.first,
-        empty,
-        later x.between x.later t untaken x.next empty (from_here put taken (next ∷ cs) cleared turn.1)
+        λ v. empty,
+        later x.between x.later t untaken x.next (from_here put taken (next ∷ cs) cleared turn.1)
             (off_jobs (jobs_of n x.own) (jobs_of n x.later) others parts)
             (cut_off taken (replies_in n x.later) (replies_then ++ untaken) (ap (λ (l : List Reply). l ++ replies_in n x.later) (sym same) ∙ both)),
       )
 
   next_stretch : (c next : Connection remaining contents admitted) (cs : List (Connection remaining contents admitted)) → Stretched (next ∷ cs)
       → (put : List (Option Job)) → jobs_put (calls_of remaining contents admitted c) ≡ put → Stretched (c ∷ next ∷ cs)
-  next_stretch c next cs later [] is s items t untaken h vacant turn = empty_stretch c next cs later is s items t untaken h vacant turn
-  next_stretch c next cs later (job ∷ put) is s items t untaken h vacant turn =
+  next_stretch c next cs later [] is s items t untaken h turn = empty_stretch c next cs later is s items t untaken h turn
+  next_stretch c next cs later (job ∷ put) is s items t untaken h turn =
       own_stretch c next cs later
       (subst (λ (l : List (Option Job)). EndsAsked (jobs_among l)) (sym is) (ends_among job put (ap ends_asked (sym is) ∙ turn.1.0.1)))
-      s items t untaken h vacant turn
+      s items t untaken h turn
 
-  -- from a seat at which nobody is
   pub vacated : (cs : List (Connection remaining contents admitted)) → Stretched cs
-  vacated [] s items t untaken h vacant turn jobs replies = tt
-  vacated (c ∷ []) s items t untaken h vacant turn jobs replies = last_stretch c s items t untaken h vacant turn jobs replies
-  vacated (c ∷ next ∷ cs) s items t untaken h vacant turn jobs replies =
-      next_stretch c next cs (vacated (next ∷ cs)) (jobs_put (calls_of remaining contents admitted c)) refl s items t untaken h vacant turn jobs replies
+  vacated [] s items t untaken h turn jobs replies = tt
+  vacated (c ∷ []) s items t untaken h turn jobs replies = last_stretch c s items t untaken h turn jobs replies
+  vacated (c ∷ next ∷ cs) s items t untaken h turn jobs replies =
+      next_stretch c next cs (vacated (next ∷ cs)) (jobs_put (calls_of remaining contents admitted c)) refl s items t untaken h turn jobs replies
+
+  kept : (s : Serving) (cs : List (Connection remaining contents admitted)) (items : List (Item Job Reply)) → HaveVacated remaining contents admitted n s cs items
+      → HaveStretches remaining contents admitted n cs items
+  kept s [] items h = tt
+  kept s (c ∷ []) items h = h
+  kept s (c ∷ next ∷ cs) items h = (h.0, h.1, h.3, h.4, kept h.2 (next ∷ cs) h.1 h.7)
+
+  pub stretched : (cs : List (Connection remaining contents admitted)) (s : Serving) (items : List (Item Job Reply)) (t : Serving) (untaken : List Reply)
+      → IsHistory gives after s items t → InTurn remaining contents admitted [] [] cs → jobs_of n items ≡ jobs_among (jobs_by remaining contents admitted cs)
+      → replies_in n items ≡ replies_to remaining contents admitted cs ++ untaken → HaveStretches remaining contents admitted n cs items
+  stretched cs s items t untaken h turn jobs replies = kept s cs items (vacated cs s items t untaken h turn jobs replies)
