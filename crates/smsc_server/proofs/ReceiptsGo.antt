@@ -63,12 +63,12 @@ use Rattle.smsc_server.proofs.RunKept.{IsGood, among_parts, asked_parts, between
 
 -- ---- which events bind
 
-abbrev is_binding : CentreEvent → Bool
+abbrev pub is_binding : CentreEvent → Bool
 is_binding (BoundOf session account receives) = true
 is_binding (UnboundOf session) = true
 is_binding event = false
 
-abbrev BindsNobody : SeatRequest → Type 0
+abbrev pub BindsNobody : SeatRequest → Type 0
 BindsNobody a = IfEvent (λ (event : CentreEvent). is_binding event ≡ false) a
 
 submission_binds : (account : ℕ) (body : Body) → BindsNobody (submission account body)
@@ -106,7 +106,7 @@ becomes_same accounts R Q event e f = f
 abbrev moved : (ℕ → Option Binding) → Stimulus Job → ℕ → Option Binding
 moved bound stimulus k = bound_there k stimulus (bound k)
 
-both_same : (b : Bool) (o : Option Binding) → (if b then o else o) ≡ o
+pub both_same : (b : Bool) (o : Option Binding) → (if b then o else o) ≡ o
 both_same true o = refl
 both_same false o = refl
 
@@ -118,16 +118,16 @@ at_seat : (bound : ℕ → Option Binding) (seat : ℕ) (job : Job) → moved bo
 at_seat bound seat job = cond-true (seat == seat) (bound_by job (bound seat)) (bound seat) (eq-eqb seat seat refl)
 
 -- a request of a seat, and whom its job binds
-abbrev IsSame : Seats → ℕ → Job → Type 0
+abbrev pub IsSame : Seats → ℕ → Job → Type 0
 IsSame seats seat job = BindsNobody (asked seats seat job) × ((o : Option Binding) → bound_by job o ≡ o) × ((followed seat job seats).sittings ≡ seats.sittings)
 
 -- any but bind and unbind
-abbrev IsOther : Job → Type 0
+abbrev pub IsOther : Job → Type 0
 IsOther (Bound account receives) = ⊥
 IsOther Unbound = ⊥
 IsOther job = Unit {0}
 
-other : (seats : Seats) (seat : ℕ) (job : Job) → IsOther job → IsSame seats seat job
+pub other : (seats : Seats) (seat : ℕ) (job : Job) → IsOther job → IsSame seats seat job
 other seats seat (Bound account receives) h = absurd h
 other seats seat Unbound h = absurd h
 other seats seat (Submit account pdu) h = (read_binds (submission account) (submission_binds account) (pdu_at pdu), (λ o. refl), refl)
