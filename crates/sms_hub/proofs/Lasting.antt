@@ -7,7 +7,7 @@ use Rattle.sms_keeper.specs.declared.machine.Fate.{Fate}
 use Rattle.sms_keeper.specs.declared.machine.Item.{Item}
 use Rattle.sms_keeper.specs.declared.machine.Stimulus.{Stimulus}
 use Rattle.sms_keeper.specs.declared.outs.Out.{Out}
-use Rattle.sms_keeper.specs.Groups.{IsTerm}
+use Rattle.sms_keeper.specs.Groups.{IsRefusing, IsTerm}
 use Rattle.sms_hub.specs.Lasting.{Ran}
 use Rattle.sms_keeper.proofs.Stretches.{leads-append, leads_none, same_self, stretch-append, stretch_none}
 
@@ -31,6 +31,12 @@ module _ {J O S : Type 0} (reads : ℕ → Type 0) (gives : S → Stimulus J →
         led = λ now s there. let x = t.led (was now) s there in (x.0, (x.1.0, opens now x.0 x.1.1));
         recorded = λ earlier has. keeps (earlier ++ t.items) (t.recorded earlier has);
       }
+
+  -- items that were refused once the machine could not be opened again
+  pub ran_refusing : (honest : Type 0) (failed fails : S → Type 0) (told tells later : List (Item J O) → Type 0) (a b : Keeper J O) → ((items : List (Item J O)) → told items → tells items)
+      → IsRefusing reads gives after honest failed fails tells later a b → Ran reads gives after honest failed fails told later a b
+  ran_refusing honest failed fails told tells later a b keeps h =
+      record { items = h.items; did = h.did; led = h.led; recorded = λ earlier has. h.recorded earlier (keeps earlier has) }
 
   -- nothing was run yet
   pub ran_none : (honest : Type 0) (before : S → Type 0) (told : List (Item J O) → Type 0) (a : Keeper J O) → Ran reads gives after honest before before told told a a

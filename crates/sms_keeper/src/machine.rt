@@ -101,6 +101,10 @@ pub trait Recorder<J, O> {
     /// The machine was opened again after a group that its store refused.
     fn reopened(&mut self)
         ensures { (told : List (Item J O)) → has self.old told → has self.new told };
+
+    /// The machine could not be opened again. From now on each item is refused.
+    fn failed(&mut self)
+        ensures { (told : List (Item J O)) → has self.old told → has self.new told };
 }
 
 /// A recorder that keeps nothing.
@@ -117,6 +121,8 @@ impl<J, O> Recorder<J, O> for NoRecord {
     fn end_group(&mut self, _count: usize) {}
 
     fn reopened(&mut self) {}
+
+    fn failed(&mut self) {}
 }
 
 /// What the keeper runs. Its definition, by `gives` and `after`, says what each stimulus puts out and leads to.
@@ -132,6 +138,9 @@ pub trait Machine<J, O> {
 
     /// What it represents once it is opened again.
     ghost resumes: { Self → Self.State → Type 0 };
+
+    /// What it represents once it could not be opened again: it refuses each item as that.
+    ghost fails_as: { Self → Self.State → Type 0 };
 
     /// So far its store has returned what was written.
     ghost is_honest: { Self → Type 0 };
@@ -169,6 +178,14 @@ pub trait Machine<J, O> {
     /// Recovers the machine from its rows, after a group that was refused.
     fn reopen(&mut self) -> Result<(), Broken>
         ensures ok { is_honest self.new → (s : Self.State) → resumes self.old s → OnOk result (stands self.new s s) }
+        ensures fails { is_honest self.new → (s : Self.State) → resumes self.old s → OnErr result (fails_as self.new s) }
         ensures before { is_honest self.new → is_honest self.old }
         ensures err { OnErr result (is_broken self.new) };
+
+    /// Refuses an item, once it could not be opened again. Its store is asked nothing.
+    fn refuse(&mut self, stimulus: &Stimulus<J>) -> Outs<O>
+        ensures gives { is_honest self.new → (r : Self.State) → fails_as self.old r
+            → (result ≡ gives r stimulus.now Refused) × fails_as self.new (after r stimulus.now Refused) }
+        ensures before { is_honest self.new → is_honest self.old }
+        ensures broken { is_broken self.old → is_broken self.new };
 }

@@ -1,3 +1,5 @@
+pub mod AccountBooks
+pub mod AccountNames
 pub mod Connections
 pub mod Entering
 pub mod KeptSeats

@@ -20,8 +20,8 @@ mod serving;
 pub mod status;
 
 pub use serving::{
-    Allowance, Allowances, Clocks, Event, Given, Loopback, ObservedKeep, Observer, Orders, Ports,
-    Rate, RunClock, SEATS, Seated, ServeFault, loopback_pair, milliseconds,
+    AccountBook, Allowance, Allowances, Clocks, Event, Given, Loopback, ObservedKeep, Observer,
+    Orders, Ports, Rate, RunClock, SEATS, Seated, ServeFault, loopback_pair, milliseconds,
     no_account_passes_its_rate, serve, serve_machine,
 };
 pub use smsc_arrivals::{Arrival, Door, Doors, Side};

@@ -24,6 +24,10 @@ module _ {K A : Type 0} where
   abbrev pub IsBroken : Service K A → Type 0
   IsBroken service = service.is_broken ≡ true
 
+  -- its memory has those seats, by which each item is refused
+  abbrev pub IsRefusedBy : Service K A → Serving → Type 0
+  IsRefusedBy service r = seats_in service.resumed ≡ r.seats
+
 module _ {K A : Type 0} (state : K → KeepState Rows) where
   -- its store has returned what was written, so far
   abbrev pub HasHonestStore : Service K A → Type 0

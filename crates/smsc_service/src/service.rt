@@ -5,7 +5,7 @@ ghost use Rattle.sms_centre_spec.specs.declared.rows.Rows.{Rows as RowsOf};
 ghost use Rattle.smsc_service.specs.Seats.{nobody, seats_in};
 ghost use Rattle.smsc_service.specs.Stepping.{OneRefused};
 ghost use Rattle.smsc_service.specs.Serving.{Serving, after, gives, restarted};
-ghost use Rattle.smsc_service.specs.InService.{HasHonestStore, IfAwaited, IsAwaitedBy, IsBroken, IsServedBy, IsStanding, refusals_of, store_in};
+ghost use Rattle.smsc_service.specs.InService.{HasHonestStore, IfAwaited, IsAwaitedBy, IsBroken, IsRefusedBy, IsServedBy, IsStanding, refusals_of, store_in};
 
 use crate::causes::cause_told_by;
 use crate::cutoff::Cutoff;
@@ -26,7 +26,7 @@ use sms_centre::{Archive, Centre};
 use sms_centre_group::GroupKeep;
 use sms_centre_spec::bodies::CentreStore;
 use sms_centre_spec::jobs::{Job, Reply};
-use sms_keeper::{Broken, Errand, Gate, Machine, Step, Stimulus, Unsettled};
+use sms_keeper::{Broken, Errand, Gate, Machine, Outs, Step, Stimulus, Unsettled};
 use std::alloc::{AllocError, Global};
 use std::sync::Arc;
 
@@ -169,6 +169,7 @@ impl<K: CentreStore + Drop, A: Archive + Drop> Service<K, A> {
     // The centre starts again with the rows of the store. What its group changed is let go.
     fn restart(&mut self) -> Result<(), StartError>
         ensures served { (r : Serving) → IfAwaited K.state r self.old self.new (OnOk result (IsServedBy K.state self.new r)) }
+        ensures resumed { self.new.resumed ≡ self.old.resumed }
         ensures before { HasHonestStore K.state self.new → HasHonestStore K.state self.old }
     {
         let seated = &mut self.seated;
@@ -185,6 +186,8 @@ impl<K: CentreStore + Drop, A: Archive + Drop> Machine<Job, Reply> for Service<K
     ghost stands = { λ m s r. IsStanding K.state m s r };
 
     ghost resumes = { λ m r. IsAwaitedBy K.state m r };
+
+    ghost fails_as = { λ m r. IsRefusedBy m r };
 
     ghost is_honest = { λ m. HasHonestStore K.state m };
 
@@ -242,5 +245,9 @@ impl<K: CentreStore + Drop, A: Archive + Drop> Machine<Job, Reply> for Service<K
                 Err(Broken)
             }
         }
+    }
+
+    fn refuse(&mut self, stimulus: &Stimulus<Job>) -> Outs<Reply> {
+        refused_with_group(&mut self.resumed, stimulus)
     }
 }

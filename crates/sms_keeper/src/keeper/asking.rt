@@ -86,8 +86,8 @@ impl<J: Drop, O: Drop> Keeper<J, O> {
         }
     }
 
-    // Whether a moment is later than the last tick.
-    fn is_due(&self, now: Moment) -> bool
+    /// Whether a moment is later than the last tick.
+    pub(super) fn is_due(&self, now: Moment) -> bool
         ensures { IsTrue result ↔ IsLater (last_tick self.now) now }
     {
         match self.last {

@@ -29,7 +29,7 @@ use crate::serving::connection::Ports;
 use crate::serving::entrance::{Entrance, EntranceThread};
 use crate::serving::fault::ServeFault;
 use crate::serving::observer::{Event, Observer};
-use crate::serving::orders::SEATS;
+use crate::serving::orders::{Orders, SEATS};
 use crate::serving::poller::Poller;
 use crate::serving::seat_thread::{SeatThread, give_up, settle_all, take_back_all};
 use crate::serving::server::{Given, SLOTS, Server, Shared, start_entrance};
@@ -45,10 +45,12 @@ use std::sync::Wait;
 use std::thread::Threads;
 use std::time::Clock as SystemClock;
 
-// Tells how large groups were, and that the store refused one. It keeps no item.
+// Tells how large groups were, and that the store refused one. It keeps no item. Where the machine could not be opened again, it orders
+// the run to end: each seat leaves once its requests have their answers.
 #[derive(Drop)]
 struct Watch<'a, T> {
     observer: &'a T,
+    orders: &'a Orders,
 }
 
 impl<'a, T: Observer> Recorder<Job, Reply> for Watch<'a, T> {
@@ -65,6 +67,11 @@ impl<'a, T: Observer> Recorder<Job, Reply> for Watch<'a, T> {
     fn reopened(&mut self) {
         self.observer.observe(&Event::Reopened);
     }
+
+    fn failed(&mut self) {
+        self.observer.observe(&Event::Failed);
+        self.orders.stop();
+    }
 }
 
 // Runs the keeper while the threads of the run put what their connections ask.
@@ -75,14 +82,18 @@ fn run_keeper<R: Wait, M: Machine<Job, Reply>, G: Gate, C: Clock, T: Observer>(
     gate: &G,
     clock: &C,
     observer: &T,
+    orders: &Orders,
     keeper: &mut Keeper<Job, Reply>,
 ) -> Result<(), ServeFault>
     ensures ran { IfOk result (λ _. Ran (C.reads clock.now) M.gives M.after (M.is_honest machine.new)
         (Between (M.stands machine.old)) (Between (M.stands machine.new)) (λ told. ⊤) (λ told. ⊤) keeper.old keeper.new) }
-    ensures closed { IfOk result (λ _. IsClosed keeper.new) }
+    // Also where it could not be opened again.
+    ensures failed { IfErr result (λ _. Ran (C.reads clock.now) M.gives M.after (M.is_honest machine.new)
+        (Between (M.stands machine.old)) (M.fails_as machine.new) (λ told. ⊤) (λ told. ⊤) keeper.old keeper.new) }
+    ensures closed { IsClosed keeper.new }
     ensures before { M.is_honest machine.new → M.is_honest machine.old }
 {
-    let mut watch = Watch { observer };
+    let mut watch = Watch { observer, orders };
     run_terms(rt, alloc, keeper, machine, gate, clock, &mut watch)?;
     Ok(())
 }
@@ -145,6 +156,11 @@ fn run_started<
         → HaveEntered L.came doors entrance.promise.entrance.value
         → IsOneHistory S.remaining S.contents admitted (C.reads clock.now) L.came doors doors_then
         M.gives M.after (M.is_honest machine.new) (Between (M.stands machine.old)) (Between (M.stands machine.new))) }
+    // So it is where the machine could not be opened again: each job that a connection put was run, or refused, and given its replies.
+    ensures failed { IfErr result (λ _. (admitted : Admitted) (doors : DoorsOf L) → HaveAdmitted admitted server.seats.items
+        → HaveEntered L.came doors entrance.promise.entrance.value
+        → (doors_then : DoorsOf L) × IsOneHistory S.remaining S.contents admitted (C.reads clock.now) L.came doors doors_then
+        M.gives M.after (M.is_honest machine.new) (Between (M.stands machine.old)) (M.fails_as machine.new)) }
     ensures before { M.is_honest machine.new → M.is_honest machine.old }
 {
     let mut keeper = keeper;
@@ -155,6 +171,7 @@ fn run_started<
         gate,
         clock,
         &*shared.observer,
+        &*shared.board.orders,
         &mut keeper,
     );
     shared.board.end();
@@ -166,8 +183,9 @@ fn run_started<
             Ok(close_all(rt, alloc, &mut keeper, entrance, threads))
         }
         Err(fault) => {
-            drop(entrance);
-            give_up(rt, threads);
+            keeper.know_others();
+            let doors = close_all(rt, alloc, &mut keeper, entrance, threads);
+            drop(doors);
             Err(fault)
         }
     }

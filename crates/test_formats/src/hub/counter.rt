@@ -122,6 +122,8 @@ impl Machine<u32, Reply> for Counter {
 
     ghost resumes = { λ m s. m.kept ≡ s };
 
+    ghost fails_as = { λ m s. m.kept ≡ s };
+
     ghost is_honest = { λ m. ⊤ };
 
     ghost is_broken = { λ m. m.broken ≡ true };
@@ -177,6 +179,13 @@ impl Machine<u32, Reply> for Counter {
         self.sum = self.kept;
         self.opened = self.opened.wrapping_add(1);
         Ok(())
+    }
+
+    fn refuse(&mut self, stimulus: &Stimulus<u32>) -> Outs<Reply> {
+        match stimulus {
+            Stimulus::Job(seat, _) => answer(*seat, Reply::Failed),
+            Stimulus::Tick(_) | Stimulus::Own(_) => Outs::none(),
+        }
     }
 }
 

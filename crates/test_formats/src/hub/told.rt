@@ -8,6 +8,8 @@ use std::alloc::Global;
 pub struct Told {
     pub items: usize,
     pub jobs: usize,
+    /// What the items gave, counted.
+    pub outs: usize,
     /// The jobs that were refused, added up, and how many they were.
     pub missing: u64,
     pub refused: usize,
@@ -17,6 +19,8 @@ pub struct Told {
     pub errands: Vec<usize>,
     pub groups: Vec<usize>,
     pub reopened: usize,
+    /// How often the machine could not be opened again.
+    pub failed: usize,
 }
 
 impl Told {
@@ -25,12 +29,14 @@ impl Told {
         Told {
             items: 0,
             jobs: 0,
+            outs: 0,
             missing: 0,
             refused: 0,
             ticks: Vec::new(alloc),
             errands: Vec::new(alloc),
             groups: Vec::new(alloc),
             reopened: 0,
+            failed: 0,
         }
     }
 
@@ -59,6 +65,7 @@ impl Recorder<u32, Reply> for Told {
 
     fn record(&mut self, item: &Item<u32, Reply>) {
         self.items = self.items.wrapping_add(1);
+        self.outs = self.outs.wrapping_add(item.outs.len());
         match &item.stimulus {
             Stimulus::Job(_, job) => {
                 self.note_job(*job, item.fate);
@@ -75,5 +82,9 @@ impl Recorder<u32, Reply> for Told {
 
     fn reopened(&mut self) {
         self.reopened = self.reopened.wrapping_add(1);
+    }
+
+    fn failed(&mut self) {
+        self.failed = self.failed.wrapping_add(1);
     }
 }

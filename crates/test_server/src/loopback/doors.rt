@@ -3,7 +3,7 @@ ghost use Rattle.std.specs.Prelude.{Some};
 
 use crate::clock_and_gate::Open;
 use crate::rows::holds;
-use crate::service::centre::{clock, keep, logins};
+use crate::service::centre::{book, clock, keep};
 use smsc_endpoint::LinkAccess;
 use smsc_server::{Allowances, Door, Doors, Event, Given, Observer, Orders, Ports, Side, serve};
 use smsc_service::{Forgetting, NoArchive};
@@ -145,7 +145,7 @@ fn given(alloc: Global, sessions: u32) -> Result<Given<Sums>, Fail> {
         links: AtomicU32::new(0),
     };
     Ok(Given {
-        accounts: logins(alloc)?,
+        accounts: book(alloc)?,
         access: Arc::new(alloc, LinkAccess::Anyone)?,
         observer: Arc::new(alloc, sums)?,
         orders: Arc::new(alloc, orders)?,

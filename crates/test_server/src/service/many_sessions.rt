@@ -144,6 +144,8 @@ impl Recorder<Job, Reply> for Met {
     fn end_group(&mut self, _count: usize) {}
 
     fn reopened(&mut self) {}
+
+    fn failed(&mut self) {}
 }
 
 // ---- runs

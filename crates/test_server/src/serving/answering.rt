@@ -1,5 +1,5 @@
 //! A machine that counts what seats ask, answers each request, and sends a frame for each link that is up and for each
-//! frame.
+//! frame. It may refuse, from one of its groups on.
 use smpp_pdu::CommandStatus;
 use sms_base::{Moment, Octets};
 use sms_centre_spec::CentreAnswer;
@@ -28,6 +28,8 @@ pub(crate) struct Counter {
     alloc: Global,
     /// Each session that is bound is given this receipt.
     pub(crate) receipt: Option<Final>,
+    /// How many groups it commits. It refuses the next one, and can't be opened again then.
+    pub(crate) commits: u32,
     pub(crate) first: Tally,
     pub(crate) second: Tally,
 }
@@ -62,11 +64,20 @@ fn answer(seat: usize, status: CommandStatus) -> Outs<Reply> {
     })
 }
 
-fn gives(outs: Outs<Reply>) -> Step<Reply> {
+fn gives(outs: Outs<Reply>, if_refused: Outs<Reply>) -> Step<Reply> {
     Step {
         fate: Fate::Done,
         outs,
-        if_refused: Outs::none(),
+        if_refused,
+    }
+}
+
+// What becomes of a job that is refused.
+fn refused(seat: usize, job: &Job) -> Outs<Reply> {
+    if job.is_request() {
+        answer(seat, CommandStatus::ESME_RSYSERR)
+    } else {
+        Outs::none()
     }
 }
 
@@ -108,6 +119,7 @@ impl Counter {
         Counter {
             alloc,
             receipt: None,
+            commits: u32::MAX,
             first: Tally::new(),
             second: Tally::new(),
         }
@@ -130,6 +142,8 @@ impl Machine<Job, Reply> for Counter {
 
     ghost resumes = { λ m s. ⊤ };
 
+    ghost fails_as = { λ m s. ⊤ };
+
     ghost is_honest = { λ m. ⊥ };
 
     ghost is_broken = { λ m. ⊤ };
@@ -146,20 +160,37 @@ impl Machine<Job, Reply> for Counter {
 
     fn step(&mut self, stimulus: &Stimulus<Job>) -> Step<Reply> {
         match stimulus {
-            Stimulus::Tick(_) | Stimulus::Own(_) => gives(Outs::none()),
+            Stimulus::Tick(_) | Stimulus::Own(_) => gives(Outs::none(), Outs::none()),
             Stimulus::Job(seat, job) => {
                 self.count(*seat, job);
-                gives(done(self.alloc, *seat, job, self.receipt))
+                gives(
+                    done(self.alloc, *seat, job, self.receipt),
+                    refused(*seat, job),
+                )
             }
         }
     }
 
     fn settle<G: Gate>(&mut self, gate: &G) -> Result<(), Unsettled> {
         gate.pass();
+        let Some(commits) = self.commits.checked_sub(1) else {
+            return Err(Unsettled);
+        };
+        self.commits = commits;
         Ok(())
     }
 
     fn reopen(&mut self) -> Result<(), Broken> {
-        Ok(())
+        Err(Broken)
+    }
+
+    fn refuse(&mut self, stimulus: &Stimulus<Job>) -> Outs<Reply> {
+        match stimulus {
+            Stimulus::Tick(_) | Stimulus::Own(_) => Outs::none(),
+            Stimulus::Job(seat, job) => {
+                self.count(*seat, job);
+                refused(*seat, job)
+            }
+        }
     }
 }
