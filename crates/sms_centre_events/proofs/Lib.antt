@@ -13,3 +13,4 @@ pub mod Submits
 pub mod Dropped
 pub mod Numbered
 pub mod Walked
+pub mod Peeked
