@@ -1,5 +1,6 @@
 -- Runs, one term longer.
 use Rattle.std.proofs.Common.{◌≡◌, ℕ, List, [], ◌++◌, refl, sym, subst, append_assoc, append-nil}
+use Rattle.std.specs.Prelude.{IfErr, Result, Ok, Err}
 use Rattle.sms_keeper.specs.declared.keeper.End.{End}
 use Rattle.sms_keeper.specs.declared.keeper.End.TheVariants.{AllClosed, Refused}
 use Rattle.sms_keeper.specs.declared.keeper.Keeper.{Keeper}
@@ -10,6 +11,11 @@ use Rattle.sms_keeper.specs.declared.outs.Out.{Out}
 use Rattle.sms_keeper.specs.Groups.{IsRefusing, IsTerm}
 use Rattle.sms_hub.specs.Lasting.{Ran}
 use Rattle.sms_keeper.proofs.Stretches.{leads-append, leads_none, same_self, stretch-append, stretch_none}
+
+-- where a call failed, whatever its error says
+pub if_failed : {A E : Type 0} (r : Result A E) (P : Type 0) → P → IfErr r (λ error. P)
+if_failed (Ok x) P h = tt
+if_failed (Err e) P h = h
 
 module _ {J O S : Type 0} (reads : ℕ → Type 0) (gives : S → Stimulus J → Fate → List (Out O)) (after : S → Stimulus J → Fate → S) where
   -- a term after which all seats have closed

@@ -94,8 +94,10 @@ fn run_keeper<R: Wait, M: Machine<Job, Reply>, G: Gate, C: Clock, T: Observer>(
     ensures before { M.is_honest machine.new → M.is_honest machine.old }
 {
     let mut watch = Watch { observer, orders };
-    run_terms(rt, alloc, keeper, machine, gate, clock, &mut watch)?;
-    Ok(())
+    match run_terms(rt, alloc, keeper, machine, gate, clock, &mut watch) {
+        Ok(()) => Ok(()),
+        Err(fault) => Err(ServeFault::from(fault)),
+    }
 }
 
 // Takes all seats back, and what was given to none. Gives the listeners.

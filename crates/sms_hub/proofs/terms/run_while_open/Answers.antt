@@ -1,4 +1,4 @@
-use Rattle.sms_hub.proofs.Lasting.{ran_more, ran_none}
+use Rattle.sms_hub.proofs.Lasting.{if_failed, ran_more, ran_none}
 use Rattle.sms_hub.proofs.terms.run_while_open.Goals as goal
 
 pub loop-init : goal.loop-init
@@ -26,7 +26,7 @@ loop-preserved g c = record {
 
 pub returns-in_err-closed-clause-failed : goal.returns-in_err-closed-clause-failed
 returns-in_err-closed-clause-failed g c =
-    ran_more (g.C.Clock.reads c.args.clock.now) g.M.Machine.gives g.M.Machine.after (g.M.Machine.is_honest c.loop.machine) (g.M.Machine.is_honest c.run_term.new.machine)
+    if_failed c.from_residual.result _ (ran_more (g.C.Clock.reads c.args.clock.now) g.M.Machine.gives g.M.Machine.after (g.M.Machine.is_honest c.loop.machine) (g.M.Machine.is_honest c.run_term.new.machine)
     (λ s. g.M.Machine.stands c.args.machine.now s s) (λ s. g.M.Machine.stands c.loop.machine s s) (g.M.Machine.fails_as c.run_term.new.machine)
     (g.B.Recorder.has c.args.recorder.now) (g.B.Recorder.has c.loop.recorder) (g.B.Recorder.has c.run_term.new.recorder)
-    c.args.keeper.now c.loop.keeper c.run_term.new.keeper c.in_err-closed.ensures.before c.loop.invariant.ran c.in_err-closed.ensures.failed
+    c.args.keeper.now c.loop.keeper c.run_term.new.keeper c.in_err-closed.ensures.before c.loop.invariant.ran c.in_err-closed.ensures.failed)
