@@ -8,7 +8,7 @@ returns-then-put_job-clause-dropped g c = drops_both _ _ _ c.put_job.ensures.dro
 
 pub returns-then-put_job-clause-put : goal.returns-then-put_job-clause-put
 returns-then-put_job-clause-put g c =
-    own_first (g.A.Surroundings.was_over c.args.around.now) _ _ _
+    own_first (g.A.Surroundings.was_over c.args.around.now) c.args.seat.now.seat c.take_answers.new.seat.seat c.clear.new.seat.seat
     (c.take_answers.ensures.put ∙ put_one _ _ _ c.own_job.result _ refl c.if-put_job.ensures.put c.own_job.ensures) c.clear.ensures.owns c.clear.ensures.cleared
 
 pub returns-then-put_job-clause-seat : goal.returns-then-put_job-clause-seat
