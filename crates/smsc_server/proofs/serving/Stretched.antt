@@ -351,6 +351,10 @@ off_jobs : (a x y : List Job) → a ++ x ≡ a ++ y → x ≡ y
 off_jobs [] x y e = e
 off_jobs (j ∷ a) x y e = off_jobs a x y (other_jobs j j (a ++ x) (a ++ y) e)
 
+status_is : (status : CommandStatus) → is_vacancy (Answer (Refused status)) ≡ true → status ≡ ESME_RINVMSGID
+status_is ESME_RINVMSGID h = refl
+status_is status h = absurd (true≢false (sym h))
+
 -- the last answer says that nobody is at the seat
 vacancy_is : (answer : CentreAnswer) → is_vacancy (Answer answer) ≡ true → answer ≡ Refused ESME_RINVMSGID
 vacancy_is (Submitted id) h = absurd (true≢false (sym h))
