@@ -5,6 +5,7 @@ pub mod OneAnswer
 pub mod Ran
 pub mod RateLaws
 pub mod RateLists
+pub mod SameNames
 pub mod Sat
 pub mod ShareLists
 pub mod Served

@@ -89,10 +89,10 @@ fn message_refused<'a>(
     alloc: Global,
     order: OrderWord,
     usage: &'static str,
-    words: &'a [&'a str],
+    after_program: &'a [&'a str],
 ) -> Result<Option<String>, AllocError> {
     let command = order_command(alloc, order)?.override_usage(usage);
-    let text = explained(alloc, command, &words[1..], &[])?;
+    let text = explained(alloc, command, after_program, &[])?;
     Ok(Some(or_other(alloc, text, "ID is ten decimal digits, not all 0")?))
 }
 
@@ -117,7 +117,7 @@ fn order_refused<'a>(alloc: Global, words: &'a [&'a str]) -> Result<Option<Strin
             alloc,
             OrderWord::Retry,
             "smscd retry --control PATH ID",
-            words,
+            &words[1..],
         );
     }
     if is_second(words, "cancel") {
@@ -125,7 +125,7 @@ fn order_refused<'a>(alloc: Global, words: &'a [&'a str]) -> Result<Option<Strin
             alloc,
             OrderWord::Cancel,
             "smscd cancel --control PATH ID",
-            words,
+            &words[1..],
         );
     }
     if is_second(words, "password") {

@@ -4,10 +4,10 @@
 //! same places, and perhaps other passwords. A connection that came before binds by the list from before.
 mod named_list;
 
-ghost use Rattle.std.specs.Prelude.{◌≡◌, ◌↔◌, true, IfOk};
+ghost use Rattle.std.specs.Prelude.{◌≡◌, ◌&&◌, true, IfOk};
 ghost use Rattle.std.specs.Arc.{arc_value};
 ghost use Rattle.smsc_server.specs.serving.AccountBooks.{MayAdmit};
-ghost use Rattle.smsc_server.specs.serving.AccountNames.{names_of};
+ghost use Rattle.smsc_server.specs.serving.AccountNames.{names_of, same_names};
 
 use named_list::NamedList;
 use smpp_session::{Account, Accounts};
@@ -57,15 +57,27 @@ impl AccountBook {
         alloc: Global,
         accounts: Vec<Account>,
     ) -> Result<bool, AllocError>
-        ensures { IfOk result (λ renewed. (renewed ≡ true) ↔ ((self.now.is_renewed ≡ true) × (names_of accounts.items ≡ names_of self.now.first))) }
+        ensures { IfOk result (λ renewed. renewed ≡ (self.now.is_renewed && same_names (names_of accounts.items) (names_of self.now.first))) }
     {
         let list = NamedList::of(alloc, accounts)?;
-        if !self.is_renewed || !list.has_names_of(&self.first) {
+        let is_taken = self.takes(&list);
+        self.put_if(rt, is_taken, list);
+        Ok(is_taken)
+    }
+
+    // Whether the list may take the place of the one that is in force.
+    fn takes(&self, list: &NamedList) -> bool
+        ensures { result ≡ (self.now.is_renewed && same_names (names_of (arc_value list.now.accounts)) (names_of self.now.first)) }
+    {
+        self.is_renewed && list.has_names_of(&self.first)
+    }
+
+    fn put_if<R: Wait>(&self, rt: &R, is_taken: bool, list: NamedList) {
+        if is_taken {
+            *self.newest.lock(rt) = Some(list);
+        } else {
             drop(list);
-            return Ok(false);
         }
-        *self.newest.lock(rt) = Some(list);
-        Ok(true)
     }
 
     // The list that is in force.
@@ -80,8 +92,9 @@ impl AccountBook {
     }
 
     // The last list that took the place of the first, or the first.
+    #[tactic(auto, using(crate::proofs::serving::SameNames::same_as_itself))]
     fn newest<R: Wait>(&self, rt: &R) -> Result<Arc<Accounts>, AllocError>
-        ensures { IfOk result (λ accounts. names_of (arc_value accounts) ≡ names_of self.now.first) }
+        ensures { IfOk result (λ accounts. same_names (names_of (arc_value accounts)) (names_of self.now.first) ≡ true) }
     {
         let newest = self.newest.lock(rt);
         match &*newest {

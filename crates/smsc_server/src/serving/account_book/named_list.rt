@@ -1,7 +1,7 @@
 //! Accounts, with their names beside them.
-ghost use Rattle.std.specs.Prelude.{◌≡◌, ◌↔◌, true, IfOk};
+ghost use Rattle.std.specs.Prelude.{◌≡◌, IfOk};
 ghost use Rattle.std.specs.Arc.{arc_value};
-ghost use Rattle.smsc_server.specs.serving.AccountNames.{names_of};
+ghost use Rattle.smsc_server.specs.serving.AccountNames.{names_of, same_names};
 
 use smpp_session::{Account, Accounts};
 use sms_base::Octets;
@@ -28,14 +28,19 @@ fn names_in(alloc: Global, accounts: &[Account]) -> Result<Vec<Octets>, AllocErr
 
 // Whether these are the same names in the same order.
 fn are_same(one: &[Octets], other: &[Octets]) -> bool
-    ensures { (result ≡ true) ↔ (one.now ≡ other.now) }
+    ensures { result ≡ same_names one.now other.now }
 {
-    match (one, other) {
-        ([], []) => true,
-        ([first, rest @ ..], [other_first, other_rest @ ..]) => {
-            first.as_slice() == other_first.as_slice() && are_same(rest, other_rest)
-        }
-        _ => false,
+    match one {
+        [] => match other {
+            [] => true,
+            [_, ..] => false,
+        },
+        [first, rest @ ..] => match other {
+            [] => false,
+            [other_first, other_rest @ ..] => {
+                first.as_slice() == other_first.as_slice() && are_same(rest, other_rest)
+            }
+        },
     }
 }
 
@@ -55,7 +60,7 @@ impl NamedList {
     }
 
     pub(crate) fn has_names_of(&self, other: &NamedList) -> bool
-        ensures { (result ≡ true) ↔ (names_of (arc_value self.now.accounts) ≡ names_of (arc_value other.now.accounts)) }
+        ensures { result ≡ same_names (names_of (arc_value self.now.accounts)) (names_of (arc_value other.now.accounts)) }
     {
         are_same(self.names.as_slice(), other.names.as_slice())
     }

@@ -71,8 +71,10 @@ close_all-doors-requires-clause-ways g c = λ lifetimes bounds.
 
 pub returns-in-Err-clause-failed : goal.returns-in-Err-clause-failed
 returns-in-Err-clause-failed g c = λ admitted doors have entered.
-    let closed = c.close_all-doors.ensures.did doors (c.join-entrance.ensures.0 doors entered) in
-    (c.close_all-doors.result, one_history _ _ _ _ _ _ _ _ c.args.keeper c.run_keeper-ended.new.keeper c.know_others-in-Err.new.self c.requires.new c.in-Err.ensures.failed c.run_keeper-ended.ensures.closed
-    c.know_others-in-Err.ensures.keeper g.S.Read.remaining g.S.Write.contents admitted g.L.Door.came doors c.close_all-doors.result closed.0 closed.1
-    (closed.2 admitted (subst (λ (v : Vec (SeatThread g.row.S.Denot) Global). HaveAdmitted admitted v.items) (sym c.end-threads.ensures) have))
-    c.know_others-in-Err.ensures.none)
+    let closed = c.close_all-doors.ensures.did doors (c.join-entrance.ensures.0 doors entered) in (
+      c.close_all-doors.result,
+      one_history _ _ _ _ _ _ _ _ c.args.keeper c.run_keeper-ended.new.keeper c.know_others-in-Err.new.self c.requires.new c.in-Err.ensures.failed c.run_keeper-ended.ensures.closed
+          c.know_others-in-Err.ensures.keeper g.S.Read.remaining g.S.Write.contents admitted g.L.Door.came doors c.close_all-doors.result closed.0 closed.1
+          (closed.2 admitted (subst (λ (v : Vec (SeatThread g.row.S.Denot) Global). HaveAdmitted admitted v.items) (sym c.end-threads.ensures) have))
+          c.know_others-in-Err.ensures.none,
+    )
