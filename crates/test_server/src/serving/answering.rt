@@ -74,12 +74,12 @@ fn gives(outs: Outs<Reply>, if_refused: Outs<Reply>) -> Step<Reply> {
     }
 }
 
-// What becomes of a job that is refused.
+// What becomes of a job that is refused. The loop's own request is told that nobody is at the seat: who leaves has left then, too.
 fn refused(seat: usize, job: &Job) -> Outs<Reply> {
-    if job.is_request() {
-        answer(seat, CommandStatus::ESME_RSYSERR)
-    } else {
-        Outs::none()
+    match job {
+        Job::Query { .. } => answer(seat, CommandStatus::ESME_RINVMSGID),
+        job if job.is_request() => answer(seat, CommandStatus::ESME_RSYSERR),
+        _ => Outs::none(),
     }
 }
 
