@@ -58,7 +58,7 @@ none_left : (all given : List ℕ) → StartsWith all given → IsAtEnd (Some (d
 none_left all given h end = starts_with_rest all given h ∙ (ap (λ (os : List ℕ). given ++ os) end ∙ append-nil given)
 
 -- what was given is all, where the stream has nothing left
-pub all_given : (source before behind : Option (List ℕ)) (given : List ℕ) → IsReadSo source given before → Consumes before behind [] → IsAtEnd behind
+all_given : (source before behind : Option (List ℕ)) (given : List ℕ) → IsReadSo source given before → Consumes before behind [] → IsAtEnd behind
     → AreAll source given
 all_given source before behind given h k end = λ all e.
     let so = next_read all given [] behind (h all e).0 (subst (λ (rest : Option (List ℕ)). Consumes rest behind []) (h all e).1 k) in
@@ -67,9 +67,15 @@ all_given source before behind given h k end = λ all e.
     (subst (λ (os : List ℕ). IsAtEnd (Some (drop (length os) all))) same (subst IsAtEnd so.1 end))
 
 -- so it is with the end mark behind it
-pub all_marked : (source : Option (List ℕ)) (given octets : List ℕ) → octets ≡ [] → AreAll source given → AreAll source (given ++ octets)
-all_marked source given octets none h = subst (λ (os : List ℕ). AreAll source (given ++ os)) (sym none)
-    (subst (λ (os : List ℕ). AreAll source os) (sym (append-nil given)) h)
+pub given_marked : (source before behind : Option (List ℕ)) (given octets : List ℕ) → IsReadSo source given before → Consumes before behind [] → octets ≡ []
+    → IsGivenOf source (given ++ octets)
+given_marked source before behind given octets h k none = subst (λ (os : List ℕ). IsGivenOf source (given ++ os)) (sym none)
+    (given_of source behind (given ++ []) (read_next source before behind given [] h k))
+
+pub all_marked : (source before behind : Option (List ℕ)) (given octets : List ℕ) → IsReadSo source given before → Consumes before behind [] → IsAtEnd behind
+    → octets ≡ [] → AreAll source (given ++ octets)
+all_marked source before behind given octets h k end none = subst (λ (os : List ℕ). AreAll source (given ++ os)) (sym none)
+    (subst (λ (os : List ℕ). AreAll source os) (sym (append-nil given)) (all_given source before behind given h k end))
 
 -- the mark comes behind all
 end_last : (source : Option (List ℕ)) (octets : List ℕ) (items : List Piece) (x : Piece) → EndSo source octets items

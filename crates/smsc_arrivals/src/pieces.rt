@@ -5,8 +5,7 @@
 //!
 //! - `calls`: what both ends of the queue do
 //! - `ends`: the two ends
-ghost use Rattle.std.specs.Prelude.{◌≡◌, ◌≤◌, ℕ, List, [], None, Option, take};
-ghost use Rattle.smsc_arrivals.specs.Pieces.{is_mark};
+ghost use Rattle.std.specs.Prelude.{◌≡◌, ◌==◌, ◌≤◌, ℕ, List, [], None, Option, take};
 
 use crossbeam_channel::Pass;
 use crossbeam_channel::protocol::{Lesson, Outcome, Protocol, Split};
@@ -44,7 +43,7 @@ impl Piece {
 
     /// Whether it is the end mark.
     pub fn is_mark(&self) -> bool
-        ensures { result ≡ is_mark self.now }
+        ensures { result ≡ (self.now.count == 0) }
     {
         self.count == 0
     }

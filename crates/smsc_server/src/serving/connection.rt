@@ -141,6 +141,9 @@ impl<S: OpenStream + Read + Write + Drop> Wire for Socket<S> {
     ghost closed = { λ s. s.is_closed };
 
     fn read_now<R: Wait>(&mut self, rt: &R) -> Found {
+        if self.has_ended {
+            return Found::Ended;
+        }
         match self.pieces.take(rt) {
             Ok(piece) => {
                 let is_mark = piece.is_mark();
