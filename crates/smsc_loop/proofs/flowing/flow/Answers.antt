@@ -8,7 +8,13 @@ pub returns-clause-did : goal.returns-clause-did
 returns-clause-did g c = c.send.ensures.did
 
 pub returns-clause-meant : goal.returns-clause-meant
-returns-clause-meant g c = c.end_flowing.ensures
+returns-clause-meant g c = c.end_flowing.ensures.meant
 
 pub returns-in_default-clause-meant : goal.returns-in_default-clause-meant
 returns-in_default-clause-meant g c = (refl, inr (inl c.in_default.ensures.none))
+
+pub returns-clause-ends : goal.returns-clause-ends
+returns-clause-ends g c = inr c.end_flowing.ensures.ends
+
+pub returns-in_default-clause-ends : goal.returns-in_default-clause-ends
+returns-in_default-clause-ends g c = inl (c.in_default.ensures.none, refl)
