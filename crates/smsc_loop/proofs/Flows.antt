@@ -1,15 +1,10 @@
 -- Whether an endpoint stays whose octets the wire took.
-use Rattle.std.proofs.Common.{◌≡◌, ◌<◌, ◌≤◌, ◌==◌, ◌&&◌, ℕ, length, List, Bool, true, false, not, nat_lt, if◌then◌else◌, refl, sym, ap, ◌∙◌}
+use Rattle.std.proofs.Common.{◌≡◌, ◌<◌, ◌≤◌, ℕ, Bool, true, false, if◌then◌else◌, sym, ap, ◌∙◌}
 use Rattle.std.proofs.lemmas.Bool.{le-ltb, lt-ltb}
 use Rattle.smsc_loop.specs.declared.note.LeaveReason.TheVariants.{Closed, Over, Stalled}
 use Rattle.smsc_loop.specs.declared.turn_end.TurnEnd.{TurnEnd}
 use Rattle.smsc_loop.specs.declared.turn_end.TurnEnd.TheVariants.{Stays, Leaves}
 use Rattle.smsc_loop.specs.Flowing.{answered_end, flowing_end, is_answered, most_waiting}
-
--- what is said of the octets that wait is said of how many they are
-pub answered_as : (octets waits : List ℕ) (owes owing : Bool) → octets ≡ waits → owes ≡ owing
-    → ((length octets == 0) && not owes) ≡ is_answered (length waits) owing
-answered_as octets waits owes owing e f = ap (λ (l : List ℕ). (length l == 0) && not owes) e ∙ ap (λ (b : Bool). (length waits == 0) && not b) f
 
 pub over_ends : (over ended : Bool) → over ≡ true → Leaves Over ≡ answered_end over ended
 over_ends over ended e = ap (λ (b : Bool). answered_end b ended) (sym e)
@@ -22,7 +17,7 @@ none_ends over ended e f = ap (λ (b : Bool). answered_end false b) (sym f) ∙ 
 
 module _ (waiting : ℕ) (owing over ended : Bool) where
   -- by whether too many wait, and whether the endpoint is answered
-  ends_by : Bool → Bool → TurnEnd
+  abbrev ends_by : Bool → Bool → TurnEnd
   ends_by many answered = if many then Leaves Stalled else (if answered then answered_end over ended else Stays)
 
   pub flows_stalled : most_waiting < waiting → Leaves Stalled ≡ flowing_end waiting owing over ended

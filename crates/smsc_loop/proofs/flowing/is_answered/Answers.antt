@@ -1,4 +1,0 @@
-use Rattle.std.proofs.Common.{sym, ◌∙◌}
-use Rattle.smsc_loop.proofs.Flows.{answered_as}
-use Rattle.smsc_loop.proofs.flowing.is_answered.Goals as goal
-
