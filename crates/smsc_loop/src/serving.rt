@@ -1,5 +1,5 @@
 //! An endpoint between its wire and its seat.
-ghost use Rattle.std.specs.Prelude.{◌≡◌, ◌⊎◌, ℕ, List, Option, is_ok, IfOk};
+ghost use Rattle.std.specs.Prelude.{◌≡◌, ◌⊎◌, ℕ, true, List, Option, is_ok, IfOk};
 ghost use Rattle.sms_seats.specs.declared.seat.Seat.{Seat};
 ghost use Rattle.sms_centre_spec.specs.declared.jobs.job.Job.{Job};
 ghost use Rattle.sms_centre_spec.specs.declared.jobs.reply.Reply.{Reply};
@@ -126,6 +126,8 @@ fn wait_on<R: Wait, W: Wire, G: Endpoint, A: Surroundings>(
         (standing endpoint.new (behind (is_ok result) Serves) (W.remaining wire.new) (W.written wire.new) seat.now.seat) }
     ensures meant { IfOk result (λ end. MeantAt G.waits G.over G.owing (side_end (W.ended wire.new) (W.remaining wire.new)) (W.closed wire.new)
         endpoint.new end) }
+    // Replies come first: a turn that heard some reads nothing.
+    ensures unread { heard ≡ true → wire.new ≡ wire.old }
 {
     let end = judge(around, endpoint, patience, now)?;
     if end == TurnEnd::Stays && !heard {
