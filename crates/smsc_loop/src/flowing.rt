@@ -133,7 +133,8 @@ pub(crate) fn read<R: Wait, W: Wire, G: Endpoint>(
         }
         Found::Nothing => Ok(TurnEnd::Rests),
         // The next turn sees it.
-        Found::Ended | Found::Lost => Ok(TurnEnd::Stays),
+        Found::Ended => Ok(TurnEnd::Stays),
+        Found::Lost => Ok(TurnEnd::Stays),
     }
 }
 
