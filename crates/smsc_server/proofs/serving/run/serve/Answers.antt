@@ -8,6 +8,6 @@ returns-in-Ok g c =
     let given = c.in-Ok.ensures.given in
     let called = given.4 in
     record {
-      served = served_by g.L.Stream.Read.remaining g.L.Stream.Write.contents _ _ g.L.Door.came _ g.K.RowStore.state c.args.keep c.in-Ok.keep given.0 called.shown.now called.left.now
+      served = served_by g.L.Stream.Read.remaining g.L.Stream.Write.contents _ c.each_connection_reads_the_centres_answers.ensures _ g.L.Door.came _ g.K.RowStore.state c.args.keep c.in-Ok.keep given.0 called.shown.now called.left.now
           c.in-Ok.ended c.with_keep.result given.2 given.3 called.shows called.met.0 called.met.1 (given.5 ∙ ap store_in (sym called.leaves)) c.with_keep.ensures.given;
     }
