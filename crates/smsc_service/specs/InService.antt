@@ -1,5 +1,5 @@
 -- What a service has.
-use Rattle.std.specs.Prelude.{◌≡◌, ◌⊎◌, true, List}
+use Rattle.std.specs.Prelude.{◌≡◌, ◌⊎◌, ℕ, true, List}
 use Rattle.sms_base.specs.Among.{Among}
 use Rattle.sms_centre_rows.specs.declared.messages.message.MessageRow.{MessageRow}
 use Rattle.sms_rows.specs.declared.keep.refusals.Refusals.{Refusals}
@@ -9,7 +9,7 @@ use Rattle.sms_centre_spec.specs.Draft.{no_changes}
 use Rattle.sms_centre_spec.specs.SoundRows.{IsSound}
 use Rattle.sms_centre_spec.specs.declared.rows.Rows.{Rows}
 use Rattle.smsc_service.specs.declared.service.Service.{Service}
-use Rattle.smsc_service.specs.Course.{Course}
+use Rattle.smsc_service.specs.Course.{Course, Gone}
 use Rattle.smsc_service.specs.InSeated.{IsMadeBy, held_by}
 use Rattle.smsc_service.specs.Seats.{seats_in}
 use Rattle.smsc_service.specs.Serving.{IsWaiting, Serving, restarted}
@@ -60,12 +60,12 @@ module _ {K A : Type 0} (state : K → KeepState Rows) where
   abbrev pub IfAwaited : Serving → Service K A → Service K A → Type 0 → Type 0
   IfAwaited r before after claim = HasHonestStore after → IsAwaitedBy before r → claim
 
-module _ {K A : Type 0} (keeps : A → MessageRow → Type 0) where
+module _ {K A : Type 0} (keeps : A → MessageRow → ℕ → Type 0) where
   -- its archive keeps each of these
-  abbrev pub HasArchived : Service K A → List MessageRow → Type 0
-  HasArchived service gone = (m : MessageRow) → Among m gone → keeps (archive_in service) m
+  abbrev pub HasArchived : Service K A → List Gone → Type 0
+  HasArchived service gone = (x : Gone) → Among x gone → keeps (archive_in service) x.message x.parts
 
-module _ {K A : Type 0} (state : K → KeepState Rows) (keeps : A → MessageRow → Type 0) where
+module _ {K A : Type 0} (state : K → KeepState Rows) (keeps : A → MessageRow → ℕ → Type 0) where
   -- So it stands in a run. Its archive keeps all that the run forgot, before that is committed.
   pub record IsRunning (service : Service K A) (s r : Course) : Type 0 where
     pub standing : IsStanding state service s.serving r.serving

@@ -135,9 +135,9 @@ impl<R: Wait + Copy> LoggedArchive<R> {
 impl<R: Wait + Copy> Archive for LoggedArchive<R> {
     ghost use Rattle.std.specs.Prelude.{⊤};
 
-    ghost took = { λ archive message. ⊤ };
+    ghost took = { λ archive message parts. ⊤ };
 
-    ghost keeps = { λ archive message. ⊤ };
+    ghost keeps = { λ archive message parts. ⊤ };
 
     fn take(&mut self, message: &MessageRow, parts: usize) -> Result<(), NotArchived> {
         let done = match &mut self.archive {

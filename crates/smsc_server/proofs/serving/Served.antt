@@ -20,7 +20,7 @@ use Rattle.smsc_server.proofs.Gone.{gone_so, is_history}
 module _ {L S : Type 0} (remaining contents : S → Option (List ℕ)) (admitted : Admitted) (reads : ℕ → Type 0)
     (came : L → Option (List (S × SocketAddr))) (doors : Doors L) where
   -- One history of a service that was lent is one history from the rows of its keep on.
-  pub served : {K A : Type 0} (state : K → KeepState Rows) (keeps : A → MessageRow → Type 0) (keep : K) (lent left : Service K A) (doors_then : Doors L)
+  pub served : {K A : Type 0} (state : K → KeepState Rows) (keeps : A → MessageRow → ℕ → Type 0) (keep : K) (lent left : Service K A) (doors_then : Doors L)
       → ((rows : Rows) → IfHeld rows (state keep) (state (store_in lent)) (IsServedBy state lent (restarted rows nobody)))
       → WasHonest (state keep) (state (store_in lent))
       → IsOneHistory remaining contents admitted reads came doors doors_then course_gives course_after (HasHonestStore state left) (IsRunAs state keeps lent) (IsRunAs state keeps left)
@@ -39,13 +39,13 @@ module _ {L S : Type 0} (remaining contents : S → Option (List ℕ)) (admitted
           (
             is_history history.1 first led.0 led.1.0,
             led.1.1.standing.made.rows.0,
-            gone_so (λ (m : MessageRow). keeps (archive_in left) m) history.1 first led.0 led.1.0 led.1.1.archived,
+            gone_so (keeps (archive_in left)) history.1 first led.0 led.1.0 led.1.1.archived,
           ),
         ),
   )
 
   -- So of a run that ended in order: the work is done on the service that is lent, and leaves the service in which the rows end.
-  pub served_if : {K A F : Type 0} (state : K → KeepState Rows) (keeps : A → MessageRow → Type 0) (keep : K) (lent shown left : Service K A) (ended : Result (Doors L) F)
+  pub served_if : {K A F : Type 0} (state : K → KeepState Rows) (keeps : A → MessageRow → ℕ → Type 0) (keep : K) (lent shown left : Service K A) (ended : Result (Doors L) F)
       → ((rows : Rows) → IfHeld rows (state keep) (state (store_in lent)) (IsServedBy state lent (restarted rows nobody)))
       → WasHonest (state keep) (state (store_in lent))
       → shown ≡ lent
@@ -60,7 +60,7 @@ module _ {L S : Type 0} (remaining contents : S → Option (List ℕ)) (admitted
   served_if state keeps keep lent shown left (Err fault) begins so shows history before = tt
 
   -- So with the keep and the archive that are given back.
-  pub served_by : {K A F : Type 0} (state : K → KeepState Rows) (keeps : A → MessageRow → Type 0) (keep kept : K) (archive : A) (lent shown left : Service K A)
+  pub served_by : {K A F : Type 0} (state : K → KeepState Rows) (keeps : A → MessageRow → ℕ → Type 0) (keep kept : K) (archive : A) (lent shown left : Service K A)
       (ended : Result (Doors L) F) (given : Result (Doors L × K × A) F)
       → ((rows : Rows) → IfHeld rows (state keep) (state (store_in lent)) (IsServedBy state lent (restarted rows nobody)))
       → WasHonest (state keep) (state (store_in lent))

@@ -44,8 +44,9 @@ module _ {S : Type 0} (remaining contents : S → Option (List ℕ)) (admitted :
         × (honest → Leads gives after before items behind)
 
     -- What connections asked was run. As long as the store is honest it is one history of the centre's definition on its rows, from nobody at
-    -- any seat on, and the keep that is given back holds the rows of its end. The archive that is given back keeps each message that went.
-    abbrev pub IsServed : {K A : Type 0} → (K → KeepState Rows) → (A → MessageRow → Type 0) → K → K → A → Type 0
+    -- any seat on, and the keep that is given back holds the rows of its end. The archive that is given back keeps each message
+    -- that went, with the number of its parts.
+    abbrev pub IsServed : {K A : Type 0} → (K → KeepState Rows) → (A → MessageRow → ℕ → Type 0) → K → K → A → Type 0
     IsServed state keeps keep kept archive =
         WasHonest (state keep) (state kept) × (arrivals : List (ℕ × Arrival S)) × (items : List (Item Job Reply))
         × Came came doors doors_then arrivals × WereRun arrivals items

@@ -316,7 +316,7 @@ where
     L::Stream: OpenStream + Read + Write + Send + 'static,
     // What its connections asked was run, and is one history of the centre's definition. It begins with the rows of the keep and nobody
     // at any seat. The connections are those that came at the ports. The keep that is given back holds the rows of its end.
-    // Each message that went is kept by the archive that is given back.
+    // Each message that went is kept by the archive that is given back, with the number of its parts.
     ensures served { IfOk result (λ ended. IsServed L.Stream.remaining L.Stream.contents
         (admits (arc_value given.now.accounts) (arc_value given.now.access)) (C.reads clock.now) L.came (doors_of ports) ended.0 K.state A.keeps keep
         ended.1 ended.2) }

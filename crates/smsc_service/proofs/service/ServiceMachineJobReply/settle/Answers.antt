@@ -1,17 +1,16 @@
 use Rattle.std.proofs.Common.{◌∙◌, ap, inl, inr, refl, subst, sym}
-use Rattle.sms_base.specs.Among.{Among}
-use Rattle.sms_centre_rows.specs.declared.messages.message.MessageRow.{MessageRow}
 use Rattle.sms_rows.specs.declared.keep.refusals.Refusals.{Refusals}
 use Rattle.sms_centre.specs.state.CentreState.{Represents, CentreStateOf}
 use Rattle.smsc_service.specs.InSeated.{held_by}
+use Rattle.smsc_service.proofs.Archived.{AreHad}
 use Rattle.smsc_service.proofs.Standing.{again_of}
 use Rattle.smsc_service.proofs.service.ServiceMachineJobReply.settle.Goals as goal
 
 pub returns-in-Ok-clause-settled : goal.returns-in-Ok-clause-settled
 returns-in-Ok-clause-settled g c = λ honest s r running.
     let standing = running.standing in
-    let archived : (m : MessageRow) → Among m s.gone → g.A.Archive.keeps c.tell.new.self.archive m = λ m k.
-        subst (λ (a : g.row.A.Denot). g.A.Archive.keeps a m) (sym c.tell.ensures) (running.archived m k) in
+    let archived : AreHad (g.A.Archive.keeps c.tell.new.self.archive) s.gone = λ x k.
+        subst (λ (a : g.row.A.Denot). g.A.Archive.keeps a x.message x.parts) (sym c.tell.ensures) (running.archived x k) in
     record {
       standing = record {
         made = record {

@@ -1,5 +1,5 @@
-use Rattle.std.proofs.Common.{◌≡◌, ◌⊎◌, ◌∙◌, ◌++◌, ap, sym, subst}
-use Rattle.sms_base.specs.Among.{Among}
+use Rattle.std.proofs.Common.{◌≡◌, ◌⊎◌, ◌∙◌, ◌++◌, ℕ, ap, sym, subst}
+use Rattle.sms_centre.specs.Archiving.{Stays}
 use Rattle.sms_centre_rows.specs.declared.messages.message.MessageRow.{MessageRow}
 use Rattle.sms_centre_group.specs.Grouping.{store_of}
 use Rattle.sms_centre_spec.specs.SoundRows.{IsSound}
@@ -11,7 +11,7 @@ use Rattle.smsc_service.specs.InSeated.{IsMadeBy, held_by}
 use Rattle.smsc_service.specs.Seats.{Seats}
 use Rattle.smsc_service.specs.Serving.{after_for, outs_for}
 use Rattle.smsc_service.specs.Course.{went_for}
-use Rattle.smsc_service.proofs.Archived.{archived_more, archived_still, forgets_to}
+use Rattle.smsc_service.proofs.Archived.{AreHad, archived_more, archived_still, forgets_to}
 use Rattle.smsc_service.proofs.Standing.{IsAgain, after_rows, again_more, again_refused, by_fate}
 use Rattle.smsc_service.proofs.service.ServiceMachineJobReply.step.Goals as goal
 
@@ -28,15 +28,14 @@ returns-clause-gives g c = λ honest from left running.
     let is : asked ≡ asked_by s.seats stimulus = c.asked_by-asked.ensures.asked ∙ ap (λ (q : Seats). asked_by q stimulus) standing.made.seats in
     let alike : s.seats ≡ r.seats → asked ≡ other = λ same. is ∙ ap (λ (q : Seats). asked_by q stimulus) same in
     let step = c.answer-fate.ensures.gives s r.core.rows honest standing.sound standing.made in
-    let has : MessageRow → Type 0 = λ m. g.A.Archive.keeps c.note.new.self.archive m in
-    let kept : (m : MessageRow) → g.A.Archive.keeps c.answer-fate.new.archive m → has m = λ m k. subst (λ (a : g.row.A.Denot). g.A.Archive.keeps a m) (sym c.note.ensures) k in
-    let old : (m : MessageRow) → Among m from.gone → has m = λ m k. kept m (c.answer-fate.ensures.kept m (running.archived m k)) in
-    let stays : (m : MessageRow) → Among m left.gone → has m = λ m k. kept m (c.answer-fate.ensures.kept m (running.left m k)) in
-    let new : (m : MessageRow) → Among m (went_for asked fate s ++ from.gone) → has m = archived_more has asked fate s from.gone
+    let has : MessageRow → ℕ → Type 0 = g.A.Archive.keeps c.note.new.self.archive in
+    let kept : Stays (g.A.Archive.keeps c.answer-fate.new.archive) has = λ m parts k. subst (λ (a : g.row.A.Denot). g.A.Archive.keeps a m parts) (sym c.note.ensures) k in
+    let old : AreHad has from.gone = λ x k. kept x.message x.parts (c.answer-fate.ensures.kept x.message x.parts (running.archived x k)) in
+    let stays : AreHad has left.gone = λ x k. kept x.message x.parts (c.answer-fate.ensures.kept x.message x.parts (running.left x k)) in
+    let new : AreHad has (went_for asked fate s ++ from.gone) = archived_more has asked fate s from.gone
         (λ e. forgets_to (g.A.Archive.keeps c.answer-fate.new.archive) has kept asked s (c.answer-fate.ensures.archived s r.core.rows honest standing.sound standing.made e)) old in
-    let went : (m : MessageRow) → Among m (went_for (asked_by s.seats stimulus) fate s ++ from.gone) → has m =
-        subst (λ (a : SeatRequest). (m : MessageRow) → Among m (went_for a fate s ++ from.gone) → has m) is new in
-    let still : (m : MessageRow) → Among m (went_for other Refused r ++ left.gone) → has m = archived_still has other r left.gone stays in
+    let went : AreHad has (went_for (asked_by s.seats stimulus) fate s ++ from.gone) = subst (λ (a : SeatRequest). AreHad has (went_for a fate s ++ from.gone)) is new in
+    let still : AreHad has (went_for other Refused r ++ left.gone) = archived_still has other r left.gone stays in
     let rows = after_rows other r stimulus in (
       step.0 ∙ ap (λ (a : SeatRequest). outs_for a fate s stimulus) is,
       c.refused_with_group-if_refused.ensures.outs r standing.seats,
