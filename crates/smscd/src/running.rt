@@ -513,7 +513,7 @@ fn serve_open<R: Threads + Wait + Clock + Copy + Send + Sync + 'static, K: Centr
     let (doors, keep, archive) =
         serve(rt, alloc, keep, forgetting, &OpenGate, clock, ports, given)?;
     drop(doors);
-    drop(archive);
+    archive.end();
     Ok(unobserved(keep))
 }
 
