@@ -1,5 +1,5 @@
 -- What a run forgot is among what it has of that.
-use Rattle.std.proofs.Common.{◌≡◌, ⊎_elim, ℕ, Bool, true, false, true≢false, List, [], ◌∷◌, ◌++◌, Option, Some, inl, inr, refl, sym, ap, subst, ◌∙◌}
+use Rattle.std.proofs.Common.{◌≡◌, ⊎_elim, ℕ, true, false, true≢false, List, [], ◌∷◌, ◌++◌, Some, inl, inr, sym, ap, subst, ◌∙◌}
 use Rattle.std.proofs.lemmas.Bool.{cond-false, cond-true, cases_Bool}
 use Rattle.sms_base.specs.Among.{Among}
 use Rattle.sms_rows.proofs.table.Tables.{found_among, found_key}
@@ -22,11 +22,10 @@ use Rattle.smsc_service.specs.declared.asking.SeatRequest.{SeatRequest}
 use Rattle.smsc_service.specs.declared.asking.SeatRequest.TheVariants.{Event, Nothing, Taken, Forget}
 use Rattle.smsc_server.specs.Forgotten.{IsSoOfGone, forgets, forgets_for}
 
-gone_of : MessageRow → Rows → Gone
+abbrev gone_of : MessageRow → Rows → Gone
 gone_of m rows = record { message = m; parts = parts_of m.id rows }
 
 among_numbered : (ids : List ℕ) (rows : Rows) (m : MessageRow) (ms : List MessageRow) → Among m ms → is_among m.id ids ≡ true → Among (gone_of m rows) (numbered ids rows ms)
-unfolding gone_of
 among_numbered ids rows m [] there is = absurd there
 among_numbered ids rows m (x ∷ xs) there is = ⊎_elim
     (λ (t : is_among x.id ids ≡ true).
@@ -78,7 +77,6 @@ gone_among (x ∷ one) other e c t s id row h first goes found =
 -- what is so of all that it has forgotten is so of each message that an item made it forget
 pub gone_so : (Is : MessageRow → ℕ → Type 0) (items : List (Item Job Reply)) (c t : Course) → IsHistory course_gives course_after c items t
     → ((x : Gone) → Among x t.gone → Is x.message x.parts) → IsSoOfGone Is c.serving items
-unfolding gone_of
 gone_so Is items c t h so one other e s id row split first goes found =
     subst (λ (n : ℕ). Is row (parts_of n s.core.rows)) (found_key message_key id row s.core.rows.messages found)
     (so (gone_of row s.core.rows) (gone_among one other e c t s id row (subst (λ (l : List (Item Job Reply)). IsHistory course_gives course_after c l t) split h) first goes found))

@@ -1,5 +1,5 @@
 -- What an archive has of what a run forgot, one step further.
-use Rattle.std.proofs.Common.{◌≡◌, ⊎_elim, ℕ, List, [], ◌∷◌, ◌++◌, true, false, inl, inr, refl, subst, sym}
+use Rattle.std.proofs.Common.{◌≡◌, ⊎_elim, ℕ, List, [], ◌∷◌, ◌++◌, true, inl, inr, refl, subst, sym}
 use Rattle.std.proofs.lemmas.Bool.{cond_both}
 use Rattle.sms_base.specs.Among.{Among}
 use Rattle.sms_centre.specs.Archiving.{AreArchived, Stays, parts_in}
