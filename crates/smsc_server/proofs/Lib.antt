@@ -4,6 +4,7 @@ pub mod CentresAnswers
 pub mod ForgetAsked
 pub mod Forgotten
 pub mod FramesGo
+pub mod Gone
 pub mod HeardEnds
 pub mod LinkWritten
 pub mod PartsWritten

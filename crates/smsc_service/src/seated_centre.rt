@@ -182,7 +182,7 @@ impl<K: CentreStore + Drop> SeatedCentre<K> {
             → MakingOutcome K.state base self.old self.new (Forget before from most) s stimulus.now result.fate result.outs }
         ensures told { result.told ≡ None }
         ensures archived { (s : Serving) (base : RowsOf) → IfMade K.state base s self.old self.new
-            (result.fate ≡ Done → AreArchived (A.keeps archive.new) (going_now before from most s.core) s.core.rows.messages) }
+            (result.fate ≡ Done → AreArchived (A.keeps archive.new) (going_now before from most s.core) s.core.rows) }
         ensures kept { Stays (A.keeps archive.old) (A.keeps archive.new) }
     {
         if is_late {
@@ -212,7 +212,7 @@ impl<K: CentreStore + Drop> SeatedCentre<K> {
         ensures told { (s : Serving) (base : RowsOf) → IfMade K.state base s self.old self.new (result.fate ≡ Done → result.told ≡ answer_of asked.now s.core) }
         // No message goes that the archive does not keep.
         ensures archived { (s : Serving) (base : RowsOf) → IfMade K.state base s self.old self.new
-            (result.fate ≡ Done → IfForget (λ before from most. AreArchived (A.keeps archive.new) (going_now before from most s.core) s.core.rows.messages) asked.now) }
+            (result.fate ≡ Done → IfForget (λ before from most. AreArchived (A.keeps archive.new) (going_now before from most s.core) s.core.rows) asked.now) }
         ensures kept { Stays (A.keeps archive.old) (A.keeps archive.new) }
     {
         match asked {
@@ -243,7 +243,7 @@ impl<K: CentreStore + Drop> SeatedCentre<K> {
         ensures told { (s : Serving) (base : RowsOf) → IfMade K.state base s self.old self.new (result.fate ≡ Done → result.told ≡ answer_of asked.now s.core) }
         // No message goes that the archive does not keep.
         ensures archived { (s : Serving) (base : RowsOf) → IfMade K.state base s self.old self.new
-            (result.fate ≡ Done → IfForget (λ before from most. AreArchived (A.keeps archive.new) (going_now before from most s.core) s.core.rows.messages) asked.now) }
+            (result.fate ≡ Done → IfForget (λ before from most. AreArchived (A.keeps archive.new) (going_now before from most s.core) s.core.rows) asked.now) }
         ensures kept { Stays (A.keeps archive.old) (A.keeps archive.new) }
     {
         let made = self.serve(asked, stimulus, archive, is_late);

@@ -3,6 +3,7 @@ use Rattle.std.specs.Prelude.{◌≡◌, ◌<◌, ◌≤◌, ℕ, List, [], Opti
 use Rattle.std.specs.declared.net.socket_addr.SocketAddr.{SocketAddr}
 use Rattle.sms_rows.specs.keep.KeepState.{KeepState}
 use Rattle.sms_rows.specs.keep.StoreOutcome.{IfHeld, WasHonest}
+use Rattle.sms_centre_rows.specs.declared.messages.message.MessageRow.{MessageRow}
 use Rattle.sms_centre_spec.specs.declared.jobs.job.Job.{Job}
 use Rattle.sms_centre_spec.specs.declared.jobs.reply.Reply.{Reply}
 use Rattle.sms_centre_spec.specs.declared.rows.Rows.{Rows}
@@ -19,6 +20,7 @@ use Rattle.smsc_arrivals.specs.Sharing.{of}
 use Rattle.smsc_arrivals.specs.declared.arrival.Arrival.{Arrival}
 use Rattle.smsc_arrivals.specs.declared.doors.Doors.{Doors}
 use Rattle.smsc_server.specs.RunReads.{HaveRead}
+use Rattle.smsc_server.specs.Forgotten.{IsSoOfGone}
 use Rattle.smsc_server.specs.serving.Connections.{Admitted}
 use Rattle.smsc_server.specs.serving.Entering.{Came}
 use Rattle.smsc_server.specs.serving.Sittings.{SeatDid}
@@ -52,14 +54,15 @@ module _ {S : Type 0} (remaining contents : S → Option (List ℕ)) (admitted :
         × (honest → Leads gives after before items behind)
 
     -- What connections asked was run. As long as the store is honest it is one history of the centre's definition on its rows, from nobody at
-    -- any seat on, and the keep that is given back holds the rows of its end. Each connection had its own of that history.
-    abbrev pub IsServed : {K : Type 0} → (K → KeepState Rows) → K → K → Type 0
-    IsServed state keep kept =
+    -- any seat on, and the keep that is given back holds the rows of its end. Each connection had its own of that history. The archive that is
+    -- given back keeps each message that went, with the number of its parts.
+    abbrev pub IsServed : {K A : Type 0} → (K → KeepState Rows) → (A → MessageRow → ℕ → Type 0) → K → K → A → Type 0
+    IsServed state keeps keep kept archive =
         WasHonest (state keep) (state kept) × (arrivals : List (ℕ × Arrival S)) × (items : List (Item Job Reply))
         × Came came doors doors_then arrivals × (run : WereRun arrivals items)
         × ((rows : Rows) → IfHeld rows (state keep) (state kept)
         ((end : Serving) × (IsHistory gives after (restarted rows nobody) items end × (state kept).holds end.core.rows
-        × HaveTheirOwn (restarted rows nobody) arrivals items run)))
+        × HaveTheirOwn (restarted rows nobody) arrivals items run × IsSoOfGone (keeps archive) (restarted rows nobody) items)))
 
 -- why there was no answer
 abbrev pub fault_of : HubFault → ServeFault

@@ -98,16 +98,16 @@ returns-in-Forget-clause-told g c = λ s base honest sound made e.
 
 pub returns-in-Event-clause-archived : goal.returns-in-Event-clause-archived
 returns-in-Event-clause-archived g c = λ s base honest sound made e.
-    subst (λ (a : SeatRequest). IfForget (λ before from most. AreArchived (g.A.Archive.keeps c.args.archive.now) (going_now before from most s.core) s.core.rows.messages) a) (sym c.in-Event.is) tt
+    subst (λ (a : SeatRequest). IfForget (λ before from most. AreArchived (g.A.Archive.keeps c.args.archive.now) (going_now before from most s.core) s.core.rows) a) (sym c.in-Event.is) tt
 
 pub returns-in-Nothing-clause-archived : goal.returns-in-Nothing-clause-archived
 returns-in-Nothing-clause-archived g c = λ s base honest sound made e.
-    subst (λ (a : SeatRequest). IfForget (λ before from most. AreArchived (g.A.Archive.keeps c.args.archive.now) (going_now before from most s.core) s.core.rows.messages) a) (sym c.in-Nothing.is) tt
+    subst (λ (a : SeatRequest). IfForget (λ before from most. AreArchived (g.A.Archive.keeps c.args.archive.now) (going_now before from most s.core) s.core.rows) a) (sym c.in-Nothing.is) tt
 
 pub returns-in-Taken-clause-archived : goal.returns-in-Taken-clause-archived
 returns-in-Taken-clause-archived g c = λ s base honest sound made e.
-    subst (λ (a : SeatRequest). IfForget (λ before from most. AreArchived (g.A.Archive.keeps c.args.archive.now) (going_now before from most s.core) s.core.rows.messages) a) (sym c.in-Taken.is) tt
+    subst (λ (a : SeatRequest). IfForget (λ before from most. AreArchived (g.A.Archive.keeps c.args.archive.now) (going_now before from most s.core) s.core.rows) a) (sym c.in-Taken.is) tt
 
 pub returns-in-Forget-clause-archived : goal.returns-in-Forget-clause-archived
 returns-in-Forget-clause-archived g c = λ s base honest sound made e.
-    subst (λ (a : SeatRequest). IfForget (λ before from most. AreArchived (g.A.Archive.keeps c.forget.new.archive) (going_now before from most s.core) s.core.rows.messages) a) (sym c.in-Forget.is) (c.forget.ensures.archived s base honest sound made e)
+    subst (λ (a : SeatRequest). IfForget (λ before from most. AreArchived (g.A.Archive.keeps c.forget.new.archive) (going_now before from most s.core) s.core.rows) a) (sym c.in-Forget.is) (c.forget.ensures.archived s base honest sound made e)
