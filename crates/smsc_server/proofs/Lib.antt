@@ -14,3 +14,4 @@ pub mod RequestsArrive
 pub mod RunEvents
 pub mod RunKept
 pub mod RunReads
+pub mod OwnReplies

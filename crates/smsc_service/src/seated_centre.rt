@@ -23,7 +23,7 @@ use crate::made::Made;
 use crate::seat_map::SeatMap;
 use crate::short::answered;
 use crate::step_error::StepError;
-use crate::stimuli::{follow, planned_outs, turned_away, unmade};
+use crate::stimuli::{follow, planned_outs, turned_away, unasked, unmade};
 use sms_base::Moment;
 use sms_centre::{Archive, CentreEvent, Plan};
 use sms_centre_spec::bodies::CentreStore;
@@ -217,7 +217,7 @@ impl<K: CentreStore + Drop> SeatedCentre<K> {
     {
         match asked {
             SeatRequest::Event(event) => self.begin(event, stimulus, is_late),
-            SeatRequest::Nothing => unmade(Fate::Done, stimulus),
+            SeatRequest::Nothing => unasked(&self.seat_map, stimulus),
             SeatRequest::Taken => turned_away(stimulus),
             SeatRequest::Forget { before, from, most } => {
                 self.forget(stimulus, archive, *before, *from, *most, is_late)

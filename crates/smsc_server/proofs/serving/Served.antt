@@ -6,19 +6,41 @@ use Rattle.sms_centre_rows.specs.declared.messages.message.MessageRow.{MessageRo
 use Rattle.sms_centre_spec.specs.declared.jobs.job.Job.{Job}
 use Rattle.sms_centre_spec.specs.declared.jobs.reply.Reply.{Reply}
 use Rattle.sms_centre_spec.specs.declared.rows.Rows.{Rows}
+use Rattle.sms_keeper.specs.declared.machine.Item.{Item}
+use Rattle.sms_keeper.specs.History.{IsHistory, answers_in, jobs_of}
 use Rattle.smsc_service.specs.declared.service.Service.{Service}
 use Rattle.smsc_service.specs.Course.{after as course_after, begun, gives as course_gives}
 use Rattle.smsc_service.specs.InService.{HasHonestStore, IsRunAs, IsServedBy, archive_in, store_in}
 use Rattle.smsc_service.specs.Seats.{nobody}
-use Rattle.smsc_service.specs.Serving.{restarted}
+use Rattle.smsc_service.specs.Serving.{Serving, after, gives, restarted}
 use Rattle.std.specs.declared.net.socket_addr.SocketAddr.{SocketAddr}
+use Rattle.smsc_arrivals.specs.Sharing.{of}
+use Rattle.smsc_arrivals.specs.declared.arrival.Arrival.{Arrival}
 use Rattle.smsc_arrivals.specs.declared.doors.Doors.{Doors}
+use Rattle.smsc_server.specs.RunReads.{HaveRead}
 use Rattle.smsc_server.specs.serving.Connections.{Admitted}
-use Rattle.smsc_server.specs.serving.Serving.{IsOneHistory, IsServed}
+use Rattle.smsc_server.specs.serving.Serving.{HaveTheirOwn, IsOneHistory, IsServed, WereRun}
+use Rattle.smsc_server.specs.serving.Sittings.{SeatDid}
+use Rattle.smsc_server.proofs.serving.Stretched.{vacated}
 use Rattle.smsc_server.proofs.Gone.{gone_so, is_history}
 
-module _ {L S : Type 0} (remaining contents : S → Option (List ℕ)) (admitted : Admitted) (reads : ℕ → Type 0)
+-- what the connections of a seat read, in any history of the centre
+abbrev pub ReadLaw : {S : Type 0} → (remaining contents : S → Option (List ℕ)) → Type 0
+ReadLaw {S} remaining contents =
+    (admitted : Admitted) (seat : ℕ) (before behind : Serving) (items : List (Item Job Reply)) (took : List (Arrival S)) → IsHistory gives after before items behind
+    → (did : SeatDid remaining contents admitted (jobs_of seat items) (answers_in seat items) took)
+    → HaveRead remaining contents admitted seat before did.connections items
+
+module _ {L S : Type 0} (remaining contents : S → Option (List ℕ)) (admitted : Admitted) (law : ReadLaw remaining contents) (reads : ℕ → Type 0)
     (came : L → Option (List (S × SocketAddr))) (doors : Doors L) where
+  have_own : (first end : Serving) (arrivals : List (ℕ × Arrival S)) (items : List (Item Job Reply)) (run : WereRun remaining contents admitted reads arrivals items)
+      → IsHistory gives after first items end → HaveTheirOwn remaining contents admitted reads first arrivals items run
+  have_own first end arrivals items run h n few =
+      let did = run.seats n few in (
+        vacated remaining contents admitted n did.connections first items end did.untaken h did.in_turn did.jobs did.replies,
+        law admitted n first end items (of n arrivals) h did,
+      )
+
   -- One history of a service that was lent is one history from the rows of its keep on.
   pub served : {K A : Type 0} (state : K → KeepState Rows) (keeps : A → MessageRow → ℕ → Type 0) (keep : K) (lent left : Service K A) (doors_then : Doors L)
       → ((rows : Rows) → IfHeld rows (state keep) (state (store_in lent)) (IsServedBy state lent (restarted rows nobody)))
@@ -34,11 +56,13 @@ module _ {L S : Type 0} (remaining contents : S → Option (List ℕ)) (admitted
     history.3,
     λ rows is held.
         let first = begun (restarted rows nobody) in
-        let led = history.4 is first (record { standing = begins rows (before is) held; archived = λ m none. absurd none; left = λ m none. absurd none }) in (
+        let led = history.4 is first (record { standing = begins rows (before is) held; archived = λ m none. absurd none; left = λ m none. absurd none }) in
+        let run = is_history history.1 first led.0 led.1.0 in (
           led.0.serving,
           (
-            is_history history.1 first led.0 led.1.0,
+            run,
             led.1.1.standing.made.rows.0,
+            have_own (restarted rows nobody) led.0.serving history.0 history.1 history.3 run,
             gone_so (keeps (archive_in left)) history.1 first led.0 led.1.0 led.1.1.archived,
           ),
         ),

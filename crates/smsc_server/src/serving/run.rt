@@ -25,6 +25,7 @@ ghost use Rattle.smsc_server.specs.serving.SeatThreads.{AreAt, AreWays, HaveAdmi
 ghost use Rattle.smsc_server.specs.serving.Serving.{IsOneHistory, IsServed};
 ghost use Rattle.smsc_server.specs.serving.Sittings.{SeatDid};
 
+use crate::connection_laws::each_connection_reads_the_centres_answers;
 use crate::serving::connection::Ports;
 use crate::serving::entrance::{Entrance, EntranceThread};
 use crate::serving::fault::ServeFault;
@@ -315,12 +316,14 @@ pub fn serve<
 where
     L::Stream: OpenStream + Read + Write + Send + 'static,
     // What its connections asked was run, and is one history of the centre's definition. It begins with the rows of the keep and nobody
-    // at any seat. The connections are those that came at the ports. The keep that is given back holds the rows of its end.
-    // Each message that went is kept by the archive that is given back, with the number of its parts.
+    // at any seat. The connections are those that came at the ports. Each read the centre's answers to its own requests in its own part of that
+    // history, and had all replies of that part. The keep that is given back holds the rows of the end. Each message that went is kept by the
+    // archive that is given back, with the number of its parts.
     ensures served { IfOk result (λ ended. IsServed L.Stream.remaining L.Stream.contents
         (admits (arc_value given.now.accounts) (arc_value given.now.access)) (C.reads clock.now) L.came (doors_of ports) ended.0 K.state A.keeps keep
         ended.1 ended.2) }
 {
+    each_connection_reads_the_centres_answers::<L::Stream>();
     let served = serve_with(
         alloc,
         keep,
