@@ -6,7 +6,7 @@ ghost use Rattle.sms_centre_spec.specs.declared.jobs.reply.Reply.{Reply};
 ghost use Rattle.smsc_loop.specs.Courses.{Did, standing};
 ghost use Rattle.smsc_loop.specs.Duties.{stalled_by};
 ghost use Rattle.smsc_loop.specs.Phases.{Serves, behind};
-ghost use Rattle.smsc_loop.specs.Served.{IsAnswered, MeantAt};
+ghost use Rattle.smsc_loop.specs.Served.{IsAnswered, MeantAt, side_end};
 ghost use Rattle.smsc_loop.specs.declared.turn_end.TurnEnd.TheVariants.{Stays, Rests};
 
 use crate::endpoint::Endpoint;
@@ -44,7 +44,7 @@ fn is_answered<G: Endpoint>(endpoint: &G) -> bool
 // Whether an endpoint that is answered stays.
 fn end_answered<W: Wire, G: Endpoint>(wire: &W, endpoint: &G) -> TurnEnd
     requires { IsAnswered G.waits G.owing endpoint.now }
-    ensures { MeantAt G.waits G.over G.owing (W.ended wire.now) (W.closed wire.now) endpoint.now result }
+    ensures { MeantAt G.waits G.over G.owing (side_end (W.ended wire.now) (W.remaining wire.now)) (W.closed wire.now) endpoint.now result }
 {
     if endpoint.is_over() {
         return TurnEnd::Leaves(LeaveReason::Over);
@@ -57,11 +57,15 @@ fn end_answered<W: Wire, G: Endpoint>(wire: &W, endpoint: &G) -> TurnEnd
 
 // Whether an endpoint stays whose octets the wire took, as far as it did.
 fn end_flowing<W: Wire, G: Endpoint>(wire: &W, endpoint: &G) -> TurnEnd
-    ensures { MeantAt G.waits G.over G.owing (W.ended wire.now) (W.closed wire.now) endpoint.now result }
+    ensures { MeantAt G.waits G.over G.owing (side_end (W.ended wire.now) (W.remaining wire.now)) (W.closed wire.now) endpoint.now result }
 {
     // Also of a connection that takes some octets in every turn, but fewer than it asks for.
     if endpoint.octets().len() > MOST_OCTETS {
         return TurnEnd::Leaves(LeaveReason::Stalled);
+    }
+    // Also where it can't be read any more, and nothing is to be sent.
+    if wire.is_closed() {
+        return TurnEnd::Leaves(LeaveReason::Closed);
     }
     if is_answered(endpoint) {
         return end_answered(wire, endpoint);
@@ -89,7 +93,7 @@ pub(crate) fn flow<W: Wire, G: Endpoint>(
 ) -> TurnEnd
     ensures did { (s : Seat Job Reply) → Did G.does (standing endpoint.old Serves (W.remaining wire.old) (W.written wire.old) s)
         (standing endpoint.new Serves (W.remaining wire.new) (W.written wire.new) s) }
-    ensures meant { MeantAt G.waits G.over G.owing (W.ended wire.new) (W.closed wire.new) endpoint.new result }
+    ensures meant { MeantAt G.waits G.over G.owing (side_end (W.ended wire.new) (W.remaining wire.new)) (W.closed wire.new) endpoint.new result }
 {
     let Some(sent) = send(wire, endpoint) else {
         return TurnEnd::Leaves(LeaveReason::Closed);
@@ -121,7 +125,7 @@ pub(crate) fn read<R: Wait, W: Wire, G: Endpoint>(
         }
         Found::Nothing => Ok(TurnEnd::Rests),
         // The next turn sees it.
-        Found::Ended => Ok(TurnEnd::Stays),
+        Found::Ended | Found::Lost => Ok(TurnEnd::Stays),
     }
 }
 
