@@ -132,7 +132,7 @@ begins = (
   refl,
   none_of None,
   tt,
-  at_one (FitsPass [] 0 0 None [] []) joined_view ((λ _. (refl, refl, refl)), ((λ _. (refl, refl, refl)), λ _ _. refl)),
+  at_one (FitsPass [] 0 0 None [] []) joined_view ((λ _. (refl, refl, refl)), (λ _. (refl, refl, refl)), λ _ _. refl),
 )
 
 pub gives : (n port : ℕ) (v : PiecesView) (x : Piece) → v.gives ≡ true → IsGivenOf v.source (v.given ++ octets_of x)
@@ -155,9 +155,9 @@ gives n port v x may next all items views _ h at =
         end_last h.2 h.4 items x h.7
             (λ m. subst (λ (os : List ℕ). AreAll h.2 os) (known ∙ behind) (subst (λ (source : Option (List ℕ)). AreAll source (v.given ++ octets_of x)) mine.1 (all m))),
         set_at (FitsPass (items ++ x ∷ []) h.0 h.1 h.2 given h.4) views port w
-            ((λ _. (mine.0, mine.1, known)), ((λ p. absurd (true≢false (sym p))), λ _ p. absurd (true≢false (sym p))))
+            ((λ _. (mine.0, mine.1, known)), (λ p. absurd (true≢false (sym p))), λ _ p. absurd (true≢false (sym p)))
             (λ j u other e. let fits = h.8 j u e in
-            let never = λ (p : u.gives ≡ true). other ((fits.0 p).0 ∙ sym mine.0) in ((λ p. absurd (never p)), (fits.1, λ p q. absurd (never p)))),
+            let never = λ (p : u.gives ≡ true). other ((fits.0 p).0 ∙ sym mine.0) in ((λ p. absurd (never p)), fits.1, λ p q. absurd (never p))),
       ),
       refl,
     )
@@ -183,9 +183,9 @@ takes port v may x items views h at =
         h.6,
         h.7.1,
         set_at (FitsPass items h.0 h.1 h.2 h.3 taken) views port w
-            ((λ p. absurd (true≢false (sym p))), ((λ _. (mine.0, mine.1, known)), λ p. absurd (true≢false (sym p))))
+            ((λ p. absurd (true≢false (sym p))), (λ _. (mine.0, mine.1, known)), λ p. absurd (true≢false (sym p)))
             (λ j u other e. let fits = h.8 j u e in
-            let never = λ (p : u.takes ≡ true). other ((fits.1 p).0 ∙ sym mine.0) in (fits.0, ((λ p. absurd (never p)), λ p q. absurd (never q)))),
+            let never = λ (p : u.takes ≡ true). other ((fits.1 p).0 ∙ sym mine.0) in (fits.0, (λ p. absurd (never p)), λ p q. absurd (never q))),
       ),
       (
         refl,
@@ -216,10 +216,11 @@ forks port v source new items views h at =
       h.5,
       subst (λ (os : List ℕ). IsGivenOf source os) (sym none_given) (none_of source),
       end_at_none source h.4 items empty,
-      snoc_at F vs r (set_at F views port l ((λ _. (gives.0, refl, sym none_given)), ((λ p. absurd (true≢false (sym p))), λ _ _. empty))
+      snoc_at F vs r (set_at F views port l ((λ _. (gives.0, refl, sym none_given)), (λ p. absurd (true≢false (sym p))), λ _ _. empty)
           (λ j u other e. let fits = h.8 j u e in (
             (λ p. absurd (other ((fits.0 p).0 ∙ sym gives.0))),
-            ((λ p. absurd (other ((fits.1 p).0 ∙ sym takes.0))), λ _ _. empty),
+            (λ p. absurd (other ((fits.1 p).0 ∙ sym takes.0))),
+            λ _ _. empty,
           )))
-          ((λ p. absurd (true≢false (sym p))), ((λ _. (refl, refl, sym none_taken)), λ _ _. empty)),
+          ((λ p. absurd (true≢false (sym p))), (λ _. (refl, refl, sym none_taken)), λ _ _. empty),
     )

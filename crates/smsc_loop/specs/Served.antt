@@ -22,7 +22,7 @@ IsLeft any_job run_over v p seat = run_over ⊎ ((p ≡ Asks) × (any_job v ≡ 
 abbrev pub IsAnswered : {V : Type 0} → (V → List ℕ) → (V → Bool) → V → Type 0
 IsAnswered waits owing v = (waits v ≡ []) × (owing v ≡ false)
 
--- The other side sends no more, or so a wire says, and has this still to give.
+-- Whether a wire says that the other side sends no more, and what the wire has still to give, where it states that.
 pub record SideEnd : Type 0 where
   pub ended : Bool
   pub remaining : Option (List ℕ)

@@ -134,8 +134,8 @@ fn second_of<R: Clock>(rt: &R) -> u64 {
 
 impl<R: Wait + Copy> LoggedArchive<R> {
     fn say_count(&mut self) -> Result<(), AllocError> {
-        let count = self.count;
-        let text = format!(in self.alloc; "event=forgotten messages={count}")?;
+        let (alloc, count) = (self.alloc, self.count);
+        let text = format!(in alloc; "event=forgotten messages={count}")?;
         self.log.put("info", text.as_str());
         self.count = 0;
         Ok(())
@@ -222,7 +222,7 @@ fn kept_of(run: &ServerRun<'_>, start: Moment, newest: Moment) -> Option<u64> {
 }
 
 /// What a run forgets as it goes on, by its words. It starts at that moment, and its newest row is of that one.
-pub fn forgetting_of<R: Wait + Copy>(
+pub fn forgetting_of<R: Wait + Clock + Copy>(
     host: &HostRuntime,
     rt: R,
     watchers: &Watchers<R>,

@@ -8,8 +8,8 @@ give-requires g c = record {
   all = λ m. absurd (true≢false (sym m ∙ c.in-Octets.ensures.1));
 }
 
-pub give-in-Ended-requires : goal.give-in-Ended-requires
-give-in-Ended-requires g c = record {
+pub give-requires-in-Ended : goal.give-requires-in-Ended
+give-requires-in-Ended g c = record {
   given = given_marked _ _ _ _ _ c.loop.invariant c.in-Ended.ensures.0 c.none.ensures.none;
   all = λ m. all_marked _ _ _ _ _ c.loop.invariant c.in-Ended.ensures.0 c.in-Ended.ensures.1 c.none.ensures.none;
 }
