@@ -39,7 +39,7 @@ module _ (has : MessageRow → ℕ → Type 0) where
   archived_more (Event event) fate s gone new old = old
   archived_more Nothing fate s gone new old = old
   archived_more Taken fate s gone new old = old
-  archived_more (Forget before from most) Done s gone new old x among =
+  archived_more (Forget before from most) Done s gone new old = λ x among.
       let went = numbered (going_now before from most s.core) s.core.rows s.core.rows.messages in
       ⊎_elim
       (λ (k : Among x went). numbered_archived (going_now before from most s.core) s.core.rows s.core.rows.messages (new refl) x k)

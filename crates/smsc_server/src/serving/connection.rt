@@ -1,6 +1,6 @@
 //! The ports, and the wire of a connection that was accepted.
-ghost use Rattle.std.specs.Prelude.{◌≡◌, false, true, IfOk};
-ghost use Rattle.std.specs.Io.KnownBytes.{IsAtEnd};
+ghost use Rattle.std.specs.Prelude.{◌≡◌, false, true, [], IfOk};
+ghost use Rattle.std.specs.Option.{ForSome};
 ghost use Rattle.smsc_server.specs.serving.Entering.{doors_of};
 ghost use Rattle.smsc_arrivals.specs.PieceEnds.{left_at};
 ghost use Rattle.smsc_arrivals.specs.Pieces.{octets_of};
@@ -64,7 +64,7 @@ pub(crate) struct Socket<S> {
     // The other side sends no more, or takes no more.
     has_ended: bool,
     is_closed: bool,
-    ghost ended: { has_ended ≡ true → IsAtEnd (left_at pieces) },
+    ghost ended: { has_ended ≡ true → ForSome (left_at pieces) (λ rest. rest ≡ []) },
 }
 
 // Sets what the connection is to do, and gives it a second time, for its reader.
@@ -140,6 +140,7 @@ impl<S: OpenStream + Read + Write + Drop> Wire for Socket<S> {
 
     ghost closed = { λ s. s.is_closed };
 
+    #[tactic(auto, using(crate::proofs::serving::StreamEnds::so_end))]
     fn read_now<R: Wait>(&mut self, rt: &R) -> Found {
         if self.has_ended {
             return Found::Ended;
@@ -166,6 +167,7 @@ impl<S: OpenStream + Read + Write + Drop> Wire for Socket<S> {
         self.piece.as_slice()
     }
 
+    #[tactic(auto, using(crate::proofs::serving::StreamEnds::end_so))]
     fn has_ended(&self) -> bool {
         self.has_ended
     }

@@ -8,7 +8,8 @@ pub returns-in-Ok-clause-ok : goal.returns-in-Ok-clause-ok
 returns-in-Ok-clause-ok g c = λ honest s waiting.
     let has : AreHad (g.A.Archive.keeps c.restart.new.self.errands.archive) s.gone = λ x k.
         subst (λ (a : g.row.A.Denot). g.A.Archive.keeps a x.message x.parts) (sym (c.in-Ok.ensures.archive ∙ c.tell.ensures)) (waiting.1 x k) in
-    record { standing = c.in-Ok.ensures.served s.serving honest waiting.0; archived = has; left = has }
+    let there = c.in-Ok.ensures.served s.serving honest waiting.0 in
+    record { standing = record { made = there.made; sound = there.sound; seats = there.seats; again = there.again }; archived = has; left = has }
 
 pub returns-in-Err-clause-fails : goal.returns-in-Err-clause-fails
 returns-in-Err-clause-fails g c = λ honest s waiting.
