@@ -156,9 +156,13 @@ module _ (n : ℕ) (s : Serving) (vacant : is_vacant n s.seats ≡ true) where
   none_linked rows before h =
       let all = run_links (λ (k : ℕ). ⊤) [] before (restarted rows nobody) s (no_links (λ (k : ℕ). ⊤) rows) h in record {
         keys = all.keys;
-        each = λ l i. let x = all.each l i in (x.0, x.1, λ (at : l.seat ≡ n).
-            absurd (some_none l (row_at link_key n s.seats.links)
-            (ap (λ (k : ℕ). row_at link_key k s.seats.links) (sym at) ∙ among_found link_key l s.seats.links all.keys i) no_link));
+        each = λ l i. let x = all.each l i in (
+          x.0,
+          x.1,
+          λ (at : l.seat ≡ n).
+              absurd (some_none l (row_at link_key n s.seats.links)
+              (ap (λ (k : ℕ). row_at link_key k s.seats.links) (sym at) ∙ among_found link_key l s.seats.links all.keys i) no_link),
+        );
       }
 
 -- ---- a stretch of the history
@@ -202,9 +206,9 @@ module _ (seat : ℕ) (few : nat_lt seat 32 ≡ true) (rows : Rows) (before own 
       let f = sent.2.0 in
       let is : IsNamed e.stimulus m.0.seats.links f.handset seat = named e.stimulus m.0.seats.links f.handset seat sent.2.3 in
       let linked : IsLinked seat f.handset one ⊎ (e.stimulus ≡ JobOf seat (LinkUp f.handset)) = ⊎_elim
-          (λ (up : e.stimulus ≡ JobOf seat (LinkUp f.handset)). inr up)
-          (λ (at : IsAt f.handset seat m.0.seats.links). inl (at_seat seat f.handset (λ (k : ℕ). k ≡ seat) one m.0.seats.links refl links at))
-          is in
+      (λ (up : e.stimulus ≡ JobOf seat (LinkUp f.handset)). inr up)
+      (λ (at : IsAt f.handset seat m.0.seats.links). inl (at_seat seat f.handset (λ (k : ℕ). k ≡ seat) one m.0.seats.links refl links at))
+      is in
       record {
         goes = record {
           handset = f.handset;

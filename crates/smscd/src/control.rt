@@ -85,12 +85,17 @@ fn numbered(line: &str) -> Option<Command> {
     }
 }
 
-// What is ordered of a message.
-fn order_in(command: Option<Command>) -> Option<(Order, MessageId)> {
+// Whether it is ordered of a message.
+fn is_of_message(command: Option<Command>) -> bool {
+    matches!(command, Some(Command::Retry(_) | Command::Cancel(_)))
+}
+
+// Puts what is ordered of a message. False where another order is not done yet.
+fn put_order(orders: &Orders, command: Command) -> bool {
     match command {
-        Some(Command::Retry(id)) => Some((Order::Retry, id)),
-        Some(Command::Cancel(id)) => Some((Order::Delete, id)),
-        _ => None,
+        Command::Retry(id) => orders.order(Order::Retry, id),
+        Command::Cancel(id) => orders.order(Order::Delete, id),
+        Command::Stop | Command::End(_) | Command::Reload => true,
     }
 }
 
@@ -172,7 +177,7 @@ struct Client {
     // It ordered a stop, and waits for the end of the run.
     is_waiting: bool,
     // What it ordered of a message, until the centre takes that.
-    order: Option<(Order, MessageId)>,
+    order: Option<Command>,
     // The centre has its order, and it waits for the outcome.
     is_ordering: bool,
 }
@@ -236,8 +241,8 @@ impl Client {
         reloader: &Option<Reloader>,
     ) -> bool {
         let command = self.command();
-        if let Some(order) = order_in(command) {
-            self.order = Some(order);
+        if is_of_message(command) {
+            self.order = command;
             return self.pursue(orders);
         }
         match reloader {
@@ -251,8 +256,8 @@ impl Client {
 
     // Puts what it ordered of a message, and tells the outcome. It stays until then, as the next order waits for that.
     fn pursue(&mut self, orders: &Orders) -> bool {
-        if let Some((order, id)) = self.order {
-            if orders.order(order, id) {
+        if let Some(command) = self.order {
+            if put_order(orders, command) {
                 self.order = None;
                 self.is_ordering = true;
             }

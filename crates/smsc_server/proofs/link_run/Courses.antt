@@ -138,7 +138,7 @@ module _ (reads : ℕ → Type 0) where
     cut_so = e;
     met = meets_none a held;
     many = refl;
-    goes_so = inl (refl, λ some. ap front_of e);
+    goes_so = let none : frames_in reads [] ≡ 0 = refl in inl (omega (arith, none), λ some. ap front_of e);
   }
 
   -- a read that ends the run, or does not
@@ -228,7 +228,7 @@ nothing_read before after octets p q =
 pub closed_leaves : (most met left : ℕ) (octets next : List ℕ) → octets ≡ [] → met + left ≡ most → (0 < left → front_of next ≡ Ok None) → LeavesFor most met octets next 0
 closed_leaves most met left octets next none all front = elim (leb_tells 1 left) [
   | inl some ↦ inr (refl, none, inr (front some.1))
-  | inr no ↦ inr (refl, none, inl (omega (arith, all, no.1)))
+  | inr few ↦ inr (refl, none, inl (omega (arith, all, few.1)))
 ]
 
 pub on_ok : {P Q E : Type 0} (r : Result (Unit {0}) E) → OnOk r P → (P → Q) → OnOk r Q

@@ -32,6 +32,6 @@ returns-else-connected g c =
         read.1.1,
         sym read.1.2 ∙ met.1.0,
         meets_join (Tick c.args.now ∷ []) (map received met.0) _ _ _ _ _ _ (meets_one (Tick c.args.now) _ _ _ _ ticked.0 ticked.1.0 ticked.1.1) met.1.1,
-        closed_leaves _ _ _ _ _ (nothing_read _ _ _ read.1.2 (c.in_ok-connected.ensures.closed c.if-connected.false)) met.1.2 met.1.3,
+        closed_leaves c.args.most _ _ read.0 c.meet_frames.new.buffer (nothing_read _ _ _ read.1.2 (c.in_ok-connected.ensures.closed c.if-connected.false)) met.1.2 met.1.3,
       ),
     )

@@ -69,8 +69,8 @@ close_all-doors-requires-clause-ways g c = λ lifetimes bounds.
       h.settled ∙ c.requires.made.1,
     )
 
-pub returns-in-Err-clause-failed : goal.returns-in-Err-clause-failed
-returns-in-Err-clause-failed g c = λ admitted doors have entered.
+pub returns-clause-failed : goal.returns-clause-failed
+returns-clause-failed g c = λ admitted doors have entered.
     let closed = c.close_all-doors.ensures.did doors (c.join-entrance.ensures.0 doors entered) in (
       c.close_all-doors.result,
       one_history _ _ _ _ _ _ _ _ c.args.keeper c.run_keeper-ended.new.keeper c.know_others-in-Err.new.self c.requires.new c.in-Err.ensures.failed c.run_keeper-ended.ensures.closed

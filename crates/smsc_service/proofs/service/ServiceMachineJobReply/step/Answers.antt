@@ -33,7 +33,7 @@ returns-clause-gives g c = λ honest from left running.
     let old : AreHad has from.gone = λ x k. kept x.message x.parts (c.answer-fate.ensures.kept x.message x.parts (running.archived x k)) in
     let stays : AreHad has left.gone = λ x k. kept x.message x.parts (c.answer-fate.ensures.kept x.message x.parts (running.left x k)) in
     let new : AreHad has (went_for asked fate s ++ from.gone) = archived_more has asked fate s from.gone
-        (λ e. forgets_to (g.A.Archive.keeps c.answer-fate.new.archive) has kept asked s (c.answer-fate.ensures.archived s r.core.rows honest standing.sound standing.made e)) old in
+    (λ e. forgets_to (g.A.Archive.keeps c.answer-fate.new.archive) has kept asked s (c.answer-fate.ensures.archived s r.core.rows honest standing.sound standing.made e)) old in
     let went : AreHad has (went_for (asked_by s.seats stimulus) fate s ++ from.gone) = subst (λ (a : SeatRequest). AreHad has (went_for a fate s ++ from.gone)) is new in
     let still : AreHad has (went_for other Refused r ++ left.gone) = archived_still has other r left.gone stays in
     let rows = after_rows other r stimulus in (
