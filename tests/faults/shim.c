@@ -1,6 +1,7 @@
 /* Loaded before the C library (LD_PRELOAD), so that a program meets a fault of its machine while a file is there:
  *   FAULT_AHEAD       the clock of the day is ten days ahead (clock_gettime of CLOCK_REALTIME);
  *   FAULT_FULL        the disk is full (pwrite gives ENOSPC);
+ *   FAULT_PART        the disk fills up: it takes as many writes more as the file says, and then none (pwrite gives ENOSPC);
  *   FAULT_REFUSED     what is written inside a file is refused, and new files are taken (pwrite gives EPERM);
  *   FAULT_READ_ONLY   the file system can't be written (open for writing and pwrite give EROFS);
  *   FAULT_LOST        a store's disk is lost (statx of a path that ends in .store or -wal gives EIO);
@@ -43,9 +44,35 @@ int clock_gettime(clockid_t clock, struct timespec *moment)
 	return 0;
 }
 
+/* The number in the file of that name, which is there. */
+static long number_in(const char *name)
+{
+	char digits[16] = "";
+	int file = syscall(SYS_openat, AT_FDCWD, getenv(name), O_RDONLY);
+
+	if (file >= 0) {
+		if (syscall(SYS_read, file, digits, sizeof digits - 1) < 0)
+			digits[0] = 0;
+		syscall(SYS_close, file);
+	}
+	return atol(digits);
+}
+
+/* Whether the disk has taken the writes that it takes more. A run has one thread that writes. */
+static int is_filled(void)
+{
+	static long taken;
+
+	if (!is_so("FAULT_PART")) {
+		taken = 0;
+		return 0;
+	}
+	return taken++ >= number_in("FAULT_PART");
+}
+
 ssize_t pwrite(int file, const void *octets, size_t count, off_t at)
 {
-	if (is_so("FAULT_FULL")) {
+	if (is_so("FAULT_FULL") || is_filled()) {
 		errno = ENOSPC;
 		return -1;
 	}

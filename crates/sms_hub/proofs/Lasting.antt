@@ -1,5 +1,6 @@
 -- Runs, one term longer.
 use Rattle.std.proofs.Common.{◌≡◌, ℕ, List, [], ◌++◌, refl, sym, subst, append_assoc, append-nil}
+use Rattle.std.specs.Prelude.{IfErr, Result, Ok, Err}
 use Rattle.sms_keeper.specs.declared.keeper.End.{End}
 use Rattle.sms_keeper.specs.declared.keeper.End.TheVariants.{AllClosed, Refused}
 use Rattle.sms_keeper.specs.declared.keeper.Keeper.{Keeper}
@@ -7,9 +8,14 @@ use Rattle.sms_keeper.specs.declared.machine.Fate.{Fate}
 use Rattle.sms_keeper.specs.declared.machine.Item.{Item}
 use Rattle.sms_keeper.specs.declared.machine.Stimulus.{Stimulus}
 use Rattle.sms_keeper.specs.declared.outs.Out.{Out}
-use Rattle.sms_keeper.specs.Groups.{IsTerm}
+use Rattle.sms_keeper.specs.Groups.{IsRefusing, IsTerm}
 use Rattle.sms_hub.specs.Lasting.{Ran}
 use Rattle.sms_keeper.proofs.Stretches.{leads-append, leads_none, same_self, stretch-append, stretch_none}
+
+-- where a call failed, whatever its error says
+pub if_failed : {A E : Type 0} (r : Result A E) (P : Type 0) → P → IfErr r (λ error. P)
+if_failed (Ok x) P h = tt
+if_failed (Err e) P h = h
 
 module _ {J O S : Type 0} (reads : ℕ → Type 0) (gives : S → Stimulus J → Fate → List (Out O)) (after : S → Stimulus J → Fate → S) where
   -- a term after which all seats have closed
@@ -31,6 +37,12 @@ module _ {J O S : Type 0} (reads : ℕ → Type 0) (gives : S → Stimulus J →
         led = λ now s there. let x = t.led (was now) s there in (x.0, (x.1.0, opens now x.0 x.1.1));
         recorded = λ earlier has. keeps (earlier ++ t.items) (t.recorded earlier has);
       }
+
+  -- items that were refused once the machine could not be opened again
+  pub ran_refusing : (honest : Type 0) (failed fails : S → Type 0) (told tells later : List (Item J O) → Type 0) (a b : Keeper J O) → ((items : List (Item J O)) → told items → tells items)
+      → IsRefusing reads gives after honest failed fails tells later a b → Ran reads gives after honest failed fails told later a b
+  ran_refusing honest failed fails told tells later a b keeps h =
+      record { items = h.items; did = h.did; led = h.led; recorded = λ earlier has. h.recorded earlier (keeps earlier has) }
 
   -- nothing was run yet
   pub ran_none : (honest : Type 0) (before : S → Type 0) (told : List (Item J O) → Type 0) (a : Keeper J O) → Ran reads gives after honest before before told told a a

@@ -1,7 +1,8 @@
 //! A hub: a keeper with up to 32 seats, and runs of it.
 //!
 //! The keeper runs terms, one after the other, until all seats have closed. After a group that the store refused the machine is
-//! opened again. What was run is one history of the machine, of which a recorder is told. Nobody else keeps it.
+//! opened again. Where that fails, each job is refused from then on. What was run is one history of the machine, of which a
+//! recorder is told. Nobody else keeps it.
 //!
 //! A run has a list of jobs for each session, each put by a thread of its own. `many_sessions` runs up to 32 lists,
 //! `two_sessions` two. Where it gives an answer, each list was run whole and in order, and nothing else, in one history of
@@ -25,7 +26,7 @@ pub use hub::Hub;
 pub use hub_fault::HubFault;
 pub use run::{many_sessions, two_sessions};
 pub use sms_keeper::{
-    Broken, Clock, End, Fate, Gate, Item, Keeper, Machine, NoRecord, Out, Outs, Recorder, Seat,
-    Step, Stimulus, Unsettled,
+    Broken, Clock, End, Errand, Fate, Gate, Item, Keeper, Machine, NoRecord, Out, Outs, Recorder,
+    Seat, Step, Stimulus, Unsettled,
 };
 pub use terms::run_terms;

@@ -13,11 +13,11 @@ use Rattle.sms_keeper.specs.declared.outs.Out.{Out}
 use Rattle.sms_keeper.specs.declared.keeper.End.TheVariants.{AllClosed, Refused as RefusedEnd}
 use Rattle.sms_keeper.specs.declared.keeper.HeldItem.{HeldItem}
 use Rattle.sms_keeper.specs.declared.keeper.Keeper.{Keeper}
-use Rattle.sms_keeper.specs.Fates.{MatchFate, WentOn, AllRefused, IsRefused, EndsRefused}
+use Rattle.sms_keeper.specs.Fates.{MatchFate, WentOn, AllRefused, IsRefused}
 use Rattle.sms_keeper.specs.Groups.{as_item, as_items, IsGroup, IsHolding, IsTerm, LeadsTwoWays, MatchSettled, StandsBy}
 use Rattle.sms_keeper.specs.History.{IsHistory, IsRising, IsTimely, Leads, answers_in, asked, asked_by, outs_to, tick_after, work}
-use Rattle.sms_keeper.specs.Keeping.{Gave, GaveAll, given_by, last_tick, ran_by, seats_of, IsSameHub, IsStretch}
-use Rattle.sms_keeper.proofs.Histories.{answers-append, answers_snoc, asked-append, same_length}
+use Rattle.sms_keeper.specs.Keeping.{Gave, GaveAll, given_by, last_tick, ran_by, IsSameHub, IsStretch}
+use Rattle.sms_keeper.proofs.Histories.{answers_snoc, asked-append, same_length}
 use Rattle.sms_keeper.proofs.Stretches.{done≢refused, fate_ended, fate_went, history-append, leads-append, leads_none, no_memory≢refused, rising-append, same_self, same_trans, stretch-append, stretch_none, went-append}
 
 pub settled_so : (b : Bool) (A B : Type 0) → b ≡ true → MatchSettled b A B → A

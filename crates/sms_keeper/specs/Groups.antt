@@ -1,5 +1,5 @@
 -- A group of items: they are asked, committed together, and only then answered.
-use Rattle.std.specs.Prelude.{◌≡◌, ◌≤◌, ◌+◌, ℕ, Bool, true, false, List, [], ◌∷◌, ◌++◌, length}
+use Rattle.std.specs.Prelude.{◌≡◌, ◌≤◌, ℕ, Bool, true, false, List, [], ◌∷◌, ◌++◌, length}
 use Rattle.sms_keeper.specs.declared.machine.Stimulus.{Stimulus}
 use Rattle.sms_keeper.specs.declared.machine.Fate.{Fate}
 use Rattle.sms_keeper.specs.declared.machine.Fate.TheVariants.{Refused}
@@ -9,7 +9,7 @@ use Rattle.sms_keeper.specs.declared.keeper.End.{End}
 use Rattle.sms_keeper.specs.declared.keeper.HeldItem.{HeldItem}
 use Rattle.sms_keeper.specs.declared.keeper.Keeper.{Keeper}
 use Rattle.sms_keeper.specs.Ends.{MatchEnd}
-use Rattle.sms_keeper.specs.Fates.{MatchFate, WentOn, IsRefused, EndsRefused}
+use Rattle.sms_keeper.specs.Fates.{AllRefused, MatchFate, WentOn, IsRefused, EndsRefused}
 use Rattle.sms_keeper.specs.History.{IsHistory, IsRising, Leads, asked, work}
 use Rattle.sms_keeper.specs.Keeping.{given_by, last_tick, ran_by, IsSameHub, IsStretch}
 
@@ -82,4 +82,12 @@ module _ {J O S : Type 0} (reads : ℕ → Type 0) (gives : S → Stimulus J →
     pub ends : MatchEnd end (WentOn items) (EndsRefused items)
     pub did : IsStretch reads a items b
     pub led : honest → MatchEnd end (Leads gives after stood items stands) (Leads gives after stood items resumes)
+    pub recorded : (before : List (Item J O)) → told before → tells (before ++ items)
+
+  -- What was refused item by item, once the machine could not be opened again.
+  pub record IsRefusing (honest : Type 0) (failed fails : S → Type 0) (told tells : List (Item J O) → Type 0) (a b : Keeper J O) : Type 0 where
+    pub items : List (Item J O)
+    pub refused : AllRefused items
+    pub did : IsStretch reads a items b
+    pub led : honest → Leads gives after failed items fails
     pub recorded : (before : List (Item J O)) → told before → tells (before ++ items)

@@ -1,7 +1,7 @@
 -- One history: items in order, each with the outs that the machine's definition gives after the items before it.
 use Rattle.std.specs.Prelude.{◌≡◌, ◌==◌, ◌<◌, ℕ, zero, suc, if◌then◌else◌, List, [], ◌∷◌, ◌++◌, Option, Some, None}
 use Rattle.sms_keeper.specs.declared.machine.Stimulus.{Stimulus}
-use Rattle.sms_keeper.specs.declared.machine.Stimulus.TheVariants.{Job, Tick}
+use Rattle.sms_keeper.specs.declared.machine.Stimulus.TheVariants.{Job, Tick, Own}
 use Rattle.sms_keeper.specs.declared.machine.Fate.{Fate}
 use Rattle.sms_keeper.specs.declared.machine.Item.{Item}
 use Rattle.sms_keeper.specs.declared.outs.Out.{Out}
@@ -26,16 +26,18 @@ module _ {J : Type 0} where
   abbrev pub tick_after : Option ℕ → Stimulus J → Option ℕ
   tick_after last (Job s j) = last
   tick_after last (Tick m) = Some m
+  tick_after last (Own errand) = last
 
 module _ {J : Type 0} (reads : ℕ → Type 0) where
-  -- a tick is later than the last one, and of a moment that the clock shows. A job is run only where the clock shows no moment after the
-  -- last tick
+  -- a tick is later than the last one, and of a moment that the clock shows. A job or an errand is run only where the clock shows no moment
+  -- after the last tick
   abbrev pub IsTimely : Option ℕ → Stimulus J → Type 0
   IsTimely last (Job s j) = (m : ℕ) × reads m × (IsLater last m → ⊥)
   IsTimely last (Tick m) = IsLater last m × reads m
+  IsTimely last (Own errand) = (m : ℕ) × reads m × (IsLater last m → ⊥)
 
 module _ {J O : Type 0} (reads : ℕ → Type 0) where
-  -- after a tick at a, or after none, each tick and each job of the items is timely, and b is the last tick then
+  -- after a tick at a, or after none, each item is timely, and b is the last tick then
   abbrev pub IsRising : Option ℕ → List (Item J O) → Option ℕ → Type 0
   IsRising a [] b = b ≡ a
   IsRising a (e ∷ es) b = IsTimely reads a e.stimulus × IsRising (tick_after a e.stimulus) es b
@@ -50,6 +52,7 @@ module _ {J : Type 0} where
   abbrev pub asked_by : Stimulus J → List (ℕ × J)
   asked_by (Job s j) = (s, j) ∷ []
   asked_by (Tick m) = []
+  asked_by (Own errand) = []
 
 module _ {J O : Type 0} where
   -- the outs for one seat, in all items

@@ -6,6 +6,7 @@ use sms_seats::SeatQueues;
 mod asking;
 mod giving;
 mod groups;
+mod refusing;
 mod seats;
 
 /// Why a term ended.

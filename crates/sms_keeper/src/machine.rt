@@ -8,7 +8,22 @@ ghost use Rattle.sms_keeper.specs.declared.outs.Out.{Out};
 ghost use Rattle.sms_keeper.specs.Fates.{MatchFate};
 
 use crate::outs::Outs;
-use sms_base::Moment;
+use sms_base::{MessageId, Moment};
+
+/// What the machine is to do that no seat asks.
+#[derive(Clone, Copy, Debug, PartialEq, Eq)]
+pub enum Errand {
+    /// It looks at so many messages, from that number on, and forgets those that may go and ended before that moment.
+    Forget {
+        before: Moment,
+        from: u64,
+        most: u16,
+    },
+    /// Its owner orders that what waits of the message is due now.
+    Retry(MessageId),
+    /// Its owner orders that the message is deleted.
+    Delete(MessageId),
+}
 
 /// What the machine is asked.
 #[derive(Drop)]
@@ -17,6 +32,8 @@ pub enum Stimulus<J> {
     Job(usize, J),
     /// The moment that the clock shows.
     Tick(Moment),
+    /// An errand, which no seat put.
+    Own(Errand),
 }
 
 /// The result of an item.
@@ -84,6 +101,10 @@ pub trait Recorder<J, O> {
     /// The machine was opened again after a group that its store refused.
     fn reopened(&mut self)
         ensures { (told : List (Item J O)) → has self.old told → has self.new told };
+
+    /// The machine could not be opened again. From now on each item is refused.
+    fn failed(&mut self)
+        ensures { (told : List (Item J O)) → has self.old told → has self.new told };
 }
 
 /// A recorder that keeps nothing.
@@ -100,6 +121,8 @@ impl<J, O> Recorder<J, O> for NoRecord {
     fn end_group(&mut self, _count: usize) {}
 
     fn reopened(&mut self) {}
+
+    fn failed(&mut self) {}
 }
 
 /// What the keeper runs. Its definition, by `gives` and `after`, says what each stimulus puts out and leads to.
@@ -116,6 +139,9 @@ pub trait Machine<J, O> {
     /// What it represents once it is opened again.
     ghost resumes: { Self → Self.State → Type 0 };
 
+    /// What it represents once it could not be opened again: it refuses each item as that.
+    ghost fails_as: { Self → Self.State → Type 0 };
+
     /// So far its store has returned what was written.
     ghost is_honest: { Self → Type 0 };
 
@@ -128,6 +154,9 @@ pub trait Machine<J, O> {
     ghost gives: { Self.State → Stimulus J → Fate → List (Out O) };
 
     ghost after: { Self.State → Stimulus J → Fate → Self.State };
+
+    /// What it is to do at that moment that no seat asks, if anything. The keeper asks it of the machine at once.
+    fn errand(&self, now: Moment) -> Option<Errand>;
 
     /// Plans and adopts. Nothing is committed yet, and nothing may leave. After a step that was refused its whole group is.
     fn step(&mut self, stimulus: &Stimulus<J>) -> Step<O>
@@ -149,6 +178,14 @@ pub trait Machine<J, O> {
     /// Recovers the machine from its rows, after a group that was refused.
     fn reopen(&mut self) -> Result<(), Broken>
         ensures ok { is_honest self.new → (s : Self.State) → resumes self.old s → OnOk result (stands self.new s s) }
+        ensures fails { is_honest self.new → (s : Self.State) → resumes self.old s → OnErr result (fails_as self.new s) }
         ensures before { is_honest self.new → is_honest self.old }
         ensures err { OnErr result (is_broken self.new) };
+
+    /// Refuses an item, once it could not be opened again. Its store is asked nothing.
+    fn refuse(&mut self, stimulus: &Stimulus<J>) -> Outs<O>
+        ensures gives { is_honest self.new → (r : Self.State) → fails_as self.old r
+            → (result ≡ gives r stimulus.now Refused) × fails_as self.new (after r stimulus.now Refused) }
+        ensures before { is_honest self.new → is_honest self.old }
+        ensures broken { is_broken self.old → is_broken self.new };
 }

@@ -1,3 +1,4 @@
 mod Marked
 mod Octets
 mod OwnFrames
+mod WrittenBack

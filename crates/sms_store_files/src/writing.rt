@@ -1,11 +1,14 @@
 //! What a run writes into the two files before it opens the database in them, and once it has ended in order.
-ghost use Rattle.std.specs.Prelude.{◌≡◌, ◌≤◌, ◌+◌, [], IfOk, IsTrue, OnOk, length};
+ghost use Rattle.std.specs.Prelude.{◌≡◌, ◌≤◌, ◌+◌, ℕ, [], IfOk, IsTrue, OnOk, length};
 ghost use Rattle.sqlite_disk.specs.Disk.{Only};
 ghost use Rattle.sqlite_wal.specs.Format.{be32};
-ghost use Rattle.sqlite_wal.specs.Log.{AreUsable};
+ghost use Rattle.sqlite_wal.specs.Files.{outcomes, seen_image};
+ghost use Rattle.sqlite_wal.specs.Log.{AreUsable, files, image, state};
+ghost use Rattle.sqlite_wal.specs.PageSize.{IsPageSize, bytes_of};
 ghost use Rattle.sqlite_wal.specs.Reads.{AreClean, IsClean};
+ghost use Rattle.sqlite_wal.specs.Recovery.{AddsNothing};
 ghost use Rattle.sms_store_files.specs.Reading.{mark_in};
-ghost use Rattle.sms_store_files.specs.Writing.{IsMarked};
+ghost use Rattle.sms_store_files.specs.Writing.{IsMarked, IsWrittenBack, NamesSize};
 
 use crate::marking::{Mark, number_of};
 use crate::reading::{APPLICATION, APPLICATION_AT, FilesFault, MARK};
@@ -29,6 +32,11 @@ fn octets_of(number: u32) -> [u8; 4]
 fn emptied<D: Disk + Drop>(log: Log<D>) -> Result<Files<D>, FilesFault>
     requires { AreUsable log }
     ensures usable { IfOk result (λ back. IsTrue (D.Disk.is_usable back.log) × IsTrue (D.Disk.is_usable back.db)) }
+    ensures whole { IfOk result (λ back. AreClean D.Disk back.log back.db
+        → IsWrittenBack (state log).page_size (image log) (seen_image D.Disk back.log back.db)) }
+    ensures crash { IfOk result (λ back. AreClean D.Disk back.log back.db
+        → AddsNothing (state log).page_size (outcomes D.Disk (files log).0 (files log).1) (outcomes D.Disk back.log back.db)) }
+    ensures honest { IfOk result (λ back. AreClean D.Disk back.log back.db → AreClean D.Disk (files log).0 (files log).1) }
 {
     let mut log = log;
     log.recover()?;
@@ -45,6 +53,11 @@ fn written_back<D: Disk + Drop>(
     requires log { IsTrue (D.Disk.is_usable files.log) }
     requires db { IsTrue (D.Disk.is_usable files.db) }
     ensures usable { IfOk result (λ back. IsTrue (D.Disk.is_usable back.log) × IsTrue (D.Disk.is_usable back.db)) }
+    ensures whole { IfOk result (λ back. AreClean D.Disk back.log back.db
+        → IsWrittenBack (bytes_of size) (seen_image D.Disk files.log files.db) (seen_image D.Disk back.log back.db)) }
+    ensures crash { IfOk result (λ back. AreClean D.Disk back.log back.db
+        → AddsNothing (bytes_of size) (outcomes D.Disk files.log files.db) (outcomes D.Disk back.log back.db)) }
+    ensures honest { IfOk result (λ back. AreClean D.Disk back.log back.db → AreClean D.Disk files.log files.db) }
 {
     match Log::new(alloc, files, size, seed) {
         Ok(log) => emptied(log),
@@ -63,6 +76,16 @@ pub fn write_back<D: Disk + Drop>(
     seed: u64,
 ) -> Result<Files<D>, FilesFault>
     ensures usable { IfOk result (λ back. IsTrue (D.Disk.is_usable back.log) × IsTrue (D.Disk.is_usable back.db)) }
+    ensures whole { IfOk result (λ back. AreClean D.Disk back.log back.db → (size : ℕ) → IsPageSize size
+        → NamesSize (seen_image D.Disk files.log files.db) size
+        → IsWrittenBack size (seen_image D.Disk files.log files.db) (seen_image D.Disk back.log back.db)) }
+    ensures left { IfOk result (λ back. AreClean D.Disk back.log back.db → (size : ℕ) → ¬ IsPageSize size
+        → NamesSize (seen_image D.Disk files.log files.db) size
+        → seen_image D.Disk back.log back.db ≡ seen_image D.Disk files.log files.db) }
+    ensures crash { IfOk result (λ back. AreClean D.Disk back.log back.db → (size : ℕ)
+        → NamesSize (seen_image D.Disk files.log files.db) size
+        → AddsNothing size (outcomes D.Disk files.log files.db) (outcomes D.Disk back.log back.db)) }
+    ensures honest { IfOk result (λ back. AreClean D.Disk back.log back.db → AreClean D.Disk files.log files.db) }
 {
     let mut files = files;
     if !files.may_be_used() {

@@ -38,5 +38,5 @@ pub use handset::{HandsetWords, handset_words};
 pub use misbehaviour::{Misbehaviour, Refusal, misbehaviour_words};
 pub use refused::{why_no_handset_words, why_no_server_words, why_no_sim_words};
 pub use secrets::{SecretWords, add_secret_lines, secret_in};
-pub use server::{ServerRun, ServerWords, server_words};
+pub use server::{OrderWord, ServerRun, ServerWords, server_words};
 pub use sim::{SimWords, sim_words};

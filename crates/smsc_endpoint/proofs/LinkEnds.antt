@@ -9,12 +9,13 @@ use Rattle.sms_centre_spec.specs.declared.jobs.reply.Reply.TheVariants.{Answer, 
 use Rattle.sms_centre_spec.specs.jobs.Requests.{is_request}
 use Rattle.smsc_endpoint.specs.declared.link_stage.Stage.{Stage}
 use Rattle.smsc_endpoint.specs.declared.link_stage.Stage.TheVariants.{Unnamed, Named, Taken, Later, Up}
+use Rattle.smsc_loop.specs.declared.note.Note.{Note}
 use Rattle.smsc_endpoint.specs.LinkView.{LinkView}
 use Rattle.smsc_endpoint.specs.LinkCalls.{HearsMarkAt, Hears, ReadsAt, ReadsOn}
-use Rattle.smsc_endpoint.specs.LinkCalls.{at_time, congestion, ended, handed_back, handing, mark, named_again, sending, unmarked, with_unread}
+use Rattle.smsc_endpoint.specs.LinkCalls.{at_time, congestion, ended, first_note, handed_back, handing, mark, named_again, next_note, sending, taken_by, unmarked, with_unread}
 use Rattle.smsc_endpoint.specs.LinkRuns.{LinkCall, LinkProgress, LinkRun, LinkStep, IsAfterEnd}
 use Rattle.smsc_endpoint.specs.LinkRuns.{all_jobs, put_back_by, put_by, taken_back, with_link, without_marks}
-use Rattle.smsc_endpoint.specs.LinkRuns.{At, Take, Hear, GiveUp, Send, Put, PutBack, Close}
+use Rattle.smsc_endpoint.specs.LinkRuns.{At, Take, Hear, GiveUp, Send, Put, PutBack, Close, Tell}
 use Rattle.smsc_endpoint.specs.Outbox.{OutboxView, next_among, with_octets}
 use Rattle.smsc_endpoint.proofs.LinkRuns.{is_frame}
 
@@ -85,6 +86,14 @@ closed_says octets w e = rw e refl
 sending_alike : (frame : List ℕ) (l : LinkView) → l.outbox.is_closed ≡ true → IsAlike l (sending frame l)
 sending_alike frame l e = record { over = refl; handset = refl; outbox = closed_says (framed frame) l.outbox e }
 
+taken_alike : (handset : Option (List ℕ)) (l : LinkView) → IsAlike l (taken_by handset l)
+taken_alike None l = record { over = refl; handset = refl; outbox = refl }
+taken_alike (Some handset) l = record { over = refl; handset = refl; outbox = refl }
+
+told_alike : (notes : List Note) (l : LinkView) → IsAlike l (first_note notes l).1
+told_alike [] l = record { over = refl; handset = refl; outbox = refl }
+told_alike (note ∷ notes) l = record { over = refl; handset = refl; outbox = refl }
+
 hears_ended : (reply : Reply) (before c : LinkProgress) (m : LinkView) → IsEnded before c → Hears reply c.link m → IsEnded before (with_link m c)
 hears_ended (Answer answer) before c m h r =
     let same : m ≡ unmarked c.link =
@@ -96,7 +105,7 @@ hears_ended (FrameReply frame) before c m h r = elim (is_frame frame) [
   | inr none ↦ alike before c m h (alike_is c.link m (r.1 none))
 ]
 hears_ended TakenReply before c m h r =
-    alike before c m h (record { over = ap (λ (k : LinkView). k.is_over) r; handset = ap (λ (k : LinkView). k.handset) r; outbox = ap (λ (k : LinkView). k.outbox) r })
+    subst (λ (k : LinkView). IsEnded before (with_link k c)) (sym r) (alike before c (taken_by c.link.handset c.link) h (taken_alike c.link.handset c.link))
 
 mark_left : (left jobs : List Job) → without_marks ((left ++ mark ∷ []) ++ jobs) ≡ without_marks (left ++ jobs)
 mark_left left jobs =
@@ -203,6 +212,7 @@ step_ended (Send count) before c d h s =
     })
 step_ended Put before c d h s = subst (IsEnded before) (sym s) (put_ended c.link.is_marked (eqb c.link.before_mark 0) c.link.outbox.jobs before c refl h)
 step_ended PutBack before c d h s = subst (IsEnded before) (sym s) (put_back_ended c.link.is_marked (eqb c.link.before_mark 0) c.link.outbox.jobs before c refl h)
+step_ended Tell before c d h s = subst (IsEnded before) (sym s) (alike before c (next_note c.link).1 h (told_alike c.link.notes c.link))
 step_ended Close before c d h s =
     subst (IsEnded before) (sym s) (record { over = refl; nobody = refl; closed = refl; octets = refl; jobs = h.jobs })
 

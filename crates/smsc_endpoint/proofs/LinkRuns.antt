@@ -12,14 +12,16 @@ use Rattle.sms_centre_spec.specs.declared.jobs.reply.Reply.TheVariants.{Answer, 
 use Rattle.smsc_endpoint.specs.declared.link_stage.Stage.{Stage}
 use Rattle.smsc_endpoint.specs.declared.link_stage.Stage.TheVariants.{Unnamed, Named, Taken, Later, Up}
 use Rattle.smsc_endpoint.specs.declared.link_access.LinkAccess.{LinkAccess}
-use Rattle.smsc_endpoint.specs.FirstFrame.{given_by}
+use Rattle.smsc_loop.specs.declared.note.Note.{Note}
+use Rattle.smsc_loop.specs.declared.note.Note.TheVariants.{LinkUp as LinkUpNote, NotReplaced, NoFrames}
+use Rattle.smsc_endpoint.specs.FirstFrame.{given_by, refused_by}
 use Rattle.smsc_endpoint.specs.LinkView.{LinkView}
 use Rattle.smsc_endpoint.specs.LinkCalls.{HearsFrame, HearsMarkAt, Hears, ReadsAt, ReadsFirst, ReadsFrames, ReadsOn}
-use Rattle.smsc_endpoint.specs.LinkCalls.{at_time, congestion, ended, handed_back, handed_out, handing, mark, named_again, named_by, naming}
-use Rattle.smsc_endpoint.specs.LinkCalls.{over_by, over_saying, over_with, protocol_error, sending, unmarked, waiting_on, with_frames, with_sent, with_unread}
+use Rattle.smsc_endpoint.specs.LinkCalls.{at_time, congestion, ended, first_note, handed_back, handed_out, handing, mark, named_again, named_by, naming, next_note, noting}
+use Rattle.smsc_endpoint.specs.LinkCalls.{over_by, over_saying, over_with, protocol_error, sending, sent_off, taken_by, unmarked, waiting_on, with_frames, with_sent, with_unread}
 use Rattle.smsc_endpoint.specs.LinkRuns.{LinkCall, LinkProgress, LinkRun, LinkStep, IsCutUp, IsLinkProgress, IsGiven, IsLinkJob, IsReadUp, IsWaitingJob}
 use Rattle.smsc_endpoint.specs.LinkRuns.{all_jobs, frames_of, put_back_by, put_by, started, taken_back, with_left, with_link}
-use Rattle.smsc_endpoint.specs.LinkRuns.{At, Take, Hear, GiveUp, Send, Put, PutBack, Close}
+use Rattle.smsc_endpoint.specs.LinkRuns.{At, Take, Hear, GiveUp, Send, Put, PutBack, Close, Tell}
 use Rattle.smsc_endpoint.specs.Outbox.{OutboxView, next_among, with_next, with_octets, without_octets}
 
 -- ---- lists
@@ -203,17 +205,17 @@ module _ (access : LinkAccess) where
   sent_still : (octets : List ℕ) (l : LinkView) → IsStill l (with_sent octets l)
   sent_still octets l = same_still l (with_sent octets l) (record { access = refl; unread = refl; over = refl; stage = refl; handset = refl }) (sent_jobs octets l)
 
-  over_is : (octets : List ℕ) (l : LinkView) (b : Bool) → l.is_over ≡ b → IsOver l (over_saying octets l)
-  over_is octets l true e = rw e (record { access = refl; unread = refl; jobs = refl; over = refl; stage = refl; handset = refl })
-  over_is octets l false e = rw e (record { access = refl; unread = refl; jobs = sent_jobs octets (record l { is_over = true }); over = refl; stage = refl; handset = refl })
+  over_is : (note : Note) (octets : List ℕ) (l : LinkView) (b : Bool) → l.is_over ≡ b → IsOver l (over_saying note octets l)
+  over_is note octets l true e = rw e (record { access = refl; unread = refl; jobs = refl; over = refl; stage = refl; handset = refl })
+  over_is note octets l false e = rw e (record { access = refl; unread = refl; jobs = sent_jobs octets (record l { is_over = true }); over = refl; stage = refl; handset = refl })
 
-  pub over_of : (frame : List ℕ) (l : LinkView) → IsOver l (over_with frame l)
-  over_of frame l = over_is (framed frame) l l.is_over refl
+  pub over_of : (note : Note) (frame : List ℕ) (l : LinkView) → IsOver l (over_with note frame l)
+  over_of note frame l = over_is note (framed frame) l l.is_over refl
 
-  over_with_still : (frame : List ℕ) (l : LinkView) → IsStill l (over_with frame l)
-  over_with_still frame l =
-      let o = over_of frame l in
-      over_still l (over_with frame l) o.access o.unread o.jobs o.over (λ handset e. sym o.handset ∙ e)
+  over_with_still : (note : Note) (frame : List ℕ) (l : LinkView) → IsStill l (over_with note frame l)
+  over_with_still note frame l =
+      let o = over_of note frame l in
+      over_still l (over_with note frame l) o.access o.unread o.jobs o.over (λ handset e. sym o.handset ∙ e)
 
   -- ---- time, and a handset that is named again
 
@@ -270,8 +272,9 @@ module _ (access : LinkAccess) where
 
   -- ---- another link of the handset
 
-  waiting_if : (b : Bool) (l : LinkView) → IsStill l (cond b (record l { stage = Later; since = l.time }) (over_with congestion (record l { handset = None; stage = Unnamed })))
-  waiting_if true l = record {
+  waiting_if : (b : Bool) (handset : List ℕ) (l : LinkView)
+      → IsStill l (cond b (record l { stage = Later; since = l.time }) (over_with (NotReplaced handset) congestion (record l { handset = None; stage = Unnamed })))
+  waiting_if true handset l = record {
     quiet = record {
       access = refl;
       unread = refl;
@@ -281,25 +284,35 @@ module _ (access : LinkAccess) where
     };
     up = λ over stage. let no : Later ≡ Up = stage in absurd cc;
   }
-  waiting_if false l =
-      let o = over_of congestion (record l { handset = None; stage = Unnamed }) in
-      over_still l (over_with congestion (record l { handset = None; stage = Unnamed })) o.access o.unread o.jobs o.over
-      (λ handset e. let no : None ≡ Some handset = sym o.handset ∙ e in absurd cc)
+  waiting_if false handset l =
+      let o = over_of (NotReplaced handset) congestion (record l { handset = None; stage = Unnamed }) in
+      over_still l (over_with (NotReplaced handset) congestion (record l { handset = None; stage = Unnamed })) o.access o.unread o.jobs o.over
+      (λ other e. let no : None ≡ Some other = sym o.handset ∙ e in absurd cc)
 
-  waiting_still : (l : LinkView) → IsStill l (waiting_on l)
-  waiting_still l = waiting_if (ltb 0 l.tries) l
+  waiting_still : (handset : List ℕ) (l : LinkView) → IsStill l (waiting_on handset l)
+  waiting_still handset l = waiting_if (ltb 0 l.tries) handset l
 
-  taken_still : (l : LinkView) → IsStill l (record l { stage = Taken })
-  taken_still l = record {
+  away_still : (l m : LinkView) → m.access ≡ l.access → m.unread ≡ l.unread → m.outbox ≡ l.outbox → m.stage ≡ Taken → m.handset ≡ l.handset → IsStill l m
+  away_still l m a u o t h = record {
     quiet = record {
-      access = refl;
-      unread = refl;
-      jobs = inl refl;
-      unnamed = λ over stage. let no : Taken ≡ Unnamed = stage in absurd cc;
-      handset = λ handset e. e;
+      access = a;
+      unread = u;
+      jobs = inl (ap (λ (w : OutboxView). w.jobs) o);
+      unnamed = λ over stage. let no : Taken ≡ Unnamed = sym t ∙ stage in absurd cc;
+      handset = λ handset e. sym h ∙ e;
     };
-    up = λ over stage. let no : Taken ≡ Up = stage in absurd cc;
+    up = λ over stage. let no : Taken ≡ Up = sym t ∙ stage in absurd cc;
   }
+
+  taken_still : (handset : Option (List ℕ)) (l : LinkView) → IsStill l (taken_by handset l)
+  taken_still None l = away_still l (taken_by None l) refl refl refl refl refl
+  taken_still (Some handset) l = away_still l (taken_by (Some handset) l) refl refl refl refl refl
+
+  -- ---- what is told
+
+  told_still : (notes : List Note) (l : LinkView) → IsStill l (first_note notes l).1
+  told_still [] l = refl_still l
+  told_still (note ∷ notes) l = same_still l (first_note (note ∷ notes) l).1 (record { access = refl; unread = refl; over = refl; stage = refl; handset = refl }) refl
 
   -- ---- reading
 
@@ -391,12 +404,13 @@ module _ (access : LinkAccess) where
   up_if_over : (l : LinkView) → l.is_over ≡ true → IsReadUp l
   up_if_over l o over stage frame b = let no : true ≡ false = sym o ∙ over in absurd cc
 
-  first_if : (given : Option (List ℕ)) (c : LinkProgress) (frame rest : List ℕ) → given_by access frame ≡ given → IsBegun access c frame rest → IsFrame frame
-      → c.link.handset ≡ None → IsLinkProgress access (with_link (named_by given (record c.link { unread = rest })) c)
-  first_if (Some handset) c frame rest given h is nobody = (named_by_first c frame rest handset h is given, λ over stage f b. let no : Named ≡ Up = stage in absurd cc)
-  first_if None c frame rest given h is nobody =
-      let o = over_of protocol_error (record c.link { unread = rest }) in
-      (ended_by_first c frame rest (over_with protocol_error (record c.link { unread = rest })) h is nobody o, up_if_over (over_with protocol_error (record c.link { unread = rest })) o.over)
+  first_if : (refusal : Note) (given : Option (List ℕ)) (c : LinkProgress) (frame rest : List ℕ) → given_by access frame ≡ given → IsBegun access c frame rest
+      → IsFrame frame → c.link.handset ≡ None → IsLinkProgress access (with_link (named_by refusal given (record c.link { unread = rest })) c)
+  first_if refusal (Some handset) c frame rest given h is nobody = (named_by_first c frame rest handset h is given, λ over stage f b. let no : Named ≡ Up = stage in absurd cc)
+  first_if refusal None c frame rest given h is nobody =
+      let m = over_with refusal protocol_error (record c.link { unread = rest }) in
+      let o = over_of refusal protocol_error (record c.link { unread = rest }) in
+      (ended_by_first c frame rest m h is nobody o, up_if_over m o.over)
 
   up_of : (l m : LinkView) → m ≡ l → IsReadUp l → IsReadUp m
   up_of l m e h = subst IsReadUp (sym e) h
@@ -414,9 +428,10 @@ module _ (access : LinkAccess) where
   reads_first : (found : (o f : List ℕ) → front_of o ≡ Ok (Some f) → BeginsWithFrame o f) (front : Result (Option (List ℕ)) FramingFault) (c : LinkProgress) (m : LinkView)
       → front_of c.link.unread ≡ front → IsCutUp access c → c.link.is_over ≡ false → c.link.stage ≡ Unnamed → ReadsFirst front c.link m → IsLinkProgress access (with_link m c)
   reads_first found (Err fault) c m is h over stage e =
-      let o = over_of protocol_error c.link in
+      let m' = over_with NoFrames protocol_error c.link in
+      let o = over_of NoFrames protocol_error c.link in
       subst (λ (k : LinkView). IsLinkProgress access (with_link k c)) (sym e)
-      (quiet_cut c (over_with protocol_error c.link) h (over_with_still protocol_error c.link).quiet, up_if_over (over_with protocol_error c.link) o.over)
+      (quiet_cut c m' h (over_with_still NoFrames protocol_error c.link).quiet, up_if_over m' o.over)
   reads_first found (Ok None) c m is h over stage e =
       subst (λ (k : LinkView). IsLinkProgress access (with_link k c)) (sym e)
       (h, λ o s f b. let no : Unnamed ≡ Up = sym stage ∙ s in absurd cc)
@@ -424,7 +439,7 @@ module _ (access : LinkAccess) where
       let rest = e.0 in
       let b = begun c frame rest h over stage e.1 in
       subst (λ (k : LinkView). IsLinkProgress access (with_link k c)) (sym e.2)
-      (first_if (given_by c.link.access frame) c frame rest (ap (λ (a : LinkAccess). given_by a frame) (sym b.same)) b (found c.link.unread frame is).0 (nobody_yet c h over stage))
+      (first_if (refused_by c.link.access frame) (given_by c.link.access frame) c frame rest (ap (λ (a : LinkAccess). given_by a frame) (sym b.same)) b (found c.link.unread frame is).0 (nobody_yet c h over stage))
 
   -- ---- a link that is up
 
@@ -460,8 +475,9 @@ module _ (access : LinkAccess) where
 
   over_by_progress : (front : Result (Option (List ℕ)) FramingFault) (c : LinkProgress) → IsCutUp access c → IsReadUp c.link → IsLinkProgress access (with_link (over_by front c.link) c)
   over_by_progress (Err fault) c h u =
-      let o = over_of protocol_error c.link in
-      (quiet_cut c (over_with protocol_error c.link) h (over_with_still protocol_error c.link).quiet, up_if_over (over_with protocol_error c.link) o.over)
+      let m = over_with NoFrames protocol_error c.link in
+      let o = over_of NoFrames protocol_error c.link in
+      (quiet_cut c m h (over_with_still NoFrames protocol_error c.link).quiet, up_if_over m o.over)
   over_by_progress (Ok front) c h u = (h, u)
 
   reads_frames : (c : LinkProgress) (m : LinkView) → IsCutUp access c → c.link.stage ≡ Up → ReadsFrames c.link m → IsLinkProgress access (with_link m c)
@@ -511,8 +527,9 @@ module _ (access : LinkAccess) where
     | inr none ↦ subst (λ (k : LinkView). IsLinkProgress access (with_link k c)) (sym (r.1 none)) h
   ]
 
-  unmarked_cut : (c : LinkProgress) → IsCutUp access c → (stage : Stage) → (stage ≡ Unnamed → ⊥) → IsCutUp access (with_link (record (unmarked c.link) { stage = stage }) c)
-  unmarked_cut c h stage named = record {
+  unmarked_cut : (note : Note) (c : LinkProgress) → IsCutUp access c → (stage : Stage) → (stage ≡ Unnamed → ⊥)
+      → IsCutUp access (with_link (noting note (record (unmarked c.link) { stage = stage })) c)
+  unmarked_cut note c h stage named = record {
     same = h.same;
     first = h.first;
     at_most_one = h.at_most_one;
@@ -530,10 +547,12 @@ module _ (access : LinkAccess) where
   hears_mark : (found : (o f : List ℕ) → front_of o ≡ Ok (Some f) → BeginsWithFrame o f) (stage : Stage) (handset : Option (List ℕ)) (c : LinkProgress) (m : LinkView)
       → IsLinkProgress access c → HearsMarkAt stage handset (unmarked c.link) m → IsLinkProgress access (with_link m c)
   hears_mark found Named (Some handset) c m h r =
-      reads_on found (with_link (record (unmarked c.link) { stage = Up }) c) m (unmarked_cut c h.0 Up (λ e. let no : Up ≡ Unnamed = e in absurd cc)) r
+      reads_on found (with_link (noting (LinkUpNote handset) (record (unmarked c.link) { stage = Up })) c) m
+      (unmarked_cut (LinkUpNote handset) c h.0 Up (λ e. let no : Up ≡ Unnamed = e in absurd cc)) r
   hears_mark found Taken (Some handset) c m h r =
       subst (λ (k : LinkView). IsLinkProgress access (with_link k c)) (sym r)
-      (still_progress (with_link (unmarked c.link) c) (waiting_on (unmarked c.link)) (still_progress c (unmarked c.link) h (unmarked_still c.link)) (waiting_still (unmarked c.link)))
+      (still_progress (with_link (unmarked c.link) c) (waiting_on handset (unmarked c.link)) (still_progress c (unmarked c.link) h (unmarked_still c.link))
+      (waiting_still handset (unmarked c.link)))
   hears_mark found Named None c m h r = subst (λ (k : LinkView). IsLinkProgress access (with_link k c)) (sym r) (still_progress c (unmarked c.link) h (unmarked_still c.link))
   hears_mark found Taken None c m h r = subst (λ (k : LinkView). IsLinkProgress access (with_link k c)) (sym r) (still_progress c (unmarked c.link) h (unmarked_still c.link))
   hears_mark found Unnamed handset c m h r = subst (λ (k : LinkView). IsLinkProgress access (with_link k c)) (sym r) (still_progress c (unmarked c.link) h (unmarked_still c.link))
@@ -544,7 +563,7 @@ module _ (access : LinkAccess) where
   hears found (Answer answer) c m h r = hears_mark found c.link.stage c.link.handset c m h r
   hears found (Receipt end) c m h r = subst (λ (k : LinkView). IsLinkProgress access (with_link k c)) (sym r) h
   hears found (FrameReply octets) c m h r = hears_frame c octets m h r
-  hears found TakenReply c m h r = subst (λ (k : LinkView). IsLinkProgress access (with_link k c)) (sym r) (still_progress c (record c.link { stage = Taken }) h (taken_still c.link))
+  hears found TakenReply c m h r = subst (λ (k : LinkView). IsLinkProgress access (with_link k c)) (sym r) (still_progress c (taken_by c.link.handset c.link) h (taken_still c.link.handset c.link))
 
   -- ---- jobs that go
 
@@ -668,7 +687,7 @@ module _ (access : LinkAccess) where
   one_step found (Hear reply) c d h s = subst (IsLinkProgress access) (sym s.2) (hears found reply c s.0 h s.1)
   one_step found GiveUp c d h s = subst (IsLinkProgress access) (sym s) (still_progress c (sending congestion c.link) h (sent_still (framed congestion) c.link))
   one_step found (Send count) c d h s =
-      let m = record c.link { outbox = without_octets count c.link.outbox } in
+      let m = sent_off count c.link in
       subst (IsLinkProgress access) (sym s)
       (still_progress c m h
       (same_still c.link m (record { access = refl; unread = refl; over = refl; stage = refl; handset = refl })
@@ -676,6 +695,7 @@ module _ (access : LinkAccess) where
   one_step found Put c d h s = subst (IsLinkProgress access) (sym s) (put_progress c (handed_out c.link) h (handed_is c.link))
   one_step found PutBack c d h s = subst (IsLinkProgress access) (sym s) (put_back_progress c (handed_out c.link) h (handed_is c.link))
   one_step found Close c d h s = subst (IsLinkProgress access) (sym s) (still_progress c (ended c.link) h (ended_still c.link))
+  one_step found Tell c d h s = subst (IsLinkProgress access) (sym s) (still_progress c (next_note c.link).1 h (told_still c.link.notes c.link))
 
   pub run_holds : (found : (o f : List ℕ) → front_of o ≡ Ok (Some f) → BeginsWithFrame o f) (calls : List LinkCall) (c d : LinkProgress) → IsLinkProgress access c → LinkRun c calls d → IsLinkProgress access d
   run_holds found [] c d h r = subst (IsLinkProgress access) (sym r) h

@@ -12,14 +12,16 @@ use Rattle.sms_centre_spec.specs.declared.jobs.reply.Reply.TheVariants.{Answer, 
 use Rattle.smsc_endpoint.specs.declared.link_stage.Stage.{Stage}
 use Rattle.smsc_endpoint.specs.declared.link_stage.Stage.TheVariants.{Unnamed, Named, Taken, Later, Up}
 use Rattle.smsc_endpoint.specs.declared.link_access.LinkAccess.{LinkAccess}
-use Rattle.smsc_endpoint.specs.FirstFrame.{given_by as number_given}
+use Rattle.smsc_loop.specs.declared.note.Note.{Note}
+use Rattle.smsc_loop.specs.declared.note.Note.TheVariants.{LinkUp as LinkUpNote, NotReplaced, NoFrames}
+use Rattle.smsc_endpoint.specs.FirstFrame.{given_by as number_given, refused_by}
 use Rattle.smsc_endpoint.specs.LinkView.{LinkView}
 use Rattle.smsc_endpoint.specs.LinkCalls.{HearsFrame, HearsMarkAt, Hears, ReadsAt, ReadsFirst, ReadsFrames, ReadsOn}
-use Rattle.smsc_endpoint.specs.LinkCalls.{at_time, handed_back, handed_out, handing, mark, named_again, named_by, naming}
-use Rattle.smsc_endpoint.specs.LinkCalls.{over_by, over_with, sending, unmarked, waiting_on, with_frames, with_sent, with_unread}
+use Rattle.smsc_endpoint.specs.LinkCalls.{at_time, first_note, handed_back, handed_out, handing, mark, named_again, named_by, naming, next_note, noting}
+use Rattle.smsc_endpoint.specs.LinkCalls.{over_by, over_with, sending, taken_by, unmarked, waiting_on, with_frames, with_sent, with_unread}
 use Rattle.smsc_endpoint.specs.LinkRuns.{LinkCall, LinkProgress}
 use Rattle.smsc_endpoint.specs.LinkRuns.{put_back_by, put_by, taken_back}
-use Rattle.smsc_endpoint.specs.LinkRuns.{At, Take, Hear, GiveUp, Send, Put, PutBack, Close}
+use Rattle.smsc_endpoint.specs.LinkRuns.{At, Take, Hear, GiveUp, Send, Put, PutBack, Close, Tell}
 use Rattle.smsc_endpoint.specs.LinkSends.{HasSent, LinkSends, SaidFrame, SendRun, SendStep, begun, frame_given, frame_of, given_among, given_by, sent_in}
 use Rattle.smsc_endpoint.specs.LinkSends.{Given, Congestion, ProtocolError}
 use Rattle.smsc_endpoint.specs.Outbox.{OutboxView, next_among, with_octets}
@@ -85,8 +87,8 @@ over_if : (said : SaidFrame) (b : Bool) (l : LinkView) → given_among (said ∷
 over_if said true l own = mute l.outbox
 over_if said false l own = says_one said l.outbox (with_octets (framed (frame_of said)) l.outbox) [] own refl
 
-over_says : (said : SaidFrame) (l : LinkView) → given_among (said ∷ []) ≡ [] → Says l.outbox (over_with (frame_of said) l).outbox []
-over_says said l own = over_if said l.is_over l own
+over_says : (note : Note) (said : SaidFrame) (l : LinkView) → given_among (said ∷ []) ≡ [] → Says l.outbox (over_with note (frame_of said) l).outbox []
+over_says note said l own = over_if said l.is_over l own
 
 -- ---- time, and what is read
 
@@ -102,18 +104,20 @@ again_says now Named handset l = mute l.outbox
 again_says now Taken handset l = mute l.outbox
 again_says now Up handset l = mute l.outbox
 
-named_says : (number : Option (List ℕ)) (l : LinkView) → Says l.outbox (named_by number l).outbox []
-named_says None l = over_says ProtocolError l refl
-named_says (Some handset) l = quiet l.outbox (named_by (Some handset) l).outbox refl refl
+named_says : (refusal : Note) (number : Option (List ℕ)) (l : LinkView) → Says l.outbox (named_by refusal number l).outbox []
+named_says refusal None l = over_says refusal ProtocolError l refl
+named_says refusal (Some handset) l = quiet l.outbox (named_by refusal (Some handset) l).outbox refl refl
 
 first_says : (front : Result (Option (List ℕ)) FramingFault) (l m : LinkView) → ReadsFirst front l m → Says l.outbox m.outbox []
-first_says (Err fault) l m e = says_by l (over_with (frame_of ProtocolError) l) m [] e (over_says ProtocolError l refl)
+first_says (Err fault) l m e = says_by l (over_with NoFrames (frame_of ProtocolError) l) m [] e (over_says NoFrames ProtocolError l refl)
 first_says (Ok None) l m e = says_by l l m [] e (mute l.outbox)
 first_says (Ok (Some frame)) l m e =
-    let k = record l { unread = e.0 } in says_by l (named_by (number_given l.access frame) k) m [] e.2 (named_says (number_given l.access frame) k)
+    let k = record l { unread = e.0 } in
+    let refusal = refused_by l.access frame in
+    says_by l (named_by refusal (number_given l.access frame) k) m [] e.2 (named_says refusal (number_given l.access frame) k)
 
 over_by_says : (front : Result (Option (List ℕ)) FramingFault) (l : LinkView) → Says l.outbox (over_by front l).outbox []
-over_by_says (Err fault) l = over_says ProtocolError l refl
+over_by_says (Err fault) l = over_says NoFrames ProtocolError l refl
 over_by_says (Ok front) l = mute l.outbox
 
 frames_say : (l m : LinkView) → ReadsFrames l m → Says l.outbox m.outbox []
@@ -138,14 +142,22 @@ reads_on_says l m r = reads_if l.is_over l m r
 
 -- ---- replies
 
-waiting_if : (b : Bool) (l : LinkView)
-    → Says l.outbox (cond b (record l { stage = Later; since = l.time }) (over_with (frame_of Congestion) (record l { handset = None; stage = Unnamed }))).outbox []
-waiting_if true l = mute l.outbox
-waiting_if false l = over_says Congestion (record l { handset = None; stage = Unnamed }) refl
+waiting_if : (b : Bool) (handset : List ℕ) (l : LinkView)
+    → Says l.outbox (cond b (record l { stage = Later; since = l.time }) (over_with (NotReplaced handset) (frame_of Congestion) (record l { handset = None; stage = Unnamed }))).outbox []
+waiting_if true handset l = mute l.outbox
+waiting_if false handset l = over_says (NotReplaced handset) Congestion (record l { handset = None; stage = Unnamed }) refl
+
+taken_says : (handset : Option (List ℕ)) (l : LinkView) → Says l.outbox (taken_by handset l).outbox []
+taken_says None l = mute l.outbox
+taken_says (Some handset) l = mute l.outbox
+
+told_says : (notes : List Note) (l : LinkView) → Says l.outbox (first_note notes l).1.outbox []
+told_says [] l = mute l.outbox
+told_says (note ∷ notes) l = mute l.outbox
 
 mark_says : (stage : Stage) (handset : Option (List ℕ)) (l m : LinkView) → HearsMarkAt stage handset l m → Says l.outbox m.outbox []
-mark_says Named (Some handset) l m r = reads_on_says (record l { stage = Up }) m r
-mark_says Taken (Some handset) l m r = says_by l (waiting_on l) m [] r (waiting_if (ltb 0 l.tries) l)
+mark_says Named (Some handset) l m r = reads_on_says (noting (LinkUpNote handset) (record l { stage = Up })) m r
+mark_says Taken (Some handset) l m r = says_by l (waiting_on handset l) m [] r (waiting_if (ltb 0 l.tries) handset l)
 mark_says Named None l m r = says_by l l m [] r (mute l.outbox)
 mark_says Taken None l m r = says_by l l m [] r (mute l.outbox)
 mark_says Unnamed handset l m r = says_by l l m [] r (mute l.outbox)
@@ -173,7 +185,7 @@ hears_says : (reply : Reply) (l m : LinkView) → Hears reply l m → Says l.out
 hears_says (Answer answer) l m r = mark_says l.stage l.handset (unmarked l) m r
 hears_says (Receipt end) l m r = says_by l l m [] r (mute l.outbox)
 hears_says (FrameReply octets) l m r = frame_says octets l m r
-hears_says TakenReply l m r = says_by l (record l { stage = Taken }) m [] r (mute l.outbox)
+hears_says TakenReply l m r = says_by l (taken_by l.handset l) m [] r (taken_says l.handset l)
 
 -- ---- jobs that go
 
@@ -284,6 +296,10 @@ step_sends PutBack s t step is_open f =
     let l = s.progress.link in
     goes_by s t [] step.given step.sent is_open f
     (says_progress s.progress t.progress (put_back_by (handed_out l) s.progress) [] step.step (put_back_says l.is_marked (eqb l.before_mark 0) l.outbox.jobs s.progress))
+step_sends Tell s t step is_open f =
+    let l = s.progress.link in
+    goes_by s t [] step.given step.sent is_open f
+    (says_with s.progress t.progress (next_note l).1 [] (ap (λ (c : LinkProgress). c.link) step.step) (told_says l.notes l))
 step_sends Close s t step is_open f =
     let no : true ≡ false = sym (ap (λ (c : LinkProgress). c.link.outbox.is_closed) step.step) ∙ is_open in absurd cc
 

@@ -5,8 +5,9 @@ use Rattle.sms_link.specs.declared.framing.fault.FramingFault.{FramingFault}
 use Rattle.sms_link.specs.framing.Framing.{IsFrame, BeginsWithFrame, framed, front_of, joined}
 use Rattle.sms_centre_spec.specs.declared.jobs.job.Job.{Job}
 use Rattle.sms_centre_spec.specs.declared.jobs.job.Job.TheVariants.{Frame}
+use Rattle.smsc_loop.specs.declared.note.Counts.{Counts}
 use Rattle.smsc_endpoint.specs.LinkView.{LinkView}
-use Rattle.smsc_endpoint.specs.LinkCalls.{CutsFront, ReadsFrames, over_by, with_frame, with_frames}
+use Rattle.smsc_endpoint.specs.LinkCalls.{CutsFront, ReadsFrames, frames_counted, one_frame, over_by, with_frame, with_frames}
 
 -- ---- one cut
 
@@ -65,22 +66,27 @@ jobs_more : (frames : List (List ℕ)) (frame : List ℕ) → frame_jobs (frames
 jobs_more [] frame = refl
 jobs_more (first ∷ frames) frame = ap (λ (js : List Job). Frame first ∷ js) (jobs_more frames frame)
 
-abbrev with_jobs : LinkView → List ℕ → List Job → LinkView
-with_jobs l rest jobs = record l { unread = rest; outbox = record l.outbox { jobs = jobs } }
+counted_more : (frames : List (List ℕ)) (frame : List ℕ) (counts : Counts) → frames_counted (frames ++ frame ∷ []) counts ≡ one_frame (frames_counted frames counts)
+counted_more [] frame counts = refl
+counted_more (first ∷ frames) frame counts = counted_more frames frame (one_frame counts)
+
+abbrev with_jobs : LinkView → List ℕ → List Job → Counts → LinkView
+with_jobs l rest jobs counts = record l { unread = rest; outbox = record l.outbox { jobs = jobs }; counts = counts }
 
 pub none_read : (l : LinkView) → AreRead l [] l
 none_read l = record {
   parts = refl;
   each = tt;
-  jobs = ap (with_jobs l l.unread) (sym (append-nil l.outbox.jobs));
+  jobs = ap (λ (js : List Job). with_jobs l l.unread js l.counts) (sym (append-nil l.outbox.jobs));
 }
 
 with_one : (l : LinkView) (frames : List (List ℕ)) (frame before rest : List ℕ)
     → with_frame frame (record (with_frames frames before l) { unread = rest }) ≡ with_frames (frames ++ frame ∷ []) rest l
 with_one l frames frame before rest =
-    ap (with_jobs l rest)
+    ap (λ (js : List Job). with_jobs l rest js (one_frame (frames_counted frames l.counts)))
     (append_assoc l.outbox.jobs (frame_jobs frames) (Frame frame ∷ [])
     ∙ ap (λ (js : List Job). l.outbox.jobs ++ js) (sym (jobs_more frames frame)))
+    ∙ ap (with_jobs l rest (l.outbox.jobs ++ frame_jobs (frames ++ frame ∷ []))) (sym (counted_more frames frame l.counts))
 
 pub one_read : (l m n o : LinkView) (frames : List (List ℕ)) (frame : List ℕ) → AreRead l frames m → IsCut m frame n → IsFrame frame
     → o ≡ with_frame frame n → AreRead l (frames ++ frame ∷ []) o

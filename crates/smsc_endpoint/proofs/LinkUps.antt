@@ -10,12 +10,14 @@ use Rattle.sms_centre_spec.specs.declared.jobs.reply.Reply.TheVariants.{Answer, 
 use Rattle.smsc_endpoint.specs.declared.link_access.LinkAccess.{LinkAccess}
 use Rattle.smsc_endpoint.specs.declared.link_stage.Stage.{Stage}
 use Rattle.smsc_endpoint.specs.declared.link_stage.Stage.TheVariants.{Unnamed, Named, Taken, Later, Up}
-use Rattle.smsc_endpoint.specs.FirstFrame.{given_by}
+use Rattle.smsc_loop.specs.declared.note.Note.{Note}
+use Rattle.smsc_loop.specs.declared.note.Note.TheVariants.{LinkUp as LinkUpNote, NotReplaced, NoFrames}
+use Rattle.smsc_endpoint.specs.FirstFrame.{given_by, refused_by}
 use Rattle.smsc_endpoint.specs.LinkView.{LinkView}
-use Rattle.smsc_endpoint.specs.LinkCalls.{HearsMarkAt, Hears, ReadsAt, ReadsFirst, ReadsOn, congestion, handed_back, handed_out, named_again, named_by, naming, over_by}
-use Rattle.smsc_endpoint.specs.LinkCalls.{over_with, protocol_error, sending, unmarked, with_frames, with_unread}
+use Rattle.smsc_endpoint.specs.LinkCalls.{HearsMarkAt, Hears, ReadsAt, ReadsFirst, ReadsOn, congestion, first_note, handed_back, handed_out, named_again, named_by, naming, next_note, noting, over_by}
+use Rattle.smsc_endpoint.specs.LinkCalls.{over_with, protocol_error, sending, taken_by, unmarked, with_frames, with_unread}
 use Rattle.smsc_endpoint.specs.LinkRuns.{LinkCall, LinkProgress, LinkRun, LinkStep, put_back_by, put_by, started, taken_back, with_link}
-use Rattle.smsc_endpoint.specs.LinkRuns.{At, Take, Hear, GiveUp, Send, Put, PutBack, Close}
+use Rattle.smsc_endpoint.specs.LinkRuns.{At, Take, Hear, GiveUp, Send, Put, PutBack, Close, Tell}
 use Rattle.smsc_endpoint.specs.Outbox.{with_octets}
 use Rattle.smsc_endpoint.proofs.LinkRuns.{IsHanded, IsSameLink, handed_is, is_frame, over_of}
 
@@ -28,24 +30,25 @@ alike l m stage handset n up = let was = n (sym stage ∙ up) in (was.0, handset
 same : (l m : LinkView) → m ≡ l → IsNamedUp l → IsNamedUp m
 same l m e n = subst IsNamedUp (sym e) n
 
-over_named : (frame : List ℕ) (l : LinkView) → IsNamedUp l → IsNamedUp (over_with frame l)
-over_named frame l n = let o = over_of l.access frame l in alike l (over_with frame l) o.stage o.handset n
+over_named : (note : Note) (frame : List ℕ) (l : LinkView) → IsNamedUp l → IsNamedUp (over_with note frame l)
+over_named note frame l n = let o = over_of l.access note frame l in alike l (over_with note frame l) o.stage o.handset n
 
 -- ---- what is read
 
-name_named : (number : Option (List ℕ)) (l : LinkView) → IsNamedUp l → IsNamedUp (named_by number l)
-name_named None l n = over_named protocol_error l n
-name_named (Some handset) l n = λ up. let no : Named ≡ Up = up in absurd cc
+name_named : (refusal : Note) (number : Option (List ℕ)) (l : LinkView) → IsNamedUp l → IsNamedUp (named_by refusal number l)
+name_named refusal None l n = over_named refusal protocol_error l n
+name_named refusal (Some handset) l n = λ up. let no : Named ≡ Up = up in absurd cc
 
 first_named : (front : Result (Option (List ℕ)) FramingFault) (l m : LinkView) → IsNamedUp l → ReadsFirst front l m → IsNamedUp m
-first_named (Err fault) l m n e = same (over_with protocol_error l) m e (over_named protocol_error l n)
+first_named (Err fault) l m n e = same (over_with NoFrames protocol_error l) m e (over_named NoFrames protocol_error l n)
 first_named (Ok None) l m n e = same l m e n
 first_named (Ok (Some frame)) l m n e =
     let k = record l { unread = e.0 } in
-    same (named_by (given_by l.access frame) k) m e.2 (name_named (given_by l.access frame) k (alike l k refl refl n))
+    let refusal = refused_by l.access frame in
+    same (named_by refusal (given_by l.access frame) k) m e.2 (name_named refusal (given_by l.access frame) k (alike l k refl refl n))
 
 over_by_named : (front : Result (Option (List ℕ)) FramingFault) (l : LinkView) → IsNamedUp l → IsNamedUp (over_by front l)
-over_by_named (Err fault) l n = over_named protocol_error l n
+over_by_named (Err fault) l n = over_named NoFrames protocol_error l n
 over_by_named (Ok front) l n = n
 
 reads_named : (stage : Stage) (l m : LinkView) → IsNamedUp l → ReadsAt stage l m → IsNamedUp m
@@ -78,13 +81,22 @@ again_named now Named handset l n = n
 again_named now Taken handset l n = n
 again_named now Up handset l n = n
 
-waiting_if : (b : Bool) (l : LinkView) → IsNamedUp (cond b (record l { stage = Later; since = l.time }) (over_with congestion (record l { handset = None; stage = Unnamed })))
-waiting_if true l = λ up. let no : Later ≡ Up = up in absurd cc
-waiting_if false l = over_named congestion (record l { handset = None; stage = Unnamed }) (λ up. let no : Unnamed ≡ Up = up in absurd cc)
+waiting_if : (b : Bool) (handset : List ℕ) (l : LinkView)
+    → IsNamedUp (cond b (record l { stage = Later; since = l.time }) (over_with (NotReplaced handset) congestion (record l { handset = None; stage = Unnamed })))
+waiting_if true handset l = λ up. let no : Later ≡ Up = up in absurd cc
+waiting_if false handset l = over_named (NotReplaced handset) congestion (record l { handset = None; stage = Unnamed }) (λ up. let no : Unnamed ≡ Up = up in absurd cc)
+
+taken_named : (handset : Option (List ℕ)) (l : LinkView) → IsNamedUp (taken_by handset l)
+taken_named None l = λ up. let no : Taken ≡ Up = up in absurd cc
+taken_named (Some handset) l = λ up. let no : Taken ≡ Up = up in absurd cc
+
+told_named : (notes : List Note) (l : LinkView) → IsNamedUp l → IsNamedUp (first_note notes l).1
+told_named [] l n = n
+told_named (note ∷ notes) l n = n
 
 mark_named : (stage : Stage) (handset : Option (List ℕ)) (l m : LinkView) → l.handset ≡ handset → IsNamedUp l → HearsMarkAt stage handset l m → IsNamedUp m
-mark_named Named (Some handset) l m is n r = reads_on_named (record l { stage = Up }) m (λ up. (handset, is)) r
-mark_named Taken (Some handset) l m is n r = subst IsNamedUp (sym r) (waiting_if (ltb 0 l.tries) l)
+mark_named Named (Some handset) l m is n r = reads_on_named (noting (LinkUpNote handset) (record l { stage = Up })) m (λ up. (handset, is)) r
+mark_named Taken (Some handset) l m is n r = subst IsNamedUp (sym r) (waiting_if (ltb 0 l.tries) handset l)
 mark_named Named None l m is n r = same l m r n
 mark_named Taken None l m is n r = same l m r n
 mark_named Unnamed handset l m is n r = same l m r n
@@ -98,7 +110,7 @@ hears_named (FrameReply frame) l m n r = elim (is_frame frame) [
   | inl is ↦ same (sending frame l) m (r.0 is) (alike l (sending frame l) refl refl n)
   | inr none ↦ same l m (r.1 none) n
 ]
-hears_named TakenReply l m n r = same (record l { stage = Taken }) m r (λ up. let no : Taken ≡ Up = up in absurd cc)
+hears_named TakenReply l m n r = same (taken_by l.handset l) m r (taken_named l.handset l)
 
 -- ---- jobs that go
 
@@ -138,6 +150,7 @@ step_named GiveUp c d n s = linked c d (sending congestion c.link) s (alike c.li
 step_named (Send count) c d n s = subst (λ (p : LinkProgress). IsNamedUp p.link) (sym s) n
 step_named Put c d n s = subst (λ (p : LinkProgress). IsNamedUp p.link) (sym s) (put_named c (handed_out c.link) n (handed_is c.link))
 step_named PutBack c d n s = subst (λ (p : LinkProgress). IsNamedUp p.link) (sym s) (put_back_named c (handed_out c.link) n (handed_is c.link))
+step_named Tell c d n s = linked c d (next_note c.link).1 s (told_named c.link.notes c.link n)
 step_named Close c d n s = subst (λ (p : LinkProgress). IsNamedUp p.link) (sym s) (λ up. let no : Unnamed ≡ Up = up in absurd cc)
 
 pub run_named : (calls : List LinkCall) (c d : LinkProgress) → IsNamedUp c.link → LinkRun c calls d → IsNamedUp d.link

@@ -7,18 +7,17 @@ use Rattle.smsc_loop.specs.Calls.{Sent, Put, PutBack, AskedToLeave}
 use Rattle.smsc_endpoint.specs.EsmeCalls.{asked_to_leave, octets_of, handed_back as esme_back, sent as esme_sent}
 use Rattle.smsc_endpoint.specs.EsmeDoes.{EsmeDoes}
 use Rattle.smsc_endpoint.specs.EsmeView.{EsmeView}
-use Rattle.smsc_endpoint.specs.LinkCalls.{handed_back as link_back}
+use Rattle.smsc_endpoint.specs.LinkCalls.{handed_back as link_back, sent_off}
 use Rattle.smsc_endpoint.specs.LinkDoes.{LinkDoes}
 use Rattle.smsc_endpoint.specs.LinkView.{LinkView}
-use Rattle.smsc_endpoint.specs.Outbox.{without_octets}
 
 -- ---- a link
 
-pub link_sent : (l m : LinkView) (count : ℕ) → count ≤ length l.outbox.octets → m ≡ record l { outbox = without_octets count l.outbox }
+pub link_sent : (l m : LinkView) (count : ℕ) → count ≤ length l.outbox.octets → m ≡ sent_off count l
     → LinkDoes (Sent (take count l.outbox.octets)) l m
 link_sent l m count fits e =
     let same : length (take count l.outbox.octets) ≡ count = length-take-le count l.outbox.octets fits in
-    (ap (λ (n : ℕ). take n l.outbox.octets) (sym same), subst (λ (n : ℕ). m ≡ record l { outbox = without_octets n l.outbox }) (sym same) e)
+    (ap (λ (n : ℕ). take n l.outbox.octets) (sym same), subst (λ (n : ℕ). m ≡ sent_off n l) (sym same) e)
 
 pub link_puts_back : (l m : LinkView) (job : Job) {E : Type 0} (result : Result Bool E) → IfOk result (λ again. (again, m) ≡ link_back job l)
     → (k : LinkView) → LinkDoes (Put job) k l → MatchResult result (λ again. LinkDoes (PutBack job again true) k m) (λ error. LinkDoes (PutBack job false false) k m)

@@ -1,9 +1,9 @@
 -- What the calls of the loop lead to in the link of a handset.
 use Rattle.std.specs.Prelude.{◌≡◌, ◌==◌, ◌||◌, ◌&&◌, not, ℕ, List, length, take, Bool, false, Some}
-use Rattle.smsc_loop.specs.Calls.{Call, Timed, Took, Heard, GaveUp, AskedLink, AskedToLeave, Sent, Put, PutBack, Left, Goes}
-use Rattle.smsc_endpoint.specs.LinkCalls.{Hears, ReadsOn, at_time, congestion, ended, handed_back, handed_out, last_job, sending, with_unread}
+use Rattle.smsc_loop.specs.Calls.{Call, Timed, Took, Heard, GaveUp, AskedLink, AskedToLeave, Noted, Sent, Put, PutBack, Left, Goes}
+use Rattle.smsc_endpoint.specs.LinkCalls.{Hears, ReadsOn, at_time, congestion, ended, handed_back, handed_out, last_job, next_note, sending, sent_off, with_unread}
 use Rattle.smsc_endpoint.specs.LinkView.{LinkView}
-use Rattle.smsc_endpoint.specs.Outbox.{is_any, without_octets}
+use Rattle.smsc_endpoint.specs.Outbox.{is_any}
 
 abbrev pub link_waits : LinkView → List ℕ
 link_waits l = l.outbox.octets
@@ -20,8 +20,8 @@ LinkDoes (Heard reply went) l m = Goes went (Hears reply l m)
 LinkDoes (GaveUp went) l m = Goes went (m ≡ sending congestion l)
 LinkDoes (AskedLink went) l m = m ≡ l
 LinkDoes (AskedToLeave asked went) l m = (asked ≡ false) × (m ≡ l)
-LinkDoes (Sent octets) l m =
-    (octets ≡ take (length octets) l.outbox.octets) × (m ≡ record l { outbox = without_octets (length octets) l.outbox })
+LinkDoes (Noted note) l m = (note, m) ≡ next_note l
+LinkDoes (Sent octets) l m = (octets ≡ take (length octets) l.outbox.octets) × (m ≡ sent_off (length octets) l)
 LinkDoes (Put job) l m = (Some job, m) ≡ handed_out l
 LinkDoes (PutBack job again went) l m = (k : LinkView) × ((Some job, k) ≡ handed_out l) × Goes went ((again, m) ≡ handed_back job k)
 LinkDoes (Left last) l m = (last ≡ last_job l.stage) × (m ≡ ended l)

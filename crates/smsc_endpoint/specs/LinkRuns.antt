@@ -11,8 +11,7 @@ use Rattle.smsc_endpoint.specs.declared.link_access.LinkSecret.{LinkSecret}
 use Rattle.smsc_endpoint.specs.declared.link_stage.Stage.TheVariants.{Unnamed, Up}
 use Rattle.smsc_endpoint.specs.FirstFrame.{given_by, is_number, is_secret_of}
 use Rattle.smsc_endpoint.specs.LinkView.{LinkView, opened}
-use Rattle.smsc_endpoint.specs.LinkCalls.{ReadsOn, Hears, at_time, congestion, ended, handed_back, handed_out, mark, sending, with_unread}
-use Rattle.smsc_endpoint.specs.Outbox.{without_octets}
+use Rattle.smsc_endpoint.specs.LinkCalls.{ReadsOn, Hears, at_time, congestion, ended, handed_back, handed_out, mark, next_note, sending, sent_off, with_unread}
 
 pub data LinkCall : Type 0 where
   At : ℕ → LinkCall
@@ -27,6 +26,8 @@ pub data LinkCall : Type 0 where
   -- a job is handed out, and handed back since there is no room for it
   PutBack : LinkCall
   Close : LinkCall
+  -- it says what happened
+  Tell : LinkCall
 
 -- a link, all octets that arrived, and all jobs that it handed out and did not take back
 pub record LinkProgress : Type 0 where
@@ -62,10 +63,11 @@ LinkStep (At now) c d = d ≡ with_link (at_time now c.link) c
 LinkStep (Take octets) c d = (l : LinkView) × ReadsOn (with_unread octets c.link) l × (d ≡ record c { link = l; arrived = c.arrived ++ octets })
 LinkStep (Hear reply) c d = (l : LinkView) × Hears reply c.link l × (d ≡ with_link l c)
 LinkStep GiveUp c d = d ≡ with_link (sending congestion c.link) c
-LinkStep (Send count) c d = d ≡ with_link (record c.link { outbox = without_octets count c.link.outbox }) c
+LinkStep (Send count) c d = d ≡ with_link (sent_off count c.link) c
 LinkStep Put c d = d ≡ put_by (handed_out c.link) c
 LinkStep PutBack c d = d ≡ put_back_by (handed_out c.link) c
 LinkStep Close c d = d ≡ with_link (ended c.link) c
+LinkStep Tell c d = d ≡ with_link (next_note c.link).1 c
 
 -- calls one after the other
 abbrev pub LinkRun : LinkProgress → List LinkCall → LinkProgress → Type 0

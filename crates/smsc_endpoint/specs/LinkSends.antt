@@ -6,7 +6,7 @@ use Rattle.sms_centre_spec.specs.declared.jobs.reply.Reply.TheVariants.{Answer, 
 use Rattle.smsc_endpoint.specs.declared.link_access.LinkAccess.{LinkAccess}
 use Rattle.smsc_endpoint.specs.LinkCalls.{congestion, protocol_error}
 use Rattle.smsc_endpoint.specs.LinkRuns.{LinkCall, LinkProgress, LinkStep, started}
-use Rattle.smsc_endpoint.specs.LinkRuns.{At, Take, Hear, GiveUp, Send, Put, PutBack, Close}
+use Rattle.smsc_endpoint.specs.LinkRuns.{At, Take, Hear, GiveUp, Send, Put, PutBack, Close, Tell}
 
 -- the progress of a link, the frames that it was given to send, and all octets that were sent
 pub record LinkSends : Type 0 where
@@ -36,6 +36,7 @@ given_in (Send count) = []
 given_in Put = []
 given_in PutBack = []
 given_in Close = []
+given_in Tell = []
 
 -- the octets that a call sends, of those that wait
 abbrev pub sent_in : LinkCall → List ℕ → List ℕ
@@ -47,6 +48,7 @@ sent_in (Send count) octets = if nat_le count (length octets) then take count oc
 sent_in Put octets = []
 sent_in PutBack octets = []
 sent_in Close octets = []
+sent_in Tell octets = []
 
 -- one call
 pub record SendStep (call : LinkCall) (s t : LinkSends) : Type 0 where

@@ -1,8 +1,11 @@
 -- The link of a handset at a seat, as contracts see it.
 use Rattle.std.specs.Prelude.{ℕ, List, [], Option, None, Bool, false}
+use Rattle.smsc_loop.specs.declared.note.Counts.{Counts}
+use Rattle.smsc_loop.specs.declared.note.Note.{Note}
 use Rattle.smsc_endpoint.specs.declared.link_access.LinkAccess.{LinkAccess}
 use Rattle.smsc_endpoint.specs.declared.link_stage.Stage.{Stage}
 use Rattle.smsc_endpoint.specs.declared.link_stage.Stage.TheVariants.{Unnamed}
+use Rattle.smsc_endpoint.specs.EsmeView.{none_counted}
 use Rattle.smsc_endpoint.specs.Outbox.{OutboxView, nothing_waits}
 
 pub record LinkView : Type 0 where
@@ -14,6 +17,9 @@ pub record LinkView : Type 0 where
   pub stage : Stage
   pub is_over : Bool
   pub outbox : OutboxView
+  -- what happened that an operator may want to know and was not told, in order
+  pub notes : List Note
+  pub counts : Counts
   -- so many jobs may be done before the next that has an answer
   pub before_mark : ℕ
   -- that answer is not there yet
@@ -41,6 +47,8 @@ opened access = record {
   stage = Unnamed;
   is_over = false;
   outbox = nothing_waits;
+  notes = [];
+  counts = none_counted;
   before_mark = most_unmarked;
   is_marked = false;
   time = 0;

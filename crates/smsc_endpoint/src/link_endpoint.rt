@@ -2,14 +2,16 @@
 ghost use Rattle.std.specs.Prelude.{◌≡◌, ◌==◌, ◌||◌, ◌&&◌, not, false, true, None, Ok, IfOk, OnOk, if◌then◌else◌};
 ghost use Rattle.std.specs.Arc.{arc_value};
 ghost use Rattle.sms_link.specs.framing.Framing.{front_of};
-ghost use Rattle.smsc_endpoint.specs.FirstFrame.{given_by as given_number};
+ghost use Rattle.smsc_endpoint.specs.FirstFrame.{given_by as given_number, refused_by};
 ghost use Rattle.smsc_endpoint.specs.LinkView.{opened};
 ghost use Rattle.smsc_endpoint.specs.LinkCalls.{CutsFront, Hears, HearsFrame, HearsMarkAt, ReadsFirst, ReadsFrames, ReadsOn};
-ghost use Rattle.smsc_endpoint.specs.LinkCalls.{at_time, congestion, ended, handed_back, handed_out, handing, last_job, left_behind, mark as mark_job};
-ghost use Rattle.smsc_endpoint.specs.LinkCalls.{naming, over_saying, named_by, sending, unmarked as unmarked_of, waiting_on, with_frame, with_unread};
+ghost use Rattle.smsc_endpoint.specs.LinkCalls.{at_time, congestion, ended, handed_back, handed_out, handing, last_job, left_behind, mark as mark_job, next_note};
+ghost use Rattle.smsc_endpoint.specs.LinkCalls.{naming, noting, over_saying, named_by, sending, sent_off, taken_by, unmarked as unmarked_of};
+ghost use Rattle.smsc_endpoint.specs.LinkCalls.{waiting_on, with_frame, with_unread};
 ghost use Rattle.smsc_endpoint.specs.LinkCalls.{is_full as is_full_of, is_up};
-ghost use Rattle.smsc_endpoint.specs.Outbox.{next_of, without_octets, is_any};
-ghost use Rattle.smsc_endpoint.specs.declared.link_stage.Stage.TheVariants.{Taken, Up};
+ghost use Rattle.smsc_endpoint.specs.Outbox.{next_of, is_any};
+ghost use Rattle.smsc_endpoint.specs.declared.link_stage.Stage.TheVariants.{Up};
+ghost use Rattle.smsc_loop.specs.declared.note.Note.TheVariants.{LinkUp as LinkUpNote};
 
 use crate::first_frame::{given_by, refusal_of};
 use crate::link_access::LinkAccess;
@@ -50,7 +52,6 @@ pub struct LinkEndpoint {
     stage: Stage,
     is_over: bool,
     outbox: Outbox,
-    // For the log and the status page alone: contracts don't see what a link notes and counts.
     notes: VecDeque<Note>,
     counts: Counts,
     // So many jobs may go before the next that has an answer.
@@ -78,6 +79,8 @@ impl Model for LinkEndpoint {
       stage = l.stage;
       is_over = l.is_over;
       outbox = l.outbox;
+      notes = l.notes.items;
+      counts = l.counts;
       before_mark = l.before_mark;
       is_marked = l.is_marked;
       time = l.time;
@@ -109,9 +112,9 @@ impl LinkEndpoint {
         }
     }
 
-    // The link is over. It is sent the reason once.
+    // The link is over. It is sent the reason once, and the operator is told it.
     fn end_with(&mut self, note: Note, octets: &[u8]) -> Result<(), AllocError>
-        ensures { OnOk result (self.new ≡ over_saying octets.now self.old) }
+        ensures { OnOk result (self.new ≡ over_saying note octets.now self.old) }
     {
         if !self.is_over {
             self.is_over = true;
@@ -163,7 +166,7 @@ impl LinkEndpoint {
 
     // Does what the first frame asks.
     fn name_by(&mut self, frame: &[u8]) -> Result<(), AllocError>
-        ensures { OnOk result (self.new ≡ named_by (given_number self.old.access frame.now) self.old) }
+        ensures { OnOk result (self.new ≡ named_by (refused_by self.old.access frame.now) (given_number self.old.access frame.now) self.old) }
     {
         let given = given_by(&self.access, frame);
         let refusal = refusal_of(&self.access, frame);
@@ -220,7 +223,7 @@ impl LinkEndpoint {
 
     // The handset has another link, which is to end.
     fn turned_away(&mut self) -> Result<(), AllocError>
-        ensures { OnOk result (self.new ≡ record self.old { stage = Taken }) }
+        ensures { OnOk result (self.new ≡ taken_by self.old.handset self.old) }
     {
         self.stage = Stage::Taken;
         if let Some(handset) = self.handset {
@@ -231,7 +234,7 @@ impl LinkEndpoint {
 
     // The other link has not ended yet.
     fn wait_for_it(&mut self, handset: Digits) -> Result<(), AllocError>
-        ensures { OnOk result (self.new ≡ waiting_on self.old) }
+        ensures { OnOk result (self.new ≡ waiting_on handset self.old) }
     {
         if self.tries > 0 {
             self.stage = Stage::Later;
@@ -245,7 +248,7 @@ impl LinkEndpoint {
 
     // The link is up.
     fn bring_up(&mut self, handset: Digits) -> Result<(), AllocError>
-        ensures { OnOk result (ReadsOn (record self.old { stage = Up }) self.new) }
+        ensures { OnOk result (ReadsOn (noting (LinkUpNote handset) (record self.old { stage = Up })) self.new) }
     {
         self.stage = Stage::Up;
         self.notes.push_back(Note::LinkUp(handset))?;
@@ -384,7 +387,7 @@ impl Endpoint for LinkEndpoint {
     }
 
     fn note(&mut self) -> Option<Note>
-        ensures { self.new ≡ self.old }
+        ensures { (result, self.new) ≡ next_note self.old }
     {
         self.notes.pop_front()
     }
@@ -396,7 +399,7 @@ impl Endpoint for LinkEndpoint {
     }
 
     fn sent(&mut self, count: usize)
-        ensures { self.new ≡ record self.old { outbox = without_octets count self.old.outbox } }
+        ensures { self.new ≡ sent_off count self.old }
     {
         self.counts.sent = self.counts.sent.saturating_add(count as u64);
         self.outbox.sent(count);
@@ -481,7 +484,9 @@ impl Endpoint for LinkEndpoint {
         self.is_over
     }
 
-    fn counts(&self) -> Counts {
+    fn counts(&self) -> Counts
+        ensures { result ≡ self.now.counts }
+    {
         self.counts
     }
 

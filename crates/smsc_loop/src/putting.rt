@@ -1,8 +1,8 @@
 //! Between an endpoint and its seat: replies and jobs.
-ghost use Rattle.std.specs.Prelude.{◌≡◌, ◌++◌, ◌∷◌, [], Some, ℕ, List, Option, false, is_ok, MatchResult};
+ghost use Rattle.std.specs.Prelude.{◌≡◌, ◌++◌, ◌∷◌, [], Some, ℕ, List, Option, true, false, not, is_ok, IfOk, MatchResult};
 ghost use Rattle.sms_seats.specs.Seats.{IsSameSeat, put_by, taken_by};
 ghost use Rattle.smsc_loop.specs.Courses.{Did, standing};
-ghost use Rattle.smsc_loop.specs.Phases.{Phase, Listens, behind};
+ghost use Rattle.smsc_loop.specs.Phases.{Phase, KnowsEnd, Listens, behind, is_change as is_change_of};
 
 use crate::endpoint::Endpoint;
 use crate::open_seat::OpenSeat;
@@ -54,13 +54,17 @@ pub(crate) fn hear<R: Wait, G: Endpoint>(
 }
 
 // Whether the job changes messages.
-fn is_change(job: &Job) -> bool {
+fn is_change(job: &Job) -> bool
+    ensures { result ≡ is_change_of job.now }
+{
     matches!(job, Job::Submit { .. } | Job::Cancel { .. })
 }
 
 // Whether the job may be put. Once the connection has ended no message is taken in, since nobody would be answered. Before that a request is
 // one of those that its account may put in a second.
-fn may_put<A: Surroundings>(around: &A, has_ended: bool, job: &Job) -> bool {
+fn may_put<A: Surroundings>(around: &A, has_ended: bool, job: &Job) -> bool
+    ensures ended { has_ended ≡ true → result ≡ not (is_change_of job.now) }
+{
     if has_ended {
         return !is_change(job);
     }
@@ -75,6 +79,7 @@ fn offer<R: Wait>(rt: &R, seat: &mut OpenSeat, may_put: bool, job: Job) -> Resul
         (λ _. put_by seat.new.seat ≡ put_by seat.old.seat ++ Some job ∷ [])
         (λ back. (back ≡ job) × (put_by seat.new.seat ≡ put_by seat.old.seat)) }
     ensures refused { may_put ≡ false → put_by seat.new.seat ≡ put_by seat.old.seat }
+    ensures allowed { IfOk result (λ _. may_put ≡ true) }
 {
     if !may_put {
         return Err(job);
@@ -91,7 +96,7 @@ fn put_next<R: Wait, G: Endpoint, A: Surroundings>(
     endpoint: &mut G,
     has_ended: bool,
 ) -> Result<bool, AllocError>
-    ensures { (p : Phase) (a w : Option (List ℕ)) → Listens p → Did G.does (standing endpoint.old p a w seat.old.seat)
+    ensures { (p : Phase) (a w : Option (List ℕ)) → Listens p → KnowsEnd p has_ended → Did G.does (standing endpoint.old p a w seat.old.seat)
         (standing endpoint.new (behind (is_ok result) p) a w seat.new.seat) }
 {
     if !seat.has_turn() {
@@ -118,7 +123,7 @@ pub(crate) fn put_jobs<R: Wait, G: Endpoint, A: Surroundings>(
     endpoint: &mut G,
     has_ended: bool,
 ) -> Result<(), AllocError>
-    ensures { (p : Phase) (a w : Option (List ℕ)) → Listens p → Did G.does (standing endpoint.old p a w seat.old.seat)
+    ensures { (p : Phase) (a w : Option (List ℕ)) → Listens p → KnowsEnd p has_ended → Did G.does (standing endpoint.old p a w seat.old.seat)
         (standing endpoint.new (behind (is_ok result) p) a w seat.new.seat) }
 {
     for _ in 0..4096 {

@@ -1,5 +1,5 @@
 -- What a connection heard of messages that ended.
-use Rattle.std.proofs.Common.{◌≡◌, ◌==◌, ◌⊎◌, inl, inr, ⊎_elim, ℕ, Bool, true, false, List, [], ◌∷◌, ◌++◌, if◌then◌else◌, refl, sym, ap, subst, ◌∙◌}
+use Rattle.std.proofs.Common.{◌≡◌, ◌==◌, ◌⊎◌, inl, inr, ⊎_elim, ℕ, Bool, true, false, List, [], ◌∷◌, ◌++◌, if◌then◌else◌, refl, sym, ap, append_assoc, subst, ◌∙◌}
 use Rattle.std.proofs.lemmas.Bool.{eqb-true}
 use Rattle.sms_base.specs.Among.{Among}
 use Rattle.sms_centre_spec.specs.declared.jobs.job.Job.{Job}
@@ -10,7 +10,7 @@ use Rattle.sms_keeper.specs.declared.outs.Out.{Out}
 use Rattle.sms_keeper.specs.History.{answers_in, outs_to}
 use Rattle.sms_receipt.specs.declared.final_message.Final.{Final}
 use Rattle.smsc_service.specs.Serving.{Serving}
-use Rattle.smsc_server.specs.RunPromises.{IsReported, KeepsPromises}
+use Rattle.smsc_server.specs.RunPromises.{KeepsPromises, WasReported}
 
 among_first : {A : Type 0} (x : A) (xs ys : List A) → Among x xs → Among x (xs ++ ys)
 among_first x [] ys there = absurd there
@@ -49,7 +49,7 @@ item_of n r (e ∷ items) there =
     (among_parts r (outs_to n e.outs) (answers_in n items) there)
 
 pub heard_ends : (n : ℕ) (first last : Serving) (items : List (Item Job Reply)) (heard untaken : List Reply) → KeepsPromises first items last
-    → answers_in n items ≡ heard ++ untaken → (end : Final) → Among (Receipt end) heard → IsReported last end
+    → answers_in n items ≡ heard ++ untaken → (end : Final) → Among (Receipt end) heard → WasReported first items end
 heard_ends n first last items heard untaken keeps e end there =
     let x = item_of n (Receipt end) items (subst (λ (l : List Reply). Among (Receipt end) l) (sym e) (among_first (Receipt end) heard untaken there)) in
-    keeps.receipts x.0 x.2 x.1 n end x.3 x.4
+    (x.0 ++ x.1 ∷ [], x.2, x.3 ∙ sym (append_assoc x.0 (x.1 ∷ []) x.2), keeps.receipts x.0 x.2 x.1 n end x.3 x.4)

@@ -1,7 +1,10 @@
 pub mod AnswersAmongReplies
 pub mod BoundSessions
 pub mod CentresAnswers
+pub mod ForgetAsked
+pub mod Forgotten
 pub mod FramesGo
+pub mod Gone
 pub mod HeardEnds
 pub mod LinkWritten
 pub mod PartsWritten
@@ -11,3 +14,4 @@ pub mod RequestsArrive
 pub mod RunEvents
 pub mod RunKept
 pub mod RunReads
+pub mod OwnReplies

@@ -4,15 +4,15 @@ use Rattle.sms_centre_spec.specs.declared.jobs.job.Job.{Job}
 use Rattle.sms_centre_spec.specs.declared.jobs.reply.Reply.{Reply}
 use Rattle.smsc_loop.specs.Calls.{Call, Timed, Told, Took, Heard, GaveUp, AskedLink, AskedToLeave, Noted, Sent, Put, PutBack, Left, PutLast, PutOwn, Dropped, Refused, octets_sent, octets_taken, replies_taken}
 use Rattle.smsc_loop.specs.Courses.{Did, LeadsTo, Runs, Standing}
+use Rattle.smsc_loop.specs.declared.note.Note.{Note}
 use Rattle.smsc_loop.specs.Phases.{Phase, Serves, Fails, Leaves, Ends, Asks, Moves}
 use Rattle.smsc_endpoint.specs.declared.link_access.LinkAccess.{LinkAccess}
-use Rattle.smsc_endpoint.specs.LinkCalls.{at_time, congestion, handed_back, handed_out, sending}
+use Rattle.smsc_endpoint.specs.LinkCalls.{at_time, congestion, handed_back, handed_out, next_note, sending, sent_off}
 use Rattle.smsc_endpoint.specs.LinkDoes.{LinkDoes}
 use Rattle.smsc_endpoint.specs.LinkRuns.{LinkCall, LinkProgress, LinkRun, LinkStep, IsLinkProgress, put_back_by, put_by, started, taken_back, with_left, with_link}
-use Rattle.smsc_endpoint.specs.LinkRuns.{At, Take, Hear, GiveUp, Send, Put as HandOut, PutBack as HandOutAndBack}
+use Rattle.smsc_endpoint.specs.LinkRuns.{At, Take, Hear, GiveUp, Send, Put as HandOut, PutBack as HandOutAndBack, Tell}
 use Rattle.smsc_endpoint.specs.LinkSends.{HasSent, LinkSends, SendRun, SendStep, begun, given_by, given_in, sent_in}
 use Rattle.smsc_endpoint.specs.LinkView.{LinkView, opened}
-use Rattle.smsc_endpoint.specs.Outbox.{without_octets}
 use Rattle.smsc_endpoint.proofs.LoopCourses.{is_serving, moves_away}
 use Rattle.smsc_server.specs.WhatALinkReads.{IsLinkRead, frames_heard, link_call_of, link_calls_of}
 
@@ -132,9 +132,11 @@ one_step (GaveUp true) s m o l v e =
 one_step (GaveUp false) s m o l v e = absurd (fails o v.1 e)
 one_step (AskedLink went) s m o l v e = no_call s (AskedLink went) m refl refl refl refl l
 one_step (AskedToLeave asked went) s m o l v e = no_call s (AskedToLeave asked went) m refl refl refl refl l.1
-one_step (Noted said) s m o l v e = no_call s (Noted said) m refl refl refl refl l
+one_step (Noted said) s m o l v e =
+    let d = with_link (next_note s.progress.link).1 s.progress in
+    one_call s (Noted said) Tell d m refl refl (sym (ap (λ (q : Option Note × LinkView). q.1) l)) (kept s d refl) refl refl
 one_step (Sent octets) s m o l v e =
-    let d = with_link (record s.progress.link { outbox = without_octets (length octets) s.progress.link.outbox }) s.progress in
+    let d = with_link (sent_off (length octets) s.progress.link) s.progress in
     one_call s (Sent octets) (Send (length octets)) d m refl refl (sym l.1) (kept s d refl) refl (part_is octets s.progress.link.outbox.octets l.0 ∙ sym (append-nil octets))
 one_step (Put job) s m o l v e =
     let d = put_by (handed_out s.progress.link) s.progress in

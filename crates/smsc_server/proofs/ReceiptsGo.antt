@@ -19,13 +19,15 @@ use Rattle.sms_centre_rows.specs.reports.Receipts.{Session, is_account, session_
 use Rattle.sms_centre_spec.specs.CentreEvent.{happened}
 use Rattle.sms_centre_spec.specs.Draft.{Core, core_of, messages_in}
 use Rattle.sms_centre_spec.specs.Finals.{final_of}
-use Rattle.sms_centre_spec.specs.Keeping.{Keeps}
 use Rattle.sms_centre_spec.specs.Requests.{account_at}
 use Rattle.sms_centre_spec.specs.SoundCore.{IsSoundCore}
 use Rattle.sms_centre_spec.specs.SoundRows.{IsSound}
 use Rattle.sms_centre_spec.specs.declared.answer.CentreAnswer.{CentreAnswer}
 use Rattle.sms_centre_spec.specs.declared.event.CentreEvent.{CentreEvent}
-use Rattle.sms_centre_spec.specs.declared.event.CentreEvent.TheVariants.{Submit as SubmitOf, Query as QueryOf, Cancel as CancelOf, Bound as BoundOf, Unbound as UnboundOf, DeliverAnswered as DeliverAnsweredOf, Frame as FrameOf, LinkUp as LinkUpOf, LinkDown as LinkDownOf, Tick as TickOf}
+use Rattle.sms_centre_spec.specs.declared.event.CentreEvent.TheVariants.{Submit as SubmitOf, Query as QueryOf, Cancel as CancelOf, Bound as BoundOf, Unbound as UnboundOf, DeliverAnswered as DeliverAnsweredOf, Frame as FrameOf, LinkUp as LinkUpOf, LinkDown as LinkDownOf, Ordered as OrderedOf, Tick as TickOf}
+use Rattle.sms_centre_spec.specs.declared.order.Order.TheVariants.{Retry as RetryOf, Delete as DeleteOf}
+use Rattle.sms_centre_spec.specs.forgetting.Forget.{forget}
+use Rattle.sms_centre_spec.proofs.forgetting.Removed.{forget_leaves}
 use Rattle.sms_centre_spec.specs.declared.jobs.job.Job.{Job}
 use Rattle.sms_centre_spec.specs.declared.jobs.job.Job.TheVariants.{Bound, Unbound, Submit, Query, Cancel, DeliverAnswered, LinkUp, LinkDown, Frame}
 use Rattle.sms_centre_spec.specs.declared.jobs.reply.Reply.{Reply}
@@ -36,8 +38,9 @@ use Rattle.sms_intake.specs.declared.submission.CentreAccount.{CentreAccount}
 use Rattle.sms_keeper.specs.declared.machine.Fate.{Fate}
 use Rattle.sms_keeper.specs.declared.machine.Fate.TheVariants.{Done, NoMemory, Refused}
 use Rattle.sms_keeper.specs.declared.machine.Item.{Item}
+use Rattle.sms_keeper.specs.declared.machine.Errand.TheVariants.{Forget as ForgetErrand, Retry, Delete}
 use Rattle.sms_keeper.specs.declared.machine.Stimulus.{Stimulus}
-use Rattle.sms_keeper.specs.declared.machine.Stimulus.TheVariants.{Job as JobOf, Tick}
+use Rattle.sms_keeper.specs.declared.machine.Stimulus.TheVariants.{Job as JobOf, Tick, Own}
 use Rattle.sms_keeper.specs.declared.outs.Out.{Out}
 use Rattle.sms_keeper.specs.History.{IsHistory}
 use Rattle.sms_receipt.specs.declared.final_message.Final.{Final}
@@ -46,25 +49,26 @@ use Rattle.sms_rows.proofs.table.Tables.{among_put, among_without, found_key}
 use Rattle.smsc_service.specs.Asking.{IfEvent, asked, asked_by, link_for, of_handset, question, read_as, submission, withdrawal}
 use Rattle.smsc_service.specs.BoundSession.{sessions_from, with_session}
 use Rattle.smsc_service.specs.Numbers.{is_number}
-use Rattle.smsc_service.specs.Replies.{asker, end_in, end_of, ended, frame_outs, receipt_out, receipt_outs, replies_at, answer_out, risen_by}
+use Rattle.smsc_service.specs.Replies.{asker, end_in, end_of, ended, frame_outs, receipt_out, receipt_outs, replies_at, answer_out, risen_by, seat_answer}
 use Rattle.smsc_service.specs.Seats.{Seats, bound_session_key, followed, handset_at, nobody, seat_of}
 use Rattle.smsc_service.specs.Serving.{Serving, after, after_for, followed_by, gives, gives_for, outs_for, refusal_for, restarted, unless_refused}
 use Rattle.smsc_service.specs.declared.asking.SeatRequest.{SeatRequest}
-use Rattle.smsc_service.specs.declared.asking.SeatRequest.TheVariants.{Event, Nothing, Taken}
+use Rattle.smsc_service.specs.declared.asking.SeatRequest.TheVariants.{Event, Nothing, Taken, Forget}
 use Rattle.smsc_service.specs.declared.seat_map.BoundSession.{BoundSession}
 use Rattle.smsc_server.specs.ReceiptsGiven.{Binding, GoToAccounts, IsOfAccount, bound_after, bound_behind, bound_by, bound_there, if_done}
+use Rattle.smsc_server.specs.Forgotten.{KeepsOrForgets, message_left}
 use Rattle.smsc_server.specs.RunPromises.{AreAsked, receipt_for}
 use Rattle.smsc_server.proofs.BoundSessions.{Becomes, Each, Sends, StaysBut, StaysSo, sends_of}
-use Rattle.smsc_server.proofs.RunKept.{IsGood, among_parts, asked_parts, between, item_stays, no_answer, no_failure, no_frames, none_failed, none_taken, restart_sound, run_stays}
+use Rattle.smsc_server.proofs.RunKept.{IsGood, among_parts, asked_parts, between, history_more, item_good, no_answer, no_failure, no_frames, none_by_nothing, none_failed, none_taken, restart_sound, run_good, run_left}
 
 -- ---- which events bind
 
-abbrev is_binding : CentreEvent → Bool
+abbrev pub is_binding : CentreEvent → Bool
 is_binding (BoundOf session account receives) = true
 is_binding (UnboundOf session) = true
 is_binding event = false
 
-abbrev BindsNobody : SeatRequest → Type 0
+abbrev pub BindsNobody : SeatRequest → Type 0
 BindsNobody a = IfEvent (λ (event : CentreEvent). is_binding event ≡ false) a
 
 submission_binds : (account : ℕ) (body : Body) → BindsNobody (submission account body)
@@ -102,7 +106,7 @@ becomes_same accounts R Q event e f = f
 abbrev moved : (ℕ → Option Binding) → Stimulus Job → ℕ → Option Binding
 moved bound stimulus k = bound_there k stimulus (bound k)
 
-both_same : (b : Bool) (o : Option Binding) → (if b then o else o) ≡ o
+pub both_same : (b : Bool) (o : Option Binding) → (if b then o else o) ≡ o
 both_same true o = refl
 both_same false o = refl
 
@@ -114,16 +118,16 @@ at_seat : (bound : ℕ → Option Binding) (seat : ℕ) (job : Job) → moved bo
 at_seat bound seat job = cond-true (seat == seat) (bound_by job (bound seat)) (bound seat) (eq-eqb seat seat refl)
 
 -- a request of a seat, and whom its job binds
-abbrev IsSame : Seats → ℕ → Job → Type 0
+abbrev pub IsSame : Seats → ℕ → Job → Type 0
 IsSame seats seat job = BindsNobody (asked seats seat job) × ((o : Option Binding) → bound_by job o ≡ o) × ((followed seat job seats).sittings ≡ seats.sittings)
 
 -- any but bind and unbind
-abbrev IsOther : Job → Type 0
+abbrev pub IsOther : Job → Type 0
 IsOther (Bound account receives) = ⊥
 IsOther Unbound = ⊥
 IsOther job = Unit {0}
 
-other : (seats : Seats) (seat : ℕ) (job : Job) → IsOther job → IsSame seats seat job
+pub other : (seats : Seats) (seat : ℕ) (job : Job) → IsOther job → IsSame seats seat job
 other seats seat (Bound account receives) h = absurd h
 other seats seat Unbound h = absurd h
 other seats seat (Submit account pdu) h = (read_binds (submission account) (submission_binds account) (pdu_at pdu), (λ o. refl), refl)
@@ -147,6 +151,9 @@ event_same a b e = cc
 
 no_event : (event : CentreEvent) → Nothing ≡ Event event → ⊥
 no_event event e = cc
+
+no_forgetting : (event : CentreEvent) (before from most : ℕ) → Forget before from most ≡ Event event → ⊥
+no_forgetting event before from most e = cc
 
 place_of : (place : ℕ) (accounts : List CentreAccount) → account_at place accounts ≡ slice_get accounts place
 place_of place [] = refl
@@ -232,6 +239,7 @@ module _ (accounts : List CentreAccount) where
 
     sits : (stimulus : Stimulus Job) → AreBound (moved bound stimulus) (followed_by stimulus s.seats).sittings
     sits (Tick now) = fits.sittings
+    sits (Own errand) = fits.sittings
     sits (JobOf seat job) =
         cond_both (nat_lt seat 32) (followed seat job s.seats) s.seats (λ (x : Seats). AreBound (moved bound (JobOf seat job)) x.sittings)
         (λ t. job_sits seat job t)
@@ -268,6 +276,11 @@ module _ (accounts : List CentreAccount) where
     leads : (stimulus : Stimulus Job) (event : CentreEvent) → asked_by s.seats stimulus ≡ Event event → Leads stimulus event
     leads (Tick now) event e =
         subst (λ (x : CentreEvent). Leads (Tick now) x) (event_same (TickOf now) event e) (λ k name is h. h)
+    leads (Own (ForgetErrand before from most)) event e = absurd (no_forgetting event before from most e)
+    leads (Own (Retry id)) event e =
+        subst (λ (x : CentreEvent). Leads (Own (Retry id)) x) (event_same (OrderedOf RetryOf id) event e) (λ k name is h. h)
+    leads (Own (Delete id)) event e =
+        subst (λ (x : CentreEvent). Leads (Own (Delete id)) x) (event_same (OrderedOf DeleteOf id) event e) (λ k name is h. h)
     leads (JobOf seat job) event e = ⊎_elim
         (λ (t : nat_lt seat 32 ≡ true). job_leads seat job event t (sym (cond-true (nat_lt seat 32) (asked s.seats seat job) Nothing t) ∙ e))
         (λ (t : nat_lt seat 32 ≡ false). absurd (no_event event (sym (cond-false (nat_lt seat 32) (asked s.seats seat job) Nothing t) ∙ e)))
@@ -283,6 +296,7 @@ module _ (accounts : List CentreAccount) where
     AsksNone (Event event) = ⊥
     AsksNone Nothing = Unit {0}
     AsksNone Taken = Unit {0}
+    AsksNone (Forget before from most) = Unit {0}
 
     job_unmoved : (seat : ℕ) (job : Job) → AsksNone (asked s.seats seat job) → (k : ℕ) → moved bound (JobOf seat job) k ≡ bound k
     job_unmoved seat (Bound account receives) none k = absurd none
@@ -291,6 +305,7 @@ module _ (accounts : List CentreAccount) where
 
     unmoved : (stimulus : Stimulus Job) → AsksNone (asked_by s.seats stimulus) → (k : ℕ) → nat_lt k 32 ≡ true → moved bound stimulus k ≡ bound k
     unmoved (Tick now) none k few = absurd none
+    unmoved (Own errand) none k few = refl
     unmoved (JobOf seat job) none k few = ⊎_elim
         (λ (t : nat_lt seat 32 ≡ true). job_unmoved seat job (subst AsksNone (cond-true (nat_lt seat 32) (asked s.seats seat job) Nothing t) none) k)
         (λ (t : nat_lt seat 32 ≡ false). far_moved seat job t k few)
@@ -298,6 +313,10 @@ module _ (accounts : List CentreAccount) where
 
     setup_stays : (event : CentreEvent) → (core_of (happened event s.core)).rows.setup.accounts ≡ accounts
     setup_stays event = sym (ap (λ (r : Rows). r.setup.accounts) (happened_rests event s.core)) ∙ fits.setup
+
+    -- what is forgotten is of nobody's session
+    forget_setup : IsSoundCore s.core → (before from most : ℕ) → (core_of (forget before from most s.core)).rows.setup.accounts ≡ accounts
+    forget_setup sound before from most = ap (λ (x : Core). x.rows.setup.accounts) (forget_leaves before from most s.core sound.rows) ∙ fits.setup
 
     abbrev next : Stimulus Job → Fate → ℕ → Option Binding
     next stimulus fate k = bound_behind k (bound k) stimulus fate
@@ -314,6 +333,12 @@ module _ (accounts : List CentreAccount) where
     request_fits sound stimulus Taken Done e = fits_same bound (moved bound stimulus) s (unmoved stimulus (subst AsksNone (sym e) tt)) fits
     request_fits sound stimulus Taken NoMemory e = fits
     request_fits sound stimulus Taken Refused e = fits_same bound (moved bound stimulus) s (unmoved stimulus (subst AsksNone (sym e) tt)) fits
+    request_fits sound stimulus (Forget before from most) Done e =
+        let still = fits_same bound (moved bound stimulus) s (unmoved stimulus (subst AsksNone (sym e) tt)) fits in
+        record { sessions = still.sessions; sittings = still.sittings; setup = forget_setup sound before from most }
+    request_fits sound stimulus (Forget before from most) NoMemory e = fits
+    request_fits sound stimulus (Forget before from most) Refused e =
+        restart_fits (moved bound stimulus) s.core.rows s.seats fits.setup (fits_same bound (moved bound stimulus) s (unmoved stimulus (subst AsksNone (sym e) tt)) fits).sittings
 
     item_fits : IsSoundCore s.core → (e : Item Job Reply) → Fits (next e.stimulus e.fate) (after s e.stimulus e.fate)
     item_fits sound e = request_fits sound e.stimulus (asked_by s.seats e.stimulus) e.fate refl
@@ -324,7 +349,7 @@ module _ (accounts : List CentreAccount) where
       → Fits (λ (k : ℕ). bound_after k (bound k) items) t
   run_fits [] bound s t good fits are h = subst (λ (x : Serving). Fits bound x) (sym h) fits
   run_fits (e ∷ items) bound s t good fits are h =
-      run_fits items (λ (k : ℕ). bound_behind k (bound k) e.stimulus e.fate) (after s e.stimulus e.fate) t (item_stays s e good are.0).0 (item_fits bound s fits good.core e) are.1 h.1
+      run_fits items (λ (k : ℕ). bound_behind k (bound k) e.stimulus e.fate) (after s e.stimulus e.fate) t (item_good s e good are.0) (item_fits bound s fits good.core e) are.1 h.1
 
 -- ---- a receipt that is given
 
@@ -349,17 +374,17 @@ module _ (seat : ℕ) (end : Final) where
       (λ h. let x = a_delivery messages ds h in (x.0, inr x.1, x.2, x.3))
       (among_parts (receipt_for seat end) (receipt_out d.session (end_of (message_at d.id messages))) (receipt_outs messages ds) there)
 
-  replied_delivery : (risen : Option (List ℕ)) (from : ℕ) (s : Serving) (event : CentreEvent)
-      → Among (receipt_for seat end) (replies_at risen from s.seats.links (happened event s.core).answer (happened event s.core).links.frames
+  replied_delivery : (risen : Option (List ℕ)) (from : ℕ) (told : Option CentreAnswer) (s : Serving) (event : CentreEvent)
+      → Among (receipt_for seat end) (replies_at risen from s.seats.links told (happened event s.core).links.frames
       (messages_in (happened event s.core).store) (happened event s.core).bindings.deliveries)
       → IsDelivery seat end (messages_in (happened event s.core).store) (happened event s.core).bindings.deliveries
-  replied_delivery risen from s event there =
+  replied_delivery risen from told s event there =
       let d = happened event s.core in
-      let first : List (Out Reply) = answer_out from d.answer in
+      let first : List (Out Reply) = answer_out from told in
       let second : List (Out Reply) = frame_outs risen from s.seats.links d.links.frames in
       let third : List (Out Reply) = receipt_outs (messages_in d.store) d.bindings.deliveries in
       ⊎_elim
-      (λ h. absurd (⊎_elim (λ k. no_answer seat end from d.answer k) (λ k. no_frames seat end risen from s.seats.links d.links.frames k) (among_parts (receipt_for seat end) first second h)))
+      (λ h. absurd (⊎_elim (λ k. no_answer seat end from told k) (λ k. no_frames seat end risen from s.seats.links d.links.frames k) (among_parts (receipt_for seat end) first second h)))
       (λ h. a_delivery (messages_in d.store) d.bindings.deliveries h)
       (among_parts (receipt_for seat end) (first ++ second) third there)
 
@@ -372,17 +397,21 @@ module _ (seat : ℕ) (end : Final) where
 
     request_sent : (stimulus : Stimulus Job) (a : SeatRequest) (fate : Fate) (refusal : Option CommandStatus) → asked_by s.seats stimulus ≡ a
         → Among (receipt_for seat end) (unless_refused fate refusal stimulus (gives_for a fate s stimulus)) → WasSent stimulus fate
-    request_sent stimulus (Event event) Done refusal e there = (event, e, refl, replied_delivery (risen_by stimulus) (asker stimulus) s event there)
-    request_sent stimulus Nothing Done refusal e there = absurd (none_failed seat end stimulus there)
+    request_sent stimulus (Event event) Done refusal e there = (event, e, refl, replied_delivery (risen_by stimulus) (asker stimulus) (seat_answer stimulus (happened event s.core).answer) s event there)
+    request_sent stimulus Nothing Done refusal e there = absurd (none_by_nothing seat end s.seats stimulus there)
     request_sent stimulus Taken Done refusal e there = absurd (none_taken seat end stimulus there)
+    request_sent stimulus (Forget before from most) Done refusal e there = absurd there
     request_sent stimulus (Event event) Refused refusal e there = absurd (none_failed seat end stimulus there)
-    request_sent stimulus Nothing Refused refusal e there = absurd (none_failed seat end stimulus there)
+    request_sent stimulus Nothing Refused refusal e there = absurd (none_by_nothing seat end s.seats stimulus there)
     request_sent stimulus Taken Refused refusal e there = absurd (none_taken seat end stimulus there)
+    request_sent stimulus (Forget before from most) Refused refusal e there = absurd (none_failed seat end stimulus there)
     request_sent (JobOf from job) a NoMemory (Some status) e there = absurd (no_failure seat end true from status there)
     request_sent (Tick now) a NoMemory (Some status) e there = absurd there
+    request_sent (Own errand) a NoMemory (Some status) e there = absurd there
     request_sent stimulus (Event event) NoMemory None e there = absurd (none_failed seat end stimulus there)
-    request_sent stimulus Nothing NoMemory None e there = absurd (none_failed seat end stimulus there)
+    request_sent stimulus Nothing NoMemory None e there = absurd (none_by_nothing seat end s.seats stimulus there)
     request_sent stimulus Taken NoMemory None e there = absurd (none_taken seat end stimulus there)
+    request_sent stimulus (Forget before from most) NoMemory None e there = absurd (none_failed seat end stimulus there)
 
     was_sent : (stimulus : Stimulus Job) (fate : Fate) → Among (receipt_for seat end) (gives s stimulus fate) → WasSent stimulus fate
     was_sent stimulus fate there = request_sent stimulus (asked_by s.seats stimulus) fate (refusal_for (asked_by s.seats stimulus) s.core) refl there
@@ -406,31 +435,30 @@ behind_more : (n : ℕ) (o : Option Binding) (one : List (Item Job Reply)) (e : 
 behind_more n o [] e = refl
 behind_more n o (first ∷ one) e = behind_more n (bound_behind n o first.stimulus first.fate) one e
 
-module _ (accounts : List CentreAccount) (bound : ℕ → Option Binding) (s last : Serving) (fits : Fits accounts bound s) (sound : IsSoundCore s.core) (seat : ℕ) (end : Final) where
-  goes_to_account : (stimulus : Stimulus Job) (fate : Fate) → WasSent seat end s stimulus fate → Keeps (after s stimulus fate).core.rows last.core.rows
-      → IsOfAccount accounts last (bound_behind seat (bound seat) stimulus fate) end
+module _ (accounts : List CentreAccount) (bound : ℕ → Option Binding) (s : Serving) (others : List (Item Job Reply)) (fits : Fits accounts bound s) (sound : IsSoundCore s.core) (seat : ℕ) (end : Final) where
+  goes_to_account : (stimulus : Stimulus Job) (fate : Fate) → WasSent seat end s stimulus fate → KeepsOrForgets (after s stimulus fate) others
+      → IsOfAccount accounts (after s stimulus fate) others (bound_behind seat (bound seat) stimulus fate) end
   goes_to_account stimulus fate sent keeps =
       let event = sent.0 in
       let asks = sent.1 in
       let done = sent.2 in
       let delivery = sent.3.0 in
       let messages = messages_in (happened event s.core).store in
-      let kept : Keeps (core_of (happened event s.core)).rows last.core.rows =
-      subst (λ (a : SeatRequest). Keeps (after_for a Done s stimulus).core.rows last.core.rows) asks
-      (subst (λ (f : Fate). Keeps (after s stimulus f).core.rows last.core.rows) done keeps) in
+      let rows : (after s stimulus fate).core.rows ≡ (core_of (happened event s.core)).rows =
+      ap (λ (f : Fate). (after s stimulus f).core.rows) done ∙ ap (λ (a : SeatRequest). (after_for a Done s stimulus).core.rows) asks in
       let sends = event_sends accounts bound s fits sound stimulus event asks in
       let g = sends.each delivery sent.3.1 in
       let h = sends.held g.session g.bound in
       let m = g.message in
       let own : end.id ≡ delivery.id = numbered m delivery.id messages g.there (ap end_of (sym g.there) ∙ sent.3.3) in
-      let x = kept.messages delivery.id m g.there in record {
+      let x = keeps.messages delivery.id m (ap (λ (r : Rows). message_at delivery.id r.messages) rows ∙ g.there) in record {
         place = h.1;
         bound_so = ap (λ (f : Fate). bound_behind seat (bound seat) stimulus f) done
             ∙ (ap (λ (k : ℕ). moved bound stimulus k) (sent.3.2 ∙ sym g.number) ∙ (h.3 ∙ ap (λ (b : Bool). Some (h.1, b)) g.receives));
         account = h.2;
         account_so = h.4;
         row = x.0;
-        row_so = ap (λ (k : ℕ). message_at k last.core.rows.messages) own ∙ x.1.0;
+        row_so = ap (λ (k : ℕ). message_left k (after s stimulus fate) others) own ∙ x.1.0;
         submitted = ap (λ (name : List ℕ). is_account name x.0.originator) h.5 ∙ (ap (λ (o : Originator). is_account g.session.account o) x.1.1.originator ∙ g.account);
       }
 
@@ -442,15 +470,19 @@ module _ (rows : Rows) (items : List (Item Job Reply)) (last : Serving) (sound :
   nobody_fits : Fits rows.setup.accounts (λ (k : ℕ). None) (restarted rows nobody)
   nobody_fits = record { sessions = λ x i. absurd i; sittings = λ b i. absurd i; setup = refl }
 
-  pub receipts_go : GoToAccounts rows items last
+  pub receipts_go : GoToAccounts rows items
   receipts_go one other e seat end is there =
       let accounts = rows.setup.accounts in
       let parts = asked_parts one (e ∷ other) (subst AreAsked is are) in
       let m = between one (e ∷ other) (restarted rows nobody) last (subst (λ (l : List (Item Job Reply)). IsHistory gives after (restarted rows nobody) l last) is run) in
-      let good = (run_stays one (restarted rows nobody) m.0 start_good parts.0 m.1).0 in
+      let good = run_good one (restarted rows nobody) m.0 start_good parts.0 m.1 in
       let fits = run_fits accounts one (λ (k : ℕ). None) (restarted rows nobody) m.0 start_good nobody_fits parts.0 m.1 in
-      let next = item_stays m.0 e good parts.1.0 in
-      let keeps = (run_stays other (after m.0 e.stimulus e.fate) last next.0 parts.1.1 m.2.1).1 in
-      subst (λ (o : Option Binding). IsOfAccount accounts last o end) (sym (behind_more seat None one e))
-      (goes_to_account accounts (λ (k : ℕ). bound_after k None one) m.0 last fits good.core seat end e.stimulus e.fate
-      (was_sent seat end m.0 e.stimulus e.fate (subst (λ (l : List (Out Reply)). Among (receipt_for seat end) l) m.2.0 there)) keeps)
+      let keeps = run_left other (after m.0 e.stimulus e.fate) (item_good m.0 e good parts.1.0) parts.1.1 in (
+        after m.0 e.stimulus e.fate,
+        (
+          history_more one e (restarted rows nobody) m.0 m.1 m.2.0,
+          subst (λ (o : Option Binding). IsOfAccount accounts (after m.0 e.stimulus e.fate) other o end) (sym (behind_more seat None one e))
+              (goes_to_account accounts (λ (k : ℕ). bound_after k None one) m.0 other fits good.core seat end e.stimulus e.fate
+              (was_sent seat end m.0 e.stimulus e.fate (subst (λ (l : List (Out Reply)). Among (receipt_for seat end) l) m.2.0 there)) keeps),
+        ),
+      )

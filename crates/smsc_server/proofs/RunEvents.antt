@@ -12,8 +12,9 @@ use Rattle.sms_centre_spec.specs.declared.event.CentreEvent.{CentreEvent}
 use Rattle.sms_centre_spec.specs.declared.event.CentreEvent.TheVariants.{LinkUp as LinkUpOf, LinkDown as LinkDownOf, Frame as FrameOf}
 use Rattle.sms_centre_spec.specs.declared.jobs.job.Job.{Job}
 use Rattle.sms_centre_spec.specs.declared.jobs.job.Job.TheVariants.{Bound, Unbound, Submit, Query, Cancel, DeliverAnswered, LinkUp, LinkDown, Frame}
+use Rattle.sms_keeper.specs.declared.machine.Errand.TheVariants.{Forget as ForgetErrand, Retry, Delete}
 use Rattle.sms_keeper.specs.declared.machine.Stimulus.{Stimulus}
-use Rattle.sms_keeper.specs.declared.machine.Stimulus.TheVariants.{Job as JobOf, Tick}
+use Rattle.sms_keeper.specs.declared.machine.Stimulus.TheVariants.{Job as JobOf, Tick, Own}
 use Rattle.sms_rows.specs.table.Table.{row_at}
 use Rattle.sms_rows.proofs.table.Tables.{among_put, among_without, found_among}
 use Rattle.smpp_pdu.specs.PduReading.{pdu_at}
@@ -170,6 +171,9 @@ pub asked_is : (s : Seats) (stimulus : Stimulus Job) → IsAsked stimulus → Ar
 asked_is s (JobOf seat job) is short =
     cond_both (nat_lt seat 32) (asked s seat job) Nothing (λ (a : SeatRequest). IfEvent IsEvent a) (λ t. job_is s seat job is short) (λ t. tt)
 asked_is s (Tick now) is short = is
+asked_is s (Own (ForgetErrand before from most)) is short = tt
+asked_is s (Own (Retry id)) is short = tt
+asked_is s (Own (Delete id)) is short = tt
 
 -- ---- who sits where afterwards
 
@@ -194,3 +198,4 @@ pub seats_short : (stimulus : Stimulus Job) (s : Seats) → IsAsked stimulus →
 seats_short (JobOf seat job) s is short =
     cond_both (nat_lt seat 32) (followed seat job s) s (λ (t : Seats). AreShort t.links) (λ t. followed_short seat job s is short) (λ t. short)
 seats_short (Tick now) s is short = short
+seats_short (Own errand) s is short = short

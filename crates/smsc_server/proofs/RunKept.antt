@@ -8,12 +8,15 @@ use Rattle.sms_base.specs.declared.final_state.FinalState.{FinalState}
 use Rattle.sms_centre_rows.specs.declared.messages.message.MessageRow.{MessageRow}
 use Rattle.sms_centre_rows.specs.declared.reports.delivery.Delivery.{Delivery}
 use Rattle.sms_centre_rows.specs.declared.waiting.handset_link.Sent.{Sent}
-use Rattle.sms_centre_rows.specs.messages.Messages.{message_at}
+use Rattle.sms_centre_rows.specs.declared.messages.part.PartRow.{PartRow}
+use Rattle.sms_centre_rows.specs.declared.reports.report.ReportRow.{ReportRow}
+use Rattle.sms_centre_rows.specs.messages.Messages.{message_at, message_key, part_at}
+use Rattle.sms_centre_rows.specs.reports.Reports.{report_of}
 use Rattle.sms_centre_rows.specs.reports.Receipts.{Session, session_key}
 use Rattle.sms_centre_spec.specs.CentreEvent.{happened}
 use Rattle.sms_centre_spec.specs.Draft.{core_of, messages_in}
 use Rattle.sms_centre_spec.specs.Finals.{final_of}
-use Rattle.sms_centre_spec.specs.Keeping.{Keeps}
+use Rattle.sms_centre_spec.specs.Keeping.{IsMessageStill, IsPartStill, IsReportStill}
 use Rattle.sms_centre_spec.specs.SoundCore.{AreDifferent, IsEvent, IsSession, IsSoundCore}
 use Rattle.sms_centre_spec.specs.SoundRows.{IsSound}
 use Rattle.sms_centre_spec.specs.declared.answer.CentreAnswer.{CentreAnswer}
@@ -28,30 +31,36 @@ use Rattle.sms_centre_spec.specs.declared.jobs.reply.Reply.TheVariants.{Answer, 
 use Rattle.sms_centre_spec.specs.declared.rows.Rows.{Rows}
 use Rattle.sms_centre_spec.specs.jobs.Requests.{is_request}
 use Rattle.sms_centre_spec.proofs.EventLaws.{keeps_rows, stays_sound}
-use Rattle.sms_centre_spec.proofs.Keeping.{keeps_same, keeps_then}
+use Rattle.sms_centre_spec.proofs.Keeping.{keeps_same, same_message, same_part, same_report}
+use Rattle.sms_centre_spec.proofs.forgetting.Now.{forgot_now, may_now}
+use Rattle.sms_centre_spec.specs.forgetting.Forget.{is_going_now, may_go_now}
 use Rattle.sms_centre_spec.proofs.SoundBegins.{recovered_sound}
 use Rattle.sms_intake.specs.declared.submission.CentreAccount.{CentreAccount}
 use Rattle.sms_keeper.specs.declared.machine.Fate.{Fate}
 use Rattle.sms_keeper.specs.declared.machine.Fate.TheVariants.{Done, NoMemory, Refused}
 use Rattle.sms_keeper.specs.declared.machine.Item.{Item}
+use Rattle.sms_keeper.specs.declared.machine.Errand.TheVariants.{Forget as ForgetErrand}
 use Rattle.sms_keeper.specs.declared.machine.Stimulus.{Stimulus}
-use Rattle.sms_keeper.specs.declared.machine.Stimulus.TheVariants.{Job as JobOf, Tick}
+use Rattle.sms_keeper.specs.declared.machine.Stimulus.TheVariants.{Job as JobOf, Tick, Own}
 use Rattle.sms_keeper.specs.declared.outs.Out.{Out}
 use Rattle.sms_keeper.specs.History.{IsHistory}
 use Rattle.sms_receipt.specs.declared.final_message.Final.{Final}
 use Rattle.sms_rows.specs.table.Table.{Rises}
-use Rattle.sms_rows.proofs.table.Tables.{among_put, rises_put}
+use Rattle.sms_rows.proofs.table.Tables.{among_put, found_among, found_key, rises_put}
 use Rattle.smsc_service.specs.Asking.{IfEvent, asked_by}
 use Rattle.smsc_service.specs.BoundSession.{AreNumbers, handsets_from, handsets_of, is_among, sessions_from, sessions_of, with_number, with_session}
 use Rattle.smsc_service.specs.Numbers.{is_number}
-use Rattle.smsc_service.specs.Replies.{answer_for, answer_out, end_in, end_of, ended, failed, failed_by, frame_out, frame_outs, receipt_out, receipt_outs, replies_at, risen_by, seat_for, taken_by}
+use Rattle.smsc_service.specs.Replies.{answer_for, answer_out, end_in, end_of, ended, failed, failed_by, frame_out, frame_outs, nothing_by, receipt_out, receipt_outs, replies_at, risen_by, seat_for, taken_by, vacancy}
 use Rattle.smsc_service.specs.Seats.{Seats, nobody}
 use Rattle.smsc_service.specs.Serving.{Serving, after, after_for, followed_by, gives, gives_for, outs_for, refusal_for, restarted, unless_refused}
 use Rattle.smsc_service.specs.declared.asking.SeatRequest.{SeatRequest}
-use Rattle.smsc_service.specs.declared.asking.SeatRequest.TheVariants.{Event, Nothing, Taken}
+use Rattle.smsc_service.specs.declared.asking.SeatRequest.TheVariants.{Event, Nothing, Taken, Forget}
 use Rattle.smsc_service.specs.declared.seat_map.BoundSession.{BoundSession}
 use Rattle.smsc_service.specs.declared.seat_map.LinkSeat.{LinkSeat}
+use Rattle.smsc_server.specs.Forgotten.{Behind, KeepsOrForgets, forgets, forgets_for, message_left}
 use Rattle.smsc_server.specs.RunPromises.{AreAsked, IsAsked, IsReported, KeepsPromises, receipt_for}
+use Rattle.smsc_server.proofs.ForgetAsked.{forget_asked, forgot_so}
+use Rattle.smsc_server.proofs.Forgotten.{KeepsOne, forget_one, message_through, one_of, part_through, report_through, still_left}
 use Rattle.smsc_server.proofs.RunEvents.{AreShort, asked_is, number_of, seats_short}
 
 -- ---- a centre that starts again
@@ -135,32 +144,56 @@ pub record IsGood (s : Serving) : Type 0 where
   pub core : IsSoundCore s.core
   pub short : AreShort s.seats.links
 
-abbrev pub Stays : Serving → Serving → Type 0
-Stays s t = IsGood t × Keeps s.core.rows t.core.rows
-
-request_stays : (a : SeatRequest) (fate : Fate) (s : Serving) (stimulus : Stimulus Job) → IsGood s → IsAsked stimulus → IfEvent IsEvent a → Stays s (after_for a fate s stimulus)
-request_stays (Event event) Done s stimulus good is e = (
-  record { core = stays_sound event s.core good.core e; short = seats_short stimulus s.seats is good.short },
-  keeps_rows event s.core good.core e,
-)
-request_stays (Event event) NoMemory s stimulus good is e = (good, keeps_same s.core.rows)
-request_stays (Event event) Refused s stimulus good is e =
+request_good : (a : SeatRequest) (fate : Fate) (s : Serving) (stimulus : Stimulus Job) → IsGood s → IsAsked stimulus → IfEvent IsEvent a → IsGood (after_for a fate s stimulus)
+request_good (Event event) Done s stimulus good is e = record { core = stays_sound event s.core good.core e; short = seats_short stimulus s.seats is good.short }
+request_good (Event event) NoMemory s stimulus good is e = good
+request_good (Event event) Refused s stimulus good is e =
     let short = seats_short stimulus s.seats is good.short in
-    (record { core = restart_sound s.core.rows (followed_by stimulus s.seats) good.core.rows short; short = short }, keeps_same s.core.rows)
-request_stays Nothing fate s stimulus good is e = (good, keeps_same s.core.rows)
-request_stays Taken fate s stimulus good is e = (good, keeps_same s.core.rows)
+    record { core = restart_sound s.core.rows (followed_by stimulus s.seats) good.core.rows short; short = short }
+request_good Nothing fate s stimulus good is e = good
+request_good Taken fate s stimulus good is e = good
+request_good (Forget before from most) Done s stimulus good is e = record { core = (forgot_now before from most s.core good.core).left; short = good.short }
+request_good (Forget before from most) NoMemory s stimulus good is e = good
+request_good (Forget before from most) Refused s stimulus good is e = record { core = restart_sound s.core.rows s.seats good.core.rows good.short; short = good.short }
 
-pub item_stays : (s : Serving) (e : Item Job Reply) → IsGood s → IsAsked e.stimulus → Stays s (after s e.stimulus e.fate)
-item_stays s e good is = request_stays (asked_by s.seats e.stimulus) e.fate s e.stimulus good is (asked_is s.seats e.stimulus is good.short)
+pub item_good : (s : Serving) (e : Item Job Reply) → IsGood s → IsAsked e.stimulus → IsGood (after s e.stimulus e.fate)
+item_good s e good is = request_good (asked_by s.seats e.stimulus) e.fate s e.stimulus good is (asked_is s.seats e.stimulus is good.short)
+
+request_one : (n : ℕ) (a : SeatRequest) (fate : Fate) (s : Serving) (stimulus : Stimulus Job) → IsGood s → IfEvent IsEvent a → forgets_for a fate s n ≡ false
+    → KeepsOne n s.core.rows (after_for a fate s stimulus).core.rows
+request_one n (Event event) Done s stimulus good e t = one_of n s.core.rows (core_of (happened event s.core)).rows (keeps_rows event s.core good.core e)
+request_one n (Event event) NoMemory s stimulus good e t = one_of n s.core.rows s.core.rows (keeps_same s.core.rows)
+request_one n (Event event) Refused s stimulus good e t = one_of n s.core.rows s.core.rows (keeps_same s.core.rows)
+request_one n Nothing fate s stimulus good e t = one_of n s.core.rows s.core.rows (keeps_same s.core.rows)
+request_one n Taken fate s stimulus good e t = one_of n s.core.rows s.core.rows (keeps_same s.core.rows)
+request_one n (Forget before from most) Done s stimulus good e t = forget_one before from most n s.core good.core.rows t
+request_one n (Forget before from most) NoMemory s stimulus good e t = one_of n s.core.rows s.core.rows (keeps_same s.core.rows)
+request_one n (Forget before from most) Refused s stimulus good e t = one_of n s.core.rows s.core.rows (keeps_same s.core.rows)
+
+item_one : (n : ℕ) (s : Serving) (e : Item Job Reply) → IsGood s → IsAsked e.stimulus → forgets s e n ≡ false → KeepsOne n s.core.rows (after s e.stimulus e.fate).core.rows
+item_one n s e good is t = request_one n (asked_by s.seats e.stimulus) e.fate s e.stimulus good (asked_is s.seats e.stimulus is good.short) t
 
 -- ---- a run
 
-pub run_stays : (items : List (Item Job Reply)) (s t : Serving) → IsGood s → AreAsked items → IsHistory gives after s items t → Stays s t
-run_stays [] s t good are h = subst (λ (x : Serving). Stays s x) (sym h) (good, keeps_same s.core.rows)
-run_stays (e ∷ items) s t good are h =
-    let first = item_stays s e good are.0 in
-    let rest = run_stays items (after s e.stimulus e.fate) t first.0 are.1 h.1 in
-    (rest.0, keeps_then s.core.rows (after s e.stimulus e.fate).core.rows t.core.rows first.1 rest.1)
+pub run_good : (items : List (Item Job Reply)) (s t : Serving) → IsGood s → AreAsked items → IsHistory gives after s items t → IsGood t
+run_good [] s t good are h = subst (λ (x : Serving). IsGood x) (sym h) good
+run_good (e ∷ items) s t good are h = run_good items (after s e.stimulus e.fate) t (item_good s e good are.0) are.1 h.1
+
+abbrev IsItem : Item Job Reply → Type 0
+IsItem e = IsAsked e.stimulus
+
+pub run_left : (items : List (Item Job Reply)) (s : Serving) → IsGood s → AreAsked items → KeepsOrForgets s items
+run_left items s good are = record {
+  messages = λ id m at.
+      still_left IsGood IsItem AreAsked (λ e l h. h.0) (λ e l h. h.1) item_good (λ (rows : Rows). message_at id rows.messages) id (λ (m : MessageRow). id) IsMessageStill same_message message_through
+      (λ x y h. refl) (λ s e good is t x own found. (item_one id s e good is t).messages x found) items s good are m refl at;
+  parts = λ id number p at.
+      still_left IsGood IsItem AreAsked (λ e l h. h.0) (λ e l h. h.1) item_good (λ (rows : Rows). part_at id number rows.parts) p.id (λ (q : PartRow). q.id) IsPartStill same_part part_through
+      (λ x y h. h.id) (λ s e good is t x own found. (item_one p.id s e good is t).parts id number x own found) items s good are p refl at;
+  reports = λ id r at.
+      still_left IsGood IsItem AreAsked (λ e l h. h.0) (λ e l h. h.1) item_good (λ (rows : Rows). report_of id rows.reports) id (λ (r : ReportRow). id) IsReportStill same_report report_through
+      (λ x y h. refl) (λ s e good is t x own found. (item_one id s e good is t).reports x found) items s good are r refl at;
+}
 
 pub asked_parts : (one other : List (Item Job Reply)) → AreAsked (one ++ other) → AreAsked one × AreAsked other
 asked_parts [] other h = (tt, h)
@@ -174,6 +207,13 @@ behind (e ∷ one) other s m t h k = behind one other (after s e.stimulus e.fate
 pub between : (one other : List (Item Job Reply)) (s t : Serving) → IsHistory gives after s (one ++ other) t → (m : Serving) × IsHistory gives after s one m × IsHistory gives after m other t
 between [] other s t h = (s, refl, h)
 between (e ∷ one) other s t h = let m = between one other (after s e.stimulus e.fate) t h.1 in (m.0, (h.0, m.1), m.2)
+
+-- an item more
+pub history_more : (one : List (Item Job Reply)) (e : Item Job Reply) (s m : Serving) → IsHistory gives after s one m → e.outs ≡ gives m e.stimulus e.fate
+    → IsHistory gives after s (one ++ e ∷ []) (after m e.stimulus e.fate)
+history_more [] e s m h outs =
+    (subst (λ (x : Serving). e.outs ≡ gives x e.stimulus e.fate) h outs, ap (λ (x : Serving). after x e.stimulus e.fate) h)
+history_more (x ∷ one) e s m h outs = (h.0, history_more one e (after s x.stimulus x.fate) m h.1 outs)
 
 -- ---- receipts
 
@@ -208,11 +248,18 @@ module _ (seat : ℕ) (end : Final) where
   pub none_failed : (stimulus : Stimulus Job) → Among (receipt_for seat end) (failed_by stimulus) → ⊥
   none_failed (JobOf asker job) there = no_failure (is_request job) asker ESME_RSYSERR there
   none_failed (Tick now) there = there
+  none_failed (Own errand) there = there
+
+  pub none_by_nothing : (seats : Seats) (stimulus : Stimulus Job) → Among (receipt_for seat end) (nothing_by seats stimulus) → ⊥
+  none_by_nothing seats (JobOf asker job) there = no_failure (is_request job) asker (vacancy asker seats) there
+  none_by_nothing seats (Tick now) there = there
+  none_by_nothing seats (Own errand) there = there
 
   pub none_taken : (stimulus : Stimulus Job) → Among (receipt_for seat end) (taken_by stimulus) → ⊥
   none_taken (JobOf asker job) (inl e) = let k : Receipt end ≡ TakenOut = ap (λ (o : Out Reply). o.out) e in absurd cc
   none_taken (JobOf asker job) (inr there) = there
   none_taken (Tick now) there = there
+  none_taken (Own errand) there = there
 
   -- a message of these rows ended so
   abbrev pub IsOf : List MessageRow → Type 0
@@ -268,10 +315,16 @@ module _ (seat : ℕ) (end : Final) where
     request_is (Event event) Done (Tick now) there =
         let d = happened event s.core in
         replied_is None 0 s.seats.links d.answer d.links.frames (messages_in d.store) d.bindings.deliveries there
+    request_is (Event event) Done (Own errand) there =
+        let d = happened event s.core in
+        replied_is None 0 s.seats.links None d.links.frames (messages_in d.store) d.bindings.deliveries there
     request_is (Event event) NoMemory stimulus there = absurd (none_failed stimulus there)
     request_is (Event event) Refused stimulus there = absurd (none_failed stimulus there)
-    request_is Nothing fate stimulus there = absurd (none_failed stimulus there)
+    request_is Nothing fate stimulus there = absurd (none_by_nothing s.seats stimulus there)
     request_is Taken fate stimulus there = absurd (none_taken stimulus there)
+    request_is (Forget before from most) Done stimulus there = absurd there
+    request_is (Forget before from most) NoMemory stimulus there = absurd (none_failed stimulus there)
+    request_is (Forget before from most) Refused stimulus there = absurd (none_failed stimulus there)
 
     outs_are : (a : SeatRequest) (fate : Fate) (refusal : Option CommandStatus) (stimulus : Stimulus Job)
         → Among (receipt_for seat end) (unless_refused fate refusal stimulus (gives_for a fate s stimulus)) → IsOf (after_for a fate s stimulus).core.rows.messages
@@ -280,15 +333,16 @@ module _ (seat : ℕ) (end : Final) where
     outs_are a NoMemory None stimulus there = request_is a NoMemory stimulus there
     outs_are a NoMemory (Some status) (JobOf asker job) there = absurd (no_failure true asker status there)
     outs_are a NoMemory (Some status) (Tick now) there = absurd there
+    outs_are a NoMemory (Some status) (Own errand) there = absurd there
 
     pub given_is : (stimulus : Stimulus Job) (fate : Fate) → Among (receipt_for seat end) (gives s stimulus fate) → IsOf (after s stimulus fate).core.rows.messages
     given_is stimulus fate there = outs_are (asked_by s.seats stimulus) fate (refusal_for (asked_by s.seats stimulus) s.core) stimulus there
 
 -- ---- together
 
--- a row that had ended is the same at the end
-reported_still : (rows : Rows) (last : Serving) (end : Final) → Keeps rows last.core.rows → IsOf 0 end rows.messages → IsReported last end
-reported_still rows last end keeps h =
+-- a row that had ended is the same at the end, and as it is forgotten
+reported_still : (s : Serving) (items : List (Item Job Reply)) (end : Final) → KeepsOrForgets s items → IsOf 0 end s.core.rows.messages → IsReported items end s
+reported_still s items end keeps h =
     let x = keeps.messages h.0 h.1 h.2 in
     let same = x.1.1.final end.state h.3 in (
       h.0,
@@ -312,41 +366,65 @@ module _ (stand : AnswersStand) (rows : Rows) (items : List (Item Job Reply)) (l
 
   -- what stands between the beginning and the items behind
   part : (one other : List (Item Job Reply)) → items ≡ one ++ other → (s : Serving) → IsHistory gives after (restarted rows nobody) one s
-      → IsGood s × Keeps s.core.rows last.core.rows
+      → IsGood s × KeepsOrForgets s other
   part one other e s h =
       let parts = asked_parts one other (subst AreAsked e are) in
-      let good = (run_stays one (restarted rows nobody) s first_good parts.0 h).0 in
-      let left = behind one other (restarted rows nobody) s last h (subst (λ (l : List (Item Job Reply)). IsHistory gives after (restarted rows nobody) l last) e run) in
-      (good, (run_stays other s last good parts.1 left).1)
+      let good = run_good one (restarted rows nobody) s first_good parts.0 h in
+      (good, run_left other s good parts.1)
 
   -- the step of an item, and what is kept behind it
   step : (one other : List (Item Job Reply)) (e : Item Job Reply) → items ≡ one ++ e ∷ other
-      → (s : Serving) × (e.outs ≡ gives s e.stimulus e.fate) × Keeps (after s e.stimulus e.fate).core.rows last.core.rows
+      → (s : Serving) × (e.outs ≡ gives s e.stimulus e.fate) × IsHistory gives after (restarted rows nobody) (one ++ e ∷ []) (after s e.stimulus e.fate)
+      × KeepsOrForgets (after s e.stimulus e.fate) other
   step one other e is =
       let parts = asked_parts one (e ∷ other) (subst AreAsked is are) in
       let m = between one (e ∷ other) (restarted rows nobody) last (subst (λ (l : List (Item Job Reply)). IsHistory gives after (restarted rows nobody) l last) is run) in
-      let good = (part one (e ∷ other) is m.0 m.1).0 in
-      let next = item_stays m.0 e good parts.1.0 in
-      (m.0, m.2.0, (run_stays other (after m.0 e.stimulus e.fate) last next.0 parts.1.1 m.2.1).1)
+      let good = run_good one (restarted rows nobody) m.0 first_good parts.0 m.1 in (
+        m.0,
+        m.2.0,
+        history_more one e (restarted rows nobody) m.0 m.1 m.2.0,
+        run_left other (after m.0 e.stimulus e.fate) (item_good m.0 e good parts.1.0) parts.1.1,
+      )
 
   submitted : (one other : List (Item Job Reply)) (e : Item Job Reply) (seat account asked id : ℕ) (pdu : List ℕ) → items ≡ one ++ e ∷ other
       → e.stimulus ≡ JobOf seat (Submit account pdu) → Among (answer_for asked (Submitted id)) e.outs
-      → (asked ≡ seat) × ((row : MessageRow) × (message_at id last.core.rows.messages ≡ Some row))
+      → (asked ≡ seat) × Behind (restarted rows nobody) (one ++ e ∷ []) (λ s. (row : MessageRow) × (message_left id s other ≡ Some row))
   submitted one other e seat account asked id pdu is stimulus there =
       let s = step one other e is in
       let told = stand s.0 seat account asked id pdu e.fate
       (subst (λ (x : Stimulus Job). Among (answer_for asked (Submitted id)) (gives s.0 x e.fate)) stimulus (subst (λ (l : List (Out Reply)). Among (answer_for asked (Submitted id)) l) s.1 there)) in
-      let keeps = subst (λ (x : Stimulus Job). Keeps (after s.0 x e.fate).core.rows last.core.rows) stimulus s.2 in
-      let x = keeps.messages id told.1.0 told.1.1 in
-      (told.0, (x.0, x.1.0))
+      let named = subst (λ (x : Stimulus Job). message_at id (after s.0 x e.fate).core.rows.messages ≡ Some told.1.0) (sym stimulus) told.1.1 in
+      let x = s.3.messages id told.1.0 named in
+      (told.0, (after s.0 e.stimulus e.fate, (s.2, (x.0, x.1.0))))
+
+  went : (one other : List (Item Job Reply)) (e : Item Job Reply) (s : Serving) (id : ℕ) (row : MessageRow) → items ≡ one ++ e ∷ other
+      → IsHistory gives after (restarted rows nobody) one s → forgets s e id ≡ true → message_at id s.core.rows.messages ≡ Some row
+      → (before : ℕ) × (from : ℕ) × (most : ℕ) × (e.stimulus ≡ Own (ForgetErrand before from most)) × (may_go_now before s.core row ≡ true)
+  went one other e s id row is h goes found =
+      let asks = forgot_so (asked_by s.seats e.stimulus) e.fate s id goes in
+      let good = (part one (e ∷ other) is s h).0 in
+      let own : row.id ≡ id = found_key message_key id row s.core.rows.messages found in (
+        asks.0,
+        asks.1,
+        asks.2,
+        forget_asked s.seats e.stimulus asks.0 asks.1 asks.2 asks.3,
+        may_now asks.0 asks.1 asks.2 s.core good.core row (found_among message_key id row s.core.rows.messages found)
+            (ap (λ (n : ℕ). is_going_now asks.0 asks.1 asks.2 s.core n) own ∙ asks.4),
+      )
 
   pub run_keeps : KeepsPromises (restarted rows nobody) items last
   run_keeps = record {
     sound = λ one other s e h. (part one other e s h).0.core;
     kept = λ one other s e h. (part one other e s h).1;
+    forgotten = went;
     confirmed = submitted;
     receipts = λ one other e seat end is there.
-        let s = step one other e is in
-        reported_still (after s.0 e.stimulus e.fate).core.rows last end s.2
-        (given_is seat end s.0 e.stimulus e.fate (subst (λ (l : List (Out Reply)). Among (receipt_for seat end) l) s.1 there));
+        let s = step one other e is in (
+          after s.0 e.stimulus e.fate,
+          (
+            s.2,
+            reported_still (after s.0 e.stimulus e.fate) other end s.3
+                (given_is seat end s.0 e.stimulus e.fate (subst (λ (l : List (Out Reply)). Among (receipt_for seat end) l) s.1 there)),
+          ),
+        );
   }

@@ -41,9 +41,9 @@ module _ {S : Type 0} (remaining contents : S → Option (List ℕ)) (admitted :
   own_read : (c : Connection remaining contents admitted) (put : List (Option Job)) (taken : List Reply) → IsCleared put taken
       → SatDown remaining contents admitted put taken c → (own : List Exchange) → AreFor (calls_of remaining contents admitted c) own
       → ReadsOwn remaining contents admitted c own
-  own_read (Session visit) put taken cleared down own for =
-      reads_answers admitted.accounts
-      (standing (opened_session admitted.accounts) Serves (remaining_on visit.wire) (written_on contents visit.wire) visit.seat)
+  own_read (Session accounts may visit) put taken cleared down own for =
+      reads_answers accounts
+      (standing (opened_session accounts) Serves (remaining_on visit.wire) (written_on contents visit.wire) visit.seat)
       (standing visit.served.last visit.served.last_phase (remaining_on visit.wire_then) (written_on contents visit.wire_then) visit.served.last_seat)
       (standing visit.endpoint visit.served.phase (remaining_on visit.wire_then) (written_on contents visit.wire_then) visit.seat_then)
       refl refl (ap requests_in down.0 ∙ (cleared.0 ∙ sym (ap answers_in down.1))) visit.served.served visit.served.left own for

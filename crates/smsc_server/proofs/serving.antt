@@ -5,10 +5,12 @@ pub mod OneAnswer
 pub mod Ran
 pub mod RateLaws
 pub mod RateLists
+pub mod SameNames
 pub mod Sat
 pub mod ShareLists
 pub mod Served
 pub mod Settled
+pub mod StreamEnds
 pub mod Stretched
 pub mod Threads
 pub mod Unanswered

@@ -7,7 +7,7 @@ use Rattle.sms_centre_spec.specs.jobs.Requests.{is_request}
 use Rattle.sms_seats.specs.Jobs.{jobs_among}
 use Rattle.sms_keeper.specs.declared.machine.Item.{Item}
 use Rattle.sms_keeper.specs.declared.machine.Stimulus.{Stimulus}
-use Rattle.sms_keeper.specs.declared.machine.Stimulus.TheVariants.{Job as JobOf, Tick}
+use Rattle.sms_keeper.specs.declared.machine.Stimulus.TheVariants.{Job as JobOf, Tick, Own}
 use Rattle.sms_keeper.specs.History.{IsHistory, outs_to}
 use Rattle.smsc_loop.specs.Calls.{Call, jobs_put, replies_taken}
 use Rattle.smsc_endpoint.specs.EsmeTurns.{answer_in}
@@ -45,6 +45,7 @@ module _ (n : ℕ) where
   abbrev pub exchanges_at : Stimulus Job → List CentreAnswer → List Exchange
   exchanges_at (JobOf seat job) answers = if n == seat then (if is_request job then map (exchange job) answers else []) else []
   exchanges_at (Tick now) answers = []
+  exchanges_at (Own errand) answers = []
 
   -- The requests of the seat in these items, each with the answers that the centre's definition gives to its seat at that place.
   abbrev pub exchanges : Serving → List (Item Job Reply) → List Exchange

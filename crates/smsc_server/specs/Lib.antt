@@ -8,6 +8,8 @@ pub mod RunPromises
 pub mod Exchanges
 pub mod ReceiptsGiven
 pub mod CentresAnswers
+pub mod Forgotten
 pub mod FramesGiven
 pub mod RunReads
+pub mod OwnReplies
 pub mod Occupants

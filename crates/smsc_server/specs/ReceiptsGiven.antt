@@ -2,7 +2,6 @@
 use Rattle.std.specs.Prelude.{◌≡◌, ◌==◌, ℕ, Bool, true, List, [], ◌∷◌, ◌++◌, Option, Some, None, slice_get, if◌then◌else◌}
 use Rattle.sms_base.specs.Among.{Among}
 use Rattle.sms_centre_rows.specs.declared.messages.message.MessageRow.{MessageRow}
-use Rattle.sms_centre_rows.specs.messages.Messages.{message_at}
 use Rattle.sms_centre_rows.specs.reports.Receipts.{is_account}
 use Rattle.sms_centre_spec.specs.declared.jobs.job.Job.{Job}
 use Rattle.sms_centre_spec.specs.declared.jobs.job.Job.TheVariants.{Bound, Unbound, Submit, Query, Cancel, DeliverAnswered, LinkUp, LinkDown, Frame}
@@ -13,9 +12,11 @@ use Rattle.sms_keeper.specs.declared.machine.Fate.{Fate}
 use Rattle.sms_keeper.specs.declared.machine.Fate.TheVariants.{Done, NoMemory, Refused}
 use Rattle.sms_keeper.specs.declared.machine.Item.{Item}
 use Rattle.sms_keeper.specs.declared.machine.Stimulus.{Stimulus}
-use Rattle.sms_keeper.specs.declared.machine.Stimulus.TheVariants.{Job as JobOf, Tick}
+use Rattle.sms_keeper.specs.declared.machine.Stimulus.TheVariants.{Job as JobOf, Tick, Own}
 use Rattle.sms_receipt.specs.declared.final_message.Final.{Final}
-use Rattle.smsc_service.specs.Serving.{Serving}
+use Rattle.smsc_service.specs.Seats.{nobody}
+use Rattle.smsc_service.specs.Serving.{Serving, restarted}
+use Rattle.smsc_server.specs.Forgotten.{Behind, message_left}
 use Rattle.smsc_server.specs.RunPromises.{receipt_for}
 
 -- ---- who is bound at a seat
@@ -40,6 +41,7 @@ bound_by (Frame octets) before = before
 abbrev pub bound_there : ℕ → Stimulus Job → Option Binding → Option Binding
 bound_there n (JobOf seat job) before = if n == seat then bound_by job before else before
 bound_there n (Tick now) before = before
+bound_there n (Own errand) before = before
 
 -- What the centre has no memory for is not done. After a refused write it starts again with whoever is bound then.
 abbrev pub if_done : Fate → Option Binding → Option Binding → Option Binding
@@ -57,18 +59,19 @@ bound_after n before (e ∷ items) = bound_after n (bound_behind n before e.stim
 
 -- ---- what is claimed
 
--- The account that is bound there, in a session that receives, is the one that submitted the message of this receipt.
-pub record IsOfAccount (accounts : List CentreAccount) (last : Serving) (bound : Option Binding) (end : Final) : Type 0 where
+-- The account that is bound there, in a session that receives, is the one that submitted the message of this receipt. So says the row that
+-- the message has behind these items, or had as it was forgotten.
+pub record IsOfAccount (accounts : List CentreAccount) (s : Serving) (items : List (Item Job Reply)) (bound : Option Binding) (end : Final) : Type 0 where
   pub place : ℕ
   pub bound_so : bound ≡ Some (place, true)
   pub account : CentreAccount
   pub account_so : slice_get accounts place ≡ Some account
   pub row : MessageRow
-  pub row_so : message_at end.id last.core.rows.messages ≡ Some row
+  pub row_so : message_left end.id s items ≡ Some row
   pub submitted : is_account account.name row.originator ≡ true
 
 -- Each receipt that a seat got is for the account that is bound there, by the jobs of the seat that were done so far.
-abbrev pub GoToAccounts : Rows → List (Item Job Reply) → Serving → Type 0
-GoToAccounts rows items last =
+abbrev pub GoToAccounts : Rows → List (Item Job Reply) → Type 0
+GoToAccounts rows items =
     (one other : List (Item Job Reply)) (e : Item Job Reply) (seat : ℕ) (end : Final) → items ≡ one ++ e ∷ other → Among (receipt_for seat end) e.outs
-    → IsOfAccount rows.setup.accounts last (bound_after seat None (one ++ e ∷ [])) end
+    → Behind (restarted rows nobody) (one ++ e ∷ []) (λ s. IsOfAccount rows.setup.accounts s other (bound_after seat None (one ++ e ∷ [])) end)

@@ -13,7 +13,7 @@ use Rattle.smsc_server.specs.serving.Connections.{Admitted, Connection, Session,
 module _ {S : Type 0} (remaining contents : S → Option (List ℕ)) (admitted : Admitted) where
   -- A session read the answers of these exchanges, and what else a session reads. A link read the frames that the centre gave.
   abbrev pub ReadsOwn : Connection remaining contents admitted → List Exchange → Type 0
-  ReadsOwn (Session visit) own = ReadsAnswers admitted.accounts (calls_of remaining contents admitted (Session visit)) own
+  ReadsOwn (Session accounts may visit) own = ReadsAnswers accounts (calls_of remaining contents admitted (Session accounts may visit)) own
   ReadsOwn (Link visit) own = IsLinkRead admitted.access (calls_of remaining contents admitted (Link visit))
   ReadsOwn (TurnedAway arrival) own = ⊤
 

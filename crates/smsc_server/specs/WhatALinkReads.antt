@@ -1,10 +1,10 @@
 -- What a handset reads on its link, and what the centre takes of what it sends.
 use Rattle.std.specs.Prelude.{◌≡◌, ℕ, List, [], ◌∷◌, ◌++◌, length, false}
 use Rattle.sms_centre_spec.specs.declared.jobs.reply.Reply.{Reply}
-use Rattle.smsc_loop.specs.Calls.{Call, Timed, Took, Heard, GaveUp, Sent, Put, PutBack, octets_sent, octets_taken, replies_taken}
+use Rattle.smsc_loop.specs.Calls.{Call, Timed, Took, Heard, GaveUp, Noted, Sent, Put, PutBack, octets_sent, octets_taken, replies_taken}
 use Rattle.smsc_endpoint.specs.declared.link_access.LinkAccess.{LinkAccess}
 use Rattle.smsc_endpoint.specs.LinkRuns.{LinkCall, IsLinkProgress}
-use Rattle.smsc_endpoint.specs.LinkRuns.{At, Take, Hear, GiveUp, Send, Put as HandOut, PutBack as HandOutAndBack}
+use Rattle.smsc_endpoint.specs.LinkRuns.{At, Take, Hear, GiveUp, Send, Put as HandOut, PutBack as HandOutAndBack, Tell}
 use Rattle.smsc_endpoint.specs.LinkSends.{HasSent, LinkSends, SendRun, begun, given_by}
 
 -- the call of the link that a call of the loop is, where that went
@@ -13,6 +13,7 @@ link_call_of (Timed now went) = At now ∷ []
 link_call_of (Took octets went) = Take octets ∷ []
 link_call_of (Heard reply went) = Hear reply ∷ []
 link_call_of (GaveUp went) = GiveUp ∷ []
+link_call_of (Noted said) = Tell ∷ []
 link_call_of (Sent octets) = Send (length octets) ∷ []
 link_call_of (Put job) = HandOut ∷ []
 link_call_of (PutBack job again went) = HandOutAndBack ∷ []

@@ -1,7 +1,10 @@
+pub mod AccountBooks
+pub mod AccountNames
 pub mod Connections
 pub mod Entering
 pub mod KeptSeats
 pub mod LinkPlaces
+pub mod NoRoom
 pub mod Rates
 pub mod SeatEvents
 pub mod SeatOrders

@@ -2,7 +2,7 @@
 //!
 //! `serve` starts a centre with the rows of a keep and serves the connections of two listeners. What it runs is one
 //! history of the centre's definition. Its gate, clock, keep and listeners are whatever the caller gives. The relay run
-//! of `smsc_service::relay`, the words of the programs (`smsc_cli`) and the machine of a centre (`smsc_service`) are passed on.
+//! of `smsc_service::relay` and the machine of a centre (`smsc_service`) are passed on.
 //!
 //! - `answer_laws`: what an application reads in answer to what it submits
 //! - `connection_laws`: what a connection takes of the centre
@@ -20,11 +20,10 @@ mod serving;
 pub mod status;
 
 pub use serving::{
-    Allowance, Allowances, Clocks, Event, Given, Loopback, ObservedKeep, Observer, Orders, Ports,
-    Rate, RunClock, SEATS, Seated, ServeFault, loopback_pair, milliseconds,
+    AccountBook, Allowance, Allowances, Clocks, Event, Given, Loopback, ObservedKeep, Observer,
+    Orders, Ports, Rate, RunClock, SEATS, Seated, ServeFault, loopback_pair, milliseconds,
     no_account_passes_its_rate, serve, serve_machine,
 };
 pub use smsc_arrivals::{Arrival, Door, Doors, Side};
-pub use smsc_cli::words;
 pub use smsc_service::CentreMachine;
 pub use smsc_service::relay::{Relayed, RunError, relay_laws, relay_once, run_relay};

@@ -5,6 +5,7 @@
 //! orders and which handset has a link at which seat.
 //!
 //! - `accepting`: connections, accepted at both ports
+//! - `account_book`: the accounts of a run
 //! - `allowances`: what the accounts of a run may do for now
 //! - `board`: what the threads of a run share
 //! - `clock`: the time of a run
@@ -27,6 +28,7 @@
 //! - `telling`: what an observer is told
 
 mod accepting;
+mod account_book;
 mod allowances;
 mod board;
 mod clock;
@@ -48,6 +50,7 @@ mod seat_thread;
 mod server;
 mod telling;
 
+pub use account_book::AccountBook;
 pub use allowances::{Allowance, Allowances};
 pub use clock::{Clocks, RunClock, milliseconds};
 pub use connection::Ports;

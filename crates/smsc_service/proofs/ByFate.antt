@@ -1,5 +1,5 @@
 -- What comes of a stimulus, by what befell it.
-use Rattle.std.proofs.Common.{◌≡◌, ◌⊎◌, ⊎_elim, inl, inr, sym, subst, ap, ◌∙◌, List, Err}
+use Rattle.std.proofs.Common.{◌≡◌, ◌≢◌, ◌⊎◌, ⊎_elim, inl, inr, sym, subst, ap, ◌∙◌, ℕ, List, [], Option, Err}
 use Rattle.sms_centre.specs.state.CentreState.{Represents, CentreStateOf}
 use Rattle.sms_rows.specs.declared.keep.refusals.Refusals.{Refusals}
 use Rattle.smsc_service.specs.Stepping.{OneRefused, PlansStep}
@@ -7,7 +7,9 @@ use Rattle.smsc_service.specs.declared.step_error.StepError.{StepError}
 use Rattle.smsc_service.specs.declared.step_error.StepError.TheVariants.{NoMemory as NoPlan, NoBody, Store}
 use Rattle.sms_centre_spec.specs.CentreEvent.{happened}
 use Rattle.sms_centre_spec.specs.Draft.{core_of}
+use Rattle.sms_centre_spec.specs.declared.answer.CentreAnswer.{CentreAnswer}
 use Rattle.sms_centre_spec.specs.declared.event.CentreEvent.{CentreEvent}
+use Rattle.sms_centre_spec.specs.forgetting.Forget.{forget}
 use Rattle.sms_centre_spec.specs.declared.rows.Rows.{Rows}
 use Rattle.sms_centre_spec.specs.declared.jobs.job.Job.{Job}
 use Rattle.sms_centre_spec.specs.declared.jobs.reply.Reply.{Reply}
@@ -16,7 +18,7 @@ use Rattle.sms_keeper.specs.declared.machine.Fate.TheVariants.{Done, NoMemory, R
 use Rattle.sms_keeper.specs.declared.machine.Stimulus.{Stimulus}
 use Rattle.sms_keeper.specs.declared.outs.Out.{Out}
 use Rattle.smsc_service.specs.declared.asking.SeatRequest.{SeatRequest}
-use Rattle.smsc_service.specs.declared.asking.SeatRequest.TheVariants.{Event}
+use Rattle.smsc_service.specs.declared.asking.SeatRequest.TheVariants.{Event, Forget}
 use Rattle.smsc_service.specs.declared.seat_map.SeatMap.{SeatMap}
 use Rattle.smsc_service.specs.Seats.{seats_in}
 use Rattle.smsc_service.specs.Serving.{GivesUp, IsServing, Serves, Serving, followed_by}
@@ -30,6 +32,17 @@ was_done fate wanted is e = absurd cc
 pub was_undone : (fate : Fate) (wanted : Type 0) → fate ≡ NoMemory → fate ≡ Refused → wanted
 was_undone fate wanted is e = absurd cc
 
+pub not_done : (fate : Fate) (wanted : Type 0) → fate ≡ NoMemory → fate ≡ Done → wanted
+not_done fate wanted is e = absurd cc
+
+pub done_is_made : (fate : Fate) → fate ≡ Done → fate ≢ NoMemory
+done_is_made fate is e = not_done fate ⊥ e is
+
+pub was_given_up : (error : StepError) (fate : Fate) (wanted : Type 0) → GivesUp error fate → fate ≡ Done → wanted
+was_given_up NoPlan fate wanted is e = absurd cc
+was_given_up NoBody fate wanted is e = absurd cc
+was_given_up (Store error) fate wanted is e = absurd cc
+
 -- where a plan's failure is a refusal, the store refused a read
 pub was_refused : (held closed : Type 0) (first last : Refusals) (s : Serving) (event : CentreEvent) (error : StepError) (fate : Fate)
     → GivesUp error fate → PlansStep held closed first last (happened event s.core) (Err error) → fate ≡ Refused → OneRefused first last
@@ -42,6 +55,17 @@ was_refused held closed first last s event (Store error) fate gives left e = abs
 module _ (held : Rows → Type 0) (left : Type 0) (centre : CentreStateOf) (seat_map : SeatMap) (s : Serving) (stimulus : Stimulus Job) where
   pub with_fate : (asked : SeatRequest) (fate wanted : Fate) (outs : List (Out Reply)) → fate ≡ wanted → Serves held left centre seat_map asked s stimulus wanted outs → Serves held left centre seat_map asked s stimulus fate outs
   with_fate asked fate wanted outs is k = subst (λ (f : Fate). Serves held left centre seat_map asked s stimulus f outs) (sym is) k
+
+  module _ (before from most : ℕ) (fate : Fate) (outs : List (Out Reply)) where
+    -- what may go went
+    pub is_forgotten : fate ≡ Done → outs ≡ [] → held (core_of (forget before from most s.core)).rows → Represents (core_of (forget before from most s.core)) centre
+        → seats_in seat_map ≡ s.seats → Serves held left centre seat_map (Forget before from most) s stimulus fate outs
+    is_forgotten is outputs rows centre_state seats =
+        with_fate (Forget before from most) fate Done outs is (outputs, record { rows = rows; centre = centre_state; seats = seats })
+
+    -- nothing went
+    pub is_kept : fate ≡ NoMemory → outs ≡ failed_by stimulus → IsServing held centre seat_map s → Serves held left centre seat_map (Forget before from most) s stimulus fate outs
+    is_kept is outputs serving = with_fate (Forget before from most) fate NoMemory outs is (outputs, serving)
 
   module _ (event : CentreEvent) (fate : Fate) (outs : List (Out Reply)) where
     -- it happened

@@ -1,6 +1,8 @@
+mod Archived
 mod ByFate
 mod ByOctets
 mod Numbers
+mod OrdersTold
 mod RokNames
 mod Roomy
 mod Sittings

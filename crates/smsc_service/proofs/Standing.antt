@@ -15,7 +15,7 @@ use Rattle.sms_keeper.specs.declared.machine.Stimulus.{Stimulus}
 use Rattle.sms_keeper.specs.declared.outs.Out.{Out}
 use Rattle.smsc_service.specs.Asking.{UnlessEvent, asked_by}
 use Rattle.smsc_service.specs.declared.asking.SeatRequest.{SeatRequest}
-use Rattle.smsc_service.specs.declared.asking.SeatRequest.TheVariants.{Event, Nothing, Taken}
+use Rattle.smsc_service.specs.declared.asking.SeatRequest.TheVariants.{Event, Nothing, Taken, Forget}
 use Rattle.smsc_service.specs.declared.service.Service.{Service}
 use Rattle.smsc_service.specs.InSeated.{held_by}
 use Rattle.smsc_service.specs.InService.{IsAwaitedBy, IsServedBy, store_in}
@@ -27,6 +27,7 @@ pub after_rows : (a : SeatRequest) (r : Serving) (stimulus : Stimulus Job) → (
 after_rows (Event event) r stimulus = refl
 after_rows Nothing r stimulus = refl
 after_rows Taken r stimulus = refl
+after_rows (Forget before from most) r stimulus = refl
 
 -- what starts again still does so after one item more
 pub after_again : (a : SeatRequest) (r : Serving) (stimulus : Stimulus Job) → r ≡ restarted r.core.rows r.seats
@@ -34,6 +35,7 @@ pub after_again : (a : SeatRequest) (r : Serving) (stimulus : Stimulus Job) → 
 after_again (Event event) r stimulus is = refl
 after_again Nothing r stimulus is = is
 after_again Taken r stimulus is = is
+after_again (Forget before from most) r stimulus is = refl
 
 -- what an item gives whose group is refused, by what it asks
 pub refused_gives : (a : SeatRequest) (q : Seats) (r : Serving) (stimulus : Stimulus Job) (outs : List (Out Reply)) → a ≡ asked_by q stimulus → q ≡ r.seats → outs ≡ gives_for a Refused r stimulus
@@ -53,6 +55,7 @@ first_more : (a : SeatRequest) (s r : Serving) (stimulus : Stimulus Job) (fate :
 first_more (Event event) s r stimulus fate held now quiet none same = inr refl
 first_more Nothing s r stimulus fate held now quiet none same = inl (quiet.0 ∙ none, same)
 first_more Taken s r stimulus fate held now quiet none same = inl (quiet.0 ∙ none, same)
+first_more (Forget before from most) s r stimulus fate held now quiet none same = inr refl
 
 -- an item more: nothing happened yet, or the second is what starts again
 pub again_more : (a b : SeatRequest) (s r : Serving) (stimulus : Stimulus Job) (fate : Fate) (held now : Changes) → (s.seats ≡ r.seats → a ≡ b) → UnlessEvent a ((now ≡ held) × (fate ≡ Done)) → IsAgain held s r
@@ -66,6 +69,7 @@ refused_first : (a : SeatRequest) (r : Serving) (stimulus : Stimulus Job) (fate 
 refused_first (Event event) r stimulus fate quiet h is = refl
 refused_first Nothing r stimulus fate quiet h is = let done = h.1 in absurd cc
 refused_first Taken r stimulus fate quiet h is = let done = h.1 in absurd cc
+refused_first (Forget before from most) r stimulus fate quiet h is = refl
 
 -- after an item that was refused, the second is what starts again
 pub again_refused : (a b : SeatRequest) (s r : Serving) (stimulus : Stimulus Job) (fate : Fate) (held now : Changes) → (s.seats ≡ r.seats → a ≡ b) → UnlessEvent a ((now ≡ held) × (fate ≡ Done)) → fate ≡ Refused
@@ -85,9 +89,9 @@ pub again_of : (held : Changes) (s r : Serving) → (held ≡ no_changes → ⊥
 again_of held s r some (inl first) = absurd (some first.0)
 again_of held s r some (inr again) = again
 
-module _ {K : Type 0} (state : K → KeepState Rows) where
+module _ {K A : Type 0} (state : K → KeepState Rows) where
   -- a service between two groups
-  pub stands_on : (service : Service K) (s : Serving) → held_by service.seated ≡ no_changes → (state (store_in service)).holds s.core.rows → Represents s.core service.seated.machine.centre
+  pub stands_on : (service : Service K A) (s : Serving) → held_by service.seated ≡ no_changes → (state (store_in service)).holds s.core.rows → Represents s.core service.seated.machine.centre
       → seats_in service.seated.seat_map ≡ s.seats → seats_in service.resumed ≡ s.seats → IsServedBy state service s
   stands_on service s none holds centre seats resumed = record {
     made = record { rows = (holds, settled (held_by service.seated) s.core.rows none); centre = centre; seats = seats };
@@ -97,7 +101,7 @@ module _ {K : Type 0} (state : K → KeepState Rows) where
   }
 
   -- a service that starts again with the rows of its store
-  pub stands_again : (service now : Service K) (r : Serving) → IsAwaitedBy state service r → held_by now.seated ≡ no_changes
+  pub stands_again : (service now : Service K A) (r : Serving) → IsAwaitedBy state service r → held_by now.seated ≡ no_changes
       → ((state (store_in service)).holds r.core.rows
       → (state (store_in now)).holds r.core.rows × Represents (restarted r.core.rows (seats_in service.resumed)).core now.seated.machine.centre)
       → ((state (store_in service)).is_closed → ⊥) → seats_in now.seated.seat_map ≡ seats_in service.resumed → seats_in now.resumed ≡ seats_in service.resumed → IsServedBy state now r

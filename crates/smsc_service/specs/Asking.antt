@@ -6,13 +6,19 @@ use Rattle.smpp_pdu.specs.declared.fault.PduFault.{PduFault}
 use Rattle.smpp_pdu.specs.declared.pdu.Pdu.{Pdu}
 use Rattle.smpp_pdu.specs.PduReading.{pdu_at}
 use Rattle.sms_centre_spec.specs.declared.event.CentreEvent.{CentreEvent}
-use Rattle.sms_centre_spec.specs.declared.event.CentreEvent.TheVariants.{Submit as SubmitOf, Query as QueryOf, Cancel as CancelOf, Bound as BoundOf, Unbound as UnboundOf, DeliverAnswered as DeliverAnsweredOf, Frame as FrameOf, LinkUp as LinkUpOf, LinkDown as LinkDownOf, Tick as TickOf}
+use Rattle.sms_centre_spec.specs.declared.event.CentreEvent.TheVariants.{Submit as SubmitOf, Query as QueryOf, Cancel as CancelOf, Bound as BoundOf, Unbound as UnboundOf, DeliverAnswered as DeliverAnsweredOf, Frame as FrameOf, LinkUp as LinkUpOf, LinkDown as LinkDownOf, Ordered as OrderedOf, Tick as TickOf}
+use Rattle.sms_centre_spec.specs.CentreEvent.{happened}
+use Rattle.sms_centre_spec.specs.Draft.{Core}
+use Rattle.sms_centre_spec.specs.declared.answer.CentreAnswer.{CentreAnswer}
 use Rattle.sms_centre_spec.specs.declared.jobs.job.Job.{Job}
 use Rattle.sms_centre_spec.specs.declared.jobs.job.Job.TheVariants.{Bound, Unbound, Submit, Query, Cancel, DeliverAnswered, LinkUp, LinkDown, Frame}
+use Rattle.sms_centre_spec.specs.declared.order.Order.TheVariants.{Retry as RetryOf, Delete as DeleteOf}
+use Rattle.sms_keeper.specs.declared.machine.Errand.{Errand}
+use Rattle.sms_keeper.specs.declared.machine.Errand.TheVariants.{Forget as ForgetOf, Retry, Delete}
 use Rattle.sms_keeper.specs.declared.machine.Stimulus.{Stimulus}
-use Rattle.sms_keeper.specs.declared.machine.Stimulus.TheVariants.{Job as JobOf, Tick}
+use Rattle.sms_keeper.specs.declared.machine.Stimulus.TheVariants.{Job as JobOf, Tick, Own}
 use Rattle.smsc_service.specs.declared.asking.SeatRequest.{SeatRequest}
-use Rattle.smsc_service.specs.declared.asking.SeatRequest.TheVariants.{Event, Nothing, Taken}
+use Rattle.smsc_service.specs.declared.asking.SeatRequest.TheVariants.{Event, Nothing, Taken, Forget}
 use Rattle.smsc_service.specs.Numbers.{is_number}
 use Rattle.smsc_service.specs.Seats.{Seats, handset_at, seat_of}
 
@@ -59,19 +65,42 @@ asked s seat (LinkUp handset) = if is_number handset then link_for (seat_of hand
 asked s seat LinkDown = of_handset (λ handset. LinkDownOf handset) (handset_at seat s.links)
 asked s seat (Frame octets) = of_handset (λ handset. FrameOf handset octets None) (handset_at seat s.links)
 
+-- what no seat asks
+abbrev pub errand_asks : Errand → SeatRequest
+errand_asks (ForgetOf before from most) = Forget before from most
+errand_asks (Retry id) = Event (OrderedOf RetryOf id)
+errand_asks (Delete id) = Event (OrderedOf DeleteOf id)
+
 -- a hub has 32 seats
 abbrev pub asked_by : Seats → Stimulus Job → SeatRequest
 asked_by s (JobOf seat job) = if nat_lt seat 32 then asked s seat job else Nothing
 asked_by s (Tick now) = Event (TickOf now)
+asked_by s (Own errand) = errand_asks errand
 
 -- where it is an event, it is one of these
 abbrev pub IfEvent : (CentreEvent → Type 0) → SeatRequest → Type 0
 IfEvent Is (Event event) = Is event
 IfEvent Is Nothing = Unit {0}
 IfEvent Is Taken = Unit {0}
+IfEvent Is (Forget before from most) = Unit {0}
 
--- where it is no event, the claim
+-- its answer, where it is an event that happens
+abbrev pub answer_of : SeatRequest → Core → Option CentreAnswer
+answer_of (Event event) c = (happened event c).answer
+answer_of Nothing c = None
+answer_of Taken c = None
+answer_of (Forget before from most) c = None
+
+-- where it is to forget, the claim of what is looked at
+abbrev pub IfForget : (ℕ → ℕ → ℕ → Type 0) → SeatRequest → Type 0
+IfForget Is (Event event) = Unit {0}
+IfForget Is Nothing = Unit {0}
+IfForget Is Taken = Unit {0}
+IfForget Is (Forget before from most) = Is before from most
+
+-- where nothing of the centre can change by it, the claim
 abbrev pub UnlessEvent : SeatRequest → Type 0 → Type 0
 UnlessEvent (Event event) claim = Unit {0}
 UnlessEvent Nothing claim = claim
 UnlessEvent Taken claim = claim
+UnlessEvent (Forget before from most) claim = Unit {0}

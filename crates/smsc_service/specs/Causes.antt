@@ -7,7 +7,7 @@ use Rattle.sms_control.specs.declared.fault.CpFault.{CpFault}
 use Rattle.sms_control.specs.declared.message.Cp.{Cp}
 use Rattle.sms_control.specs.declared.message.Cp.TheVariants.{DataUnit as CpData, AckUnit as CpAck, ErrorUnit as CpError}
 use Rattle.sms_keeper.specs.declared.machine.Stimulus.{Stimulus}
-use Rattle.sms_keeper.specs.declared.machine.Stimulus.TheVariants.{Job as JobOf, Tick}
+use Rattle.sms_keeper.specs.declared.machine.Stimulus.TheVariants.{Job as JobOf, Tick, Own}
 use Rattle.sms_relay.specs.Cause.{number_of}
 use Rattle.sms_relay.specs.RelayReading.{up_at}
 use Rattle.sms_relay.specs.declared.fault.RelayFault.{RelayFault}
@@ -42,4 +42,5 @@ cause_of_job (Frame octets) = cause_of_frame (cp_at octets)
 
 abbrev pub cause_told_by : Stimulus Job → Option ℕ
 cause_told_by (Tick now) = None
+cause_told_by (Own errand) = None
 cause_told_by (JobOf seat job) = cause_of_job job

@@ -4,12 +4,14 @@ pub mod InMachine
 pub mod InSeated
 pub mod InService
 pub mod Numbers
+pub mod Outcomes
 pub mod Room
 pub mod Seats
 pub mod ShownLinks
 pub mod Serving
 pub mod BoundSession
 pub mod Causes
+pub mod Course
 pub mod Starting
 pub mod Stepping
 pub mod Replies

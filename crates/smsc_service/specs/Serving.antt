@@ -1,5 +1,5 @@
 -- What the centre does as the machine of a hub.
-use Rattle.std.specs.Prelude.{◌≡◌, ◌⊎◌, nat_lt, List, Option, Some, None, if◌then◌else◌}
+use Rattle.std.specs.Prelude.{◌≡◌, ◌⊎◌, nat_lt, List, [], Option, Some, None, if◌then◌else◌}
 use Rattle.smpp_pdu.specs.declared.status.CommandStatus.{CommandStatus}
 use Rattle.sms_centre_spec.specs.CentreEvent.{happened, recovered}
 use Rattle.sms_centre_spec.specs.Draft.{Core, core_of}
@@ -7,24 +7,25 @@ use Rattle.sms_centre_spec.specs.declared.event.CentreEvent.{CentreEvent}
 use Rattle.sms_centre_spec.specs.declared.event.CentreEvent.TheVariants.{Submit, Query, Cancel, Bound, Unbound, DeliverAnswered, Frame, LinkUp, LinkDown, Ordered, Tick as TickOf}
 use Rattle.sms_centre_spec.specs.Requests.{cancel_refusal, octets_refusal, query_refusal}
 use Rattle.sms_centre_spec.specs.declared.rows.Rows.{Rows}
+use Rattle.sms_centre_spec.specs.forgetting.Forget.{forget}
 use Rattle.sms_centre_spec.specs.declared.jobs.job.Job.{Job}
 use Rattle.sms_centre_spec.specs.declared.jobs.reply.Reply.{Reply}
 use Rattle.sms_keeper.specs.Fates.{MatchFate}
 use Rattle.sms_keeper.specs.declared.machine.Fate.{Fate}
 use Rattle.sms_keeper.specs.declared.machine.Fate.TheVariants.{Done, NoMemory, Refused}
 use Rattle.sms_keeper.specs.declared.machine.Stimulus.{Stimulus}
-use Rattle.sms_keeper.specs.declared.machine.Stimulus.TheVariants.{Job as JobOf, Tick}
+use Rattle.sms_keeper.specs.declared.machine.Stimulus.TheVariants.{Job as JobOf, Tick, Own}
 use Rattle.sms_keeper.specs.declared.outs.Out.{Out}
 use Rattle.sms_centre.specs.state.CentreState.{Represents, CentreStateOf}
 use Rattle.smsc_service.specs.declared.step_error.StepError.{StepError}
 use Rattle.smsc_service.specs.declared.step_error.StepError.TheVariants.{NoMemory as NoPlan, NoBody, Store}
 use Rattle.smsc_service.specs.declared.asking.SeatRequest.{SeatRequest}
-use Rattle.smsc_service.specs.declared.asking.SeatRequest.TheVariants.{Event, Nothing, Taken}
+use Rattle.smsc_service.specs.declared.asking.SeatRequest.TheVariants.{Event, Nothing, Taken, Forget}
 use Rattle.smsc_service.specs.declared.seat_map.SeatMap.{SeatMap}
 use Rattle.smsc_service.specs.Asking.{asked_by}
 use Rattle.smsc_service.specs.Seats.{Seats, followed, seats_in}
 use Rattle.smsc_service.specs.BoundSession.{handsets_of, sessions_of}
-use Rattle.smsc_service.specs.Replies.{failed_by, refused_by, taken_by, replies_to}
+use Rattle.smsc_service.specs.Replies.{failed_by, nothing_by, refused_by, taken_by, replies_to}
 
 -- a centre between two events, and who sits where
 pub record Serving : Type 0 where
@@ -39,16 +40,20 @@ restarted rows s = record { core = recovered rows (handsets_of s.links) (session
 abbrev pub followed_by : Stimulus Job → Seats → Seats
 followed_by (JobOf seat job) s = if nat_lt seat 32 then followed seat job s else s
 followed_by (Tick now) s = s
+followed_by (Own errand) s = s
 
 -- ---- what is given
 
--- The outcome of the event decides: its replies, or the request has failed.
+-- The outcome of the event decides: its replies, or the request has failed. Nobody hears of what is forgotten.
 abbrev pub gives_for : SeatRequest → Fate → Serving → Stimulus Job → List (Out Reply)
 gives_for (Event event) Done s stimulus = replies_to s.seats stimulus (happened event s.core)
 gives_for (Event event) NoMemory s stimulus = failed_by stimulus
 gives_for (Event event) Refused s stimulus = failed_by stimulus
-gives_for Nothing fate s stimulus = failed_by stimulus
+gives_for Nothing fate s stimulus = nothing_by s.seats stimulus
 gives_for Taken fate s stimulus = taken_by stimulus
+gives_for (Forget before from most) Done s stimulus = []
+gives_for (Forget before from most) NoMemory s stimulus = failed_by stimulus
+gives_for (Forget before from most) Refused s stimulus = failed_by stimulus
 
 -- The status with which the request is refused whatever memory there is: a submit_sm by its octets, a question by what it asks about.
 abbrev pub refusal_of : CentreEvent → Core → Option CommandStatus
@@ -68,6 +73,7 @@ abbrev pub refusal_for : SeatRequest → Core → Option CommandStatus
 refusal_for (Event event) c = refusal_of event c
 refusal_for Nothing c = None
 refusal_for Taken c = None
+refusal_for (Forget before from most) c = None
 
 -- Without memory such a request is still refused so; every other one has failed.
 abbrev pub short_of : Option CommandStatus → Stimulus Job → List (Out Reply) → List (Out Reply)
@@ -95,6 +101,9 @@ after_for (Event event) NoMemory s stimulus = s
 after_for (Event event) Refused s stimulus = restarted s.core.rows (followed_by stimulus s.seats)
 after_for Nothing fate s stimulus = s
 after_for Taken fate s stimulus = s
+after_for (Forget before from most) Done s stimulus = record { core = core_of (forget before from most s.core); seats = s.seats }
+after_for (Forget before from most) NoMemory s stimulus = s
+after_for (Forget before from most) Refused s stimulus = restarted s.core.rows s.seats
 
 abbrev pub after : Serving → Stimulus Job → Fate → Serving
 after s stimulus fate = after_for (asked_by s.seats stimulus) fate s stimulus

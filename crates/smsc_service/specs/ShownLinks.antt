@@ -8,7 +8,7 @@ use Rattle.sms_centre_spec.specs.SoundRows.{all_for}
 use Rattle.sms_centre_spec.specs.declared.jobs.job.Job.{Job}
 use Rattle.sms_centre_spec.specs.declared.jobs.job.Job.TheVariants.{Bound, Unbound, Submit, Query, Cancel, DeliverAnswered, LinkUp, LinkDown, Frame}
 use Rattle.sms_keeper.specs.declared.machine.Stimulus.{Stimulus}
-use Rattle.sms_keeper.specs.declared.machine.Stimulus.TheVariants.{Job as JobOf, Tick}
+use Rattle.sms_keeper.specs.declared.machine.Stimulus.TheVariants.{Job as JobOf, Tick, Own}
 use Rattle.smsc_service.specs.declared.seat_map.LinkSeat.{LinkSeat}
 use Rattle.smsc_service.specs.Numbers.{is_number}
 use Rattle.smsc_service.specs.Seats.{handset_at}
@@ -42,4 +42,5 @@ brings_link (Frame octets) = false
 -- once a second, and when a link is up
 abbrev pub is_shown_after : Stimulus Job → Bool
 is_shown_after (Tick now) = true
+is_shown_after (Own errand) = false
 is_shown_after (JobOf seat job) = brings_link job

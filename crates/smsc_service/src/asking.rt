@@ -4,15 +4,16 @@ ghost use Rattle.smpp_pdu.specs.PduReading.{pdu_at};
 ghost use Rattle.sms_centre_spec.specs.SoundCore.{HasNumber};
 ghost use Rattle.sms_centre_spec.specs.declared.event.CentreEvent.TheVariants.{Frame as FrameOf, LinkDown as LinkDownOf};
 ghost use Rattle.sms_centre_spec.specs.declared.jobs.job.Job.TheVariants.{LinkUp as LinkUpOf};
-ghost use Rattle.smsc_service.specs.Asking.{IfEvent, asked as asked_of, of_handset, question, read_as, submission, withdrawal};
+ghost use Rattle.smsc_service.specs.Asking.{IfEvent, asked as asked_of, errand_asks as errand_asks_of, of_handset, question, read_as, submission, withdrawal};
 ghost use Rattle.smsc_service.specs.Seats.{handset_at, seats_in};
 
 use crate::number::is_number;
 use crate::seat_map::SeatMap;
 use smpp_pdu::{Body, Pdu};
-use sms_base::{Digits, OctetView, Octets};
-use sms_centre_spec::CentreEvent;
+use sms_base::{Digits, Moment, OctetView, Octets};
 use sms_centre_spec::jobs::Job;
+use sms_centre_spec::{CentreEvent, Order};
+use sms_keeper::Errand;
 
 /// What is asked of the centre.
 #[derive(Drop)]
@@ -23,6 +24,12 @@ pub enum SeatRequest<'a> {
     Nothing,
     /// A link for a handset that has one at another seat.
     Taken,
+    /// The centre looks at so many messages, from that number on, and forgets those that may go and ended before that moment.
+    Forget {
+        before: Moment,
+        from: u64,
+        most: u16,
+    },
 }
 
 // ---- requests
@@ -136,6 +143,24 @@ fn framed<'a>(seat_map: &SeatMap, seat: u32, octets: &'a Octets) -> SeatRequest<
         })
     } else {
         SeatRequest::Nothing
+    }
+}
+
+/// What no seat asks of the centre.
+pub(crate) fn errand_asks(errand: Errand) -> SeatRequest<'static>
+    ensures asked { result ≡ errand_asks_of errand }
+    ensures number { IfEvent HasNumber result }
+{
+    match errand {
+        Errand::Forget { before, from, most } => SeatRequest::Forget { before, from, most },
+        Errand::Retry(id) => SeatRequest::Event(CentreEvent::Ordered {
+            order: Order::Retry,
+            id,
+        }),
+        Errand::Delete(id) => SeatRequest::Event(CentreEvent::Ordered {
+            order: Order::Delete,
+            id,
+        }),
     }
 }
 

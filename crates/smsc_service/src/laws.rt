@@ -7,6 +7,12 @@ ghost use Rattle.sms_keeper.specs.declared.machine.Fate.{Fate};
 ghost use Rattle.sms_keeper.specs.declared.machine.Stimulus.TheVariants.{Job as JobOf};
 ghost use Rattle.sms_centre_rows.specs.messages.Messages.{message_at};
 ghost use Rattle.sms_centre_rows.specs.declared.messages.message.MessageRow.{MessageRow};
+ghost use Rattle.sms_centre_spec.specs.CentreEvent.{happened};
+ghost use Rattle.sms_centre_spec.specs.Draft.{Core};
+ghost use Rattle.sms_centre_spec.specs.declared.event.CentreEvent.TheVariants.{Ordered};
+ghost use Rattle.sms_centre_spec.specs.declared.order.Order.{Order};
+ghost use Rattle.smsc_service.specs.declared.order_desk.OrderOutcome.{OrderOutcome};
+ghost use Rattle.smsc_service.specs.Outcomes.{number_of, outcome_at, outcome_for, told_by};
 ghost use Rattle.smsc_service.specs.Serving.{Serving, after, gives};
 ghost use Rattle.smsc_service.specs.Replies.{answer_for};
 
@@ -17,4 +23,13 @@ pub fn an_answer_names_a_message()
     ensures { (s : Serving) (seat account asked id : ℕ) (pdu : List ℕ) (fate : Fate)
         → Among (answer_for asked (Submitted id)) (gives s (JobOf seat (Submit account pdu)) fate)
         → (asked ≡ seat) × ((row : MessageRow) × (message_at id (after s (JobOf seat (Submit account pdu)) fate).core.rows.messages ≡ Some row)) }
+{}
+
+/// What the owner hears of an order is what the message was as the order found it. A retry of a message that has not ended tells that it waits, and
+/// of another how it ended. An order to delete tells that the message is deleted, or that it had ended. Of a number that no message has each tells
+/// that. A desk gives back the outcome that was put there.
+pub fn an_order_is_told()
+    ensures told { (order : Order) (id : ℕ) (c : Core)
+        → told_by (happened (Ordered order id) c).answer ≡ outcome_for (message_at id c.rows.messages) order }
+    ensures kept { (outcome : OrderOutcome) → outcome_at (number_of outcome) ≡ outcome }
 {}

@@ -10,7 +10,9 @@
 //!
 //! `Service` is what a hub's keeper runs: it asks the centre for a seat's job, or lets time pass, and gives each seat
 //! its replies. Its steps are one history of the centre's definition (`specs/Serving.antt`). Behind its `Cutoff` it begins
-//! no event: each fails as for want of memory. `SeatMap` keeps which
+//! no event: each fails as for want of memory. It has errands, which no seat asks: an order that its owner left at the
+//! `OrderDesk`, and messages to forget, each of which its archive has before it goes. The answer to an order goes back to
+//! the desk, once its group is committed. `SeatMap` keeps which
 //! handset's link and which session is at which seat, so that frames and receipts find their seats. `serve_with` owns a
 //! service, lends it and gives the keep back, so that no crate above proves how a centre is dropped.
 //!
@@ -18,6 +20,7 @@
 //! - `causes`: by which causes handsets refused what was delivered
 //! - `cutoff`: whether it is too late to begin anything
 //! - `ends`: the ends of messages
+//! - `errands`: what a service does that no seat asks
 //! - `forgetting`: what a run forgets as it starts
 //! - `seat_map`: which handset and which session is at which seat
 //! - `laws`: laws of the service's steps
@@ -26,6 +29,7 @@
 //! - `machine`: a centre and the keep of a group
 //! - `made`: what came of a stimulus
 //! - `number`: the numbers of handsets
+//! - `order_desk`: where an order of the owner waits, and its outcome
 //! - `relay`: a relay run, which has no seats and no rows
 //! - `restarting`: a centre that starts again
 //! - `seat_table`: rows of the seats of a hub
@@ -46,6 +50,7 @@ mod bound_session;
 mod causes;
 mod cutoff;
 mod ends;
+mod errands;
 mod forgetting;
 pub mod laws;
 mod lending;
@@ -53,6 +58,7 @@ mod link_board;
 mod machine;
 mod made;
 mod number;
+mod order_desk;
 pub mod relay;
 mod replies;
 mod restarting;
@@ -70,15 +76,17 @@ mod stimuli;
 pub use asking::{SeatRequest, job_asks};
 pub use bound_session::{handsets_of, sessions_of};
 pub use cutoff::Cutoff;
+pub use errands::{Errands, Forgetting};
 pub use forgetting::forget_ended;
 pub use lending::serve_with;
 pub use link_board::{CauseCount, LinkBoard};
 pub use machine::CentreMachine;
+pub use order_desk::{OrderDesk, OrderOutcome};
 pub use replies::{Requester, failed, reply_outs, taken};
 pub use seat_map::{BoundSession, LinkSeat, SeatMap};
 pub use served::Served;
 pub use service::Service;
-pub use sms_centre::{Archive, ForgetError, NotArchived, Setup};
+pub use sms_centre::{Archive, ForgetError, NoArchive, NotArchived, Order, Setup};
 pub use sms_centre_spec::bodies::CentreStore;
 pub use sms_intake::{AllowedSource, CentreAccount};
 pub use start_error::StartError;

@@ -1,5 +1,5 @@
 //! A centre over the keep of a group.
-ghost use Rattle.std.specs.Prelude.{◌≡◌, ◌≢◌, ◌⊎◌, IfErr, IfOk, MatchResult};
+ghost use Rattle.std.specs.Prelude.{◌≡◌, ◌≢◌, ◌⊎◌, ℕ, IfErr, IfOk, MatchResult, OnOk};
 ghost use Rattle.sms_rows.specs.declared.keep.error.KeepError.TheVariants.{NotThisStore, OldVersion};
 ghost use Rattle.sms_rows.specs.keep.StoreOutcome.{IsCounted, WasHonest};
 ghost use Rattle.sms_centre.specs.plans.EventOutcome.{IsOutcome};
@@ -7,17 +7,20 @@ ghost use Rattle.sms_centre.specs.state.CentreState.{Represents};
 ghost use Rattle.sms_centre.specs.Planning.{Fits};
 ghost use Rattle.sms_centre_group.specs.Grouping.{FlushEnds, Spans, group_state, held_in, store_of};
 ghost use Rattle.sms_centre_group.specs.HeldRoom.{HasRoomFor};
+ghost use Rattle.sms_centre.specs.Archiving.{AreArchived, Stays};
 ghost use Rattle.sms_centre_spec.specs.CentreEvent.{happened};
 ghost use Rattle.sms_centre_spec.specs.Draft.{Core, core_of, no_changes, rows_after};
 ghost use Rattle.sms_centre_spec.specs.SoundCore.{HasNumber, IsEvent};
 ghost use Rattle.sms_centre_spec.specs.SoundRows.{IsSound};
+ghost use Rattle.sms_centre_spec.specs.forgetting.Forget.{forget, going_now};
 ghost use Rattle.sms_centre_spec.specs.declared.event.CentreEvent.{CentreEvent as CentreEventOf};
 ghost use Rattle.sms_centre_spec.specs.declared.rows.Rows.{Rows as RowsOf};
 ghost use Rattle.smsc_service.specs.Stepping.{PlanningOutcome, step_error_of as step_error_of_plan};
 ghost use Rattle.smsc_service.specs.InMachine.{HoldsEvent, centre_in, keep_in};
 
 use crate::step_error::StepError;
-use sms_centre::{Centre, CentreEvent, Outputs, Plan, PlanError};
+use sms_base::Moment;
+use sms_centre::{Archive, Centre, CentreEvent, ForgetError, Outputs, Plan, PlanError};
 use sms_centre_group::GroupKeep;
 use sms_centre_spec::bodies::CentreStore;
 use sms_keeper::Gate;
@@ -76,6 +79,26 @@ impl<K: CentreStore + Drop> CentreMachine<K> {
         }
     }
 
+    /// What it leads to that the centre forgets, as `Centre::plan_forget` has it. The archive has then what goes. Nothing else has changed yet.
+    ///
+    /// # Errors
+    /// A growth was refused, or the archive refused a message.
+    pub fn plan_forget<A: Archive>(
+        &self,
+        archive: &mut A,
+        before: Moment,
+        from: u64,
+        most: u16,
+    ) -> Result<Plan, ForgetError>
+        ensures outcome { (c : Core) → Represents c (centre_in self.now) → IfOk result (λ p. IsOutcome (forget before from most c) p.plan) }
+        ensures archived { (c : Core) → Represents c (centre_in self.now)
+            → OnOk result (AreArchived (A.keeps archive.new) (going_now before from most c) c.rows) }
+        ensures kept { Stays (A.keeps archive.old) (A.keeps archive.new) }
+        ensures fits { IfOk result (Fits (centre_in self.now)) }
+    {
+        self.centre.plan_forget(archive, before, from, most)
+    }
+
     // Adopts the plan, and holds what it changes, for which there is room.
     fn adopt(&mut self, planned: Plan) -> Result<Outputs, AllocError>
         requires fits { Fits (centre_in self.old) planned }
@@ -84,6 +107,9 @@ impl<K: CentreStore + Drop> CentreMachine<K> {
         ensures outcome { (event : CentreEventOf) (c : Core) (base : RowsOf) → IsEvent event → Represents c (centre_in self.old)
             → IsOutcome (happened event c) planned.plan → Spans (K.state (store_of (keep_in self.old))) (held_in (keep_in self.old)) base c.rows
             → MatchResult result (λ outputs. HoldsEvent K.state base (core_of (happened event c)) self.new) (λ error. HoldsEvent K.state base c self.new) }
+        ensures forgotten { (before from most : ℕ) (c : Core) (base : RowsOf) → Represents c (centre_in self.old)
+            → IsOutcome (forget before from most c) planned.plan → Spans (K.state (store_of (keep_in self.old))) (held_in (keep_in self.old)) base c.rows
+            → MatchResult result (λ outputs. HoldsEvent K.state base (core_of (forget before from most c)) self.new) (λ error. HoldsEvent K.state base c self.new) }
         ensures store { store_of (keep_in self.new) ≡ store_of (keep_in self.old) }
         ensures refusals { (keep_in self.new).refusals ≡ (keep_in self.old).refusals }
     {
@@ -106,6 +132,9 @@ impl<K: CentreStore + Drop> CentreMachine<K> {
         ensures outcome { (event : CentreEventOf) (c : Core) (base : RowsOf) → IsEvent event → Represents c (centre_in self.old)
             → IsOutcome (happened event c) planned.plan → Spans (K.state (store_of (keep_in self.old))) (held_in (keep_in self.old)) base c.rows
             → MatchResult result (λ outputs. HoldsEvent K.state base (core_of (happened event c)) self.new) (λ error. HoldsEvent K.state base c self.new) }
+        ensures forgotten { (before from most : ℕ) (c : Core) (base : RowsOf) → Represents c (centre_in self.old)
+            → IsOutcome (forget before from most c) planned.plan → Spans (K.state (store_of (keep_in self.old))) (held_in (keep_in self.old)) base c.rows
+            → MatchResult result (λ outputs. HoldsEvent K.state base (core_of (forget before from most c)) self.new) (λ error. HoldsEvent K.state base c self.new) }
         ensures store { store_of (keep_in self.new) ≡ store_of (keep_in self.old) }
         ensures refusals { (keep_in self.new).refusals ≡ (keep_in self.old).refusals }
     {

@@ -1,4 +1,5 @@
 //! What came of a stimulus.
+use sms_centre::CentreAnswer;
 use sms_centre_spec::jobs::Reply;
 use sms_keeper::{Fate, Outs};
 
@@ -7,4 +8,6 @@ use sms_keeper::{Fate, Outs};
 pub(crate) struct Made {
     pub(crate) fate: Fate,
     pub(crate) outs: Outs<Reply>,
+    /// The answer of an event that happened, if it has one.
+    pub(crate) told: Option<CentreAnswer>,
 }

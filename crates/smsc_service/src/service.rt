@@ -4,11 +4,13 @@ ghost use Rattle.sms_rows.specs.keep.StoreOutcome.{IfHeld, WasHonest};
 ghost use Rattle.sms_centre_spec.specs.declared.rows.Rows.{Rows as RowsOf};
 ghost use Rattle.smsc_service.specs.Seats.{nobody, seats_in};
 ghost use Rattle.smsc_service.specs.Stepping.{OneRefused};
-ghost use Rattle.smsc_service.specs.Serving.{Serving, after, gives, restarted};
-ghost use Rattle.smsc_service.specs.InService.{HasHonestStore, IfAwaited, IsAwaitedBy, IsBroken, IsServedBy, IsStanding, refusals_of, store_in};
+ghost use Rattle.smsc_service.specs.Serving.{Serving, restarted};
+ghost use Rattle.smsc_service.specs.Course.{after, gives};
+ghost use Rattle.smsc_service.specs.InService.{HasArchived, HasHonestStore, IfAwaited, IsAwaitedBy, IsBroken, IsRefusedBy, IsRunning, IsServedBy, archive_in, refusals_of, store_in};
 
 use crate::causes::cause_told_by;
 use crate::cutoff::Cutoff;
+use crate::errands::{Errands, walks_to};
 use crate::link_board::LinkBoard;
 use crate::machine::CentreMachine;
 use crate::made::Made;
@@ -19,18 +21,19 @@ use crate::served::Served;
 use crate::shown_links;
 use crate::start_error::StartError;
 use crate::stimuli::{asked_by, refused_with_group};
+use sms_base::Moment;
 use sms_base::lending::put;
-use sms_centre::Centre;
+use sms_centre::{Archive, Centre};
 use sms_centre_group::GroupKeep;
 use sms_centre_spec::bodies::CentreStore;
 use sms_centre_spec::jobs::{Job, Reply};
-use sms_keeper::{Broken, Gate, Machine, Step, Stimulus, Unsettled};
+use sms_keeper::{Broken, Errand, Gate, Machine, Outs, Step, Stimulus, Unsettled};
 use std::alloc::{AllocError, Global};
 use std::sync::Arc;
 
 /// The centre over its store, with who sits where.
 #[derive(Drop)]
-pub struct Service<K: CentreStore + Drop> {
+pub struct Service<K: CentreStore + Drop, A: Archive + Drop> {
     pub(crate) seated: SeatedCentre<K>,
     // Who sits where if the group is refused.
     pub(crate) resumed: SeatMap,
@@ -42,6 +45,8 @@ pub struct Service<K: CentreStore + Drop> {
     pub(crate) board: Option<Arc<LinkBoard>>,
     // Behind it nothing is begun.
     pub(crate) cutoff: Arc<Cutoff>,
+    // What it does that no seat asks.
+    pub(crate) errands: Errands<A>,
 }
 
 // Two maps of nobody.
@@ -59,7 +64,7 @@ fn empty_maps(alloc: Global) -> Result<(SeatMap, SeatMap), AllocError>
     }
 }
 
-impl<K: CentreStore + Drop> Service<K> {
+impl<K: CentreStore + Drop, A: Archive + Drop> Service<K, A> {
     fn of(
         alloc: Global,
         keep: GroupKeep<K>,
@@ -68,7 +73,8 @@ impl<K: CentreStore + Drop> Service<K> {
         resumed: SeatMap,
         board: Option<Arc<LinkBoard>>,
         cutoff: Arc<Cutoff>,
-    ) -> Service<K>
+        errands: Errands<A>,
+    ) -> Service<K, A>
         ensures keep { result.seated.machine.keep ≡ keep }
         ensures centre { result.seated.machine.centre ≡ centre }
         ensures seat_map { result.seated.seat_map ≡ seat_map }
@@ -85,11 +91,12 @@ impl<K: CentreStore + Drop> Service<K> {
             shows: false,
             board,
             cutoff,
+            errands,
         }
     }
 
     /// The service that starts with the rows of a keep, with nobody at any seat. Where there is a board, it puts on it how links are. Behind
-    /// the cutoff it begins nothing.
+    /// the cutoff it begins nothing. It does the errands whenever there is one.
     ///
     /// # Errors
     /// The store gave no rows, or they are not sound, or a growth was refused.
@@ -98,7 +105,8 @@ impl<K: CentreStore + Drop> Service<K> {
         keep: K,
         board: Option<Arc<LinkBoard>>,
         cutoff: Arc<Cutoff>,
-    ) -> Result<Service<K>, StartError>
+        errands: Errands<A>,
+    ) -> Result<Service<K, A>, StartError>
         ensures served { IfOk result (λ service. (rows : RowsOf)
             → IfHeld rows (K.state keep) (K.state (store_in service)) (IsServedBy K.state service (restarted rows nobody))) }
         ensures before { IfOk result (λ service. WasHonest (K.state keep) (K.state (store_in service))) }
@@ -108,24 +116,28 @@ impl<K: CentreStore + Drop> Service<K> {
         };
         let mut group = GroupKeep::over(alloc, keep);
         let centre = restarted_from(alloc, &mut group, &seat_map)?;
-        Ok(Service::of(alloc, group, centre, seat_map, resumed, board, cutoff))
+        Ok(Service::of(
+            alloc, group, centre, seat_map, resumed, board, cutoff, errands,
+        ))
     }
 
-    /// Ends the service, and gives the keep of its rows.
-    pub(crate) fn into_keep(self) -> K
-        ensures { result ≡ store_in self }
+    /// Ends the service, and gives the keep of its rows, and the archive of what it forgot.
+    pub(crate) fn into_parts(self) -> (K, A)
+        ensures keep { result.0 ≡ store_in self }
+        ensures archive { result.1 ≡ archive_in self }
     {
         let Service {
             seated,
             resumed,
             board,
             cutoff,
+            errands,
             ..
         } = self;
         drop(resumed);
         drop(board);
         drop(cutoff);
-        seated.into_keep()
+        (seated.into_keep(), errands.into_archive())
     }
 
     // Puts down how the links are, where a step of the group asked for it and anybody looks.
@@ -158,6 +170,8 @@ impl<K: CentreStore + Drop> Service<K> {
     // The centre starts again with the rows of the store. What its group changed is let go.
     fn restart(&mut self) -> Result<(), StartError>
         ensures served { (r : Serving) → IfAwaited K.state r self.old self.new (OnOk result (IsServedBy K.state self.new r)) }
+        ensures resumed { self.new.resumed ≡ self.old.resumed }
+        ensures archive { archive_in self.new ≡ archive_in self.old }
         ensures before { HasHonestStore K.state self.new → HasHonestStore K.state self.old }
     {
         let seated = &mut self.seated;
@@ -168,12 +182,14 @@ impl<K: CentreStore + Drop> Service<K> {
     }
 }
 
-impl<K: CentreStore + Drop> Machine<Job, Reply> for Service<K> {
+impl<K: CentreStore + Drop, A: Archive + Drop> Machine<Job, Reply> for Service<K, A> {
     type State = Served;
 
-    ghost stands = { λ m s r. IsStanding K.state m s r };
+    ghost stands = { λ m s r. IsRunning K.state A.keeps m s r };
 
-    ghost resumes = { λ m r. IsAwaitedBy K.state m r };
+    ghost resumes = { λ m r. IsAwaitedBy K.state m r.serving × HasArchived A.keeps m r.gone };
+
+    ghost fails_as = { λ m r. IsRefusedBy m r.serving × HasArchived A.keeps m r.gone };
 
     ghost is_honest = { λ m. HasHonestStore K.state m };
 
@@ -185,11 +201,18 @@ impl<K: CentreStore + Drop> Machine<Job, Reply> for Service<K> {
 
     ghost after = { λ s stimulus fate. after s stimulus fate };
 
+    fn errand(&self, now: Moment) -> Option<Errand> {
+        self.errands.next(now)
+    }
+
     fn step(&mut self, stimulus: &Stimulus<Job>) -> Step<Reply> {
         let asked = asked_by(&self.seated.seat_map, stimulus);
         let if_refused = refused_with_group(&mut self.resumed, stimulus);
         let is_late = self.cutoff.is_past();
-        let Made { fate, outs } = self.seated.answer(&asked, stimulus, is_late);
+        let next = walks_to(&self.seated.machine.centre, stimulus);
+        let archive = &mut self.errands.archive;
+        let Made { fate, outs, told } = self.seated.answer(&asked, stimulus, archive, is_late);
+        self.errands.note(stimulus, fate, told, next);
         self.count_cause(stimulus);
         self.shows = shown_links::are_shown_after(self.shows, stimulus);
         Step {
@@ -205,6 +228,7 @@ impl<K: CentreStore + Drop> Machine<Job, Reply> for Service<K> {
                 self.resumed.copy_from(&self.seated.seat_map);
                 self.publish();
                 self.shows = false;
+                self.errands.tell(true);
                 Ok(())
             }
             Err(_) => Err(Unsettled),
@@ -212,6 +236,7 @@ impl<K: CentreStore + Drop> Machine<Job, Reply> for Service<K> {
     }
 
     fn reopen(&mut self) -> Result<(), Broken> {
+        self.errands.tell(false);
         match self.restart() {
             Ok(()) => {
                 self.is_broken = false;
@@ -222,5 +247,9 @@ impl<K: CentreStore + Drop> Machine<Job, Reply> for Service<K> {
                 Err(Broken)
             }
         }
+    }
+
+    fn refuse(&mut self, stimulus: &Stimulus<Job>) -> Outs<Reply> {
+        refused_with_group(&mut self.resumed, stimulus)
     }
 }

@@ -1,5 +1,5 @@
 //! What is answered where there was no memory for a request.
-ghost use Rattle.std.specs.Prelude.{◌≡◌};
+ghost use Rattle.std.specs.Prelude.{◌≡◌, ◌≢◌};
 ghost use Rattle.sms_centre.specs.state.CentreState.{Represents};
 ghost use Rattle.sms_centre_spec.specs.Draft.{Core};
 ghost use Rattle.sms_keeper.specs.declared.machine.Fate.TheVariants.{NoMemory};
@@ -19,7 +19,7 @@ fn refusal_for(centre: &Centre, asked: &SeatRequest<'_>) -> Option<CommandStatus
 {
     match asked {
         SeatRequest::Event(event) => refusal_of(centre, event),
-        SeatRequest::Nothing | SeatRequest::Taken => None,
+        SeatRequest::Nothing | SeatRequest::Taken | SeatRequest::Forget { .. } => None,
     }
 }
 
@@ -49,7 +49,7 @@ fn refused_at(status: CommandStatus, stimulus: &Stimulus<Job>) -> Outs<Reply>
             seat: *seat,
             out: Reply::Answer(CentreAnswer::Refused(status)),
         }),
-        Stimulus::Tick(_) => Outs::none(),
+        Stimulus::Tick(_) | Stimulus::Own(_) => Outs::none(),
     }
 }
 
@@ -61,6 +61,7 @@ fn refused(status: CommandStatus, stimulus: &Stimulus<Job>) -> Made
     Made {
         fate: Fate::NoMemory,
         outs: refused_at(status, stimulus),
+        told: None,
     }
 }
 
@@ -87,6 +88,7 @@ pub(crate) fn answered(
     made: Made,
 ) -> Made
     ensures fate { result.fate ≡ made.fate }
+    ensures told { result.fate ≢ NoMemory → result.told ≡ made.told }
     ensures outs { (c : Core) → (made.fate ≡ NoMemory → Represents c centre.now)
         → result.outs ≡ unless_refused made.fate (refusal_for_of asked.now c) stimulus.now made.outs }
 {

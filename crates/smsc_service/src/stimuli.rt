@@ -1,5 +1,5 @@
 //! What a stimulus asks, and what it gives.
-ghost use Rattle.std.specs.Prelude.{◌≡◌, IfOk};
+ghost use Rattle.std.specs.Prelude.{◌≡◌, None, IfOk};
 ghost use Rattle.sms_centre.specs.plans.EventOutcome.{IsOutcome};
 ghost use Rattle.sms_centre.specs.state.CentreState.{Represents};
 ghost use Rattle.sms_centre_spec.specs.CentreEvent.{happened};
@@ -9,14 +9,14 @@ ghost use Rattle.sms_keeper.specs.declared.machine.Fate.TheVariants.{Done, Refus
 ghost use Rattle.smsc_service.specs.Asking.{IfEvent, asked_by as asked_by_of};
 ghost use Rattle.smsc_service.specs.Seats.{seats_in};
 ghost use Rattle.smsc_service.specs.Serving.{Serving, after, followed_by, gives};
-ghost use Rattle.smsc_service.specs.Replies.{asker, failed_by, risen_by as risen_by_of, taken_by, replies_to};
+ghost use Rattle.smsc_service.specs.Replies.{asker, failed_by, nothing_by, risen_by as risen_by_of, seat_answer as seat_answer_of, taken_by, replies_to};
 
-use crate::asking::{SeatRequest, job_asks};
+use crate::asking::{SeatRequest, errand_asks, job_asks};
 use crate::made::Made;
-use crate::replies::{Requester, failed, reply_outs, taken};
+use crate::replies::{Requester, failed, reply_outs, taken, vacancy};
 use crate::seat_map::SeatMap;
 use sms_base::Digits;
-use sms_centre::{Centre, CentreEvent, Plan};
+use sms_centre::{Centre, CentreAnswer, CentreEvent, Plan};
 use sms_centre_spec::jobs::{Job, Reply};
 use sms_keeper::{Fate, Out, Outs, Stimulus};
 use std::alloc::{AllocError, Global};
@@ -35,6 +35,7 @@ pub(crate) fn asked_by<'a>(seat_map: &SeatMap, stimulus: &'a Stimulus<Job>) -> S
             }
         }
         Stimulus::Tick(now) => SeatRequest::Event(CentreEvent::Tick(*now)),
+        Stimulus::Own(errand) => errand_asks(*errand),
     }
 }
 
@@ -66,7 +67,17 @@ fn asker_of(stimulus: &Stimulus<Job>) -> usize
 {
     match stimulus {
         Stimulus::Job(seat, _) => *seat,
-        Stimulus::Tick(_) => 0,
+        Stimulus::Tick(_) | Stimulus::Own(_) => 0,
+    }
+}
+
+// The answer that goes to the seat that asked: that to an errand goes to none.
+fn seat_answer(stimulus: &Stimulus<Job>, answer: Option<CentreAnswer>) -> Option<CentreAnswer>
+    ensures { result ≡ seat_answer_of stimulus.now answer }
+{
+    match stimulus {
+        Stimulus::Job(_, _) | Stimulus::Tick(_) => answer,
+        Stimulus::Own(_) => None,
     }
 }
 
@@ -86,7 +97,8 @@ pub(crate) fn planned_outs(
         risen: risen_by(stimulus),
         seat: asker_of(stimulus),
     };
-    reply_outs(alloc, seat_map, &asker, centre, planned)
+    let answer = seat_answer(stimulus, planned.outputs().answer);
+    reply_outs(alloc, seat_map, &asker, centre, planned, answer)
 }
 
 fn taken_at(stimulus: &Stimulus<Job>) -> Outs<Reply>
@@ -94,7 +106,7 @@ fn taken_at(stimulus: &Stimulus<Job>) -> Outs<Reply>
 {
     match stimulus {
         Stimulus::Job(seat, _) => taken(*seat),
-        Stimulus::Tick(_) => Outs::none(),
+        Stimulus::Tick(_) | Stimulus::Own(_) => Outs::none(),
     }
 }
 
@@ -102,10 +114,12 @@ fn taken_at(stimulus: &Stimulus<Job>) -> Outs<Reply>
 pub(crate) fn turned_away(stimulus: &Stimulus<Job>) -> Made
     ensures fate { result.fate ≡ Done }
     ensures outs { result.outs ≡ taken_by stimulus.now }
+    ensures told { result.told ≡ None }
 {
     Made {
         fate: Fate::Done,
         outs: taken_at(stimulus),
+        told: None,
     }
 }
 
@@ -114,7 +128,29 @@ fn failed_at(stimulus: &Stimulus<Job>) -> Outs<Reply>
 {
     match stimulus {
         Stimulus::Job(seat, job) => failed(*seat, job),
-        Stimulus::Tick(_) => Outs::none(),
+        Stimulus::Tick(_) | Stimulus::Own(_) => Outs::none(),
+    }
+}
+
+fn vacancy_at(seat_map: &SeatMap, stimulus: &Stimulus<Job>) -> Outs<Reply>
+    ensures { result ≡ nothing_by (seats_in seat_map.now) stimulus.now }
+{
+    match stimulus {
+        Stimulus::Job(seat, job) => vacancy(seat_map, *seat, job),
+        Stimulus::Tick(_) | Stimulus::Own(_) => Outs::none(),
+    }
+}
+
+/// What an item comes to that asks nothing.
+pub(crate) fn unasked(seat_map: &SeatMap, stimulus: &Stimulus<Job>) -> Made
+    ensures fate { result.fate ≡ Done }
+    ensures outs { result.outs ≡ nothing_by (seats_in seat_map.now) stimulus.now }
+    ensures told { result.told ≡ None }
+{
+    Made {
+        fate: Fate::Done,
+        outs: vacancy_at(seat_map, stimulus),
+        told: None,
     }
 }
 
@@ -122,10 +158,12 @@ fn failed_at(stimulus: &Stimulus<Job>) -> Outs<Reply>
 pub(crate) fn unmade(fate: Fate, stimulus: &Stimulus<Job>) -> Made
     ensures fate { result.fate ≡ fate }
     ensures outs { result.outs ≡ failed_by stimulus.now }
+    ensures told { result.told ≡ None }
 {
     Made {
         fate,
         outs: failed_at(stimulus),
+        told: None,
     }
 }
 
@@ -140,7 +178,8 @@ pub(crate) fn refused_with_group(seat_map: &mut SeatMap, stimulus: &Stimulus<Job
             follow(seat_map, stimulus);
             failed_at(stimulus)
         }
-        SeatRequest::Nothing => failed_at(stimulus),
+        SeatRequest::Nothing => vacancy_at(seat_map, stimulus),
         SeatRequest::Taken => taken_at(stimulus),
+        SeatRequest::Forget { .. } => failed_at(stimulus),
     }
 }

@@ -8,7 +8,7 @@ use crate::setup::RunAccounts;
 use crate::store_files::public_mode_at;
 use smsc_cli::words::{
     AccountWords, FileFault, PasswordWords, ServerRun, TableAccount, TableFault, add_lines,
-    add_tables,
+    add_tables, source_of,
 };
 use std::alloc::Global;
 use std::{fs, io};
@@ -136,10 +136,47 @@ fn toml_fault(file: &str, fault: &toml::de::Error) -> RunFault {
     }
 }
 
-fn tables_fault(file: &str, fault: TableFault) -> RunFault {
+// A source that looks as if it were any with this beginning, but that no number begins with.
+fn is_starred(source: &Value) -> bool {
+    match source.as_str() {
+        Some(text) => text.ends_with('*') && source_of(text).is_none(),
+        None => false,
+    }
+}
+
+fn sources_in(account: &Value) -> &[Value] {
+    let Some(table) = account.as_table() else {
+        return &[];
+    };
+    let Some(sources) = table.get("sources") else {
+        return &[];
+    };
+    match sources.as_array() {
+        Some(values) => values.as_slice(),
+        None => &[],
+    }
+}
+
+// The account of this number, from 1.
+fn account_at<'a>(document: &'a Table, number: usize) -> Option<&'a Value> {
+    let accounts = document.get("account")?.as_array()?;
+    accounts.get(number.checked_sub(1)?)
+}
+
+fn bad_account(file: &str, document: &Table, number: usize) -> RunFault {
+    let line = line_of(file, number);
+    match account_at(document, number) {
+        Some(account) if sources_in(account).iter().any(|source| is_starred(source)) => {
+            RunFault::StarredSource(line)
+        }
+        _ => RunFault::AccountLine(line),
+    }
+}
+
+fn tables_fault(file: &str, document: &Table, fault: TableFault) -> RunFault {
     match fault {
         TableFault::NoAccounts => RunFault::NoTables,
-        TableFault::BadAccount(number) => RunFault::AccountLine(line_of(file, number)),
+        TableFault::BadAccount(number) => bad_account(file, document, number),
         TableFault::NoMemory => RunFault::NoMemory,
     }
 }
@@ -155,7 +192,7 @@ fn tables_in<'a>(
         Ok(()) => Ok(accounts),
         Err(fault) => {
             drop(accounts);
-            Err(tables_fault(file, fault))
+            Err(tables_fault(file, document, fault))
         }
     }
 }

@@ -4,9 +4,10 @@
 use crate::readiness;
 use crate::reloading::Reloader;
 use crate::run_fault::{Paths, RunFault};
-use sms_base::Octets;
 use sms_base::lending::put;
+use sms_base::{FinalState, MessageId, Octets};
 use smsc_server::Orders;
+use smsc_service::{Order, OrderOutcome};
 use std::alloc::{AllocError, Global};
 use std::fs::{self, Permissions};
 use std::io::{self, Read, Write};
@@ -46,6 +47,10 @@ pub enum Command {
     End(u32),
     /// The accounts' file is read again.
     Reload,
+    /// What waits of the message of this number is due now.
+    Retry(MessageId),
+    /// The message of this number is deleted.
+    Cancel(MessageId),
 }
 
 // ---- the server's side
@@ -62,11 +67,49 @@ fn command_of(octets: &[u8]) -> Option<Command> {
     match text.trim_end() {
         "stop" => Some(Command::Stop),
         "reload" => Some(Command::Reload),
-        line => {
-            let number = line.strip_prefix("end ")?;
+        line => numbered(line),
+    }
+}
+
+// What a word and a number order.
+fn numbered(line: &str) -> Option<Command> {
+    let (word, number) = line.split_once(' ')?;
+    match word {
+        "end" => {
             let seat: u32 = number.parse().ok()?;
             Some(Command::End(seat))
         }
+        "retry" => Some(Command::Retry(MessageId::read(number.as_bytes())?)),
+        "cancel" => Some(Command::Cancel(MessageId::read(number.as_bytes())?)),
+        _ => None,
+    }
+}
+
+// Whether it is ordered of a message.
+fn is_of_message(command: Option<Command>) -> bool {
+    matches!(command, Some(Command::Retry(_) | Command::Cancel(_)))
+}
+
+// Puts what is ordered of a message. False where another order is not done yet.
+fn put_order(orders: &Orders, command: Command) -> bool {
+    match command {
+        Command::Retry(id) => orders.order(Order::Retry, id),
+        Command::Cancel(id) => orders.order(Order::Delete, id),
+        Command::Stop | Command::End(_) | Command::Reload => true,
+    }
+}
+
+// What is told to whoever ordered something of a message.
+fn told_of(outcome: OrderOutcome) -> &'static [u8] {
+    match outcome {
+        OrderOutcome::Waits | OrderOutcome::Deleted => DONE,
+        OrderOutcome::Ended(FinalState::Delivered) => b"smscd: the message was delivered\n",
+        OrderOutcome::Ended(FinalState::Expired) => b"smscd: the message has expired\n",
+        OrderOutcome::Ended(FinalState::Deleted) => b"smscd: the message was deleted\n",
+        OrderOutcome::Ended(FinalState::Undeliverable) => b"smscd: the message was refused\n",
+        OrderOutcome::HasEnded => b"smscd: the message has ended\n",
+        OrderOutcome::Unknown => b"smscd: no message has that number\n",
+        OrderOutcome::Failed => b"smscd: the centre has not done it\n",
     }
 }
 
@@ -111,7 +154,7 @@ fn obey(host: &HostRuntime, orders: &Orders, command: Option<Command>) -> &'stat
         Some(Command::End(seat)) if orders.end(seat as usize) => DONE,
         Some(Command::End(_)) => b"nobody is at that seat\n",
         Some(Command::Reload) => b"smscd: the run has no file of accounts\n",
-        None => b"no such order\n",
+        Some(Command::Retry(_) | Command::Cancel(_)) | None => b"no such order\n",
     }
 }
 
@@ -133,6 +176,10 @@ struct Client {
     turns: u32,
     // It ordered a stop, and waits for the end of the run.
     is_waiting: bool,
+    // What it ordered of a message, until the centre takes that.
+    order: Option<Command>,
+    // The centre has its order, and it waits for the outcome.
+    is_ordering: bool,
 }
 
 // What was heard of somebody.
@@ -153,6 +200,8 @@ impl Client {
             received: Octets::new(alloc),
             turns: 0,
             is_waiting: false,
+            order: None,
+            is_ordering: false,
         })
     }
 
@@ -192,12 +241,34 @@ impl Client {
         reloader: &Option<Reloader>,
     ) -> bool {
         let command = self.command();
+        if is_of_message(command) {
+            self.order = command;
+            return self.pursue(orders);
+        }
         match reloader {
             Some(reloader) if command == Some(Command::Reload) => {
                 let _ = reload(rt, orders, host.alloc(), reloader, &mut self.stream);
                 false
             }
             _ => self.do_command(host, orders, command),
+        }
+    }
+
+    // Puts what it ordered of a message, and tells the outcome. It stays until then, as the next order waits for that.
+    fn pursue(&mut self, orders: &Orders) -> bool {
+        if let Some(command) = self.order {
+            if put_order(orders, command) {
+                self.order = None;
+                self.is_ordering = true;
+            }
+            return true;
+        }
+        match orders.outcome() {
+            Some(outcome) => {
+                let _ = self.stream.write_all(told_of(outcome));
+                false
+            }
+            None => true,
         }
     }
 
@@ -226,6 +297,9 @@ impl Client {
         orders: &Orders,
         reloader: &Option<Reloader>,
     ) -> bool {
+        if self.is_ordering || self.order.is_some() {
+            return self.pursue(orders);
+        }
         match self.hear() {
             Heard::Left => false,
             Heard::Line if !self.is_waiting => self.do_line(host, rt, orders, reloader),
@@ -451,7 +525,15 @@ fn words_of(host: &HostRuntime, command: Command) -> Result<String, AllocError> 
         Command::Stop => Ok(format!(in alloc; "stop\n")?),
         Command::End(seat) => Ok(format!(in alloc; "end {seat}\n")?),
         Command::Reload => Ok(format!(in alloc; "reload\n")?),
+        Command::Retry(id) => message_words(alloc, "retry", id),
+        Command::Cancel(id) => message_words(alloc, "cancel", id),
     }
+}
+
+fn message_words(alloc: Global, word: &str, id: MessageId) -> Result<String, AllocError> {
+    let digits = id.digits();
+    let number = std::str::from_utf8(&digits).unwrap_or("");
+    Ok(format!(in alloc; "{word} {number}\n")?)
 }
 
 fn tell(host: &HostRuntime, stream: &mut UnixStream, command: Command) -> io::Result<()> {

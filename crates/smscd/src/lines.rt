@@ -336,6 +336,7 @@ pub fn line_of(alloc: Global, names: &[String], event: &Event) -> Result<Option<
             "error",
             plain(alloc, "event=store_refused action=read_again"),
         ),
+        Event::Failed => at_level("error", plain(alloc, "event=store_refused action=end")),
         Event::Accepted(id, handset) => at_level("info", accepted_text(alloc, *id, handset)),
         Event::Final(id, state) => at_level("info", final_text(alloc, *id, *state)),
     }

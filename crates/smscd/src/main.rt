@@ -36,6 +36,7 @@ mod account_file;
 mod archive;
 mod control;
 mod forgetting;
+mod gone;
 mod lines;
 mod link_secrets;
 mod logging;
@@ -64,7 +65,8 @@ use crate::password::print_password;
 use crate::run_fault::{Paths, RunFault, USAGE, words_fault};
 use crate::running::run_words;
 use crate::saving::save_store;
-use smsc_cli::words::{About, ServerWords, VERSION, about_of, server_words};
+use sms_base::MessageId;
+use smsc_cli::words::{About, OrderWord, ServerWords, VERSION, about_of, server_words};
 use std::env;
 use std::io::{self, Print};
 use std::process::ExitCode;
@@ -170,7 +172,8 @@ fn paths_of<'a>(asked: &ServerWords<'a>) -> Paths<'a> {
         },
         ServerWords::Stop { control, .. }
         | ServerWords::End { control, .. }
-        | ServerWords::Reload { control } => Paths {
+        | ServerWords::Reload { control }
+        | ServerWords::Order { control, .. } => Paths {
             store: "",
             accounts: "",
             secrets: "",
@@ -221,10 +224,10 @@ fn do_words<R: Threads + Wait + Clock + Copy + Send + Sync + 'static>(
 // So many seconds an order may take where the words don't say.
 const WAIT: u32 = 15;
 
-// Why the server did not do it. A reload has a reason of its own.
+// Why the server did not do it. A reload, or an order of a message, has a reason of its own.
 fn refused(command: Command, text: String) -> RunFault {
     match command {
-        Command::Reload => RunFault::NotDone(text),
+        Command::Reload | Command::Retry(_) | Command::Cancel(_) => RunFault::NotDone(text),
         Command::Stop | Command::End(_) => {
             drop(text);
             RunFault::Refused
@@ -238,6 +241,13 @@ fn give(host: &HostRuntime, control: &str, command: Command, wait: u32) -> Resul
         Err(OrderFault::Nobody(error)) => Err(RunFault::Control(error)),
         Err(OrderFault::Refused(text)) => Err(refused(command, text)),
         Err(OrderFault::NotEnded) => Err(RunFault::NotEnded(wait)),
+    }
+}
+
+fn order_by(order: OrderWord, id: MessageId) -> Command {
+    match order {
+        OrderWord::Retry => Command::Retry(id),
+        OrderWord::Cancel => Command::Cancel(id),
     }
 }
 
@@ -260,6 +270,9 @@ fn do_asked<R: Threads + Wait + Clock + Copy + Send + Sync + 'static>(
         }
         ServerWords::End { control, seat } => { give(&host, control, Command::End(*seat), WAIT) }
         ServerWords::Reload { control } => give(&host, control, Command::Reload, WAIT),
+        ServerWords::Order { control, order, id } => {
+            give(&host, control, order_by(*order, *id), WAIT)
+        }
         ServerWords::Password => print_password(&host),
     }
 }

@@ -1,13 +1,15 @@
 //! The accounts' file, read again as the run goes on.
 //!
-//! A run takes over what accounts may do: their rates, and which are suspended. An account that has gone from the file is suspended until it
-//! comes again. All else of an account a run has from its start. So a file that says something else of an account, or has a new one, changes
-//! nothing, as one with a fault does.
+//! A run takes over what accounts may do, their rates and which are suspended, and their passwords. An account that has gone from the file is
+//! suspended until it comes again. All else of an account a run has from its start. So a file that says something else of an account, or has a
+//! new one, changes nothing, as one with a fault does.
 use crate::account_file::{accounts_in, document_of, judge_file, line_at, read_file};
 use crate::run_fault::RunFault;
-use crate::setup::allowance_of;
-use smsc_cli::words::{PasswordWords, ServerRun, TableAccount};
-use smsc_server::{Allowance, Allowances, Orders};
+use crate::setup::{allowance_of, login_of};
+use smpp_session::{Account as Login, Password};
+use sms_base::Octets;
+use smsc_cli::words::{ServerRun, TableAccount};
+use smsc_server::{AccountBook, Allowance, Allowances, Orders};
 use std::alloc::{AllocError, Global};
 use std::sync::{Arc, Wait};
 use std::time::Clock;
@@ -21,26 +23,20 @@ pub struct Reloader {
     // The text of the file as the run began.
     begun: String,
     opens_accounts: bool,
-    // So many accounts are of words, before those of the file.
-    of_words: usize,
+    // The accounts of words, before those of the file.
+    of_words: Vec<Login>,
     allowances: Arc<Allowances>,
+    book: Arc<AccountBook>,
+}
+
+// What a run takes over of a file.
+#[derive(Drop)]
+struct Renewal {
+    allowed: Vec<Allowance>,
+    logins: Vec<Login>,
 }
 
 // ---- whether an account is still what it was
-
-fn are_same_words(before: &PasswordWords<'_>, now: &PasswordWords<'_>) -> bool {
-    match (before, now) {
-        (PasswordWords::Plain(before), PasswordWords::Plain(now)) => *before == *now,
-        (
-            PasswordWords::Salted { salt, digest },
-            PasswordWords::Salted {
-                salt: other_salt,
-                digest: other_digest,
-            },
-        ) => *salt == *other_salt && *digest == *other_digest,
-        _ => false,
-    }
-}
 
 fn are_same_sources(before: &[Value], now: &[Value]) -> bool {
     before.len() == now.len()
@@ -53,7 +49,6 @@ fn are_same_sources(before: &[Value], now: &[Value]) -> bool {
 // Whether all is the same but what a run takes over.
 fn is_same(before: &TableAccount<'_>, now: &TableAccount<'_>) -> bool {
     before.name == now.name
-        && are_same_words(&before.password, &now.password)
         && before.address == now.address
         && before.sessions == now.sessions
         && are_same_sources(before.sources, now.sources)
@@ -122,21 +117,71 @@ fn put_allowed(
     Ok(())
 }
 
+// ---- passwords
+
+fn copy_of_password(alloc: Global, password: &Password) -> Result<Password, AllocError> {
+    match password {
+        Password::Plain(password) => {
+            let octets = Octets::copy_of(alloc, password.as_slice())?;
+            Ok(Password::Plain(octets))
+        }
+        Password::Salted { salt, digest } => {
+            let salt = Octets::copy_of(alloc, salt.as_slice())?;
+            Ok(Password::Salted {
+                salt,
+                digest: *digest,
+            })
+        }
+    }
+}
+
+fn copy_of(alloc: Global, login: &Login) -> Result<Login, AllocError> {
+    Ok(Login {
+        name: Octets::copy_of(alloc, login.name.as_slice())?,
+        password: copy_of_password(alloc, &login.password)?,
+    })
+}
+
+/// Copies of the first accounts, so many.
+pub fn first_of(alloc: Global, logins: &[Login], count: usize) -> Result<Vec<Login>, AllocError> {
+    let mut copies = Vec::new(alloc);
+    for login in logins.iter().take(count) {
+        copies.push(copy_of(alloc, login)?)?;
+    }
+    Ok(copies)
+}
+
+// How an account binds that was in the file; one that is there no more is suspended, whatever its password.
+fn login_in(
+    alloc: Global,
+    before: &TableAccount<'_>,
+    now: Option<&TableAccount<'_>>,
+) -> Result<Login, AllocError> {
+    match now {
+        Some(now) => login_of(alloc, now),
+        None => login_of(alloc, before),
+    }
+}
+
 impl Reloader {
     /// For a run whose file of accounts had that text as it began; none where it has no file.
     pub fn of(
         host: HostRuntime,
         run: &ServerRun<'_>,
         file: Option<String>,
-        of_words: usize,
+        of_words: Vec<Login>,
         allowances: &Arc<Allowances>,
+        book: &Arc<AccountBook>,
     ) -> Result<Option<Reloader>, AllocError> {
         match file {
             Some(begun) => {
-                let reloader = Reloader::new(host, run, begun, of_words, allowances)?;
+                let reloader = Reloader::new(host, run, begun, of_words, allowances, book)?;
                 Ok(Some(reloader))
             }
-            None => Ok(None),
+            None => {
+                drop(of_words);
+                Ok(None)
+            }
         }
     }
 
@@ -144,12 +189,14 @@ impl Reloader {
         host: HostRuntime,
         run: &ServerRun<'_>,
         begun: String,
-        of_words: usize,
+        of_words: Vec<Login>,
         allowances: &Arc<Allowances>,
+        book: &Arc<AccountBook>,
     ) -> Result<Reloader, AllocError> {
         let mut path = String::new(host.alloc());
         path.push_str(run.accounts.unwrap_or(""))?;
         let allowances = Arc::try_clone(allowances)?;
+        let book = Arc::try_clone(book)?;
         Ok(Reloader {
             host,
             path,
@@ -157,6 +204,7 @@ impl Reloader {
             opens_accounts: run.opens_accounts,
             of_words,
             allowances,
+            book,
         })
     }
 
@@ -171,64 +219,104 @@ impl Reloader {
         now: &[TableAccount<'_>],
     ) -> Result<Vec<Allowance>, AllocError> {
         let mut allowed = Vec::new(self.host.alloc());
-        put_allowed(before, now, self.of_words, &mut allowed)?;
+        put_allowed(before, now, self.of_words.len(), &mut allowed)?;
         Ok(allowed)
     }
 
-    // What the accounts may do by these of the file. Each has to be one of that document, with which the run began.
-    fn allowed_beside(
+    // Who may bind, at the places that the accounts have from the start.
+    fn logins_to(
+        &self,
+        before: &[TableAccount<'_>],
+        now: &[TableAccount<'_>],
+    ) -> Result<Vec<Login>, AllocError> {
+        let alloc = self.host.alloc();
+        let mut logins = first_of(alloc, self.of_words.as_slice(), self.of_words.len())?;
+        for account in before {
+            logins.push(login_in(alloc, account, named(now, account.name))?)?;
+        }
+        Ok(logins)
+    }
+
+    fn renewal_to(
+        &self,
+        before: &[TableAccount<'_>],
+        now: &[TableAccount<'_>],
+    ) -> Result<Renewal, AllocError> {
+        let allowed = self.allowed_to(before, now)?;
+        let logins = self.logins_to(before, now)?;
+        Ok(Renewal { allowed, logins })
+    }
+
+    // What is taken over by these of the file. Each has to be one of that document, with which the run began.
+    fn renewal_beside(
         &self,
         document: &Table,
         file: &str,
         accounts: &[TableAccount<'_>],
-    ) -> Result<Vec<Allowance>, RunFault> {
+    ) -> Result<Renewal, RunFault> {
         let path = self.path.as_str();
         let before = accounts_in(self.host.alloc(), path, self.begun.as_str(), document)?;
         match first_other(before.as_slice(), accounts) {
             Some(number) => Err(RunFault::OtherAccount(line_at(path, file, number))),
-            None => Ok(self.allowed_to(before.as_slice(), accounts)?),
+            None => Ok(self.renewal_to(before.as_slice(), accounts)?),
         }
     }
 
-    // What the accounts may do by these of the file, of which nothing else may have changed since the run began.
-    fn allowed_since(
+    // What is taken over by these of the file, of which nothing else may have changed since the run began.
+    fn renewal_since(
         &self,
         file: &str,
         accounts: &[TableAccount<'_>],
-    ) -> Result<Vec<Allowance>, RunFault> {
+    ) -> Result<Renewal, RunFault> {
         let begun = self.begun.as_str();
         let document = document_of(self.host.alloc(), self.path.as_str(), begun)?;
-        let allowed = self.allowed_beside(&document, file, accounts);
+        let renewal = self.renewal_beside(&document, file, accounts);
         drop(document);
-        allowed
+        renewal
     }
 
-    // What the accounts may do by those that the document spells.
-    fn allowed_in(&self, file: &str, document: &Table) -> Result<Vec<Allowance>, RunFault> {
+    // What is taken over by those that the document spells.
+    fn renewal_in(&self, file: &str, document: &Table) -> Result<Renewal, RunFault> {
         let accounts = accounts_in(self.host.alloc(), self.path.as_str(), file, document)?;
-        self.allowed_since(file, accounts.as_slice())
+        self.renewal_since(file, accounts.as_slice())
     }
 
-    fn allowed_by(&self, file: &str) -> Result<Vec<Allowance>, RunFault> {
+    fn renewal_by(&self, file: &str) -> Result<Renewal, RunFault> {
         let document = document_of(self.host.alloc(), self.path.as_str(), file)?;
-        let allowed = self.allowed_in(file, &document);
+        let renewal = self.renewal_in(file, &document);
         drop(document);
-        allowed
+        renewal
     }
 
-    fn read_again(&self) -> Result<Vec<Allowance>, RunFault> {
+    fn read_again(&self) -> Result<Renewal, RunFault> {
         judge_file(&self.host, self.path.as_str(), self.opens_accounts)?;
         let file = read_file(&self.host, self.path.as_str())?;
-        self.allowed_by(file.as_str())
+        self.renewal_by(file.as_str())
     }
 
-    /// Reads the file again. The run takes over what it allows; where it has a fault nothing changes.
-    pub fn reload<R: Wait + Clock>(&self, rt: &R, orders: &Orders) -> Result<(), RunFault> {
-        let allowed = self.read_again()?;
-        if self.allowances.change(rt, orders, allowed.as_slice()) {
+    fn take_over<R: Wait + Clock>(
+        &self,
+        rt: &R,
+        orders: &Orders,
+        renewal: Renewal,
+    ) -> Result<(), RunFault> {
+        let Renewal { allowed, logins } = renewal;
+        let is_taken = self.allowances.change(rt, orders, allowed.as_slice());
+        drop(allowed);
+        if !is_taken {
+            drop(logins);
+            return Err(RunFault::NoOrders);
+        }
+        if self.book.renew(rt, self.host.alloc(), logins)? {
             Ok(())
         } else {
             Err(RunFault::NoOrders)
         }
+    }
+
+    /// Reads the file again. The run takes over what it allows, and the passwords; where it has a fault nothing changes.
+    pub fn reload<R: Wait + Clock>(&self, rt: &R, orders: &Orders) -> Result<(), RunFault> {
+        let renewal = self.read_again()?;
+        self.take_over(rt, orders, renewal)
     }
 }

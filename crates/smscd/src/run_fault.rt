@@ -73,8 +73,11 @@ pub enum RunFault {
     /// This line of the accounts' file is no account.
     #[error("line {0} is no account")]
     AccountLine(usize),
+    /// The account at this line of the accounts' file has a source that ends in an asterisk and is no number's beginning.
+    #[error("line {0}: a source ends in an asterisk and is no number's beginning")]
+    StarredSource(usize),
     /// The account at this line of the accounts' file is another than the run began with.
-    #[error("the account at line {0} is another than the run began with: a run takes over rate, suspended, and that one has gone")]
+    #[error("the account at line {0} is another than the run began with: a run takes over password, rate, suspended, and that one has gone")]
     OtherAccount(usize),
     /// The run has no file of accounts.
     #[error("the run has no file of accounts")]
@@ -182,6 +185,8 @@ pub const USAGE: &str =
     \u{20}      smscd stop --control PATH [--wait SECONDS]\n\
     \u{20}      smscd end --control PATH SEAT\n\
     \u{20}      smscd reload --control PATH\n\
+    \u{20}      smscd retry --control PATH ID\n\
+    \u{20}      smscd cancel --control PATH ID\n\
     \u{20}      smscd password\n\
     \u{20}      smscd --help | --version\n\
     \n\
@@ -200,7 +205,7 @@ pub const USAGE: &str =
     \u{20}  --log messages    a line as a message is accepted, and one as it ends\n\
     \u{20}  --log access      one line a message at its end: who, to whom, when, how it ended; never a text\n\
     \u{20}  --sessions N      end by itself after N connections\n\
-    \u{20}  --keep DAYS       as it starts, forget the messages that ended before DAYS days; else all are kept\n\
+    \u{20}  --keep DAYS       forget the messages that ended before DAYS days, at the start and as it goes on; else all are kept\n\
     \u{20}  --archive FILE    append what is forgotten to FILE first, a line of JSON a message; never a text\n\
     a store that a run refuses otherwise:\n\
     \u{20}  --ahead           its rows are ahead of the clock, and that is right\n\
@@ -212,7 +217,9 @@ pub const USAGE: &str =
     orders:\n\
     \u{20}  stop              end in good order; waited for 15 seconds, or SECONDS\n\
     \u{20}  end SEAT          end the connection at that seat, 0 to 31\n\
-    \u{20}  reload            read the accounts' file again: rate, suspended, accounts that have gone\n\
+    \u{20}  reload            read the accounts' file again: password, rate, suspended, accounts that have gone\n\
+    \u{20}  retry ID          try that message now\n\
+    \u{20}  cancel ID         delete that message: it is reported as deleted\n\
     a password, read from standard input:\n\
     \u{20}  password          prints the salt and the hash of it for a table [[account]]\n\
     \n\
@@ -256,6 +263,12 @@ fn line_text(alloc: Global, number: usize, path: &str) -> Result<String, AllocEr
     Ok(format!(in alloc; "smscd: line {number} of {path} is no account\n")?)
 }
 
+fn starred_text(alloc: Global, number: usize, path: &str) -> Result<String, AllocError> {
+    Ok(format!(in alloc;
+        "smscd: line {number} of {path}: a source ends in an asterisk and is no number's beginning: leave sources out for any\n"
+    )?)
+}
+
 fn accounts_text(alloc: Global, path: &str, fault: &RunFault) -> Result<String, AllocError> {
     Ok(format!(in alloc; "smscd: the accounts {path}: {fault}\n")?)
 }
@@ -296,6 +309,7 @@ impl RunFault {
             | RunFault::NoWords
             | RunFault::Accounts
             | RunFault::AccountLine(_)
+            | RunFault::StarredSource(_)
             | RunFault::OtherAccount(_)
             | RunFault::NoTables
             | RunFault::OpenToOthers(_)
@@ -336,6 +350,7 @@ impl RunFault {
         match self {
             RunFault::Words(text) | RunFault::NotDone(text) => plain(alloc, text.as_str()),
             RunFault::AccountLine(number) => line_text(alloc, *number, paths.accounts),
+            RunFault::StarredSource(number) => starred_text(alloc, *number, paths.accounts),
             RunFault::NoTables | RunFault::OtherAccount(_) | RunFault::OpenToOthers(_) => {
                 accounts_text(alloc, paths.accounts, self)
             }

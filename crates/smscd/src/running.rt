@@ -1,14 +1,14 @@
 //! A run of the server.
 use crate::account_file::book_of;
 use crate::control::Control;
-use crate::forgetting::forget_old;
+use crate::forgetting::{LoggedArchive, forget_old, forgetting_of};
 use crate::logging::{self, Log, LogThread};
 use crate::moments::{now, text_of};
 use crate::opening::{FoundStore, open_store};
 use crate::ports::{listen, ports_of};
 use crate::preparing::leave_after;
 use crate::readiness;
-use crate::reloading::Reloader;
+use crate::reloading::{Reloader, first_of};
 use crate::run_fault::RunFault;
 use crate::setup::{RunAccounts, setup_of};
 use crate::status::{self, About, Pages};
@@ -16,7 +16,7 @@ use crate::store_files::{StorePaths, open_mode_at, public_mode_at};
 use crate::summary::{Files, Summary, left_in, left_of, summary_of};
 use crate::watchers::{Source, Watchers, log_alone, log_and_page};
 use crate::watching::{Guard, Watch};
-use smpp_session::{Account as Login, Accounts};
+use smpp_session::Account as Login;
 use sms_base::{Address, Moment};
 use sms_centre_spec::numbers::first_number;
 use sms_keeper::Gate;
@@ -24,9 +24,10 @@ use sms_store_files::{LogFinding, LogJudgement};
 use smsc_cli::words::{AccountWords, ServerRun};
 use smsc_endpoint::LinkAccess;
 use smsc_server::{
-    Allowance, Allowances, Clocks, Given, ObservedKeep, Orders, Ports, RunClock, ServeFault, serve,
+    AccountBook, Allowance, Allowances, Clocks, Given, ObservedKeep, Orders, Ports, RunClock,
+    ServeFault, serve,
 };
-use smsc_service::{CentreStore, LinkBoard, Setup};
+use smsc_service::{CentreStore, Forgetting, LinkBoard, Setup};
 use smsc_status::MessageFigures;
 use std::alloc::{AllocError, Global};
 use std::io;
@@ -96,6 +97,7 @@ fn serve_book<R: Threads + Wait + Clock + Copy + Send + Sync + 'static>(
     let limits = limits_of(
         host,
         run,
+        logins,
         limits.as_slice(),
         allowed.as_slice(),
         file,
@@ -104,7 +106,7 @@ fn serve_book<R: Threads + Wait + Clock + Copy + Send + Sync + 'static>(
     let setup = setup_of(run, start, accounts);
     let names = Arc::new(host.alloc(), names)?;
     let (log, thread) = start_log(host, rt, &names)?;
-    let ended = match parts_of(host.alloc(), logins, access, limits, names, &log) {
+    let ended = match parts_of(host.alloc(), access, limits, names, &log) {
         Ok(parts) => serve_store(host, rt, run, parts, setup),
         Err(_) => Err(RunFault::NoMemory),
     };
@@ -117,9 +119,10 @@ fn end_log<R: Threads + Wait + Clock + Copy>(rt: &R, log: Arc<Log<R>>, thread: L
     thread.end(rt);
 }
 
-// What the accounts may do, and who reads that again.
+// Who may bind, what the accounts may do, and who reads that again.
 #[derive(Drop)]
 struct Limits {
+    book: Arc<AccountBook>,
     allowances: Arc<Allowances>,
     reloader: Option<Reloader>,
 }
@@ -127,15 +130,21 @@ struct Limits {
 fn limits_of(
     host: HostRuntime,
     run: &ServerRun<'_>,
+    logins: Vec<Login>,
     limits: &[u8],
     allowed: &[Allowance],
     file: Option<String>,
     of_words: usize,
 ) -> Result<Limits, AllocError> {
-    let allowances = Allowances::new(host.alloc(), limits, allowed)?;
-    let allowances = Arc::new(host.alloc(), allowances)?;
-    let reloader = Reloader::of(host, run, file, of_words, &allowances)?;
+    let alloc = host.alloc();
+    let allowances = Allowances::new(alloc, limits, allowed)?;
+    let allowances = Arc::new(alloc, allowances)?;
+    let of_words = first_of(alloc, logins.as_slice(), of_words)?;
+    let book = AccountBook::new(alloc, logins, file.is_some())?;
+    let book = Arc::new(alloc, book)?;
+    let reloader = Reloader::of(host, run, file, of_words, &allowances, &book)?;
     Ok(Limits {
+        book,
         allowances,
         reloader,
     })
@@ -144,7 +153,6 @@ fn limits_of(
 // What a run has beside its store.
 #[derive(Drop)]
 struct RunParts<R: Wait> {
-    logins: Accounts,
     access: LinkAccess,
     limits: Limits,
     names: Arc<Vec<String>>,
@@ -159,7 +167,6 @@ fn orders(alloc: Global) -> Result<Arc<Orders>, AllocError> {
 
 fn parts_of<R: Wait>(
     alloc: Global,
-    logins: Vec<Login>,
     access: LinkAccess,
     limits: Limits,
     names: Arc<Vec<String>>,
@@ -168,7 +175,6 @@ fn parts_of<R: Wait>(
     let orders = orders(alloc)?;
     let log = Arc::try_clone(log)?;
     Ok(RunParts {
-        logins: Accounts::from_vec(logins),
         access,
         limits,
         names,
@@ -232,7 +238,6 @@ fn given_of<R: Wait + Copy>(
 ) -> Result<(Given<Watchers<R>>, Beside), AllocError> {
     let alloc = host.alloc();
     let RunParts {
-        logins,
         access,
         limits,
         names,
@@ -241,16 +246,16 @@ fn given_of<R: Wait + Copy>(
     } = parts;
     let (watchers, status) = watchers_of(rt, alloc, run, log, names, guard)?;
     let links = board_of(&status)?;
-    let accounts = Arc::new(alloc, logins)?;
     let access = Arc::new(alloc, access)?;
     let observer = Arc::new(alloc, watchers)?;
     let Limits {
+        book,
         allowances,
         reloader,
     } = limits;
     Ok((
         Given {
-            accounts,
+            accounts: book,
             access,
             observer,
             orders,
@@ -500,12 +505,16 @@ fn serve_open<R: Threads + Wait + Clock + Copy + Send + Sync + 'static, K: Centr
     alloc: Global,
     given: &Given<Watchers<R>>,
     keep: K,
+    forgetting: Forgetting<LoggedArchive<R>>,
     ports: Ports<TcpListener>,
     clock: &RunClock<R>,
 ) -> Result<K, ServeFault> {
     let keep = observed(keep, given);
-    let (doors, keep) = serve(rt, alloc, keep, &OpenGate, clock, ports, given)?;
+    let (doors, keep, archive) = serve(
+        rt, alloc, keep, forgetting, &OpenGate, clock, ports, given,
+    )?;
     drop(doors);
+    archive.end();
     Ok(unobserved(keep))
 }
 
@@ -520,9 +529,11 @@ fn serve_ports<R: Threads + Wait + Clock + Copy + Send + Sync + 'static, K: Cent
     summary: &Summary,
     clock: &RunClock<R>,
 ) -> Result<K, RunFault> {
+    let watchers = &*given.observer;
+    let forgetting = forgetting_of(&host, rt, watchers, run, clock.start, summary.newest)?;
     let mut helpers = Helpers::new(host.alloc())?;
     helpers.start_all(host, rt, run, given, beside, summary, clock.start)?;
-    let ended = serve_open(rt, host.alloc(), given, keep, ports, clock);
+    let ended = serve_open(rt, host.alloc(), given, keep, forgetting, ports, clock);
     end_run(&rt, helpers, &*given.observer, ended)
 }
 

@@ -46,7 +46,8 @@ fn password_of(alloc: Global, words: PasswordWords<'_>) -> Result<Password, Allo
     }
 }
 
-fn login_of(alloc: Global, account: &TableAccount<'_>) -> Result<Login, AllocError> {
+/// Who may bind as the account.
+pub fn login_of(alloc: Global, account: &TableAccount<'_>) -> Result<Login, AllocError> {
     Ok(Login {
         name: Octets::copy_of(alloc, account.name.as_bytes())?,
         password: password_of(alloc, account.password)?,

@@ -6,6 +6,7 @@ use crate::lines::{cause_word, line_of, number_text, refusal_word};
 use crate::moments::{now, text_of};
 use crate::ports::listen;
 use crate::store_files::{StorePaths, octets_at};
+use crate::summary::without;
 use crate::watchers::{Source, is_of_messages};
 use sms_base::lending::put;
 use sms_base::{MessageId, Moment, Octets};
@@ -16,7 +17,7 @@ use smsc_server::status::{
 use smsc_server::{Event, milliseconds};
 use smsc_service::{CauseCount, LinkBoard};
 use smsc_status::{
-    AccountLine, LastCause, LinkLine, MessageFigures, PendingMessage, RefusedBinds,
+    AccountLine, LastCause, LinkLine, MessageCounts, MessageFigures, PendingMessage, RefusedBinds,
     RefusedDeliveries, RefusedSubmits, Sample, Series, SessionLine, StatusView, StoreFigures,
     StuckLine, Wanted, response_to,
 };
@@ -532,6 +533,12 @@ impl<R: Wait + Clock> Pages<R> {
         self.put_lines(&mut lists.lines)
     }
 
+    // The messages of the store: those that the run forgot are gone.
+    fn stored(&self, counts: &MessageCounts) -> MessageFigures {
+        let all = self.about.messages.with(counts);
+        without(&all, &self.source.gone.figures(&self.rt))
+    }
+
     fn view<'a>(&'a self, lists: &'a Lists) -> StatusView<'a> {
         let counters = &*self.source.counters;
         let counts = counters.messages();
@@ -540,7 +547,7 @@ impl<R: Wait + Clock> Pages<R> {
             version: VERSION,
             start: self.about.start,
             now: self.moment(),
-            messages: self.about.messages.with(&counts),
+            messages: self.stored(&counts),
             counts,
             sessions: lists.sessions.as_slice(),
             links: lists.links.as_slice(),

@@ -50,8 +50,8 @@ pub fn summary_of(rows: &Rows, start: Moment) -> Summary {
     }
 }
 
-// How many messages are left in each state once these are gone.
-fn without(all: &MessageFigures, gone: &MessageFigures) -> MessageFigures {
+/// How many messages are left in each state once these are gone.
+pub fn without(all: &MessageFigures, gone: &MessageFigures) -> MessageFigures {
     MessageFigures {
         enroute: all.enroute.saturating_sub(gone.enroute),
         delivered: all.delivered.saturating_sub(gone.delivered),

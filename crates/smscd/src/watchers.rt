@@ -1,5 +1,6 @@
 //! The observers of a run: its log, and what its status page shows.
 use crate::access::Access;
+use crate::gone::Gone;
 use crate::logging::Log;
 use crate::watching::Guard;
 use crossbeam_channel::{Receiver, Sender, bounded};
@@ -23,6 +24,7 @@ struct Feed<R> {
     rt: R,
     counters: Arc<Counters>,
     pending: Arc<PendingTable>,
+    gone: Arc<Gone>,
     // What changes who sits where.
     seats: Sender<Event>,
     // That a message was accepted, or has ended.
@@ -37,6 +39,8 @@ struct Feed<R> {
 pub struct Source {
     pub counters: Arc<Counters>,
     pub pending: Arc<PendingTable>,
+    /// What the run has forgotten.
+    pub gone: Arc<Gone>,
     pub seats: Receiver<Event>,
     pub messages: Receiver<Event>,
     pub others: Receiver<Event>,
@@ -116,6 +120,7 @@ impl<R: Wait + Clock> Feed<R> {
             self.counters.commit_took(took);
         } else {
             self.counters.commit_refused();
+            self.gone.refuse(&self.rt);
         }
     }
 }
@@ -134,10 +139,19 @@ impl<R: Wait> Feed<R> {
 
     fn committed(&self, changes: &Changes) {
         self.note(self.pending.take(&self.rt, changes));
+        self.gone.commit(&self.rt, changes);
     }
 }
 
 impl<R: Wait> Watchers<R> {
+    /// Where it is counted what the run forgets, if there is a status page.
+    pub fn gone(&self) -> Result<Option<Arc<Gone>>, AllocError> {
+        match &self.feed {
+            Some(feed) => Ok(Some(Arc::try_clone(&feed.gone)?)),
+            None => Ok(None),
+        }
+    }
+
     /// The run begins with these rows.
     pub fn begin(&self, rows: &Rows) {
         if let Some(access) = &self.access {
@@ -210,10 +224,12 @@ fn source_of(
     let counters = Counters::new(alloc)?;
     let counters = Arc::new(alloc, counters)?;
     let pending = Arc::new(alloc, PendingTable::new(alloc))?;
+    let gone = Arc::new(alloc, Gone::new(alloc))?;
     let lost = Arc::new(alloc, AtomicU64::new(0))?;
     Ok(Source {
         counters,
         pending,
+        gone,
         seats,
         messages,
         others,
@@ -231,11 +247,13 @@ fn feed_of<R: Copy>(
 ) -> Result<Feed<R>, AllocError> {
     let counters = Arc::try_clone(&source.counters)?;
     let pending = Arc::try_clone(&source.pending)?;
+    let gone = Arc::try_clone(&source.gone)?;
     let lost = Arc::try_clone(&source.lost)?;
     Ok(Feed {
         rt,
         counters,
         pending,
+        gone,
         seats,
         messages,
         others,

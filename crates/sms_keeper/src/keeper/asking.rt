@@ -86,8 +86,8 @@ impl<J: Drop, O: Drop> Keeper<J, O> {
         }
     }
 
-    // Whether a moment is later than the last tick.
-    fn is_due(&self, now: Moment) -> bool
+    /// Whether a moment is later than the last tick.
+    pub(super) fn is_due(&self, now: Moment) -> bool
         ensures { IsTrue result ↔ IsLater (last_tick self.now) now }
     {
         match self.last {
@@ -96,8 +96,8 @@ impl<J: Drop, O: Drop> Keeper<J, O> {
         }
     }
 
-    // A tick where the clock shows a later moment than the last one, and otherwise what the queue has. A tick comes
-    // before the jobs that wait, so that time goes on however many come.
+    // A tick where the clock shows a later moment than the last one, else the machine's errand if it has one, and otherwise
+    // what the queue has. A tick and an errand come before the jobs that wait, so that they go on however many come.
     fn ask<R: Wait, M: Machine<J, O>, C: Clock>(
         &mut self,
         rt: &R,
@@ -115,6 +115,10 @@ impl<J: Drop, O: Drop> Keeper<J, O> {
         if self.is_due(now) {
             let fate = hold(machine, held, Stimulus::Tick(now));
             self.last = Some(now);
+            return Asked { is_one: true, fate };
+        }
+        if let Some(errand) = machine.errand(now) {
+            let fate = hold(machine, held, Stimulus::Own(errand));
             return Asked { is_one: true, fate };
         }
         self.serve(rt, machine, clock, now, held)

@@ -72,8 +72,8 @@ impl<J: Drop, O: Drop> HeldItem<J, O> {
     }
 }
 
-// Tells of an item, and gives its outs.
-fn give_item<J: Drop, O: Drop, R: Wait, B: Recorder<J, O>>(
+/// Tells of an item, and gives its outs.
+pub(super) fn give_item<J: Drop, O: Drop, R: Wait, B: Recorder<J, O>>(
     rt: &R,
     queues: &mut SeatQueues<J, O>,
     recorder: &mut B,

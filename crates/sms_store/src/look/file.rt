@@ -1,10 +1,20 @@
 //! A look at the store at a path.
-use crate::look::found::look_over;
+ghost use Rattle.std.specs.Prelude.{◌≡◌, IfOk};
+ghost use Rattle.sqlite.specs.Files.{IsOpened, file_state};
+ghost use Rattle.sqlite.specs.Start.{FindsIn};
+ghost use Rattle.sqlite.specs.State.{HasCleanDisk};
+ghost use Rattle.sms_store.specs.centre.CentreRows.{centre_stores};
+ghost use Rattle.sms_store.specs.centre.Types.{Rows as RowsOf};
+ghost use Rattle.sms_store.specs.keeping.Closing.{HoldsStore};
+
+use crate::look::found::{Looked, look_over};
 use sms_base::{Address, Listed, Moment};
 use sms_centre_spec::{Rows, Setup};
 use sms_rows::keep::KeepError;
 use sms_store_sql::listing::load_cause_of;
 use sms_store_sql::snapshot::{DatabaseCopy, connect, copy_at};
+use sqlite::{Connection, FileStore};
+use sqlite_disk::Memory;
 use std::alloc::Global;
 use std::io::ErrorKind;
 
@@ -32,15 +42,28 @@ fn copy_of(rt: &HostRuntime, path: &str) -> Result<DatabaseCopy, KeepError> {
     }
 }
 
-fn look_at(alloc: Global, copy: &DatabaseCopy) -> Result<Rows, KeepError> {
-    let setup = any_setup(alloc)?;
+// A connection to the database of the copied files.
+fn connected(alloc: Global, copy: &DatabaseCopy) -> Result<Connection<FileStore<Memory>>, KeepError>
+    ensures opened { IfOk result (λ conn. HasCleanDisk (file_state conn) → IsOpened conn) }
+    ensures found { IfOk result (λ conn. HasCleanDisk (file_state conn)
+        → FindsIn (record { log = copy.now.log.items; db = copy.now.db.items }) (file_state conn)) }
+{
     match connect(alloc, copy) {
-        Ok(conn) => {
-            let looked = look_over(alloc, conn, setup)?;
-            Ok(looked.rows)
-        }
+        Ok(conn) => Ok(conn),
         Err(error) => Err(load_cause_of(error)),
     }
+}
+
+// The rows of the store that the copied files hold, but for the setup.
+fn look_at(alloc: Global, copy: &DatabaseCopy) -> Result<Looked<FileStore<Memory>>, KeepError>
+    ensures held { IfOk result (λ looked. HasCleanDisk (file_state looked.conn) → (rows : RowsOf)
+        → HoldsStore centre_stores (record { log = copy.now.log.items; db = copy.now.db.items }) rows
+        → looked.rows ≡ record rows { setup = looked.rows.setup }) }
+{
+    let setup = any_setup(alloc)?;
+    let conn = connected(alloc, copy)?;
+    let looked = look_over(alloc, conn, setup)?;
+    Ok(looked)
 }
 
 /// The rows of the centre's store at the path, by a copy of its files in memory. A server may have it open, and none of
@@ -48,5 +71,6 @@ fn look_at(alloc: Global, copy: &DatabaseCopy) -> Result<Rows, KeepError> {
 /// `NotThisStore`, and a file that is not there `Disk`.
 pub fn rows_at(rt: &HostRuntime, path: &str) -> Result<Rows, KeepError> {
     let copy = copy_of(rt, path)?;
-    look_at(rt.alloc(), &copy)
+    let looked = look_at(rt.alloc(), &copy)?;
+    Ok(looked.rows)
 }

@@ -1,10 +1,13 @@
 //! A look at the database of a connection.
 ghost use Rattle.std.specs.Prelude.{◌≡◌, IfOk};
+ghost use Rattle.sqlite.specs.Effect.{IsDatabase};
 ghost use Rattle.sqlite.specs.Held.{state};
 ghost use Rattle.sqlite.specs.State.{HasCleanDisk};
+ghost use Rattle.sqlite_wal.specs.Recovery.{Image};
 ghost use Rattle.sms_store_migration.specs.Versions.{IsStore};
 ghost use Rattle.sms_store.specs.centre.CentreRows.{centre_stores};
-ghost use Rattle.sms_store.specs.keeping.Opened.{Opened};
+ghost use Rattle.sms_store.specs.keeping.Closing.{HoldsStore};
+ghost use Rattle.sms_store.specs.keeping.Opened.{IsIn, Opened};
 ghost use Rattle.sms_store.specs.keeping.Stores.{IsStoreWith};
 ghost use Rattle.sms_store.specs.centre.Types.{Rows as RowsOf};
 ghost use Rattle.sms_store_sql.specs.listing.Transaction.{IsOpenStore};
@@ -32,6 +35,7 @@ fn keep_over<S: Alter + Drop>(
 ) -> Result<CentreKeep<S>, KeepError>
     ensures opened { IfOk result (λ keep. HasCleanDisk (state_in S.Store keep) → Opened centre_stores setup (state S.Store conn).now (state_in S.Store keep)) }
     ensures setup { IfOk result (λ keep. setup_in keep ≡ setup) }
+    ensures clean { IfOk result (λ keep. HasCleanDisk (state_in S.Store keep) → HasCleanDisk (state S.Store conn)) }
 {
     if is_centre_schema(conn.schema()) || is_first_schema(conn.schema()) {
         match CentreKeep::over(alloc, conn, setup) {
@@ -68,6 +72,10 @@ pub fn look_over<S: Alter + Drop>(
     // Whatever rows the database is the store of, they are found, and it is the store of them still.
     ensures found { IfOk result (λ looked. HasCleanDisk (state S.Store looked.conn) → (rows : RowsOf)
         → IsStoreWith centre_stores setup (state S.Store conn).now rows → (looked.rows ≡ rows) × IsOpenStore IsStore (state S.Store looked.conn) rows) }
+    ensures clean { IfOk result (λ looked. HasCleanDisk (state S.Store looked.conn) → HasCleanDisk (state S.Store conn)) }
+    // So are those of the store that two files hold, where the database is what these files hold.
+    ensures held { IfOk result (λ looked. HasCleanDisk (state S.Store looked.conn) → (image : Image) (rows : RowsOf) → HoldsStore centre_stores image rows
+        → IsDatabase (state S.Store conn).now → IsIn image (state S.Store conn).now → looked.rows ≡ record rows { setup = setup }) }
 {
     let keep = keep_over(alloc, conn, setup)?;
     let looked = look_in(keep)?;

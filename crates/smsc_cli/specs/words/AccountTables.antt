@@ -1,5 +1,5 @@
 -- Accounts in TOML: a table `[[account]]` for each, in order.
-use Rattle.std.specs.Prelude.{◌≡◌, ◌≢◌, ◌==◌, ⊤, is_ok, if◌then◌else◌, ◌<◌, ◌≤◌, ◌||◌, ◌&&◌, ℕ, zero, suc, pos, Bool, true, false, List, [], ◌∷◌, ◌++◌, length, Option, Some, None, Ok, IsAscii, option_and_then, bytes_eq, codes}
+use Rattle.std.specs.Prelude.{◌≡◌, ◌≢◌, ◌==◌, ⊤, is_ok, if◌then◌else◌, ◌<◌, ◌≤◌, ◌||◌, ◌&&◌, ℕ, zero, suc, pos, Bool, true, false, List, [], ◌∷◌, ◌++◌, length, Option, Some, None, Ok, IsAscii, not, option_and_then, bytes_eq, codes}
 use Rattle.std.specs.List.{AllByRecursion}
 use Rattle.std.specs.Str.{chars}
 use Rattle.hex.specs.Hex.{decode_sized}
@@ -63,9 +63,9 @@ ends_starred (c ∷ d ∷ ds) = ends_starred (d ∷ ds)
 abbrev pub is_prefix : List ℕ → Bool
 is_prefix text = ends_starred text && is_number_text (unstarred text)
 
--- a name as the originator of a message has it (3GPP TS 23.040 9.1.2.5)
+-- A name as the originator of a message has it (3GPP TS 23.040 9.1.2.5). An asterisk at its end would look like any ending.
 abbrev pub is_name_text : List ℕ → Bool
-is_name_text text = is_ok (address_of 5 0 (chars text))
+is_name_text text = not (ends_starred text) && is_ok (address_of 5 0 (chars text))
 
 -- the text is a name, or a password
 abbrev pub SpellsName : List ℕ → List ℕ → Type 0
@@ -118,7 +118,8 @@ abbrev pub SaysSuspended : Option Data → Bool → Type 0
 SaysSuspended None suspended = suspended ≡ false
 SaysSuspended (Some value) suspended = as_bool value ≡ Some suspended
 
--- A source that an account may give: a number of 1 to 20 digits 0 to 9, such a number and an asterisk, or a name that an address may have.
+-- A source that an account may give: a number of 1 to 20 digits 0 to 9, such a number and an asterisk, or a name that an address may have
+-- and that ends in no asterisk.
 abbrev pub is_source : List ℕ → Bool
 is_source text = (is_number_text text || is_prefix text) || is_name_text text
 

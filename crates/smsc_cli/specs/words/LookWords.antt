@@ -41,6 +41,10 @@ SpellsDigits text digits = digits ≡ chars text
 abbrev pub IsMessageText : List ℕ → Type 0
 IsMessageText text = (id : ℕ) × IsMessageId id × IsIdText text id
 
+-- the text is that number of a message
+abbrev pub IsIdOf : List ℕ → ℕ → Type 0
+IsIdOf text id = IsMessageId id × IsIdText text id
+
 abbrev pub IsNumberText : List ℕ → Type 0
 IsNumberText text = (0 < length (chars text)) × IsNumber (chars text)
 

@@ -5,7 +5,8 @@ use Rattle.clap.specs.declared.builder.action.ArgAction.TheVariants.{Append, Set
 use Rattle.smsc_cli.specs.words.Accounts.{AddsAll}
 use Rattle.smsc_cli.specs.words.SimWords.{Gives, HasValue, Spells, SpellsNumber, required_option}
 use Rattle.smsc_cli.specs.words.LogWords.{SpellsLog}
-use Rattle.smsc_cli.specs.words.LookWords.{AskForLook, IsCountText, MayBe, SpelledLook, Wants, look_value}
+use Rattle.sms_base.specs.MessageId.{IsIdText}
+use Rattle.smsc_cli.specs.words.LookWords.{AskForLook, IsCountText, IsIdOf, MayBe, SpelledLook, Wants, look_value}
 use Rattle.smsc_cli.specs.words.Numbers.{IsCount, IsPort, SpellsCount, SpellsFrom}
 use Rattle.smsc_cli.specs.words.Options.{flag_option, is_given, optional_option}
 use Rattle.smsc_cli.specs.declared.words.account.AccountWords.{AccountWords}
@@ -13,7 +14,9 @@ use Rattle.smsc_cli.specs.declared.words.detail.LogDetail.{LogDetail}
 use Rattle.smsc_cli.specs.declared.words.server.Options.{Options}
 use Rattle.smsc_cli.specs.declared.words.server.ServerRun.{ServerRun}
 use Rattle.smsc_cli.specs.declared.words.server.ServerWords.{ServerWords}
-use Rattle.smsc_cli.specs.declared.words.server.ServerWords.TheVariants.{Run, Show, Save, Stop, End, Reload, Password}
+use Rattle.smsc_cli.specs.declared.words.server.ServerWords.TheVariants.{Run, Show, Save, Stop, End, Reload, Order, Password}
+use Rattle.smsc_cli.specs.declared.words.server.OrderWord.{OrderWord}
+use Rattle.smsc_cli.specs.declared.words.server.OrderWord.TheVariants.{Retry, Cancel}
 
 -- words that are arguments themselves, as many as there are
 abbrev pub listed_words : List ℕ → Rule
@@ -64,6 +67,18 @@ end_command = with_rule (with_rule (new_app (codes "end")) (required_option (cod
 abbrev pub reload_command : App
 reload_command = with_rule (new_app (codes "reload")) (required_option (codes "control"))
 
+-- the word that orders something of a message
+abbrev pub word_of : OrderWord → List ℕ
+word_of Retry = codes "retry"
+word_of Cancel = codes "cancel"
+
+-- the number of a message, which must be given
+abbrev pub id_word : Rule
+id_word = record (new_rule (codes "id")) { action = Some Set; required = true }
+
+abbrev pub order_command : OrderWord → App
+order_command order = with_rule (with_rule (new_app (word_of order)) (required_option (codes "control"))) id_word
+
 abbrev pub save_command : App
 save_command = with_rule (with_rule (new_app (codes "save")) (required_option (codes "store"))) (required_option (codes "to"))
 
@@ -83,6 +98,9 @@ end_value name words = first_of name (matches_of end_command words)
 
 abbrev pub reload_value : List ℕ → List (List ℕ) → Option (List ℕ)
 reload_value name words = first_of name (matches_of reload_command words)
+
+abbrev pub order_value : OrderWord → List ℕ → List (List ℕ) → Option (List ℕ)
+order_value order name words = first_of name (matches_of (order_command order) words)
 
 -- the values of an option that may be given more than once
 abbrev pub listed : Option (List (List ℕ)) → List (List ℕ)
@@ -179,6 +197,7 @@ AsksToServe words (Save store to) = ⊥
 AsksToServe words (Stop control wait) = ⊥
 AsksToServe words (End control seat) = ⊥
 AsksToServe words (Reload control) = ⊥
+AsksToServe words (Order control order id) = ⊥
 AsksToServe words Password = ⊥
 
 abbrev pub AsksToLook : List (List ℕ) → ServerWords → Type 0
@@ -188,6 +207,7 @@ AsksToLook words (Save store to) = ⊥
 AsksToLook words (Stop control wait) = ⊥
 AsksToLook words (End control seat) = ⊥
 AsksToLook words (Reload control) = ⊥
+AsksToLook words (Order control order id) = ⊥
 AsksToLook words Password = ⊥
 
 abbrev pub AsksToSave : List (List ℕ) → ServerWords → Type 0
@@ -197,6 +217,7 @@ AsksToSave words (Save store to) = (save_value (codes "store") words ≡ Some st
 AsksToSave words (Stop control wait) = ⊥
 AsksToSave words (End control seat) = ⊥
 AsksToSave words (Reload control) = ⊥
+AsksToSave words (Order control order id) = ⊥
 AsksToSave words Password = ⊥
 
 -- clap takes the words, and they ask for a copy
@@ -214,6 +235,7 @@ AsksToStop words (Save store to) = ⊥
 AsksToStop words (Stop control wait) = (stop_value (codes "control") words ≡ Some control.now) × Wants SpellsCount (stop_value (codes "wait") words) wait
 AsksToStop words (End control seat) = ⊥
 AsksToStop words (Reload control) = ⊥
+AsksToStop words (Order control order id) = ⊥
 AsksToStop words Password = ⊥
 
 -- these values spell a stop
@@ -232,6 +254,7 @@ AsksToEnd words (Save store to) = ⊥
 AsksToEnd words (Stop control wait) = ⊥
 AsksToEnd words (End control seat) = (end_value (codes "control") words ≡ Some control.now) × Gives SpellsCount (end_value (codes "seat") words) seat
 AsksToEnd words (Reload control) = ⊥
+AsksToEnd words (Order control order id) = ⊥
 AsksToEnd words Password = ⊥
 
 -- these values spell the end of a connection
@@ -250,6 +273,7 @@ AsksToReload words (Save store to) = ⊥
 AsksToReload words (Stop control wait) = ⊥
 AsksToReload words (End control seat) = ⊥
 AsksToReload words (Reload control) = reload_value (codes "control") words ≡ Some control.now
+AsksToReload words (Order control order id) = ⊥
 AsksToReload words Password = ⊥
 
 -- clap takes the words, and they ask to read the accounts again
@@ -257,6 +281,26 @@ pub record AskForReload (words : List (List ℕ)) : Type 0 where
   pub taken : takes reload_command words ≡ true
   pub control : List ℕ
   pub given : reload_value (codes "control") words ≡ Some control
+
+abbrev pub AsksToOrder : OrderWord → List (List ℕ) → ServerWords → Type 0
+AsksToOrder wanted words (Run run accounts) = ⊥
+AsksToOrder wanted words (Show store filter by_handset) = ⊥
+AsksToOrder wanted words (Save store to) = ⊥
+AsksToOrder wanted words (Stop control wait) = ⊥
+AsksToOrder wanted words (End control seat) = ⊥
+AsksToOrder wanted words (Reload control) = ⊥
+AsksToOrder wanted words (Order control order id) =
+    (order ≡ wanted) × (order_value wanted (codes "control") words ≡ Some control.now) × Gives IsIdText (order_value wanted (codes "id") words) id
+AsksToOrder wanted words Password = ⊥
+
+-- these values spell an order of a message
+abbrev pub SpellsOrder : Option (List ℕ) → Option (List ℕ) → Type 0
+SpellsOrder given_control given_id = HasValue given_control × Spells IsIdOf given_id
+
+-- clap takes the words, and they order something of a message
+pub record AskToOrder (order : OrderWord) (words : List (List ℕ)) : Type 0 where
+  pub taken : takes (order_command order) words ≡ true
+  pub spelled : SpellsOrder (order_value order (codes "control") words) (order_value order (codes "id") words)
 
 -- the word that asks what to write of a password stands alone
 abbrev pub AskForPassword : List (List ℕ) → Type 0
@@ -269,6 +313,7 @@ AsksForPassword words (Save store to) = ⊥
 AsksForPassword words (Stop control wait) = ⊥
 AsksForPassword words (End control seat) = ⊥
 AsksForPassword words (Reload control) = ⊥
+AsksForPassword words (Order control order id) = ⊥
 AsksForPassword words Password = AskForPassword words
 
 -- whether a word is there and is this one
@@ -276,8 +321,8 @@ abbrev pub is_word : List ℕ → Option (List ℕ) → Bool
 is_word wanted None = false
 is_word wanted (Some word) = bytes_eq word wanted
 
--- `show`, `save`, `stop`, `end`, `reload` and `password` as the second word ask for a look, a copy, an order, or what to write of a password, by the
--- words behind the program's name. All else asks for a run
+-- `show`, `save`, `stop`, `end`, `reload`, `retry`, `cancel` and `password` as the second word ask for a look, a copy, an order, or what to write of a
+-- password, by the words behind the program's name. All else asks for a run
 abbrev pub AsksOfServer : Option (List ℕ) → List (List ℕ) → List (List ℕ) → ServerWords → Type 0
 AsksOfServer second words behind asked =
     MatchBool (is_word (codes "show") second) (AsksToLook behind asked)
@@ -285,7 +330,9 @@ AsksOfServer second words behind asked =
     (MatchBool (is_word (codes "stop") second) (AsksToStop behind asked)
     (MatchBool (is_word (codes "end") second) (AsksToEnd behind asked)
     (MatchBool (is_word (codes "reload") second) (AsksToReload behind asked)
-    (MatchBool (is_word (codes "password") second) (AsksForPassword behind asked) (AsksToServe words asked))))))
+    (MatchBool (is_word (codes "retry") second) (AsksToOrder Retry behind asked)
+    (MatchBool (is_word (codes "cancel") second) (AsksToOrder Cancel behind asked)
+    (MatchBool (is_word (codes "password") second) (AsksForPassword behind asked) (AsksToServe words asked))))))))
 
 -- words that ask something of the server
 abbrev pub AskServer : Option (List ℕ) → List (List ℕ) → List (List ℕ) → Type 0
@@ -295,4 +342,6 @@ AskServer second words behind =
     (MatchBool (is_word (codes "stop") second) (AskForStop behind)
     (MatchBool (is_word (codes "end") second) (AskForEnd behind)
     (MatchBool (is_word (codes "reload") second) (AskForReload behind)
-    (MatchBool (is_word (codes "password") second) (AskForPassword behind) (AskForServer words))))))
+    (MatchBool (is_word (codes "retry") second) (AskToOrder Retry behind)
+    (MatchBool (is_word (codes "cancel") second) (AskToOrder Cancel behind)
+    (MatchBool (is_word (codes "password") second) (AskForPassword behind) (AskForServer words))))))))

@@ -299,7 +299,10 @@ fn unstarred<'a>(text: &'a str) -> Option<&'a str>
 fn is_name_text(text: &str) -> bool
     ensures { result ≡ is_name_text_of text.now }
 {
-    Address::new(5, 0, text).is_ok()
+    match unstarred(text) {
+        Some(_front) => false,
+        None => Address::new(5, 0, text).is_ok(),
+    }
 }
 
 // The digits before an asterisk at the end.
@@ -339,7 +342,7 @@ fn no_number<'a>(text: &'a str) -> Option<SourceWords<'a>>
     }
 }
 
-/// The source that the text spells: a number of 1 to 20 digits, such digits and an asterisk, or a name.
+/// The source that the text spells: a number of 1 to 20 digits, such digits and an asterisk, or a name, at whose end is no asterisk.
 pub fn source_of<'a>(text: &'a str) -> Option<SourceWords<'a>>
     ensures found { IfSome result (SpellsSource text.entry.now) }
     ensures none { IfNone result (is_source_of text.entry.now ≡ false) }

@@ -1,11 +1,11 @@
 //! The words of a look at a centre's store.
-ghost use Rattle.std.specs.Prelude.{◌≡◌, ◌↔◌, Some, true, map, option_map, IfErr, IfNone, IfSome, IfOk};
+ghost use Rattle.std.specs.Prelude.{◌≡◌, ◌↔◌, ℕ, Some, true, map, option_map, IfErr, IfNone, IfSome, IfOk};
 ghost use Rattle.clap.specs.Words.{app_of, first_value, found_of, kind_of, takes};
 ghost use Rattle.clap.specs.declared.error.kind.ErrorKind.TheVariants.{OutOfMemory};
 ghost use Rattle.sms_base.specs.MessageId.{IsIdText};
 ghost use Rattle.smsc_cli.specs.declared.words.fault.WordsFault.TheVariants.{BadWords, NoMemory};
 ghost use Rattle.smsc_cli.specs.words.Options.{is_given};
-ghost use Rattle.smsc_cli.specs.words.LookWords.{AreLookOptions, AskForLook, IsMessageText, IsNameText, IsNumberText, IsPartyText, IsStateWord, MayBe, SpelledFilter, SpelledLook, SpellsDigits, SpellsFilter, SpellsLook, Wants, is_state_word, look_command, look_value, parties_command};
+ghost use Rattle.smsc_cli.specs.words.LookWords.{AreLookOptions, AskForLook, IsIdOf, IsMessageText, IsNameText, IsNumberText, IsPartyText, IsStateWord, MayBe, SpelledFilter, SpelledLook, SpellsDigits, SpellsFilter, SpellsLook, Wants, is_state_word, look_command, look_value, parties_command};
 
 use crate::centre_table::Filter;
 use crate::words::fault::{WordsFault, fault_of};
@@ -89,6 +89,14 @@ fn id_of(word: Option<&str>) -> Option<Option<MessageId>>
         Some(text) => Some(Some(MessageId::read(text.as_bytes())?)),
         None => Some(None),
     }
+}
+
+/// The number of a message, in ten decimal digits.
+pub(crate) fn message_id_of(text: &str) -> Option<MessageId>
+    ensures found { IfSome result (λ id. IsIdText text.now id) }
+    ensures only { (id : ℕ) → IsIdOf text.now id → result ≡ Some id }
+{
+    MessageId::read(text.as_bytes())
 }
 
 // The characters of a name.

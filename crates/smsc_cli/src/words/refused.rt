@@ -4,7 +4,8 @@ use crate::words::explaining::{MORE, Rule, Wanted, explained};
 use crate::words::handset::{is_show, run_command as handset_command, show_command};
 use crate::words::look::look_command;
 use crate::words::server::{
-    end_command, is_second, reload_command, run_command, save_command, stop_command, texts_of,
+    OrderWord, end_command, is_second, order_command, reload_command, run_command, save_command,
+    stop_command, texts_of,
 };
 use crate::words::sim::{is_relay, relay_command};
 use clap::{Command, Error};
@@ -84,6 +85,17 @@ fn run_refused<'a>(alloc: Global, words: &'a [&'a str]) -> Result<Option<String>
     }
 }
 
+fn message_refused<'a>(
+    alloc: Global,
+    order: OrderWord,
+    usage: &'static str,
+    after_program: &'a [&'a str],
+) -> Result<Option<String>, AllocError> {
+    let command = order_command(alloc, order)?.override_usage(usage);
+    let text = explained(alloc, command, after_program, &[])?;
+    Ok(Some(or_other(alloc, text, "ID is ten decimal digits, not all 0")?))
+}
+
 fn order_refused<'a>(alloc: Global, words: &'a [&'a str]) -> Result<Option<String>, AllocError> {
     if is_second(words, "stop") {
         let command = stop_command(alloc)?.override_usage(
@@ -99,6 +111,22 @@ fn order_refused<'a>(alloc: Global, words: &'a [&'a str]) -> Result<Option<Strin
     if is_second(words, "reload") {
         let command = reload_command(alloc)?.override_usage("smscd reload --control PATH");
         return explained(alloc, command, &words[1..], &[]);
+    }
+    if is_second(words, "retry") {
+        return message_refused(
+            alloc,
+            OrderWord::Retry,
+            "smscd retry --control PATH ID",
+            &words[1..],
+        );
+    }
+    if is_second(words, "cancel") {
+        return message_refused(
+            alloc,
+            OrderWord::Cancel,
+            "smscd cancel --control PATH ID",
+            &words[1..],
+        );
     }
     if is_second(words, "password") {
         let command = Command::new(alloc, "password").override_usage("smscd password");

@@ -6,21 +6,22 @@ ghost use Rattle.smsc_cli.specs.declared.words.account.AccountWords.{AccountWord
 ghost use Rattle.smsc_cli.specs.declared.words.fault.WordsFault.TheVariants.{BadWords, NoMemory};
 ghost use Rattle.smsc_cli.specs.words.Accounts.{AddsAll};
 ghost use Rattle.smsc_cli.specs.words.SimWords.{Gives, Spells};
-ghost use Rattle.smsc_cli.specs.words.LookWords.{AskForLook, MayBe, Wants};
+ghost use Rattle.sms_base.specs.MessageId.{IsIdText};
+ghost use Rattle.smsc_cli.specs.words.LookWords.{AskForLook, IsIdOf, MayBe, Wants};
 ghost use Rattle.smsc_cli.specs.words.Numbers.{IsCount, SpellsCount, SpellsFrom};
-ghost use Rattle.smsc_cli.specs.words.ServerWords.{AreOptionsOf, AskForEnd, AskForPassword, AskForReload, AskForSave, AskForServer, AskForStop, AskServer, AsksForPassword, AsksOfServer, AsksToEnd, AsksToLook, AsksToReload, AsksToSave, AsksToServe, AsksToStop, IsPortText, SpelledOptions, SpelledServer, SpellsEnd, SpellsServer, SpellsStop};
-ghost use Rattle.smsc_cli.specs.words.ServerWords.{account_texts, end_command, end_value, is_word, keeping_command, listed, listed_words, more_command, needed_command, paths_command, port_command, reload_command, reload_value, save_command, save_value, seat_word, server_command, server_value, store_command, stop_command, stop_value};
+ghost use Rattle.smsc_cli.specs.words.ServerWords.{AreOptionsOf, AskForEnd, AskForPassword, AskForReload, AskForSave, AskForServer, AskForStop, AskServer, AskToOrder, AsksForPassword, AsksOfServer, AsksToEnd, AsksToLook, AsksToOrder, AsksToReload, AsksToSave, AsksToServe, AsksToStop, IsPortText, SpelledOptions, SpelledServer, SpellsEnd, SpellsOrder, SpellsServer, SpellsStop};
+ghost use Rattle.smsc_cli.specs.words.ServerWords.{account_texts, end_command, end_value, id_word, is_word, keeping_command, listed, listed_words, more_command, needed_command, order_command, order_value, paths_command, port_command, reload_command, reload_value, save_command, save_value, seat_word, server_command, server_value, store_command, stop_command, stop_value};
 
 use crate::centre_table::Filter;
 use crate::words::account::AccountWords;
 use crate::words::accounts::accounts_of;
 use crate::words::detail::{LogDetail, detail_of};
 use crate::words::fault::{WordsFault, fault_of};
-use crate::words::look::look_words;
+use crate::words::look::{look_words, message_id_of};
 use crate::words::number::{address_of, count_of, optional_count, port_of};
 use crate::words::option::{flag, is_set, optional, required, with_three, with_two};
 use clap::{Arg, ArgAction, ArgMatches, Command, Error};
-use sms_base::Address;
+use sms_base::{Address, MessageId};
 use std::alloc::{AllocError, Global};
 
 /// What a run of the server is to do, but for its accounts.
@@ -102,8 +103,26 @@ pub enum ServerWords<'a> {
         /// The path of the server's socket.
         control: &'a str,
     },
+    /// `retry --control PATH ID` or `cancel --control PATH ID`.
+    Order {
+        /// The path of the server's socket.
+        control: &'a str,
+        /// What is ordered.
+        order: OrderWord,
+        /// The number of the message.
+        id: MessageId,
+    },
     /// `password`.
     Password,
+}
+
+/// What can be ordered of a message.
+#[derive(Clone, Copy, Debug, PartialEq, Eq)]
+pub enum OrderWord {
+    /// What waits of it is due now.
+    Retry,
+    /// It is deleted.
+    Cancel,
 }
 
 // The options of a run, as text.
@@ -259,6 +278,31 @@ pub(crate) fn reload_command<'a>(alloc: Global) -> Result<Command<'a>, AllocErro
     ensures { IfOk result (λ command. app_of command ≡ reload_command) }
 {
     Command::new(alloc, "reload").arg(required(alloc, "control"))
+}
+
+fn id_word<'a>(alloc: Global) -> Arg<'a>
+    ensures rule { rule_of result ≡ id_word }
+    ensures local { result.global ≡ false }
+{
+    Arg::new(alloc, "id").required(true).action(ArgAction::Set)
+}
+
+/// The command line of an order of a message.
+pub(crate) fn order_command<'a>(alloc: Global, order: OrderWord) -> Result<Command<'a>, AllocError>
+    ensures { IfOk result (λ command. app_of command ≡ order_command order) }
+{
+    match order {
+        OrderWord::Retry => with_two(
+            Command::new(alloc, "retry"),
+            required(alloc, "control"),
+            id_word(alloc),
+        ),
+        OrderWord::Cancel => with_two(
+            Command::new(alloc, "cancel"),
+            required(alloc, "control"),
+            id_word(alloc),
+        ),
+    }
 }
 
 /// The words that no option takes, in the matches of the words.
@@ -531,6 +575,55 @@ fn reload_asked<'a>(alloc: Global, words: &'a [&'a str]) -> Result<ServerWords<'
     }
 }
 
+// The path of the socket and the number, where the words order something of a message.
+fn ordered<'a>(
+    alloc: Global,
+    order: OrderWord,
+    words: &'a [&'a str],
+) -> Result<(Option<&'a str>, Option<&'a str>), Error>
+    ensures control { IfOk result (λ r. option_map (λ s. s.now) r.0 ≡ order_value order (codes "control") (map (λ w. w.now) words.entry.now)) }
+    ensures id { IfOk result (λ r. option_map (λ s. s.now) r.1 ≡ order_value order (codes "id") (map (λ w. w.now) words.entry.now)) }
+    ensures good { IfErr result (λ error. takes (order_command order) (map (λ w. w.now) words.entry.now) ≡ true → kind_of error ≡ OutOfMemory) }
+{
+    let command = order_command(alloc, order)?;
+    let matches = command.try_get_matches_from(words)?;
+    Ok((matches.get_str("control"), matches.get_str("id")))
+}
+
+// The message that a word names.
+fn message_of(word: Option<&str>) -> Option<MessageId>
+    ensures found { IfSome result (λ id. Gives IsIdText (option_map (λ s. s.now) word.entry) id) }
+    ensures none { IfNone result (¬ Spells IsIdOf (option_map (λ s. s.now) word.entry)) }
+{
+    message_id_of(word?)
+}
+
+fn order_of<'a>(control: Option<&'a str>, id: Option<&'a str>) -> Option<(&'a str, MessageId)>
+    ensures control { IfSome result (λ r. option_map (λ s. s.now) control.entry ≡ Some r.0.now) }
+    ensures id { IfSome result (λ r. Gives IsIdText (option_map (λ s. s.now) id.entry) r.1) }
+    ensures none { IfNone result (¬ SpellsOrder (option_map (λ s. s.now) control.entry) (option_map (λ s. s.now) id.entry)) }
+{
+    let id = message_of(id)?;
+    Some((control?, id))
+}
+
+fn order_asked<'a>(
+    alloc: Global,
+    order: OrderWord,
+    words: &'a [&'a str],
+) -> Result<ServerWords<'a>, WordsFault>
+    ensures asked { IfOk result (λ asked. AsksToOrder order (map (λ w. w.now) words.entry.now) asked) }
+    ensures good { AskToOrder order (map (λ w. w.now) words.entry.now) → IfErr result (λ fault. fault ≡ NoMemory) }
+{
+    match ordered(alloc, order, words) {
+        Ok((control, id)) => match order_of(control, id) {
+            Some((control, id)) => Ok(ServerWords::Order { control, order, id }),
+            None => Err(WordsFault::BadWords),
+        },
+        Err(error) => Err(fault_of(&error)),
+    }
+}
+
 // What to write of a password.
 fn password_asked<'a>(words: &[&str]) -> Result<ServerWords<'a>, WordsFault>
     ensures asked { IfOk result (λ asked. AsksForPassword (map (λ w. w.now) words.now) asked) }
@@ -576,9 +669,10 @@ pub(crate) fn is_second(words: &[&str], wanted: &str) -> bool
 ///   `NAME:PASSWORD:NUMBER` or `NAME:PASSWORD:NUMBER:SESSIONS`, no two of one name
 /// - `show --store FILE`, perhaps with `--id ID`, `--from WHO`, `--to NUMBER`, `--account NAME`, `--state STATE`, `--last N` and `--stuck`
 /// - `save --store FILE --to FILE`, `stop --control PATH`, perhaps with `--wait SECONDS`, `end --control PATH SEAT`, `reload --control PATH`,
-///   `password`
+///   `retry --control PATH ID`, `cancel --control PATH ID`, `password`
 ///
-/// The WORD of the log is `messages` or `access`. A FILE or PATH is a path, a PORT 1 to 65535, and a NUMBER 1 to 20 digits 0 to 9. N, SEAT and DAYS are 0 to 4294967295. The
+/// The WORD of the log is `messages` or `access`. A FILE or PATH is a path, a PORT 1 to 65535, and a NUMBER 1 to 20 digits 0 to 9. N, SEAT and DAYS are 0 to 4294967295. An ID is
+/// ten decimal digits, not all 0. The
 /// first two colons of an account end its NAME, 1 to 15 ASCII characters, and its PASSWORD, up to 8. SESSIONS is 1 to 32. All else is bad
 /// words.
 /// Words that ask for something are refused for want of memory alone.
@@ -602,6 +696,12 @@ pub fn server_words<'a>(alloc: Global, words: &'a [&'a str]) -> Result<ServerWor
     }
     if is_second(words, "reload") {
         return reload_asked(alloc, &words[1..]);
+    }
+    if is_second(words, "retry") {
+        return order_asked(alloc, OrderWord::Retry, &words[1..]);
+    }
+    if is_second(words, "cancel") {
+        return order_asked(alloc, OrderWord::Cancel, &words[1..]);
     }
     if is_second(words, "password") {
         return password_asked(&words[1..]);

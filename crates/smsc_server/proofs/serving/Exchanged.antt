@@ -10,7 +10,7 @@ use Rattle.sms_centre_spec.specs.jobs.Requests.{is_request}
 use Rattle.sms_seats.specs.Jobs.{jobs_among}
 use Rattle.sms_keeper.specs.declared.machine.Item.{Item}
 use Rattle.sms_keeper.specs.declared.machine.Stimulus.{Stimulus}
-use Rattle.sms_keeper.specs.declared.machine.Stimulus.TheVariants.{Job as JobOf, Tick}
+use Rattle.sms_keeper.specs.declared.machine.Stimulus.TheVariants.{Job as JobOf, Tick, Own}
 use Rattle.sms_keeper.specs.declared.outs.Out.{Out}
 use Rattle.sms_keeper.specs.History.{IsHistory, answers_in as replies_in, asked_by, for_seat, jobs_of, outs_to}
 use Rattle.smsc_loop.specs.Calls.{Call, jobs_put, replies_taken}
@@ -94,6 +94,7 @@ exchanged_at n (JobOf seat job) answers e = record {
   answered = answered_at job answers (n == seat) (is_request job) e;
 }
 exchanged_at n (Tick now) answers e = record { asked = refl; answered = sym (none_there answers e) }
+exchanged_at n (Own errand) answers e = record { asked = refl; answered = sym (none_there answers e) }
 
 -- ---- a part of the history
 

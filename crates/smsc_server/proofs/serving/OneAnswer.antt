@@ -22,7 +22,8 @@ use Rattle.sms_centre_spec.specs.Draft.{Core, messages_in}
 use Rattle.sms_centre_spec.specs.declared.answer.CentreAnswer.{CentreAnswer}
 use Rattle.sms_centre_spec.specs.declared.answer.CentreAnswer.TheVariants.{Refused as RefusedBy}
 use Rattle.sms_centre_spec.specs.declared.event.CentreEvent.{CentreEvent}
-use Rattle.sms_centre_spec.specs.declared.event.CentreEvent.TheVariants.{Submit as SubmitOf, Query as QueryOf, Cancel as CancelOf, Bound as BoundOf, Unbound as UnboundOf, DeliverAnswered as DeliverAnsweredOf, Frame as FrameOf, LinkUp as LinkUpOf, LinkDown as LinkDownOf, Tick as TickOf}
+use Rattle.sms_centre_spec.specs.declared.event.CentreEvent.TheVariants.{Submit as SubmitOf, Query as QueryOf, Cancel as CancelOf, Bound as BoundOf, Unbound as UnboundOf, DeliverAnswered as DeliverAnsweredOf, Frame as FrameOf, LinkUp as LinkUpOf, LinkDown as LinkDownOf, Ordered as OrderedOf, Tick as TickOf}
+use Rattle.sms_centre_spec.specs.declared.order.Order.TheVariants.{Retry as RetryOf, Delete as DeleteOf}
 use Rattle.sms_centre_spec.specs.declared.jobs.job.Job.{Job}
 use Rattle.sms_centre_spec.specs.declared.jobs.job.Job.TheVariants.{Bound, Unbound, Submit, Query, Cancel, DeliverAnswered, LinkUp, LinkDown, Frame}
 use Rattle.sms_centre_spec.specs.declared.jobs.reply.Reply.{Reply}
@@ -30,20 +31,22 @@ use Rattle.sms_centre_spec.specs.declared.jobs.reply.Reply.TheVariants.{Answer, 
 use Rattle.sms_centre_spec.specs.jobs.Requests.{is_request}
 use Rattle.sms_keeper.specs.declared.machine.Fate.{Fate}
 use Rattle.sms_keeper.specs.declared.machine.Fate.TheVariants.{Done, NoMemory, Refused}
+use Rattle.sms_keeper.specs.declared.machine.Errand.{Errand}
+use Rattle.sms_keeper.specs.declared.machine.Errand.TheVariants.{Forget as ForgetErrand, Retry, Delete}
 use Rattle.sms_keeper.specs.declared.machine.Stimulus.{Stimulus}
-use Rattle.sms_keeper.specs.declared.machine.Stimulus.TheVariants.{Job as JobOf, Tick}
+use Rattle.sms_keeper.specs.declared.machine.Stimulus.TheVariants.{Job as JobOf, Tick, Own}
 use Rattle.sms_keeper.specs.declared.outs.Out.{Out}
 use Rattle.sms_keeper.specs.History.{outs_to}
 use Rattle.sms_receipt.specs.declared.final_message.Final.{Final}
 use Rattle.smsc_loop.specs.Owing.{answers_in, asks_nothing}
 use Rattle.smsc_service.specs.declared.asking.SeatRequest.{SeatRequest}
-use Rattle.smsc_service.specs.declared.asking.SeatRequest.TheVariants.{Event, Nothing, Taken}
+use Rattle.smsc_service.specs.declared.asking.SeatRequest.TheVariants.{Event, Nothing, Taken, Forget}
 use Rattle.smsc_service.specs.declared.seat_map.LinkSeat.{LinkSeat}
 use Rattle.smsc_service.specs.Asking.{asked, asked_by, link_for, of_handset, question, read_as, submission, withdrawal}
 use Rattle.smsc_service.specs.Numbers.{is_number}
-use Rattle.smsc_service.specs.Replies.{answer_out, end_of, failed, for_seat, frame_out, frame_outs, receipt_out, receipt_outs, replies_at, risen_by, seat_for}
+use Rattle.smsc_service.specs.Replies.{answer_out, end_of, failed, for_seat, frame_out, frame_outs, receipt_out, receipt_outs, replies_at, replies_to, risen_by, seat_for, vacancy}
 use Rattle.smsc_service.specs.Seats.{Seats, handset_at, seat_of}
-use Rattle.smsc_service.specs.Serving.{Serving, gives, gives_for, outs_for, refusal_for, refusal_of, short_of, unless_refused}
+use Rattle.smsc_service.specs.Serving.{Serving, after, after_for, gives, gives_for, outs_for, refusal_for, refusal_of, short_of, unless_refused}
 use Rattle.smsc_server.proofs.serving.Unanswered.{answered_unanswered, bound_unanswered, cancel_answered, down_unanswered, frame_unanswered, query_answered, submit_answered, tick_unanswered, unbound_unanswered, up_unanswered}
 
 -- ---- counted among what is given to a seat
@@ -146,11 +149,28 @@ one_failed n seat job = by_kind (is_request job)
     by_kind true = at_seat (n == seat)
     by_kind false = at_none (n == seat)
 
+one_nothing : (n seat : ℕ) (job : Job) (status : CommandStatus)
+    → answers_to n (if is_request job then for_seat seat (Answer (RefusedBy status)) else []) ≡ one_if (n == seat) (is_request job)
+one_nothing n seat job status = by_kind (is_request job)
+  where
+    at_seat : (at : Bool) → answers_in (here at (Answer (RefusedBy status))) ≡ one_if at true
+    at_seat true = refl
+    at_seat false = refl
+
+    at_none : (at : Bool) → 0 ≡ one_if at false
+    at_none true = refl
+    at_none false = refl
+
+    by_kind : (is : Bool) → answers_to n (if is then for_seat seat (Answer (RefusedBy status)) else []) ≡ one_if (n == seat) is
+    by_kind true = at_seat (n == seat)
+    by_kind false = at_none (n == seat)
+
 -- what is asked of the centre is answered as the job has an answer
 abbrev Suits : Core → Job → SeatRequest → Type 0
 Suits c job (Event event) = (is_some (happened event c).answer ≡ is_request job) × ((status : CommandStatus) → refusal_of event c ≡ Some status → is_request job ≡ true)
 Suits c job Nothing = Unit {0}
 Suits c job Taken = is_request job ≡ false
+Suits c job (Forget before from most) = ⊥
 
 submits : (c : Core) (account : ℕ) (pdu : List ℕ) (body : Body) → Suits c (Submit account pdu) (submission account body)
 submits c account pdu (BindReceiver x) = tt
@@ -273,12 +293,15 @@ module _ (n seat : ℕ) (job : Job) where
       ∙ ap (one_if (n == seat)) h.0
   one_asked s NoMemory (Event event) h = one_short (refusal_of event s.core) h.1
   one_asked s Refused (Event event) h = one_failed n seat job
-  one_asked s Done Nothing h = one_failed n seat job
-  one_asked s NoMemory Nothing h = one_failed n seat job
-  one_asked s Refused Nothing h = one_failed n seat job
+  one_asked s Done Nothing h = one_nothing n seat job (vacancy seat s.seats)
+  one_asked s NoMemory Nothing h = one_nothing n seat job (vacancy seat s.seats)
+  one_asked s Refused Nothing h = one_nothing n seat job (vacancy seat s.seats)
   one_asked s Done Taken h = none_taken (n == seat) ∙ ap (one_if (n == seat)) (sym h)
   one_asked s NoMemory Taken h = none_taken (n == seat) ∙ ap (one_if (n == seat)) (sym h)
   one_asked s Refused Taken h = none_taken (n == seat) ∙ ap (one_if (n == seat)) (sym h)
+  one_asked s Done (Forget before from most) h = absurd h
+  one_asked s NoMemory (Forget before from most) h = absurd h
+  one_asked s Refused (Forget before from most) h = absurd h
 
   one_of : (s : Serving) (fate : Fate) (b : Bool)
       → answers_to n (outs_for (if b then asked s.seats seat job else Nothing) fate s (JobOf seat job)) ≡ one_if (n == seat) (is_request job)
@@ -289,10 +312,17 @@ module _ (n seat : ℕ) (job : Job) where
 abbrev pub requests_of : ℕ → Stimulus Job → ℕ
 requests_of n (JobOf seat job) = one_if (n == seat) (is_request job)
 requests_of n (Tick now) = 0
+requests_of n (Own errand) = 0
 
 none_at : (b : Bool) → one_if b false ≡ 0
 none_at true = refl
 none_at false = refl
+
+-- the answer to an errand goes to no seat
+own_given : (s : Serving) (n : ℕ) (errand : Errand) (event : CentreEvent) → answers_to n (replies_to s.seats (Own errand) (happened event s.core)) ≡ 0
+own_given s n errand event =
+    let d = happened event s.core in
+    one_replied n None 0 s.seats.links None d.links.frames (messages_in d.store) d.bindings.deliveries ∙ none_at (n == 0)
 
 -- Each request of a seat has one answer there, and nothing else has any.
 pub one_given : (s : Serving) (n : ℕ) (stimulus : Stimulus Job) (fate : Fate) → answers_to n (gives s stimulus fate) ≡ requests_of n stimulus
@@ -303,6 +333,15 @@ one_given s n (Tick now) Done =
     ∙ (ap (λ (a : Option CentreAnswer). one_if (n == 0) (is_some a)) (tick_unanswered now s.core) ∙ none_at (n == 0))
 one_given s n (Tick now) NoMemory = refl
 one_given s n (Tick now) Refused = refl
+one_given s n (Own (ForgetErrand before from most)) Done = refl
+one_given s n (Own (ForgetErrand before from most)) NoMemory = refl
+one_given s n (Own (ForgetErrand before from most)) Refused = refl
+one_given s n (Own (Retry id)) Done = own_given s n (Retry id) (OrderedOf RetryOf id)
+one_given s n (Own (Retry id)) NoMemory = refl
+one_given s n (Own (Retry id)) Refused = refl
+one_given s n (Own (Delete id)) Done = own_given s n (Delete id) (OrderedOf DeleteOf id)
+one_given s n (Own (Delete id)) NoMemory = refl
+one_given s n (Own (Delete id)) Refused = refl
 
 -- ---- what asks nothing
 
@@ -317,18 +356,33 @@ either_nothing : (b : Bool) (a : SeatRequest) → a ≡ Nothing → (if b then a
 either_nothing true a e = e
 either_nothing false a e = refl
 
-failed_outs : (s : Serving) (n account : ℕ) (fate : Fate) → outs_for Nothing fate s (JobOf n (Query account [])) ≡ for_seat n (Answer (RefusedBy ESME_RSYSERR))
-failed_outs s n account Done = refl
-failed_outs s n account NoMemory = refl
-failed_outs s n account Refused = refl
+nothing_outs : (s : Serving) (n account : ℕ) (fate : Fate) → outs_for Nothing fate s (JobOf n (Query account [])) ≡ for_seat n (Answer (RefusedBy (vacancy n s.seats)))
+nothing_outs s n account Done = refl
+nothing_outs s n account NoMemory = refl
+nothing_outs s n account Refused = refl
 
--- a request that asks nothing has an answer, and that alone
+nothing_is : (s : Serving) (n account : ℕ) → asked_by s.seats (JobOf n (Query account [])) ≡ Nothing
+nothing_is s n account = either_nothing (nat_lt n 32) (asked s.seats n (Query account [])) (nothing_asked (question account))
+
+-- a request that asks nothing changes nothing
+pub nothing_after : (s : Serving) (n : ℕ) (job : Job) (fate : Fate) → asks_nothing job ≡ true → after s (JobOf n job) fate ≡ s
+nothing_after s n (Query account []) fate h = ap (λ (x : SeatRequest). after_for x fate s (JobOf n (Query account []))) (nothing_is s n account)
+nothing_after s n (Query account (octet ∷ pdu)) fate h = absurd (true≢false (sym h))
+nothing_after s n (Bound account receives) fate h = absurd (true≢false (sym h))
+nothing_after s n Unbound fate h = absurd (true≢false (sym h))
+nothing_after s n (Submit account pdu) fate h = absurd (true≢false (sym h))
+nothing_after s n (Cancel account pdu) fate h = absurd (true≢false (sym h))
+nothing_after s n (DeliverAnswered id is_accepted) fate h = absurd (true≢false (sym h))
+nothing_after s n (LinkUp handset) fate h = absurd (true≢false (sym h))
+nothing_after s n LinkDown fate h = absurd (true≢false (sym h))
+nothing_after s n (Frame octets) fate h = absurd (true≢false (sym h))
+
+-- It has an answer, and that alone: who is at the seat.
 pub nothing_given : (s : Serving) (n : ℕ) (job : Job) (fate : Fate) → asks_nothing job ≡ true
-    → outs_to n (gives s (JobOf n job) fate) ≡ Answer (RefusedBy ESME_RSYSERR) ∷ []
+    → outs_to n (gives s (JobOf n job) fate) ≡ Answer (RefusedBy (vacancy n s.seats)) ∷ []
 nothing_given s n (Query account []) fate h =
-    let a = either_nothing (nat_lt n 32) (asked s.seats n (Query account [])) (nothing_asked (question account)) in
-    ap (λ (x : SeatRequest). outs_to n (outs_for x fate s (JobOf n (Query account [])))) a
-    ∙ (ap (outs_to n) (failed_outs s n account fate) ∙ ap (λ (b : Bool). here b (Answer (RefusedBy ESME_RSYSERR))) (eq-eqb n n refl))
+    ap (λ (x : SeatRequest). outs_to n (outs_for x fate s (JobOf n (Query account [])))) (nothing_is s n account)
+    ∙ (ap (outs_to n) (nothing_outs s n account fate) ∙ ap (λ (b : Bool). here b (Answer (RefusedBy (vacancy n s.seats)))) (eq-eqb n n refl))
 nothing_given s n (Query account (octet ∷ pdu)) fate h = absurd (true≢false (sym h))
 nothing_given s n (Bound account receives) fate h = absurd (true≢false (sym h))
 nothing_given s n Unbound fate h = absurd (true≢false (sym h))

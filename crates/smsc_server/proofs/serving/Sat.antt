@@ -83,7 +83,7 @@ jobs_join (Some job ∷ a) b = ap (λ (l : List Job). job ∷ l) (jobs_join a b)
 pub cleared_first : (s t : Seat Job Reply) → t ≡ s → put_by s ≡ [] → taken_by s ≡ [] → IsCleared (put_by t) (taken_by t)
 cleared_first s t e none nothing =
     subst (λ (l : List (Option Job)). IsCleared l (taken_by t)) (sym (ap put_by e ∙ none))
-    (subst (λ (l : List Reply). IsCleared [] l) (sym (ap taken_by e ∙ nothing)) (refl, refl, refl))
+    (subst (λ (l : List Reply). IsCleared [] l) (sym (ap taken_by e ∙ nothing)) (refl, refl, refl, refl))
 
 pub same_from : (s r t u : Seat Job Reply) → r ≡ s → IsSameSeat r t → IsSameSeat t u → IsSameSeat s u
 same_from s r t u e h k = subst (λ (x : Seat Job Reply). IsSameSeat x u) e (seat_trans r t u h k)
@@ -91,7 +91,7 @@ same_from s r t u e h k = subst (λ (x : Seat Job Reply). IsSameSeat x u) e (sea
 module _ {S : Type 0} (remaining contents : S → Option (List ℕ)) (admitted : Admitted) where
   sat_at : (s : Seat Job Reply) (c : Connection remaining contents admitted) (t : Seat Job Reply) → Sits remaining contents admitted s c t
       → DidAt (calls_of remaining contents admitted c) s t
-  sat_at s (Session visit) t h = at_ends _ visit.seat s visit.seat_then t h.0 h.1 (did_at _ _ _ _ visit.served.served visit.served.left)
+  sat_at s (Session accounts may visit) t h = at_ends _ visit.seat s visit.seat_then t h.0 h.1 (did_at _ _ _ _ visit.served.served visit.served.left)
   sat_at s (Link visit) t h = at_ends _ visit.seat s visit.seat_then t h.0 h.1 (did_at _ _ _ _ visit.served.served visit.served.left)
   sat_at s (TurnedAway arrival) t h = at_ends _ s s s t refl (sym h) (record { put = sym (append-nil (put_by s)); taken = sym (append-nil (taken_by s)); seat = seat_same s })
 
@@ -144,7 +144,7 @@ module _ {S : Type 0} (remaining contents : S → Option (List ℕ)) (admitted :
   -- a connection sits down at the seat as it is
   down_at : (s : Seat Job Reply) (c : Connection remaining contents admitted) (t : Seat Job Reply) → Sits remaining contents admitted s c t
       → SatDown remaining contents admitted (put_by s) (taken_by s) c
-  down_at s (Session visit) t h = (ap put_by h.0, ap taken_by h.0)
+  down_at s (Session accounts may visit) t h = (ap put_by h.0, ap taken_by h.0)
   down_at s (Link visit) t h = (ap put_by h.0, ap taken_by h.0)
   down_at s (TurnedAway arrival) t h = tt
 

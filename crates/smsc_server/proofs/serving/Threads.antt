@@ -3,7 +3,6 @@ use Rattle.std.proofs.Common.{◌≡◌, ◌⊎◌, ◌+◌, ◌<◌, ℕ, zero,
 use Rattle.std.specs.Prelude.{is_ok}
 use Rattle.std.proofs.lemmas.Option.{none-some, same_Some}
 use Rattle.std.specs.Arc.{arc_value}
-use Rattle.smpp_session.specs.declared.account.Account.{Account}
 use Rattle.smsc_endpoint.specs.declared.link_access.LinkAccess.{LinkAccess}
 use Rattle.sms_centre_spec.specs.declared.jobs.job.Job.{Job}
 use Rattle.sms_centre_spec.specs.declared.jobs.reply.Reply.{Reply}
@@ -13,6 +12,7 @@ use Rattle.sms_keeper.specs.declared.keeper.Keeper.{Keeper}
 use Rattle.sms_keeper.specs.Keeping.{IsSameHub}
 use Rattle.sms_keeper.specs.Seating.{IsNewSeat, IsSeatOf}
 use Rattle.sms_keeper.proofs.Histories.{seat_kept}
+use Rattle.smsc_server.specs.serving.AccountBooks.{Book}
 use Rattle.smsc_server.specs.serving.Connections.{Admitted, admits}
 use Rattle.sms_seats.proofs.Places.{length_snoc, slice_get_snoc}
 use Rattle.crossbeam_channel.specs.Ends.{receives_on}
@@ -153,8 +153,8 @@ pub admitted_so : {S R E D : Type 0} (P : Admitted → D → R → Type 0) (Q : 
 admitted_so P Q threads first second d (Err fault) e h have entered = tt
 admitted_so P Q threads first second d (Ok x) e h have entered = subst (λ (a : Admitted). P a d x) e (h first d have entered)
 
-pub admits_same : (a b : List Account) (c d : LinkAccess) → a ≡ b → c ≡ d → admits a c ≡ admits b d
-admits_same a b c d e f = ap (λ (x : List Account). admits x c) e ∙ ap (λ (y : LinkAccess). admits b y) f
+pub admits_same : (a b : Book) (c d : LinkAccess) → a ≡ b → c ≡ d → admits a c ≡ admits b d
+admits_same a b c d e f = ap (λ (x : Book). admits x c) e ∙ ap (λ (y : LinkAccess). admits b y) f
 
 -- the keeper is the same
 pub at_kept : {S : Type 0} (a b : Keeper Job Reply) (threads : List (SeatThread S)) → IsSameHub a b → AreAt a threads → AreAt b threads

@@ -18,6 +18,8 @@ use Rattle.std.specs.declared.net.socket_addr.SocketAddr.{SocketAddr}
 use Rattle.smsc_arrivals.specs.declared.arrival.Arrival.{Arrival}
 use Rattle.smsc_arrivals.specs.declared.arrival.Side.TheVariants.{Application, Handset}
 use Rattle.smsc_server.specs.declared.serving.connection.Socket.{Socket}
+use Rattle.smpp_session.specs.declared.account.Account.{Account}
+use Rattle.smsc_server.specs.serving.AccountBooks.{MayAdmit}
 use Rattle.smsc_server.specs.serving.Connections.{Admitted, Session, Link, TurnedAway, HasSat, IsOpened, arrival_of, has_ended, is_closed, remaining_on, written_on}
 
 module _ {S : Type 0} (remaining contents : S → Option (List ℕ)) (s t : Seat Job Reply) (stream reader : S) (wire wire_then : Socket S)
@@ -32,10 +34,11 @@ module _ {S : Type 0} (remaining contents : S → Option (List ℕ)) (s t : Seat
       Served link_waits (λ (l : LinkView). l.is_over) (λ (l : LinkView). false) LinkDoes any_link_job ⊤ (has_ended wire_then) (is_closed wire_then)
       (standing l Serves (remaining_on wire) (written_on contents wire) s) m (remaining_on wire_then) (written_on contents wire_then) t
 
-  pub session_sat : (admitted : Admitted) (peer : SocketAddr) (e f : EsmeView) → e ≡ opened_session admitted.accounts → SessionServed e f
+  pub session_sat : (admitted : Admitted) (accounts : List Account) → MayAdmit admitted.accounts accounts → (peer : SocketAddr) (e f : EsmeView) → e ≡ opened_session accounts
+      → SessionServed e f
       → HasSat remaining contents admitted (arrival_of stream Application peer) s t
-  session_sat admitted peer e f is served = (
-    Session (record {
+  session_sat admitted accounts may peer e f is served = (
+    Session accounts may (record {
       arrival = arrival_of stream Application peer;
       side_so = refl;
       reader = reader;

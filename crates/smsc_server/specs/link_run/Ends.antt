@@ -22,8 +22,8 @@ abbrev pub greeting : Address → Option (List ℕ) → List ℕ
 greeting number secret = with_secret secret (encode_utf8_all number.digits)
 
 -- The number as the first frame, with its secret if it has one. Then what the owner asked is met, each behind a tick, and answered, and then each
--- turn of the link: a tick, and the frames that were whole when it was read.
-pub record IsRunDone (reads : ℕ → Type 0) (asked : List HandsetEvent) (number : Address) (secret : Option (List ℕ)) (before after : Core)
+-- turn of the link: a tick, and the frames that were whole when it was read. So many frames are met, unless the link closes first.
+pub record IsRunDone (reads : ℕ → Type 0) (frames : ℕ) (asked : List HandsetEvent) (number : Address) (secret : Option (List ℕ)) (before after : Core)
     (had has held holds told tells : Option (List ℕ)) : Type 0 where
   pub greeted : Option (List ℕ)
   pub number_so : Appends held greeted (framed (greeting number secret))
@@ -34,10 +34,10 @@ pub record IsRunDone (reads : ℕ → Type 0) (asked : List HandsetEvent) (numbe
   pub asked_met : Meets timed before between greeted sent
   pub answered_so : Appends told tells (answers_to timed before)
   pub rest : List ℕ
-  pub attended : Attended reads had has rest between after sent holds
+  pub attended : Attended reads frames had has rest between after sent holds
 
-abbrev pub IsRun : (ℕ → Type 0) → List HandsetEvent → Address → Option (List ℕ) → Core → Core → Option (List ℕ) → Option (List ℕ) → Option (List ℕ)
+abbrev pub IsRun : (ℕ → Type 0) → ℕ → List HandsetEvent → Address → Option (List ℕ) → Core → Core → Option (List ℕ) → Option (List ℕ) → Option (List ℕ)
     → Option (List ℕ) → Option (List ℕ) → Option (List ℕ) → RunEnd → Type 0
-IsRun reads asked number secret before after had has held holds told tells Done =
-    IsRunDone reads asked number secret before after had has held holds told tells
-IsRun reads asked number secret before after had has held holds told tells Broken = Unit {0}
+IsRun reads frames asked number secret before after had has held holds told tells Done =
+    IsRunDone reads frames asked number secret before after had has held holds told tells
+IsRun reads frames asked number secret before after had has held holds told tells Broken = Unit {0}

@@ -22,13 +22,14 @@ use Rattle.smsc_arrivals.specs.declared.arrival.Side.{Side}
 use Rattle.smsc_arrivals.specs.declared.arrival.Side.TheVariants.{Application, Handset}
 use Rattle.smsc_server.specs.declared.serving.connection.Socket.{Socket}
 use Rattle.smsc_arrivals.specs.PieceEnds.{left_at}
+use Rattle.smsc_server.specs.serving.AccountBooks.{Book, MayAdmit}
 
 -- who may bind, and who may have the link of a number
 pub record Admitted : Type 0 where
-  pub accounts : List Account
+  pub accounts : Book
   pub access : LinkAccess
 
-abbrev pub admits : List Account → LinkAccess → Admitted
+abbrev pub admits : Book → LinkAccess → Admitted
 admits accounts access = record { accounts = accounts; access = access }
 
 module _ {S : Type 0} where
@@ -76,37 +77,37 @@ module _ {S : Type 0} (remaining contents : S → Option (List ℕ)) where
     pub served : Served waits over owing does any_job ⊤ (has_ended wire_then) (is_closed wire_then)
         (standing opened Serves (remaining_on wire) (written_on contents wire) seat) endpoint (remaining_on wire_then) (written_on contents wire_then) seat_then
 
-  module _ (admitted : Admitted) where
-    -- the session of an application
-    abbrev pub SessionVisit : Type 0
-    SessionVisit =
-        Visit octets_of is_over (λ (e : EsmeView). is_any_request e.waiting) EsmeDoes (λ (e : EsmeView). is_any e.outbox.jobs) (opened_session admitted.accounts) Application
+  -- the session of an application, which is admitted by these accounts
+  abbrev pub SessionVisit : List Account → Type 0
+  SessionVisit accounts =
+      Visit octets_of is_over (λ (e : EsmeView). is_any_request e.waiting) EsmeDoes (λ (e : EsmeView). is_any e.outbox.jobs) (opened_session accounts) Application
 
+  module _ (admitted : Admitted) where
     -- the link of a handset
     abbrev pub LinkVisit : Type 0
     LinkVisit = Visit link_waits (λ (l : LinkView). l.is_over) (λ (l : LinkView). false) LinkDoes any_link_job (opened_link admitted.access) Handset
 
     pub data Connection : Type 0 where
-      Session : SessionVisit → Connection
+      Session : (accounts : List Account) → MayAdmit admitted.accounts accounts → SessionVisit accounts → Connection
       Link : LinkVisit → Connection
       -- There was no second handle of it or no memory for it. Nothing of it reached the seat, and nothing of the seat reached it.
       TurnedAway : Arrival S → Connection
 
     -- how it came
     abbrev pub came_as : Connection → Arrival S
-    came_as (Session visit) = visit.arrival
+    came_as (Session accounts may visit) = visit.arrival
     came_as (Link visit) = visit.arrival
     came_as (TurnedAway arrival) = arrival
 
     -- the calls of its endpoint, in order, and what the loop did at the seat by itself
     abbrev pub calls_of : Connection → List Call
-    calls_of (Session visit) = visit.served.served.calls ++ visit.served.left.calls
+    calls_of (Session accounts may visit) = visit.served.served.calls ++ visit.served.left.calls
     calls_of (Link visit) = visit.served.served.calls ++ visit.served.left.calls
     calls_of (TurnedAway arrival) = []
 
     -- it sat at the seat, which was so before and so behind it
     abbrev pub Sits : Seat Job Reply → Connection → Seat Job Reply → Type 0
-    Sits s (Session visit) t = (visit.seat ≡ s) × (visit.seat_then ≡ t)
+    Sits s (Session accounts may visit) t = (visit.seat ≡ s) × (visit.seat_then ≡ t)
     Sits s (Link visit) t = (visit.seat ≡ s) × (visit.seat_then ≡ t)
     Sits s (TurnedAway arrival) t = t ≡ s
 

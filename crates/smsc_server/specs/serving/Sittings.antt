@@ -28,7 +28,7 @@ module _ {S : Type 0} (remaining contents : S → Option (List ℕ)) (admitted :
 
   -- it sat down at a seat that had put and taken this
   abbrev pub SatDown : List (Option Job) → List Reply → Connection remaining contents admitted → Type 0
-  SatDown put taken (Session visit) = (put_by visit.seat ≡ put) × (taken_by visit.seat ≡ taken)
+  SatDown put taken (Session accounts may visit) = (put_by visit.seat ≡ put) × (taken_by visit.seat ≡ taken)
   SatDown put taken (Link visit) = (put_by visit.seat ≡ put) × (taken_by visit.seat ≡ taken)
   SatDown put taken (TurnedAway arrival) = ⊤
 

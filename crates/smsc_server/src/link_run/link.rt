@@ -1,9 +1,9 @@
 //! Frames over the link.
-ghost use Rattle.std.specs.Prelude.{◌≡◌, ◌++◌, ◌≤◌, ◌-◌, ℕ, List, map, length, option_map, IfOk, OnOk};
+ghost use Rattle.std.specs.Prelude.{◌≡◌, ◌++◌, ◌≤◌, ◌<◌, ◌+◌, ◌-◌, ℕ, List, map, length, option_map, None, Ok, IfOk, OnOk};
 ghost use Rattle.std.specs.Char.{encode_utf8};
 ghost use Rattle.std.specs.Str.{encode_utf8_all};
 ghost use Rattle.std.specs.Io.KnownBytes.{Appends};
-ghost use Rattle.sms_link.specs.framing.Framing.{framed, joined};
+ghost use Rattle.sms_link.specs.framing.Framing.{framed, front_of, joined};
 ghost use Rattle.sms_handset.specs.declared.event.HandsetEvent.TheVariants.{Tick as TickOf};
 ghost use Rattle.sms_handset.specs.machine.Stepping.{MakesTheChanges};
 ghost use Rattle.smsc_server.specs.link_run.Ends.{with_secret};
@@ -149,7 +149,7 @@ pub(crate) fn meet_frames<K: Keep<Rows = Rows, Changes = Changes> + Drop, W: Wri
     requires { MakesTheChanges K.after }
     ensures { IfOk result (λ left. (frames : List (List ℕ))
         × ((buffer.old ≡ joined frames ++ buffer.new) × Meets (map received frames) (core_in machine.old) (core_in machine.new) (W.contents link.old)
-        (W.contents link.new))) }
+        (W.contents link.new) × (length frames + left ≡ most) × (0 < left → front_of buffer.new ≡ Ok None))) }
 {
     let mut left = most;
     while left > 0 {

@@ -8,7 +8,7 @@ ghost use Rattle.smsc_server.specs.link_run.Asking.{event_of};
 ghost use Rattle.sms_handset.specs.declared.event.HandsetEvent.TheVariants.{Tick as TickOf};
 ghost use Rattle.sms_handset.specs.declared.event.HandsetEvent.{HandsetEvent as EventOf};
 ghost use Rattle.smsc_server.specs.link_run.Run.{Meets, received};
-ghost use Rattle.smsc_server.specs.link_run.Turns.{AreTimed, Attended};
+ghost use Rattle.smsc_server.specs.link_run.Turns.{AreTimed, Attended, LeavesFor};
 ghost use Rattle.smsc_server.specs.link_run.Ends.{IsRun, IsRunDone};
 ghost use Rattle.sms_handset.specs.machine.InMachine.{core_in};
 
@@ -65,7 +65,8 @@ fn turn<K: Keep<Rows = Rows, Changes = Changes> + Drop, R: Read, W: Write>(
     requires { MakesTheChanges K.after }
     ensures { IfOk result (λ left. (frames : List (List ℕ)) × (octets : List ℕ) × ((length octets ≤ 4096)
         × Consumes (R.remaining link_in.old) (R.remaining link_in.new) octets × (buffer.old ++ octets ≡ joined frames ++ buffer.new)
-        × Meets (TickOf now ∷ map received frames) (core_in machine.old) (core_in machine.new) (W.contents link_out.old) (W.contents link_out.new))) }
+        × Meets (TickOf now ∷ map received frames) (core_in machine.old) (core_in machine.new) (W.contents link_out.old) (W.contents link_out.new)
+        × LeavesFor most (length frames) octets buffer.new left)) }
 {
     tick(alloc, machine, now, link_out)?;
     let connected = receive(link_in, buffer)?;
@@ -83,12 +84,12 @@ fn attend<K: Keep<Rows = Rows, Changes = Changes> + Drop, R: Read, W: Write, C: 
     most: u32,
 ) -> Result<(), LinkStop>
     requires { MakesTheChanges K.after }
-    ensures { OnOk result ((rest : List ℕ) × Attended (C.reads clock.now) (R.remaining link_in.old) (R.remaining link_in.new) rest
+    ensures { OnOk result ((rest : List ℕ) × Attended (C.reads clock.now) most (R.remaining link_in.old) (R.remaining link_in.new) rest
         (core_in machine.old) (core_in machine.new) (W.contents link_out.old) (W.contents link_out.new)) }
 {
     let mut left = most;
     let mut buffer = FrameBuffer::new(alloc);
-    for _ in 0..u64::MAX {
+    for _turn in 0..u64::MAX {
         if left == 0 {
             return Ok(());
         }
@@ -152,8 +153,8 @@ pub fn run_handset<
     requires { MakesTheChanges K.after }
     // What is on the link behind the first frame is what the definition puts there for what the owner asked, and then for the
     // frames that were read. Before each act, and at each read, is one tick. The handset is the one that all these lead to. The answers are
-    // those of the acts, by how the handset is then.
-    ensures { IfOk result (IsRun (C.reads clock.now) (map event_of acts.now) number.now (option_map (λ s. s.now) secret.entry) (core_in machine.old) (core_in machine.new) (R.remaining link_in.old)
+    // those of the acts, by how the handset is then. It is done once so many frames were met, or a read brought nothing.
+    ensures { IfOk result (IsRun (C.reads clock.now) frames (map event_of acts.now) number.now (option_map (λ s. s.now) secret.entry) (core_in machine.old) (core_in machine.new) (R.remaining link_in.old)
         (R.remaining link_in.new) (W.contents link_out.old) (W.contents link_out.new) (A.contents answers.old) (A.contents answers.new)) }
 {
     match run(
@@ -178,7 +179,7 @@ fn run<K: Keep<Rows = Rows, Changes = Changes> + Drop, R: Read, W: Write, A: Wri
     frames: u32,
 ) -> Result<(), LinkStop>
     requires { MakesTheChanges K.after }
-    ensures { OnOk result (IsRunDone (C.reads clock.now) (map event_of acts.now) number.now (option_map (λ s. s.now) secret.entry) (core_in machine.old) (core_in machine.new) (R.remaining link_in.old)
+    ensures { OnOk result (IsRunDone (C.reads clock.now) frames (map event_of acts.now) number.now (option_map (λ s. s.now) secret.entry) (core_in machine.old) (core_in machine.new) (R.remaining link_in.old)
         (R.remaining link_in.new) (W.contents link_out.old) (W.contents link_out.new) (A.contents answers.old) (A.contents answers.new)) }
 {
     greet(alloc, link_out, number.digits.as_slice(), secret)?;

@@ -1,18 +1,19 @@
 //! The threads of the seats.
-ghost use Rattle.std.specs.Prelude.{◌≡◌, List, [], IfOk, ⊤};
+ghost use Rattle.std.specs.Prelude.{◌≡◌, [], IfOk, ⊤};
 ghost use Rattle.std.specs.declared.net.socket_addr.SocketAddr.{SocketAddr as PeerOf};
 ghost use Rattle.std.specs.Arc.{arc_value};
-ghost use Rattle.smpp_session.specs.declared.account.Account.{Account as AccountOf};
 ghost use Rattle.smsc_endpoint.specs.declared.link_access.LinkAccess.{LinkAccess as AccessOf};
 ghost use Rattle.sms_seats.specs.Seats.{IsSameSeat, put_by, taken_by};
 ghost use Rattle.smsc_loop.specs.Owing.{IsCleared};
 ghost use Rattle.smsc_arrivals.specs.Ways.{IsSameTaker, taken_by as items_taken};
 ghost use Rattle.smsc_arrivals.specs.declared.arrival.Side.TheVariants.{Application as ForApplication, Handset as ForHandset};
 ghost use Rattle.smsc_server.specs.serving.SeatEvents.{ends_intake as ends_intake_after, ends_waiting as ends_waiting_after};
+ghost use Rattle.smsc_server.specs.serving.AccountBooks.{Book};
 ghost use Rattle.smsc_server.specs.serving.Connections.{HasSat, IsOpened, admits, arrival_of};
 ghost use Rattle.smsc_server.specs.serving.Entering.{arrivals_among};
 ghost use Rattle.smsc_server.specs.serving.Sittings.{HaveSat, IsHandedBack};
 
+use crate::serving::account_book::AccountBook;
 use crate::serving::board::Board;
 use crate::serving::clock::milliseconds;
 use crate::serving::connection::Socket;
@@ -21,7 +22,7 @@ use crate::serving::observer::Observer;
 use crate::serving::refusing::no_room;
 use crate::serving::telling::{NO_ACCOUNT, account_in, event_of_note};
 use crossbeam_channel::Sender;
-use smpp_session::{Accounts, FullAccounts};
+use smpp_session::FullAccounts;
 use sms_centre_spec::jobs::{Job, Reply};
 use sms_keeper::Seat;
 use smsc_arrivals::{Arrival, Reading, Side};
@@ -47,7 +48,7 @@ const STOP_LIMIT: u64 = 7_000;
 pub(crate) struct SeatContext<R, S: Read, T> {
     pub(crate) rt: R,
     pub(crate) alloc: Global,
-    pub(crate) accounts: Arc<Accounts>,
+    pub(crate) accounts: Arc<AccountBook>,
     pub(crate) access: Arc<LinkAccess>,
     pub(crate) observer: Arc<T>,
     pub(crate) board: Arc<Board>,
@@ -218,15 +219,15 @@ fn refuse_new<A: Surroundings, W: Wire>(side: Side, around: &A, seat: &OpenSeat,
 fn serve_application<R: Wait + Clock, S: OpenStream + Read + Write + Drop, T: Observer>(
     rt: &R,
     alloc: Global,
-    accounts: &Arc<Accounts>,
+    book: &AccountBook,
     around: &SeatSurroundings<'_, R, T>,
     seat: &mut OpenSeat,
     wire: &mut Socket<S>,
 )
     ensures { (stream reader : S) → IsOpened S.remaining S.contents stream reader wire.old → (access : AccessOf) (peer : PeerOf)
-        → HasSat S.remaining S.contents (admits (arc_value accounts.now) access) (arrival_of stream ForApplication peer) seat.old.seat seat.new.seat }
+        → HasSat S.remaining S.contents (admits book.now access) (arrival_of stream ForApplication peer) seat.old.seat seat.new.seat }
 {
-    let Ok(accounts) = Arc::try_clone(accounts) else {
+    let Ok(accounts) = book.in_force(rt) else {
         return refuse_new(Side::Application, around, seat, wire);
     };
     let mut endpoint = Esme::new(alloc, accounts);
@@ -241,8 +242,8 @@ fn serve_handset<R: Wait + Clock, S: OpenStream + Read + Write + Drop, T: Observ
     seat: &mut OpenSeat,
     wire: &mut Socket<S>,
 )
-    ensures { (stream reader : S) → IsOpened S.remaining S.contents stream reader wire.old → (accounts : List AccountOf) (peer : PeerOf)
-        → HasSat S.remaining S.contents (admits accounts (arc_value access.now)) (arrival_of stream ForHandset peer) seat.old.seat seat.new.seat }
+    ensures { (stream reader : S) → IsOpened S.remaining S.contents stream reader wire.old → (book : Book) (peer : PeerOf)
+        → HasSat S.remaining S.contents (admits book (arc_value access.now)) (arrival_of stream ForHandset peer) seat.old.seat seat.new.seat }
 {
     let Ok(access) = Arc::try_clone(access) else {
         return refuse_new(Side::Handset, around, seat, wire);

@@ -8,7 +8,7 @@ use crate::serving::run::serve;
 use crate::serving::server::Given;
 use sms_keeper::{Clock, Gate};
 use smsc_arrivals::Doors;
-use smsc_service::CentreStore;
+use smsc_service::{CentreStore, Forgetting, NoArchive};
 use std::alloc::Global;
 use std::io;
 use std::net::{Ipv4Addr, Net, SocketAddr, TcpListener, TcpStream};
@@ -40,12 +40,12 @@ fn open<N: Net<Listener = TcpListener, Stream = TcpStream>>(
     Ok((ports, loopback))
 }
 
-// Neither the listeners nor the keep is needed any more.
+// Neither the listeners nor the keep is needed any more, and nothing was archived.
 fn drop_given<L: Drop, K: Drop>(
-    served: Result<(Doors<L>, K), ServeFault>,
+    served: Result<(Doors<L>, K, NoArchive), ServeFault>,
 ) -> Result<(), ServeFault> {
     match served {
-        Ok((doors, keep)) => {
+        Ok((doors, keep, _)) => {
             drop(doors);
             drop(keep);
             Ok(())
@@ -54,8 +54,8 @@ fn drop_given<L: Drop, K: Drop>(
     }
 }
 
-/// Serves the connections of two free ports of this machine, as `serve` does, in a thread beside the work, which makes them. Gives
-/// how the server ended, and what the work gave.
+/// Serves the connections of two free ports of this machine, as `serve` does, in a thread beside the work, which makes them. It forgets
+/// nothing. Gives how the server ended, and what the work gave.
 ///
 /// # Errors
 /// The system gave no port, and neither was begun.
@@ -89,7 +89,13 @@ pub fn loopback_pair<
         &rt,
         move ||
             requires observer { IsSend T.row }
-        { drop_given(serve(rt, alloc, keep, gate, clock, ports, given)) },
+        {
+            let forgetting = Forgetting {
+                keep: None,
+                archive: NoArchive,
+            };
+            drop_given(serve(rt, alloc, keep, forgetting, gate, clock, ports, given))
+        },
         move || work(loopback),
     );
     Ok(both)

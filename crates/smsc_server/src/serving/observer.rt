@@ -22,6 +22,8 @@ pub enum Event {
     NotAccepted,
     /// The store refused a group, and the centre started again with its rows.
     Reopened,
+    /// The store refused a group, and could not be read again. Each request is refused until the run has ended.
+    Failed,
     /// The store has a new message of this number, to the handset of these digits.
     Accepted(MessageId, Digits),
     /// The store has the end of the message of this number.

@@ -2,8 +2,9 @@
 ghost use Rattle.std.specs.Prelude.{◌≡◌};
 ghost use Rattle.smsc_server.specs.serving.SeatOrders.{order_of};
 
+use sms_base::MessageId;
 use smsc_loop::Order;
-use smsc_service::Cutoff;
+use smsc_service::{Cutoff, Order as MessageOrder, OrderDesk, OrderOutcome};
 use std::alloc::{AllocError, Global};
 use std::sync::Arc;
 use std::sync::atomic::{AtomicBool, AtomicU8, Ordering};
@@ -47,6 +48,8 @@ pub struct Orders {
     cut: AtomicBool,
     // Behind it the centre begins nothing.
     cutoff: Arc<Cutoff>,
+    // Where orders of messages wait for the centre.
+    desk: Arc<OrderDesk>,
 }
 
 impl Orders {
@@ -61,6 +64,7 @@ impl Orders {
             stop: AtomicBool::new(false),
             cut: AtomicBool::new(false),
             cutoff: Arc::new(alloc, Cutoff::new())?,
+            desk: Arc::new(alloc, OrderDesk::new())?,
         })
     }
 
@@ -77,6 +81,20 @@ impl Orders {
     /// What keeps the centre from beginning anything, once the time of a run that is to end is nearly over.
     pub(crate) fn cutoff(&self) -> &Arc<Cutoff> {
         &self.cutoff
+    }
+
+    pub(crate) fn desk(&self) -> &Arc<OrderDesk> {
+        &self.desk
+    }
+
+    /// Orders something of a message. False where another such order is not done yet. One thread alone orders such.
+    pub fn order(&self, order: MessageOrder, id: MessageId) -> bool {
+        self.desk.put(order, id)
+    }
+
+    /// What came of the order of a message, once it is done.
+    pub fn outcome(&self) -> Option<OrderOutcome> {
+        self.desk.outcome()
     }
 
     /// Whether the run is to end.

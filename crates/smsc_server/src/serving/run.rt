@@ -12,8 +12,8 @@ ghost use Rattle.sms_keeper.specs.Seating.{IsNewKeeper, IsUnchanged};
 ghost use Rattle.sms_seats.specs.declared.seat.Seat.{Seat as SeatOf};
 ghost use Rattle.sms_seats.specs.Seats.{put_by, taken_by};
 ghost use Rattle.sms_rows.specs.keep.StoreOutcome.{WasHonest};
-ghost use Rattle.smsc_service.specs.InService.{HasHonestStore, IsServedBy, store_in};
-ghost use Rattle.smsc_service.specs.Serving.{after, gives};
+ghost use Rattle.smsc_service.specs.Course.{after, gives};
+ghost use Rattle.smsc_service.specs.InService.{HasHonestStore, IsRunAs, store_in};
 ghost use Rattle.smsc_arrivals.specs.Sharing.{of};
 ghost use Rattle.smsc_arrivals.specs.Ways.{made_by, settled_at};
 ghost use Rattle.smsc_arrivals.specs.declared.arrival.Arrival.{Arrival as ArrivalOf};
@@ -25,11 +25,12 @@ ghost use Rattle.smsc_server.specs.serving.SeatThreads.{AreAt, AreWays, HaveAdmi
 ghost use Rattle.smsc_server.specs.serving.Serving.{IsOneHistory, IsServed};
 ghost use Rattle.smsc_server.specs.serving.Sittings.{SeatDid};
 
+use crate::connection_laws::each_connection_reads_the_centres_answers;
 use crate::serving::connection::Ports;
 use crate::serving::entrance::{Entrance, EntranceThread};
 use crate::serving::fault::ServeFault;
 use crate::serving::observer::{Event, Observer};
-use crate::serving::orders::SEATS;
+use crate::serving::orders::{Orders, SEATS};
 use crate::serving::poller::Poller;
 use crate::serving::seat_thread::{SeatThread, give_up, settle_all, take_back_all};
 use crate::serving::server::{Given, SLOTS, Server, Shared, start_entrance};
@@ -37,7 +38,7 @@ use sms_centre_spec::jobs::{Job, Reply};
 use sms_hub::{Hub, run_terms};
 use sms_keeper::{Clock, Gate, Item, Keeper, Machine, Recorder, Seat};
 use smsc_arrivals::{Door, Doors};
-use smsc_service::{CentreStore, serve_with};
+use smsc_service::{Archive, CentreStore, Forgetting, serve_with};
 use std::alloc::Global;
 use std::io::{Read, Write};
 use std::net::OpenStream;
@@ -45,10 +46,12 @@ use std::sync::Wait;
 use std::thread::Threads;
 use std::time::Clock as SystemClock;
 
-// Tells how large groups were, and that the store refused one. It keeps no item.
+// Tells how large groups were, and that the store refused one. It keeps no item. Where the machine could not be opened again, it orders
+// the run to end: each seat leaves once its requests have their answers.
 #[derive(Drop)]
 struct Watch<'a, T> {
     observer: &'a T,
+    orders: &'a Orders,
 }
 
 impl<'a, T: Observer> Recorder<Job, Reply> for Watch<'a, T> {
@@ -65,6 +68,11 @@ impl<'a, T: Observer> Recorder<Job, Reply> for Watch<'a, T> {
     fn reopened(&mut self) {
         self.observer.observe(&Event::Reopened);
     }
+
+    fn failed(&mut self) {
+        self.observer.observe(&Event::Failed);
+        self.orders.stop();
+    }
 }
 
 // Runs the keeper while the threads of the run put what their connections ask.
@@ -75,16 +83,22 @@ fn run_keeper<R: Wait, M: Machine<Job, Reply>, G: Gate, C: Clock, T: Observer>(
     gate: &G,
     clock: &C,
     observer: &T,
+    orders: &Orders,
     keeper: &mut Keeper<Job, Reply>,
 ) -> Result<(), ServeFault>
     ensures ran { IfOk result (λ _. Ran (C.reads clock.now) M.gives M.after (M.is_honest machine.new)
         (Between (M.stands machine.old)) (Between (M.stands machine.new)) (λ told. ⊤) (λ told. ⊤) keeper.old keeper.new) }
-    ensures closed { IfOk result (λ _. IsClosed keeper.new) }
+    // Also where it could not be opened again.
+    ensures failed { IfErr result (λ _. Ran (C.reads clock.now) M.gives M.after (M.is_honest machine.new)
+        (Between (M.stands machine.old)) (M.fails_as machine.new) (λ told. ⊤) (λ told. ⊤) keeper.old keeper.new) }
+    ensures closed { IsClosed keeper.new }
     ensures before { M.is_honest machine.new → M.is_honest machine.old }
 {
-    let mut watch = Watch { observer };
-    run_terms(rt, alloc, keeper, machine, gate, clock, &mut watch)?;
-    Ok(())
+    let mut watch = Watch { observer, orders };
+    match run_terms(rt, alloc, keeper, machine, gate, clock, &mut watch) {
+        Ok(()) => Ok(()),
+        Err(fault) => Err(ServeFault::from(fault)),
+    }
 }
 
 // Takes all seats back, and what was given to none. Gives the listeners.
@@ -145,6 +159,11 @@ fn run_started<
         → HaveEntered L.came doors entrance.promise.entrance.value
         → IsOneHistory S.remaining S.contents admitted (C.reads clock.now) L.came doors doors_then
         M.gives M.after (M.is_honest machine.new) (Between (M.stands machine.old)) (Between (M.stands machine.new))) }
+    // So it is where the machine could not be opened again: each job that a connection put was run, or refused, and given its replies.
+    ensures failed { IfErr result (λ _. (admitted : Admitted) (doors : DoorsOf L) → HaveAdmitted admitted server.seats.items
+        → HaveEntered L.came doors entrance.promise.entrance.value
+        → (doors_then : DoorsOf L) × IsOneHistory S.remaining S.contents admitted (C.reads clock.now) L.came doors doors_then
+        M.gives M.after (M.is_honest machine.new) (Between (M.stands machine.old)) (M.fails_as machine.new)) }
     ensures before { M.is_honest machine.new → M.is_honest machine.old }
 {
     let mut keeper = keeper;
@@ -155,6 +174,7 @@ fn run_started<
         gate,
         clock,
         &*shared.observer,
+        &*shared.board.orders,
         &mut keeper,
     );
     shared.board.end();
@@ -166,8 +186,9 @@ fn run_started<
             Ok(close_all(rt, alloc, &mut keeper, entrance, threads))
         }
         Err(fault) => {
-            drop(entrance);
-            give_up(rt, threads);
+            keeper.know_others();
+            let doors = close_all(rt, alloc, &mut keeper, entrance, threads);
+            drop(doors);
             Err(fault)
         }
     }
@@ -248,26 +269,28 @@ where
     }
 }
 
-// What a run that ended in order gives: the listeners, and the keep.
-fn with_keep<L: Drop, K: Drop>(
+// What a run that ended in order gives: the listeners, the keep and the archive.
+fn with_parts<L: Drop, K: Drop, A: Drop>(
     ended: Result<Doors<L>, ServeFault>,
     keep: K,
-) -> Result<(Doors<L>, K), ServeFault>
-    ensures given { IfOk result (λ given. (ended ≡ Ok given.0) × (given.1 ≡ keep)) }
+    archive: A,
+) -> Result<(Doors<L>, K, A), ServeFault>
+    ensures given { IfOk result (λ given. (ended ≡ Ok given.0) × (given.1 ≡ keep) × (given.2 ≡ archive)) }
     ensures fault { IfErr result (λ fault. ended ≡ Err fault) }
 {
     match ended {
-        Ok(doors) => Ok((doors, keep)),
+        Ok(doors) => Ok((doors, keep, archive)),
         Err(fault) => {
             drop(keep);
+            drop(archive);
             Err(fault)
         }
     }
 }
 
 /// Starts a centre with the rows of a keep, and serves the connections of two ports. It ends once as many were served as are given,
-/// or the run is ordered to end. Then it gives the listeners back, and the keep. At most 32 connections are open at once. Those beyond
-/// wait unaccepted, and each is accepted as a seat becomes free.
+/// or the run is ordered to end. Then it gives the listeners back, the keep and the archive. At most 32 connections are open at once. Those beyond
+/// wait unaccepted, and each is accepted as a seat becomes free. As it runs it forgets what it is to forget.
 ///
 /// # Errors
 /// The store gave no rows, or they are not sound. A growth, a thread or a file was refused. Or the store refused a step and could not
@@ -275,6 +298,7 @@ fn with_keep<L: Drop, K: Drop>(
 pub fn serve<
     R: Threads + Wait + SystemClock + Copy + Send + 'static,
     K: CentreStore + Drop,
+    A: Archive + Drop,
     G: Gate,
     C: Clock,
     L: Door + Drop + Send + 'static,
@@ -283,35 +307,43 @@ pub fn serve<
     rt: R,
     alloc: Global,
     keep: K,
+    forgetting: Forgetting<A>,
     gate: &G,
     clock: &C,
     ports: Ports<L>,
     given: &Given<T>,
-) -> Result<(Doors<L>, K), ServeFault>
+) -> Result<(Doors<L>, K, A), ServeFault>
 where
     L::Stream: OpenStream + Read + Write + Send + 'static,
     // What its connections asked was run, and is one history of the centre's definition. It begins with the rows of the keep and nobody
-    // at any seat. The connections are those that came at the ports. The keep that is given back holds the rows of its end.
+    // at any seat. The connections are those that came at the ports. Each read the centre's answers to its own requests in its own part of that
+    // history, and had all replies of that part. The keep that is given back holds the rows of the end. Each message that went is kept by the
+    // archive that is given back, with the number of its parts.
     ensures served { IfOk result (λ ended. IsServed L.Stream.remaining L.Stream.contents
-        (admits (arc_value given.now.accounts) (arc_value given.now.access)) (C.reads clock.now) L.came (doors_of ports) ended.0 K.state keep ended.1) }
+        (admits (arc_value given.now.accounts) (arc_value given.now.access)) (C.reads clock.now) L.came (doors_of ports) ended.0 K.state A.keeps keep
+        ended.1 ended.2) }
 {
+    each_connection_reads_the_centres_answers::<L::Stream>();
     let served = serve_with(
         alloc,
         keep,
         given.links.as_ref(),
         given.orders.cutoff(),
+        given.orders.desk(),
+        forgetting,
         |service|
             requires listener { IsSend L.row }
             requires stream { IsSend L.Stream.row }
             requires observer { IsSend T.row }
             ensures history { IfOk result (λ doors. IsOneHistory L.Stream.remaining L.Stream.contents
                 (admits (arc_value given.entry.now.accounts) (arc_value given.entry.now.access)) (C.reads clock.entry.now)
-                L.came (doors_of ports) doors gives after (HasHonestStore K.state service.new) (IsServedBy K.state service.old) (IsServedBy K.state service.new)) }
+                L.came (doors_of ports) doors gives after (HasHonestStore K.state service.new) (IsRunAs K.state A.keeps service.old)
+                (IsRunAs K.state A.keeps service.new)) }
             ensures before { WasHonest (K.state (store_in service.old)) (K.state (store_in service.new)) }
         { serve_machine(rt, alloc, service, gate, clock, ports, given) },
     );
     match served {
-        Ok((ended, keep)) => with_keep(ended, keep),
+        Ok((ended, keep, archive)) => with_parts(ended, keep, archive),
         Err(error) => Err(ServeFault::from(error)),
     }
 }

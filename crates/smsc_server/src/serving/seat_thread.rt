@@ -14,11 +14,11 @@ ghost use Rattle.smsc_server.specs.serving.Entering.{arrivals_among};
 ghost use Rattle.smsc_server.specs.serving.SeatThreads.{AreAt, AreWays, HaveAdmitted, admitted_by, end_of, seat_in};
 ghost use Rattle.smsc_server.specs.serving.Sittings.{IsHandedBack, SeatDid};
 
+use crate::serving::account_book::AccountBook;
 use crate::serving::endpoints::{Returned, SeatContext, serve_seat};
 use crate::serving::entrance::{ArrivalGiver, ArrivalTaker};
 use crate::serving::fault::ServeFault;
 use crate::serving::observer::Observer;
-use smpp_session::Accounts;
 use sms_centre_spec::jobs::{Job, Reply};
 use sms_keeper::{Keeper, Seat};
 use smsc_endpoint::LinkAccess;
@@ -35,7 +35,7 @@ use std::time::Clock;
 #[derive(Drop)]
 pub(crate) struct SeatPromise<S: Drop> {
     pub(crate) seat: Snapshot<Seat<Job, Reply>>,
-    pub(crate) accounts: Snapshot<Arc<Accounts>>,
+    pub(crate) accounts: Snapshot<Arc<AccountBook>>,
     pub(crate) access: Snapshot<Arc<LinkAccess>>,
     pub(crate) taker: Snapshot<ArrivalTaker<S>>,
 }

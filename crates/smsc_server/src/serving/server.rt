@@ -12,6 +12,7 @@ ghost use Rattle.smsc_server.specs.serving.Entering.{HasSameSeats, HaveEntered};
 ghost use Rattle.smsc_server.specs.serving.SeatThreads.{HasOneMore, HaveStarted, IsThreadOf, SeatThread as ThreadOf, end_of};
 
 use crate::serving::accepting::{Acceptor, accept_all};
+use crate::serving::account_book::AccountBook;
 use crate::serving::allowances::Allowances;
 use crate::serving::board::Board;
 use crate::serving::endpoints::SeatContext;
@@ -25,7 +26,6 @@ use crate::serving::poller::Poller;
 use crate::serving::seat_thread::{SeatThread, start_thread};
 use crossbeam_channel::{Sender, bounded};
 use mio::Waker;
-use smpp_session::Accounts;
 use sms_centre_spec::jobs::{Job, Reply};
 use sms_keeper::Seat;
 use smsc_arrivals::{Door, Doors, Reader, Reading, share};
@@ -45,8 +45,8 @@ pub(crate) const SLOTS: usize = 1024;
 /// What the threads of a run are given.
 #[derive(Drop)]
 pub struct Given<T> {
-    /// Who may bind.
-    pub accounts: Arc<Accounts>,
+    /// Who may bind. Whoever has it may renew it as the run goes on, where it is one that is renewed.
+    pub accounts: Arc<AccountBook>,
     /// Who may have the link of a number.
     pub access: Arc<LinkAccess>,
     /// The observer of the run.
@@ -64,7 +64,7 @@ pub struct Given<T> {
 /// What the threads of a run share.
 #[derive(Drop)]
 pub(crate) struct Shared<T> {
-    accounts: Arc<Accounts>,
+    accounts: Arc<AccountBook>,
     access: Arc<LinkAccess>,
     pub(crate) observer: Arc<T>,
     pub(crate) board: Arc<Board>,

@@ -120,7 +120,8 @@ impl Counters {
             | Event::Unknown(_, _, _)
             | Event::SeatsFull(_)
             | Event::NotAccepted
-            | Event::Reopened => (),
+            | Event::Reopened
+            | Event::Failed => (),
         }
     }
 

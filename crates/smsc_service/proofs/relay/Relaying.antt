@@ -2,7 +2,7 @@
 use Rattle.std.specs.declared.alloc.AllocError.{AllocError}
 use Rattle.std.proofs.Common.{◌≡◌, ℕ, List, [], Option, Result, Ok, Err, IfOk, refl, sym, subst}
 use Rattle.sms_base.specs.Address.{IsAddress}
-use Rattle.sms_base.specs.HandsetNumber.{own_address}
+use Rattle.sms_base.specs.HandsetNumber.{own_address, IsOwnAddress}
 use Rattle.sms_base.specs.declared.address.Address.{Address}
 use Rattle.sms_centre.specs.state.CentreState.{Represents, CentreStateOf}
 use Rattle.sms_centre_spec.specs.CentreEvent.{started}
@@ -15,7 +15,6 @@ use Rattle.smsc_service.specs.relay.relay_laws.Relaying.{Relays, centre_for, des
 use Rattle.smsc_service.specs.declared.relay.relay_laws.relayed.Relayed.{Relayed}
 use Rattle.sms_centre_rows.specs.reports.Receipts.{Session}
 use Rattle.sms_centre_rows.specs.waiting.SoundAllocations.{IsNumber}
-use Rattle.smsc_cli.specs.words.OwnAddress.{IsOwnAddress}
 use Rattle.smsc_service.specs.relay.Sending.{SendsFor}
 
 -- ---- the sender

@@ -2,14 +2,13 @@
 ghost use Rattle.std.specs.Prelude.{◌≡◌, ◌<◌, ◌≤◌, ℕ, List, IfOk, IsOk, length};
 ghost use Rattle.sms_base.specs.Address.{IsAddress};
 ghost use Rattle.sms_base.specs.Among.{Among};
-ghost use Rattle.sms_base.specs.HandsetNumber.{own_address};
+ghost use Rattle.sms_base.specs.HandsetNumber.{own_address, IsOwnAddress};
 ghost use Rattle.sms_base.specs.Reading.{AreOctets};
 ghost use Rattle.sms_base.specs.TimeStamp.{IsMoment};
 ghost use Rattle.sms_relay.specs.RelayReading.{up_at};
 ghost use Rattle.smsc_service.specs.relay.relay_laws.Relay.{IsAnswerUnit, IsRelayed};
 ghost use Rattle.smsc_service.specs.relay.relay_laws.Relaying.{Relays, destination_of, frame_for, handsets_for};
 ghost use Rattle.sms_centre_rows.specs.waiting.SoundAllocations.{IsNumber};
-ghost use Rattle.smsc_cli.specs.words.OwnAddress.{IsOwnAddress};
 
 use crate::relay::centre::relay_started;
 use crate::relay::relay_laws::laws::{an_empty_centre_relays_a_unit, handsets_can_have_links};

@@ -2,7 +2,7 @@
 ghost use Rattle.std.specs.Prelude.{◌≡◌, []};
 ghost use Rattle.sms_seats.specs.Seats.{put_by};
 
-use crate::hub::counter::{Counter, Open, Reply};
+use crate::hub::counter::{Counter, Open, Reply, Still};
 use crate::hub::told::Told;
 use crate::rows::holds;
 use sms_base::Moment;
@@ -78,5 +78,32 @@ fn a_tick_precedes_a_job_where_the_clock_moved(rt: HostRuntime) -> Result<(), Fa
     holds(
         ticks(&rt, rt.alloc(), &mut keeper, &clock),
         "ticks and jobs",
+    )
+}
+
+fn are_places(errands: &[usize], first: usize, second: usize) -> bool {
+    errands.len() == 2 && errands[0] == first && errands[1] == second
+}
+
+// A tick is the first item. The errands are the two behind it, and the jobs the last two.
+fn errands<R: Wait>(rt: &R, alloc: Global, keeper: &mut Keeper<u32, Reply>, clock: &Still) -> bool {
+    let mut machine = Counter::new(0, true);
+    machine.errands = 2;
+    let mut told = Told::new(alloc);
+    let end = keeper.run(rt, alloc, &mut machine, &Open, clock, &mut told);
+    end == End::AllClosed
+        && told.items == 5
+        && told.jobs == 2
+        && are_places(told.errands.as_slice(), 2, 3)
+}
+
+#[test]
+fn an_errand_precedes_the_jobs_that_wait(rt: HostRuntime) -> Result<(), Fail> {
+    let clock = Still(Moment::from_seconds(1_709_251_198)?);
+    let (mut keeper, mut a, mut b) = Hub::new::<u32, Reply>(rt.alloc(), 4)?;
+    holds(put_all(&rt, &mut a, &mut b), "all is put")?;
+    holds(
+        errands(&rt, rt.alloc(), &mut keeper, &clock),
+        "errands and jobs",
     )
 }

@@ -1,8 +1,8 @@
 //! A machine that adds up the jobs.
 ghost use Rattle.std.specs.Prelude.{◌≡◌, ◌==◌, if◌then◌else◌, [], ◌∷◌};
 
-use sms_base::Moment;
-use sms_hub::{Broken, Clock, Fate, Gate, Machine, Out, Outs, Step, Stimulus, Unsettled};
+use sms_base::{MessageId, Moment};
+use sms_hub::{Broken, Clock, Errand, Fate, Gate, Machine, Out, Outs, Step, Stimulus, Unsettled};
 
 /// What the machine answers.
 #[derive(Clone, Copy, Debug, PartialEq, Eq)]
@@ -29,6 +29,8 @@ pub struct Counter {
     pub opens: bool,
     pub opened: u64,
     pub broken: bool,
+    /// So many errands it has still.
+    pub errands: u64,
 }
 
 impl Counter {
@@ -42,6 +44,7 @@ impl Counter {
             opens,
             opened: 0,
             broken: false,
+            errands: 0,
         }
     }
 
@@ -56,6 +59,7 @@ impl Counter {
             opens: true,
             opened: 0,
             broken: false,
+            errands: 0,
         }
     }
 }
@@ -118,6 +122,8 @@ impl Machine<u32, Reply> for Counter {
 
     ghost resumes = { λ m s. m.kept ≡ s };
 
+    ghost fails_as = { λ m s. m.kept ≡ s };
+
     ghost is_honest = { λ m. ⊤ };
 
     ghost is_broken = { λ m. m.broken ≡ true };
@@ -128,6 +134,13 @@ impl Machine<u32, Reply> for Counter {
 
     ghost after = { sum_after };
 
+    fn errand(&self, _now: Moment) -> Option<Errand> {
+        if self.errands == 0 {
+            return None;
+        }
+        Some(Errand::Retry(MessageId::new(1)?))
+    }
+
     fn step(&mut self, stimulus: &Stimulus<u32>) -> Step<Reply> {
         match stimulus {
             Stimulus::Tick(_) => Step {
@@ -135,6 +148,14 @@ impl Machine<u32, Reply> for Counter {
                 outs: Outs::none(),
                 if_refused: Outs::none(),
             },
+            Stimulus::Own(_) => {
+                self.errands = self.errands.saturating_sub(1);
+                Step {
+                    fate: Fate::Done,
+                    outs: Outs::none(),
+                    if_refused: Outs::none(),
+                }
+            }
             Stimulus::Job(seat, job) => self.add(*seat, *job),
         }
     }
@@ -158,6 +179,13 @@ impl Machine<u32, Reply> for Counter {
         self.sum = self.kept;
         self.opened = self.opened.wrapping_add(1);
         Ok(())
+    }
+
+    fn refuse(&mut self, stimulus: &Stimulus<u32>) -> Outs<Reply> {
+        match stimulus {
+            Stimulus::Job(seat, _) => answer(*seat, Reply::Failed),
+            Stimulus::Tick(_) | Stimulus::Own(_) => Outs::none(),
+        }
     }
 }
 

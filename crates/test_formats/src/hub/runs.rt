@@ -46,7 +46,17 @@ fn are_run(run: &(Vec<Reply>, Vec<Reply>), machine: &Counter, told: &Told) -> bo
         && told.reopened as u64 == refusals
 }
 
-// A machine that can't be opened again ends the run.
+// Each of the five jobs was answered, in a group that was committed or with a refusal. What the machine keeps is what was not refused.
+fn are_answered(machine: &Counter, told: &Told) -> bool {
+    told.jobs == 5
+        && told.outs == 5
+        && told.refused >= 1
+        && told.failed == 1
+        && told.reopened == 0
+        && machine.kept.wrapping_add(told.missing) == 36
+}
+
+// A machine that can't be opened again ends the run. The jobs are answered first, also those that no group took.
 fn is_two(
     run: &Result<(Vec<Reply>, Vec<Reply>), HubFault>,
     machine: &Counter,
@@ -54,7 +64,9 @@ fn is_two(
 ) -> bool {
     match run {
         Ok(run) => machine.opens && are_run(run, machine, told),
-        Err(fault) => !machine.opens && *fault == HubFault::MachineFailed,
+        Err(fault) => {
+            !machine.opens && *fault == HubFault::MachineFailed && are_answered(machine, told)
+        }
     }
 }
 
@@ -78,7 +90,9 @@ const MACHINES: &[(u64, bool, &str)] = &[
     (3, true, "the third job is refused"),
     (4, true, "the fourth job is refused"),
     (5, true, "the fifth job is refused"),
+    (1, false, "a machine that fails at its first job"),
     (3, false, "a machine that fails"),
+    (5, false, "a machine that fails at its last job"),
 ];
 
 #[test]

@@ -3,9 +3,10 @@ ghost use Rattle.std.specs.Prelude.{Some};
 
 use crate::clock_and_gate::Open;
 use crate::rows::holds;
-use crate::service::centre::{clock, keep, logins};
+use crate::service::centre::{book, clock, keep};
 use smsc_endpoint::LinkAccess;
 use smsc_server::{Allowances, Door, Doors, Event, Given, Observer, Orders, Ports, Side, serve};
+use smsc_service::{Forgetting, NoArchive};
 use std::alloc::Global;
 use std::io::{self, ErrorKind, Read, Write};
 use std::net::{
@@ -144,7 +145,7 @@ fn given(alloc: Global, sessions: u32) -> Result<Given<Sums>, Fail> {
         links: AtomicU32::new(0),
     };
     Ok(Given {
-        accounts: logins(alloc)?,
+        accounts: book(alloc)?,
         access: Arc::new(alloc, LinkAccess::Anyone)?,
         observer: Arc::new(alloc, sums)?,
         orders: Arc::new(alloc, orders)?,
@@ -168,8 +169,21 @@ fn run<
     let links = opened(&rt, alloc, 3)?;
     let ports = Ports::of(&rt, alloc, applications, links)?;
     let clock = clock()?;
-    match serve(rt, alloc, keep(alloc)?, &Open, &clock, ports, taken) {
-        Ok((doors, store)) => {
+    let forgetting = Forgetting {
+        keep: None,
+        archive: NoArchive,
+    };
+    match serve(
+        rt,
+        alloc,
+        keep(alloc)?,
+        forgetting,
+        &Open,
+        &clock,
+        ports,
+        taken,
+    ) {
+        Ok((doors, store, _)) => {
             drop(store);
             Ok(doors)
         }

@@ -1,6 +1,6 @@
 //! What a run of the server is given in a test.
 use crate::rows::holds;
-use crate::service::centre::{clock, logins};
+use crate::service::centre::{book, clock};
 use sms_base::FinalState;
 use sms_keeper::Gate;
 use smsc_endpoint::LinkAccess;
@@ -76,7 +76,7 @@ fn is_over(ended: &Result<(), ServeFault>, came: Result<(), Fail>) -> Result<(),
 
 // A run for so many connections: app1 may bind with the password secret. It may have so many sessions at once as the limits say.
 fn given(alloc: Global, sessions: u32, limits: Vec<u8>) -> Result<Given<Silent>, Fail> {
-    let accounts = logins(alloc)?;
+    let accounts = book(alloc)?;
     let orders = orders(alloc)?;
     let allowances = Allowances::new(alloc, limits.as_slice(), &[])?;
     Ok(Given {

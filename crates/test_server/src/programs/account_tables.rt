@@ -52,7 +52,9 @@ const MORE: &[(&str, bool)] = &[
     ("password = \"a\"\nsources = []", false),
     ("password = \"a\"\nsources = [5]", false),
     ("password = \"a\"\nsources = [\"\"]", false),
-    ("password = \"a\"\nsources = [\"*\"]", true),
+    ("password = \"a\"\nsources = [\"*\"]", false),
+    ("password = \"a\"\nsources = [\"Bank*\"]", false),
+    ("password = \"a\"\nsources = [\"B*nk\"]", true),
     ("password = \"a\"\nsources = [\"TwelveLetter\"]", false),
     ("salt = \"b\"", false),
 ];

@@ -1,8 +1,9 @@
 //! Words of the server, and lines of its accounts' file.
 use crate::programs::words::with;
 use crate::rows::holds;
+use sms_base::MessageId;
 use smsc_cli::words::{
-    AccountWords, FileFault, LogDetail, ServerRun, ServerWords, WordsFault, add_lines,
+    AccountWords, FileFault, LogDetail, OrderWord, ServerRun, ServerWords, WordsFault, add_lines,
     server_words, why_no_server_words,
 };
 use std::alloc::Global;
@@ -32,6 +33,14 @@ fn run_of(run: &ServerRun<'_>) -> &'static str {
     }
 }
 
+fn order_of(order: OrderWord, id: MessageId) -> &'static str {
+    match (order, id.number()) {
+        (OrderWord::Retry, 17) => "retry",
+        (OrderWord::Cancel, 17) => "cancel",
+        _ => "order of another",
+    }
+}
+
 // What the words ask for.
 fn asked(words: &ServerWords<'_>) -> &'static str {
     match words {
@@ -54,6 +63,12 @@ fn asked(words: &ServerWords<'_>) -> &'static str {
         ServerWords::End { .. } => "end of another",
         ServerWords::Reload { control: "c" } => "reload",
         ServerWords::Reload { .. } => "reload of another",
+        ServerWords::Order {
+            control: "c",
+            order,
+            id,
+        } => order_of(*order, *id),
+        ServerWords::Order { .. } => "order of another",
         ServerWords::Password => "password",
     }
 }
@@ -246,6 +261,26 @@ const OTHERS: &[(&[&str], &str)] = &[
     (&["smscd", "reload", "--control", "c"], "reload"),
     (&["smscd", "reload", "--control", "c", "more"], "bad"),
     (&["smscd", "reload", "c"], "bad"),
+    (&["smscd", "retry", "--control", "c"], "bad"),
+    (&["smscd", "retry", "0000000017"], "bad"),
+    (&["smscd", "retry", "0000000017", "--control", "c"], "retry"),
+    (
+        &["smscd", "cancel", "--control", "c", "0000000017"],
+        "cancel",
+    ),
+    (&["smscd", "retry", "--control", "c", "17"], "bad"),
+    (&["smscd", "cancel", "--control", "c", "0000000000"], "bad"),
+    (
+        &[
+            "smscd",
+            "cancel",
+            "--control",
+            "c",
+            "0000000017",
+            "0000000018",
+        ],
+        "bad",
+    ),
     (&["smscd", "password"], "password"),
     (&["smscd", "password", "secret"], "bad"),
     (

@@ -3,6 +3,7 @@ use crate::clock_and_gate::Still;
 use smpp_session::{Account, Accounts, Password};
 use sms_base::{Address, Listed, Moment, Octets};
 use sms_store_memory::centre::MemoryKeep;
+use smsc_server::AccountBook;
 use smsc_service::{CentreAccount, Setup};
 use std::alloc::Global;
 use std::sync::Arc;
@@ -84,4 +85,11 @@ fn login(alloc: Global) -> Result<Account, Fail> {
 pub(crate) fn logins(alloc: Global) -> Result<Arc<Accounts>, Fail> {
     let logins = vec![in alloc; login(alloc)?]?;
     Ok(Arc::new(alloc, Accounts::from_vec(logins))?)
+}
+
+/// The same for a run, in which no other takes its place.
+pub(crate) fn book(alloc: Global) -> Result<Arc<AccountBook>, Fail> {
+    let logins = vec![in alloc; login(alloc)?]?;
+    let book = AccountBook::new(alloc, logins, false)?;
+    Ok(Arc::new(alloc, book)?)
 }

@@ -7,7 +7,7 @@ use sms_centre_spec::CentreAnswer;
 use sms_centre_spec::jobs::{Job, Reply};
 use sms_hub::{many_sessions, two_sessions};
 use sms_keeper::{Item, Machine, Recorder, Stimulus};
-use smsc_service::{Cutoff, serve_with};
+use smsc_service::{Cutoff, Forgetting, NoArchive, OrderDesk, serve_with};
 use std::alloc::Global;
 use std::sync::{Arc, Wait};
 use std::test::Fail;
@@ -137,13 +137,15 @@ impl Recorder<Job, Reply> for Met {
     fn record(&mut self, item: &Item<Job, Reply>) {
         match &item.stimulus {
             Stimulus::Job(seat, job) => self.meet(*seat, job),
-            Stimulus::Tick(_) => (),
+            Stimulus::Tick(_) | Stimulus::Own(_) => (),
         }
     }
 
     fn end_group(&mut self, _count: usize) {}
 
     fn reopened(&mut self) {}
+
+    fn failed(&mut self) {}
 }
 
 // ---- runs
@@ -209,11 +211,18 @@ fn serves<R: Threads + Wait + Copy + Send + 'static>(
 ) -> Result<(), Fail> {
     let store = keep(alloc)?;
     let cutoff = Arc::new(alloc, Cutoff::new())?;
-    let (went, store) = serve_with(
+    let desk = Arc::new(alloc, OrderDesk::new())?;
+    let forgetting = Forgetting {
+        keep: None,
+        archive: NoArchive,
+    };
+    let (went, store, _) = serve_with(
         alloc,
         store,
         None,
         &cutoff,
+        &desk,
+        forgetting,
         |service| runs(rt, alloc, service, sessions),
     )?;
     drop(store);

@@ -7,7 +7,7 @@ use crate::service::store::{Limits, Store};
 use crate::service::telling::{To, is_item};
 use sms_centre_spec::jobs::{Job, Reply};
 use sms_keeper::{Fate, Machine, Step, Stimulus};
-use smsc_service::{Cutoff, Service, serve_with};
+use smsc_service::{Cutoff, Forgetting, NoArchive, OrderDesk, Service, serve_with};
 use std::alloc::Global;
 use std::sync::Arc;
 use std::test::Fail;
@@ -44,7 +44,7 @@ pub(crate) enum Turn {
 pub(crate) type Course = (&'static str, &'static [Turn]);
 
 fn meets(
-    service: &mut Service<Store<'_>>,
+    service: &mut Service<Store<'_>, NoArchive>,
     stimulus: Stimulus<Job>,
     fate: Fate,
     told: &[To],
@@ -57,7 +57,7 @@ fn meets(
 // The steps of a group, in order.
 fn steps_of(
     alloc: Global,
-    service: &mut Service<Store<'_>>,
+    service: &mut Service<Store<'_>, NoArchive>,
     group: &[Asked],
 ) -> Result<Vec<Step<Reply>>, Fail> {
     let mut steps = Vec::new(alloc);
@@ -71,7 +71,7 @@ fn steps_of(
 // Whether each item of the group is as told, once it is committed or refused.
 fn meets_all(
     alloc: Global,
-    service: &mut Service<Store<'_>>,
+    service: &mut Service<Store<'_>, NoArchive>,
     group: &[Asked],
 ) -> Result<bool, Fail> {
     let steps = steps_of(alloc, service, group)?;
@@ -87,7 +87,7 @@ fn meets_all(
 
 fn take_turn(
     alloc: Global,
-    service: &mut Service<Store<'_>>,
+    service: &mut Service<Store<'_>, NoArchive>,
     limits: &Limits,
     cutoff: &Cutoff,
     turn: &Turn,
@@ -117,7 +117,7 @@ fn take_turn(
 
 fn go(
     alloc: Global,
-    service: &mut Service<Store<'_>>,
+    service: &mut Service<Store<'_>, NoArchive>,
     limits: &Limits,
     cutoff: &Cutoff,
     course: &Course,
@@ -134,9 +134,20 @@ pub(crate) fn plays(alloc: Global, course: &Course) -> Result<(), Fail> {
     let limits = Limits::none();
     let store = Store::new(keep(alloc)?, &limits);
     let cutoff = Arc::new(alloc, Cutoff::new())?;
-    let (went, store) = serve_with(alloc, store, None, &cutoff, |service| {
-        go(alloc, service, &limits, &cutoff, course)
-    })?;
+    let desk = Arc::new(alloc, OrderDesk::new())?;
+    let forgetting = Forgetting {
+        keep: None,
+        archive: NoArchive,
+    };
+    let (went, store, _) = serve_with(
+        alloc,
+        store,
+        None,
+        &cutoff,
+        &desk,
+        forgetting,
+        |service| go(alloc, service, &limits, &cutoff, course),
+    )?;
     drop(store);
     went
 }

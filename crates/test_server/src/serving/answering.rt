@@ -1,10 +1,10 @@
 //! A machine that counts what seats ask, answers each request, and sends a frame for each link that is up and for each
-//! frame.
+//! frame. It may refuse, from one of its groups on.
 use smpp_pdu::CommandStatus;
-use sms_base::Octets;
+use sms_base::{Moment, Octets};
 use sms_centre_spec::CentreAnswer;
 use sms_centre_spec::jobs::{Job, Reply};
-use sms_keeper::{Broken, Fate, Gate, Machine, Out, Outs, Step, Stimulus, Unsettled};
+use sms_keeper::{Broken, Errand, Fate, Gate, Machine, Out, Outs, Step, Stimulus, Unsettled};
 use sms_receipt::Final;
 use std::alloc::Global;
 
@@ -28,6 +28,10 @@ pub(crate) struct Counter {
     alloc: Global,
     /// Each session that is bound is given this receipt.
     pub(crate) receipt: Option<Final>,
+    /// How many groups it commits. It refuses the next one, and can't be opened again then.
+    pub(crate) commits: u32,
+    /// So many times it says that somebody is at a seat still, when the loop asks behind the jobs of an endpoint.
+    pub(crate) stays: u32,
     pub(crate) first: Tally,
     pub(crate) second: Tally,
 }
@@ -62,11 +66,20 @@ fn answer(seat: usize, status: CommandStatus) -> Outs<Reply> {
     })
 }
 
-fn gives(outs: Outs<Reply>) -> Step<Reply> {
+fn gives(outs: Outs<Reply>, if_refused: Outs<Reply>) -> Step<Reply> {
     Step {
         fate: Fate::Done,
         outs,
-        if_refused: Outs::none(),
+        if_refused,
+    }
+}
+
+// What becomes of a job that is refused. The loop's own request is told that nobody is at the seat: who leaves has left then, too.
+fn refused(seat: usize, job: &Job) -> Outs<Reply> {
+    match job {
+        Job::Query { .. } => answer(seat, CommandStatus::ESME_RINVMSGID),
+        job if job.is_request() => answer(seat, CommandStatus::ESME_RSYSERR),
+        _ => Outs::none(),
     }
 }
 
@@ -95,8 +108,6 @@ fn told(seat: usize, end: &Option<Final>) -> Outs<Reply> {
 fn done(alloc: Global, seat: usize, job: &Job, end: Option<Final>) -> Outs<Reply> {
     match job {
         Job::Bound { .. } => told(seat, &end),
-        // The loop asks so behind the jobs of an endpoint.
-        Job::Query { .. } => answer(seat, CommandStatus::ESME_RINVMSGID),
         Job::LinkUp { .. } | Job::Frame { .. } => framed(alloc, seat),
         job if job.is_request() => answer(seat, CommandStatus::ESME_RSYSERR),
         _ => Outs::none(),
@@ -108,8 +119,28 @@ impl Counter {
         Counter {
             alloc,
             receipt: None,
+            commits: u32::MAX,
+            stays: 0,
             first: Tally::new(),
             second: Tally::new(),
+        }
+    }
+
+    // The loop asks so behind the jobs of an endpoint.
+    fn says_who_stays(&mut self, seat: usize) -> Outs<Reply> {
+        match self.stays.checked_sub(1) {
+            Some(stays) => {
+                self.stays = stays;
+                answer(seat, CommandStatus::ESME_RSYSERR)
+            }
+            None => answer(seat, CommandStatus::ESME_RINVMSGID),
+        }
+    }
+
+    fn does(&mut self, seat: usize, job: &Job) -> Outs<Reply> {
+        match job {
+            Job::Query { .. } => self.says_who_stays(seat),
+            job => done(self.alloc, seat, job, self.receipt),
         }
     }
 
@@ -130,6 +161,8 @@ impl Machine<Job, Reply> for Counter {
 
     ghost resumes = { λ m s. ⊤ };
 
+    ghost fails_as = { λ m s. ⊤ };
+
     ghost is_honest = { λ m. ⊥ };
 
     ghost is_broken = { λ m. ⊤ };
@@ -140,22 +173,40 @@ impl Machine<Job, Reply> for Counter {
 
     ghost after = { λ s stimulus fate. s };
 
+    fn errand(&self, _now: Moment) -> Option<Errand> {
+        None
+    }
+
     fn step(&mut self, stimulus: &Stimulus<Job>) -> Step<Reply> {
         match stimulus {
-            Stimulus::Tick(_) => gives(Outs::none()),
+            Stimulus::Tick(_) | Stimulus::Own(_) => gives(Outs::none(), Outs::none()),
             Stimulus::Job(seat, job) => {
                 self.count(*seat, job);
-                gives(done(self.alloc, *seat, job, self.receipt))
+                gives(self.does(*seat, job), refused(*seat, job))
             }
         }
     }
 
     fn settle<G: Gate>(&mut self, gate: &G) -> Result<(), Unsettled> {
         gate.pass();
+        let Some(commits) = self.commits.checked_sub(1) else {
+            return Err(Unsettled);
+        };
+        self.commits = commits;
         Ok(())
     }
 
     fn reopen(&mut self) -> Result<(), Broken> {
-        Ok(())
+        Err(Broken)
+    }
+
+    fn refuse(&mut self, stimulus: &Stimulus<Job>) -> Outs<Reply> {
+        match stimulus {
+            Stimulus::Tick(_) | Stimulus::Own(_) => Outs::none(),
+            Stimulus::Job(seat, job) => {
+                self.count(*seat, job);
+                refused(*seat, job)
+            }
+        }
     }
 }

@@ -234,7 +234,8 @@ impl Table {
         application_sits(rt, self.alloc, wire, seat, accounts, &self.other);
     }
 
-    fn both_sit<R: Threads + Wait + Sync>(
+    /// Both sit until their wires end.
+    pub(crate) fn both_sit<R: Threads + Wait + Sync>(
         &self,
         rt: &R,
         first: OpenSeat,

@@ -1,25 +1,13 @@
-use Rattle.sms_hub.proofs.Lasting.{ran_more, ran_none}
+use Rattle.sms_hub.proofs.Lasting.{ran_more, ran_refusing}
 use Rattle.sms_hub.proofs.terms.run_terms.Goals as goal
 
-pub loop-init : goal.loop-init
-loop-init g c = record {
-  ran = ran_none (g.C.Clock.reads c.args.clock.now) g.M.Machine.gives g.M.Machine.after (g.M.Machine.is_honest c.args.machine.now) (λ s. g.M.Machine.stands c.args.machine.now s s)
-      (g.B.Recorder.has c.args.recorder.now) c.args.keeper.now;
-  before = λ honest. honest;
-}
-
-pub returns-then-closed-clause-ran : goal.returns-then-closed-clause-ran
-returns-then-closed-clause-ran g c =
-    ran_more (g.C.Clock.reads c.args.clock.now) g.M.Machine.gives g.M.Machine.after (g.M.Machine.is_honest c.loop.machine) (g.M.Machine.is_honest c.run_term.new.machine)
-    (λ s. g.M.Machine.stands c.args.machine.now s s) (λ s. g.M.Machine.stands c.loop.machine s s) (λ s. g.M.Machine.stands c.run_term.new.machine s s)
-    (g.B.Recorder.has c.args.recorder.now) (g.B.Recorder.has c.loop.recorder) (g.B.Recorder.has c.run_term.new.recorder)
-    c.args.keeper.now c.loop.keeper c.run_term.new.keeper c.in_ok-closed.ensures.before c.loop.invariant.ran c.in_ok-closed.ensures.ran
-
-pub loop-preserved : goal.loop-preserved
-loop-preserved g c = record {
-  ran = ran_more (g.C.Clock.reads c.args.clock.now) g.M.Machine.gives g.M.Machine.after (g.M.Machine.is_honest c.loop.machine) (g.M.Machine.is_honest c.run_term.new.machine)
-      (λ s. g.M.Machine.stands c.args.machine.now s s) (λ s. g.M.Machine.stands c.loop.machine s s) (λ s. g.M.Machine.stands c.run_term.new.machine s s)
-      (g.B.Recorder.has c.args.recorder.now) (g.B.Recorder.has c.loop.recorder) (g.B.Recorder.has c.run_term.new.recorder)
-      c.args.keeper.now c.loop.keeper c.run_term.new.keeper c.in_ok-closed.ensures.before c.loop.invariant.ran c.in_ok-closed.ensures.ran;
-  before = λ honest. c.loop.invariant.before (c.in_ok-closed.ensures.before honest);
-}
+pub returns-in-Err-clause-failed : goal.returns-in-Err-clause-failed
+returns-in-Err-clause-failed g c =
+    ran_more (g.C.Clock.reads c.args.clock.now) g.M.Machine.gives g.M.Machine.after (g.M.Machine.is_honest c.run_while_open.new.machine) (g.M.Machine.is_honest c.refuse.new.machine)
+    (λ s. g.M.Machine.stands c.args.machine.now s s) (g.M.Machine.fails_as c.run_while_open.new.machine) (g.M.Machine.fails_as c.refuse.new.machine)
+    (g.B.Recorder.has c.args.recorder.now) (g.B.Recorder.has c.run_while_open.new.recorder) (g.B.Recorder.has c.refuse.new.recorder)
+    c.args.keeper.now c.run_while_open.new.keeper c.refuse.new.self c.refuse.ensures.before c.in-Err.ensures.failed
+    (ran_refusing (g.C.Clock.reads c.args.clock.now) g.M.Machine.gives g.M.Machine.after (g.M.Machine.is_honest c.refuse.new.machine)
+    (g.M.Machine.fails_as c.run_while_open.new.machine) (g.M.Machine.fails_as c.refuse.new.machine)
+    (g.B.Recorder.has c.run_while_open.new.recorder) (g.B.Recorder.has c.failed.new.self) (g.B.Recorder.has c.refuse.new.recorder)
+    c.run_while_open.new.keeper c.refuse.new.self c.failed.ensures c.refuse.ensures.refused)

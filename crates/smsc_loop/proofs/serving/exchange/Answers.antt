@@ -16,9 +16,9 @@ pub returns-in_err-put_jobs : goal.returns-in_err-put_jobs
 returns-in_err-put_jobs g c = λ a w.
     did_refused g.G.Endpoint.does _ c.from_residual-in_err-put_jobs.result c.from_residual-in_err-put_jobs.ensures.1 _ _ Serves a w _
     (did_join g.G.Endpoint.does _ _ _ (did_still g.G.Endpoint.does (Timed c.args.now true) _ _ Serves Serves a w _ refl refl refl refl c.in_ok-at.ensures.at (refl, refl))
-    (did_join g.G.Endpoint.does _ _ _ (c.in_ok-heard.ensures Serves a w tt) (c.in_err-put_jobs.ensures Serves a w tt)))
+    (did_join g.G.Endpoint.does _ _ _ (c.in_ok-heard.ensures Serves a w tt) (c.in_err-put_jobs.ensures Serves a w tt tt)))
 
 pub returns : goal.returns
 returns g c = λ a w.
     did_join g.G.Endpoint.does _ _ _ (did_still g.G.Endpoint.does (Timed c.args.now true) _ _ Serves Serves a w _ refl refl refl refl c.in_ok-at.ensures.at (refl, refl))
-    (did_join g.G.Endpoint.does _ _ _ (c.in_ok-heard.ensures Serves a w tt) (did_join g.G.Endpoint.does _ _ _ (c.in_ok-put_jobs.ensures Serves a w tt) (c.observe_notes.ensures Serves a w _)))
+    (did_join g.G.Endpoint.does _ _ _ (c.in_ok-heard.ensures Serves a w tt) (did_join g.G.Endpoint.does _ _ _ (c.in_ok-put_jobs.ensures Serves a w tt tt) (c.observe_notes.ensures Serves a w _)))

@@ -11,7 +11,7 @@ conclude-requires-clause-count g c = sym (seats_kept c.args.opened.keeper c.run_
 
 pub returns-in_ok-answers-in-Ok-clause-ran : goal.returns-in_ok-answers-in-Ok-clause-ran
 returns-in_ok-answers-in-Ok-clause-ran g c = let ran = c.in-Ok.ensures.ran in
-    let all = all_did (g.C.Clock.reads c.args.clock.now) c.args.opened.keeper c.run_terms.new.keeper ran.items (length c.args.opened.threads.items) c.requires.keeper ran.did c.in-Ok.ensures.closed in
+    let all = all_did (g.C.Clock.reads c.args.clock.now) c.args.opened.keeper c.run_terms.new.keeper ran.items (length c.args.opened.threads.items) c.requires.keeper ran.did c.run_terms.ensures.closed in
     sessions_ran (g.C.Clock.reads c.args.clock.now) g.M.Machine.gives g.M.Machine.after (g.M.Machine.is_honest c.run_terms.new.machine)
     (λ s. g.M.Machine.stands c.args.machine.now s s) (λ s. g.M.Machine.stands c.run_terms.new.machine s s) (g.B.Recorder.has c.args.recorder.now) (g.B.Recorder.has c.run_terms.new.recorder)
     c.args.opened.keeper c.run_terms.new.keeper (length c.args.opened.threads.items) c.args.opened.threads.items c.in_ok-answers-in-Ok.answers.items c.requires.keeper ran

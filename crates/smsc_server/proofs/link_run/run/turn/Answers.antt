@@ -1,7 +1,7 @@
-use Rattle.std.proofs.Common.{[], ◌∷◌, map, sym, ◌∙◌}
+use Rattle.std.proofs.Common.{[], ◌∷◌, inl, map, sym, ◌∙◌}
 use Rattle.sms_handset.specs.declared.event.HandsetEvent.TheVariants.{Tick}
 use Rattle.smsc_server.specs.link_run.Run.{received}
-use Rattle.smsc_server.proofs.link_run.Courses.{meets_join, meets_one}
+use Rattle.smsc_server.proofs.link_run.Courses.{closed_leaves, meets_join, meets_one, nothing_read}
 use Rattle.smsc_server.proofs.link_run.run.turn.Goals as goal
 
 pub returns-then-connected : goal.returns-then-connected
@@ -16,6 +16,7 @@ returns-then-connected g c =
         read.1.1,
         sym read.1.2 ∙ met.1.0,
         meets_join (Tick c.args.now ∷ []) (map received met.0) _ _ _ _ _ _ (meets_one (Tick c.args.now) _ _ _ _ ticked.0 ticked.1.0 ticked.1.1) met.1.1,
+        inl (met.1.2, met.1.3),
       ),
     )
 
@@ -31,5 +32,6 @@ returns-else-connected g c =
         read.1.1,
         sym read.1.2 ∙ met.1.0,
         meets_join (Tick c.args.now ∷ []) (map received met.0) _ _ _ _ _ _ (meets_one (Tick c.args.now) _ _ _ _ ticked.0 ticked.1.0 ticked.1.1) met.1.1,
+        closed_leaves c.args.most _ _ read.0 c.meet_frames.new.buffer (nothing_read _ _ _ read.1.2 (c.in_ok-connected.ensures.closed c.if-connected.false)) met.1.2 met.1.3,
       ),
     )

@@ -1,5 +1,3 @@
-use Rattle.std.proofs.Common.{ap, ◌∙◌}
-use Rattle.smsc_endpoint.specs.EsmeView.{opened as opened_session}
 use Rattle.smsc_server.proofs.serving.Visits.{session_sat, turned_away}
 use Rattle.smsc_server.proofs.serving.endpoints.serve_application.Goals as goal
 
@@ -8,4 +6,4 @@ returns-in_default g c = λ stream reader opened access peer. turned_away g.S.Re
 
 pub returns : goal.returns
 returns g c = λ stream reader opened access peer.
-    session_sat g.S.Read.remaining g.S.Write.contents c.args.seat.now.seat c.serve.new.seat.seat stream reader c.args.wire.now c.serve.new.wire opened _ peer _ _ (c.new-endpoint.ensures ∙ ap opened_session c.in-Ok.ensures) c.serve.ensures
+    session_sat g.S.Read.remaining g.S.Write.contents c.args.seat.now.seat c.serve.new.seat.seat stream reader c.args.wire.now c.serve.new.wire opened _ _ c.in-Ok.ensures peer _ _ c.new-endpoint.ensures c.serve.ensures

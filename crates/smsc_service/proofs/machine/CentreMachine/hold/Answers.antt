@@ -14,6 +14,22 @@ returns-in-Ok-clause-outcome g c = λ event core base is centre_state plan spans
       spans.1 ∙ ap (λ (x : Changes). rows_after x base) (sym c.in-Ok.ensures.held),
     )
 
+pub returns-in-Ok-clause-forgotten : goal.returns-in-Ok-clause-forgotten
+returns-in-Ok-clause-forgotten g c = λ before from most core base centre_state plan spans.
+    c.adopt.ensures.forgotten before from most core base centre_state plan (
+      subst (λ (k : g.row.K.Denot). (g.K.RowStore.state k).holds base) (sym c.in-Ok.ensures.store) spans.0,
+      spans.1 ∙ ap (λ (x : Changes). rows_after x base) (sym c.in-Ok.ensures.held),
+    )
+
+pub returns-in-Err-clause-forgotten : goal.returns-in-Err-clause-forgotten
+returns-in-Err-clause-forgotten g c = λ before from most core base centre_state plan spans. record {
+  centre = centre_state;
+  rows = (
+    subst (λ (k : g.row.K.Denot). (g.K.RowStore.state k).holds base) (sym c.in-Err.ensures.store) spans.0,
+    spans.1 ∙ ap (λ (x : Changes). rows_after x base) (sym c.in-Err.ensures.held),
+  );
+}
+
 pub returns-in-Err-clause-outcome : goal.returns-in-Err-clause-outcome
 returns-in-Err-clause-outcome g c = λ event core base is centre_state plan spans. record {
   centre = centre_state;

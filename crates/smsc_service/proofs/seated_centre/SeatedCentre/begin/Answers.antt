@@ -1,6 +1,6 @@
 use Rattle.std.proofs.Common.{◌∙◌, refl, sym, true≢false}
 use Rattle.smsc_service.specs.InSeated.{IsLeft, Reaches}
-use Rattle.smsc_service.proofs.ByFate.{is_undone, was_undone}
+use Rattle.smsc_service.proofs.ByFate.{is_undone, not_done, was_undone}
 use Rattle.smsc_service.proofs.seated_centre.SeatedCentre.begin.Goals as goal
 
 pub returns-then-is_late-clause-gives : goal.returns-then-is_late-clause-gives
@@ -17,6 +17,12 @@ returns-then-is_late-clause-late g c = λ e. (c.unmade.ensures.fate, refl)
 
 pub returns-clause-gives : goal.returns-clause-gives
 returns-clause-gives g c = c.happen.ensures.gives
+
+pub returns-then-is_late-clause-told : goal.returns-then-is_late-clause-told
+returns-then-is_late-clause-told g c = λ s base honest sound made e. not_done _ _ c.unmade.ensures.fate e
+
+pub returns-clause-told : goal.returns-clause-told
+returns-clause-told g c = c.happen.ensures.told
 
 pub returns-clause-refused : goal.returns-clause-refused
 returns-clause-refused g c = c.happen.ensures.refused

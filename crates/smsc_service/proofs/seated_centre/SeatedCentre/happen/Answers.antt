@@ -5,7 +5,7 @@ use Rattle.sms_centre_spec.specs.Draft.{rows_after}
 use Rattle.sms_centre_spec.specs.declared.rows.Changes.{Changes}
 use Rattle.sms_rows.specs.keep.Refusing.{one_more}
 use Rattle.smsc_service.specs.InSeated.{IsLeft, Reaches}
-use Rattle.smsc_service.proofs.ByFate.{gave_up, was_refused}
+use Rattle.smsc_service.proofs.ByFate.{gave_up, was_given_up, was_refused}
 use Rattle.smsc_service.proofs.seated_centre.SeatedCentre.happen.Goals as goal
 
 pub returns-in-Ok-clause-gives : goal.returns-in-Ok-clause-gives
@@ -36,6 +36,14 @@ pub returns-in-Ok-clause-refused : goal.returns-in-Ok-clause-refused
 returns-in-Ok-clause-refused g c = λ s base honest sound made e.
     let planned = c.in-Ok.ensures.outcome s.core base made.centre sound made.rows.1 (c.reply_and_hold.ensures.before honest) (made.rows.0, refl) in
     c.reply_and_hold.ensures.refused e ∙ ap one_more planned.1.1
+
+pub returns-in-Ok-clause-told : goal.returns-in-Ok-clause-told
+returns-in-Ok-clause-told g c = λ s base honest sound made e.
+    let planned = c.in-Ok.ensures.outcome s.core base made.centre sound made.rows.1 (c.reply_and_hold.ensures.before honest) (made.rows.0, refl) in
+    c.reply_and_hold.ensures.told e ∙ planned.0.outputs.answer
+
+pub returns-in-Err-clause-told : goal.returns-in-Err-clause-told
+returns-in-Err-clause-told g c = λ s base honest sound made e. was_given_up c.in-Err.error _ _ c.give_up.ensures.fate e
 
 pub returns-in-Err-clause-refused : goal.returns-in-Err-clause-refused
 returns-in-Err-clause-refused g c = λ s base honest sound made e.

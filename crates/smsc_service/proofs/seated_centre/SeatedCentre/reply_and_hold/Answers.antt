@@ -1,5 +1,5 @@
 use Rattle.smsc_service.specs.InSeated.{IsLeft, Reaches}
-use Rattle.smsc_service.proofs.ByFate.{is_undone, was_undone}
+use Rattle.smsc_service.proofs.ByFate.{is_undone, not_done, was_undone}
 use Rattle.smsc_service.proofs.seated_centre.SeatedCentre.reply_and_hold.Goals as goal
 
 pub returns-in-Ok-clause-gives : goal.returns-in-Ok-clause-gives
@@ -14,6 +14,12 @@ returns-in-Err-clause-gives g c = λ event s base is plan honest sound made.
 
 pub returns-in-Ok-clause-refused : goal.returns-in-Ok-clause-refused
 returns-in-Ok-clause-refused g c = λ e. c.hold.ensures.refused e
+
+pub returns-in-Ok-clause-told : goal.returns-in-Ok-clause-told
+returns-in-Ok-clause-told g c = λ e. c.hold.ensures.told e
+
+pub returns-in-Err-clause-told : goal.returns-in-Err-clause-told
+returns-in-Err-clause-told g c = λ e. not_done _ _ c.unmade.ensures.fate e
 
 pub returns-in-Err-clause-refused : goal.returns-in-Err-clause-refused
 returns-in-Err-clause-refused g c = λ e. was_undone _ _ c.unmade.ensures.fate e

@@ -1,5 +1,5 @@
 use Rattle.sms_hub.specs.Lasting.{Ran}
-use Rattle.sms_hub.proofs.terms.run_terms.Given as goal
+use Rattle.sms_hub.proofs.terms.run_while_open.Given as goal
 
 abbrev pub invariant-loop : goal.invariant-loop
 invariant-loop g l = record {

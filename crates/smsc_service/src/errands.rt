@@ -1,0 +1,161 @@
+//! What a service does that no seat asks.
+ghost use Rattle.std.specs.Prelude.{◌≡◌};
+
+use crate::order_desk::{OrderDesk, OrderOutcome, outcome_of};
+use sms_base::{MessageId, Moment};
+use sms_centre::{Archive, Centre, CentreAnswer};
+use sms_centre_spec::jobs::Job;
+use sms_keeper::{Errand, Fate, Stimulus};
+use std::sync::Arc;
+
+// A call looks at so many messages.
+const MOST: u16 = 200;
+
+// So many seconds lie between two calls, of which a million messages a day need no more.
+const STEP: u64 = 1;
+
+// And between two walks through the messages, and behind a call that was not done.
+const REST: u64 = 10;
+
+/// What a service forgets as it runs: messages that ended so many seconds ago, each of which goes to the archive first.
+#[derive(Drop)]
+pub struct Forgetting<A: Archive + Drop> {
+    /// Nothing is forgotten where this is none.
+    pub keep: Option<u64>,
+    /// Where each message goes first.
+    pub archive: A,
+}
+
+/// What a service does that no seat asks: the orders of its owner, and what it forgets.
+#[derive(Drop)]
+pub struct Errands<A: Archive + Drop> {
+    desk: Arc<OrderDesk>,
+    // What came of the order that the group has, if it is committed.
+    told: Option<OrderOutcome>,
+    keep: Option<u64>,
+    pub(crate) archive: A,
+    // The number from which the next call looks.
+    from: u64,
+    // The second from which on it may look.
+    due: u64,
+}
+
+// Whether the message of that number was submitted before that moment. Those behind it were submitted later.
+fn is_older(centre: &Centre, number: u64, before: Moment) -> bool {
+    let Some(id) = MessageId::new(number) else {
+        return false;
+    };
+    match centre.message(id) {
+        Ok(Some(message)) => message.submitted.seconds() < before.seconds(),
+        _ => false,
+    }
+}
+
+/// Where a walk goes on behind the call that the stimulus asks, or 0 where it ends there.
+pub(crate) fn walks_to(centre: &Centre, stimulus: &Stimulus<Job>) -> u64 {
+    match stimulus {
+        Stimulus::Own(Errand::Forget { before, from, most }) => {
+            let next = centre.next_from(*from, *most);
+            if is_older(centre, next, *before) {
+                next
+            } else {
+                0
+            }
+        }
+        _ => 0,
+    }
+}
+
+impl<A: Archive + Drop> Errands<A> {
+    /// Those of an owner who orders at that desk.
+    pub fn new(desk: Arc<OrderDesk>, forgetting: Forgetting<A>) -> Errands<A> {
+        let Forgetting { keep, archive } = forgetting;
+        Errands {
+            desk,
+            told: None,
+            keep,
+            archive,
+            from: 1,
+            due: 0,
+        }
+    }
+
+    // What it is to forget at that moment.
+    fn forgets(&self, now: Moment) -> Option<Errand> {
+        let keep = self.keep?;
+        if now.seconds() < self.due {
+            return None;
+        }
+        let before = Moment::from_seconds(now.seconds().saturating_sub(keep)).ok()?;
+        Some(Errand::Forget {
+            before,
+            from: self.from,
+            most: MOST,
+        })
+    }
+
+    /// The next one, if there is one at that moment.
+    pub(crate) fn next(&self, now: Moment) -> Option<Errand> {
+        match self.desk.waiting() {
+            Some(order) => Some(order),
+            None => self.forgets(now),
+        }
+    }
+
+    // The walk goes on from that number. From 0 it begins anew after a rest, and so it does where the call was not done.
+    fn walk_on(&mut self, before: Moment, next: u64, fate: Fate)
+        ensures { self.new.archive ≡ self.old.archive }
+    {
+        let now = before.seconds().saturating_add(self.keep.unwrap_or(0));
+        if matches!(fate, Fate::Done) && next != 0 {
+            self.from = next;
+            self.due = now.saturating_add(STEP);
+        } else {
+            self.from = 1;
+            self.due = now.saturating_add(REST);
+        }
+    }
+
+    /// The stimulus was asked of the centre, with that fate and answer. Behind it a walk goes on from that number.
+    pub(crate) fn note(
+        &mut self,
+        stimulus: &Stimulus<Job>,
+        fate: Fate,
+        answer: Option<CentreAnswer>,
+        next: u64,
+    )
+        ensures { self.new.archive ≡ self.old.archive }
+    {
+        match stimulus {
+            Stimulus::Own(Errand::Forget { before, .. }) => self.walk_on(*before, next, fate),
+            Stimulus::Own(_) => {
+                self.desk.take();
+                self.told = Some(outcome_of(answer));
+            }
+            _ => {}
+        }
+    }
+
+    /// The group is committed, or refused: whoever ordered something is told what came of it.
+    pub(crate) fn tell(&mut self, is_committed: bool)
+        ensures { self.new.archive ≡ self.old.archive }
+    {
+        if let Some(outcome) = self.told {
+            self.told = None;
+            self.desk.tell(if is_committed {
+                outcome
+            } else {
+                OrderOutcome::Failed
+            });
+        }
+    }
+
+    /// Ends the errands, and gives the archive.
+    pub(crate) fn into_archive(self) -> A
+        ensures { result ≡ self.archive }
+    {
+        let Errands { desk, archive, .. } = self;
+        drop(desk);
+        archive
+    }
+}
