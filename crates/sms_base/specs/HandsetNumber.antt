@@ -1,7 +1,6 @@
 -- The numbers by which handsets are known.
-use Rattle.std.specs.Prelude.{ℕ, ◌&&◌, ◌≡◌, nat_le, nat_lt, true, List, Bool}
+use Rattle.std.specs.Prelude.{ℕ, ◌&&◌, nat_le, nat_lt, List, Bool}
 use Rattle.std.specs.List.{list_all}
-use Rattle.sms_base.specs.Address.{IsAddress}
 use Rattle.sms_base.specs.declared.address.Address.{Address}
 use Rattle.sms_base.specs.declared.type_of_number.TypeOfNumber.TheVariants.{International}
 use Rattle.sms_base.specs.AddressKind.{type_number}
@@ -18,10 +17,3 @@ names_handset address = nat_lt (type_number address.ton) 3 && list_all is_decima
 -- the address of a handset as the centre writes it: an international number of the telephone numbering plan
 abbrev pub own_address : List ℕ → Address
 own_address digits = record { ton = International; npi = 1; digits = digits }
-
--- the address of a handset, or of the centre, as the centre itself writes it
-pub record IsOwnAddress (address : Address) : Type 0 where
-  pub ton : address.ton ≡ International
-  pub npi : address.npi ≡ 1
-  pub valid : IsAddress address
-  pub decimal : list_all is_decimal address.digits ≡ true

@@ -10,6 +10,7 @@ pub mod HandsetNumber
 pub mod Inside
 pub mod MessageId
 pub mod LatinCodes
+pub mod OwnAddress
 pub mod Reading
 pub mod SemiOctet
 pub mod SmppTime

@@ -21,9 +21,9 @@ answers_in (Answer answer ∷ taken) = suc (answers_in taken)
 answers_in (reply ∷ taken) = answers_in taken
 
 -- So many requests of a seat are with the keeper at most. It takes the seats' jobs in the order in which they were put, 64 at once. So a seat with
--- one request waits for four of each other seat, and beside fifteen seats its request is among the next 64.
+-- one request waits for seven of each other seat, and beside eight seats its request is among the next 64.
 abbrev pub most_in_queue : ℕ
-most_in_queue = 4
+most_in_queue = 7
 
 -- Each request that was put has its answer, but for so many.
 abbrev pub TakesTurns : List (Option Job) → List Reply → Type 0

@@ -16,9 +16,9 @@ use std::sync::Wait;
 use std::sync::atomic::{AtomicBool, Ordering};
 use std::time::Duration;
 
-// So many requests of a seat are with the keeper at most. It takes 64 at once: a session with one request beside fifteen others is among the
-// next 64. With fewer of each, a group would have few items, and a commit would be for few requests.
-const MOST_IN_QUEUE: usize = 4;
+// So many requests of a seat are with the keeper at most. It takes 64 at once: a session with one request beside eight others is among the
+// next 64. While a group is committed its requests count too, so with fewer of each the next group would have few items.
+const MOST_IN_QUEUE: usize = 7;
 
 /// A seat of the hub whose end mark was not put. It counts the answers that it has still to get, and takes its turn: it puts no request
 /// while one of its own is in the keeper's queue.

@@ -5,7 +5,7 @@ use Rattle.clap.specs.Words.{App, Rule, first_of, matches_of, new_app, new_rule,
 use Rattle.clap.specs.declared.builder.action.ArgAction.TheVariants.{Set}
 use Rattle.sms_base.specs.declared.address.Address.{Address}
 use Rattle.smsc_cli.specs.words.Numbers.{SpellsBetween, SpellsCount}
-use Rattle.sms_base.specs.HandsetNumber.{IsOwnAddress}
+use Rattle.sms_base.specs.OwnAddress.{IsOwnAddress}
 use Rattle.smsc_cli.specs.declared.words.sim.SimWords.{SimWords}
 use Rattle.smsc_cli.specs.declared.words.sim.SimWords.TheVariants.{Relay}
 

@@ -3,7 +3,8 @@ ghost use Rattle.std.specs.Prelude.{◌≡◌, Some, IfSome};
 ghost use Rattle.std.specs.List.{list_all};
 ghost use Rattle.std.specs.Str.{chars};
 ghost use Rattle.sms_base.specs.declared.address.Address.{Address as AddressOf};
-ghost use Rattle.sms_base.specs.HandsetNumber.{is_decimal, IsOwnAddress};
+ghost use Rattle.sms_base.specs.HandsetNumber.{is_decimal};
+ghost use Rattle.sms_base.specs.OwnAddress.{IsOwnAddress};
 
 use sms_base::Address;
 

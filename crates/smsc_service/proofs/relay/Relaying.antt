@@ -2,7 +2,8 @@
 use Rattle.std.specs.declared.alloc.AllocError.{AllocError}
 use Rattle.std.proofs.Common.{◌≡◌, ℕ, List, [], Option, Result, Ok, Err, IfOk, refl, sym, subst}
 use Rattle.sms_base.specs.Address.{IsAddress}
-use Rattle.sms_base.specs.HandsetNumber.{own_address, IsOwnAddress}
+use Rattle.sms_base.specs.HandsetNumber.{own_address}
+use Rattle.sms_base.specs.OwnAddress.{IsOwnAddress}
 use Rattle.sms_base.specs.declared.address.Address.{Address}
 use Rattle.sms_centre.specs.state.CentreState.{Represents, CentreStateOf}
 use Rattle.sms_centre_spec.specs.CentreEvent.{started}

@@ -2,7 +2,8 @@
 ghost use Rattle.std.specs.Prelude.{◌≡◌, ◌<◌, ◌≤◌, ℕ, List, IfOk, IsOk, length};
 ghost use Rattle.sms_base.specs.Address.{IsAddress};
 ghost use Rattle.sms_base.specs.Among.{Among};
-ghost use Rattle.sms_base.specs.HandsetNumber.{own_address, IsOwnAddress};
+ghost use Rattle.sms_base.specs.HandsetNumber.{own_address};
+ghost use Rattle.sms_base.specs.OwnAddress.{IsOwnAddress};
 ghost use Rattle.sms_base.specs.Reading.{AreOctets};
 ghost use Rattle.sms_base.specs.TimeStamp.{IsMoment};
 ghost use Rattle.sms_relay.specs.RelayReading.{up_at};

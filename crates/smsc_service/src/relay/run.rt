@@ -1,7 +1,7 @@
 //! A relay run: a line of hexadecimal in, a line for each frame out.
 ghost use Rattle.std.specs.Prelude.{◌≡◌, ◌≤◌, ℕ, List, length, take, IfOk, IfSome, OnOk};
 ghost use Rattle.std.specs.Io.KnownBytes.{Appends};
-ghost use Rattle.sms_base.specs.HandsetNumber.{IsOwnAddress};
+ghost use Rattle.sms_base.specs.OwnAddress.{IsOwnAddress};
 ghost use Rattle.smsc_service.specs.relay.Run.{IsOutput, IsTextFor, Outputs, text_of};
 ghost use Rattle.smsc_service.specs.relay.Fronts.{IsFront};
 ghost use Rattle.smsc_service.specs.relay.Lines.{frame_in};

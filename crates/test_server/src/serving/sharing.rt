@@ -223,15 +223,15 @@ fn request(alloc: Global) -> Job {
     }
 }
 
-// Nobody answers them: a fifth request of the seat is handed back, one of another seat is put, and so is a job that has no answer.
+// Nobody answers them: an eighth request of the seat is handed back, one of another seat is put, and so is a job that has no answer.
 fn waits_its_turn<R: Wait>(rt: &R, alloc: Global) -> Result<(), Fail> {
     let mut room = make_room(alloc)?;
-    for _ in 0..4 {
+    for _ in 0..7 {
         let put = room.first.put(rt, request(alloc));
         holds(put.is_ok(), "a request is put")?;
     }
-    let fifth = room.first.put(rt, request(alloc));
-    holds(fifth.is_err(), "the fifth one waits for its turn")?;
+    let eighth = room.first.put(rt, request(alloc));
+    holds(eighth.is_err(), "the eighth one waits for its turn")?;
     let other = room.second.put(rt, request(alloc));
     holds(other.is_ok(), "another seat has its own turn")?;
     let end = room.first.put(rt, Job::Unbound);
@@ -239,6 +239,6 @@ fn waits_its_turn<R: Wait>(rt: &R, alloc: Global) -> Result<(), Fail> {
 }
 
 #[test]
-fn a_seat_puts_four_requests_at_a_time(rt: HostRuntime) -> Result<(), Fail> {
+fn a_seat_puts_seven_requests_at_a_time(rt: HostRuntime) -> Result<(), Fail> {
     waits_its_turn(&rt, rt.alloc())
 }
