@@ -252,7 +252,11 @@ fn serve_handset<R: Wait + Clock, S: OpenStream + Duplicate + Read + Write + Dro
     serve(rt, alloc, around, wire, seat, &mut endpoint);
 }
 
-impl<R: Wait + Clock, S: OpenStream + Duplicate + Read + Write + Drop, T: Observer> SeatContext<R, S, T> {
+impl<R: Wait + Clock, S: OpenStream + Duplicate + Read + Write + Drop, T: Observer> SeatContext<
+    R,
+    S,
+    T,
+> {
     fn surroundings(&self, side: Side, peer: SocketAddr) -> SeatSurroundings<'_, R, T> {
         SeatSurroundings {
             rt: &self.rt,
@@ -372,11 +376,11 @@ pub(crate) struct Returned<S: Drop> {
 }
 
 /// Serves one connection after another at a seat, until there will be none any more; then the seat closes, and comes back.
-pub(crate) fn serve_seat<R: Wait + Clock, S: OpenStream + Duplicate + Read + Write + Drop, T: Observer>(
-    context: &SeatContext<R, S, T>,
-    seat: Seat<Job, Reply>,
-    taker: ArrivalTaker<S>,
-) -> Returned<S>
+pub(crate) fn serve_seat<
+    R: Wait + Clock,
+    S: OpenStream + Duplicate + Read + Write + Drop,
+    T: Observer,
+>(context: &SeatContext<R, S, T>, seat: Seat<Job, Reply>, taker: ArrivalTaker<S>) -> Returned<S>
     requires seat { (put_by seat ≡ []) × (taken_by seat ≡ []) }
     requires taker { items_taken taker ≡ [] }
     ensures seat { IsSameSeat seat result.seat }
