@@ -6,7 +6,7 @@ use crate::rows::holds;
 use crate::service::centre::{book, clock, keep};
 use smsc_endpoint::LinkAccess;
 use smsc_server::{
-    Allowances, Door, Doors, Event, Given, Observer, Orders, PeerKind, Ports, serve,
+    Allowances, Door, Doors, Duplicate, Event, Given, Observer, Orders, PeerKind, Ports, serve,
 };
 use smsc_service::{Forgetting, NoArchive};
 use std::alloc::Global;
@@ -54,8 +54,10 @@ impl OpenStream for Numbered {
     fn set_write_timeout(&self, _dur: Option<Duration>) -> io::Result<()> {
         Ok(())
     }
+}
 
-    fn try_clone(&self) -> io::Result<Numbered> {
+impl Duplicate for Numbered {
+    fn duplicate(&self) -> io::Result<Numbered> {
         Ok(*self)
     }
 }
