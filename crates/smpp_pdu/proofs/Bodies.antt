@@ -167,13 +167,12 @@ pure_field {X} x = (
 -- a test whose fault is that of a wrong octet
 test_part : {X : Type 0} (b : Bool) (bad : PduFault) (r : Reads PduFault X) → (IsMissing bad → ⊥) → (IsOther bad → ⊥) → Part r → Part (λ xs. only_if b bad >>= (λ u. r xs))
 test_part true bad r fit none h = h
-test_part {X} false bad r fit none h =
-    (
-      (λ xs z e. absurd cc),
-      (λ xs f octets m e. absurd (fit (missing_too {A = X × List ℕ} f bad m e))),
-      (λ xs f o e. none (other_too {A = X × List ℕ} f bad o e)),
-      (λ xs ys f w e. e),
-    )
+test_part {X} false bad r fit none h = (
+  (λ xs z e. absurd cc),
+  (λ xs f octets m e. absurd (fit (missing_too {A = X × List ℕ} f bad m e))),
+  (λ xs f o e. none (other_too {A = X × List ℕ} f bad o e)),
+  (λ xs ys f w e. e),
+)
 
 -- the two faults of sms_base's parts, of which only the first is met in octets and runs of octets
 abbrev cut : Ends PduFault
@@ -217,19 +216,18 @@ run_is_part n = ((run_part cut n).0, continues, (λ xs f o e. none (ltb (length 
 
 -- an octet and what stands behind it, where some octets are read to their end
 octet_then : {Y : Type 0} (k : ℕ × List ℕ → Result (Y × List ℕ) PduFault) → CanReadFurther (λ xs. octet_in Truncated xs >>= k) [] → ((o : ℕ) → Part (λ rest. k (o, rest))) → Field (λ xs. octet_in Truncated xs >>= k)
-octet_then {Y} k some h =
-    (
-      (
-        front_then (octet_in Truncated) k octet_is_part.0 (λ o. (h o).0),
-        continues,
-        none_then (octet_in Truncated) k octet_is_part.2 (λ o. (h o).2),
-        then_stays (octet_in Truncated) k octet_is_part.0 octet_is_part.3 (λ o. (h o).3),
-      ),
-      some,
-    ) where
-      continues : Continues (λ xs. octet_in Truncated xs >>= k)
-      continues [] f octets m e = some
-      continues (o ∷ xs) f octets m e = later_continues (octet_in Truncated) k (o ∷ xs) f octet_is_part.0 (λ x. (h x).1) octets m o xs refl e
+octet_then {Y} k some h = (
+  (
+    front_then (octet_in Truncated) k octet_is_part.0 (λ o. (h o).0),
+    continues,
+    none_then (octet_in Truncated) k octet_is_part.2 (λ o. (h o).2),
+    then_stays (octet_in Truncated) k octet_is_part.0 octet_is_part.3 (λ o. (h o).3),
+  ),
+  some,
+) where
+  continues : Continues (λ xs. octet_in Truncated xs >>= k)
+  continues [] f octets m e = some
+  continues (o ∷ xs) f octets m e = later_continues (octet_in Truncated) k (o ∷ xs) f octet_is_part.0 (λ x. (h x).1) octets m o xs refl e
 
 -- ---- numbers
 
