@@ -2,6 +2,8 @@
 ghost use Rattle.std.specs.Prelude.{◌≡◌};
 ghost use Rattle.smpp_pdu.specs.SequenceNumbers.{number_after};
 
+use smpp_pdu::number_after;
+
 /// The last sequence numbers of an application and of the centre. Each counts its own requests, from 1; an answer bears the number of
 /// its request.
 #[derive(Clone, Copy)]
