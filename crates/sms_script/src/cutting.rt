@@ -72,7 +72,7 @@ impl<'a> Lines<'a> {
         Lines { rest: Some(text) }
     }
 
-    /// TakesWords the next line.
+    /// Takes the next line.
     pub fn next(&mut self) -> Option<&'a [u8]>
         ensures { MatchOption result (self.old ≡ []) (λ line. self.old ≡ line.now ∷ self.new) }
     {
@@ -105,7 +105,7 @@ impl<'a> Words<'a> {
         Words { rest: Some(line) }
     }
 
-    // TakesWords what is before the next space.
+    // Takes what is before the next space.
     fn piece(&mut self) -> Option<&'a [u8]>
         ensures { MatchOption result (self.old ≡ []) (λ piece. self.old ≡ piece.now ∷ self.new) }
     {
@@ -114,7 +114,7 @@ impl<'a> Words<'a> {
         Some(piece)
     }
 
-    /// TakesWords the next word.
+    /// Takes the next word.
     pub fn word(&mut self) -> Result<&'a [u8], LineFault>
         ensures { TakesWords (λ x. x.now) result self.new (word_in self.old) }
     {

@@ -183,7 +183,7 @@ impl MessageIndex {
         }
     }
 
-    // TakesInMessages the memory in, and the changes of parts.
+    // Takes the memory in, and the changes of parts.
     fn take_in(&mut self, reserve: MessageIndexReserve)
         requires { FitsIn reserve.parts self.old.parts }
         ensures { TakesInMessages reserve self.old self.new }

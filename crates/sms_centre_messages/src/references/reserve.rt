@@ -176,7 +176,7 @@ impl ReferenceIndex {
         Ok(())
     }
 
-    // TakesInReferences the memory in.
+    // Takes the memory in.
     pub(crate) fn take_in(&mut self, reserve: ReferenceIndexReserve)
         ensures { TakesInReferences reserve self.old self.new }
     {
