@@ -1,9 +1,9 @@
 //! Archives of what a centre forgets.
-ghost use Rattle.std.specs.Prelude.{◌≡◌, Some, OnOk};
+ghost use Rattle.std.specs.Prelude.{◌≡◌, ℕ, Some, OnOk};
 ghost use Rattle.sms_centre_rows.specs.declared.messages.message.MessageRow.{MessageRow as MessageRowOf};
 ghost use Rattle.sms_centre_rows.specs.messages.Messages.{message_at};
 ghost use Rattle.sms_centre_spec.specs.Draft.{Core};
-ghost use Rattle.sms_centre.specs.Archiving.{AreArchived, Stays};
+ghost use Rattle.sms_centre.specs.Archiving.{AreArchived, Stays, parts_in};
 ghost use Rattle.sms_centre.specs.state.CentreState.{Represents as StateRepresents};
 
 use crate::forget_error::ForgetError;
@@ -18,15 +18,15 @@ pub struct NotArchived;
 
 /// An archive of the messages that a centre forgets.
 pub trait Archive {
-    /// The archive has taken the message.
-    ghost took: { Self → MessageRowOf → Type 0 };
+    /// The archive has taken the message, with so many parts.
+    ghost took: { Self → MessageRowOf → ℕ → Type 0 };
 
     /// The archive has the message still after a stop.
-    ghost keeps: { Self → MessageRowOf → Type 0 };
+    ghost keeps: { Self → MessageRowOf → ℕ → Type 0 };
 
     /// Takes a message with so many parts.
     fn take(&mut self, message: &Message, parts: usize) -> Result<(), NotArchived>
-        ensures took { OnOk result (took self.new message.now) }
+        ensures took { OnOk result (took self.new message.now parts) }
         ensures others { Stays (took self.old) (took self.new) }
         ensures kept { Stays (keeps self.old) (keeps self.new) };
 
@@ -43,9 +43,9 @@ pub struct NoArchive;
 impl Archive for NoArchive {
     ghost use Rattle.std.specs.Prelude.{⊤};
 
-    ghost took = { λ archive message. ⊤ };
+    ghost took = { λ archive message parts. ⊤ };
 
-    ghost keeps = { λ archive message. ⊤ };
+    ghost keeps = { λ archive message parts. ⊤ };
 
     fn take(&mut self, _message: &Message, _parts: usize) -> Result<(), NotArchived> {
         Ok(())
@@ -61,7 +61,7 @@ fn take_found<A: Archive>(
     message: Message,
     parts: usize,
 ) -> Result<(), ForgetError>
-    ensures took { OnOk result (A.took archive.new message) }
+    ensures took { OnOk result (A.took archive.new message parts) }
     ensures others { Stays (A.took archive.old) (A.took archive.new) }
     ensures kept { Stays (A.keeps archive.old) (A.keeps archive.new) }
 {
@@ -81,7 +81,7 @@ fn take<A: Archive>(
     id: MessageId,
 ) -> Result<(), ForgetError>
     ensures took { (c : Core) (m : MessageRowOf) → StateRepresents c state.now → message_at id c.rows.messages ≡ Some m
-        → OnOk result (A.took archive.new m) }
+        → OnOk result (A.took archive.new m (parts_in c.rows id)) }
     ensures others { Stays (A.took archive.old) (A.took archive.new) }
     ensures kept { Stays (A.keeps archive.old) (A.keeps archive.new) }
 {
@@ -99,7 +99,7 @@ fn take_each<A: Archive>(
     archive: &mut A,
     ids: &[MessageId],
 ) -> Result<(), ForgetError>
-    ensures took { (c : Core) → StateRepresents c state.now → OnOk result (AreArchived (A.took archive.new) ids.now c.rows.messages) }
+    ensures took { (c : Core) → StateRepresents c state.now → OnOk result (AreArchived (A.took archive.new) ids.now c.rows) }
     ensures kept { Stays (A.keeps archive.old) (A.keeps archive.new) }
 {
     for id in ids {
@@ -115,7 +115,7 @@ pub(crate) fn archive_all<A: Archive>(
     archive: &mut A,
     ids: &[MessageId],
 ) -> Result<(), ForgetError>
-    ensures archived { (c : Core) → StateRepresents c state.now → OnOk result (AreArchived (A.keeps archive.new) ids.now c.rows.messages) }
+    ensures archived { (c : Core) → StateRepresents c state.now → OnOk result (AreArchived (A.keeps archive.new) ids.now c.rows) }
     ensures kept { Stays (A.keeps archive.old) (A.keeps archive.new) }
 {
     if ids.is_empty() {

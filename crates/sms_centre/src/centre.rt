@@ -216,7 +216,7 @@ impl Centre {
     ) -> Result<Plan, ForgetError>
         ensures outcome { (c : Core) → Represents c self.now → IfOk result (λ p. IsOutcome (forget before from most c) p.plan) }
         ensures archived { (c : Core) → Represents c self.now
-            → OnOk result (AreArchived (A.keeps archive.new) (going_now before from most c) c.rows.messages) }
+            → OnOk result (AreArchived (A.keeps archive.new) (going_now before from most c) c.rows) }
         ensures kept { Stays (A.keeps archive.old) (A.keeps archive.new) }
         ensures fits { IfOk result (FitsTheCentre self.now) }
     {
@@ -240,7 +240,7 @@ impl Centre {
             (K.state keep.old) (K.state keep.new) result }
         // No message goes that the archive does not keep.
         ensures archived { (c : Core) → Represents c self.old
-            → OnOk result (AreArchived (A.keeps archive.new) (going_now before from most c) c.rows.messages) }
+            → OnOk result (AreArchived (A.keeps archive.new) (going_now before from most c) c.rows) }
         ensures kept { Stays (A.keeps archive.old) (A.keeps archive.new) }
         ensures same { OnErr result (self.new ≡ self.old) }
         ensures before { WasHonest (K.state keep.old) (K.state keep.new) }

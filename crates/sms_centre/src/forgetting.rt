@@ -311,7 +311,7 @@ fn forget<A: Archive>(
     ensures plan { (c : Core) → DraftRepresents (draft_of c) draft.old → StateRepresents c state.now
         → OnOk result (DraftRepresents (forget_of before from most c) draft.new) }
     ensures archived { (c : Core) → DraftRepresents (draft_of c) draft.old → StateRepresents c state.now
-        → OnOk result (AreArchived (A.keeps archive.new) (going_now before from most c) c.rows.messages) }
+        → OnOk result (AreArchived (A.keeps archive.new) (going_now before from most c) c.rows) }
     ensures kept { Stays (A.keeps archive.old) (A.keeps archive.new) }
 {
     let ids = going(alloc, draft, state, before, from, most)?;
@@ -330,7 +330,7 @@ fn forget_archived<A: Archive>(
 ) -> Result<(), ForgetError>
     ensures plan { (before from most : ℕ) (c : Core) → DraftRepresents (draft_of c) draft.old → StateRepresents c state.now
         → ids.now ≡ going_now before from most c → OnOk result (DraftRepresents (forget_of before from most c) draft.new) }
-    ensures archived { (c : Core) → StateRepresents c state.now → OnOk result (AreArchived (A.keeps archive.new) ids.now c.rows.messages) }
+    ensures archived { (c : Core) → StateRepresents c state.now → OnOk result (AreArchived (A.keeps archive.new) ids.now c.rows) }
     ensures kept { Stays (A.keeps archive.old) (A.keeps archive.new) }
 {
     archive_all(alloc, state, archive, ids)?;
@@ -365,7 +365,7 @@ fn plan_begun<A: Archive>(
     ensures plan { (c : Core) → DraftRepresents (draft_of c) draft.entry → StateRepresents c state.now
         → IfOk result (λ p. IsOutcome (forget_of before from most c) p.plan) }
     ensures archived { (c : Core) → DraftRepresents (draft_of c) draft.entry → StateRepresents c state.now
-        → OnOk result (AreArchived (A.keeps archive.new) (going_now before from most c) c.rows.messages) }
+        → OnOk result (AreArchived (A.keeps archive.new) (going_now before from most c) c.rows) }
     ensures kept { Stays (A.keeps archive.old) (A.keeps archive.new) }
     ensures fits { IfOk result (FitsTheCentre state.now) }
 {
@@ -398,7 +398,7 @@ pub(crate) fn plan_forget<A: Archive>(
 ) -> Result<Plan, ForgetError>
     ensures plan { (c : Core) → StateRepresents c state.now → IfOk result (λ p. IsOutcome (forget_of before from most c) p.plan) }
     ensures archived { (c : Core) → StateRepresents c state.now
-        → OnOk result (AreArchived (A.keeps archive.new) (going_now before from most c) c.rows.messages) }
+        → OnOk result (AreArchived (A.keeps archive.new) (going_now before from most c) c.rows) }
     ensures kept { Stays (A.keeps archive.old) (A.keeps archive.new) }
     ensures fits { IfOk result (FitsTheCentre state.now) }
 {

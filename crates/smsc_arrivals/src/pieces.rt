@@ -1,11 +1,11 @@
 //! The pieces that cross from the reader of a connection to its seat.
 //!
 //! The reader gives pieces and the seat takes them, by a queue of their own. What the seat took is the first of what the reader gave, and
-//! that the first of what the stream was to give: octets, in order, each once.
+//! that the first of what the stream was to give: octets, in order, each once. Behind the last there is an end mark, where the stream has ended.
 //!
 //! - `calls`: what both ends of the queue do
 //! - `ends`: the two ends
-ghost use Rattle.std.specs.Prelude.{◌≡◌, ◌≤◌, ℕ, List, [], None, Option, take};
+ghost use Rattle.std.specs.Prelude.{◌≡◌, ◌==◌, ◌≤◌, ℕ, List, [], None, Option, take};
 
 use crossbeam_channel::Pass;
 use crossbeam_channel::protocol::{Lesson, Outcome, Protocol, Split};
@@ -30,14 +30,22 @@ pub struct Piece {
 }
 
 impl Piece {
-    /// No octets.
+    /// No octets. So the reader says that its stream has ended.
     pub fn none() -> Piece
-        ensures { take result.count result.octets ≡ [] }
+        ensures none { take result.count result.octets ≡ [] }
+        ensures mark { result.count ≡ 0 }
     {
         Piece {
             octets: [0; PIECE],
             count: 0,
         }
+    }
+
+    /// Whether it is the end mark.
+    pub fn is_mark(&self) -> bool
+        ensures { result ≡ (self.now.count == 0) }
+    {
+        self.count == 0
     }
 
     /// The octets.
@@ -112,14 +120,15 @@ impl Lesson<Piece, PiecesView> for Gives {
     ghost fact = { λ v items. ⊤ };
 }
 
-/// A piece adds to what the seat took. That is the first of what the stream was to give.
+/// A piece adds to what the seat took. That is the first of what the stream was to give, and behind the end mark all of it.
 pub struct Takes;
 
 impl Outcome<Piece, PiecesView> for Takes {
-    ghost use Rattle.std.specs.Prelude.{◌≡◌, ◌++◌};
-    ghost use Rattle.smsc_arrivals.specs.Pieces.{taker_view, octets_of, IsGivenOf};
+    ghost use Rattle.std.specs.Prelude.{◌≡◌, ◌++◌, true};
+    ghost use Rattle.smsc_arrivals.specs.Pieces.{taker_view, is_mark, octets_of, AreAll, IsGivenOf};
 
-    ghost then = { λ v x w. (w ≡ taker_view v.source (v.taken ++ octets_of x)) × IsGivenOf v.source (v.taken ++ octets_of x) };
+    ghost then = { λ v x w. (w ≡ taker_view v.source (v.taken ++ octets_of x)) × IsGivenOf v.source (v.taken ++ octets_of x)
+        × (is_mark x ≡ true → AreAll v.source (v.taken ++ octets_of x)) };
 }
 
 impl Lesson<Piece, PiecesView> for Takes {

@@ -32,7 +32,10 @@ pub struct Reader<R, S: Read> {
 pub enum ReadOutcome {
     Octets(Piece),
     Nothing,
+    /// The other side sends no more.
     Ended,
+    /// Its connection can't be read any more.
+    Lost,
 }
 
 // Waits until octets arrive, or the end.
@@ -44,12 +47,12 @@ fn read_piece<S: Read>(stream: &mut S) -> ReadOutcome
         Ok(0) => ReadOutcome::Ended,
         Ok(count) => ReadOutcome::Octets(Piece { octets, count }),
         Err(error) if error.kind() == io::ErrorKind::Interrupted => ReadOutcome::Nothing,
-        Err(_) => ReadOutcome::Ended,
+        Err(_) => ReadOutcome::Lost,
     }
 }
 
 impl<R: Wait, S: Read + Drop> Reader<R, S> {
-    // Reads a connection until it ends, or the seat has left it.
+    // Reads a connection until it ends or is lost, or the seat has left it.
     fn read(&self, reading: Reading<S>) {
         let Reading {
             mut stream,
@@ -64,7 +67,11 @@ impl<R: Wait, S: Read + Drop> Reader<R, S> {
                     self.bell.ring();
                 }
                 ReadOutcome::Nothing => (),
-                ReadOutcome::Ended => return,
+                ReadOutcome::Ended => {
+                    let _ = pieces.give(&self.rt, Piece::none());
+                    return;
+                }
+                ReadOutcome::Lost => return,
             }
         }
     }
@@ -76,7 +83,7 @@ impl<R: Wait, S: Read + Drop> Reader<R, S> {
                 return;
             };
             self.read(reading);
-            // The end is known by the queue, whose sender was dropped.
+            // The end is known by its mark, and a lost connection by the queue, whose sender was dropped.
             self.bell.ring();
         }
     }

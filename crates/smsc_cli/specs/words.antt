@@ -8,7 +8,6 @@ pub mod LookWords
 pub mod MisbehaviourWords
 pub mod Numbers
 pub mod Options
-pub mod OwnAddress
 pub mod Secrets
 pub mod ServerWords
 pub mod SimWords

@@ -6,7 +6,7 @@ use Rattle.sms_centre_spec.specs.declared.jobs.job.Job.{Job}
 use Rattle.sms_centre_spec.specs.declared.jobs.reply.Reply.{Reply}
 use Rattle.sms_centre_spec.specs.declared.jobs.reply.Reply.TheVariants.{Answer, Receipt, Frame, Taken}
 use Rattle.sms_centre_spec.specs.jobs.Requests.{is_request}
-use Rattle.smsc_loop.specs.Owing.{TakesTurns, ahead_after, answers_in, asks_nothing, awaited_after, awaited_with, ends_answered, ends_asked, is_ahead, is_answer, most_in_queue, requests_in}
+use Rattle.smsc_loop.specs.Owing.{TakesTurns, ahead_after, answers_in, asks_nothing, awaited_after, awaited_with, ends_answered, ends_asked, ends_vacant, is_ahead, is_answer, is_vacancy, most_in_queue, requests_in}
 
 abbrev counted_in : Bool → ℕ → ℕ
 counted_in b n = if b then suc n else n
@@ -70,6 +70,19 @@ last_reply taken taken_then reply is e f so = ap ends_answered f ∙ (ends_with 
 pub answered_kept : (taken taken_then : List Reply) (is : Bool) → (is ≡ true → ends_answered taken ≡ true) → taken_then ≡ taken
     → is ≡ true → ends_answered taken_then ≡ true
 answered_kept taken taken_then is known e so = ap ends_answered e ∙ known so
+
+pub vacant_with : (taken : List Reply) (reply : Reply) → ends_vacant (taken ++ reply ∷ []) ≡ is_vacancy reply
+vacant_with [] reply = refl
+vacant_with (first ∷ []) reply = refl
+vacant_with (first ∷ next ∷ taken) reply = vacant_with (next ∷ taken) reply
+
+pub last_vacancy : (taken taken_then : List Reply) (reply : Reply) (is : Bool) → is ≡ is_vacancy reply → taken_then ≡ taken ++ reply ∷ []
+    → is ≡ true → ends_vacant taken_then ≡ true
+last_vacancy taken taken_then reply is e f so = ap ends_vacant f ∙ (vacant_with taken reply ∙ (sym e ∙ so))
+
+pub vacant_kept : (taken taken_then : List Reply) (is : Bool) → (is ≡ true → ends_vacant taken ≡ true) → taken_then ≡ taken
+    → is ≡ true → ends_vacant taken_then ≡ true
+vacant_kept taken taken_then is known e so = ap ends_vacant e ∙ known so
 
 -- ---- the count of a seat
 

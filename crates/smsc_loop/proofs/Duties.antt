@@ -18,24 +18,24 @@ use Rattle.smsc_loop.specs.Calls.{Call, AskedLink, AskedToLeave}
 use Rattle.smsc_loop.specs.Courses.{Did, standing}
 use Rattle.smsc_loop.specs.Duties.{AsksToLeave, Heeds, Obeys, Stood, Unbinds, end_by}
 use Rattle.smsc_loop.specs.Phases.{Serves, behind}
-use Rattle.smsc_loop.specs.Served.{MeantAt}
+use Rattle.smsc_loop.specs.Served.{MeantAt, SideEnd}
 use Rattle.smsc_loop.proofs.Joins.{did_none, did_still}
 
 module _ {V : Type 0} (waits : V → List ℕ) (over owing : V → Bool) where
-  ended_by : (verdict : WaitOutcome) (stays : Bool) (u : V) (ended closed : Bool) → MeantAt waits over owing ended closed u (end_by verdict stays)
-  ended_by Waits stays u ended closed = tt
-  ended_by AsksLink stays u ended closed = tt
-  ended_by Silent stays u ended closed = refl
-  ended_by Stalled stays u ended closed = refl
-  ended_by Unanswered stays u ended closed = refl
-  ended_by Inactive stays u ended closed = refl
-  ended_by Ordered true u ended closed = tt
-  ended_by Ordered false u ended closed = refl
+  ended_by : (verdict : WaitOutcome) (stays : Bool) (u : V) (side : SideEnd) (closed : Bool) → MeantAt waits over owing side closed u (end_by verdict stays)
+  ended_by Waits stays u side closed = tt
+  ended_by AsksLink stays u side closed = tt
+  ended_by Silent stays u side closed = refl
+  ended_by Stalled stays u side closed = refl
+  ended_by Unanswered stays u side closed = refl
+  ended_by Inactive stays u side closed = refl
+  ended_by Ordered true u side closed = tt
+  ended_by Ordered false u side closed = refl
 
   stood_ends : (is_kept : Bool) (now : ℕ) (p q : Patience) (u : V) (end : TurnEnd) → Stood is_kept now p q end
-      → (ended closed : Bool) → MeantAt waits over owing ended closed u end
-  stood_ends true now p q u end h ended closed = subst (λ (x : TurnEnd). MeantAt waits over owing ended closed u x) (sym h.1) tt
-  stood_ends false now p q u end h ended closed = subst (λ (x : TurnEnd). MeantAt waits over owing ended closed u x) (sym h.1) refl
+      → (side : SideEnd) (closed : Bool) → MeantAt waits over owing side closed u end
+  stood_ends true now p q u end h side closed = subst (λ (x : TurnEnd). MeantAt waits over owing side closed u x) (sym h.1) tt
+  stood_ends false now p q u end h side closed = subst (λ (x : TurnEnd). MeantAt waits over owing side closed u x) (sym h.1) refl
 
 module _ {V E : Type 0} (does : Call → V → V → Type 0) (owing : V → Bool) where
   pub heeds_as : (verdict known : WaitOutcome) (stays : Bool) (now : ℕ) (p : Patience) (v : V) (q : Patience) (u : V) (result : Result TurnEnd E) → verdict ≡ known
@@ -66,7 +66,7 @@ module _ {V E : Type 0} (waits : V → List ℕ) (over owing : V → Bool) (does
 
   -- each reason of its end is meant
   abbrev pub EndsSo : V → Result TurnEnd E → Type 0
-  EndsSo u result = (ended closed : Bool) → IfOk result (λ end. MeantAt waits over owing ended closed u end)
+  EndsSo u result = (side : SideEnd) (closed : Bool) → IfOk result (λ end. MeantAt waits over owing side closed u end)
 
   led_still : (v u : V) (end : TurnEnd) (result : Result TurnEnd E) → u ≡ v → result ≡ Ok end → LedTo v u result
   led_still v u end result e f a w s =
@@ -74,9 +74,9 @@ module _ {V E : Type 0} (waits : V → List ℕ) (over owing : V → Bool) (does
       (subst (λ (x : V). Did does (standing v Serves a w s) (standing x Serves a w s)) (sym e) (did_none does v Serves a w s))
 
   ends_still : (u : V) (end : TurnEnd) (result : Result TurnEnd E) → result ≡ Ok end
-      → ((ended closed : Bool) → MeantAt waits over owing ended closed u end) → EndsSo u result
-  ends_still u end result f m ended closed =
-      subst (λ (r : Result TurnEnd E). IfOk r (λ x. MeantAt waits over owing ended closed u x)) (sym f) (m ended closed)
+      → ((side : SideEnd) (closed : Bool) → MeantAt waits over owing side closed u end) → EndsSo u result
+  ends_still u end result f m side closed =
+      subst (λ (r : Result TurnEnd E). IfOk r (λ x. MeantAt waits over owing side closed u x)) (sym f) (m side closed)
 
   -- ---- verdicts
 
@@ -93,14 +93,14 @@ module _ {V E : Type 0} (waits : V → List ℕ) (over owing : V → Bool) (does
 
   pub heeds_ends : (verdict : WaitOutcome) (stays : Bool) (now : ℕ) (p q : Patience) (v u : V) (result : Result TurnEnd E)
       → Heeds does owing verdict stays now p v q u result → EndsSo u result
-  heeds_ends AsksLink stays now p q v u (Ok end) h ended closed = subst (λ (x : TurnEnd). MeantAt waits over owing ended closed u x) (sym h.1.0) tt
-  heeds_ends AsksLink stays now p q v u (Err e) h ended closed = tt
-  heeds_ends Waits stays now p q v u result h ended closed = ends_still u _ result h.2 (ended_by waits over owing Waits stays u) ended closed
-  heeds_ends Silent stays now p q v u result h ended closed = ends_still u _ result h.2 (ended_by waits over owing Silent stays u) ended closed
-  heeds_ends Stalled stays now p q v u result h ended closed = ends_still u _ result h.2 (ended_by waits over owing Stalled stays u) ended closed
-  heeds_ends Unanswered stays now p q v u result h ended closed = ends_still u _ result h.2 (ended_by waits over owing Unanswered stays u) ended closed
-  heeds_ends Inactive stays now p q v u result h ended closed = ends_still u _ result h.2 (ended_by waits over owing Inactive stays u) ended closed
-  heeds_ends Ordered stays now p q v u result h ended closed = ends_still u _ result h.2 (ended_by waits over owing Ordered stays u) ended closed
+  heeds_ends AsksLink stays now p q v u (Ok end) h side closed = subst (λ (x : TurnEnd). MeantAt waits over owing side closed u x) (sym h.1.0) tt
+  heeds_ends AsksLink stays now p q v u (Err e) h side closed = tt
+  heeds_ends Waits stays now p q v u result h side closed = ends_still u _ result h.2 (ended_by waits over owing Waits stays u) side closed
+  heeds_ends Silent stays now p q v u result h side closed = ends_still u _ result h.2 (ended_by waits over owing Silent stays u) side closed
+  heeds_ends Stalled stays now p q v u result h side closed = ends_still u _ result h.2 (ended_by waits over owing Stalled stays u) side closed
+  heeds_ends Unanswered stays now p q v u result h side closed = ends_still u _ result h.2 (ended_by waits over owing Unanswered stays u) side closed
+  heeds_ends Inactive stays now p q v u result h side closed = ends_still u _ result h.2 (ended_by waits over owing Inactive stays u) side closed
+  heeds_ends Ordered stays now p q v u result h side closed = ends_still u _ result h.2 (ended_by waits over owing Ordered stays u) side closed
 
   -- ---- orders
 
@@ -109,8 +109,8 @@ module _ {V E : Type 0} (waits : V → List ℕ) (over owing : V → Bool) (does
   asks_led now p q v u (Err e) h a w s = did_still does (AskedToLeave false false) v u Serves _ a w s refl refl refl refl h.0 (refl, refl)
 
   asks_ends : (now : ℕ) (p q : Patience) (v u : V) (result : Result TurnEnd E) → AsksToLeave does owing now p v q u result → EndsSo u result
-  asks_ends now p q v u (Ok end) h ended closed = stood_ends waits over owing (h.0 || owing u) now p q u end h.2 ended closed
-  asks_ends now p q v u (Err e) h ended closed = tt
+  asks_ends now p q v u (Ok end) h side closed = stood_ends waits over owing (h.0 || owing u) now p q u end h.2 side closed
+  asks_ends now p q v u (Err e) h side closed = tt
 
   unbinds_led : (leaving : Option ℕ) (now : ℕ) (p q : Patience) (v u : V) (result : Result TurnEnd E) → Unbinds does owing leaving now p v q u result
       → LedTo v u result
@@ -120,7 +120,7 @@ module _ {V E : Type 0} (waits : V → List ℕ) (over owing : V → Bool) (does
   unbinds_ends : (leaving : Option ℕ) (now : ℕ) (p q : Patience) (v u : V) (result : Result TurnEnd E) → Unbinds does owing leaving now p v q u result
       → EndsSo u result
   unbinds_ends None now p q v u result h = asks_ends now p q v u result h
-  unbinds_ends (Some since) now p q v u result h = ends_still u Stays result h.2 (λ ended closed. tt)
+  unbinds_ends (Some since) now p q v u result h = ends_still u Stays result h.2 (λ side closed. tt)
 
   pub obeys_led : (order : Order) (now : ℕ) (p q : Patience) (v u : V) (result : Result TurnEnd E) → Obeys does owing order now p v q u result
       → LedTo v u result
@@ -131,7 +131,7 @@ module _ {V E : Type 0} (waits : V → List ℕ) (over owing : V → Bool) (does
 
   pub obeys_ends : (order : Order) (now : ℕ) (p q : Patience) (v u : V) (result : Result TurnEnd E) → Obeys does owing order now p v q u result
       → EndsSo u result
-  obeys_ends Stay now p q v u result h = ends_still u Stays result h.2 (λ ended closed. tt)
+  obeys_ends Stay now p q v u result h = ends_still u Stays result h.2 (λ side closed. tt)
   obeys_ends Unbind now p q v u result h = unbinds_ends p.leaving now p q v u result h
-  obeys_ends End now p q v u result h = ends_still u _ result h.2 (λ ended closed. refl)
-  obeys_ends Replaced now p q v u result h = ends_still u _ result h.2 (λ ended closed. refl)
+  obeys_ends End now p q v u result h = ends_still u _ result h.2 (λ side closed. refl)
+  obeys_ends Replaced now p q v u result h = ends_still u _ result h.2 (λ side closed. refl)

@@ -2,6 +2,7 @@ pub mod Calls
 pub mod Courses
 pub mod Duties
 pub mod Emptying
+pub mod Flowing
 pub mod Owing
 pub mod Phases
 pub mod Reading

@@ -1,5 +1,7 @@
 -- What a seat still has to get.
 use Rattle.std.specs.Prelude.{◌≡◌, ◌≤◌, ◌==◌, ℕ, suc, ◌+◌, ◌-◌, Bool, true, false, List, [], ◌∷◌, Option, Some, None, if◌then◌else◌, nat_lt}
+use Rattle.smpp_pdu.specs.declared.status.CommandStatus.TheVariants.{ESME_RINVMSGID}
+use Rattle.sms_centre_spec.specs.declared.answer.CentreAnswer.TheVariants.{Refused}
 use Rattle.sms_centre_spec.specs.declared.jobs.job.Job.{Job}
 use Rattle.sms_centre_spec.specs.declared.jobs.job.Job.TheVariants.{Query}
 use Rattle.sms_centre_spec.specs.declared.jobs.reply.Reply.{Reply}
@@ -55,6 +57,17 @@ ends_answered [] = true
 ends_answered (reply ∷ []) = is_answer reply
 ends_answered (reply ∷ next ∷ taken) = ends_answered (next ∷ taken)
 
+-- it says that nobody is at the seat
+abbrev pub is_vacancy : Reply → Bool
+is_vacancy (Answer (Refused ESME_RINVMSGID)) = true
+is_vacancy reply = false
+
+-- the last reply that was taken says that nobody is at the seat, if any was taken
+abbrev pub ends_vacant : List Reply → Bool
+ends_vacant [] = true
+ends_vacant (reply ∷ []) = is_vacancy reply
+ends_vacant (reply ∷ next ∷ taken) = ends_vacant (next ∷ taken)
+
 -- it asks nothing, and has an answer
 abbrev pub asks_nothing : Job → Bool
 asks_nothing (Query account []) = account == 0
@@ -72,5 +85,9 @@ ends_asked (job ∷ next ∷ put) = ends_asked (next ∷ put)
 
 -- Each request that was put has its answer, and no other answer was taken. The last job is a request that asks nothing, and behind its answer
 -- nothing was taken.
+abbrev pub HasAnswers : List (Option Job) → List Reply → Type 0
+HasAnswers put taken = (requests_in put ≡ answers_in taken) × (ends_asked put ≡ true) × (ends_answered taken ≡ true)
+
+-- That answer says that nobody is at the seat, too.
 abbrev pub IsCleared : List (Option Job) → List Reply → Type 0
-IsCleared put taken = (requests_in put ≡ answers_in taken) × (ends_asked put ≡ true) × (ends_answered taken ≡ true)
+IsCleared put taken = (requests_in put ≡ answers_in taken) × (ends_asked put ≡ true) × (ends_answered taken ≡ true) × (ends_vacant taken ≡ true)

@@ -1,5 +1,5 @@
 -- Which calls may follow which.
-use Rattle.std.specs.Prelude.{◌≡◌, Bool, true, false, [], Option, Some, None, ⊤}
+use Rattle.std.specs.Prelude.{◌≡◌, ◌⊎◌, Bool, true, false, [], Option, Some, None, ⊤}
 use Rattle.sms_centre_spec.specs.declared.jobs.job.Job.{Job}
 use Rattle.sms_centre_spec.specs.declared.jobs.job.Job.TheVariants.{Bound, Unbound, Submit, Query, Cancel, DeliverAnswered, LinkUp, LinkDown, Frame}
 use Rattle.smsc_loop.specs.Calls.{Call, Timed, Told, Took, Heard, GaveUp, AskedLink, AskedToLeave, Noted, Sent, Put, PutBack, Left, PutLast, PutOwn, Dropped}
@@ -14,7 +14,7 @@ pub data Phase : Type 0 where
   Leaves : Option Job → Phase
   -- The last job is put, behind all others of the endpoint.
   Ends : Phase
-  -- Behind them the loop has put its own request.
+  -- Behind them the loop has put jobs of its own.
   Asks : Phase
 
 -- the phase behind a call, by whether it went
@@ -56,7 +56,7 @@ HasEnded Fails = ⊥
 HasEnded (Leaves None) = ⊤
 HasEnded (Leaves (Some job)) = ⊥
 HasEnded Ends = ⊤
-HasEnded Asks = ⊥
+HasEnded Asks = ⊤
 
 -- what changes messages
 abbrev pub is_change : Job → Bool
@@ -90,6 +90,11 @@ KnowsEnd Asks has_ended = ⊤
 abbrev pub own_request : Job
 own_request = Query 0 []
 
+-- The jobs of the loop. Where the centre has not done the last jobs of the endpoint, the loop puts them again: the session is bound no longer,
+-- and the link is no longer.
+abbrev pub IsOwn : Job → Type 0
+IsOwn job = (job ≡ own_request) ⊎ ((job ≡ Unbound) ⊎ (job ≡ LinkDown))
+
 -- The call may be made in the one phase, and the other follows.
 abbrev pub Moves : Call → Phase → Phase → Type 0
 Moves (Timed now went) p q = (p ≡ Serves) × (q ≡ behind went p)
@@ -105,6 +110,6 @@ Moves (Put job) p q = Listens p × (q ≡ p) × MayPut p job
 Moves (PutBack job again went) p q = Listens p × (q ≡ behind went p)
 Moves (Left last) p q = IsHere p × (q ≡ Leaves last)
 Moves (PutLast job) p q = (p ≡ Leaves (Some job)) × (q ≡ Ends)
-Moves (PutOwn job) p q = HasEnded p × (q ≡ Asks) × (job ≡ own_request)
+Moves (PutOwn job) p q = HasEnded p × (q ≡ Asks) × IsOwn job
 Moves (Dropped reply) p q = HasLeft p × (q ≡ p)
 Moves (Refused reply) p q = Listens p × (q ≡ behind false p)

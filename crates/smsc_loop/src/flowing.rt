@@ -1,13 +1,15 @@
 //! Between a wire and its endpoint: octets.
-ghost use Rattle.std.specs.Prelude.{◌≡◌, ◌⊎◌, true, false, is_ok, IfNone, IfOk};
+ghost use Rattle.std.specs.Prelude.{◌≡◌, ◌⊎◌, true, false, is_ok, length, IfNone, IfOk};
 ghost use Rattle.sms_seats.specs.declared.seat.Seat.{Seat};
 ghost use Rattle.sms_centre_spec.specs.declared.jobs.job.Job.{Job};
 ghost use Rattle.sms_centre_spec.specs.declared.jobs.reply.Reply.{Reply};
 ghost use Rattle.smsc_loop.specs.Courses.{Did, standing};
 ghost use Rattle.smsc_loop.specs.Duties.{stalled_by};
+ghost use Rattle.smsc_loop.specs.Flowing.{answered_end, flowing_end, is_answered as is_answered_of};
 ghost use Rattle.smsc_loop.specs.Phases.{Serves, behind};
-ghost use Rattle.smsc_loop.specs.Served.{IsAnswered, MeantAt};
-ghost use Rattle.smsc_loop.specs.declared.turn_end.TurnEnd.TheVariants.{Stays, Rests};
+ghost use Rattle.smsc_loop.specs.Served.{IsAnswered, MeantAt, side_end};
+ghost use Rattle.smsc_loop.specs.declared.note.LeaveReason.TheVariants.{Closed};
+ghost use Rattle.smsc_loop.specs.declared.turn_end.TurnEnd.TheVariants.{Stays, Rests, Leaves};
 
 use crate::endpoint::Endpoint;
 use crate::note::LeaveReason;
@@ -36,7 +38,8 @@ pub(crate) fn send<W: Wire, G: Endpoint>(wire: &mut W, endpoint: &mut G) -> Opti
 
 // Whether nothing waits to be sent, and each request that was taken is answered.
 fn is_answered<G: Endpoint>(endpoint: &G) -> bool
-    ensures { result ≡ true → IsAnswered G.waits G.owing endpoint.now }
+    ensures value { result ≡ is_answered_of (length (G.waits endpoint.now)) (G.owing endpoint.now) }
+    ensures answered { result ≡ true → IsAnswered G.waits G.owing endpoint.now }
 {
     endpoint.octets().is_empty() && !endpoint.owes()
 }
@@ -44,7 +47,8 @@ fn is_answered<G: Endpoint>(endpoint: &G) -> bool
 // Whether an endpoint that is answered stays.
 fn end_answered<W: Wire, G: Endpoint>(wire: &W, endpoint: &G) -> TurnEnd
     requires { IsAnswered G.waits G.owing endpoint.now }
-    ensures { MeantAt G.waits G.over G.owing (W.ended wire.now) (W.closed wire.now) endpoint.now result }
+    ensures ends { result ≡ answered_end (G.over endpoint.now) (W.ended wire.now) }
+    ensures meant { MeantAt G.waits G.over G.owing (side_end (W.ended wire.now) (W.remaining wire.now)) (W.closed wire.now) endpoint.now result }
 {
     if endpoint.is_over() {
         return TurnEnd::Leaves(LeaveReason::Over);
@@ -57,7 +61,8 @@ fn end_answered<W: Wire, G: Endpoint>(wire: &W, endpoint: &G) -> TurnEnd
 
 // Whether an endpoint stays whose octets the wire took, as far as it did.
 fn end_flowing<W: Wire, G: Endpoint>(wire: &W, endpoint: &G) -> TurnEnd
-    ensures { MeantAt G.waits G.over G.owing (W.ended wire.now) (W.closed wire.now) endpoint.now result }
+    ensures ends { result ≡ flowing_end (length (G.waits endpoint.now)) (G.owing endpoint.now) (G.over endpoint.now) (W.ended wire.now) }
+    ensures meant { MeantAt G.waits G.over G.owing (side_end (W.ended wire.now) (W.remaining wire.now)) (W.closed wire.now) endpoint.now result }
 {
     // Also of a connection that takes some octets in every turn, but fewer than it asks for.
     if endpoint.octets().len() > MOST_OCTETS {
@@ -89,11 +94,18 @@ pub(crate) fn flow<W: Wire, G: Endpoint>(
 ) -> TurnEnd
     ensures did { (s : Seat Job Reply) → Did G.does (standing endpoint.old Serves (W.remaining wire.old) (W.written wire.old) s)
         (standing endpoint.new Serves (W.remaining wire.new) (W.written wire.new) s) }
-    ensures meant { MeantAt G.waits G.over G.owing (W.ended wire.new) (W.closed wire.new) endpoint.new result }
+    ensures meant { MeantAt G.waits G.over G.owing (side_end (W.ended wire.new) (W.remaining wire.new)) (W.closed wire.new) endpoint.new result }
+    // Where the wire takes no octets any more, the endpoint leaves. Else what waits, owes and has ended decides alone.
+    ensures ends { ((W.closed wire.new ≡ true) × (result ≡ Leaves Closed))
+        ⊎ (result ≡ flowing_end (length (G.waits endpoint.new)) (G.owing endpoint.new) (G.over endpoint.new) (W.ended wire.new)) }
 {
     let Some(sent) = send(wire, endpoint) else {
         return TurnEnd::Leaves(LeaveReason::Closed);
     };
+    // Also where it can't be read any more, and nothing is to be sent.
+    if wire.is_closed() {
+        return TurnEnd::Leaves(LeaveReason::Closed);
+    }
     follow(patience, sent, endpoint.octets().len(), now);
     end_flowing(wire, endpoint)
 }
@@ -122,6 +134,7 @@ pub(crate) fn read<R: Wait, W: Wire, G: Endpoint>(
         Found::Nothing => Ok(TurnEnd::Rests),
         // The next turn sees it.
         Found::Ended => Ok(TurnEnd::Stays),
+        Found::Lost => Ok(TurnEnd::Stays),
     }
 }
 

@@ -6,7 +6,7 @@ ghost use Rattle.sms_centre_spec.specs.declared.jobs.reply.Reply.{Reply};
 ghost use Rattle.smsc_loop.specs.Courses.{Did, standing};
 ghost use Rattle.smsc_loop.specs.Duties.{Heeds, Obeys, Stood, Unbinds, has_time as has_time_of};
 ghost use Rattle.smsc_loop.specs.Phases.{Serves, behind};
-ghost use Rattle.smsc_loop.specs.Served.{MeantAt};
+ghost use Rattle.smsc_loop.specs.Served.{MeantAt, SideEnd};
 
 use crate::endpoint::Endpoint;
 use crate::note::LeaveReason;
@@ -72,7 +72,7 @@ pub(crate) fn judge<G: Endpoint, A: Surroundings>(
 ) -> Result<TurnEnd, AllocError>
     ensures did { (a w : Option (List ℕ)) (s : Seat Job Reply) → Did G.does (standing endpoint.old Serves a w s)
         (standing endpoint.new (behind (is_ok result) Serves) a w s) }
-    ensures meant { (ended closed : Bool) → IfOk result (λ end. MeantAt G.waits G.over G.owing ended closed endpoint.new end) }
+    ensures meant { (side : SideEnd) (closed : Bool) → IfOk result (λ end. MeantAt G.waits G.over G.owing side closed endpoint.new end) }
 {
     if endpoint.is_known() {
         patience.know(now);

@@ -2,9 +2,9 @@
 ghost use Rattle.std.specs.Prelude.{◌≡◌, ◌⊎◌, ◌++◌, ◌∷◌, [], true, false, ℕ, Bool, List, Option, Some, MatchBool};
 ghost use Rattle.sms_seats.specs.Seats.{IsSameSeat, put_by, taken_by};
 ghost use Rattle.smsc_loop.specs.Courses.{Did, standing};
-ghost use Rattle.smsc_loop.specs.Emptying.{Drops, Emptied, OwnPut, due_of};
+ghost use Rattle.smsc_loop.specs.Emptying.{Drops, Emptied, OwnPut, Owns, due_of};
 ghost use Rattle.smsc_loop.specs.Owing.{IsCleared};
-ghost use Rattle.smsc_loop.specs.Phases.{Phase, Leaves, Asks, IsHere, own_request};
+ghost use Rattle.smsc_loop.specs.Phases.{Phase, Leaves, Asks, IsHere, IsOwn, own_request};
 ghost use Rattle.smsc_loop.specs.Served.{IsLeft};
 
 use crate::endpoint::Endpoint;
@@ -114,7 +114,7 @@ fn drop_awaited<R: Wait>(rt: &R, seat: &mut OpenSeat)
     ensures seat { IsSameSeat seat.old.seat seat.new.seat }
 {
     for _ in 0..4096 {
-        if seat.is_cleared() {
+        if seat.has_answers() {
             return;
         }
         if seat.take(rt).is_none() {
@@ -128,21 +128,55 @@ fn take_answers<R: Wait, A: Surroundings>(rt: &R, around: &A, seat: &mut OpenSea
     ensures dropped { Drops (taken_by seat.old.seat) (taken_by seat.new.seat) }
     ensures put { put_by seat.new.seat ≡ put_by seat.old.seat }
     ensures seat { IsSameSeat seat.old.seat seat.new.seat }
-    ensures taken { A.was_over around.now ⊎ IsCleared (put_by seat.new.seat) (taken_by seat.new.seat) }
 {
     for _ in rt.forever() {
         if around.is_over() {
             return;
         }
         drop_awaited(rt, seat);
-        if seat.is_cleared() {
+        if seat.has_answers() {
             return;
         }
         seat.wait(rt, Duration::from_millis(20));
     }
 }
 
-// Puts a job of the loop, and takes replies until it has all answers.
+// Puts a job of the loop, unless the run is over.
+fn put_one<R: Wait, A: Surroundings>(rt: &R, around: &A, seat: &mut OpenSeat, job: Job)
+    requires { IsOwn job }
+    ensures { Owns seat.old.seat seat.new.seat }
+{
+    let _ = put_job(rt, around, seat, job);
+}
+
+// Somebody is at the seat still: the centre is told again that nobody is, and asked.
+fn put_again<R: Wait, A: Surroundings>(rt: &R, alloc: Global, around: &A, seat: &mut OpenSeat)
+    ensures { Owns seat.old.seat seat.new.seat }
+{
+    put_one(rt, around, seat, Job::Unbound);
+    put_one(rt, around, seat, Job::LinkDown);
+    put_one(rt, around, seat, own_job(alloc));
+    take_answers(rt, around, seat);
+}
+
+// Asks until nobody is at the seat: the centre may have lacked the memory to end a session or a link.
+fn clear<R: Wait, A: Surroundings>(rt: &R, alloc: Global, around: &A, seat: &mut OpenSeat)
+    ensures owns { Owns seat.old.seat seat.new.seat }
+    ensures cleared { A.was_over around.now ⊎ IsCleared (put_by seat.new.seat) (taken_by seat.new.seat) }
+{
+    for _ in rt.forever() {
+        if around.is_over() {
+            return;
+        }
+        if seat.is_cleared() {
+            return;
+        }
+        seat.wait(rt, Duration::from_millis(20));
+        put_again(rt, alloc, around, seat);
+    }
+}
+
+// Puts a job of the loop, and takes replies until it has all answers and nobody is at the seat.
 fn put_own<R: Wait, A: Surroundings>(rt: &R, alloc: Global, around: &A, seat: &mut OpenSeat)
     ensures dropped { Drops (taken_by seat.old.seat) (taken_by seat.new.seat) }
     ensures put { OwnPut (A.was_over around.now) seat.old.seat seat.new.seat }
@@ -150,11 +184,12 @@ fn put_own<R: Wait, A: Surroundings>(rt: &R, alloc: Global, around: &A, seat: &m
 {
     if put_job(rt, around, seat, own_job(alloc)) {
         take_answers(rt, around, seat);
+        clear(rt, alloc, around, seat);
     }
 }
 
 // The last job of the endpoint is put, and then one that asks nothing and has an answer. Once that is taken, all replies to the endpoint
-// have been taken.
+// have been taken, and nobody is at the seat.
 fn empty<R: Wait, A: Surroundings>(
     rt: &R,
     alloc: Global,

@@ -3,11 +3,12 @@ ghost use Rattle.std.specs.Prelude.{◌≡◌, ◌≤◌, ◌<◌, ◌⊎◌, []
 ghost use Rattle.sms_seats.specs.Jobs.{has_end};
 ghost use Rattle.sms_seats.specs.Seats.{IsSameSeat, number_of, put_by, taken_by};
 ghost use Rattle.smsc_loop.specs.Emptying.{Drops};
-ghost use Rattle.smsc_loop.specs.Owing.{IsCleared, answers_in, asks_nothing as asks_nothing_of, awaited_after, awaited_with as awaited_with_of, ends_answered};
-ghost use Rattle.smsc_loop.specs.Owing.{ends_asked};
-ghost use Rattle.smsc_loop.specs.Owing.{ahead_after, is_ahead as is_ahead_of};
+ghost use Rattle.smsc_loop.specs.Owing.{IsCleared, answers_in, asks_nothing as asks_nothing_of, awaited_after, awaited_with as awaited_with_of, ends_answered, ends_asked};
+ghost use Rattle.smsc_loop.specs.Owing.{HasAnswers, ahead_after, ends_vacant, is_ahead as is_ahead_of, is_vacancy as is_vacancy_of};
 ghost use Rattle.smsc_loop.specs.Owing.{TakesTurns, is_answer as is_answer_of, most_in_queue, requests_in};
 
+use smpp_pdu::CommandStatus;
+use sms_centre_spec::CentreAnswer;
 use sms_centre_spec::jobs::{Job, Reply};
 use sms_seats::{Bell, Seat};
 use std::alloc::AllocError;
@@ -31,11 +32,14 @@ pub struct OpenSeat {
     is_asked: bool,
     // It took nothing yet, or an answer last.
     is_answered: bool,
+    // It took nothing yet, or last that nobody is at the seat.
+    is_vacant: bool,
     ghost open: { has_end (put_by seat) ≡ false },
     ghost few: { awaited ≤ most_in_queue },
     ghost counted: { requests_in (put_by seat) + ahead ≡ answers_in (taken_by seat) + awaited },
     ghost asked: { is_asked ≡ true → ends_asked (put_by seat) ≡ true },
     ghost answered: { is_answered ≡ true → ends_answered (taken_by seat) ≡ true },
+    ghost vacant: { is_vacant ≡ true → ends_vacant (taken_by seat) ≡ true },
 }
 
 fn asks_nothing(job: &Job) -> bool
@@ -66,6 +70,15 @@ fn is_answer(reply: &Reply) -> bool
     ensures { result ≡ is_answer_of reply.now }
 {
     matches!(reply, Reply::Answer(_))
+}
+
+fn is_vacancy(reply: &Reply) -> bool
+    ensures { result ≡ is_vacancy_of reply.now }
+{
+    match reply {
+        Reply::Answer(CentreAnswer::Refused(CommandStatus::ESME_RINVMSGID)) => true,
+        _ => false,
+    }
 }
 
 // How many answers a seat has still to get behind the reply, by how many it had before.
@@ -101,6 +114,7 @@ impl OpenSeat {
             ahead: 0,
             is_asked: true,
             is_answered: true,
+            is_vacant: true,
         }
     }
 
@@ -149,6 +163,7 @@ impl OpenSeat {
         }
         let reply = self.seat.take_answer(rt)?;
         self.is_answered = is_answer(&reply);
+        self.is_vacant = is_vacancy(&reply);
         self.ahead = ahead_behind(&reply, self.awaited, self.ahead);
         self.awaited = awaited_behind(&reply, self.awaited);
         Some(reply)
@@ -162,10 +177,17 @@ impl OpenSeat {
     }
 
     /// Whether each of its requests has its answer and no other was taken. The last job asks nothing, and nothing was taken behind its answer.
+    pub(crate) fn has_answers(&self) -> bool
+        ensures { result ≡ true → HasAnswers (put_by self.now.seat) (taken_by self.now.seat) }
+    {
+        self.awaited == 0 && self.is_asked && self.is_answered && self.ahead == 0
+    }
+
+    /// Whether it has all answers, and the last one says that nobody is at the seat.
     pub fn is_cleared(&self) -> bool
         ensures { result ≡ true → IsCleared (put_by self.now.seat) (taken_by self.now.seat) }
     {
-        self.awaited == 0 && self.is_asked && self.is_answered && self.ahead == 0
+        self.has_answers() && self.is_vacant
     }
 
     /// What wakes the seat, for whoever else than the keeper has something for it.
@@ -191,6 +213,7 @@ impl OpenSeat {
             ahead: _,
             is_asked: _,
             is_answered: _,
+            is_vacant: _,
         } = self;
         for _ in rt.forever() {
             if over.load(Ordering::SeqCst) || seat.try_close(rt) {

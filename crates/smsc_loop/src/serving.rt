@@ -1,11 +1,11 @@
 //! An endpoint between its wire and its seat.
-ghost use Rattle.std.specs.Prelude.{◌≡◌, ◌⊎◌, ℕ, List, Option, is_ok, IfOk};
+ghost use Rattle.std.specs.Prelude.{◌≡◌, ◌⊎◌, ℕ, true, List, Option, is_ok, IfOk};
 ghost use Rattle.sms_seats.specs.declared.seat.Seat.{Seat};
 ghost use Rattle.sms_centre_spec.specs.declared.jobs.job.Job.{Job};
 ghost use Rattle.sms_centre_spec.specs.declared.jobs.reply.Reply.{Reply};
 ghost use Rattle.smsc_loop.specs.Courses.{Did, standing};
 ghost use Rattle.smsc_loop.specs.Phases.{Phase, Serves, behind};
-ghost use Rattle.smsc_loop.specs.Served.{Meant, MeantAt, MeantLast, Served};
+ghost use Rattle.smsc_loop.specs.Served.{Meant, MeantAt, MeantLast, Served, side_end};
 ghost use Rattle.smsc_loop.specs.declared.turn_end.TurnEnd.TheVariants.{Stays, Rests};
 
 use crate::endpoint::Endpoint;
@@ -124,7 +124,10 @@ fn wait_on<R: Wait, W: Wire, G: Endpoint, A: Surroundings>(
 ) -> Result<TurnEnd, AllocError>
     ensures did { Did G.does (standing endpoint.old Serves (W.remaining wire.old) (W.written wire.old) seat.now.seat)
         (standing endpoint.new (behind (is_ok result) Serves) (W.remaining wire.new) (W.written wire.new) seat.now.seat) }
-    ensures meant { IfOk result (λ end. MeantAt G.waits G.over G.owing (W.ended wire.new) (W.closed wire.new) endpoint.new end) }
+    ensures meant { IfOk result (λ end. MeantAt G.waits G.over G.owing (side_end (W.ended wire.new) (W.remaining wire.new)) (W.closed wire.new)
+        endpoint.new end) }
+    // Replies come first: a turn that heard some reads nothing.
+    ensures unread { heard ≡ true → wire.new ≡ wire.old }
 {
     let end = judge(around, endpoint, patience, now)?;
     if end == TurnEnd::Stays && !heard {
@@ -146,7 +149,8 @@ fn go_on<R: Wait, W: Wire, G: Endpoint, A: Surroundings>(
 ) -> Result<TurnEnd, AllocError>
     ensures did { Did G.does (standing endpoint.old Serves (W.remaining wire.old) (W.written wire.old) seat.now.seat)
         (standing endpoint.new (behind (is_ok result) Serves) (W.remaining wire.new) (W.written wire.new) seat.now.seat) }
-    ensures meant { IfOk result (λ end. MeantAt G.waits G.over G.owing (W.ended wire.new) (W.closed wire.new) endpoint.new end) }
+    ensures meant { IfOk result (λ end. MeantAt G.waits G.over G.owing (side_end (W.ended wire.new) (W.remaining wire.new)) (W.closed wire.new)
+        endpoint.new end) }
 {
     match flow(wire, endpoint, patience, now) {
         TurnEnd::Stays => wait_on(rt, around, wire, seat, endpoint, patience, now, heard),
@@ -165,7 +169,8 @@ fn turn<R: Wait, W: Wire, G: Endpoint, A: Surroundings>(
 ) -> Result<TurnEnd, AllocError>
     ensures did { Did G.does (standing endpoint.old Serves (W.remaining wire.old) (W.written wire.old) seat.old.seat)
         (standing endpoint.new (behind (is_ok result) Serves) (W.remaining wire.new) (W.written wire.new) seat.new.seat) }
-    ensures meant { IfOk result (λ end. MeantAt G.waits G.over G.owing (W.ended wire.new) (W.closed wire.new) endpoint.new end) }
+    ensures meant { IfOk result (λ end. MeantAt G.waits G.over G.owing (side_end (W.ended wire.new) (W.remaining wire.new)) (W.closed wire.new)
+        endpoint.new end) }
 {
     let now = around.now();
     let heard = exchange(rt, around, seat, endpoint, now)?;
@@ -185,7 +190,7 @@ fn stay<R: Wait, W: Wire, G: Endpoint, A: Surroundings>(
 ) -> LeaveReason
     ensures { (p : Phase) × Did G.does (standing endpoint.old Serves (W.remaining wire.old) (W.written wire.old) seat.old.seat)
         (standing endpoint.new p (W.remaining wire.new) (W.written wire.new) seat.new.seat)
-        × Meant G.waits G.over G.owing (A.was_over around.now) (W.ended wire.new) (W.closed wire.new) endpoint.new p result }
+        × Meant G.waits G.over G.owing (A.was_over around.now) (side_end (W.ended wire.new) (W.remaining wire.new)) (W.closed wire.new) endpoint.new p result }
 {
     let mut patience = Patience::new(around.now());
     for _ in rt.forever() {
@@ -216,7 +221,8 @@ fn see_out<R: Wait, W: Wire, G: Endpoint, A: Surroundings>(
 ) -> LeaveReason
     ensures { (p : Phase) × Did G.does (standing endpoint.old Serves (W.remaining wire.old) (W.written wire.old) seat.old.seat)
         (standing endpoint.new p (W.remaining wire.new) (W.written wire.new) seat.new.seat)
-        × MeantLast G.waits G.over G.owing (A.was_over around.now) (W.ended wire.new) (W.closed wire.new) endpoint.new p result }
+        × MeantLast G.waits G.over G.owing (A.was_over around.now) (side_end (W.ended wire.new) (W.remaining wire.new)) (W.closed wire.new)
+        endpoint.new p result }
 {
     match stay(rt, around, wire, seat, endpoint) {
         LeaveReason::Silent => {

@@ -1,7 +1,7 @@
 //! Where octets are received and sent.
-ghost use Rattle.std.specs.Prelude.{◌≡◌, ◌≤◌, ◌||◌, ℕ, Bool, List, Option, take, length, is_none, MatchOption};
-ghost use Rattle.std.specs.Io.KnownBytes.{Appends, Consumes, Keeps};
-ghost use Rattle.smsc_loop.specs.Reading.{octets_found, is_end};
+ghost use Rattle.std.specs.Prelude.{◌≡◌, ◌≤◌, ◌||◌, ℕ, Bool, true, List, Option, take, length, is_none, MatchOption};
+ghost use Rattle.std.specs.Io.KnownBytes.{Appends, Consumes, IsAtEnd, Keeps};
+ghost use Rattle.smsc_loop.specs.Reading.{octets_found, is_end, is_loss};
 
 use std::sync::Wait;
 
@@ -12,8 +12,10 @@ pub enum Found {
     Some,
     /// None yet.
     Nothing,
-    /// There will be none any more.
+    /// There will be none any more: the other side sends no more.
     Ended,
+    /// The connection can't be read any more, and takes no octets.
+    Lost,
 }
 
 /// A connection of a seat. Where octets arrive, or it ends, the bell of the seat rings.
@@ -38,15 +40,20 @@ pub trait Wire {
         ensures read { Consumes (remaining self.old) (remaining self.new) (octets_found result (last self.new)) }
         ensures written { written self.new ≡ written self.old }
         ensures ended { ended self.new ≡ (ended self.old || is_end result) }
-        ensures closed { closed self.new ≡ closed self.old };
+        ensures closed { closed self.new ≡ (closed self.old || is_loss result) };
 
     /// The octets that it gave last.
     fn piece(&self) -> &[u8]
         ensures last { result.now ≡ last self.now };
 
-    /// Whether it gives no more octets: the other side sends none any more.
+    /// Whether it gives no more octets: the other side sends none any more. So each octet that it had to give was given.
     fn has_ended(&self) -> bool
-        ensures ended { result ≡ ended self.now };
+        ensures ended { result ≡ ended self.now }
+        ensures all { result ≡ true → IsAtEnd (remaining self.now) };
+
+    /// Whether it takes no more octets.
+    fn is_closed(&self) -> bool
+        ensures closed { result ≡ closed self.now };
 
     /// Sends the first of these octets, and answers how many. Where the connection has no room for any, it waits some
     /// hundredths of a second at most. None where the connection takes no octets any more.

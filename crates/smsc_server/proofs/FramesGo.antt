@@ -36,7 +36,7 @@ use Rattle.sms_rows.specs.table.Table.{Rises, put, row_at, without}
 use Rattle.sms_rows.proofs.table.Tables.{among_found, among_put, among_without, rises_put, rises_without}
 use Rattle.smsc_service.specs.Asking.{asked, asked_by, link_for, of_handset}
 use Rattle.smsc_service.specs.Numbers.{is_number}
-use Rattle.smsc_service.specs.Replies.{answer_for, answer_out, asker, end_of, failed, failed_by, frame_out, frame_outs, is_that, receipt_out, receipt_outs, replies_at, risen_by, seat_for, taken_by, seat_answer}
+use Rattle.smsc_service.specs.Replies.{answer_for, answer_out, asker, end_of, failed, failed_by, frame_out, frame_outs, is_that, nothing_by, receipt_out, receipt_outs, replies_at, risen_by, seat_for, taken_by, seat_answer, vacancy}
 use Rattle.smsc_service.specs.Seats.{Seats, followed, handset_at, handset_of, link_key, nobody, raised, seat_of}
 use Rattle.smsc_service.specs.Serving.{Serving, after, after_for, followed_by, gives, gives_for, refusal_for, restarted, unless_refused}
 use Rattle.smsc_service.specs.declared.asking.SeatRequest.{SeatRequest}
@@ -75,6 +75,11 @@ module _ (n : ℕ) (octets : List ℕ) where
   none_failed (Tick now) there = there
   none_failed (Own errand) there = there
 
+  none_by_nothing : (seats : Seats) (stimulus : Stimulus Job) → Among (frame_for n octets) (nothing_by seats stimulus) → ⊥
+  none_by_nothing seats (JobOf from job) there = no_failure (is_request job) from (vacancy from seats) there
+  none_by_nothing seats (Tick now) there = there
+  none_by_nothing seats (Own errand) there = there
+
   none_taken : (stimulus : Stimulus Job) → Among (frame_for n octets) (taken_by stimulus) → ⊥
   none_taken (JobOf from job) (inl e) = let k : FrameOut octets ≡ TakenOut = ap (λ (o : Out Reply). o.out) e in absurd cc
   none_taken (JobOf from job) (inr there) = there
@@ -82,7 +87,7 @@ module _ (n : ℕ) (octets : List ℕ) where
   none_taken (Own errand) there = there
 
   -- a frame that was sent, to the seat of its handset
-  abbrev IsSent : Option (List ℕ) → ℕ → List LinkSeat → List Sent → Type 0
+  abbrev pub IsSent : Option (List ℕ) → ℕ → List LinkSeat → List Sent → Type 0
   IsSent risen from links frames = (f : Sent) × Among f frames × (f.frame.octets ≡ octets) × (seat_for risen from links f.handset ≡ Some n)
 
   one_frame : (o : Option ℕ) (own : List ℕ) → Among (frame_for n octets) (frame_out o own) → (own ≡ octets) × (o ≡ Some n)
@@ -111,7 +116,7 @@ module _ (n : ℕ) (octets : List ℕ) where
       (among_parts (frame_for n octets) (first ++ second) (receipt_outs messages ds) there)
 
   module _ (s : Serving) where
-    abbrev WasSent : Stimulus Job → Type 0
+    abbrev pub WasSent : Stimulus Job → Type 0
     WasSent stimulus =
         (event : CentreEvent) × (asked_by s.seats stimulus ≡ Event event)
         × IsSent (risen_by stimulus) (asker stimulus) s.seats.links (happened event s.core).links.frames
@@ -121,31 +126,31 @@ module _ (n : ℕ) (octets : List ℕ) where
     request_sent stimulus (Event event) Done refusal e there =
         let d = happened event s.core in
         (event, e, replied (risen_by stimulus) (asker stimulus) s.seats.links (seat_answer stimulus d.answer) d.links.frames (messages_in d.store) d.bindings.deliveries there)
-    request_sent stimulus Nothing Done refusal e there = absurd (none_failed stimulus there)
+    request_sent stimulus Nothing Done refusal e there = absurd (none_by_nothing s.seats stimulus there)
     request_sent stimulus Taken Done refusal e there = absurd (none_taken stimulus there)
     request_sent stimulus (Forget before from most) Done refusal e there = absurd there
     request_sent stimulus (Event event) Refused refusal e there = absurd (none_failed stimulus there)
-    request_sent stimulus Nothing Refused refusal e there = absurd (none_failed stimulus there)
+    request_sent stimulus Nothing Refused refusal e there = absurd (none_by_nothing s.seats stimulus there)
     request_sent stimulus Taken Refused refusal e there = absurd (none_taken stimulus there)
     request_sent stimulus (Forget before from most) Refused refusal e there = absurd (none_failed stimulus there)
     request_sent (JobOf from job) a NoMemory (Some status) e there = absurd (no_failure true from status there)
     request_sent (Tick now) a NoMemory (Some status) e there = absurd there
     request_sent (Own errand) a NoMemory (Some status) e there = absurd there
     request_sent stimulus (Event event) NoMemory None e there = absurd (none_failed stimulus there)
-    request_sent stimulus Nothing NoMemory None e there = absurd (none_failed stimulus there)
+    request_sent stimulus Nothing NoMemory None e there = absurd (none_by_nothing s.seats stimulus there)
     request_sent stimulus Taken NoMemory None e there = absurd (none_taken stimulus there)
     request_sent stimulus (Forget before from most) NoMemory None e there = absurd (none_failed stimulus there)
 
-    was_sent : (stimulus : Stimulus Job) (fate : Fate) → Among (frame_for n octets) (gives s stimulus fate) → WasSent stimulus
+    pub was_sent : (stimulus : Stimulus Job) (fate : Fate) → Among (frame_for n octets) (gives s stimulus fate) → WasSent stimulus
     was_sent stimulus fate there = request_sent stimulus (asked_by s.seats stimulus) fate (refusal_for (asked_by s.seats stimulus) s.core) refl there
 
 -- ---- the link of a handset
 
 pub record IsAt (handset : List ℕ) (n : ℕ) (links : List LinkSeat) : Type 0 where
-  link : LinkSeat
-  among : Among link links
-  seat_so : link.seat ≡ n
-  handset_so : link.handset ≡ handset
+  pub link : LinkSeat
+  pub among : Among link links
+  pub seat_so : link.seat ≡ n
+  pub handset_so : link.handset ≡ handset
 
 found : (handset : List ℕ) (n : ℕ) (links : List LinkSeat) → seat_of handset links ≡ Some n → IsAt handset n links
 found handset n [] e = absurd (none-some n e)
@@ -173,10 +178,10 @@ rises (JobOf seat (Frame octets)) handset e = absurd (true≢false (sym e))
 rises (Tick now) handset e = absurd (true≢false (sym e))
 rises (Own errand) handset e = absurd (true≢false (sym e))
 
-abbrev IsNamed : Stimulus Job → List LinkSeat → List ℕ → ℕ → Type 0
+abbrev pub IsNamed : Stimulus Job → List LinkSeat → List ℕ → ℕ → Type 0
 IsNamed stimulus links handset n = (stimulus ≡ JobOf n (LinkUp handset)) ⊎ IsAt handset n links
 
-named : (stimulus : Stimulus Job) (links : List LinkSeat) (handset : List ℕ) (n : ℕ) → seat_for (risen_by stimulus) (asker stimulus) links handset ≡ Some n → IsNamed stimulus links handset n
+pub named : (stimulus : Stimulus Job) (links : List LinkSeat) (handset : List ℕ) (n : ℕ) → seat_for (risen_by stimulus) (asker stimulus) links handset ≡ Some n → IsNamed stimulus links handset n
 named stimulus links handset n e = ⊎_elim
     (λ (t : is_that (risen_by stimulus) handset ≡ true).
     let at : Some (asker stimulus) ≡ Some n = sym (cond-true (is_that (risen_by stimulus) handset) (Some (asker stimulus)) (seat_of handset links) t) ∙ e in
@@ -206,9 +211,10 @@ linked_more n handset items e h k = (
 linked_now : (n : ℕ) (handset : List ℕ) (items : List (Item Job Reply)) (e : Item Job Reply) → e.stimulus ≡ JobOf n (LinkUp handset) → IsLinked n handset (items ++ e ∷ [])
 linked_now n handset items e is = (items, [], e, refl, is, tt)
 
-record AreLinked (items : List (Item Job Reply)) (links : List LinkSeat) : Type 0 where
-  keys : Rises link_key links
-  each : (l : LinkSeat) → Among l links → (nat_lt l.seat 32 ≡ true) × (is_number l.handset ≡ true) × IsLinked l.seat l.handset items
+-- each link, and that these items brought it up, where it is said of its seat
+pub record AreLinked (At : ℕ → Type 0) (items : List (Item Job Reply)) (links : List LinkSeat) : Type 0 where
+  pub keys : Rises link_key links
+  pub each : (l : LinkSeat) → Among l links → (nat_lt l.seat 32 ≡ true) × (is_number l.handset ≡ true) × (At l.seat → IsLinked l.seat l.handset items)
 
 same_seat : (n m : ℕ) (job other : Job) → JobOf n job ≡ JobOf m other → n ≡ m
 same_seat n m job other e = cc
@@ -229,10 +235,10 @@ event_none event a e f = let k : Event event ≡ Nothing = sym e ∙ f in absurd
 event_taken : (event : CentreEvent) (a : SeatRequest) → a ≡ Event event → a ≡ Taken → ⊥
 event_taken event a e f = let k : Event event ≡ Taken = sym e ∙ f in absurd cc
 
-module _ (s : Serving) (items : List (Item Job Reply)) (e : Item Job Reply) (h : AreLinked items s.seats.links) where
+module _ (At : ℕ → Type 0) (s : Serving) (items : List (Item Job Reply)) (e : Item Job Reply) (h : AreLinked At items s.seats.links) where
   -- who sits where stays as it was
-  all_stay : ((l : LinkSeat) → Among l s.seats.links → e.stimulus ≡ JobOf l.seat LinkDown → e.fate ≡ NoMemory) → AreLinked (items ++ e ∷ []) s.seats.links
-  all_stay k = record { keys = h.keys; each = λ l i. let x = h.each l i in (x.0, x.1, linked_more l.seat l.handset items e x.2 (k l i)) }
+  all_stay : ((l : LinkSeat) → Among l s.seats.links → e.stimulus ≡ JobOf l.seat LinkDown → e.fate ≡ NoMemory) → AreLinked At (items ++ e ∷ []) s.seats.links
+  all_stay k = record { keys = h.keys; each = λ l i. let x = h.each l i in (x.0, x.1, λ at. linked_more l.seat l.handset items e (x.2 at) (k l i)) }
 
   module _ (seat : ℕ) (job : Job) (is : e.stimulus ≡ JobOf seat job) where
     -- a job that takes no link down
@@ -249,18 +255,18 @@ module _ (s : Serving) (items : List (Item Job Reply)) (e : Item Job Reply) (h :
 
   -- the job of a seat changes who sits there
   job_follows : (seat : ℕ) (job : Job) → e.stimulus ≡ JobOf seat job → nat_lt seat 32 ≡ true → ((handset : List ℕ) → job ≡ LinkUp handset → is_number handset ≡ true)
-      → AreLinked (items ++ e ∷ []) (followed seat job s.seats).links
+      → AreLinked At (items ++ e ∷ []) (followed seat job s.seats).links
   job_follows seat (LinkUp handset) is few number = by_seat (seat_of handset s.seats.links)
     where
-      by_seat : (o : Option ℕ) → AreLinked (items ++ e ∷ []) (raised o seat handset s.seats.links)
+      by_seat : (o : Option ℕ) → AreLinked At (items ++ e ∷ []) (raised o seat handset s.seats.links)
       by_seat (Some other) = all_stay (other_stays seat (LinkUp handset) is tt)
       by_seat None =
           let new : LinkSeat = record { seat = seat; handset = handset } in record {
             keys = rises_put link_key new s.seats.links h.keys;
             each = λ l i. ⊎_elim
-                (λ (same : l ≡ new). subst (λ (x : LinkSeat). (nat_lt x.seat 32 ≡ true) × (is_number x.handset ≡ true) × IsLinked x.seat x.handset (items ++ e ∷ [])) (sym same)
-                (few, number handset refl, linked_now seat handset items e is))
-                (λ old. let x = h.each l old.0 in (x.0, x.1, linked_more l.seat l.handset items e x.2 (other_stays seat (LinkUp handset) is tt l old.0)))
+                (λ (same : l ≡ new). subst (λ (x : LinkSeat). (nat_lt x.seat 32 ≡ true) × (is_number x.handset ≡ true) × (At x.seat → IsLinked x.seat x.handset (items ++ e ∷ []))) (sym same)
+                (few, number handset refl, λ at. linked_now seat handset items e is))
+                (λ old. let x = h.each l old.0 in (x.0, x.1, λ at. linked_more l.seat l.handset items e (x.2 at) (other_stays seat (LinkUp handset) is tt l old.0)))
                 (among_put link_key l new s.seats.links i);
           }
   job_follows seat LinkDown is few number = record {
@@ -268,7 +274,7 @@ module _ (s : Serving) (items : List (Item Job Reply)) (e : Item Job Reply) (h :
     each = λ l i.
         let old = among_without link_key l seat s.seats.links i in
         let x = h.each l old.0 in
-        (x.0, x.1, linked_more l.seat l.handset items e x.2 (λ down. absurd (old.1 (sym (same_seat seat l.seat LinkDown LinkDown (sym is ∙ down))))));
+        (x.0, x.1, λ at. linked_more l.seat l.handset items e (x.2 at) (λ down. absurd (old.1 (sym (same_seat seat l.seat LinkDown LinkDown (sym is ∙ down))))));
   }
   job_follows seat (Bound account receives) is few number = all_stay (other_stays seat (Bound account receives) is tt)
   job_follows seat Unbound is few number = all_stay (other_stays seat Unbound is tt)
@@ -295,12 +301,12 @@ module _ (s : Serving) (items : List (Item Job Reply)) (e : Item Job Reply) (h :
 
   -- an event was asked for, and was not left undone
   event_follows : (stimulus : Stimulus Job) (event : CentreEvent) → e.stimulus ≡ stimulus → asked_by s.seats stimulus ≡ Event event
-      → AreLinked (items ++ e ∷ []) (followed_by stimulus s.seats).links
+      → AreLinked At (items ++ e ∷ []) (followed_by stimulus s.seats).links
   event_follows (Tick now) event is asks = all_stay (tick_stays now is)
   event_follows (Own errand) event is asks = all_stay (own_stays errand is)
   event_follows (JobOf seat job) event is asks = ⊎_elim
       (λ (t : nat_lt seat 32 ≡ true).
-      subst (λ (x : Seats). AreLinked (items ++ e ∷ []) x.links) (sym (cond-true (nat_lt seat 32) (followed seat job s.seats) s.seats t))
+      subst (λ (x : Seats). AreLinked At (items ++ e ∷ []) x.links) (sym (cond-true (nat_lt seat 32) (followed seat job s.seats) s.seats t))
       (job_follows seat job is t (up_number event seat job (sym (cond-true (nat_lt seat 32) (asked s.seats seat job) Nothing t) ∙ asks))))
       (λ (t : nat_lt seat 32 ≡ false).
       absurd (event_none event (asked_by s.seats (JobOf seat job)) asks (cond-false (nat_lt seat 32) (asked s.seats seat job) Nothing t)))
@@ -322,7 +328,7 @@ module _ (s : Serving) (items : List (Item Job Reply)) (e : Item Job Reply) (h :
   not_forget : (before from most : ℕ) (event : CentreEvent) → Forget before from most ≡ Event event → ⊥
   not_forget before from most event f = cc
 
-  request_links : (a : SeatRequest) (fate : Fate) → asked_by s.seats e.stimulus ≡ a → e.fate ≡ fate → AreLinked (items ++ e ∷ []) (after_for a fate s e.stimulus).seats.links
+  request_links : (a : SeatRequest) (fate : Fate) → asked_by s.seats e.stimulus ≡ a → e.fate ≡ fate → AreLinked At (items ++ e ∷ []) (after_for a fate s e.stimulus).seats.links
   request_links (Event event) Done asks f = event_follows e.stimulus event refl asks
   request_links (Event event) NoMemory asks f = all_stay (λ l i down. f)
   request_links (Event event) Refused asks f = event_follows e.stimulus event refl asks
@@ -332,35 +338,38 @@ module _ (s : Serving) (items : List (Item Job Reply)) (e : Item Job Reply) (h :
   request_links (Forget before from most) NoMemory asks f = all_stay (λ l i down. f)
   request_links (Forget before from most) Refused asks f = all_stay (down_asks (Forget before from most) asks (not_forget before from most))
 
-  item_links : AreLinked (items ++ e ∷ []) (after s e.stimulus e.fate).seats.links
+  item_links : AreLinked At (items ++ e ∷ []) (after s e.stimulus e.fate).seats.links
   item_links = request_links (asked_by s.seats e.stimulus) e.fate refl refl
 
-run_links : (done items : List (Item Job Reply)) (s t : Serving) → AreLinked done s.seats.links → IsHistory gives after s items t → AreLinked (done ++ items) t.seats.links
-run_links done [] s t h k =
-    subst (λ (l : List (Item Job Reply)). AreLinked l t.seats.links) (sym (append-nil done)) (subst (λ (x : Serving). AreLinked done x.seats.links) (sym k) h)
-run_links done (e ∷ items) s t h k =
-    subst (λ (l : List (Item Job Reply)). AreLinked l t.seats.links) (append_assoc done (e ∷ []) items)
-    (run_links (done ++ e ∷ []) items (after s e.stimulus e.fate) t (item_links s done e h) k.1)
+pub run_links : (At : ℕ → Type 0) (done items : List (Item Job Reply)) (s t : Serving) → AreLinked At done s.seats.links → IsHistory gives after s items t
+    → AreLinked At (done ++ items) t.seats.links
+run_links At done [] s t h k =
+    subst (λ (l : List (Item Job Reply)). AreLinked At l t.seats.links) (sym (append-nil done)) (subst (λ (x : Serving). AreLinked At done x.seats.links) (sym k) h)
+run_links At done (e ∷ items) s t h k =
+    subst (λ (l : List (Item Job Reply)). AreLinked At l t.seats.links) (append_assoc done (e ∷ []) items)
+    (run_links At (done ++ e ∷ []) items (after s e.stimulus e.fate) t (item_links At s done e h) k.1)
+
+pub at_seat : (seat : ℕ) (handset : List ℕ) (At : ℕ → Type 0) (one : List (Item Job Reply)) (links : List LinkSeat) → At seat → AreLinked At one links → IsAt handset seat links
+    → IsLinked seat handset one
+at_seat seat handset At one links there h at =
+    subst (λ (number : List ℕ). IsLinked seat number one) at.handset_so
+    (subst (λ (k : ℕ). IsLinked k at.link.handset one) at.seat_so ((h.each at.link at.among).2 (subst At (sym at.seat_so) there)))
+
+pub no_links : (At : ℕ → Type 0) (rows : Rows) → AreLinked At [] (restarted rows nobody).seats.links
+no_links At rows = record { keys = tt; each = λ l i. absurd i }
 
 -- ---- together
 
 module _ (rows : Rows) (items : List (Item Job Reply)) (last : Serving) (run : IsHistory gives after (restarted rows nobody) items last) where
-  none_linked : AreLinked [] (restarted rows nobody).seats.links
-  none_linked = record { keys = tt; each = λ l i. absurd i }
-
-  at_seat : (seat : ℕ) (handset : List ℕ) (one : List (Item Job Reply)) (links : List LinkSeat) → AreLinked one links → IsAt handset seat links → IsLinked seat handset one
-  at_seat seat handset one links h at =
-      subst (λ (number : List ℕ). IsLinked seat number one) at.handset_so (subst (λ (k : ℕ). IsLinked k at.link.handset one) at.seat_so (h.each at.link at.among).2)
-
   pub frames_go : GoToHandsets (restarted rows nobody) items
   frames_go one other e seat octets is there =
       let m = between one (e ∷ other) (restarted rows nobody) last (subst (λ (l : List (Item Job Reply)). IsHistory gives after (restarted rows nobody) l last) is run) in
-      let links = run_links [] one (restarted rows nobody) m.0 none_linked m.1 in
+      let links = run_links (λ (k : ℕ). ⊤) [] one (restarted rows nobody) m.0 (no_links (λ (k : ℕ). ⊤) rows) m.1 in
       let sent = was_sent seat octets m.0 e.stimulus e.fate (subst (λ (l : List (Out Reply)). Among (frame_for seat octets) l) m.2.0 there) in
       let f = sent.2.0 in record {
         handset = f.handset;
         linked = ⊎_elim (λ (up : e.stimulus ≡ JobOf seat (LinkUp f.handset)). inr up)
-            (λ (at : IsAt f.handset seat m.0.seats.links). inl (at_seat seat f.handset one m.0.seats.links links at))
+            (λ (at : IsAt f.handset seat m.0.seats.links). inl (at_seat seat f.handset (λ (k : ℕ). ⊤) one m.0.seats.links tt links at))
             (named e.stimulus m.0.seats.links f.handset seat sent.2.3);
         moment = m.0;
         history = m.1;

@@ -4,6 +4,7 @@ pub mod CentresAnswers
 pub mod ForgetAsked
 pub mod Forgotten
 pub mod FramesGo
+pub mod Gone
 pub mod HeardEnds
 pub mod LinkWritten
 pub mod PartsWritten
@@ -13,3 +14,4 @@ pub mod RequestsArrive
 pub mod RunEvents
 pub mod RunKept
 pub mod RunReads
+pub mod OwnReplies

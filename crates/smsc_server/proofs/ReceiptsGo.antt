@@ -59,16 +59,16 @@ use Rattle.smsc_server.specs.ReceiptsGiven.{Binding, GoToAccounts, IsOfAccount, 
 use Rattle.smsc_server.specs.Forgotten.{KeepsOrForgets, message_left}
 use Rattle.smsc_server.specs.RunPromises.{AreAsked, receipt_for}
 use Rattle.smsc_server.proofs.BoundSessions.{Becomes, Each, Sends, StaysBut, StaysSo, sends_of}
-use Rattle.smsc_server.proofs.RunKept.{IsGood, among_parts, asked_parts, between, history_more, item_good, no_answer, no_failure, no_frames, none_failed, none_taken, restart_sound, run_good, run_left}
+use Rattle.smsc_server.proofs.RunKept.{IsGood, among_parts, asked_parts, between, history_more, item_good, no_answer, no_failure, no_frames, none_by_nothing, none_failed, none_taken, restart_sound, run_good, run_left}
 
 -- ---- which events bind
 
-abbrev is_binding : CentreEvent → Bool
+abbrev pub is_binding : CentreEvent → Bool
 is_binding (BoundOf session account receives) = true
 is_binding (UnboundOf session) = true
 is_binding event = false
 
-abbrev BindsNobody : SeatRequest → Type 0
+abbrev pub BindsNobody : SeatRequest → Type 0
 BindsNobody a = IfEvent (λ (event : CentreEvent). is_binding event ≡ false) a
 
 submission_binds : (account : ℕ) (body : Body) → BindsNobody (submission account body)
@@ -106,7 +106,7 @@ becomes_same accounts R Q event e f = f
 abbrev moved : (ℕ → Option Binding) → Stimulus Job → ℕ → Option Binding
 moved bound stimulus k = bound_there k stimulus (bound k)
 
-both_same : (b : Bool) (o : Option Binding) → (if b then o else o) ≡ o
+pub both_same : (b : Bool) (o : Option Binding) → (if b then o else o) ≡ o
 both_same true o = refl
 both_same false o = refl
 
@@ -118,16 +118,16 @@ at_seat : (bound : ℕ → Option Binding) (seat : ℕ) (job : Job) → moved bo
 at_seat bound seat job = cond-true (seat == seat) (bound_by job (bound seat)) (bound seat) (eq-eqb seat seat refl)
 
 -- a request of a seat, and whom its job binds
-abbrev IsSame : Seats → ℕ → Job → Type 0
+abbrev pub IsSame : Seats → ℕ → Job → Type 0
 IsSame seats seat job = BindsNobody (asked seats seat job) × ((o : Option Binding) → bound_by job o ≡ o) × ((followed seat job seats).bound_sessions ≡ seats.bound_sessions)
 
 -- any but bind and unbind
-abbrev IsOther : Job → Type 0
+abbrev pub IsOther : Job → Type 0
 IsOther (Bound account receives) = ⊥
 IsOther Unbound = ⊥
 IsOther job = Unit {0}
 
-other : (seats : Seats) (seat : ℕ) (job : Job) → IsOther job → IsSame seats seat job
+pub other : (seats : Seats) (seat : ℕ) (job : Job) → IsOther job → IsSame seats seat job
 other seats seat (Bound account receives) h = absurd h
 other seats seat Unbound h = absurd h
 other seats seat (Submit account pdu) h = (read_binds (submission account) (submission_binds account) (pdu_at pdu), (λ o. refl), refl)
@@ -398,18 +398,18 @@ module _ (seat : ℕ) (end : Final) where
     request_sent : (stimulus : Stimulus Job) (a : SeatRequest) (fate : Fate) (refusal : Option CommandStatus) → asked_by s.seats stimulus ≡ a
         → Among (receipt_for seat end) (unless_refused fate refusal stimulus (gives_for a fate s stimulus)) → WasSent stimulus fate
     request_sent stimulus (Event event) Done refusal e there = (event, e, refl, replied_delivery (risen_by stimulus) (asker stimulus) (seat_answer stimulus (happened event s.core).answer) s event there)
-    request_sent stimulus Nothing Done refusal e there = absurd (none_failed seat end stimulus there)
+    request_sent stimulus Nothing Done refusal e there = absurd (none_by_nothing seat end s.seats stimulus there)
     request_sent stimulus Taken Done refusal e there = absurd (none_taken seat end stimulus there)
     request_sent stimulus (Forget before from most) Done refusal e there = absurd there
     request_sent stimulus (Event event) Refused refusal e there = absurd (none_failed seat end stimulus there)
-    request_sent stimulus Nothing Refused refusal e there = absurd (none_failed seat end stimulus there)
+    request_sent stimulus Nothing Refused refusal e there = absurd (none_by_nothing seat end s.seats stimulus there)
     request_sent stimulus Taken Refused refusal e there = absurd (none_taken seat end stimulus there)
     request_sent stimulus (Forget before from most) Refused refusal e there = absurd (none_failed seat end stimulus there)
     request_sent (JobOf from job) a NoMemory (Some status) e there = absurd (no_failure seat end true from status there)
     request_sent (Tick now) a NoMemory (Some status) e there = absurd there
     request_sent (Own errand) a NoMemory (Some status) e there = absurd there
     request_sent stimulus (Event event) NoMemory None e there = absurd (none_failed seat end stimulus there)
-    request_sent stimulus Nothing NoMemory None e there = absurd (none_failed seat end stimulus there)
+    request_sent stimulus Nothing NoMemory None e there = absurd (none_by_nothing seat end s.seats stimulus there)
     request_sent stimulus Taken NoMemory None e there = absurd (none_taken seat end stimulus there)
     request_sent stimulus (Forget before from most) NoMemory None e there = absurd (none_failed seat end stimulus there)
 

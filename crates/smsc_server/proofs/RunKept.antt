@@ -50,7 +50,7 @@ use Rattle.sms_rows.proofs.table.Tables.{among_put, found_among, found_key, rise
 use Rattle.smsc_service.specs.Asking.{IfEvent, asked_by}
 use Rattle.smsc_service.specs.BoundSession.{AreNumbers, handsets_from, handsets_of, is_among, sessions_from, sessions_of, with_number, with_session}
 use Rattle.smsc_service.specs.Numbers.{is_number}
-use Rattle.smsc_service.specs.Replies.{answer_for, answer_out, end_in, end_of, ended, failed, failed_by, frame_out, frame_outs, receipt_out, receipt_outs, replies_at, risen_by, seat_for, taken_by}
+use Rattle.smsc_service.specs.Replies.{answer_for, answer_out, end_in, end_of, ended, failed, failed_by, frame_out, frame_outs, nothing_by, receipt_out, receipt_outs, replies_at, risen_by, seat_for, taken_by, vacancy}
 use Rattle.smsc_service.specs.Seats.{Seats, nobody}
 use Rattle.smsc_service.specs.Serving.{Serving, after, after_for, followed_by, gives, gives_for, outs_for, refusal_for, restarted, unless_refused}
 use Rattle.smsc_service.specs.declared.asking.SeatRequest.{SeatRequest}
@@ -250,6 +250,11 @@ module _ (seat : ℕ) (end : Final) where
   none_failed (Tick now) there = there
   none_failed (Own errand) there = there
 
+  pub none_by_nothing : (seats : Seats) (stimulus : Stimulus Job) → Among (receipt_for seat end) (nothing_by seats stimulus) → ⊥
+  none_by_nothing seats (JobOf asker job) there = no_failure (is_request job) asker (vacancy asker seats) there
+  none_by_nothing seats (Tick now) there = there
+  none_by_nothing seats (Own errand) there = there
+
   pub none_taken : (stimulus : Stimulus Job) → Among (receipt_for seat end) (taken_by stimulus) → ⊥
   none_taken (JobOf asker job) (inl e) = let k : Receipt end ≡ TakenOut = ap (λ (o : Out Reply). o.out) e in absurd cc
   none_taken (JobOf asker job) (inr there) = there
@@ -315,7 +320,7 @@ module _ (seat : ℕ) (end : Final) where
         replied_is None 0 s.seats.links None d.links.frames (messages_in d.store) d.bindings.deliveries there
     request_is (Event event) NoMemory stimulus there = absurd (none_failed stimulus there)
     request_is (Event event) Refused stimulus there = absurd (none_failed stimulus there)
-    request_is Nothing fate stimulus there = absurd (none_failed stimulus there)
+    request_is Nothing fate stimulus there = absurd (none_by_nothing s.seats stimulus there)
     request_is Taken fate stimulus there = absurd (none_taken stimulus there)
     request_is (Forget before from most) Done stimulus there = absurd there
     request_is (Forget before from most) NoMemory stimulus there = absurd (none_failed stimulus there)

@@ -10,6 +10,7 @@ pub mod Sat
 pub mod ShareLists
 pub mod Served
 pub mod Settled
+pub mod StreamEnds
 pub mod Stretched
 pub mod Threads
 pub mod Unanswered

@@ -1,5 +1,5 @@
 -- What a run forgets, and what its rows say of what they do not forget.
-use Rattle.std.specs.Prelude.{◌≡◌, ℕ, List, [], ◌∷◌, Bool, true, false, if◌then◌else◌, Option, Some}
+use Rattle.std.specs.Prelude.{◌≡◌, ℕ, List, [], ◌∷◌, ◌++◌, Bool, true, false, if◌then◌else◌, Option, Some}
 use Rattle.sms_centre_rows.specs.declared.messages.message.MessageRow.{MessageRow}
 use Rattle.sms_centre_rows.specs.declared.messages.part.PartRow.{PartRow}
 use Rattle.sms_centre_rows.specs.declared.reports.report.ReportRow.{ReportRow}
@@ -15,6 +15,7 @@ use Rattle.sms_keeper.specs.declared.machine.Fate.TheVariants.{Done, NoMemory, R
 use Rattle.sms_keeper.specs.declared.machine.Item.{Item}
 use Rattle.sms_keeper.specs.History.{IsHistory}
 use Rattle.smsc_service.specs.Asking.{asked_by}
+use Rattle.smsc_service.specs.Course.{parts_of}
 use Rattle.smsc_service.specs.Serving.{Serving, after, gives}
 use Rattle.smsc_service.specs.declared.asking.SeatRequest.{SeatRequest}
 use Rattle.smsc_service.specs.declared.asking.SeatRequest.TheVariants.{Event, Nothing, Taken, Forget}
@@ -61,3 +62,8 @@ pub record KeepsOrForgets (s : Serving) (items : List (Item Job Reply)) : Type 0
 -- behind these items stands a centre of which the claim holds
 abbrev pub Behind : Serving → List (Item Job Reply) → (Serving → Type 0) → Type 0
 Behind first items Is = (s : Serving) × (IsHistory gives after first items s × Is s)
+
+-- Of each message that the centre forgot by these items the claim holds, as the message was then, with so many parts.
+abbrev pub IsSoOfGone : (MessageRow → ℕ → Type 0) → Serving → List (Item Job Reply) → Type 0
+IsSoOfGone Is first items = (one other : List (Item Job Reply)) (e : Item Job Reply) (s : Serving) (id : ℕ) (row : MessageRow) → items ≡ one ++ e ∷ other
+    → IsHistory gives after first one s → forgets s e id ≡ true → message_at id s.core.rows.messages ≡ Some row → Is row (parts_of id s.core.rows)

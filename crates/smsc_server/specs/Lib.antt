@@ -11,4 +11,5 @@ pub mod CentresAnswers
 pub mod Forgotten
 pub mod FramesGiven
 pub mod RunReads
+pub mod OwnReplies
 pub mod Occupants

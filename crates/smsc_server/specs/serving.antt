@@ -4,6 +4,7 @@ pub mod Connections
 pub mod Entering
 pub mod KeptSeats
 pub mod LinkPlaces
+pub mod NoRoom
 pub mod Rates
 pub mod SeatEvents
 pub mod SeatOrders

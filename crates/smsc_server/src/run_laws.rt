@@ -1,5 +1,5 @@
 //! What a run of the server keeps, whatever its connections ask: a law of its history, over the definitions.
-ghost use Rattle.std.specs.Prelude.{ℕ, List};
+ghost use Rattle.std.specs.Prelude.{◌<◌, ℕ, List, []};
 ghost use Rattle.sms_base.specs.Among.{Among};
 ghost use Rattle.sms_centre_spec.specs.SoundRows.{IsSound};
 ghost use Rattle.sms_centre_spec.specs.declared.jobs.job.Job.{Job};
@@ -11,6 +11,7 @@ ghost use Rattle.sms_keeper.specs.declared.machine.Item.{Item};
 ghost use Rattle.sms_receipt.specs.declared.final_message.Final.{Final};
 ghost use Rattle.smsc_arrivals.specs.declared.arrival.Arrival.{Arrival};
 ghost use Rattle.smsc_server.specs.FramesGiven.{GoToHandsets};
+ghost use Rattle.smsc_server.specs.OwnReplies.{HearTheirOwn};
 ghost use Rattle.smsc_server.specs.ReceiptsGiven.{GoToAccounts};
 ghost use Rattle.smsc_server.specs.RunPromises.{AreAsked, KeepsPromises, WasReported};
 ghost use Rattle.smsc_server.specs.serving.Connections.{Admitted};
@@ -53,3 +54,15 @@ pub fn a_connection_hears_final_states<S: Read + Write>()
         → (did : SeatDid S.remaining S.contents admitted (jobs_of seat items) (answers_in seat items) took)
         → (end : Final) → Among (Receipt end) (replies_to S.remaining S.contents admitted did.connections) → WasReported first items end }
 {}
+
+/// What each connection of a seat hears in such a run is its own, whatever memory the centre had to end the one before it. Each receipt is of a
+/// message of the account that this connection bound, in a session that receives. Each frame goes to the handset whose link this connection
+/// brought up.
+pub fn each_connection_hears_its_own<S: Read + Write>()
+    ensures { (admitted : Admitted) (seat : ℕ) (rows : Rows) (items : List (Item Job Reply)) (last : Serving) (took : List (Arrival S)) → seat < 32
+        → IsSound rows → AreAsked items → IsHistory gives after (restarted rows nobody) items last
+        → (did : SeatDid S.remaining S.contents admitted (jobs_of seat items) (answers_in seat items) took)
+        → HearTheirOwn S.remaining S.contents admitted seat rows [] did.connections items }
+{
+    receipts_go_to_their_accounts();
+}

@@ -1,3 +1,4 @@
+mod Archived
 mod ByFate
 mod ByOctets
 mod Numbers

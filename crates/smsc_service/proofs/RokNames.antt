@@ -35,7 +35,7 @@ use Rattle.smsc_service.specs.declared.asking.SeatRequest.TheVariants.{Event, No
 use Rattle.smsc_service.specs.declared.seat_map.LinkSeat.{LinkSeat}
 use Rattle.smsc_service.specs.Asking.{asked, asked_by, read_as, submission}
 use Rattle.smsc_service.specs.Serving.{Serving, after, after_for, gives, gives_for, refusal_for, unless_refused}
-use Rattle.smsc_service.specs.Replies.{answer_for, answer_out, end_of, frame_out, frame_outs, receipt_out, receipt_outs, seat_for, replies_at}
+use Rattle.smsc_service.specs.Replies.{answer_for, answer_out, end_of, failed_by, frame_out, frame_outs, nothing_by, receipt_out, receipt_outs, seat_for, replies_at, vacancy}
 
 -- ---- an answer among what is told
 
@@ -136,15 +136,19 @@ module _ (s : Serving) (seat account : ℕ) (pdu : List ℕ) (to id : ℕ) where
       (sym is.1.1) (answer_names is.0 is.1.0 s.core id) in
       (outputs.0, named outputs.1)
 
-  failed_names : (a : SeatRequest) (fate : Fate) → Among (answer_for to (Submitted id)) (gives_for Nothing Done s (JobOf seat (Submit account pdu))) → (to ≡ seat) × ((row : MessageRow) × (message_at id (after_for a fate s (JobOf seat (Submit account pdu))).core.rows.messages ≡ Some row))
+  failed_names : (a : SeatRequest) (fate : Fate) → Among (answer_for to (Submitted id)) (failed_by (JobOf seat (Submit account pdu))) → (to ≡ seat) × ((row : MessageRow) × (message_at id (after_for a fate s (JobOf seat (Submit account pdu))).core.rows.messages ≡ Some row))
   failed_names a fate (inl e) = let k : Answer (Submitted id) ≡ Answer (RefusedBy ESME_RSYSERR) = ap (λ (o : Out Reply). o.out) e in absurd cc
   failed_names a fate (inr there) = absurd there
+
+  nothing_names : (a : SeatRequest) (fate : Fate) → Among (answer_for to (Submitted id)) (nothing_by s.seats (JobOf seat (Submit account pdu))) → (to ≡ seat) × ((row : MessageRow) × (message_at id (after_for a fate s (JobOf seat (Submit account pdu))).core.rows.messages ≡ Some row))
+  nothing_names a fate (inl e) = let k : Answer (Submitted id) ≡ Answer (RefusedBy (vacancy seat s.seats)) = ap (λ (o : Out Reply). o.out) e in absurd cc
+  nothing_names a fate (inr there) = absurd there
 
   asked_names : (a : SeatRequest) (fate : Fate) → IsSubmission a → Names a fate
   asked_names (Event event) Done is there = event_names event is there
   asked_names (Event event) NoMemory is there = failed_names (Event event) NoMemory there
   asked_names (Event event) Refused is there = failed_names (Event event) Refused there
-  asked_names Nothing fate is there = failed_names Nothing fate there
+  asked_names Nothing fate is there = nothing_names Nothing fate there
   asked_names Taken fate is there = absurd is
   asked_names (Forget before from most) fate is there = absurd is
 

@@ -27,9 +27,9 @@ walked before most (suc n) w = one_on before most (walked before most n w)
 abbrev pub from_first : Core → Walked
 from_first c = record { from = 1; core = c }
 
--- each message is there still, or the archive has it
-abbrev pub AreKept : (MessageRow → Type 0) → Core → Core → Type 0
-AreKept has before after = (m : MessageRow) → Among m before.rows.messages → Among m after.rows.messages ⊎ has m
+-- each message is there still, or the archive has it, with so many parts
+abbrev pub AreKept : (MessageRow → ℕ → Type 0) → Core → Core → Type 0
+AreKept has before after = (m : MessageRow) → Among m before.rows.messages → Among m after.rows.messages ⊎ ((parts : ℕ) × has m parts)
 
 -- the same cause
 abbrev pub forget_error_of : RecoverError → ForgetError

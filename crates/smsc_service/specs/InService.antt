@@ -1,5 +1,7 @@
 -- What a service has.
-use Rattle.std.specs.Prelude.{◌≡◌, ◌⊎◌, true}
+use Rattle.std.specs.Prelude.{◌≡◌, ◌⊎◌, ℕ, true, List}
+use Rattle.sms_base.specs.Among.{Among}
+use Rattle.sms_centre_rows.specs.declared.messages.message.MessageRow.{MessageRow}
 use Rattle.sms_rows.specs.declared.keep.refusals.Refusals.{Refusals}
 use Rattle.sms_rows.specs.keep.KeepState.{KeepState}
 use Rattle.sms_centre_group.specs.Grouping.{store_of}
@@ -7,6 +9,7 @@ use Rattle.sms_centre_spec.specs.Draft.{no_changes}
 use Rattle.sms_centre_spec.specs.SoundRows.{IsSound}
 use Rattle.sms_centre_spec.specs.declared.rows.Rows.{Rows}
 use Rattle.smsc_service.specs.declared.service.Service.{Service}
+use Rattle.smsc_service.specs.Course.{Course, Gone}
 use Rattle.smsc_service.specs.InSeated.{IsMadeBy, held_by}
 use Rattle.smsc_service.specs.Seats.{seats_in}
 use Rattle.smsc_service.specs.Serving.{IsWaiting, Serving, restarted}
@@ -15,6 +18,10 @@ module _ {K A : Type 0} where
   -- the store of its rows
   abbrev pub store_in : Service K A → K
   store_in service = store_of service.seated.machine.keep
+
+  -- the archive of what it forgets
+  abbrev pub archive_in : Service K A → A
+  archive_in service = service.errands.archive
 
   -- the calls that were refused
   abbrev pub refusals_of : Service K A → Refusals
@@ -52,3 +59,19 @@ module _ {K A : Type 0} (state : K → KeepState Rows) where
   -- if the store is honest, and the service was to start again as that before the call
   abbrev pub IfAwaited : Serving → Service K A → Service K A → Type 0 → Type 0
   IfAwaited r before after claim = HasHonestStore after → IsAwaitedBy before r → claim
+
+module _ {K A : Type 0} (keeps : A → MessageRow → ℕ → Type 0) where
+  -- its archive keeps each of these
+  abbrev pub HasArchived : Service K A → List Gone → Type 0
+  HasArchived service gone = (x : Gone) → Among x gone → keeps (archive_in service) x.message x.parts
+
+module _ {K A : Type 0} (state : K → KeepState Rows) (keeps : A → MessageRow → ℕ → Type 0) where
+  -- So it stands in a run. Its archive keeps all that the run forgot, before that is committed.
+  pub record IsRunning (service : Service K A) (s r : Course) : Type 0 where
+    pub standing : IsStanding state service s.serving r.serving
+    pub archived : HasArchived keeps service s.gone
+    -- if the group is refused
+    pub left : HasArchived keeps service r.gone
+
+  abbrev pub IsRunAs : Service K A → Course → Type 0
+  IsRunAs service s = IsRunning service s s

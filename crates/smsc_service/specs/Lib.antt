@@ -11,6 +11,7 @@ pub mod ShownLinks
 pub mod Serving
 pub mod BoundSession
 pub mod Causes
+pub mod Course
 pub mod Starting
 pub mod Stepping
 pub mod Replies

@@ -1,7 +1,7 @@
 -- The replies to seats.
 use Rattle.std.specs.Prelude.{ℕ, List, [], ◌∷◌, ◌++◌, Option, Some, None, Bool, false, if◌then◌else◌, bytes_eq}
 use Rattle.smpp_pdu.specs.declared.status.CommandStatus.{CommandStatus}
-use Rattle.smpp_pdu.specs.declared.status.CommandStatus.TheVariants.{ESME_RSYSERR}
+use Rattle.smpp_pdu.specs.declared.status.CommandStatus.TheVariants.{ESME_RINVMSGID, ESME_RSYSERR}
 use Rattle.sms_base.specs.declared.final_state.FinalState.{FinalState}
 use Rattle.sms_centre_spec.specs.declared.answer.CentreAnswer.{CentreAnswer}
 use Rattle.sms_centre_spec.specs.declared.answer.CentreAnswer.TheVariants.{Refused}
@@ -21,7 +21,7 @@ use Rattle.sms_receipt.specs.declared.final_message.Final.{Final}
 use Rattle.sms_centre_rows.specs.declared.reports.delivery.Delivery.{Delivery}
 use Rattle.sms_centre_rows.specs.declared.waiting.handset_link.Sent.{Sent}
 use Rattle.smsc_service.specs.declared.seat_map.LinkSeat.{LinkSeat}
-use Rattle.smsc_service.specs.Seats.{Seats, seat_of}
+use Rattle.smsc_service.specs.Seats.{Seats, is_vacant, seat_of}
 
 abbrev pub for_seat : ℕ → Reply → List (Out Reply)
 for_seat seat reply = record { seat = seat; out = reply } ∷ []
@@ -39,6 +39,15 @@ abbrev pub failed_by : Stimulus Job → List (Out Reply)
 failed_by (JobOf seat job) = failed seat job
 failed_by (Tick now) = []
 failed_by (Own errand) = []
+
+-- A request that asks nothing is answered by who is at its seat: RINVMSGID where nobody is, and else RSYSERR.
+abbrev pub vacancy : ℕ → Seats → CommandStatus
+vacancy seat s = if is_vacant seat s then ESME_RINVMSGID else ESME_RSYSERR
+
+abbrev pub nothing_by : Seats → Stimulus Job → List (Out Reply)
+nothing_by s (JobOf seat job) = if is_request job then for_seat seat (Answer (Refused (vacancy seat s))) else []
+nothing_by s (Tick now) = []
+nothing_by s (Own errand) = []
 
 -- the request of the seat is refused with this status
 abbrev pub refused_by : CommandStatus → Stimulus Job → List (Out Reply)

@@ -1,5 +1,5 @@
 -- Who sits where: the links that are there, and the sessions that are bound, each by its seat.
-use Rattle.std.specs.Prelude.{ℕ, List, [], ◌∷◌, Option, Some, None, if◌then◌else◌, bytes_eq}
+use Rattle.std.specs.Prelude.{ℕ, ◌&&◌, List, [], ◌∷◌, Bool, Option, Some, None, if◌then◌else◌, bytes_eq, is_none}
 use Rattle.sms_centre_spec.specs.declared.jobs.job.Job.{Job}
 use Rattle.sms_centre_spec.specs.declared.jobs.job.Job.TheVariants.{Bound, Unbound, Submit, Query, Cancel, DeliverAnswered, LinkUp, LinkDown, Frame}
 use Rattle.sms_rows.specs.table.Table.{put, row_at, without}
@@ -38,6 +38,10 @@ handset_at seat links = handset_of (row_at link_key seat links)
 abbrev pub seat_of : List ℕ → List LinkSeat → Option ℕ
 seat_of handset [] = None
 seat_of handset (link ∷ links) = if bytes_eq link.handset handset then Some link.seat else seat_of handset links
+
+-- neither a session nor a link is at the seat
+abbrev pub is_vacant : ℕ → Seats → Bool
+is_vacant seat s = is_none (row_at bound_session_key seat s.bound_sessions) && is_none (row_at link_key seat s.links)
 
 -- ---- changed
 

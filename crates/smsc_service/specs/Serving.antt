@@ -26,7 +26,7 @@ use Rattle.smsc_service.specs.declared.seat_map.SeatMap.{SeatMap}
 use Rattle.smsc_service.specs.Asking.{asked_by}
 use Rattle.smsc_service.specs.Seats.{Seats, followed, seats_in}
 use Rattle.smsc_service.specs.BoundSession.{handsets_of, sessions_of}
-use Rattle.smsc_service.specs.Replies.{failed_by, refused_by, taken_by, replies_to}
+use Rattle.smsc_service.specs.Replies.{failed_by, nothing_by, refused_by, taken_by, replies_to}
 
 -- a centre between two events, and who sits where
 pub record Serving : Type 0 where
@@ -50,7 +50,7 @@ abbrev pub gives_for : SeatRequest → Fate → Serving → Stimulus Job → Lis
 gives_for (Event event) Done s stimulus = replies_to s.seats stimulus (happened event s.core)
 gives_for (Event event) NoMemory s stimulus = failed_by stimulus
 gives_for (Event event) Refused s stimulus = failed_by stimulus
-gives_for Nothing fate s stimulus = failed_by stimulus
+gives_for Nothing fate s stimulus = nothing_by s.seats stimulus
 gives_for Taken fate s stimulus = taken_by stimulus
 gives_for (Forget before from most) Done s stimulus = []
 gives_for (Forget before from most) NoMemory s stimulus = failed_by stimulus

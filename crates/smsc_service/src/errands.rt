@@ -1,4 +1,6 @@
 //! What a service does that no seat asks.
+ghost use Rattle.std.specs.Prelude.{◌≡◌};
+
 use crate::order_desk::{OrderDesk, OrderOutcome, outcome_of};
 use sms_base::{MessageId, Moment};
 use sms_centre::{Archive, Centre, CentreAnswer};
@@ -101,7 +103,9 @@ impl<A: Archive + Drop> Errands<A> {
     }
 
     // The walk goes on from that number. From 0 it begins anew after a rest, and so it does where the call was not done.
-    fn walk_on(&mut self, before: Moment, next: u64, fate: Fate) {
+    fn walk_on(&mut self, before: Moment, next: u64, fate: Fate)
+        ensures { self.new.archive ≡ self.old.archive }
+    {
         let now = before.seconds().saturating_add(self.keep.unwrap_or(0));
         if matches!(fate, Fate::Done) && next != 0 {
             self.from = next;
@@ -119,7 +123,9 @@ impl<A: Archive + Drop> Errands<A> {
         fate: Fate,
         answer: Option<CentreAnswer>,
         next: u64,
-    ) {
+    )
+        ensures { self.new.archive ≡ self.old.archive }
+    {
         match stimulus {
             Stimulus::Own(Errand::Forget { before, .. }) => self.walk_on(*before, next, fate),
             Stimulus::Own(_) => {
@@ -131,7 +137,9 @@ impl<A: Archive + Drop> Errands<A> {
     }
 
     /// The group is committed, or refused: whoever ordered something is told what came of it.
-    pub(crate) fn tell(&mut self, is_committed: bool) {
+    pub(crate) fn tell(&mut self, is_committed: bool)
+        ensures { self.new.archive ≡ self.old.archive }
+    {
         if let Some(outcome) = self.told {
             self.told = None;
             self.desk.tell(if is_committed {
@@ -140,5 +148,14 @@ impl<A: Archive + Drop> Errands<A> {
                 OrderOutcome::Failed
             });
         }
+    }
+
+    /// Ends the errands, and gives the archive.
+    pub(crate) fn into_archive(self) -> A
+        ensures { result ≡ self.archive }
+    {
+        let Errands { desk, archive, .. } = self;
+        drop(desk);
+        archive
     }
 }

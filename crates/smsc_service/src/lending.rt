@@ -5,7 +5,7 @@ ghost use Rattle.sms_rows.specs.keep.StoreOutcome.{IfHeld, WasHonest};
 ghost use Rattle.sms_centre_spec.specs.declared.rows.Rows.{Rows as RowsOf};
 ghost use Rattle.smsc_service.specs.Seats.{nobody};
 ghost use Rattle.smsc_service.specs.Serving.{restarted};
-ghost use Rattle.smsc_service.specs.InService.{IsServedBy, store_in};
+ghost use Rattle.smsc_service.specs.InService.{IsServedBy, archive_in, store_in};
 
 use crate::cutoff::Cutoff;
 use crate::errands::{Errands, Forgetting};
@@ -34,25 +34,26 @@ fn share_of_board(board: Option<&Arc<LinkBoard>>) -> Result<Option<Arc<LinkBoard
     }
 }
 
-// Lends the service to the work, and gives what the work gives, and the keep that the service has then.
+// Lends the service to the work, and gives what the work gives, and the keep and the archive that the service has then.
 fn lend_service<K: CentreStore + Drop, A: Archive + Drop, R, W: FnOnce(&mut Service<K, A>) -> R>(
     service: Service<K, A>,
     work: W,
-) -> (R, K)
+) -> (R, K, A)
     requires { W.IsAlwaysCallable work }
-    ensures { (left : _) × FnOnceReturnsAtMut W.FnOnce work service result.0 left × (result.1 ≡ store_in left) }
+    ensures { (left : _) × FnOnceReturnsAtMut W.FnOnce work service result.0 left × (result.1 ≡ store_in left) × (result.2 ≡ archive_in left) }
 {
     let mut service = service;
     let given = work(&mut service);
-    (given, service.into_keep())
+    let (keep, archive) = service.into_parts();
+    (given, keep, archive)
 }
 
-/// Starts a service with the rows of a keep, with nobody at any seat, and lends it to the work. Gives what the work gives, and the keep back.
-/// Who calls this owns no service. Where there is a board, the service puts on it how links are. Behind the cutoff it begins nothing. It does what
-/// is ordered at the desk, and forgets what it is to forget.
+/// Starts a service with the rows of a keep, with nobody at any seat, and lends it to the work. Gives what the work gives, and the keep and the
+/// archive back. Who calls this owns no service. Where there is a board, the service puts on it how links are. Behind the cutoff it begins
+/// nothing. It does what is ordered at the desk, and forgets what it is to forget.
 ///
 /// # Errors
-/// As `Service::start`. The work is not done then, and the keep is dropped.
+/// As `Service::start`. The work is not done then, and the keep and the archive are dropped.
 pub fn serve_with<K: CentreStore + Drop, A: Archive + Drop, R, W: FnOnce(&mut Service<K, A>) -> R>(
     alloc: Global,
     keep: K,
@@ -61,12 +62,13 @@ pub fn serve_with<K: CentreStore + Drop, A: Archive + Drop, R, W: FnOnce(&mut Se
     desk: &Arc<OrderDesk>,
     forgetting: Forgetting<A>,
     work: W,
-) -> Result<(R, K), StartError>
+) -> Result<(R, K, A), StartError>
     requires { W.IsAlwaysCallable work }
-    // What is given is what the work gives of a service on the rows of the keep, and the keep as the work left it.
+    // What is given is what the work gives of a service on the rows of the keep, and the keep and the archive as the work left them.
     ensures given { IfOk result (λ given. (lent : _) × (left : _)
         × ((rows : RowsOf) → IfHeld rows (K.state keep) (K.state (store_in lent)) (IsServedBy K.state lent (restarted rows nobody)))
-        × WasHonest (K.state keep) (K.state (store_in lent)) × FnOnceReturnsAtMut W.FnOnce work lent given.0 left × (given.1 ≡ store_in left)) }
+        × WasHonest (K.state keep) (K.state (store_in lent)) × FnOnceReturnsAtMut W.FnOnce work lent given.0 left × (given.1 ≡ store_in left)
+        × (given.2 ≡ archive_in left)) }
 {
     let board = share_of_board(board)?;
     let cutoff = share_of(cutoff)?;

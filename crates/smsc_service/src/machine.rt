@@ -92,7 +92,7 @@ impl<K: CentreStore + Drop> CentreMachine<K> {
     ) -> Result<Plan, ForgetError>
         ensures outcome { (c : Core) → Represents c (centre_in self.now) → IfOk result (λ p. IsOutcome (forget before from most c) p.plan) }
         ensures archived { (c : Core) → Represents c (centre_in self.now)
-            → OnOk result (AreArchived (A.keeps archive.new) (going_now before from most c) c.rows.messages) }
+            → OnOk result (AreArchived (A.keeps archive.new) (going_now before from most c) c.rows) }
         ensures kept { Stays (A.keeps archive.old) (A.keeps archive.new) }
         ensures fits { IfOk result (FitsTheCentre (centre_in self.now)) }
     {

@@ -6,8 +6,8 @@ ghost use Rattle.sms_centre_rows.specs.messages.Messages.{message_at, message_ke
 ghost use Rattle.sms_centre.specs.state.CentreState.{Represents};
 ghost use Rattle.sms_rows.specs.table.Table.{all_applied};
 ghost use Rattle.smsc_service.specs.Seats.{seats_in};
-ghost use Rattle.smsc_service.specs.Replies.{answer_out, end_of, failed as failed_of, for_seat, frame_out, frame_outs, is_that as is_that_of, receipt_out};
-ghost use Rattle.smsc_service.specs.Replies.{receipt_outs, seat_for as seat_for_of, replies_at};
+ghost use Rattle.smsc_service.specs.Replies.{answer_out, end_of, failed as failed_of, for_seat, frame_out, frame_outs, is_that as is_that_of, nothing_by, receipt_out, receipt_outs, seat_for as seat_for_of, replies_at, vacancy as vacancy_of};
+ghost use Rattle.sms_keeper.specs.declared.machine.Stimulus.TheVariants.{Job as JobOf};
 
 use crate::ends::end_after;
 use crate::seat_map::SeatMap;
@@ -173,7 +173,7 @@ pub fn reply_outs(
     Ok(outs)
 }
 
-/// The reply of the seat for a job that failed, or that asks nothing: a request has an answer.
+/// The reply of the seat for a job that failed: a request has an answer.
 pub fn failed(seat: usize, job: &Job) -> Outs<Reply>
     ensures { result ≡ failed_of seat job.now }
 {
@@ -184,6 +184,29 @@ pub fn failed(seat: usize, job: &Job) -> Outs<Reply>
         })
     } else {
         Outs::none()
+    }
+}
+
+/// The reply of the seat for a job that asks nothing: a request is told whether anybody is at the seat.
+pub fn vacancy(seat_map: &SeatMap, seat: usize, job: &Job) -> Outs<Reply>
+    ensures { result ≡ nothing_by (seats_in seat_map.now) (JobOf seat job.now) }
+{
+    if !job.is_request() {
+        return Outs::none();
+    }
+    Outs::one(Out {
+        seat,
+        out: Reply::Answer(CentreAnswer::Refused(vacancy_status(seat_map, seat))),
+    })
+}
+
+fn vacancy_status(seat_map: &SeatMap, seat: usize) -> CommandStatus
+    ensures { result ≡ vacancy_of seat (seats_in seat_map.now) }
+{
+    if seat_map.is_vacant(seat) {
+        CommandStatus::ESME_RINVMSGID
+    } else {
+        CommandStatus::ESME_RSYSERR
     }
 }
 

@@ -1,7 +1,7 @@
 //! Which handset and which session is at which seat.
 ghost use Rattle.std.specs.Prelude.{◌≡◌, ◌<◌, IfOk};
 ghost use Rattle.sms_centre_spec.specs.declared.jobs.job.Job.TheVariants.{LinkUp};
-ghost use Rattle.smsc_service.specs.Seats.{followed, handset_at, link_key, nobody, seat_of, seats_in, bound_session_key};
+ghost use Rattle.smsc_service.specs.Seats.{followed, handset_at, is_vacant, link_key, nobody, seat_of, seats_in, bound_session_key};
 
 use crate::number::is_same;
 use crate::seat_table::SeatTable;
@@ -89,6 +89,14 @@ impl SeatMap {
             }
         }
         None
+    }
+
+    /// Whether neither a session nor a link is at the seat.
+    pub fn is_vacant(&self, seat: usize) -> bool
+        ensures { result ≡ is_vacant seat (seats_in self.now) }
+    {
+        let key = Key::of(seat as u64);
+        self.bound_sessions.find(key).is_none() && self.links.find(key).is_none()
     }
 
     // The link of the handset is put at the seat, if it is nowhere.

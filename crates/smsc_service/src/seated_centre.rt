@@ -23,7 +23,7 @@ use crate::made::Made;
 use crate::seat_map::SeatMap;
 use crate::short::answered;
 use crate::step_error::StepError;
-use crate::stimuli::{follow, planned_outs, turned_away, unmade};
+use crate::stimuli::{follow, planned_outs, turned_away, unasked, unmade};
 use sms_base::Moment;
 use sms_centre::{Archive, CentreEvent, Plan};
 use sms_centre_spec::bodies::CentreStore;
@@ -184,7 +184,7 @@ impl<K: CentreStore + Drop> SeatedCentre<K> {
             → MakingOutcome K.state base self.old self.new (Forget before from most) s stimulus.now result.fate result.outs }
         ensures told { result.told ≡ None }
         ensures archived { (s : Serving) (base : RowsOf) → IfMade K.state base s self.old self.new
-            (result.fate ≡ Done → AreArchived (A.keeps archive.new) (going_now before from most s.core) s.core.rows.messages) }
+            (result.fate ≡ Done → AreArchived (A.keeps archive.new) (going_now before from most s.core) s.core.rows) }
         ensures kept { Stays (A.keeps archive.old) (A.keeps archive.new) }
     {
         if is_late {
@@ -214,12 +214,12 @@ impl<K: CentreStore + Drop> SeatedCentre<K> {
         ensures told { (s : Serving) (base : RowsOf) → IfMade K.state base s self.old self.new (result.fate ≡ Done → result.told ≡ answer_of asked.now s.core) }
         // No message goes that the archive does not keep.
         ensures archived { (s : Serving) (base : RowsOf) → IfMade K.state base s self.old self.new
-            (result.fate ≡ Done → IfForget (λ before from most. AreArchived (A.keeps archive.new) (going_now before from most s.core) s.core.rows.messages) asked.now) }
+            (result.fate ≡ Done → IfForget (λ before from most. AreArchived (A.keeps archive.new) (going_now before from most s.core) s.core.rows) asked.now) }
         ensures kept { Stays (A.keeps archive.old) (A.keeps archive.new) }
     {
         match asked {
             SeatRequest::Event(event) => self.begin(event, stimulus, is_late),
-            SeatRequest::Nothing => unmade(Fate::Done, stimulus),
+            SeatRequest::Nothing => unasked(&self.seat_map, stimulus),
             SeatRequest::Taken => turned_away(stimulus),
             SeatRequest::Forget { before, from, most } => {
                 self.forget(stimulus, archive, *before, *from, *most, is_late)
@@ -245,7 +245,7 @@ impl<K: CentreStore + Drop> SeatedCentre<K> {
         ensures told { (s : Serving) (base : RowsOf) → IfMade K.state base s self.old self.new (result.fate ≡ Done → result.told ≡ answer_of asked.now s.core) }
         // No message goes that the archive does not keep.
         ensures archived { (s : Serving) (base : RowsOf) → IfMade K.state base s self.old self.new
-            (result.fate ≡ Done → IfForget (λ before from most. AreArchived (A.keeps archive.new) (going_now before from most s.core) s.core.rows.messages) asked.now) }
+            (result.fate ≡ Done → IfForget (λ before from most. AreArchived (A.keeps archive.new) (going_now before from most s.core) s.core.rows) asked.now) }
         ensures kept { Stays (A.keeps archive.old) (A.keeps archive.new) }
     {
         let made = self.serve(asked, stimulus, archive, is_late);

@@ -4,8 +4,8 @@ use crate::seat_map::SeatMap;
 use sms_centre_spec::Rows;
 use std::marker::Model;
 
-/// What a service represents, as contracts see it: a centre between events, and which handset and session is at which
-/// seat. No value of it is made.
+/// What a service represents, as contracts see it: a centre between events, which handset and session is at which seat, and
+/// what it forgot since the run began. No value of it is made.
 pub struct Served {
     pub rows: Rows,
     pub seat_map: SeatMap,
@@ -13,9 +13,10 @@ pub struct Served {
 
 impl Model for Served {
     ghost use Rattle.smsc_service.specs.Seats.{seats_in};
-    ghost use Rattle.smsc_service.specs.Serving.{Serving, restarted};
+    ghost use Rattle.smsc_service.specs.Course.{Course, begun};
+    ghost use Rattle.smsc_service.specs.Serving.{restarted};
 
-    ghost Value = { Serving };
+    ghost Value = { Course };
 
-    ghost view = { λ s. restarted s.rows (seats_in s.seat_map) };
+    ghost view = { λ s. begun (restarted s.rows (seats_in s.seat_map)) };
 }

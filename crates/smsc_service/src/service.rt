@@ -4,8 +4,9 @@ ghost use Rattle.sms_rows.specs.keep.StoreOutcome.{IfHeld, WasHonest};
 ghost use Rattle.sms_centre_spec.specs.declared.rows.Rows.{Rows as RowsOf};
 ghost use Rattle.smsc_service.specs.Seats.{nobody, seats_in};
 ghost use Rattle.smsc_service.specs.Stepping.{OneRefused};
-ghost use Rattle.smsc_service.specs.Serving.{Serving, after, gives, restarted};
-ghost use Rattle.smsc_service.specs.InService.{HasHonestStore, IfAwaited, IsAwaitedBy, IsBroken, IsRefusedBy, IsServedBy, IsStanding, refusals_of, store_in};
+ghost use Rattle.smsc_service.specs.Serving.{Serving, restarted};
+ghost use Rattle.smsc_service.specs.Course.{after, gives};
+ghost use Rattle.smsc_service.specs.InService.{HasArchived, HasHonestStore, IfAwaited, IsAwaitedBy, IsBroken, IsRefusedBy, IsRunning, IsServedBy, archive_in, refusals_of, store_in};
 
 use crate::causes::cause_told_by;
 use crate::cutoff::Cutoff;
@@ -120,9 +121,10 @@ impl<K: CentreStore + Drop, A: Archive + Drop> Service<K, A> {
         ))
     }
 
-    /// Ends the service, and gives the keep of its rows.
-    pub(crate) fn into_keep(self) -> K
-        ensures { result ≡ store_in self }
+    /// Ends the service, and gives the keep of its rows, and the archive of what it forgot.
+    pub(crate) fn into_parts(self) -> (K, A)
+        ensures keep { result.0 ≡ store_in self }
+        ensures archive { result.1 ≡ archive_in self }
     {
         let Service {
             seated,
@@ -135,8 +137,7 @@ impl<K: CentreStore + Drop, A: Archive + Drop> Service<K, A> {
         drop(resumed);
         drop(board);
         drop(cutoff);
-        drop(errands);
-        seated.into_keep()
+        (seated.into_keep(), errands.into_archive())
     }
 
     // Puts down how the links are, where a step of the group asked for it and anybody looks.
@@ -170,6 +171,7 @@ impl<K: CentreStore + Drop, A: Archive + Drop> Service<K, A> {
     fn restart(&mut self) -> Result<(), StartError>
         ensures served { (r : Serving) → IfAwaited K.state r self.old self.new (OnOk result (IsServedBy K.state self.new r)) }
         ensures resumed { self.new.resumed ≡ self.old.resumed }
+        ensures archive { archive_in self.new ≡ archive_in self.old }
         ensures before { HasHonestStore K.state self.new → HasHonestStore K.state self.old }
     {
         let seated = &mut self.seated;
@@ -183,11 +185,11 @@ impl<K: CentreStore + Drop, A: Archive + Drop> Service<K, A> {
 impl<K: CentreStore + Drop, A: Archive + Drop> Machine<Job, Reply> for Service<K, A> {
     type State = Served;
 
-    ghost stands = { λ m s r. IsStanding K.state m s r };
+    ghost stands = { λ m s r. IsRunning K.state A.keeps m s r };
 
-    ghost resumes = { λ m r. IsAwaitedBy K.state m r };
+    ghost resumes = { λ m r. IsAwaitedBy K.state m r.serving × HasArchived A.keeps m r.gone };
 
-    ghost fails_as = { λ m r. IsRefusedBy m r };
+    ghost fails_as = { λ m r. IsRefusedBy m r.serving × HasArchived A.keeps m r.gone };
 
     ghost is_honest = { λ m. HasHonestStore K.state m };
 

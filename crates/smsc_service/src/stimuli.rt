@@ -9,11 +9,11 @@ ghost use Rattle.sms_keeper.specs.declared.machine.Fate.TheVariants.{Done, Refus
 ghost use Rattle.smsc_service.specs.Asking.{IfEvent, asked_by as asked_by_of};
 ghost use Rattle.smsc_service.specs.Seats.{seats_in};
 ghost use Rattle.smsc_service.specs.Serving.{Serving, after, followed_by, gives};
-ghost use Rattle.smsc_service.specs.Replies.{asker, failed_by, risen_by as risen_by_of, seat_answer as seat_answer_of, taken_by, replies_to};
+ghost use Rattle.smsc_service.specs.Replies.{asker, failed_by, nothing_by, risen_by as risen_by_of, seat_answer as seat_answer_of, taken_by, replies_to};
 
 use crate::asking::{SeatRequest, errand_asks, job_asks};
 use crate::made::Made;
-use crate::replies::{Requester, failed, reply_outs, taken};
+use crate::replies::{Requester, failed, reply_outs, taken, vacancy};
 use crate::seat_map::SeatMap;
 use sms_base::Digits;
 use sms_centre::{Centre, CentreAnswer, CentreEvent, Plan};
@@ -132,6 +132,28 @@ fn failed_at(stimulus: &Stimulus<Job>) -> Outs<Reply>
     }
 }
 
+fn vacancy_at(seat_map: &SeatMap, stimulus: &Stimulus<Job>) -> Outs<Reply>
+    ensures { result ≡ nothing_by (seats_in seat_map.now) stimulus.now }
+{
+    match stimulus {
+        Stimulus::Job(seat, job) => vacancy(seat_map, *seat, job),
+        Stimulus::Tick(_) | Stimulus::Own(_) => Outs::none(),
+    }
+}
+
+/// What an item comes to that asks nothing.
+pub(crate) fn unasked(seat_map: &SeatMap, stimulus: &Stimulus<Job>) -> Made
+    ensures fate { result.fate ≡ Done }
+    ensures outs { result.outs ≡ nothing_by (seats_in seat_map.now) stimulus.now }
+    ensures told { result.told ≡ None }
+{
+    Made {
+        fate: Fate::Done,
+        outs: vacancy_at(seat_map, stimulus),
+        told: None,
+    }
+}
+
 /// What an item comes to that was not made.
 pub(crate) fn unmade(fate: Fate, stimulus: &Stimulus<Job>) -> Made
     ensures fate { result.fate ≡ fate }
@@ -156,7 +178,7 @@ pub(crate) fn refused_with_group(seat_map: &mut SeatMap, stimulus: &Stimulus<Job
             follow(seat_map, stimulus);
             failed_at(stimulus)
         }
-        SeatRequest::Nothing => failed_at(stimulus),
+        SeatRequest::Nothing => vacancy_at(seat_map, stimulus),
         SeatRequest::Taken => taken_at(stimulus),
         SeatRequest::Forget { .. } => failed_at(stimulus),
     }

@@ -169,9 +169,9 @@ impl RunArchive {
 impl Archive for RunArchive {
     ghost use Rattle.std.specs.Prelude.{⊤};
 
-    ghost took = { λ archive message. ⊤ };
+    ghost took = { λ archive message parts. ⊤ };
 
-    ghost keeps = { λ archive message. ⊤ };
+    ghost keeps = { λ archive message parts. ⊤ };
 
     fn take(&mut self, message: &MessageRow, parts: usize) -> Result<(), NotArchived> {
         self.write(message, parts).map_err(|_| NotArchived)

@@ -16,9 +16,13 @@ use smsc_service::{Archive, CentreStore, ForgetError, Forgetting, NotArchived, f
 use smsc_status::MessageFigures;
 use std::alloc::{AllocError, Global};
 use std::sync::{Arc, Wait};
+use std::time::Clock;
 
 // A day has so many seconds.
 const DAY: u64 = 86_400;
+
+// So many seconds lie between two lines of the log that say how many messages went.
+const MINUTE: u64 = 60;
 
 // What ended before that moment is not kept, if the words say how long it is. The moment is counted from the newest one of the rows where
 // the clock is ahead of it: a clock that is wrong takes nothing.
@@ -104,15 +108,62 @@ pub fn forget_old<R: Wait + Copy, K: CentreStore>(
     }
 }
 
-/// The archive of a run that goes on. Where it can't be written nothing goes, and the log says so once.
+/// The archive of a run that goes on. Where it can't be written nothing goes, and the log says so once. It says once a minute at most how
+/// many messages went.
 #[derive(Drop)]
 pub struct LoggedArchive<R: Wait> {
+    alloc: Global,
     // None where it could not be opened.
     archive: Option<RunArchive>,
     log: Arc<Log<R>>,
     rt: R,
     gone: Option<Arc<Gone>>,
     is_refused: bool,
+    // So many messages went since the log said so.
+    count: u64,
+    // The second of the system's clock from which on it says so again.
+    due: u64,
+}
+
+fn second_of<R: Clock>(rt: &R) -> u64 {
+    match rt.monotonic() {
+        Ok(since) => since.as_secs(),
+        Err(_) => 0,
+    }
+}
+
+impl<R: Wait + Copy> LoggedArchive<R> {
+    fn say_count(&mut self) -> Result<(), AllocError> {
+        let (alloc, count) = (self.alloc, self.count);
+        let text = format!(in alloc; "event=forgotten messages={count}")?;
+        self.log.put("info", text.as_str());
+        self.count = 0;
+        Ok(())
+    }
+
+    // What finds no memory is said with the next line.
+    fn say_rest(&mut self) {
+        if self.count != 0 {
+            let _ = self.say_count();
+        }
+    }
+
+    /// The run has ended. The log says what it has not said yet.
+    pub fn end(self) {
+        let mut archive = self;
+        archive.say_rest();
+        drop(archive);
+    }
+}
+
+impl<R: Wait + Clock + Copy> LoggedArchive<R> {
+    fn say_by_the_minute(&mut self) {
+        let now = second_of(&self.rt);
+        if self.due <= now {
+            self.say_rest();
+            self.due = now.saturating_add(MINUTE);
+        }
+    }
 }
 
 impl<R: Wait + Copy> LoggedArchive<R> {
@@ -132,12 +183,12 @@ impl<R: Wait + Copy> LoggedArchive<R> {
     }
 }
 
-impl<R: Wait + Copy> Archive for LoggedArchive<R> {
+impl<R: Wait + Clock + Copy> Archive for LoggedArchive<R> {
     ghost use Rattle.std.specs.Prelude.{⊤};
 
-    ghost took = { λ archive message. ⊤ };
+    ghost took = { λ archive message parts. ⊤ };
 
-    ghost keeps = { λ archive message. ⊤ };
+    ghost keeps = { λ archive message parts. ⊤ };
 
     fn take(&mut self, message: &MessageRow, parts: usize) -> Result<(), NotArchived> {
         let done = match &mut self.archive {
@@ -146,6 +197,7 @@ impl<R: Wait + Copy> Archive for LoggedArchive<R> {
         };
         if done.is_ok() {
             self.note(message);
+            self.count = self.count.saturating_add(1);
         }
         self.judge(done)
     }
@@ -155,6 +207,9 @@ impl<R: Wait + Copy> Archive for LoggedArchive<R> {
             Some(archive) => archive.sync(),
             None => Err(NotArchived),
         };
+        if done.is_ok() {
+            self.say_by_the_minute();
+        }
         self.judge(done)
     }
 }
@@ -167,7 +222,7 @@ fn kept_of(run: &ServerRun<'_>, start: Moment, newest: Moment) -> Option<u64> {
 }
 
 /// What a run forgets as it goes on, by its words. It starts at that moment, and its newest row is of that one.
-pub fn forgetting_of<R: Wait + Copy>(
+pub fn forgetting_of<R: Wait + Clock + Copy>(
     host: &HostRuntime,
     rt: R,
     watchers: &Watchers<R>,
@@ -185,11 +240,14 @@ pub fn forgetting_of<R: Wait + Copy>(
     Ok(Forgetting {
         keep,
         archive: LoggedArchive {
+            alloc: host.alloc(),
             archive,
             log,
             rt,
             gone,
             is_refused: false,
+            count: 0,
+            due: 0,
         },
     })
 }

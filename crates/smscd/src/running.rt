@@ -510,8 +510,10 @@ fn serve_open<R: Threads + Wait + Clock + Copy + Send + Sync + 'static, K: Centr
     clock: &RunClock<R>,
 ) -> Result<K, ServeFault> {
     let keep = observed(keep, given);
-    let (doors, keep) = serve(rt, alloc, keep, forgetting, &OpenGate, clock, ports, given)?;
+    let (doors, keep, archive) =
+        serve(rt, alloc, keep, forgetting, &OpenGate, clock, ports, given)?;
     drop(doors);
+    archive.end();
     Ok(unobserved(keep))
 }
 

@@ -1,7 +1,7 @@
 //! What both ends of the queue of a connection's pieces do.
-ghost use Rattle.std.specs.Prelude.{◌≡◌, ◌++◌, [], IfOk, MatchBool, MatchResult};
-ghost use Rattle.std.specs.Io.KnownBytes.{Consumes};
-ghost use Rattle.smsc_arrivals.specs.Pieces.{octets_of, IsGivenOf};
+ghost use Rattle.std.specs.Prelude.{◌≡◌, ◌++◌, [], true, IfOk, MatchBool, MatchResult};
+ghost use Rattle.std.specs.Io.KnownBytes.{Consumes, IsAtEnd};
+ghost use Rattle.smsc_arrivals.specs.Pieces.{is_mark, octets_of, AreAll, IsGivenOf};
 ghost use Rattle.smsc_arrivals.specs.PieceEnds.{given_by, left_at, source_of};
 
 use crate::pieces::ends::{PieceReceiver, PieceSender};
@@ -47,9 +47,11 @@ pub fn open_pieces<S: Read>(
 }
 
 impl PieceSender {
-    /// Gives the seat a piece, behind those that were given, and waits where there is no room. False where the seat has left.
+    /// Gives the seat a piece, behind those that were given, and waits where there is no room. The end mark is given behind all that the
+    /// stream was to give. False where the seat has left.
     pub fn give<R: Wait>(&mut self, rt: &R, piece: Piece) -> bool
-        requires { IsGivenOf (source_of self.old) (given_by self.old ++ octets_of piece) }
+        requires given { IsGivenOf (source_of self.old) (given_by self.old ++ octets_of piece) }
+        requires all { is_mark piece ≡ true → AreAll (source_of self.old) (given_by self.old ++ octets_of piece) }
         ensures source { source_of self.new ≡ source_of self.old }
         ensures given { MatchBool result
             (given_by self.new ≡ given_by self.old ++ octets_of piece)
@@ -62,10 +64,11 @@ impl PieceSender {
 }
 
 impl PieceReceiver {
-    /// Takes the next piece of what the stream was to give. An error only if there was none at one moment of the call.
+    /// Takes the next piece of what the stream was to give. Behind the end mark nothing is left. An error only if there was none at one moment
+    /// of the call.
     pub fn take<R: Wait>(&mut self, rt: &R) -> Result<Piece, TryRecvError>
         ensures { MatchResult result
-            (λ piece. Consumes (left_at self.old) (left_at self.new) (octets_of piece))
+            (λ piece. Consumes (left_at self.old) (left_at self.new) (octets_of piece) × (is_mark piece ≡ true → IsAtEnd (left_at self.new)))
             (λ _. left_at self.new ≡ left_at self.old) }
     {
         self.receiver.try_recv_as::<Takes, R>(rt, &mut self.pass)

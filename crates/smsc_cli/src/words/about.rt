@@ -16,7 +16,7 @@ pub enum About {
 /// A program can't know how it was built: the toolchain builds one source alike before and after its proof. So these
 /// words are true of each build.
 pub const VERSION: &str =
-    "rattle-kit-13f logic dac8208d650f15bf: proved where `rt run` built it; not proved where `rt try` or demo/build did\n";
+    "rattle-kit-13b logic dac8208d650f15bf: proved where `rt run` built it; not proved where `rt try` or demo/build did\n";
 
 /// What the word asks about a program, if it is one of these three.
 pub fn about_of(word: &str) -> Option<About>

@@ -44,9 +44,9 @@ use Rattle.smsc_service.specs.declared.asking.SeatRequest.TheVariants.{Event, No
 use Rattle.smsc_service.specs.declared.seat_map.LinkSeat.{LinkSeat}
 use Rattle.smsc_service.specs.Asking.{asked, asked_by, link_for, of_handset, question, read_as, submission, withdrawal}
 use Rattle.smsc_service.specs.Numbers.{is_number}
-use Rattle.smsc_service.specs.Replies.{answer_out, end_of, failed, for_seat, frame_out, frame_outs, receipt_out, receipt_outs, replies_at, replies_to, risen_by, seat_for}
+use Rattle.smsc_service.specs.Replies.{answer_out, end_of, failed, for_seat, frame_out, frame_outs, receipt_out, receipt_outs, replies_at, replies_to, risen_by, seat_for, vacancy}
 use Rattle.smsc_service.specs.Seats.{Seats, handset_at, seat_of}
-use Rattle.smsc_service.specs.Serving.{Serving, gives, gives_for, outs_for, refusal_for, refusal_of, short_of, unless_refused}
+use Rattle.smsc_service.specs.Serving.{Serving, after, after_for, gives, gives_for, outs_for, refusal_for, refusal_of, short_of, unless_refused}
 use Rattle.smsc_server.proofs.serving.Unanswered.{answered_unanswered, bound_unanswered, cancel_answered, down_unanswered, frame_unanswered, query_answered, submit_answered, tick_unanswered, unbound_unanswered, up_unanswered}
 
 -- ---- counted among what is given to a seat
@@ -146,6 +146,22 @@ one_failed n seat job = by_kind (is_request job)
     at_none false = refl
 
     by_kind : (is : Bool) → answers_to n (if is then for_seat seat (Answer (RefusedBy ESME_RSYSERR)) else []) ≡ one_if (n == seat) is
+    by_kind true = at_seat (n == seat)
+    by_kind false = at_none (n == seat)
+
+one_nothing : (n seat : ℕ) (job : Job) (status : CommandStatus)
+    → answers_to n (if is_request job then for_seat seat (Answer (RefusedBy status)) else []) ≡ one_if (n == seat) (is_request job)
+one_nothing n seat job status = by_kind (is_request job)
+  where
+    at_seat : (at : Bool) → answers_in (here at (Answer (RefusedBy status))) ≡ one_if at true
+    at_seat true = refl
+    at_seat false = refl
+
+    at_none : (at : Bool) → 0 ≡ one_if at false
+    at_none true = refl
+    at_none false = refl
+
+    by_kind : (is : Bool) → answers_to n (if is then for_seat seat (Answer (RefusedBy status)) else []) ≡ one_if (n == seat) is
     by_kind true = at_seat (n == seat)
     by_kind false = at_none (n == seat)
 
@@ -277,9 +293,9 @@ module _ (n seat : ℕ) (job : Job) where
       ∙ ap (one_if (n == seat)) h.0
   one_asked s NoMemory (Event event) h = one_short (refusal_of event s.core) h.1
   one_asked s Refused (Event event) h = one_failed n seat job
-  one_asked s Done Nothing h = one_failed n seat job
-  one_asked s NoMemory Nothing h = one_failed n seat job
-  one_asked s Refused Nothing h = one_failed n seat job
+  one_asked s Done Nothing h = one_nothing n seat job (vacancy seat s.seats)
+  one_asked s NoMemory Nothing h = one_nothing n seat job (vacancy seat s.seats)
+  one_asked s Refused Nothing h = one_nothing n seat job (vacancy seat s.seats)
   one_asked s Done Taken h = none_taken (n == seat) ∙ ap (one_if (n == seat)) (sym h)
   one_asked s NoMemory Taken h = none_taken (n == seat) ∙ ap (one_if (n == seat)) (sym h)
   one_asked s Refused Taken h = none_taken (n == seat) ∙ ap (one_if (n == seat)) (sym h)
@@ -340,18 +356,33 @@ either_nothing : (b : Bool) (a : SeatRequest) → a ≡ Nothing → (if b then a
 either_nothing true a e = e
 either_nothing false a e = refl
 
-failed_outs : (s : Serving) (n account : ℕ) (fate : Fate) → outs_for Nothing fate s (JobOf n (Query account [])) ≡ for_seat n (Answer (RefusedBy ESME_RSYSERR))
-failed_outs s n account Done = refl
-failed_outs s n account NoMemory = refl
-failed_outs s n account Refused = refl
+nothing_outs : (s : Serving) (n account : ℕ) (fate : Fate) → outs_for Nothing fate s (JobOf n (Query account [])) ≡ for_seat n (Answer (RefusedBy (vacancy n s.seats)))
+nothing_outs s n account Done = refl
+nothing_outs s n account NoMemory = refl
+nothing_outs s n account Refused = refl
 
--- a request that asks nothing has an answer, and that alone
+nothing_is : (s : Serving) (n account : ℕ) → asked_by s.seats (JobOf n (Query account [])) ≡ Nothing
+nothing_is s n account = either_nothing (nat_lt n 32) (asked s.seats n (Query account [])) (nothing_asked (question account))
+
+-- a request that asks nothing changes nothing
+pub nothing_after : (s : Serving) (n : ℕ) (job : Job) (fate : Fate) → asks_nothing job ≡ true → after s (JobOf n job) fate ≡ s
+nothing_after s n (Query account []) fate h = ap (λ (x : SeatRequest). after_for x fate s (JobOf n (Query account []))) (nothing_is s n account)
+nothing_after s n (Query account (octet ∷ pdu)) fate h = absurd (true≢false (sym h))
+nothing_after s n (Bound account receives) fate h = absurd (true≢false (sym h))
+nothing_after s n Unbound fate h = absurd (true≢false (sym h))
+nothing_after s n (Submit account pdu) fate h = absurd (true≢false (sym h))
+nothing_after s n (Cancel account pdu) fate h = absurd (true≢false (sym h))
+nothing_after s n (DeliverAnswered id is_accepted) fate h = absurd (true≢false (sym h))
+nothing_after s n (LinkUp handset) fate h = absurd (true≢false (sym h))
+nothing_after s n LinkDown fate h = absurd (true≢false (sym h))
+nothing_after s n (Frame octets) fate h = absurd (true≢false (sym h))
+
+-- It has an answer, and that alone: who is at the seat.
 pub nothing_given : (s : Serving) (n : ℕ) (job : Job) (fate : Fate) → asks_nothing job ≡ true
-    → outs_to n (gives s (JobOf n job) fate) ≡ Answer (RefusedBy ESME_RSYSERR) ∷ []
+    → outs_to n (gives s (JobOf n job) fate) ≡ Answer (RefusedBy (vacancy n s.seats)) ∷ []
 nothing_given s n (Query account []) fate h =
-    let a = either_nothing (nat_lt n 32) (asked s.seats n (Query account [])) (nothing_asked (question account)) in
-    ap (λ (x : SeatRequest). outs_to n (outs_for x fate s (JobOf n (Query account [])))) a
-    ∙ (ap (outs_to n) (failed_outs s n account fate) ∙ ap (λ (b : Bool). here b (Answer (RefusedBy ESME_RSYSERR))) (eq-eqb n n refl))
+    ap (λ (x : SeatRequest). outs_to n (outs_for x fate s (JobOf n (Query account [])))) (nothing_is s n account)
+    ∙ (ap (outs_to n) (nothing_outs s n account fate) ∙ ap (λ (b : Bool). here b (Answer (RefusedBy (vacancy n s.seats)))) (eq-eqb n n refl))
 nothing_given s n (Query account (octet ∷ pdu)) fate h = absurd (true≢false (sym h))
 nothing_given s n (Bound account receives) fate h = absurd (true≢false (sym h))
 nothing_given s n Unbound fate h = absurd (true≢false (sym h))

@@ -83,7 +83,7 @@ jobs_join (Some job ∷ a) b = ap (λ (l : List Job). job ∷ l) (jobs_join a b)
 pub cleared_first : (s t : Seat Job Reply) → t ≡ s → put_by s ≡ [] → taken_by s ≡ [] → IsCleared (put_by t) (taken_by t)
 cleared_first s t e none nothing =
     subst (λ (l : List (Option Job)). IsCleared l (taken_by t)) (sym (ap put_by e ∙ none))
-    (subst (λ (l : List Reply). IsCleared [] l) (sym (ap taken_by e ∙ nothing)) (refl, refl, refl))
+    (subst (λ (l : List Reply). IsCleared [] l) (sym (ap taken_by e ∙ nothing)) (refl, refl, refl, refl))
 
 pub same_from : (s r t u : Seat Job Reply) → r ≡ s → IsSameSeat r t → IsSameSeat t u → IsSameSeat s u
 same_from s r t u e h k = subst (λ (x : Seat Job Reply). IsSameSeat x u) e (seat_trans r t u h k)

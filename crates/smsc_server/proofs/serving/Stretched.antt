@@ -2,9 +2,10 @@
 use Rattle.std.proofs.Common.{◌≡◌, ◌==◌, ◌+◌, ◌⊎◌, ◌∙◌, inl, inr, ℕ, zero, suc, Bool, true, false, true≢false, List, [], ◌∷◌, ◌++◌, Option, Some, None, if◌then◌else◌, refl, sym, ap, subst, append_assoc, append-nil, zero-add, arith}
 use Rattle.std.specs.Prelude.{⊤}
 use Rattle.std.proofs.lemmas.Bool.{eqb-true}
-use Rattle.smpp_pdu.specs.declared.status.CommandStatus.TheVariants.{ESME_RSYSERR}
+use Rattle.smpp_pdu.specs.declared.status.CommandStatus.{CommandStatus}
+use Rattle.smpp_pdu.specs.declared.status.CommandStatus.TheVariants.{ESME_RINVMSGID, ESME_RSYSERR}
 use Rattle.sms_centre_spec.specs.declared.answer.CentreAnswer.{CentreAnswer}
-use Rattle.sms_centre_spec.specs.declared.answer.CentreAnswer.TheVariants.{Refused}
+use Rattle.sms_centre_spec.specs.declared.answer.CentreAnswer.TheVariants.{Submitted, Queried, Cancelled, Refused}
 use Rattle.sms_centre_spec.specs.declared.jobs.job.Job.{Job}
 use Rattle.sms_centre_spec.specs.declared.jobs.reply.Reply.{Reply}
 use Rattle.sms_centre_spec.specs.declared.jobs.reply.Reply.TheVariants.{Answer, Receipt, Frame, Taken}
@@ -17,13 +18,15 @@ use Rattle.sms_keeper.specs.declared.machine.Stimulus.TheVariants.{Job as JobOf,
 use Rattle.sms_keeper.specs.declared.outs.Out.{Out}
 use Rattle.sms_keeper.specs.History.{IsHistory, answers_in as replies_in, asked, asked_by, for_seat, jobs_of, outs_to}
 use Rattle.smsc_loop.specs.Calls.{Call, jobs_put, replies_taken}
-use Rattle.smsc_loop.specs.Owing.{IsCleared, answers_in, asks_nothing, ends_answered, ends_asked, is_answer, is_asking_nothing, requests_in}
-use Rattle.smsc_loop.proofs.Counting.{ends_with}
+use Rattle.smsc_loop.specs.Owing.{IsCleared, answers_in, asks_nothing, ends_answered, ends_asked, ends_vacant, is_answer, is_asking_nothing, is_vacancy, requests_in}
+use Rattle.smsc_loop.proofs.Counting.{ends_with, vacant_with}
+use Rattle.smsc_service.specs.Replies.{vacancy}
+use Rattle.smsc_service.specs.Seats.{is_vacant}
 use Rattle.smsc_service.specs.Serving.{Serving, after, gives}
 use Rattle.smsc_server.specs.serving.Connections.{Admitted, Connection, calls_of}
 use Rattle.smsc_server.specs.serving.Sittings.{InTurn, jobs_by, replies_to}
-use Rattle.smsc_server.specs.serving.Stretches.{HaveStretches, IsLastStretch, IsStretch}
-use Rattle.smsc_server.proofs.serving.OneAnswer.{nothing_given, one_given, one_if, requests_of}
+use Rattle.smsc_server.specs.serving.Stretches.{HaveStretches, HaveVacated, IsLastStretch, IsStretch}
+use Rattle.smsc_server.proofs.serving.OneAnswer.{nothing_after, nothing_given, one_given, one_if, requests_of}
 
 -- ---- what counts in two parts
 
@@ -52,6 +55,12 @@ ends_behind (x ∷ []) [] h = refl
 ends_behind (x ∷ []) (y ∷ b) h = h
 ends_behind (x ∷ y ∷ a) b h = ends_behind (y ∷ a) b h
 
+vacant_behind : (a b : List Reply) → ends_vacant (a ++ b) ≡ true → ends_vacant b ≡ true
+vacant_behind [] b h = h
+vacant_behind (x ∷ []) [] h = refl
+vacant_behind (x ∷ []) (y ∷ b) h = h
+vacant_behind (x ∷ y ∷ a) b h = vacant_behind (y ∷ a) b h
+
 asked_behind : (a b : List (Option Job)) → ends_asked (a ++ b) ≡ true → ends_asked b ≡ true
 asked_behind [] b h = h
 asked_behind (x ∷ []) [] h = refl
@@ -64,6 +73,7 @@ cleared_behind put more taken others h k = (
   (let a = requests_join put more in let b = answers_join taken others in let c = h.0 in let d = k.0 in omega arith),
   asked_behind put more k.1,
   ends_behind taken others k.2,
+  vacant_behind taken others k.3,
 )
 
 -- ---- two beginnings of one list that end with an answer and have as many answers are the same
@@ -193,6 +203,8 @@ record Cut (n : ℕ) (s : Serving) (items : List (Item Job Reply)) (t : Serving)
   pub before : List Reply
   pub answer : CentreAnswer
   pub ends : replies_in n own ≡ before ++ Answer answer ∷ []
+  -- its answer says whether anybody is at the seat
+  pub vacant : answer ≡ Refused ESME_RINVMSGID → is_vacant n between.seats ≡ true
 
 module _ (n : ℕ) (s : Serving) (e : Item Job Reply) (es : List (Item Job Reply)) (t : Serving) (outs : e.outs ≡ gives s e.stimulus e.fate) where
   given_count : answers_in (outs_to n e.outs) ≡ requests_of n e.stimulus
@@ -214,12 +226,14 @@ module _ (n : ℕ) (s : Serving) (e : Item Job Reply) (es : List (Item Job Reply
     before = outs_to n e.outs ++ c.before;
     answer = c.answer;
     ends = ap (λ (l : List Reply). outs_to n e.outs ++ l) c.ends ∙ sym (append_assoc (outs_to n e.outs) c.before (Answer c.answer ∷ []));
+    vacant = c.vacant;
   }
 
   -- the item itself is that job
   cut_here : (job : Job) (answer : CentreAnswer) → own_jobs n e.stimulus ≡ job ∷ [] → outs_to n e.outs ≡ Answer answer ∷ []
+      → (answer ≡ Refused ESME_RINVMSGID → is_vacant n (after s e.stimulus e.fate).seats ≡ true)
       → IsHistory gives after (after s e.stimulus e.fate) es t → Cut n s (e ∷ es) t (job ∷ [])
-  cut_here job answer is given h = record {
+  cut_here job answer is given empty h = record {
     own = e ∷ [];
     later = es;
     between = after s e.stimulus e.fate;
@@ -232,6 +246,7 @@ module _ (n : ℕ) (s : Serving) (e : Item Job Reply) (es : List (Item Job Reply
     before = [];
     answer = answer;
     ends = append-nil (outs_to n e.outs) ∙ given;
+    vacant = empty;
   }
     where
       plain : (m : ℕ) → m + 0 ≡ m
@@ -270,6 +285,10 @@ kind n (JobOf seat job) = by_seat (n == seat) refl
     by_seat true q = inr (job, ap (λ (m : ℕ). JobOf m job) (sym (eqb-true n seat q)), ap (λ (b : Bool). if b then job ∷ [] else []) q)
     by_seat false q = inl (ap (λ (b : Bool). if b then job ∷ [] else []) q)
 
+said_vacant : (b : Bool) → Refused (if b then ESME_RINVMSGID else ESME_RSYSERR) ≡ Refused ESME_RINVMSGID → b ≡ true
+said_vacant true e = refl
+said_vacant false e = absurd cc
+
 -- the history can be cut behind each such job
 abbrev Cuts : ℕ → Serving → List (Item Job Reply) → Serving → Type 0
 Cuts n s items t =
@@ -278,15 +297,22 @@ Cuts n s items t =
 
 module _ (n : ℕ) (s : Serving) (e : Item Job Reply) (es : List (Item Job Reply)) (t : Serving) (outs : e.outs ≡ gives s e.stimulus e.fate)
     (next : IsHistory gives after (after s e.stimulus e.fate) es t) (cuts : Cuts n (after s e.stimulus e.fate) es t) where
-  given_one : (job : Job) → e.stimulus ≡ JobOf n job → asks_nothing job ≡ true → outs_to n e.outs ≡ Answer (Refused ESME_RSYSERR) ∷ []
+  given_one : (job : Job) → e.stimulus ≡ JobOf n job → asks_nothing job ≡ true → outs_to n e.outs ≡ Answer (Refused (vacancy n s.seats)) ∷ []
   given_one job is asks =
       ap (outs_to n) (outs ∙ ap (λ (stimulus : Stimulus Job). gives s stimulus e.fate) is) ∙ nothing_given s n job e.fate asks
+
+  empty_then : (job : Job) → e.stimulus ≡ JobOf n job → asks_nothing job ≡ true → Refused (vacancy n s.seats) ≡ Refused ESME_RINVMSGID
+      → is_vacant n (after s e.stimulus e.fate).seats ≡ true
+  empty_then job is asks said =
+      ap (λ (stimulus : Stimulus Job). is_vacant n (after s stimulus e.fate).seats) is
+      ∙ (ap (λ (x : Serving). is_vacant n x.seats) (nothing_after s n job e.fate asks) ∙ said_vacant (is_vacant n s.seats) said)
 
   cut_own : (job : Job) → e.stimulus ≡ JobOf n job → own_jobs n e.stimulus ≡ job ∷ [] → Cuts n s (e ∷ es) t
   cut_own job is one [] last rest asks k =
       let all : job ∷ jobs_of n es ≡ last ∷ rest = sym (jobs_first n e es ∙ ap (λ (l : List Job). l ++ jobs_of n es) one) ∙ k in
       let same : job ≡ last = first_job job last (jobs_of n es) rest all in
-      cut_here n s e es t outs last (Refused ESME_RSYSERR) (one ∙ ap (λ (j : Job). j ∷ []) same) (given_one job is (ap asks_nothing same ∙ asks)) next
+      cut_here n s e es t outs last (Refused (vacancy n s.seats)) (one ∙ ap (λ (j : Job). j ∷ []) same)
+      (given_one job is (ap asks_nothing same ∙ asks)) (empty_then job is (ap asks_nothing same ∙ asks)) next
   cut_own job is one (first ∷ before) last rest asks k =
       let all : job ∷ jobs_of n es ≡ first ∷ ((before ++ last ∷ []) ++ rest) = sym (jobs_first n e es ∙ ap (λ (l : List Job). l ++ jobs_of n es) one) ∙ k in
       let same : job ≡ first = first_job job first (jobs_of n es) ((before ++ last ∷ []) ++ rest) all in
@@ -325,6 +351,20 @@ off_jobs : (a x y : List Job) → a ++ x ≡ a ++ y → x ≡ y
 off_jobs [] x y e = e
 off_jobs (j ∷ a) x y e = off_jobs a x y (other_jobs j j (a ++ x) (a ++ y) e)
 
+status_is : (status : CommandStatus) → is_vacancy (Answer (Refused status)) ≡ true → status ≡ ESME_RINVMSGID
+status_is ESME_RINVMSGID h = refl
+status_is status h = absurd (true≢false (sym h))
+
+-- the last answer says that nobody is at the seat
+vacancy_is : (answer : CentreAnswer) → is_vacancy (Answer answer) ≡ true → answer ≡ Refused ESME_RINVMSGID
+vacancy_is (Submitted id) h = absurd (true≢false (sym h))
+vacancy_is (Queried id state moment) h = absurd (true≢false (sym h))
+vacancy_is Cancelled h = absurd (true≢false (sym h))
+vacancy_is (Refused status) h = ap (λ (s : CommandStatus). Refused s) (status_is status h)
+
+vacant_so : (l before : List Reply) (answer : CentreAnswer) → l ≡ before ++ Answer answer ∷ [] → ends_vacant l ≡ true → answer ≡ Refused ESME_RINVMSGID
+vacant_so l before answer e h = vacancy_is answer (sym (vacant_with before (Answer answer)) ∙ (sym (ap ends_vacant e) ∙ h))
+
 ends_so : (l before : List Reply) (answer : CentreAnswer) → l ≡ before ++ Answer answer ∷ [] → ends_answered l ≡ true
 ends_so l before answer e = ap ends_answered e ∙ ends_with before (Answer answer)
 
@@ -351,7 +391,7 @@ module _ {S : Type 0} (remaining contents : S → Option (List ℕ)) (admitted :
   Stretched cs =
       (s : Serving) (items : List (Item Job Reply)) (t : Serving) (untaken : List Reply) → IsHistory gives after s items t
       → InTurn remaining contents admitted [] [] cs → jobs_of n items ≡ jobs_among (jobs_by remaining contents admitted cs)
-      → replies_in n items ≡ replies_to remaining contents admitted cs ++ untaken → HaveStretches remaining contents admitted n cs items
+      → replies_in n items ≡ replies_to remaining contents admitted cs ++ untaken → HaveVacated remaining contents admitted n s cs items
 
   last_stretch : (c : Connection remaining contents admitted) → Stretched (c ∷ [])
   last_stretch c s items t untaken h turn jobs replies =
@@ -370,8 +410,11 @@ module _ {S : Type 0} (remaining contents : S → Option (List ℕ)) (admitted :
       let nothing : replies_taken calls ≡ [] = no_more (replies_taken calls) cleared.2 (sym cleared.0 ∙ ap requests_in none) in (
         [],
         items,
+        s,
         refl,
         record { jobs = sym (ap jobs_among none); replies = sym nothing },
+        refl,
+        λ v. v,
         later s items t untaken h (from_here (jobs_put calls) (replies_taken calls) (next ∷ cs) cleared turn.1)
             (jobs ∙ ap (λ (l : List (Option Job)). jobs_among (l ++ jobs_by remaining contents admitted (next ∷ cs))) none)
             (replies ∙ ap (λ (l : List Reply). (l ++ replies_to remaining contents admitted (next ∷ cs)) ++ untaken) nothing),
@@ -397,12 +440,17 @@ module _ {S : Type 0} (remaining contents : S → Option (List ℕ)) (admitted :
       let same : replies_in n x.own ≡ taken =
       same_beginning (replies_in n x.own) taken (replies_in n x.later) (replies_then ++ untaken) both
       (ends_so (replies_in n x.own) x.before x.answer x.ends) cleared.2 count in
+      let empty : is_vacant n x.between.seats ≡ true =
+      x.vacant (vacant_so (replies_in n x.own) x.before x.answer x.ends (ap ends_vacant same ∙ cleared.3)) in
       let parts : jobs_of n x.own ++ jobs_of n x.later ≡ jobs_of n x.own ++ others =
       sym (ap (jobs_of n) x.split ∙ jobs_parts n x.own x.later) ∙ (whole ∙ ap (λ (l : List Job). l ++ others) (sym x.jobs_so)) in (
         x.own,
         x.later,
+        x.between,
         x.split,
         record { jobs = own_jobs_so; replies = same },
+        x.first,
+        λ v. empty,
         later x.between x.later t untaken x.next (from_here put taken (next ∷ cs) cleared turn.1)
             (off_jobs (jobs_of n x.own) (jobs_of n x.later) others parts)
             (cut_off taken (replies_in n x.later) (replies_then ++ untaken) (ap (λ (l : List Reply). l ++ replies_in n x.later) (sym same) ∙ both)),
@@ -416,8 +464,19 @@ module _ {S : Type 0} (remaining contents : S → Option (List ℕ)) (admitted :
       (subst (λ (l : List (Option Job)). EndsAsked (jobs_among l)) (sym is) (ends_among job put (ap ends_asked (sym is) ∙ turn.1.0.1)))
       s items t untaken h turn
 
-  pub stretched : (cs : List (Connection remaining contents admitted)) → Stretched cs
-  stretched [] s items t untaken h turn jobs replies = tt
-  stretched (c ∷ []) s items t untaken h turn jobs replies = last_stretch c s items t untaken h turn jobs replies
-  stretched (c ∷ next ∷ cs) s items t untaken h turn jobs replies =
-      next_stretch c next cs (stretched (next ∷ cs)) (jobs_put (calls_of remaining contents admitted c)) refl s items t untaken h turn jobs replies
+  pub vacated : (cs : List (Connection remaining contents admitted)) → Stretched cs
+  vacated [] s items t untaken h turn jobs replies = tt
+  vacated (c ∷ []) s items t untaken h turn jobs replies = last_stretch c s items t untaken h turn jobs replies
+  vacated (c ∷ next ∷ cs) s items t untaken h turn jobs replies =
+      next_stretch c next cs (vacated (next ∷ cs)) (jobs_put (calls_of remaining contents admitted c)) refl s items t untaken h turn jobs replies
+
+  kept : (s : Serving) (cs : List (Connection remaining contents admitted)) (items : List (Item Job Reply)) → HaveVacated remaining contents admitted n s cs items
+      → HaveStretches remaining contents admitted n cs items
+  kept s [] items h = tt
+  kept s (c ∷ []) items h = h
+  kept s (c ∷ next ∷ cs) items h = (h.0, h.1, h.3, h.4, kept h.2 (next ∷ cs) h.1 h.7)
+
+  pub stretched : (cs : List (Connection remaining contents admitted)) (s : Serving) (items : List (Item Job Reply)) (t : Serving) (untaken : List Reply)
+      → IsHistory gives after s items t → InTurn remaining contents admitted [] [] cs → jobs_of n items ≡ jobs_among (jobs_by remaining contents admitted cs)
+      → replies_in n items ≡ replies_to remaining contents admitted cs ++ untaken → HaveStretches remaining contents admitted n cs items
+  stretched cs s items t untaken h turn jobs replies = kept s cs items (vacated cs s items t untaken h turn jobs replies)

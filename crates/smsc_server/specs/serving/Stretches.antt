@@ -1,11 +1,13 @@
 -- The stretches of a history that belong to the connections of one seat.
-use Rattle.std.specs.Prelude.{◌≡◌, ℕ, List, [], ◌∷◌, ◌++◌, Option, ⊤}
+use Rattle.std.specs.Prelude.{◌≡◌, ℕ, true, List, [], ◌∷◌, ◌++◌, Option, ⊤}
 use Rattle.sms_centre_spec.specs.declared.jobs.job.Job.{Job}
 use Rattle.sms_centre_spec.specs.declared.jobs.reply.Reply.{Reply}
 use Rattle.sms_seats.specs.Jobs.{jobs_among}
 use Rattle.sms_keeper.specs.declared.machine.Item.{Item}
-use Rattle.sms_keeper.specs.History.{answers_in, jobs_of}
+use Rattle.sms_keeper.specs.History.{IsHistory, answers_in, jobs_of}
 use Rattle.smsc_loop.specs.Calls.{Call, jobs_put, replies_taken}
+use Rattle.smsc_service.specs.Seats.{is_vacant}
+use Rattle.smsc_service.specs.Serving.{Serving, after, gives}
 use Rattle.smsc_server.specs.serving.Connections.{Admitted, Connection, calls_of}
 
 -- The items have all jobs that these calls put at the seat, in order, and no others of it. The replies for the seat in these items are those
@@ -28,3 +30,12 @@ module _ {S : Type 0} (remaining contents : S → Option (List ℕ)) (admitted :
   HaveStretches seat (c ∷ next ∷ cs) items =
       (own : List (Item Job Reply)) × (later : List (Item Job Reply)) × (items ≡ own ++ later)
       × IsStretch seat (calls_of remaining contents admitted c) own × HaveStretches seat (next ∷ cs) later
+
+  -- The same from that moment of the centre on. Where nobody was at the seat at first, nobody is behind each connection but the last.
+  abbrev pub HaveVacated : ℕ → Serving → List (Connection remaining contents admitted) → List (Item Job Reply) → Type 0
+  HaveVacated seat s [] items = ⊤
+  HaveVacated seat s (c ∷ []) items = IsLastStretch seat (calls_of remaining contents admitted c) items
+  HaveVacated seat s (c ∷ next ∷ cs) items =
+      (own : List (Item Job Reply)) × (later : List (Item Job Reply)) × (between : Serving) × (items ≡ own ++ later)
+      × IsStretch seat (calls_of remaining contents admitted c) own × IsHistory gives after s own between
+      × (is_vacant seat s.seats ≡ true → is_vacant seat between.seats ≡ true) × HaveVacated seat between (next ∷ cs) later

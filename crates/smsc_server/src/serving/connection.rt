@@ -1,5 +1,6 @@
 //! The ports, and the wire of a connection that was accepted.
-ghost use Rattle.std.specs.Prelude.{◌≡◌, false, IfOk};
+ghost use Rattle.std.specs.Prelude.{◌≡◌, false, true, [], IfOk};
+ghost use Rattle.std.specs.Option.{ForSome};
 ghost use Rattle.smsc_server.specs.serving.Entering.{doors_of};
 ghost use Rattle.smsc_arrivals.specs.PieceEnds.{left_at};
 ghost use Rattle.smsc_arrivals.specs.Pieces.{octets_of};
@@ -63,6 +64,7 @@ pub(crate) struct Socket<S> {
     // The other side sends no more, or takes no more.
     has_ended: bool,
     is_closed: bool,
+    ghost ended: { has_ended ≡ true → ForSome (left_at pieces) (λ rest. rest ≡ []) },
 }
 
 // Sets what the connection is to do, and gives it a second time, for its reader.
@@ -138,16 +140,25 @@ impl<S: OpenStream + Read + Write + Drop> Wire for Socket<S> {
 
     ghost closed = { λ s. s.is_closed };
 
+    #[tactic(auto, using(crate::proofs::serving::StreamEnds::so_end))]
     fn read_now<R: Wait>(&mut self, rt: &R) -> Found {
+        if self.has_ended {
+            return Found::Ended;
+        }
         match self.pieces.take(rt) {
             Ok(piece) => {
+                let is_mark = piece.is_mark();
                 self.piece = piece;
+                if is_mark {
+                    self.has_ended = true;
+                    return Found::Ended;
+                }
                 Found::Some
             }
             Err(TryRecvError::Empty) => Found::Nothing,
             Err(TryRecvError::Disconnected) => {
-                self.has_ended = true;
-                Found::Ended
+                self.is_closed = true;
+                Found::Lost
             }
         }
     }
@@ -156,8 +167,13 @@ impl<S: OpenStream + Read + Write + Drop> Wire for Socket<S> {
         self.piece.as_slice()
     }
 
+    #[tactic(auto, using(crate::proofs::serving::StreamEnds::end_so))]
     fn has_ended(&self) -> bool {
         self.has_ended
+    }
+
+    fn is_closed(&self) -> bool {
+        self.is_closed
     }
 
     fn write_soon(&mut self, octets: &[u8]) -> Option<usize> {

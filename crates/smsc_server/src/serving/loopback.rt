@@ -40,12 +40,12 @@ fn open<N: Net<Listener = TcpListener, Stream = TcpStream>>(
     Ok((ports, loopback))
 }
 
-// Neither the listeners nor the keep is needed any more.
+// Neither the listeners nor the keep is needed any more, and nothing was archived.
 fn drop_given<L: Drop, K: Drop>(
-    served: Result<(Doors<L>, K), ServeFault>,
+    served: Result<(Doors<L>, K, NoArchive), ServeFault>,
 ) -> Result<(), ServeFault> {
     match served {
-        Ok((doors, keep)) => {
+        Ok((doors, keep, _)) => {
             drop(doors);
             drop(keep);
             Ok(())

@@ -1,11 +1,16 @@
 //! A connection that is refused.
+ghost use Rattle.std.specs.Prelude.{◌≡◌};
+ghost use Rattle.smsc_server.specs.serving.NoRoom.{no_room_for};
+
 use smsc_arrivals::PeerKind;
 use smsc_endpoint::{CONGESTION, NO_ROOM};
 use std::io::{Read, Write};
 use std::net::OpenStream;
 
 /// The octets by which this side learns that there is no room.
-pub(crate) fn no_room(side: PeerKind) -> &'static [u8] {
+pub(crate) fn no_room(side: PeerKind) -> &'static [u8]
+    ensures { result.now ≡ no_room_for side }
+{
     match side {
         PeerKind::Application => &NO_ROOM,
         PeerKind::Handset => &CONGESTION,

@@ -12,8 +12,8 @@ ghost use Rattle.sms_keeper.specs.Seating.{IsNewKeeper, IsUnchanged};
 ghost use Rattle.sms_seats.specs.declared.seat.Seat.{Seat as SeatOf};
 ghost use Rattle.sms_seats.specs.Seats.{put_by, taken_by};
 ghost use Rattle.sms_rows.specs.keep.StoreOutcome.{WasHonest};
-ghost use Rattle.smsc_service.specs.InService.{HasHonestStore, IsServedBy, store_in};
-ghost use Rattle.smsc_service.specs.Serving.{after, gives};
+ghost use Rattle.smsc_service.specs.Course.{after, gives};
+ghost use Rattle.smsc_service.specs.InService.{HasHonestStore, IsRunAs, store_in};
 ghost use Rattle.smsc_arrivals.specs.Sharing.{of};
 ghost use Rattle.smsc_arrivals.specs.Ways.{made_by, settled_at};
 ghost use Rattle.smsc_arrivals.specs.declared.arrival.Arrival.{Arrival as ArrivalOf};
@@ -25,6 +25,7 @@ ghost use Rattle.smsc_server.specs.serving.SeatThreads.{AreAt, AreWays, HaveAdmi
 ghost use Rattle.smsc_server.specs.serving.Serving.{IsOneHistory, IsServed};
 ghost use Rattle.smsc_server.specs.serving.Sittings.{SeatDid};
 
+use crate::connection_laws::each_connection_reads_the_centres_answers;
 use crate::serving::connection::Ports;
 use crate::serving::entrance::{Entrance, EntranceThread};
 use crate::serving::fault::ServeFault;
@@ -268,25 +269,27 @@ where
     }
 }
 
-// What a run that ended in order gives: the listeners, and the keep.
-fn with_keep<L: Drop, K: Drop>(
+// What a run that ended in order gives: the listeners, the keep and the archive.
+fn with_parts<L: Drop, K: Drop, A: Drop>(
     ended: Result<Doors<L>, ServeFault>,
     keep: K,
-) -> Result<(Doors<L>, K), ServeFault>
-    ensures given { IfOk result (λ given. (ended ≡ Ok given.0) × (given.1 ≡ keep)) }
+    archive: A,
+) -> Result<(Doors<L>, K, A), ServeFault>
+    ensures given { IfOk result (λ given. (ended ≡ Ok given.0) × (given.1 ≡ keep) × (given.2 ≡ archive)) }
     ensures fault { IfErr result (λ fault. ended ≡ Err fault) }
 {
     match ended {
-        Ok(doors) => Ok((doors, keep)),
+        Ok(doors) => Ok((doors, keep, archive)),
         Err(fault) => {
             drop(keep);
+            drop(archive);
             Err(fault)
         }
     }
 }
 
 /// Starts a centre with the rows of a keep, and serves the connections of two ports. It ends once as many were served as are given,
-/// or the run is ordered to end. Then it gives the listeners back, and the keep. At most 32 connections are open at once. Those beyond
+/// or the run is ordered to end. Then it gives the listeners back, the keep and the archive. At most 32 connections are open at once. Those beyond
 /// wait unaccepted, and each is accepted as a seat becomes free. As it runs it forgets what it is to forget.
 ///
 /// # Errors
@@ -309,14 +312,18 @@ pub fn serve<
     clock: &C,
     ports: Ports<L>,
     given: &Given<T>,
-) -> Result<(Doors<L>, K), ServeFault>
+) -> Result<(Doors<L>, K, A), ServeFault>
 where
     L::Stream: OpenStream + Read + Write + Send + 'static,
     // What its connections asked was run, and is one history of the centre's definition. It begins with the rows of the keep and nobody
-    // at any seat. The connections are those that came at the ports. The keep that is given back holds the rows of its end.
+    // at any seat. The connections are those that came at the ports. Each read the centre's answers to its own requests in its own part of that
+    // history, and had all replies of that part. The keep that is given back holds the rows of the end. Each message that went is kept by the
+    // archive that is given back, with the number of its parts.
     ensures served { IfOk result (λ ended. IsServed L.Stream.remaining L.Stream.contents
-        (admits (arc_value given.now.accounts) (arc_value given.now.access)) (C.reads clock.now) L.came (doors_of ports) ended.0 K.state keep ended.1) }
+        (admits (arc_value given.now.accounts) (arc_value given.now.access)) (C.reads clock.now) L.came (doors_of ports) ended.0 K.state A.keeps keep
+        ended.1 ended.2) }
 {
+    each_connection_reads_the_centres_answers::<L::Stream>();
     let served = serve_with(
         alloc,
         keep,
@@ -330,12 +337,13 @@ where
             requires observer { IsSend T.row }
             ensures history { IfOk result (λ doors. IsOneHistory L.Stream.remaining L.Stream.contents
                 (admits (arc_value given.entry.now.accounts) (arc_value given.entry.now.access)) (C.reads clock.entry.now)
-                L.came (doors_of ports) doors gives after (HasHonestStore K.state service.new) (IsServedBy K.state service.old) (IsServedBy K.state service.new)) }
+                L.came (doors_of ports) doors gives after (HasHonestStore K.state service.new) (IsRunAs K.state A.keeps service.old)
+                (IsRunAs K.state A.keeps service.new)) }
             ensures before { WasHonest (K.state (store_in service.old)) (K.state (store_in service.new)) }
         { serve_machine(rt, alloc, service, gate, clock, ports, given) },
     );
     match served {
-        Ok((ended, keep)) => with_keep(ended, keep),
+        Ok((ended, keep, archive)) => with_parts(ended, keep, archive),
         Err(error) => Err(ServeFault::from(error)),
     }
 }

@@ -185,7 +185,7 @@ fn run<
         ports,
         taken,
     ) {
-        Ok((doors, store)) => {
+        Ok((doors, store, _)) => {
             drop(store);
             Ok(doors)
         }

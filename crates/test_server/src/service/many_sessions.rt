@@ -216,7 +216,7 @@ fn serves<R: Threads + Wait + Copy + Send + 'static>(
         keep: None,
         archive: NoArchive,
     };
-    let (went, store) = serve_with(
+    let (went, store, _) = serve_with(
         alloc,
         store,
         None,

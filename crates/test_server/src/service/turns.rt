@@ -139,7 +139,7 @@ pub(crate) fn plays(alloc: Global, course: &Course) -> Result<(), Fail> {
         keep: None,
         archive: NoArchive,
     };
-    let (went, store) = serve_with(
+    let (went, store, _) = serve_with(
         alloc,
         store,
         None,

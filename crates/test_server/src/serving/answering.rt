@@ -30,6 +30,8 @@ pub(crate) struct Counter {
     pub(crate) receipt: Option<Final>,
     /// How many groups it commits. It refuses the next one, and can't be opened again then.
     pub(crate) commits: u32,
+    /// So many times it says that somebody is at a seat still, when the loop asks behind the jobs of an endpoint.
+    pub(crate) stays: u32,
     pub(crate) first: Tally,
     pub(crate) second: Tally,
 }
@@ -72,12 +74,12 @@ fn gives(outs: Outs<Reply>, if_refused: Outs<Reply>) -> Step<Reply> {
     }
 }
 
-// What becomes of a job that is refused.
+// What becomes of a job that is refused. The loop's own request is told that nobody is at the seat: who leaves has left then, too.
 fn refused(seat: usize, job: &Job) -> Outs<Reply> {
-    if job.is_request() {
-        answer(seat, CommandStatus::ESME_RSYSERR)
-    } else {
-        Outs::none()
+    match job {
+        Job::Query { .. } => answer(seat, CommandStatus::ESME_RINVMSGID),
+        job if job.is_request() => answer(seat, CommandStatus::ESME_RSYSERR),
+        _ => Outs::none(),
     }
 }
 
@@ -106,8 +108,6 @@ fn told(seat: usize, end: &Option<Final>) -> Outs<Reply> {
 fn done(alloc: Global, seat: usize, job: &Job, end: Option<Final>) -> Outs<Reply> {
     match job {
         Job::Bound { .. } => told(seat, &end),
-        // The loop asks so behind the jobs of an endpoint.
-        Job::Query { .. } => answer(seat, CommandStatus::ESME_RINVMSGID),
         Job::LinkUp { .. } | Job::Frame { .. } => framed(alloc, seat),
         job if job.is_request() => answer(seat, CommandStatus::ESME_RSYSERR),
         _ => Outs::none(),
@@ -120,8 +120,27 @@ impl Counter {
             alloc,
             receipt: None,
             commits: u32::MAX,
+            stays: 0,
             first: Tally::new(),
             second: Tally::new(),
+        }
+    }
+
+    // The loop asks so behind the jobs of an endpoint.
+    fn says_who_stays(&mut self, seat: usize) -> Outs<Reply> {
+        match self.stays.checked_sub(1) {
+            Some(stays) => {
+                self.stays = stays;
+                answer(seat, CommandStatus::ESME_RSYSERR)
+            }
+            None => answer(seat, CommandStatus::ESME_RINVMSGID),
+        }
+    }
+
+    fn does(&mut self, seat: usize, job: &Job) -> Outs<Reply> {
+        match job {
+            Job::Query { .. } => self.says_who_stays(seat),
+            job => done(self.alloc, seat, job, self.receipt),
         }
     }
 
@@ -163,10 +182,7 @@ impl Machine<Job, Reply> for Counter {
             Stimulus::Tick(_) | Stimulus::Own(_) => gives(Outs::none(), Outs::none()),
             Stimulus::Job(seat, job) => {
                 self.count(*seat, job);
-                gives(
-                    done(self.alloc, *seat, job, self.receipt),
-                    refused(*seat, job),
-                )
+                gives(self.does(*seat, job), refused(*seat, job))
             }
         }
     }

@@ -151,3 +151,27 @@ fn who_leaves_is_told(rt: HostRuntime) -> Result<(), Fail> {
     }
     Ok(())
 }
+
+// A centre that lacked the memory to end a session is told again that nobody is at the seat, until it is so.
+fn is_told_again<R: Threads + Wait + Sync>(rt: &R, table: &Table) -> Result<(), Fail> {
+    let clock = clock()?;
+    let room = make_room(table.alloc)?;
+    let mut wire = Script::well(&REQUESTS, ANSWERS);
+    let mut well = Script::well(&REQUESTS, ANSWERS);
+    let mut counter = Counter::new(table.alloc);
+    put(&mut counter.stays, 2);
+    let ended = run(rt, table, room, &mut counter, &clock, &mut wire, &mut well);
+    let Counter { first, second, .. } = counter;
+    holds(ended, "the keeper ends with the seats")?;
+    holds(first.bound == 1 && second.bound == 1, "both are bound")?;
+    let unbound = first.unbound.saturating_add(second.unbound);
+    holds(unbound == 4, "each session is unbound, and twice again")?;
+    let down = first.down.saturating_add(second.down);
+    holds(down == 2, "no link is there, twice")
+}
+
+#[test]
+fn a_seat_is_left_once_nobody_is_there(rt: HostRuntime) -> Result<(), Fail> {
+    let table = Table::new(rt.alloc(), Sitter::Application)?;
+    is_told_again(&rt, &table)
+}

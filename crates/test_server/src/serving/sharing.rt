@@ -51,6 +51,10 @@ impl Wire for Recorder<'_> {
         self.script.has_ended()
     }
 
+    fn is_closed(&self) -> bool {
+        self.script.is_closed()
+    }
+
     fn write_soon(&mut self, octets: &[u8]) -> Option<usize> {
         let count = self.script.write_soon(octets)?;
         let _ = self

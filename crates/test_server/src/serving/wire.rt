@@ -1,6 +1,6 @@
 //! A wire that replaces a socket.
 ghost use Rattle.std.specs.Prelude.{◌≡◌, ◌≤◌, ◌||◌, None, length};
-ghost use Rattle.smsc_loop.specs.Reading.{is_end};
+ghost use Rattle.smsc_loop.specs.Reading.{is_end, is_loss};
 
 use sms_keeper::Bell;
 use smsc_loop::{Found, Wire};
@@ -58,7 +58,7 @@ impl<'a> Script<'a> {
 
     fn give(&mut self) -> Found
         ensures ended { self.new.has_ended ≡ (self.old.has_ended || is_end result) }
-        ensures closed { self.new.is_closed ≡ self.old.is_closed }
+        ensures closed { self.new.is_closed ≡ (self.old.is_closed || is_loss result) }
     {
         let piece = self.next();
         if !piece.is_empty() {
@@ -103,8 +103,8 @@ impl Wire for Script<'_> {
     fn read_now<R: Wait>(&mut self, _rt: &R) -> Found {
         if self.reads == 0 {
             self.has_failed = true;
-            self.has_ended = true;
-            return Found::Ended;
+            self.is_closed = true;
+            return Found::Lost;
         }
         // A wire that refuses none is read as often as it may be.
         self.reads = self.reads.saturating_sub(1);
@@ -117,6 +117,10 @@ impl Wire for Script<'_> {
 
     fn has_ended(&self) -> bool {
         self.has_ended
+    }
+
+    fn is_closed(&self) -> bool {
+        self.is_closed
     }
 
     fn write_soon(&mut self, octets: &[u8]) -> Option<usize> {

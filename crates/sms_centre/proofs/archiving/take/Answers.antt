@@ -1,5 +1,6 @@
-use Rattle.std.proofs.Common.{◌≡◌, Option, Some, None, OnOk, sym, ◌∙◌, subst}
+use Rattle.std.proofs.Common.{◌≡◌, ℕ, Option, Some, None, OnOk, sym, ◌∙◌, subst}
 use Rattle.sms_centre_rows.specs.declared.messages.message.MessageRow.{MessageRow}
+use Rattle.sms_centre.specs.Archiving.{parts_in}
 use Rattle.sms_centre.specs.state.CentreState.{CentreStateOf, Represents as StateRepresents}
 use Rattle.sms_centre.proofs.archiving.take.Goals as goal
 
@@ -9,7 +10,9 @@ returns-in-Some-clause-took g c = λ core m stands e.
     let was : StateRepresents core s = subst (λ (x : CentreStateOf). StateRepresents core x) (sym c.state.view_is) stands in
     let found : Some c.in-Some.message ≡ Some m = sym c.in-Some.is ∙ c.in_ok-found.ensures core.rows.messages core.rows.parts was.centre.messages_are ∙ e in
     let same : c.in-Some.message ≡ m = cc in
-    subst (λ (x : MessageRow). OnOk c.take_found.result (g.A.Archive.took c.take_found.new.archive x)) same c.take_found.ensures.took
+    let parts = c.count_parts-parts.ensures core.rows.messages core.rows.parts was.centre.messages_are in
+    subst (λ (x : MessageRow). OnOk c.take_found.result (g.A.Archive.took c.take_found.new.archive x (parts_in core.rows c.args.id))) same
+    (subst (λ (n : ℕ). OnOk c.take_found.result (g.A.Archive.took c.take_found.new.archive c.in-Some.message n)) parts c.take_found.ensures.took)
 
 pub returns-in-None-clause-took : goal.returns-in-None-clause-took
 returns-in-None-clause-took g c = λ core m stands e.

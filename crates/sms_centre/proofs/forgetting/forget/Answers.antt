@@ -8,6 +8,6 @@ returns-clause-plan g c = λ core represents stands.
 
 pub returns-clause-archived : goal.returns-clause-archived
 returns-clause-archived g c = λ core represents stands.
-    subst (λ (ids : List ℕ). OnOk c.forget_archived-done.result (AreArchived (g.A.Archive.keeps c.forget_archived-done.new.archive) ids core.rows.messages))
+    subst (λ (ids : List ℕ). OnOk c.forget_archived-done.result (AreArchived (g.A.Archive.keeps c.forget_archived-done.new.archive) ids core.rows))
     (c.as_slice.ensures.value ∙ c.in_ok-ids.ensures core represents stands)
     (c.forget_archived-done.ensures.archived core stands)

@@ -9,4 +9,4 @@ returns-in-Ok-clause-plan g c = λ core represents stands.
 
 pub returns-in-Ok-clause-archived : goal.returns-in-Ok-clause-archived
 returns-in-Ok-clause-archived g c = λ core represents stands.
-    on_ok_holds c.finished.result (AreArchived (g.A.Archive.keeps c.forget.new.archive) (going_now c.args.before c.args.from c.args.most core) core.rows.messages) (c.in-Ok.ensures.archived core represents stands)
+    on_ok_holds c.finished.result (AreArchived (g.A.Archive.keeps c.forget.new.archive) (going_now c.args.before c.args.from c.args.most core) core.rows) (c.in-Ok.ensures.archived core represents stands)

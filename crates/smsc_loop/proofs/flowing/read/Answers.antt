@@ -41,3 +41,9 @@ returns-in-Nothing-clause-stays g c = inr refl
 
 pub returns-in-Ended-clause-stays : goal.returns-in-Ended-clause-stays
 returns-in-Ended-clause-stays g c = inl refl
+
+pub returns-in-Lost-clause-did : goal.returns-in-Lost-clause-did
+returns-in-Lost-clause-did g c = λ s. did_wire g.G.Endpoint.does _ Serves _ _ _ _ s c.in-Lost.ensures.read (kept_bytes _ _ c.in-Lost.ensures.written)
+
+pub returns-in-Lost-clause-stays : goal.returns-in-Lost-clause-stays
+returns-in-Lost-clause-stays g c = inl refl

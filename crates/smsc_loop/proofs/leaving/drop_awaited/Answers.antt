@@ -27,11 +27,11 @@ returns-clause-put g c = c.loop.invariant.1
 pub returns-clause-seat : goal.returns-clause-seat
 returns-clause-seat g c = c.loop.invariant.2
 
-pub returns-then-is_cleared-clause-dropped : goal.returns-then-is_cleared-clause-dropped
-returns-then-is_cleared-clause-dropped g c = c.loop.invariant.0
+pub returns-then-has_answers-clause-dropped : goal.returns-then-has_answers-clause-dropped
+returns-then-has_answers-clause-dropped g c = c.loop.invariant.0
 
-pub returns-then-is_cleared-clause-put : goal.returns-then-is_cleared-clause-put
-returns-then-is_cleared-clause-put g c = c.loop.invariant.1
+pub returns-then-has_answers-clause-put : goal.returns-then-has_answers-clause-put
+returns-then-has_answers-clause-put g c = c.loop.invariant.1
 
-pub returns-then-is_cleared-clause-seat : goal.returns-then-is_cleared-clause-seat
-returns-then-is_cleared-clause-seat g c = c.loop.invariant.2
+pub returns-then-has_answers-clause-seat : goal.returns-then-has_answers-clause-seat
+returns-then-has_answers-clause-seat g c = c.loop.invariant.2

@@ -1,4 +1,5 @@
 use Rattle.std.proofs.Common.{◌∙◌, ap}
+use Rattle.smsc_service.specs.Replies.{nothing_by}
 use Rattle.smsc_service.specs.Seats.{Seats, seats_in}
 use Rattle.smsc_service.specs.Serving.{followed_by}
 use Rattle.smsc_service.proofs.Standing.{refused_gives, refused_seats}
@@ -8,7 +9,8 @@ pub returns-in-Event-clause-outs : goal.returns-in-Event-clause-outs
 returns-in-Event-clause-outs c = λ r same. refused_gives _ (seats_in c.args.seat_map.now) r c.args.stimulus.now c.failed_at.result c.in-Event.ensures.asked same c.failed_at.ensures
 
 pub returns-in-Nothing-clause-outs : goal.returns-in-Nothing-clause-outs
-returns-in-Nothing-clause-outs c = λ r same. refused_gives _ (seats_in c.args.seat_map.now) r c.args.stimulus.now c.failed_at-in-Nothing.result c.in-Nothing.ensures.asked same c.failed_at-in-Nothing.ensures
+returns-in-Nothing-clause-outs c = λ r same. refused_gives _ (seats_in c.args.seat_map.now) r c.args.stimulus.now c.vacancy_at.result c.in-Nothing.ensures.asked same
+    (c.vacancy_at.ensures ∙ ap (λ (q : Seats). nothing_by q c.args.stimulus.now) same)
 
 pub returns-in-Taken-clause-outs : goal.returns-in-Taken-clause-outs
 returns-in-Taken-clause-outs c = λ r same. refused_gives _ (seats_in c.args.seat_map.now) r c.args.stimulus.now c.taken_at.result c.in-Taken.ensures.asked same c.taken_at.ensures

@@ -1,4 +1,4 @@
-use Rattle.std.proofs.Common.{◌≡◌, refl, subst, sym}
+use Rattle.std.proofs.Common.{◌≡◌, ◌∙◌, ap, refl, subst, sym}
 use Rattle.sms_keeper.specs.declared.machine.Fate.TheVariants.{Done}
 use Rattle.sms_centre.specs.Archiving.{AreArchived}
 use Rattle.sms_centre_spec.specs.forgetting.Forget.{going_now}
@@ -6,6 +6,8 @@ use Rattle.smsc_service.specs.declared.asking.SeatRequest.{SeatRequest}
 use Rattle.smsc_service.specs.declared.asking.SeatRequest.TheVariants.{Nothing, Taken}
 use Rattle.smsc_service.specs.Asking.{IfForget, UnlessEvent, answer_of}
 use Rattle.smsc_service.specs.InSeated.{IsLeft, Reaches, held_by}
+use Rattle.smsc_service.specs.Replies.{nothing_by}
+use Rattle.smsc_service.specs.Seats.{Seats}
 use Rattle.smsc_service.specs.Serving.{Serves}
 use Rattle.smsc_service.proofs.ByFate.{was_done, with_fate}
 use Rattle.smsc_service.proofs.seated_centre.SeatedCentre.serve.Goals as goal
@@ -25,10 +27,10 @@ returns-in-Forget-clause-gives g c = λ s base honest sound made.
 pub returns-in-Nothing-clause-gives : goal.returns-in-Nothing-clause-gives
 returns-in-Nothing-clause-gives g c = λ s base honest sound made.
     let seated = c.args.self.now in
-    subst (λ (a : SeatRequest). Serves (Reaches g.K.RowStore.state base seated) (IsLeft g.K.RowStore.state base seated) seated.machine.centre seated.seat_map a s c.args.stimulus.now c.unmade.result.fate c.unmade.result.outs)
+    subst (λ (a : SeatRequest). Serves (Reaches g.K.RowStore.state base seated) (IsLeft g.K.RowStore.state base seated) seated.machine.centre seated.seat_map a s c.args.stimulus.now c.unasked.result.fate c.unasked.result.outs)
     (sym c.in-Nothing.is)
-    (with_fate (Reaches g.K.RowStore.state base seated) (IsLeft g.K.RowStore.state base seated) seated.machine.centre seated.seat_map s c.args.stimulus.now Nothing c.unmade.result.fate Done c.unmade.result.outs
-    c.unmade.ensures.fate (c.unmade.ensures.outs, made))
+    (with_fate (Reaches g.K.RowStore.state base seated) (IsLeft g.K.RowStore.state base seated) seated.machine.centre seated.seat_map s c.args.stimulus.now Nothing c.unasked.result.fate Done c.unasked.result.outs
+    c.unasked.ensures.fate (c.unasked.ensures.outs ∙ ap (λ (x : Seats). nothing_by x c.args.stimulus.now) made.seats, made))
 
 pub returns-in-Taken-clause-gives : goal.returns-in-Taken-clause-gives
 returns-in-Taken-clause-gives g c = λ s base honest sound made.
@@ -45,7 +47,7 @@ pub returns-in-Forget-clause-refused : goal.returns-in-Forget-clause-refused
 returns-in-Forget-clause-refused g c = λ s base honest sound made e. c.forget.ensures.refused e
 
 pub returns-in-Nothing-clause-refused : goal.returns-in-Nothing-clause-refused
-returns-in-Nothing-clause-refused g c = λ s base honest sound made e. was_done _ _ c.unmade.ensures.fate e
+returns-in-Nothing-clause-refused g c = λ s base honest sound made e. was_done _ _ c.unasked.ensures.fate e
 
 pub returns-in-Taken-clause-refused : goal.returns-in-Taken-clause-refused
 returns-in-Taken-clause-refused g c = λ s base honest sound made e. was_done _ _ c.turned_away.ensures.fate e
@@ -72,7 +74,7 @@ returns-in-Forget-clause-quiet g c =
 
 pub returns-in-Nothing-clause-quiet : goal.returns-in-Nothing-clause-quiet
 returns-in-Nothing-clause-quiet g c =
-    subst (λ (a : SeatRequest). UnlessEvent a ((held_by c.args.self.now ≡ held_by c.args.self.now) × (c.unmade.result.fate ≡ Done))) (sym c.in-Nothing.is) (refl, c.unmade.ensures.fate)
+    subst (λ (a : SeatRequest). UnlessEvent a ((held_by c.args.self.now ≡ held_by c.args.self.now) × (c.unasked.result.fate ≡ Done))) (sym c.in-Nothing.is) (refl, c.unasked.ensures.fate)
 
 pub returns-in-Taken-clause-quiet : goal.returns-in-Taken-clause-quiet
 returns-in-Taken-clause-quiet g c =
@@ -84,7 +86,7 @@ returns-in-Event-clause-told g c = λ s base honest sound made e.
 
 pub returns-in-Nothing-clause-told : goal.returns-in-Nothing-clause-told
 returns-in-Nothing-clause-told g c = λ s base honest sound made e.
-    subst (λ (a : SeatRequest). c.unmade.result.told ≡ answer_of a s.core) (sym c.in-Nothing.is) c.unmade.ensures.told
+    subst (λ (a : SeatRequest). c.unasked.result.told ≡ answer_of a s.core) (sym c.in-Nothing.is) c.unasked.ensures.told
 
 pub returns-in-Taken-clause-told : goal.returns-in-Taken-clause-told
 returns-in-Taken-clause-told g c = λ s base honest sound made e.
@@ -96,16 +98,16 @@ returns-in-Forget-clause-told g c = λ s base honest sound made e.
 
 pub returns-in-Event-clause-archived : goal.returns-in-Event-clause-archived
 returns-in-Event-clause-archived g c = λ s base honest sound made e.
-    subst (λ (a : SeatRequest). IfForget (λ before from most. AreArchived (g.A.Archive.keeps c.args.archive.now) (going_now before from most s.core) s.core.rows.messages) a) (sym c.in-Event.is) tt
+    subst (λ (a : SeatRequest). IfForget (λ before from most. AreArchived (g.A.Archive.keeps c.args.archive.now) (going_now before from most s.core) s.core.rows) a) (sym c.in-Event.is) tt
 
 pub returns-in-Nothing-clause-archived : goal.returns-in-Nothing-clause-archived
 returns-in-Nothing-clause-archived g c = λ s base honest sound made e.
-    subst (λ (a : SeatRequest). IfForget (λ before from most. AreArchived (g.A.Archive.keeps c.args.archive.now) (going_now before from most s.core) s.core.rows.messages) a) (sym c.in-Nothing.is) tt
+    subst (λ (a : SeatRequest). IfForget (λ before from most. AreArchived (g.A.Archive.keeps c.args.archive.now) (going_now before from most s.core) s.core.rows) a) (sym c.in-Nothing.is) tt
 
 pub returns-in-Taken-clause-archived : goal.returns-in-Taken-clause-archived
 returns-in-Taken-clause-archived g c = λ s base honest sound made e.
-    subst (λ (a : SeatRequest). IfForget (λ before from most. AreArchived (g.A.Archive.keeps c.args.archive.now) (going_now before from most s.core) s.core.rows.messages) a) (sym c.in-Taken.is) tt
+    subst (λ (a : SeatRequest). IfForget (λ before from most. AreArchived (g.A.Archive.keeps c.args.archive.now) (going_now before from most s.core) s.core.rows) a) (sym c.in-Taken.is) tt
 
 pub returns-in-Forget-clause-archived : goal.returns-in-Forget-clause-archived
 returns-in-Forget-clause-archived g c = λ s base honest sound made e.
-    subst (λ (a : SeatRequest). IfForget (λ before from most. AreArchived (g.A.Archive.keeps c.forget.new.archive) (going_now before from most s.core) s.core.rows.messages) a) (sym c.in-Forget.is) (c.forget.ensures.archived s base honest sound made e)
+    subst (λ (a : SeatRequest). IfForget (λ before from most. AreArchived (g.A.Archive.keeps c.forget.new.archive) (going_now before from most s.core) s.core.rows) a) (sym c.in-Forget.is) (c.forget.ensures.archived s base honest sound made e)
