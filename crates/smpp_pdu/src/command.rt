@@ -2,7 +2,7 @@ ghost use Rattle.std.specs.Prelude.{◌≡◌};
 ghost use Rattle.smpp_pdu.specs.Commands.{command_number, command_of};
 
 /// The commands (SMPP v3.4 5.1.2.1), each with its command_id.
-#[derive(Clone, Copy, Debug, PartialEq, Eq)]
+#[derive(Clone, Copy, PartialEq, Eq)]
 pub enum CommandId {
     BindReceiver = 0x0000_0001,
     BindTransmitter = 0x0000_0002,

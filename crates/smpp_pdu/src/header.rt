@@ -8,7 +8,7 @@ use crate::fields::four;
 use sms_base::Cursor;
 
 /// The sixteen octets that each PDU begins with (SMPP v3.4 3.2.1), whatever its numbers are.
-#[derive(Clone, Copy, Debug, PartialEq, Eq)]
+#[derive(Clone, Copy, PartialEq, Eq)]
 pub struct Header {
     /// The octets of the PDU, this header's among them: 16 to 65,536 where it is good.
     pub command_length: u32,

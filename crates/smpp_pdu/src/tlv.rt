@@ -10,7 +10,7 @@ use crate::writing::put_two;
 use sms_base::{Cursor, OctetView};
 
 /// The optional parameters that are used, each with its tag (SMPP v3.4 5.3.1).
-#[derive(Clone, Copy, Debug, PartialEq, Eq)]
+#[derive(Clone, Copy, PartialEq, Eq)]
 pub enum TlvTag {
     ReceiptedMessageId = 0x001E,
     SarMsgRefNum = 0x020C,

@@ -8,7 +8,7 @@ use std::alloc::{AllocError, Global};
 use std::marker::Model;
 
 /// What an application binds as.
-#[derive(Clone, Copy, Debug, PartialEq, Eq)]
+#[derive(Clone, Copy, PartialEq, Eq)]
 pub enum BindKind {
     Transmitter,
     Receiver,
@@ -18,7 +18,7 @@ pub enum BindKind {
 /// What the owner of a session has to do, in order.
 ///
 /// The requests that are passed up are the whole octets of a PDU of that command, which `smpp_pdu::Pdu::read` reads.
-#[derive(Debug, Drop)]
+#[derive(Drop)]
 pub enum Action {
     /// Send these octets, a whole PDU.
     Send(Octets),
@@ -54,7 +54,7 @@ impl Action {
 /// Actions in order, seen by contracts as a list.
 ///
 /// A vector is made for the first. Most octets of a slow connection give none, and none is dropped without a call.
-#[derive(Debug, Drop)]
+#[derive(Drop)]
 pub struct Actions {
     alloc: Global,
     items: Option<Vec<Action>>,
@@ -72,7 +72,7 @@ impl Model for Actions {
 }
 
 /// What a session gives for received octets.
-#[derive(Debug, Drop)]
+#[derive(Drop)]
 pub struct Fed {
     /// What is to be done, in order.
     pub actions: Actions,

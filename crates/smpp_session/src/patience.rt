@@ -16,7 +16,7 @@ const STALL_LIMIT: u64 = 10_000;
 const LEAVE_LIMIT: u64 = 5_000;
 
 /// What waiting has led to.
-#[derive(Clone, Copy, Debug, PartialEq, Eq)]
+#[derive(Clone, Copy, PartialEq, Eq)]
 pub enum WaitOutcome {
     /// The endpoint is waited for.
     Waits,

@@ -55,7 +55,7 @@ impl fmt::Debug for Session {
 }
 
 /// A deliver_sm to send.
-#[derive(Debug, Drop)]
+#[derive(Drop)]
 pub struct Outgoing {
     /// The number of its answer.
     pub sequence_number: u32,

@@ -15,7 +15,7 @@ use std::marker::Model;
 /// A user data header, seen by contracts as the list of its elements.
 ///
 /// It borrows the octets that it was read from.
-#[derive(Debug, Drop)]
+#[derive(Drop)]
 pub struct Header<'a> {
     octets: &'a [u8],
 }

@@ -10,7 +10,7 @@ use crate::digits::Digits;
 use crate::type_of_number::TypeOfNumber;
 
 /// An address: 1 to 20 digits `0-9*#abc` or, where it is alphanumeric, a name of 1 to 11 septets.
-#[derive(Clone, Copy, Debug, PartialEq, Eq)]
+#[derive(Clone, Copy, PartialEq, Eq)]
 pub struct Address {
     /// The type of number.
     pub ton: TypeOfNumber,

@@ -67,7 +67,7 @@ static LATIN_CODES: [u8; 256] = [
 ];
 
 /// How a character is written: as a septet of the main table, or as ESC and a septet of the extension table.
-#[derive(Clone, Copy, Debug, PartialEq, Eq)]
+#[derive(Clone, Copy, PartialEq, Eq)]
 pub enum Code {
     /// A character of one septet.
     Main(u8),

@@ -1,7 +1,7 @@
 use crate::holder::Holder;
 
 /// What a unit of the relay layer is to the transfer that it belongs to.
-#[derive(Clone, Copy, Debug, PartialEq, Eq)]
+#[derive(Clone, Copy, PartialEq, Eq)]
 pub enum Kind {
     /// RP-DATA or RP-SMMA.
     Data,
@@ -12,7 +12,7 @@ pub enum Kind {
 }
 
 /// What a frame carries.
-#[derive(Clone, Copy, Debug, PartialEq, Eq)]
+#[derive(Clone, Copy, PartialEq, Eq)]
 pub struct Carried {
     pub kind: Kind,
     /// The reference of the unit.

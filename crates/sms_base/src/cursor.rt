@@ -7,7 +7,7 @@ use std::marker::Model;
 /// The octets that are not read yet, seen by contracts as their list.
 ///
 /// Each call names the fault that it answers, so that every format's reader can use it.
-#[derive(Debug, Drop)]
+#[derive(Drop)]
 pub struct Cursor<'a> {
     rest: &'a [u8],
 }

@@ -1,5 +1,5 @@
 /// How a message ended: the final states of a receipt (SMPP v3.4 5.2.28).
-#[derive(Clone, Copy, Debug, PartialEq, Eq)]
+#[derive(Clone, Copy, PartialEq, Eq)]
 pub enum FinalState {
     /// Each part was accepted.
     Delivered,

@@ -1,7 +1,7 @@
 use crate::message_id::MessageId;
 
 /// For whom a frame was made or a reference given.
-#[derive(Clone, Copy, Debug, PartialEq, Eq)]
+#[derive(Clone, Copy, PartialEq, Eq)]
 pub enum Holder {
     /// A part of a message, by its number, 1 to 20.
     Part(MessageId, u8),

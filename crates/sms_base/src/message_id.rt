@@ -7,7 +7,7 @@ ghost use Rattle.sms_base.specs.MessageId.{IsIdText, IsMessageId};
 use std::marker::Model;
 
 /// The number of a message at the centre, 1 to 9999999999, which no other message has.
-#[derive(Clone, Copy, Debug, PartialEq, Eq, PartialOrd, Ord)]
+#[derive(Clone, Copy, PartialEq, Eq, PartialOrd, Ord)]
 pub struct MessageId {
     number: u64,
 }

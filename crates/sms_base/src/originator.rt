@@ -2,7 +2,7 @@
 use crate::octets::Octets;
 
 /// Who submitted a message.
-#[derive(Debug, Drop)]
+#[derive(Drop)]
 pub enum Originator {
     /// An application, by the name of its account.
     Application { account: Octets },

@@ -5,7 +5,7 @@ ghost use Rattle.std.specs.Option.{SomeIff};
 use std::marker::Model;
 
 /// The priority of a message, 0 to 3, of which 3 is the most urgent (SMPP v3.4 5.2.14).
-#[derive(Clone, Copy, Debug, PartialEq, Eq, PartialOrd, Ord)]
+#[derive(Clone, Copy, PartialEq, Eq, PartialOrd, Ord)]
 pub struct Priority {
     level: u8,
 }

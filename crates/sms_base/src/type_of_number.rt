@@ -3,7 +3,7 @@ ghost use Rattle.std.specs.Prelude.{◌≡◌, Some, None};
 ghost use Rattle.sms_base.specs.AddressKind.{type_of, type_number, is_name};
 
 /// What kind of number an address is.
-#[derive(Clone, Copy, Debug, PartialEq, Eq)]
+#[derive(Clone, Copy, PartialEq, Eq)]
 pub enum TypeOfNumber {
     Unknown,
     International,

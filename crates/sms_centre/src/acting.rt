@@ -24,7 +24,7 @@ use sms_centre_spec::{CentreEvent, Order};
 use std::alloc::AllocError;
 
 /// How an event ended.
-#[derive(Clone, Copy, Debug)]
+#[derive(Clone, Copy)]
 pub enum EventEnd {
     /// The event is done, with all that it leads to.
     Done,

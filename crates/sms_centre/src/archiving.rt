@@ -13,7 +13,7 @@ use sms_centre_rows::messages::MessageRow as Message;
 use std::alloc::Global;
 
 /// An archive refused a message.
-#[derive(Clone, Copy, Debug, PartialEq, Eq)]
+#[derive(Clone, Copy, PartialEq, Eq)]
 pub struct NotArchived;
 
 /// An archive of the messages that a centre forgets.
@@ -37,7 +37,7 @@ pub trait Archive {
 }
 
 /// No archive: what is forgotten is gone.
-#[derive(Clone, Copy, Debug, PartialEq, Eq)]
+#[derive(Clone, Copy, PartialEq, Eq)]
 pub struct NoArchive;
 
 impl Archive for NoArchive {

@@ -82,7 +82,7 @@ fn plan(
 // ---- what the event leads to
 
 /// Why an event ends early.
-#[derive(Clone, Copy, Debug)]
+#[derive(Clone, Copy)]
 pub enum PlanStop {
     /// The store refused to read a body.
     NoBody,

@@ -3,7 +3,7 @@ use sms_rows::keep::KeepError;
 use std::alloc::AllocError;
 
 /// Why a centre forgot nothing.
-#[derive(Clone, Copy, Debug, PartialEq, Eq)]
+#[derive(Clone, Copy, PartialEq, Eq)]
 pub enum ForgetError {
     /// The rows of the store are not sound.
     BadRows,

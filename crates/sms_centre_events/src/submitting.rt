@@ -32,7 +32,7 @@ use sms_intake::{CentreAccount, SmppError, Submission, from_pdu};
 use std::alloc::AllocError;
 
 /// How a submit_sm ended.
-#[derive(Clone, Copy, Debug)]
+#[derive(Clone, Copy)]
 pub enum SubmitOutcome {
     /// The submission was answered: it is a message now, or was refused.
     Answered,

@@ -28,7 +28,7 @@ use sms_relay::{Rp, RpCause, fault_cause, read_up, reference_octet};
 use std::alloc::{AllocError, Global};
 
 /// How a frame ended.
-#[derive(Clone, Copy, Debug)]
+#[derive(Clone, Copy)]
 pub enum FrameOutcome {
     /// The frame is done, with all that it leads to.
     Done,

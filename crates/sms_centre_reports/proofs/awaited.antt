@@ -2,7 +2,4 @@ mod AllEvents
 mod AsDefined
 mod Awaiting
 mod BindingsEvents
-mod Firm
-mod FirmEvents
-mod FirmTimes
 mod OpenStays

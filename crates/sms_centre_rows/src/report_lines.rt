@@ -2,14 +2,14 @@
 use sms_base::{Digits, FinalState, MessageId};
 
 /// The state of a message (SMPP v3.4 5.2.28, message_state).
-#[derive(Clone, Copy, Debug, PartialEq, Eq)]
+#[derive(Clone, Copy, PartialEq, Eq)]
 pub enum MessageState {
     Enroute,
     Final(FinalState),
 }
 
 /// A message at the centre. A handset is named by the digits of its number.
-#[derive(Debug, Drop)]
+#[derive(Drop)]
 pub struct ReportedMessage {
     pub id: MessageId,
     /// The digits or the name of its source.
@@ -20,7 +20,7 @@ pub struct ReportedMessage {
 }
 
 /// A receipt or a status report.
-#[derive(Clone, Copy, Debug)]
+#[derive(Clone, Copy)]
 pub struct ReceiptRow {
     pub id: MessageId,
     pub state: FinalState,

@@ -1,7 +1,8 @@
--- What is steady is kept by every event, where what it submits passed all checks.
+-- What is firm is kept by every event but an answer to a receipt, and what is steady by every event, where what it submits passed
+-- all checks.
 use Rattle.std.proofs.Common.{◌≡◌, ℕ, List, [], ◌∷◌, Bool, Option, Some, None, Result, Ok, Err, refl, arith}
 use Rattle.std.proofs.lemmas.Bool.{cond_both}
-use Rattle.std.specs.Prelude.{max, ◌&&◌, if◌then◌else◌}
+use Rattle.std.specs.Prelude.{max, if◌then◌else◌}
 use Rattle.sms_base.specs.declared.carried.Carried.{Carried}
 use Rattle.sms_base.specs.declared.final_state.FinalState.TheVariants.{Deleted}
 use Rattle.sms_base.specs.declared.holder.Holder.{Holder}
@@ -22,7 +23,6 @@ use Rattle.smpp_pdu.specs.declared.cancel.CancelSm.{CancelSm}
 use Rattle.smpp_pdu.specs.declared.message.Message.{Message}
 use Rattle.smpp_pdu.specs.declared.query.QuerySm.{QuerySm}
 use Rattle.smpp_pdu.specs.declared.status.CommandStatus.{CommandStatus}
-use Rattle.sms_base.specs.declared.address.Address.{Address}
 use Rattle.sms_centre_rows.specs.declared.messages.message.MessageRow.{MessageRow}
 use Rattle.sms_centre_rows.specs.messages.Messages.{is_pending, message_at}
 use Rattle.sms_centre_rows.specs.messages.SplitReferences.{is_among}
@@ -48,24 +48,28 @@ use Rattle.sms_centre_spec.specs.Requests.{accepted, account_at, cancel_by, canc
 use Rattle.sms_centre_spec.specs.declared.order.Order.{Order}
 use Rattle.sms_centre_spec.specs.declared.order.Order.TheVariants.{Retry, Delete}
 use Rattle.sms_centre_spec.specs.Orders.{ordered, parts_among, retried}
-use Rattle.sms_centre_spec.specs.Sessions.{answered_by, bind, bound_as, due_for, unbind, unbound_from}
+use Rattle.sms_centre_spec.specs.Sessions.{answered_by, bind, bound_as, due_for, receipt_answered, unbind, unbound_from}
 use Rattle.sms_centre_spec.specs.CentreEvent.{tag_of, aged, at_moment, expired, fire_at, fire_line, fire_mentioned, fire_others, fired, frame_taken, happened, is_mentioned, lost, lower, raise, raise_all, raised, timed_out, went_up}
 use Rattle.sms_centre_spec.specs.Draft.{Core, Draft, Store, draft_of, handsets_in, messages_in, on_links, rows_of, waiting_in}
 use Rattle.sms_centre_spec.specs.MessageNumbers.{next_number}
 use Rattle.sms_centre_spec.specs.Consistent.{IsSubmission}
 use Rattle.sms_centre_spec.specs.Submitted.{AccountGives, EventGives, UnitGives, UpGives}
 use Rattle.sms_centre_spec.proofs.Stages.{IfThere, unless_kept}
-use Rattle.sms_centre_spec.proofs.Steady.{IsSteady, IsStill, all_due_steady, concluded_steady, due_now_steady, message_own, still_of, to_cancel_there}
-use Rattle.sms_centre_spec.proofs.SteadyTimes.{all_tried_steady, answered_steady, dropped_steady, due_for_steady, expired_steady}
+use Rattle.sms_centre_spec.proofs.Steady.{IsFirm, IsSteady, IsStill, all_due_firm, concluded_firm, due_now_firm, firm_of, message_own, still_of, to_cancel_there}
+use Rattle.sms_centre_spec.proofs.SteadyTimes.{all_tried_firm, answered_steady, dropped_firm, due_for_firm, expired_firm}
 
-module _ (P : Store → Type 0) (c : IsStill P) where
+-- an answer to a receipt keeps it
+abbrev AnswerKeeps : (Store → Type 0) → ℕ → Bool → Type 0
+AnswerKeeps P id b = (s : Store) → P s → P (receipt_answered id b s)
+
+module _ (P : Store → Type 0) (c : IsFirm P) where
   conclude_steady : (h : List ℕ) (t : Carried) (e : Ending) (d : Draft) → P d.store → P (conclude h t e d).store
-  conclude_steady h t e d k = concluded_steady P c t.tag e d.store k
+  conclude_steady h t e d k = concluded_firm P c t.tag e d.store k
 
   -- ---- links
 
   raise_steady : (h : List ℕ) (d : Draft) → P d.store → P (raise h d).store
-  raise_steady h d k = due_now_steady P c (line_of h d.links.lines).handset d.store k
+  raise_steady h d k = due_now_firm P c (line_of h d.links.lines).handset d.store k
 
   lost_steady : (h : List ℕ) (o : Option Carried) (d : Draft) → P d.store → P (lost h o d).store
   lost_steady h None d k = k
@@ -123,25 +127,25 @@ module _ (P : Store → Type 0) (c : IsStill P) where
       let a : Draft = aged (at_moment now d) in
       let e : Draft = fired a in
       let later = at_moment_steady now d.store k was is in
-      raise_all_steady e.links.lines e (fired_steady a (dropped_steady P c (expired (at_moment now d).store) (expired_steady P c (at_moment now d).store later)))
+      raise_all_steady e.links.lines e (fired_steady a (dropped_firm P c (expired (at_moment now d).store) (expired_firm P c (at_moment now d).store later)))
 
   -- ---- sessions
 
-  answered_by_steady : (id : ℕ) (b : Bool) (o : Option Session) (d : Draft) → P d.store → P (answered_by id b o d).store
-  answered_by_steady id b None d k = k
-  answered_by_steady id b (Some session) d k =
-      cond_both (is_among id session.unanswered) _ d (λ (e : Draft). P e.store) (λ t. answered_steady P c id b d.store k) (λ t. k)
+  answered_by_steady : (id : ℕ) (b : Bool) → AnswerKeeps P id b → (o : Option Session) (d : Draft) → P d.store → P (answered_by id b o d).store
+  answered_by_steady id b answers None d k = k
+  answered_by_steady id b answers (Some session) d k =
+      cond_both (is_among id session.unanswered) _ d (λ (e : Draft). P e.store) (λ t. answers d.store k) (λ t. k)
 
   unbound_from_steady : (o : Option Session) (d : Draft) → P d.store → P (unbound_from o d).store
   unbound_from_steady None d k = k
-  unbound_from_steady (Some session) d k = all_tried_steady P c d.store.moment session.unanswered d.store.reports d.store k
+  unbound_from_steady (Some session) d k = all_tried_firm P c d.store.moment session.unanswered d.store.reports d.store k
 
   unbind_steady : (n : ℕ) (d : Draft) → P d.store → P (unbind n d).store
   unbind_steady n d k = unbound_from_steady (row_at session_key n d.bindings.sessions) d k
 
   bound_as_steady : (n : ℕ) (b : Bool) (a : Option CentreAccount) (d : Draft) → P d.store → P (bound_as n b a d).store
   bound_as_steady n b None d k = k
-  bound_as_steady n b (Some a) d k = cond_both b (due_for a.name d.store) d.store P (λ t. due_for_steady P c a.name d.store k) (λ t. k)
+  bound_as_steady n b (Some a) d k = cond_both b (due_for a.name d.store) d.store P (λ t. due_for_firm P c a.name d.store k) (λ t. k)
 
   bind_steady : (n place : ℕ) (b : Bool) (d : Draft) → P d.store → P (bind n place b d).store
   bind_steady n place b d k = bound_as_steady n b (account_at place d.store.setup.accounts) (unbind n d) (unbind_steady n d k)
@@ -173,7 +177,7 @@ module _ (P : Store → Type 0) (c : IsStill P) where
 
   retried_steady : (o : Option MessageRow) (d : Draft) → P d.store → P (retried o d).store
   retried_steady None d k = k
-  retried_steady (Some m) d k = all_due_steady P c (parts_among m.id (waiting_in m.handset d.store)) d.store k
+  retried_steady (Some m) d k = all_due_firm P c (parts_among m.id (waiting_in m.handset d.store)) d.store k
 
   ordered_steady : (order : Order) (id : ℕ) (d : Draft) → P d.store → P (ordered order id d).store
   ordered_steady Retry id d k = retried_steady (message_at id (messages_in d.store)) d k
@@ -202,7 +206,7 @@ module _ (P : Store → Type 0) (c : IsStill P) where
     unit_received_steady h tag unit (Ok (DataUnit r z t)) d k g = submission_from_steady h r tag (from_read d.store.setup.accounts h d.store.moment (tpdu_up_at InData t)) d k g
     unit_received_steady h tag unit (Ok (AckUnit r t)) d k g = also d.store k
     unit_received_steady h tag unit (Ok (ErrorUnit r z t)) d k g = also d.store k
-    unit_received_steady h tag unit (Ok (Smma r)) d k g = also (due_now h d.store) (due_now_steady P c h d.store k)
+    unit_received_steady h tag unit (Ok (Smma r)) d k g = also (due_now h d.store) (due_now_firm P c h d.store k)
     unit_received_steady h tag unit (Err f) d k g = also d.store k
 
     went_up_steady : (h : List ℕ) (tag : Holder) (u : Option Upward) (d : Draft) → P d.store → UpGives d.store.setup.accounts h d.store.moment u → Q (went_up h tag u d).store
@@ -233,18 +237,23 @@ module _ (P : Store → Type 0) (c : IsStill P) where
 
     -- ---- every event
 
-    pub event_leads : (event : CentreEvent) (core : Core) → P (draft_of core).store → IsMoment core.moment → EventGives event core → Q (happened event core).store
-    event_leads (Submit account m) core k now g = submit_by_steady (account_at account core.rows.setup.accounts) m (draft_of core) k g
-    event_leads (Query account q) core k now g = also (happened (Query account q) core).store (query_by_steady (account_at account core.rows.setup.accounts) q (draft_of core) k)
-    event_leads (Cancel account q) core k now g = also (happened (Cancel account q) core).store (cancel_by_steady (account_at account core.rows.setup.accounts) q (draft_of core) k)
-    event_leads (Bound session account receives) core k now g = also (happened (Bound session account receives) core).store (bind_steady session account receives (draft_of core) k)
-    event_leads (Unbound session) core k now g = also (happened (Unbound session) core).store (unbind_steady session (draft_of core) k)
-    event_leads (DeliverAnswered session id b) core k now g = also (happened (DeliverAnswered session id b) core).store (answered_by_steady id b (row_at session_key session core.sessions) (draft_of core) k)
-    event_leads (Frame handset octets tag) core k now g = frame_taken_steady octets (tag_of tag) (line_of handset core.lines) (draft_of core) k g
-    event_leads (LinkUp handset) core k now g = also (happened (LinkUp handset) core).store (raise_steady handset (draft_of core) k)
-    event_leads (LinkDown handset) core k now g = also (happened (LinkDown handset) core).store (lower_steady handset (draft_of core) k)
-    event_leads (Ordered order id) core k now g = also (happened (Ordered order id) core).store (ordered_steady order id (draft_of core) k)
-    event_leads (Tick now) core k was g = also (happened (Tick now) core).store (ticked_steady now (draft_of core) k was g)
+    pub event_leads_firm : (event : CentreEvent) (core : Core) → P (draft_of core).store → IsMoment core.moment → EventGives event core
+        → ((session id : ℕ) (b : Bool) → event ≡ DeliverAnswered session id b → AnswerKeeps P id b) → Q (happened event core).store
+    event_leads_firm (Submit account m) core k now g answers = submit_by_steady (account_at account core.rows.setup.accounts) m (draft_of core) k g
+    event_leads_firm (Query account q) core k now g answers = also (happened (Query account q) core).store (query_by_steady (account_at account core.rows.setup.accounts) q (draft_of core) k)
+    event_leads_firm (Cancel account q) core k now g answers = also (happened (Cancel account q) core).store (cancel_by_steady (account_at account core.rows.setup.accounts) q (draft_of core) k)
+    event_leads_firm (Bound session account receives) core k now g answers = also (happened (Bound session account receives) core).store (bind_steady session account receives (draft_of core) k)
+    event_leads_firm (Unbound session) core k now g answers = also (happened (Unbound session) core).store (unbind_steady session (draft_of core) k)
+    event_leads_firm (DeliverAnswered session id b) core k now g answers = also (happened (DeliverAnswered session id b) core).store (answered_by_steady id b (answers session id b refl) (row_at session_key session core.sessions) (draft_of core) k)
+    event_leads_firm (Frame handset octets tag) core k now g answers = frame_taken_steady octets (tag_of tag) (line_of handset core.lines) (draft_of core) k g
+    event_leads_firm (LinkUp handset) core k now g answers = also (happened (LinkUp handset) core).store (raise_steady handset (draft_of core) k)
+    event_leads_firm (LinkDown handset) core k now g answers = also (happened (LinkDown handset) core).store (lower_steady handset (draft_of core) k)
+    event_leads_firm (Ordered order id) core k now g answers = also (happened (Ordered order id) core).store (ordered_steady order id (draft_of core) k)
+    event_leads_firm (Tick now) core k was g answers = also (happened (Tick now) core).store (ticked_steady now (draft_of core) k was g)
+
+pub event_leads : (P : Store → Type 0) → IsStill P → (Q : Store → Type 0) → ((u : Submission) (s : Store) → P s → IsSubmission u → IfThere Q (accept u s)) → ((s : Store) → P s → Q s)
+    → (event : CentreEvent) (core : Core) → P (draft_of core).store → IsMoment core.moment → EventGives event core → Q (happened event core).store
+event_leads P c Q enters also event core k now g = event_leads_firm P (firm_of P c) Q enters also event core k now g (λ session id b e s h. answered_steady P c id b s h)
 
 pub steady_event : (P : Store → Type 0) → IsSteady P → (event : CentreEvent) (core : Core) → P (draft_of core).store → IsMoment core.moment → EventGives event core → P (happened event core).store
 steady_event P c = event_leads P (still_of P c) P c.accepted (λ s k. k)

@@ -1,4 +1,4 @@
--- What is steady is kept where messages expire, old status reports are dropped and receipts are put off: each is looked at as it
+-- What is firm is kept where messages expire, old status reports are dropped and receipts are put off: each is looked at as it
 -- stood when the walk began, and no other stage of the walk has touched it.
 use Rattle.std.proofs.Common.{◌≡◌, ℕ, ◌<◌, List, [], ◌∷◌, Bool, false, Option, Some, None, refl, sym, ◌∙◌, ap, subst, inl, inr, ⊎_elim, arith}
 use Rattle.std.proofs.lemmas.Bool.{and_parts, cases_eq, cond_both}
@@ -29,7 +29,8 @@ use Rattle.sms_centre_spec.specs.Ends.{end, is_wished, report_to, status_given}
 use Rattle.sms_centre_spec.specs.Sessions.{due_for, receipt_answered}
 use Rattle.sms_centre_spec.specs.Submitting.{reference_for}
 use Rattle.sms_centre_spec.specs.Transfers.{report_closed}
-use Rattle.sms_centre_spec.proofs.Steady.{IsStill, report_own}
+use Rattle.sms_centre_spec.specs.Consistent.{IsConsistent}
+use Rattle.sms_centre_spec.proofs.Steady.{IsFirm, IsStill, firm_of, report_own}
 
 -- ---- rows that stand somewhere among others of greater keys
 
@@ -91,12 +92,20 @@ report_none id r (x ∷ xs) none among own = ⊎_elim
     among)
     (cases_eq x.id id)
 
-module _ (P : Store → Type 0) (c : IsStill P) where
+-- each report of a consistent store stands in it
+stand_alone : (s : Store) → IsConsistent s → ReportsInStore (reports_in s) s
+stand_alone s consistent r among = found r (report_of r.id (reports_in s)) refl consistent.held.alone among where
+  found : (r : ReportRow) (o : Option ReportRow) → report_of r.id (reports_in s) ≡ o → Alone (reports_in s) → Among r (reports_in s) → report_of r.id (reports_in s) ≡ Some r
+  found r None e alone among = absurd (report_none r.id r (reports_in s) e among refl)
+  found r (Some x) e alone among =
+      let at = report_found r.id x (reports_in s) e in e ∙ ap (λ (y : ReportRow). Some y) (alone x r at.0 among at.1)
+
+module _ (P : Store → Type 0) (c : IsFirm P) where
   -- ---- messages expire
 
-  expire_all_steady : (ms : List MessageRow) (s : Store) → P s → Rises message_key ms → MessagesInStore ms s → P (expire_all ms s)
-  expire_all_steady [] s k rises stand = k
-  expire_all_steady (m ∷ ms) s k rises stand =
+  expire_all_firm : (ms : List MessageRow) (s : Store) → P s → Rises message_key ms → MessagesInStore ms s → P (expire_all ms s)
+  expire_all_firm [] s k rises stand = k
+  expire_all_firm (m ∷ ms) s k rises stand =
       let is_over : Bool = is_pending m && nat_le m.limit s.moment in
       let both = cond_both is_over (end Expired m s) s (λ (e : Store). P e × MessagesInStore ms e)
       (λ t. (
@@ -104,43 +113,62 @@ module _ (P : Store → Type 0) (c : IsStill P) where
         λ x among. end_leaves Expired m x.id s (apart m x (above_among message_key m.id x ms rises.0 among)) ∙ stand x (inr among),
       ))
       (λ t. (k, λ x among. stand x (inr among))) in
-      expire_all_steady ms (if is_over then end Expired m s else s) both.0 rises.1 both.1
+      expire_all_firm ms (if is_over then end Expired m s else s) both.0 rises.1 both.1
     where
       apart : (m x : MessageRow) → m.id < x.id → ¬ (m.id ≡ x.id)
       apart m x above e = omega (arith, above, e)
 
-  pub expired_steady : (s : Store) → P s → P (expired s)
-  expired_steady s k =
+  pub expired_firm : (s : Store) → P s → P (expired s)
+  expired_firm s k =
       let keys = (c.consistent s k).message_keys in
-      expire_all_steady (messages_in s) s k keys (λ m among. among_found message_key m (messages_in s) keys among)
+      expire_all_firm (messages_in s) s k keys (λ m among. among_found message_key m (messages_in s) keys among)
 
   -- ---- old status reports are dropped
 
-  drop_all_steady : (rs : List ReportRow) (s : Store) → P s → Rises report_key rs → ReportsInStore rs s → P (drop_all rs s)
-  drop_all_steady [] s k rises stand = k
-  drop_all_steady (r ∷ rs) s k rises stand =
+  drop_all_firm : (rs : List ReportRow) (s : Store) → P s → Rises report_key rs → ReportsInStore rs s → P (drop_all rs s)
+  drop_all_firm [] s k rises stand = k
+  drop_all_firm (r ∷ rs) s k rises stand =
       let is_old : Bool = is_open_status r && nat_le (later r.made report_limit) s.moment in
       let both = cond_both is_old (report_closed r s) s (λ (e : Store). P e × ReportsInStore rs e)
       (λ t. (
-        c.report_far r (finished r.progress) s k (stand r (inl refl)) (λ e. absurd cc),
+        c.report_far r (finished r.progress) s k (stand r (inl refl)) (inr (and_parts (is_open_status r) (nat_le (later r.made report_limit) s.moment) t).0),
         far_leaves r (finished r.progress) rs s (c.consistent s k).held.report_keys rises stand,
       ))
       (λ t. (k, λ x among. stand x (inr among))) in
-      drop_all_steady rs (if is_old then report_closed r s else s) both.0 rises.1 both.1
+      drop_all_firm rs (if is_old then report_closed r s else s) both.0 rises.1 both.1
 
-  pub stand_all : (s : Store) → P s → ReportsInStore (reports_in s) s
-  stand_all s k r among =
-      let consistent = c.consistent s k in found r (report_of r.id (reports_in s)) refl consistent.held.alone among
-    where
-      found : (r : ReportRow) (o : Option ReportRow) → report_of r.id (reports_in s) ≡ o → Alone (reports_in s) → Among r (reports_in s) → report_of r.id (reports_in s) ≡ Some r
-      found r None e alone among = absurd (report_none r.id r (reports_in s) e among refl)
-      found r (Some x) e alone among =
-          let at = report_found r.id x (reports_in s) e in e ∙ ap (λ (y : ReportRow). Some y) (alone x r at.0 among at.1)
+  pub dropped_firm : (s : Store) → P s → P (dropped s)
+  dropped_firm s k = drop_all_firm (reports_in s) s k (c.consistent s k).held.report_keys (stand_alone s (c.consistent s k))
 
-  pub dropped_steady : (s : Store) → P s → P (dropped s)
-  dropped_steady s k = drop_all_steady (reports_in s) s k (c.consistent s k).held.report_keys (stand_all s k)
+  -- ---- receipts go again
 
-  -- ---- receipts are answered, or go again
+  receipt_tried_firm : (n id : ℕ) (o : Option ReportRow) (t : Revised ReportRow) (s : Store) → P (with_reports t s) → report_of id (reports_of t) ≡ o → P (with_reports (receipt_ended false n o t) s)
+  receipt_tried_firm n id None t s k there = k
+  receipt_tried_firm n id (Some r) t s k there = c.report_far r (receipt_tried n r.progress) (with_reports t s) k (report_own id r (with_reports t s) there) (inl refl)
+
+  pub all_tried_firm : (n : ℕ) (ids : List ℕ) (t : Revised ReportRow) (s : Store) → P (with_reports t s) → P (with_reports (all_tried n ids t) s)
+  all_tried_firm n [] t s k = k
+  all_tried_firm n (id ∷ ids) t s k =
+      all_tried_firm n ids (receipt_ended false n (report_of id (reports_of t)) t) s (receipt_tried_firm n id (report_of id (reports_of t)) t s k refl)
+
+  receipts_due_firm : (n : ℕ) (a : List ℕ) (ms : List MessageRow) (rs : List ReportRow) (t : Revised ReportRow) (s : Store) → P (with_reports t s) → Rises report_key rs → ReportsInStore rs (with_reports t s)
+      → P (with_reports (receipts_due n a ms rs t) s)
+  receipts_due_firm n a ms [] t s k rises stand = k
+  receipts_due_firm n a ms (r ∷ rs) t s k rises stand =
+      let is_one : Bool = is_put_off n a r (message_at r.id ms) in
+      let both = cond_both is_one (amend_report r (due_at n r.progress) t) t (λ (u : Revised ReportRow). P (with_reports u s) × ReportsInStore rs (with_reports u s))
+      (λ e. (
+        c.report_far r (due_at n r.progress) (with_reports t s) k (stand r (inl refl)) (inl refl),
+        far_leaves r (due_at n r.progress) rs (with_reports t s) (c.consistent (with_reports t s) k).held.report_keys rises stand,
+      ))
+      (λ e. (k, λ x among. stand x (inr among))) in
+      receipts_due_firm n a ms rs (if is_one then amend_report r (due_at n r.progress) t else t) s both.0 rises.1 both.1
+
+  pub due_for_firm : (a : List ℕ) (s : Store) → P s → P (due_for a s)
+  due_for_firm a s k = receipts_due_firm s.moment a (messages_in s) (reports_in s) s.reports s k (c.consistent s k).held.report_keys (stand_alone s (c.consistent s k))
+
+module _ (P : Store → Type 0) (c : IsStill P) where
+  -- ---- receipts are answered
 
   receipt_ended_steady : (b : Bool) (n id : ℕ) (o : Option ReportRow) (t : Revised ReportRow) (s : Store) → P (with_reports t s) → report_of id (reports_of t) ≡ o → P (with_reports (receipt_ended b n o t) s)
   receipt_ended_steady b n id None t s k there = k
@@ -151,23 +179,19 @@ module _ (P : Store → Type 0) (c : IsStill P) where
   pub answered_steady : (id : ℕ) (b : Bool) (s : Store) → P s → P (receipt_answered id b s)
   answered_steady id b s k = receipt_ended_steady b s.moment id (report_of id (reports_in s)) s.reports s k refl
 
-  pub all_tried_steady : (n : ℕ) (ids : List ℕ) (t : Revised ReportRow) (s : Store) → P (with_reports t s) → P (with_reports (all_tried n ids t) s)
-  all_tried_steady n [] t s k = k
-  all_tried_steady n (id ∷ ids) t s k =
-      all_tried_steady n ids (receipt_ended false n (report_of id (reports_of t)) t) s (receipt_ended_steady false n id (report_of id (reports_of t)) t s k refl)
+  -- ---- what is steady is firm
 
-  receipts_due_steady : (n : ℕ) (a : List ℕ) (ms : List MessageRow) (rs : List ReportRow) (t : Revised ReportRow) (s : Store) → P (with_reports t s) → Rises report_key rs → ReportsInStore rs (with_reports t s)
-      → P (with_reports (receipts_due n a ms rs t) s)
-  receipts_due_steady n a ms [] t s k rises stand = k
-  receipts_due_steady n a ms (r ∷ rs) t s k rises stand =
-      let is_one : Bool = is_put_off n a r (message_at r.id ms) in
-      let both = cond_both is_one (amend_report r (due_at n r.progress) t) t (λ (u : Revised ReportRow). P (with_reports u s) × ReportsInStore rs (with_reports u s))
-      (λ e. (
-        c.report_far r (due_at n r.progress) (with_reports t s) k (stand r (inl refl)) (λ e. e),
-        far_leaves r (due_at n r.progress) rs (with_reports t s) (c.consistent (with_reports t s) k).held.report_keys rises stand,
-      ))
-      (λ e. (k, λ x among. stand x (inr among))) in
-      receipts_due_steady n a ms rs (if is_one then amend_report r (due_at n r.progress) t else t) s both.0 rises.1 both.1
+  pub stand_all : (s : Store) → P s → ReportsInStore (reports_in s) s
+  stand_all s k = stand_alone s (c.consistent s k)
+
+  pub expired_steady : (s : Store) → P s → P (expired s)
+  expired_steady s k = expired_firm P (firm_of P c) s k
+
+  pub dropped_steady : (s : Store) → P s → P (dropped s)
+  dropped_steady s k = dropped_firm P (firm_of P c) s k
+
+  pub all_tried_steady : (n : ℕ) (ids : List ℕ) (t : Revised ReportRow) (s : Store) → P (with_reports t s) → P (with_reports (all_tried n ids t) s)
+  all_tried_steady n ids t s k = all_tried_firm P (firm_of P c) n ids t s k
 
   pub due_for_steady : (a : List ℕ) (s : Store) → P s → P (due_for a s)
-  due_for_steady a s k = receipts_due_steady s.moment a (messages_in s) (reports_in s) s.reports s k (c.consistent s k).held.report_keys (stand_all s k)
+  due_for_steady a s k = due_for_firm P (firm_of P c) a s k

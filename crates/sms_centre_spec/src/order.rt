@@ -1,7 +1,7 @@
 //! What an operator orders.
 
 /// What an operator orders of a message, whoever sent it.
-#[derive(Clone, Copy, Debug, PartialEq, Eq)]
+#[derive(Clone, Copy, PartialEq, Eq)]
 pub enum Order {
     /// What waits of it is due now. It is answered with its state, as a query_sm is.
     Retry,

@@ -7,7 +7,7 @@ use sms_centre_rows::waiting::{HandsetRow, ReferenceRow, Revision};
 use sms_rows::table::Change;
 
 /// All that a centre stores, and its setup, which is handed in.
-#[derive(Debug, Drop)]
+#[derive(Drop)]
 pub struct Rows {
     pub messages: Listed<MessageRow>,
     pub parts: Listed<PartRow>,
@@ -19,7 +19,7 @@ pub struct Rows {
 }
 
 /// What an event changes of the rows: of each list in order.
-#[derive(Debug, Drop)]
+#[derive(Drop)]
 pub struct Changes {
     pub messages: Listed<Change<MessageRow>>,
     pub parts: Listed<Revision<PartRow>>,

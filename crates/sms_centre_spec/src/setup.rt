@@ -3,7 +3,7 @@ use sms_base::{Address, Listed, Moment};
 use sms_intake::CentreAccount;
 
 /// What a centre is given when it starts, and does not store.
-#[derive(Debug, Drop)]
+#[derive(Drop)]
 pub struct Setup {
     /// The centre's own address.
     pub centre: Address,

@@ -5,7 +5,7 @@ ghost use Rattle.sms_centre_spec.specs.Transfers.{cause_verdict as cause_verdict
 use sms_link::Ending;
 
 /// What the end of a transfer to a handset means for what was transferred (3GPP TS 24.011 8.2.5.4).
-#[derive(Clone, Copy, Debug, PartialEq, Eq)]
+#[derive(Clone, Copy, PartialEq, Eq)]
 pub enum Verdict {
     /// The transfer was acknowledged.
     Settled,

@@ -26,7 +26,7 @@ pub struct Part {
 }
 
 /// The user data fields of a short message (3GPP TS 23.040 9.2.3.16, 9.2.3.23, 9.2.3.24).
-#[derive(Debug, Drop)]
+#[derive(Drop)]
 pub struct UserData {
     /// Whether the octets begin with a header (TP-UDHI).
     pub header_indicator: bool,

@@ -22,7 +22,7 @@ use std::marker::Model;
 /// The parts of one message that were taken so far, in any order, and room for the others.
 ///
 /// Contracts see the reference and the total of the message, and the parts in the order of their numbers.
-#[derive(Debug, Drop)]
+#[derive(Drop)]
 pub struct Joiner {
     reference: ConcatReference,
     total: u8,

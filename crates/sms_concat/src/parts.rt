@@ -7,7 +7,7 @@ use std::alloc::{AllocError, Global};
 use std::marker::Model;
 
 /// Parts in order, seen by contracts as a list.
-#[derive(Debug, Drop)]
+#[derive(Drop)]
 pub struct Parts {
     items: Vec<Part>,
 }

@@ -11,7 +11,7 @@ use sms_alphabet::{Coding, greatest_length, ucs2_length};
 use sms_base::{Code, code_of};
 
 /// What is left of the room for one part, for parts, and in the present piece.
-#[derive(Clone, Copy, Debug, PartialEq, Eq)]
+#[derive(Clone, Copy, PartialEq, Eq)]
 pub(crate) struct Tally {
     /// How much a piece has room for.
     room: usize,
@@ -81,7 +81,7 @@ impl Tally {
 }
 
 /// Both tallies of a text, of which the one counts that its characters allow.
-#[derive(Clone, Copy, Debug, PartialEq, Eq)]
+#[derive(Clone, Copy, PartialEq, Eq)]
 pub(crate) struct TextTally {
     /// In the default alphabet, as long as each character has a code there.
     septets: Option<Tally>,

@@ -2,7 +2,7 @@ ghost use Rattle.std.specs.Prelude.{◌≡◌};
 ghost use Rattle.sms_control.specs.ControlGrammar.{cause_octet, cause_of};
 
 /// Why a transaction ends early (3GPP TS 24.011 8.1.4.2, table 8.2). `octet` has the one table of the octets.
-#[derive(Clone, Copy, Debug, PartialEq, Eq)]
+#[derive(Clone, Copy, PartialEq, Eq)]
 pub enum CpCause {
     NetworkFailure,
     Congestion,

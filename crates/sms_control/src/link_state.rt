@@ -12,7 +12,7 @@ use sms_base::{Moment, Octets};
 use std::alloc::{AllocError, Global};
 
 /// The timer TC1* of a frame that is not acknowledged.
-#[derive(Clone, Copy, Debug, PartialEq, Eq)]
+#[derive(Clone, Copy, PartialEq, Eq)]
 pub struct Repetition {
     /// When the timer fires next.
     pub due: Moment,
@@ -21,7 +21,7 @@ pub struct Repetition {
 }
 
 /// The transaction that this side began.
-#[derive(Debug, Drop)]
+#[derive(Drop)]
 pub struct Begun {
     pub identifier: TransactionIdentifier,
     /// The CP-DATA of the transaction.
@@ -33,7 +33,7 @@ pub struct Begun {
 }
 
 /// The answer in a transaction of the other side, until its CP-ACK arrives.
-#[derive(Debug, Drop)]
+#[derive(Drop)]
 pub struct Answer {
     /// The CP-DATA of the transaction.
     pub frame: Octets,
@@ -41,7 +41,7 @@ pub struct Answer {
 }
 
 /// The transaction that the other side began.
-#[derive(Debug, Drop)]
+#[derive(Drop)]
 pub struct Opened {
     pub identifier: TransactionIdentifier,
     /// The frame that opened it.
@@ -51,7 +51,7 @@ pub struct Opened {
 }
 
 /// All that a link's two ends of transactions know.
-#[derive(Debug, Drop)]
+#[derive(Drop)]
 pub struct LinkState {
     /// Of the next transaction that this side begins.
     pub next_identifier: TransactionIdentifier,

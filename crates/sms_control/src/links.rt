@@ -17,7 +17,7 @@ use std::marker::Model;
 /// A side of a link: the transaction that it began and the one that the other side began.
 ///
 /// Contracts see it as its `LinkState`. A call that is refused, or that finds no memory, changes nothing.
-#[derive(Debug, Drop)]
+#[derive(Drop)]
 pub struct Links {
     alloc: Global,
     state: LinkState,

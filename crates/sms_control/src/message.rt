@@ -15,7 +15,7 @@ use std::alloc::{AllocError, Global};
 const LONGEST_UNIT: u8 = 248;
 
 /// A message of the control layer (3GPP TS 24.011 7.2), over the octets that it was read from.
-#[derive(Debug, Drop)]
+#[derive(Drop)]
 pub enum Cp<'a> {
     /// CP-DATA: a unit of the relay layer, 1 to 248 octets.
     DataUnit {

@@ -2,7 +2,7 @@ ghost use Rattle.std.specs.Prelude.{◌≡◌};
 ghost use Rattle.sms_control.specs.ControlGrammar.{type_octet, type_of};
 
 /// The type of a message (3GPP TS 24.011 8.1.3). `octet` has the one table of the octets.
-#[derive(Clone, Copy, Debug, PartialEq, Eq)]
+#[derive(Clone, Copy, PartialEq, Eq)]
 pub enum MessageType {
     Data,
     Ack,

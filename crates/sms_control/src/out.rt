@@ -5,7 +5,7 @@ use sms_base::{Listed, Octets};
 pub type Frames = Listed<Octets>;
 
 /// What is passed up to the layer above.
-#[derive(Debug, Drop)]
+#[derive(Drop)]
 pub enum Up {
     /// A unit of the other side's: it opens a transaction of the other side (`FromOriginator`),
     /// or it answers the one that this side began (`ToOriginator`).
@@ -15,7 +15,7 @@ pub enum Up {
 }
 
 /// What a call gives: frames to send and at most one thing to pass up.
-#[derive(Debug, Drop)]
+#[derive(Drop)]
 pub struct Out {
     pub frames: Frames,
     pub up: Option<Up>,

@@ -21,7 +21,7 @@ pub const TR1N: u64 = 40;
 pub const TR1M: u64 = TR1N;
 
 /// What the timers of a transaction do at a moment.
-#[derive(Clone, Copy, Debug, PartialEq, Eq)]
+#[derive(Clone, Copy, PartialEq, Eq)]
 pub(crate) enum Firing {
     /// None fires.
     Idle,

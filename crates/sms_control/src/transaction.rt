@@ -5,7 +5,7 @@ ghost use Rattle.sms_control.specs.ControlGrammar.{head_octet, head_of, turned};
 use std::marker::Model;
 
 /// From which side of a transaction a message is (3GPP TS 24.007 11.2.3.1.3).
-#[derive(Clone, Copy, Debug, PartialEq, Eq)]
+#[derive(Clone, Copy, PartialEq, Eq)]
 pub enum TransactionFlag {
     /// The flag 0: from the side that began the transaction.
     FromOriginator,
@@ -26,7 +26,7 @@ impl TransactionFlag {
 }
 
 /// The number of a transaction, 0 to 6 (3GPP TS 24.007 11.2.3.1.3; 7 is reserved).
-#[derive(Clone, Copy, Debug, PartialEq, Eq)]
+#[derive(Clone, Copy, PartialEq, Eq)]
 pub struct TransactionIdentifier {
     number: u8,
 }
@@ -82,7 +82,7 @@ impl TransactionIdentifier {
 }
 
 /// The transaction of a message, as its first octet says.
-#[derive(Clone, Copy, Debug, PartialEq, Eq)]
+#[derive(Clone, Copy, PartialEq, Eq)]
 pub struct Transaction {
     pub flag: TransactionFlag,
     pub identifier: TransactionIdentifier,

@@ -3,7 +3,7 @@ use crate::text_view::TextView;
 use sms_base::{Holder, Moment, OctetView};
 
 /// What a handset meets.
-#[derive(Debug, Drop)]
+#[derive(Drop)]
 pub enum HandsetEvent<'a> {
     /// A frame arrived. The tag is the holder for which it was made, where that is known: a frame from a socket has
     /// none.

@@ -5,7 +5,7 @@ ghost use Rattle.std.specs.Str.{chars};
 use std::marker::Model;
 
 /// A text that is borrowed, seen by contracts as the list of its characters' codes.
-#[derive(Debug, Drop)]
+#[derive(Drop)]
 pub struct TextView<'a> {
     text: &'a str,
 }

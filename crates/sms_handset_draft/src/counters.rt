@@ -1,7 +1,7 @@
 //! What a handset counts.
 
 /// The numbers that are given next, and the memory flag.
-#[derive(Clone, Copy, Debug, PartialEq, Eq)]
+#[derive(Clone, Copy, PartialEq, Eq)]
 pub struct Counters {
     /// Of the next entry, in inbox or outbox: 1 to 4294967295, which is given to none.
     pub entry: u32,

@@ -11,7 +11,7 @@ use sms_rows::table::TablePlan;
 use std::alloc::Global;
 
 /// All that a handset stores, and its setup, which is handed in.
-#[derive(Debug, Drop)]
+#[derive(Drop)]
 pub struct Rows {
     pub entries: Listed<Entry>,
     pub last: Listed<LastAccepted>,

@@ -2,7 +2,7 @@
 use sms_base::{Address, Moment};
 
 /// What a handset is given when it starts, and does not store.
-#[derive(Clone, Copy, Debug, PartialEq, Eq)]
+#[derive(Clone, Copy, PartialEq, Eq)]
 pub struct Setup {
     /// The handset's own number.
     pub number: Address,

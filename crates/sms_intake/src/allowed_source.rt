@@ -7,7 +7,7 @@ use crate::submission::CentreAccount;
 use sms_base::{Address, Digits};
 
 /// A source that an account may give.
-#[derive(Clone, Copy, Debug, PartialEq, Eq)]
+#[derive(Clone, Copy, PartialEq, Eq)]
 pub enum AllowedSource {
     /// The number of these digits.
     Number(Digits),

@@ -2,7 +2,7 @@
 use sms_alphabet::Coding;
 
 /// What the octets of a content are.
-#[derive(Clone, Copy, Debug, PartialEq, Eq)]
+#[derive(Clone, Copy, PartialEq, Eq)]
 pub(crate) enum ContentForm {
     /// The octets are units in this coding, under this data coding scheme.
     Units { coding: Coding, scheme: u8 },

@@ -25,7 +25,7 @@ use std::alloc::{AllocError, Global};
 use std::marker::Model;
 
 /// A content whose octets are borrowed, seen by contracts as the content.
-#[derive(Debug, Drop)]
+#[derive(Drop)]
 pub(crate) struct ContentView<'a> {
     form: ContentForm,
     octets: &'a [u8],

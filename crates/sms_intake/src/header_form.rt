@@ -3,7 +3,7 @@ use sms_base::OctetView;
 use sms_concat::ConcatKey;
 
 /// The header in front of a content.
-#[derive(Debug, Drop)]
+#[derive(Drop)]
 pub(crate) enum HeaderForm<'a> {
     /// Nothing.
     Without,

@@ -9,7 +9,7 @@ use smpp_pdu::{CommandStatus, Message, Tlvs};
 use sms_base::{Address, Digits, OctetView};
 
 /// The source of a message, and its handset.
-#[derive(Clone, Copy, Debug, PartialEq, Eq)]
+#[derive(Clone, Copy, PartialEq, Eq)]
 pub struct Front {
     /// The source, the account's address where none is given.
     pub source: Address,

@@ -12,7 +12,7 @@ use sms_base::{Moment, Octets, Originator, Priority};
 use std::alloc::{AllocError, Global};
 
 /// What was judged of a submit_sm.
-#[derive(Debug, Drop)]
+#[derive(Drop)]
 pub(crate) struct Judged<'a> {
     front: Front,
     text: TextView<'a>,

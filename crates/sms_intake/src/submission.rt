@@ -4,7 +4,7 @@ use sms_base::{Address, Digits, Listed, Moment, Octets, Originator, Priority, Wi
 use sms_concat::{ConcatKey, Content};
 
 /// An application's account.
-#[derive(Debug, Drop)]
+#[derive(Drop)]
 pub struct CentreAccount {
     /// The account's name, the system_id of its sessions.
     pub name: Octets,
@@ -15,7 +15,7 @@ pub struct CentreAccount {
 }
 
 /// What one part carries.
-#[derive(Debug, Drop)]
+#[derive(Drop)]
 pub struct SinglePart {
     /// TP-UDHI.
     pub header_indicator: bool,
@@ -30,7 +30,7 @@ pub struct SinglePart {
 }
 
 /// What a message is to say.
-#[derive(Debug, Drop)]
+#[derive(Drop)]
 pub enum Text {
     /// A content, in one part without a header, or split by the centre where it doesn't fit.
     Whole(Content),
@@ -39,7 +39,7 @@ pub enum Text {
 }
 
 /// A message that passed all checks that need no rows.
-#[derive(Debug, Drop)]
+#[derive(Drop)]
 pub struct Submission {
     pub originator: Originator,
     /// TP-OA of its parts.

@@ -19,7 +19,7 @@ use std::alloc::{AllocError, Global};
 use std::marker::Model;
 
 /// A text whose octets are borrowed, seen by contracts as the text.
-#[derive(Debug, Drop)]
+#[derive(Drop)]
 pub(crate) struct TextView<'a> {
     header: HeaderForm<'a>,
     content: ContentView<'a>,

@@ -10,7 +10,7 @@ mod refusing;
 mod seats;
 
 /// Why a term ended.
-#[derive(Clone, Copy, Debug, PartialEq, Eq)]
+#[derive(Clone, Copy, PartialEq, Eq)]
 pub enum End {
     /// The end mark of each seat was popped.
     AllClosed,

@@ -11,7 +11,7 @@ use crate::outs::Outs;
 use sms_base::{MessageId, Moment};
 
 /// What the machine is to do that no seat asks.
-#[derive(Clone, Copy, Debug, PartialEq, Eq)]
+#[derive(Clone, Copy, PartialEq, Eq)]
 pub enum Errand {
     /// The machine looks at so many messages, from that number on, and forgets those that may go and ended before that moment.
     Forget {
@@ -37,7 +37,7 @@ pub enum Stimulus<J> {
 }
 
 /// The result of an item.
-#[derive(Clone, Copy, Debug, PartialEq, Eq)]
+#[derive(Clone, Copy, PartialEq, Eq)]
 pub enum Fate {
     /// What it changed is committed.
     Done,

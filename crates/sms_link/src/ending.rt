@@ -7,7 +7,7 @@ use sms_relay::{RelayFault, Rp, RpCause, read_down, read_up};
 use std::alloc::{AllocError, Global};
 
 /// Whose end of a link it is.
-#[derive(Clone, Copy, Debug, PartialEq, Eq)]
+#[derive(Clone, Copy, PartialEq, Eq)]
 pub enum Side {
     /// The side receives the units that are sent down.
     Handset,
@@ -16,7 +16,7 @@ pub enum Side {
 }
 
 /// How a transfer that this side began ended.
-#[derive(Debug, Drop)]
+#[derive(Drop)]
 pub enum Ending {
     /// RP-ACK under its reference.
     Acknowledged,
@@ -32,7 +32,7 @@ pub enum Ending {
 }
 
 /// What is passed up to the core.
-#[derive(Debug, Drop)]
+#[derive(Drop)]
 pub enum Upward {
     /// A unit that opens a transaction of the other side's. It waits for a reply.
     Opened(Octets),

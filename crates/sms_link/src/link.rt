@@ -32,7 +32,7 @@ impl Model for Link {
 }
 
 /// What a frame or a tick gives: frames to send and at most one thing to pass up.
-#[derive(Debug, Drop)]
+#[derive(Drop)]
 pub struct LinkOut {
     pub frames: Listed<Outgoing>,
     pub up: Option<Upward>,

@@ -2,7 +2,7 @@
 use sms_base::{Carried, Octets};
 
 /// A frame to send, which is one of three: new CP-DATA, a copy of CP-DATA that was sent before, or CP-ACK or CP-ERROR.
-#[derive(Debug, Drop)]
+#[derive(Drop)]
 pub struct Outgoing {
     pub octets: Octets,
     /// What CP-DATA carries. CP-ACK and CP-ERROR carry nothing.

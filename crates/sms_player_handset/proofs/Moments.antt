@@ -1,63 +1,12 @@
--- Through all stages but a tick's first the draft's moment is as it was.
-use Rattle.std.proofs.Common.{◌≡◌, List, ℕ, [], ◌∷◌, Option, Some, None, ◌++◌, true, Result, Ok, Err, false, Bool, refl}
-use Rattle.std.proofs.lemmas.Bool.{cond_both}
-use Rattle.std.specs.Prelude.{max, ◌+◌, ◌%◌, nat_lt, length, ◌==◌}
+-- After each event the draft's moment is as it was, but for a tick's.
+use Rattle.std.proofs.Common.{◌≡◌, ℕ, List, Bool, Result, Ok, Err, refl}
+use Rattle.std.specs.Prelude.{max}
 use Rattle.sms_base.specs.declared.holder.Holder.{Holder}
-use Rattle.sms_base.specs.declared.holder.Holder.TheVariants.{Part as PartHolder, Report, Entry as EntryHolder, Memory}
-use Rattle.sms_base.specs.declared.address.Address.{Address}
-use Rattle.sms_base.specs.declared.address_error.AddressError.{AddressError}
-use Rattle.sms_base.specs.Address.{address_of}
-use Rattle.sms_rows.specs.table.Table.{row_at}
-use Rattle.sms_concat.specs.declared.content.Content.{Content}
-use Rattle.sms_alphabet.specs.declared.concat_key.ConcatKey.{ConcatKey}
-use Rattle.sms_concat.specs.declared.content.Part.{Part as PartOf}
-use Rattle.sms_concat.specs.declared.split_error.SplitError.{SplitError}
-use Rattle.sms_concat.specs.Splitting.{split_of}
-use Rattle.sms_control.specs.LinkStep.{is_busy}
-use Rattle.sms_relay.specs.declared.fault.RelayFault.{RelayFault}
-use Rattle.sms_relay.specs.declared.frame.Rp.{Rp}
-use Rattle.sms_relay.specs.declared.frame.Rp.TheVariants.{DataUnit, AckUnit, ErrorUnit, Smma}
-use Rattle.sms_relay.specs.RelayReading.{down_at as unit_at}
-use Rattle.sms_link.specs.declared.ending.Ending.{Ending}
-use Rattle.sms_link.specs.declared.ending.Ending.TheVariants.{Acknowledged as AcknowledgedEnd, Refused as RefusedEnd, Wrong as WrongEnd, Lost as LostEnd}
-use Rattle.sms_link.specs.declared.ending.Upward.{Upward}
-use Rattle.sms_link.specs.declared.ending.Upward.TheVariants.{Opened, Ended}
-use Rattle.sms_link.specs.LinkTurn.{Turn, taken, fired}
-use Rattle.sms_tpdu.specs.declared.deliver.Deliver.{Deliver as DeliverOf}
-use Rattle.sms_tpdu.specs.declared.down.Down.{Down}
-use Rattle.sms_tpdu.specs.declared.down.Down.TheVariants.{Deliver, StatusReport, SubmitReport}
-use Rattle.sms_tpdu.specs.declared.fault.TpduFault.{TpduFault}
-use Rattle.sms_tpdu.specs.declared.carrier.Carrier.TheVariants.{InData}
-use Rattle.sms_tpdu.specs.TpduReading.{down_at}
-use Rattle.sms_handset_rows.specs.declared.inbox.entry.Entry.{Entry}
-use Rattle.sms_handset_rows.specs.inbox.Keys.{entry_key, last_key}
-use Rattle.sms_handset_rows.specs.declared.inbox.last_accepted.LastAccepted.{LastAccepted}
-use Rattle.sms_handset_rows.specs.declared.inbox.discarded_group.DiscardedGroup.{DiscardedGroup}
-use Rattle.sms_handset_rows.specs.inbox.Groups.{alone, joined_entry, all_numbers, joined_content, part_numbers, single_entry, part_entry, is_among, members, group_of, mark_of, key_of, is_open_part, first_number}
-use Rattle.sms_handset_rows.specs.declared.inbox.entry.Group.{Group}
-use Rattle.sms_handset_rows.specs.inbox.Doubles.{is_double}
-use Rattle.sms_handset_rows.specs.declared.inbox.entry.Message.{Message}
-use Rattle.sms_handset_rows.specs.declared.inbox.entry.Message.TheVariants.{Single, Part, Joined}
-use Rattle.sms_handset_rows.specs.declared.outbox.out_entry.OutEntry.{OutEntry}
-use Rattle.sms_handset_rows.specs.outbox.Keys.{out_key, notice_key}
-use Rattle.sms_handset_rows.specs.outbox.Reports.{reported}
-use Rattle.sms_handset_rows.specs.declared.outbox.notice.Notice.{Notice}
-use Rattle.sms_handset_rows.specs.outbox.Answers.{verdict_of}
-use Rattle.sms_handset_rows.specs.outbox.Settling.{settled, is_sending, lost}
-use Rattle.sms_handset_rows.specs.outbox.Offers.{first_due, first_fired}
-use Rattle.sms_handset_rows.specs.outbox.References.{held_references, next_free, is_unfinished}
-use Rattle.sms_concat.specs.TextContent.{content_of_text}
-use Rattle.sms_handset_draft.specs.Draft.{Draft, put_entry, remove_entry, put_last, put_out, remove_out, put_mark, remove_mark, put_counters, Core, draft_of, link_of, with_turn}
-use Rattle.sms_handset_draft.specs.declared.counters.Counters.{Counters}
-use Rattle.sms_handset_draft.specs.Storing.{drop_all, free_all, ended, completed, store_single, store_part, marked}
-use Rattle.sms_handset_draft.specs.Receiving.{accept, no_room, single_received, new_part_received, member_received, part_received, deliver_received, note, tpdu_received, acknowledge, data_received, unit_received}
-use Rattle.sms_handset_draft.specs.MemoryAvailable.{has_room, notice_failed, notice_ended, notice_concluded, first_notice, freed, want_notice}
-use Rattle.sms_handset_draft.specs.Outbox.{entry_concluded, holder_concluded, lapse_rows, lapse, offer_entry, offer_message, is_notice_next, offer_wanted, offer_after, offer, follow}
-use Rattle.sms_handset.specs.OwnersActs.{write_part, write_parts, count_split, fits_outbox, write_to, written, write_split, delete_out, delete_in, discard_group, discard_members, discard_in, discard_at, write, delete, discard}
+use Rattle.sms_handset_draft.specs.declared.rows.Rows.{Rows}
+use Rattle.sms_handset_draft.specs.Draft.{Changes, Core, Draft}
 use Rattle.sms_handset.specs.declared.refusal.Refusal.{Refusal}
-use Rattle.sms_handset_draft.specs.FramesAndTicks.{went_up, timed_out, frame_heard, at_moment, timers_fired}
-use Rattle.sms_handset.specs.HandsetEvent.{acted, frame_received, ticked, wrote, deleted, discarded}
-use Rattle.sms_handset.specs.declared.refusal.Refusal.TheVariants.{OutboxFull, StillOpen, NoEntry, TooManyDiscarded}
+use Rattle.sms_handset.specs.HandsetEvent.{frame_received, ticked, wrote, deleted, discarded}
+use Rattle.sms_handset.proofs.KeptByStages.{HoldsIfDone, KeptByMoves, frame_keeps, tick_keeps, write_keeps, delete_keeps, discard_keeps}
 
 -- ---- the moment stands
 
@@ -68,281 +17,39 @@ abbrev pub StaysIfDone : ℕ → Result Draft Refusal → Type 0
 StaysIfDone moment (Ok d) = Stays moment d
 StaysIfDone moment (Err refusal) = Unit {0}
 
--- ---- moves
+abbrev stands : ℕ → Rows → Changes → ℕ → Type 0
+stands base rows changes moment = moment ≡ base
 
-put_entry_stays : (base : ℕ) (e : Entry) (d : Draft) → Stays base d → Stays base (put_entry e d)
-put_entry_stays base e d h = h
-
-remove_entry_stays : (base : ℕ) (n : ℕ) (d : Draft) → Stays base d → Stays base (remove_entry n d)
-remove_entry_stays base n d h = h
-
-put_last_stays : (base : ℕ) (l : LastAccepted) (d : Draft) → Stays base d → Stays base (put_last l d)
-put_last_stays base l d h = h
-
-put_out_stays : (base : ℕ) (o : OutEntry) (d : Draft) → Stays base d → Stays base (put_out o d)
-put_out_stays base o d h = h
-
-remove_out_stays : (base : ℕ) (n : ℕ) (d : Draft) → Stays base d → Stays base (remove_out n d)
-remove_out_stays base n d h = h
-
-put_mark_stays : (base : ℕ) (m : DiscardedGroup) (d : Draft) → Stays base d → Stays base (put_mark m d)
-put_mark_stays base m d h = h
-
-remove_mark_stays : (base : ℕ) (n : ℕ) (d : Draft) → Stays base d → Stays base (remove_mark n d)
-remove_mark_stays base n d h = h
-
-put_counters_stays : (base : ℕ) (c : Counters) (d : Draft) → Stays base d → Stays base (put_counters c d)
-put_counters_stays base c d h = h
-
--- ---- groups
-
-drop_all_stays : (base : ℕ) (es : List Entry) (d : Draft) → Stays base d → Stays base (drop_all es d)
-drop_all_stays base [] d h = h
-drop_all_stays base (e ∷ es) d h = drop_all_stays base es (remove_entry e.number d) (remove_entry_stays base e.number d h)
-
-free_all_stays : (base : ℕ) (es : List Entry) (d : Draft) → Stays base d → Stays base (free_all es d)
-free_all_stays base [] d h = h
-free_all_stays base (e ∷ es) d h = free_all_stays base es (put_entry (alone e) d) (put_entry_stays base (alone e) d h)
-
-ended_stays : (base : ℕ) (g : Group) (es : List Entry) (c : Option Content) (d : Draft) → Stays base d → Stays base (ended g es c d)
-ended_stays base g es None d h = free_all_stays base es d h
-ended_stays base g es (Some c) d h = put_entry_stays base (joined_entry g es c) (drop_all es d) (drop_all_stays base es d h)
-
-completed_stays : (base : ℕ) (g : Group) (es : List Entry) (d : Draft) → Stays base d → Stays base (completed g es d)
-completed_stays base g es d h =
-    cond_both (all_numbers g.total (part_numbers es)) (ended g es (joined_content g es) d) d (λ (z : Draft). Stays base z)
-    (λ t. ended_stays base g es (joined_content g es) d h) (λ t. h)
-
-counted : Draft → Counters
-counted d = record d.rows.counters { entry = d.rows.counters.entry + 1 }
-
-store_single_stays : (base : ℕ) (tpdu : List ℕ) (d : Draft) → Stays base d → Stays base (store_single tpdu d)
-unfolding counted
-store_single_stays base tpdu d h =
-    put_entry_stays base (single_entry d.rows.counters.entry tpdu) (put_counters (counted d) d) (put_counters_stays base (counted d) d h)
-
-store_part_stays : (base : ℕ) (g : Group) (n : ℕ) (tpdu : List ℕ) (es : List Entry) (d : Draft) → Stays base d → Stays base (store_part g n tpdu es d)
-unfolding counted
-store_part_stays base g n tpdu es d h =
-    let e : Entry = part_entry d.rows.counters.entry g n tpdu in
-    completed_stays base g (es ++ e ∷ []) (put_entry e (put_counters (counted d) d))
-    (put_entry_stays base e (put_counters (counted d) d) (put_counters_stays base (counted d) d h))
-
-marked_stays : (base : ℕ) (n : ℕ) (m : DiscardedGroup) (d : Draft) → Stays base d → Stays base (marked n m d)
-marked_stays base n m d h =
-    cond_both (all_numbers m.group.total (m.seen ++ n ∷ [])) (remove_mark m.number d) (put_mark (record m { seen = m.seen ++ n ∷ [] }) d) (λ (z : Draft). Stays base z)
-    (λ t. remove_mark_stays base m.number d h) (λ t. put_mark_stays base (record m { seen = m.seen ++ n ∷ [] }) d h)
-
--- ---- receiving
-
-accept_stays : (base : ℕ) (r : ℕ) (tag : Holder) (tpdu : List ℕ) (d : Draft) → Stays base d → Stays base (accept r tag tpdu d)
-accept_stays base r tag tpdu d h = put_last_stays base (record { reference = r; tpdu = tpdu }) d h
-
-no_room_stays : (base : ℕ) (r : ℕ) (tag : Holder) (d : Draft) → Stays base d → Stays base (no_room r tag d)
-no_room_stays base r tag d h = put_counters_stays base (record d.rows.counters { is_memory_full = true }) d h
-
-single_received_stays : (base : ℕ) (r : ℕ) (tag : Holder) (tpdu : List ℕ) (d : Draft) → Stays base d → Stays base (single_received r tag tpdu d)
-single_received_stays base r tag tpdu d h =
-    cond_both (has_room d) (accept r tag tpdu (store_single tpdu d)) (no_room r tag d) (λ (z : Draft). Stays base z)
-    (λ t. accept_stays base r tag tpdu (store_single tpdu d) (store_single_stays base tpdu d h)) (λ t. no_room_stays base r tag d h)
-
-new_part_received_stays : (base : ℕ) (r : ℕ) (tag : Holder) (tpdu : List ℕ) (g : Group) (n : ℕ) (es : List Entry) (d : Draft) → Stays base d → Stays base (new_part_received r tag tpdu g n es d)
-new_part_received_stays base r tag tpdu g n es d h =
-    cond_both (has_room d) (accept r tag tpdu (store_part g n tpdu es d)) (no_room r tag d) (λ (z : Draft). Stays base z)
-    (λ t. accept_stays base r tag tpdu (store_part g n tpdu es d) (store_part_stays base g n tpdu es d h)) (λ t. no_room_stays base r tag d h)
-
-member_received_stays : (base : ℕ) (r : ℕ) (tag : Holder) (tpdu : List ℕ) (g : Group) (n : ℕ) (es : List Entry) (d : Draft) → Stays base d → Stays base (member_received r tag tpdu g n es d)
-member_received_stays base r tag tpdu g n es d h =
-    cond_both (is_among n (part_numbers es)) (single_received r tag tpdu d) (new_part_received r tag tpdu g n es d) (λ (z : Draft). Stays base z)
-    (λ t. single_received_stays base r tag tpdu d h) (λ t. new_part_received_stays base r tag tpdu g n es d h)
-
-part_received_stays : (base : ℕ) (r : ℕ) (tag : Holder) (tpdu : List ℕ) (g : Group) (n : ℕ) (m : Option DiscardedGroup) (d : Draft) → Stays base d → Stays base (part_received r tag tpdu g n m d)
-part_received_stays base r tag tpdu g n None d h = member_received_stays base r tag tpdu g n (members g d.rows.entries) d h
-part_received_stays base r tag tpdu g n (Some m) d h =
-    cond_both (is_among n m.seen) (single_received r tag tpdu d) (accept r tag tpdu (marked n m d)) (λ (z : Draft). Stays base z)
-    (λ t. single_received_stays base r tag tpdu d h) (λ t. accept_stays base r tag tpdu (marked n m d) (marked_stays base n m d h))
-
-deliver_received_stays : (base : ℕ) (r : ℕ) (tag : Holder) (tpdu : List ℕ) (m : DeliverOf) (k : Option ConcatKey) (d : Draft) → Stays base d → Stays base (deliver_received r tag tpdu m k d)
-deliver_received_stays base r tag tpdu m None d h = single_received_stays base r tag tpdu d h
-deliver_received_stays base r tag tpdu m (Some k) d h =
-    part_received_stays base r tag tpdu (group_of m.originating_address k) k.number (mark_of (group_of m.originating_address k) d.rows.marks) d h
-
-note_stays : (base : ℕ) (s : ℕ) (o : Option OutEntry) (d : Draft) → Stays base d → Stays base (note s o d)
-note_stays base s None d h = h
-note_stays base s (Some o) d h = put_out_stays base (record o { status = Some s }) d h
-
-tpdu_received_stays : (base : ℕ) (r : ℕ) (tag : Holder) (tpdu : List ℕ) (t : Result Down TpduFault) (d : Draft) → Stays base d → Stays base (tpdu_received r tag tpdu t d)
-tpdu_received_stays base r tag tpdu (Ok (Deliver m)) d h = deliver_received_stays base r tag tpdu m (key_of m) d h
-tpdu_received_stays base r tag tpdu (Ok (StatusReport s)) d h =
-    accept_stays base r tag tpdu (note s.status (reported s d.rows.outbox) d) (note_stays base s.status (reported s d.rows.outbox) d h)
-tpdu_received_stays base r tag tpdu (Ok (SubmitReport s)) d h = h
-tpdu_received_stays base r tag tpdu (Err f) d h = h
-
-data_received_stays : (base : ℕ) (r : ℕ) (tag : Holder) (tpdu : List ℕ) (d : Draft) → Stays base d → Stays base (data_received r tag tpdu d)
-data_received_stays base r tag tpdu d h =
-    cond_both (is_double tpdu (row_at last_key r d.rows.last)) (acknowledge r tag d) (tpdu_received r tag tpdu (down_at InData tpdu) d) (λ (z : Draft). Stays base z)
-    (λ t. h) (λ t. tpdu_received_stays base r tag tpdu (down_at InData tpdu) d h)
-
-unit_received_stays : (base : ℕ) (tag : Holder) (unit : List ℕ) (u : Result Rp RelayFault) (d : Draft) → Stays base d → Stays base (unit_received tag unit u d)
-unit_received_stays base tag unit (Ok (DataUnit r c tpdu)) d h = data_received_stays base r tag tpdu d h
-unit_received_stays base tag unit (Ok (AckUnit r tpdu)) d h = h
-unit_received_stays base tag unit (Ok (ErrorUnit r c tpdu)) d h = h
-unit_received_stays base tag unit (Ok (Smma r)) d h = h
-unit_received_stays base tag unit (Err f) d h = h
-
--- ---- the outbox
-
-notice_failed_stays : (base : ℕ) (n : Notice) (d : Draft) → Stays base d → Stays base (notice_failed n d)
-notice_failed_stays base n d h = cond_both n.is_second _ _ (λ (z : Draft). Stays base z) (λ t. h) (λ t. h)
-
-notice_ended_stays : (base : ℕ) (e : Ending) (n : Notice) (d : Draft) → Stays base d → Stays base (notice_ended e n d)
-notice_ended_stays base AcknowledgedEnd n d h = h
-notice_ended_stays base (RefusedEnd cause tpdu) n d h = notice_failed_stays base n d h
-notice_ended_stays base WrongEnd n d h = notice_failed_stays base n d h
-notice_ended_stays base LostEnd n d h = notice_failed_stays base n d h
-
-notice_concluded_stays : (base : ℕ) (e : Ending) (n : Option Notice) (d : Draft) → Stays base d → Stays base (notice_concluded e n d)
-notice_concluded_stays base e None d h = h
-notice_concluded_stays base e (Some n) d h = notice_ended_stays base e n d h
-
-entry_concluded_stays : (base : ℕ) (e : Ending) (o : Option OutEntry) (d : Draft) → Stays base d → Stays base (entry_concluded e o d)
-entry_concluded_stays base e None d h = h
-entry_concluded_stays base e (Some o) d h = put_out_stays base (settled d.moment (verdict_of e) o) d h
-
-holder_concluded_stays : (base : ℕ) (e : Ending) (k : Holder) (d : Draft) → Stays base d → Stays base (holder_concluded e k d)
-holder_concluded_stays base e (PartHolder i n) d h = h
-holder_concluded_stays base e (Report i) d h = h
-holder_concluded_stays base e (EntryHolder n) d h = entry_concluded_stays base e (row_at out_key n d.rows.outbox) d h
-holder_concluded_stays base e (Memory n) d h = notice_concluded_stays base e (row_at notice_key n d.notices) d h
-
-lapse_rows_stays : (base : ℕ) (os : List OutEntry) (d : Draft) → Stays base d → Stays base (lapse_rows os d)
-lapse_rows_stays base [] d h = h
-lapse_rows_stays base (o ∷ os) d h =
-    lapse_rows_stays base os _ (cond_both (is_sending o.state) (put_out (lost o) d) d (λ (z : Draft). Stays base z) (λ t. put_out_stays base (lost o) d h) (λ t. h))
-
-lapse_stays : (base : ℕ) (d : Draft) → Stays base d → Stays base (lapse d)
-lapse_stays base d h =
-    cond_both d.is_recovered (lapse_rows d.rows.outbox (record d { is_recovered = false })) d (λ (z : Draft). Stays base z)
-    (λ t. lapse_rows_stays base d.rows.outbox (record d { is_recovered = false }) h) (λ t. h)
-
-offer_entry_stays : (base : ℕ) (o : Option OutEntry) (d : Draft) → Stays base d → Stays base (offer_entry o d)
-offer_entry_stays base None d h = h
-offer_entry_stays base (Some o) d h = h
-
-offer_message_stays : (base : ℕ) (d : Draft) → Stays base d → Stays base (offer_message d)
-offer_message_stays base d h = offer_entry_stays base (first_due d.moment d.rows.outbox) d h
-
-first_notice_stays : (base : ℕ) (n r : ℕ) (d : Draft) → Stays base d → Stays base (first_notice n r d)
-first_notice_stays base n r d h = put_counters_stays base (record d.rows.counters { notice = n + 1; reference = (r + 1) % 256 }) d h
-
-offer_wanted_stays : (base : ℕ) (d : Draft) → Stays base d → Stays base (offer_wanted d)
-offer_wanted_stays base d h =
-    let r = next_free d.rows.counters.reference (held_references d.notices d.rows.outbox) in
-    cond_both (is_notice_next d) (first_notice d.rows.counters.notice r d) (offer_message d) (λ (z : Draft). Stays base z)
-    (λ t. first_notice_stays base d.rows.counters.notice r d h) (λ t. offer_message_stays base d h)
-
-offer_after_stays : (base : ℕ) (n : Option Notice) (d : Draft) → Stays base d → Stays base (offer_after n d)
-offer_after_stays base None d h = offer_wanted_stays base d h
-offer_after_stays base (Some n) d h = h
-
-offer_stays : (base : ℕ) (d : Draft) → Stays base d → Stays base (offer d)
-offer_stays base d h =
-    cond_both (is_busy d.links) d (offer_after (first_fired d.moment d.notices) d) (λ (z : Draft). Stays base z)
-    (λ t. h) (λ t. offer_after_stays base (first_fired d.moment d.notices) d h)
-
-follow_stays : (base : ℕ) (d : Draft) → Stays base d → Stays base (follow d)
-follow_stays base d h = offer_stays base (lapse d) (lapse_stays base d h)
-
--- ---- acts of the owner
-
-write_part_stays : (base : ℕ) (to : Address) (report is_long : Bool) (p : PartOf) (d : Draft) → Stays base d → Stays base (write_part to report is_long p d)
-write_part_stays base to report is_long p d h = h
-
-write_parts_stays : (base : ℕ) (to : Address) (report is_long : Bool) (ps : List PartOf) (d : Draft) → Stays base d → Stays base (write_parts to report is_long ps d)
-write_parts_stays base to report is_long [] d h = h
-write_parts_stays base to report is_long (p ∷ ps) d h =
-    write_parts_stays base to report is_long ps (write_part to report is_long p d) (write_part_stays base to report is_long p d h)
-
-count_split_stays : (base : ℕ) (is_long : Bool) (d : Draft) → Stays base d → Stays base (count_split is_long d)
-count_split_stays base false d h = h
-count_split_stays base true d h = h
-
-freed_stays : (base : ℕ) (d : Draft) → Stays base d → Stays base (freed d)
-freed_stays base d h =
-    cond_both d.rows.counters.is_memory_full (want_notice (put_counters (record d.rows.counters { is_memory_full = false }) d)) d (λ (z : Draft). Stays base z)
-    (λ t. put_counters_stays base (record d.rows.counters { is_memory_full = false }) d h) (λ t. h)
-
-acted_stays : (base : ℕ) (r : Result Draft Refusal) → StaysIfDone base r → StaysIfDone base (acted r)
-acted_stays base (Ok d) h = follow_stays base d h
-acted_stays base (Err f) h = tt
-
-write_to_stays : (base : ℕ) (report : Bool) (ps : List PartOf) (to : Result Address AddressError) (d : Draft) → Stays base d → StaysIfDone base (write_to report ps to d)
-write_to_stays base report ps (Err f) d h = tt
-write_to_stays base report ps (Ok to) d h =
-    cond_both (fits_outbox (length ps) d) (Ok (written to report ps d)) (Err OutboxFull) (λ (z : Result Draft Refusal). StaysIfDone base z)
-    (λ t. write_parts_stays base to report (nat_lt 1 (length ps)) ps _ (count_split_stays base (nat_lt 1 (length ps)) d h)) (λ t. tt)
-
-write_split_stays : (base : ℕ) (to : List ℕ) (report : Bool) (ps : Result (List PartOf) SplitError) (d : Draft) → Stays base d → StaysIfDone base (write_split to report ps d)
-write_split_stays base to report (Err f) d h = tt
-write_split_stays base to report (Ok ps) d h = write_to_stays base report ps (address_of 1 1 to) d h
-
-delete_out_stays : (base : ℕ) (n : ℕ) (o : Option OutEntry) (d : Draft) → Stays base d → StaysIfDone base (delete_out n o d)
-delete_out_stays base n None d h = tt
-delete_out_stays base n (Some o) d h =
-    cond_both (is_unfinished o.state) (Err StillOpen) (Ok (remove_out n d)) (λ (z : Result Draft Refusal). StaysIfDone base z) (λ t. tt) (λ t. remove_out_stays base n d h)
-
-delete_in_stays : (base : ℕ) (n : ℕ) (e : Option Entry) (d : Draft) → Stays base d → StaysIfDone base (delete_in n e d)
-delete_in_stays base n None d h = delete_out_stays base n (row_at out_key n d.rows.outbox) d h
-delete_in_stays base n (Some e) d h =
-    cond_both (is_open_part e.message) (Err StillOpen) (Ok (freed (remove_entry n d))) (λ (z : Result Draft Refusal). StaysIfDone base z)
-    (λ t. tt) (λ t. freed_stays base (remove_entry n d) (remove_entry_stays base n d h))
-
-discard_members_stays : (base : ℕ) (n : ℕ) (g : Group) (es : List Entry) (d : Draft) → Stays base d → StaysIfDone base (discard_members n g es d)
-discard_members_stays base n g es d h =
-    cond_both (first_number es == n) _ (Err NoEntry) (λ (z : Result Draft Refusal). StaysIfDone base z)
-    (λ t. cond_both (nat_lt (length d.rows.marks) 64) (Ok (discard_group n g es d)) (Err TooManyDiscarded) (λ (z : Result Draft Refusal). StaysIfDone base z)
-    (λ u. freed_stays base _ (put_mark_stays base (record { number = n; group = g; seen = part_numbers es }) (drop_all es d) (drop_all_stays base es d h))) (λ u. tt))
-    (λ t. tt)
-
-discard_in_stays : (base : ℕ) (n : ℕ) (m : Message) (d : Draft) → Stays base d → StaysIfDone base (discard_in n m d)
-discard_in_stays base n (Single tpdu) d h = tt
-discard_in_stays base n (Part g k tpdu) d h = discard_members_stays base n g (members g d.rows.entries) d h
-discard_in_stays base n (Joined source content) d h = tt
-
-discard_at_stays : (base : ℕ) (n : ℕ) (e : Option Entry) (d : Draft) → Stays base d → StaysIfDone base (discard_at n e d)
-discard_at_stays base n None d h = tt
-discard_at_stays base n (Some e) d h = discard_in_stays base n e.message d h
+moves_stand : (base : ℕ) → KeptByMoves (stands base)
+moves_stand base = record {
+  entry_put = λ e d h. h;
+  entry_removed = λ n d h. h;
+  last_put = λ l d h. h;
+  out_put = λ o d h. h;
+  out_removed = λ n d h. h;
+  mark_put = λ m d h. h;
+  mark_removed = λ n d h. h;
+  counters_put = λ c d h. h;
+}
 
 -- ---- events
 
-went_up_stays : (base : ℕ) (tag : Holder) (up : Option Upward) (d : Draft) → Stays base d → Stays base (went_up tag up d)
-went_up_stays base tag None d h = h
-went_up_stays base tag (Some (Opened unit)) d h = unit_received_stays base tag unit (unit_at unit) d h
-went_up_stays base tag (Some (Ended transfer ending)) d h = holder_concluded_stays base ending transfer.tag d h
-
-timed_out_stays : (base : ℕ) (up : Option Upward) (d : Draft) → Stays base d → Stays base (timed_out up d)
-timed_out_stays base None d h = h
-timed_out_stays base (Some (Opened unit)) d h = h
-timed_out_stays base (Some (Ended transfer ending)) d h = holder_concluded_stays base ending transfer.tag d h
-
 pub frame_stays : (octets : List ℕ) (tag : Holder) (c : Core) → Stays c.moment (frame_received octets tag c)
-frame_stays octets tag c =
-    let turn : Turn = taken octets (link_of (draft_of c)) in
-    follow_stays c.moment (frame_heard tag turn (draft_of c)) (went_up_stays c.moment tag turn.out.up (with_turn turn (draft_of c)) refl)
+frame_stays octets tag c = frame_keeps (stands c.moment) (moves_stand c.moment) octets tag c refl
 
 pub tick_stays : (now : ℕ) (c : Core) → Stays (max c.moment now) (ticked now c)
-tick_stays now c =
-    let d : Draft = at_moment now (draft_of c) in
-    let turn : Turn = fired d.moment (link_of d) in
-    follow_stays (max c.moment now) (timers_fired turn d) (timed_out_stays (max c.moment now) turn.out.up (with_turn turn d) refl)
+tick_stays now c = tick_keeps (stands (max c.moment now)) (moves_stand (max c.moment now)) now c refl
+
+-- an event that may be refused
+if_done : (base : ℕ) (r : Result Draft Refusal) → HoldsIfDone (stands base) r → StaysIfDone base r
+if_done base (Ok d) h = h
+if_done base (Err refusal) h = tt
 
 pub write_stays : (text to : List ℕ) (report : Bool) (c : Core) → StaysIfDone c.moment (wrote text to report c)
-write_stays text to report c =
-    acted_stays c.moment (write text to report (draft_of c))
-    (write_split_stays c.moment to report (split_of (content_of_text text) c.rows.counters.concat_reference) (draft_of c) refl)
+write_stays text to report c = if_done c.moment (wrote text to report c) (write_keeps (stands c.moment) (moves_stand c.moment) text to report c refl)
 
 pub delete_stays : (n : ℕ) (c : Core) → StaysIfDone c.moment (deleted n c)
-delete_stays n c = acted_stays c.moment (delete n (draft_of c)) (delete_in_stays c.moment n (row_at entry_key n c.rows.entries) (draft_of c) refl)
+delete_stays n c = if_done c.moment (deleted n c) (delete_keeps (stands c.moment) (moves_stand c.moment) n c refl)
 
 pub discard_stays : (n : ℕ) (c : Core) → StaysIfDone c.moment (discarded n c)
-discard_stays n c = acted_stays c.moment (discard n (draft_of c)) (discard_at_stays c.moment n (row_at entry_key n c.rows.entries) (draft_of c) refl)
+discard_stays n c = if_done c.moment (discarded n c) (discard_keeps (stands c.moment) (moves_stand c.moment) n c refl)

@@ -2,7 +2,7 @@
 use sms_base::{Address, Digits, FinalState, MessageId, Moment};
 
 /// What a report says of a message that ended.
-#[derive(Clone, Copy, Debug, PartialEq, Eq)]
+#[derive(Clone, Copy, PartialEq, Eq)]
 pub struct Final {
     /// The message.
     pub id: MessageId,

@@ -12,7 +12,7 @@ use std::alloc::{AllocError, Global};
 use std::marker::Model;
 
 /// The deliver_sm by which an application learns how its message ended, seen by contracts as that message.
-#[derive(Debug, Drop)]
+#[derive(Drop)]
 pub struct Receipt {
     source: Address,
     source_text: Octets,

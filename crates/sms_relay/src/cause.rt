@@ -3,7 +3,7 @@ ghost use Rattle.std.specs.Prelude.{◌≡◌};
 ghost use Rattle.sms_relay.specs.Cause.{number_of, cause_of};
 
 /// Why a transfer failed. `number` has the one table of the numbers, 0 to 127.
-#[derive(Clone, Copy, Debug, PartialEq, Eq)]
+#[derive(Clone, Copy, PartialEq, Eq)]
 pub enum RpCause {
     UnassignedNumber,
     OperatorDeterminedBarring,

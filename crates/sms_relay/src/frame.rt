@@ -6,7 +6,7 @@ use sms_base::OctetView;
 ///
 /// `reference` is the RP-Message Reference, by which an answer is matched to what it answers. A `unit` is a TPDU
 /// of 0 to 255 octets, passed unread.
-#[derive(Debug, Drop)]
+#[derive(Drop)]
 pub enum Rp<'a> {
     /// RP-DATA. `centre` is the address value of the service centre, 2 to 11 octets: the type octet and the
     /// digits, passed unread. It is the destination upwards and the originator downwards; the address of the

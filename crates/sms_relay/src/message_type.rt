@@ -3,7 +3,7 @@ ghost use Rattle.std.specs.Prelude.{◌≡◌};
 ghost use Rattle.sms_relay.specs.MessageType.{type_octet, type_of};
 
 /// Which unit it is and which way it is sent. `octet` has the one table of the octets.
-#[derive(Clone, Copy, Debug, PartialEq, Eq)]
+#[derive(Clone, Copy, PartialEq, Eq)]
 pub(crate) enum MessageType {
     DataUp,
     DataDown,

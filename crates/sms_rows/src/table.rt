@@ -313,7 +313,7 @@ pub fn rises<T: Row>(rows: &[T]) -> bool
 }
 
 // The numbers of keys from one to another.
-#[derive(Clone, Copy, Debug)]
+#[derive(Clone, Copy)]
 struct KeyRange {
     low: u128,
     high: u128,

@@ -4,14 +4,14 @@ use crate::text::TextView;
 use sms_base::{Moment, OctetView};
 
 /// The centre, or the handset of that number. Whether there is such a handset is judged where the event is played.
-#[derive(Debug, Drop)]
+#[derive(Drop)]
 pub enum EventSide<'a> {
     Centre,
     Handset(OctetView<'a>),
 }
 
 /// What an application submits.
-#[derive(Debug, Drop)]
+#[derive(Drop)]
 pub struct Submission<'a> {
     /// The name of its account.
     pub name: OctetView<'a>,
@@ -30,7 +30,7 @@ pub struct Submission<'a> {
 }
 
 /// What is done to the network, to one of its sides or by an application or an owner.
-#[derive(Debug, Drop)]
+#[derive(Drop)]
 pub enum Act<'a> {
     Submit(Submission<'a>),
     /// The text of the message's id, as it was written.
@@ -66,14 +66,14 @@ pub enum Act<'a> {
 }
 
 /// Where an act was stopped: before its store call, or after it.
-#[derive(Clone, Copy, Debug, PartialEq, Eq)]
+#[derive(Clone, Copy, PartialEq, Eq)]
 pub enum StopPoint {
     Before,
     After,
 }
 
 /// An event of a script.
-#[derive(Debug, Drop)]
+#[derive(Drop)]
 pub enum WorldEvent<'a> {
     Whole(Act<'a>),
     Stopped(StopPoint, Act<'a>),

@@ -29,7 +29,7 @@ fn spell(digits: &[u8]) -> bool
 }
 
 /// Octets that are spelled in hexadecimal digits, seen by contracts as the octets.
-#[derive(Debug, Drop)]
+#[derive(Drop)]
 pub struct HexView<'a> {
     digits: &'a [u8],
 }

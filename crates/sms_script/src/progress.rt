@@ -12,7 +12,7 @@ pub(crate) const MOST_LINES: u64 = 20_000;
 const MOST_EVENTS: u64 = 10_000;
 
 /// Which line is next.
-#[derive(Clone, Copy, Debug, PartialEq, Eq)]
+#[derive(Clone, Copy, PartialEq, Eq)]
 pub(crate) enum Stage {
     /// The line of the start.
     Start,
@@ -54,7 +54,7 @@ fn events_after(events: u64, line: &Line<'_>) -> Result<u64, LineFault>
 }
 
 /// How far a script is read.
-#[derive(Clone, Copy, Debug)]
+#[derive(Clone, Copy)]
 pub(crate) struct Progress {
     /// The number of the next line, from 1.
     pub(crate) number: u64,

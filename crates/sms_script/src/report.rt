@@ -26,7 +26,7 @@ pub use sms_centre_rows::report_lines::{MessageState, ReceiptRow, ReportedMessag
 use std::alloc::{AllocError, Global};
 
 /// The first event that breaks a premise of the claims.
-#[derive(Clone, Copy, Debug, PartialEq, Eq)]
+#[derive(Clone, Copy, PartialEq, Eq)]
 pub enum Broken {
     /// A frame is handed over whose reference is no longer its holder's.
     Timely(u64),
@@ -35,7 +35,7 @@ pub enum Broken {
 }
 
 /// What a script led to. Each list is in the order in which it is printed.
-#[derive(Debug, Drop)]
+#[derive(Drop)]
 pub struct Report {
     /// By event.
     pub answers: Listed<Answer>,

@@ -11,7 +11,7 @@ pub struct AccountSetup<'a> {
 }
 
 /// A handset: the digits of its number, and how many parts it can store.
-#[derive(Debug, Drop)]
+#[derive(Drop)]
 pub struct HandsetSetup<'a> {
     pub number: OctetView<'a>,
     pub slots: u64,

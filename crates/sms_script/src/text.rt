@@ -78,7 +78,7 @@ fn is_text(digits: &[u8]) -> bool
 }
 
 /// A text that is spelled in hexadecimal digits, seen by contracts as its octets in UTF-8.
-#[derive(Debug, Drop)]
+#[derive(Drop)]
 pub struct TextView<'a> {
     spelling: HexView<'a>,
 }

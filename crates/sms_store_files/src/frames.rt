@@ -13,7 +13,7 @@ const FRAME_HEAD: usize = 24;
 const FRONT: usize = 16;
 
 /// A frame of the log's own: one with its salts.
-#[derive(Clone, Copy, Debug)]
+#[derive(Clone, Copy)]
 pub struct OwnFrame {
     /// So many frames are before it.
     pub place: usize,

@@ -19,7 +19,7 @@ const LEAST: usize = 56;
 const COUNT_PAGE: u32 = 0xff00_0000;
 
 /// What a log says.
-#[derive(Clone, Copy, Debug, PartialEq, Eq)]
+#[derive(Clone, Copy, PartialEq, Eq)]
 pub enum LogFinding {
     /// There is none, or no more than a part of its head.
     Missing,
@@ -38,7 +38,7 @@ pub enum LogFinding {
 }
 
 /// What a log says, and by how many frames.
-#[derive(Clone, Copy, Debug)]
+#[derive(Clone, Copy)]
 pub struct LogJudgement {
     pub finding: LogFinding,
     /// So many frames a start takes: those up to the last whole commit.

@@ -3,7 +3,7 @@ ghost use Rattle.std.specs.Prelude.{◌≡◌, ◌≤◌, ◌^◌, IfNone, IfSom
 ghost use Rattle.sms_store_files.specs.Marking.{mark_of, number_of};
 
 /// What a store's file says of the runs that had it open.
-#[derive(Clone, Copy, Debug, PartialEq, Eq)]
+#[derive(Clone, Copy, PartialEq, Eq)]
 pub enum Mark {
     /// Nothing.
     Unmarked,

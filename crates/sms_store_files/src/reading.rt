@@ -26,7 +26,7 @@ pub(crate) const APPLICATION_AT: usize = 68;
 pub(crate) const APPLICATION: u32 = 0x534d_5343;
 
 /// Why the files were not read or written.
-#[derive(Clone, Copy, Debug, PartialEq, Eq)]
+#[derive(Clone, Copy, PartialEq, Eq)]
 pub enum FilesFault {
     /// There was no memory.
     NoMemory,
@@ -68,7 +68,7 @@ impl From<Error> for FilesFault {
 }
 
 /// What both files say before they are taken.
-#[derive(Clone, Copy, Debug)]
+#[derive(Clone, Copy)]
 pub struct FilesFinding {
     pub mark: Mark,
     pub log: LogJudgement,

@@ -6,7 +6,7 @@ use crate::judging::LogFinding;
 use crate::marking::Mark;
 
 /// Whether a run may start over a store, and why not.
-#[derive(Clone, Copy, Debug, PartialEq, Eq)]
+#[derive(Clone, Copy, PartialEq, Eq)]
 pub enum StartVerdict {
     /// Both files are as a run left them.
     Taken,

@@ -5,14 +5,14 @@ ghost use Rattle.sms_store_files.specs.declared.watching.OpenedFiles.{OpenedFile
 ghost use Rattle.sms_store_files.specs.Watching.{AreOpened, AreStill, IsOpened};
 
 /// A file as the system numbers it: its device, and its number there.
-#[derive(Clone, Copy, Debug)]
+#[derive(Clone, Copy)]
 pub struct FileNumber {
     pub device: u64,
     pub number: u64,
 }
 
 /// What the system says of a store's two files: their numbers, where they are there, and how long the log is.
-#[derive(Clone, Copy, Debug)]
+#[derive(Clone, Copy)]
 pub struct FilesLook {
     pub file: Option<FileNumber>,
     pub log: Option<FileNumber>,
@@ -20,7 +20,7 @@ pub struct FilesLook {
 }
 
 /// The two files that a run opened.
-#[derive(Clone, Copy, Debug)]
+#[derive(Clone, Copy)]
 pub struct OpenedFiles {
     pub file: FileNumber,
     pub log: FileNumber,

@@ -3,7 +3,7 @@ ghost use Rattle.std.specs.Prelude.{◌≡◌};
 ghost use Rattle.sms_tpdu.specs.Codes.{cause_octet, status_octet};
 
 /// A TP-FCS that this centre or its handsets give (3GPP TS 23.040 9.2.3.22).
-#[derive(Clone, Copy, Debug, PartialEq, Eq)]
+#[derive(Clone, Copy, PartialEq, Eq)]
 pub enum FailureCause {
     ServiceCentreBusy,
     ServiceCentreSystemFailure,
@@ -37,7 +37,7 @@ impl FailureCause {
 }
 
 /// A TP-ST that this centre gives (3GPP TS 23.040 9.2.3.15).
-#[derive(Clone, Copy, Debug, PartialEq, Eq)]
+#[derive(Clone, Copy, PartialEq, Eq)]
 pub enum Status {
     /// The handset received the message.
     Received,

@@ -17,7 +17,7 @@ use std::alloc::{AllocError, Global};
 const FIXED: usize = 23;
 
 /// A message on its way to a handset.
-#[derive(Debug, Drop)]
+#[derive(Drop)]
 pub struct Deliver<'a> {
     /// TP-MMS: no more messages wait for this handset.
     pub no_more_messages_to_send: bool,

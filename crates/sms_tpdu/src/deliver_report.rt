@@ -15,7 +15,7 @@ use std::alloc::{AllocError, Global};
 const FIXED: usize = 6;
 
 /// A handset's answer to a DELIVER or a STATUS-REPORT.
-#[derive(Debug, Drop)]
+#[derive(Drop)]
 pub struct DeliverReport<'a> {
     /// TP-FCS: why the message was refused, in RP-ERROR alone.
     pub failure_cause: Option<u8>,

@@ -13,7 +13,7 @@ use sms_base::Octets;
 use std::alloc::{AllocError, Global};
 
 /// A TPDU from the service centre to a handset.
-#[derive(Debug, Drop)]
+#[derive(Drop)]
 pub enum Down<'a> {
     /// In RP-DATA.
     Deliver(Deliver<'a>),

@@ -12,7 +12,7 @@ use sms_base::{Cursor, Octets};
 use std::alloc::AllocError;
 
 /// The fields that the parameter indicator of a report announces.
-#[derive(Debug, Drop)]
+#[derive(Drop)]
 pub struct Parameters<'a> {
     /// TP-PID.
     pub protocol_identifier: Option<u8>,

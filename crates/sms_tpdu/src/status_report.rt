@@ -18,7 +18,7 @@ use std::alloc::{AllocError, Global};
 const FIXED: usize = 33;
 
 /// How a message ended, for its sender.
-#[derive(Debug, Drop)]
+#[derive(Drop)]
 pub struct StatusReport<'a> {
     /// TP-MMS: no more messages wait for this handset.
     pub no_more_messages_to_send: bool,

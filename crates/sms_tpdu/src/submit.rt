@@ -19,7 +19,7 @@ use std::alloc::{AllocError, Global};
 const FIXED: usize = 24;
 
 /// A message that a handset sends.
-#[derive(Debug, Drop)]
+#[derive(Drop)]
 pub struct Submit<'a> {
     /// TP-RD: a message with this reference, sender and destination that is still held is a duplicate.
     pub reject_duplicates: bool,

@@ -16,7 +16,7 @@ use std::alloc::{AllocError, Global};
 const FIXED: usize = 13;
 
 /// The service centre's answer to a SUBMIT.
-#[derive(Debug, Drop)]
+#[derive(Drop)]
 pub struct SubmitReport<'a> {
     /// TP-FCS: why the SUBMIT was refused, in RP-ERROR alone.
     pub failure_cause: Option<u8>,

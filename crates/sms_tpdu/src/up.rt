@@ -12,7 +12,7 @@ use sms_base::Octets;
 use std::alloc::{AllocError, Global};
 
 /// A TPDU from a handset to the service centre.
-#[derive(Debug, Drop)]
+#[derive(Drop)]
 pub enum Up<'a> {
     /// In RP-DATA.
     Submit(Submit<'a>),

@@ -12,7 +12,7 @@ use sms_base::{Cursor, OctetView, Octets};
 use std::alloc::AllocError;
 
 /// User data as received: its length in septets of the default alphabet or else in octets, and its octets.
-#[derive(Debug, Drop)]
+#[derive(Drop)]
 pub struct UserData<'a> {
     /// How many septets, header and fill included, or how many octets.
     pub length: u8,

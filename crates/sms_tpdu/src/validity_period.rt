@@ -20,7 +20,7 @@ const LONGEST_SECONDS: u64 = 38_102_400;
 const LAST_SECOND: u64 = 4_102_444_799;
 
 /// How long a message is to be kept.
-#[derive(Clone, Copy, Debug, PartialEq, Eq)]
+#[derive(Clone, Copy, PartialEq, Eq)]
 pub enum ValidityPeriod {
     /// As long as the service centre keeps any.
     NotPresent,

@@ -2,7 +2,7 @@
 use std::net::SocketAddr;
 
 /// Who is at the other end.
-#[derive(Clone, Copy, Debug, PartialEq, Eq)]
+#[derive(Clone, Copy, PartialEq, Eq)]
 pub enum PeerKind {
     /// An application, by SMPP.
     Application,

@@ -21,7 +21,7 @@ impl fmt::Debug for LinkSecret {
 }
 
 /// Who may have the link of a number. All links of a server share one, in an `Arc`.
-#[derive(Debug, Drop)]
+#[derive(Drop)]
 pub enum LinkAccess {
     /// Whoever names it.
     Anyone,

@@ -5,7 +5,7 @@ use smpp_session::BindKind;
 use sms_base::Digits;
 
 /// How much an endpoint did.
-#[derive(Clone, Copy, Debug, PartialEq, Eq)]
+#[derive(Clone, Copy, PartialEq, Eq)]
 pub struct Counts {
     /// Requests of a session, or frames of a link, that were passed up.
     pub requests: u64,
@@ -20,7 +20,7 @@ pub struct Counts {
 }
 
 /// Why an endpoint left.
-#[derive(Clone, Copy, Debug, PartialEq, Eq)]
+#[derive(Clone, Copy, PartialEq, Eq)]
 pub enum LeaveReason {
     /// The other side ended the connection, or it failed.
     Closed,
@@ -43,7 +43,7 @@ pub enum LeaveReason {
 }
 
 /// What an operator may want to know of an endpoint. It has no password and no text.
-#[derive(Clone, Copy, Debug, PartialEq, Eq)]
+#[derive(Clone, Copy, PartialEq, Eq)]
 pub enum Note {
     /// The account at this place is bound.
     Bound(u8, BindKind),

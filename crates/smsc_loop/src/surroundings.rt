@@ -6,7 +6,7 @@ use smpp_session::FullAccounts;
 use sms_centre_spec::jobs::Job;
 
 /// What is ordered of the endpoint at a seat.
-#[derive(Clone, Copy, Debug, PartialEq, Eq)]
+#[derive(Clone, Copy, PartialEq, Eq)]
 pub enum Order {
     /// The endpoint may stay.
     Stay,

@@ -6,7 +6,7 @@ ghost use Rattle.smsc_loop.specs.Reading.{octets_found, is_end, is_loss};
 use std::sync::Wait;
 
 /// What a look at a connection found.
-#[derive(Clone, Copy, Debug, PartialEq, Eq)]
+#[derive(Clone, Copy, PartialEq, Eq)]
 pub enum Found {
     /// Octets arrived: the piece.
     Some,

@@ -47,7 +47,7 @@ pub struct LinkBoard {
 }
 
 /// How often handsets refused something by this cause (3GPP TS 24.011 8.2.5.4).
-#[derive(Clone, Copy, Debug, PartialEq, Eq)]
+#[derive(Clone, Copy, PartialEq, Eq)]
 pub struct CauseCount {
     pub cause: u8,
     pub count: u64,

@@ -19,7 +19,7 @@ const TAKEN: u8 = 2;
 const TOLD: u8 = 3;
 
 /// What came of an order.
-#[derive(Clone, Copy, Debug, PartialEq, Eq)]
+#[derive(Clone, Copy, PartialEq, Eq)]
 pub enum OrderOutcome {
     /// What waits of the message is due now.
     Waits,

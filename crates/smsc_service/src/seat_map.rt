@@ -11,7 +11,7 @@ use sms_rows::table::{Key, Row};
 use std::alloc::{AllocError, Global};
 
 /// The seat of a handset's link.
-#[derive(Clone, Copy, Debug, PartialEq, Eq)]
+#[derive(Clone, Copy, PartialEq, Eq)]
 pub struct LinkSeat {
     pub seat: u32,
     pub handset: Digits,
@@ -26,7 +26,7 @@ impl Row for LinkSeat {
 }
 
 /// The seat at which a session of an account is bound.
-#[derive(Clone, Copy, Debug, PartialEq, Eq)]
+#[derive(Clone, Copy, PartialEq, Eq)]
 pub struct BoundSession {
     pub seat: u32,
     pub account: u8,

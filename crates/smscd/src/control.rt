@@ -39,7 +39,7 @@ const MOST_ANSWERED: usize = 1024;
 const DONE: &[u8] = b"done\n";
 
 /// What can be ordered.
-#[derive(Clone, Copy, Debug, PartialEq, Eq)]
+#[derive(Clone, Copy, PartialEq, Eq)]
 pub enum Command {
     /// The run ends in good order.
     Stop,

@@ -24,7 +24,7 @@ use std::alloc::Global;
 const MOST_STEPS: u32 = 2_000_000_000;
 
 /// How a run found its store.
-#[derive(Clone, Copy, Debug)]
+#[derive(Clone, Copy)]
 pub struct Begun {
     /// The numbers of the run begin behind so many steps.
     pub step: u32,

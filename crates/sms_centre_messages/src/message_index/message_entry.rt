@@ -9,7 +9,7 @@ use sms_base::{FinalState, MessageId, Moment, TypeOfNumber, Wish};
 use sms_rows::table::{Key, Row};
 
 /// Who submitted a message.
-#[derive(Clone, Copy, Debug, PartialEq, Eq)]
+#[derive(Clone, Copy, PartialEq, Eq)]
 pub enum OriginatorEntry {
     /// An application, by the place of its account's name.
     Application { account: usize },
@@ -18,7 +18,7 @@ pub enum OriginatorEntry {
 }
 
 /// A message that was accepted, with places for what it shares with others.
-#[derive(Clone, Copy, Debug, PartialEq, Eq)]
+#[derive(Clone, Copy, PartialEq, Eq)]
 pub struct MessageEntry {
     pub id: MessageId,
     pub originator: OriginatorEntry,

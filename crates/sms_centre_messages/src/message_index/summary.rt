@@ -10,7 +10,7 @@ use crate::message_index::index::MessageIndex;
 use sms_base::{Address, Digits, FinalState, MessageId};
 
 /// The source and the destination of a message, and how it ended.
-#[derive(Clone, Copy, Debug, PartialEq, Eq)]
+#[derive(Clone, Copy, PartialEq, Eq)]
 pub struct MessageSummary {
     pub id: MessageId,
     /// TP-OA of its parts.

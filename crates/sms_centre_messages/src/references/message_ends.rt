@@ -6,7 +6,7 @@ use sms_base::{Address, Digits};
 use sms_rows::interning::Number;
 
 /// The source of a message: TP-OA of its parts.
-#[derive(Clone, Copy, Debug, PartialEq, Eq, Hash)]
+#[derive(Clone, Copy, PartialEq, Eq, Hash)]
 pub struct Sender {
     /// The number of its type of number.
     pub type_of_number: u8,
@@ -16,7 +16,7 @@ pub struct Sender {
 }
 
 /// The source of a message and its destination, with a number of theirs: a reference, or 0.
-#[derive(Clone, Copy, Debug, PartialEq, Eq, Hash)]
+#[derive(Clone, Copy, PartialEq, Eq, Hash)]
 pub struct MessageEnds {
     pub source: Sender,
     pub handset: Number,

@@ -1,7 +1,7 @@
 //! What an operator may want to know of the link to a handset.
 
 /// What an operator may want to know of the link to a handset.
-#[derive(Clone, Copy, Debug, PartialEq, Eq)]
+#[derive(Clone, Copy, PartialEq, Eq)]
 pub struct LinkFigures {
     /// How many parts of messages and status reports wait for the handset.
     pub waiting: usize,

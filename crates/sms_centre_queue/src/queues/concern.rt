@@ -6,7 +6,7 @@ use sms_base::{Digits, Moment};
 use sms_rows::table::{Key, Row};
 
 /// A handset that an event concerns, by its place in the order in which the event walks over them.
-#[derive(Clone, Copy, Debug, PartialEq, Eq)]
+#[derive(Clone, Copy, PartialEq, Eq)]
 pub struct ConcernedHandset {
     /// The handset's place in the order of first mention, or its link's in the order in which links were first used; from
     /// 1.
@@ -24,7 +24,7 @@ impl Row for ConcernedHandset {
 }
 
 /// Why an event stops at a handset.
-#[derive(Clone, Copy, Debug, PartialEq, Eq)]
+#[derive(Clone, Copy, PartialEq, Eq)]
 pub enum Concern {
     /// A handset that was given a reference, whose line is ready and for which something is due.
     Offer(Moment),

@@ -26,18 +26,18 @@ use Rattle.sms_centre_spec.specs.SoundCore.{IsEvent, IsSoundCore}
 use Rattle.sms_centre_spec.proofs.EventLaws.{keeps_apart, keeps_rows}
 use Rattle.sms_centre_spec.proofs.PduFits.{event_gives}
 use Rattle.sms_centre_spec.proofs.SoundStores.{store_sound}
+use Rattle.sms_centre_spec.proofs.SteadyEvents.{event_leads_firm}
 use Rattle.sms_centre_reports.specs.awaited.Events.{IsNoAnswer}
 use Rattle.sms_centre_reports.specs.awaited.Moving.{moved_to}
 use Rattle.sms_centre_reports.proofs.awaited.AsDefined.{answered_as, bound_so, none_bound, unbound_as}
 use Rattle.sms_centre_reports.proofs.awaited.Awaiting.{all_sent, answers_keep, bind_keeps, ends_keep}
 use Rattle.sms_centre_reports.proofs.awaited.BindingsEvents.{cancel_by_bindings, frame_taken_bindings, lower_bindings, ordered_bindings, query_by_bindings, submit_by_bindings, ticked_bindings}
-use Rattle.sms_centre_reports.proofs.awaited.FirmEvents.{firm_event}
-use Rattle.sms_centre_reports.proofs.awaited.OpenStays.{OpenSince, Stay, open_firm, stay_same}
+use Rattle.sms_centre_reports.proofs.awaited.OpenStays.{OpenSince, Stay, open_enters, open_firm, stay_same}
 
 -- no event but an answer to a receipt closes one
 pub open_stays : (event : CentreEvent) (c : Core) → IsSoundCore c → IsEvent event → IsNoAnswer event → Stay c.rows.reports (core_of (happened event c)).rows.reports
 open_stays event c s is plain =
-    (firm_event (OpenSince c.rows.reports) (open_firm c.rows.reports) event c ((store_sound c.rows c.moment s.rows s.now s.moment).consistent, stay_same c.rows.reports) s.now (event_gives event c s is) plain).1
+    (event_leads_firm (OpenSince c.rows.reports) (open_firm c.rows.reports) (OpenSince c.rows.reports) (open_enters c.rows.reports) (λ s k. k) event c ((store_sound c.rows c.moment s.rows s.now s.moment).consistent, stay_same c.rows.reports) s.now (event_gives event c s is) (λ session id b e. absurd (subst IsNoAnswer e plain))).1
 
 -- ---- what is awaited is so over rows that keep it
 

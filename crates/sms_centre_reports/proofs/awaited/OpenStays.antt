@@ -28,13 +28,12 @@ use Rattle.sms_centre_reports.proofs.open_reports.Keeping.{no_status}
 use Rattle.sms_centre_spec.specs.Draft.{Store, handsets_in, messages_in, parts_in, reports_in, rows_of, with_message, with_part_at}
 use Rattle.sms_centre_spec.specs.MessageNumbers.{next_number}
 use Rattle.sms_centre_spec.specs.Ends.{end, is_wished, report_to, status_given}
-use Rattle.sms_centre_spec.specs.Consistent.{IsConsistent}
+use Rattle.sms_centre_spec.specs.Consistent.{IsConsistent, IsSubmission}
 use Rattle.sms_centre_spec.specs.Submitting.{accept, accept_as, accept_split, accept_under, enter, give_part, give_parts, part_given, reference_for}
 use Rattle.sms_centre_spec.proofs.Stages.{IfThere}
 use Rattle.sms_centre_spec.proofs.AcceptedConsistent.{then_there}
 use Rattle.sms_centre_spec.proofs.StagesConsistent.{part_far_consistent, consistent_steady}
-use Rattle.sms_centre_spec.proofs.Steady.{message_own}
-use Rattle.sms_centre_reports.proofs.awaited.Firm.{IsFirm}
+use Rattle.sms_centre_spec.proofs.Steady.{IsFirm, message_own, stays_closed}
 
 -- a receipt that is open is open still
 pub record Stay (before after : List ReportRow) : Type 0 where
@@ -134,10 +133,6 @@ end_stays base f m s k there pending stay =
 
 -- ---- a report is so far
 
-not_so : (b : Bool) → not b ≡ true → b ≡ false
-not_so true e = absurd cc
-not_so false e = refl
-
 one_report : (a b : ReportRow) → Some a ≡ Some b → a ≡ b
 one_report a b e = cc
 
@@ -168,18 +163,14 @@ far_stays base rows r q keys there how k = record {
       (cases_eq r.id id);
 }
 
-stays_closed : (r : ReportRow) (q : Progress) → (q.is_done ≡ r.progress.is_done) ⊎ (is_open_status r ≡ true) → q.is_done ≡ false → r.progress.is_done ≡ false
-stays_closed r q how e = ⊎_elim
-    (λ (f : q.is_done ≡ r.progress.is_done). sym f ∙ e)
-    (λ (f : is_open_status r ≡ true). not_so r.progress.is_done (and_parts (is_status r.kind) (not r.progress.is_done) f).1)
-    how
-
 -- ---- every stage
+
+pub open_enters : (base : List ReportRow) (u : Submission) (s : Store) → OpenSince base s → IsSubmission u → IfThere (OpenSince base) (accept u s)
+open_enters base u s k fit = both_there IsConsistent (λ (e : Store). Stay base (reports_in e)) (accept u s) (consistent_steady.accepted u s k.0 fit) (accept_leaves (λ (rows : List ReportRow). Stay base rows) u s k.1)
 
 pub open_firm : (base : List ReportRow) → IsFirm (OpenSince base)
 open_firm base = record {
   consistent = λ s k. k.0;
-  accepted = λ u s k fit. both_there IsConsistent (λ (e : Store). Stay base (reports_in e)) (accept u s) (consistent_steady.accepted u s k.0 fit) (accept_leaves (λ (rows : List ReportRow). Stay base rows) u s k.1);
   ended = λ f m s k there pending partly. (consistent_steady.ended f m s k.0 there pending partly, end_stays base f m s k.0 there pending k.1);
   settled = λ p m s k there of pending undone.
       let own : message_at m.id (messages_in s) ≡ Some m = message_own p.id m s of in

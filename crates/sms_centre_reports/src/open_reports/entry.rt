@@ -8,7 +8,7 @@ use sms_rows::table::{Key, Row};
 use std::alloc::AllocError;
 
 /// A report that was neither answered nor dropped, without its TPDU, which stays in the store.
-#[derive(Clone, Copy, Debug, PartialEq, Eq)]
+#[derive(Clone, Copy, PartialEq, Eq)]
 pub struct ReportEntry {
     pub id: MessageId,
     /// The report's place in the order in which reports were made.
@@ -36,7 +36,7 @@ impl Dated for ReportEntry {
 }
 
 /// A status report that waits for its handset, by its place.
-#[derive(Clone, Copy, Debug, PartialEq, Eq)]
+#[derive(Clone, Copy, PartialEq, Eq)]
 pub struct StatusEntry {
     pub place: u64,
     pub id: MessageId,
@@ -61,7 +61,7 @@ impl Dated for StatusEntry {
 }
 
 /// A receipt that waits for its application, by its place.
-#[derive(Clone, Copy, Debug, PartialEq, Eq)]
+#[derive(Clone, Copy, PartialEq, Eq)]
 pub struct ReceiptEntry {
     pub place: u64,
     pub id: MessageId,

@@ -9,7 +9,7 @@ use sms_rows::table::{Key, Row, Table};
 use std::alloc::AllocError;
 
 /// A report that was made, under its message.
-#[derive(Clone, Copy, Debug, PartialEq, Eq)]
+#[derive(Clone, Copy, PartialEq, Eq)]
 pub struct MessageReport {
     /// The message.
     pub id: MessageId,

@@ -7,7 +7,7 @@ use sms_base::{Address, Digits, FinalState, MessageId, Moment, Originator, Wish}
 use sms_rows::table::{Key, Row};
 
 /// A message that was accepted.
-#[derive(Debug, Drop)]
+#[derive(Drop)]
 pub struct MessageRow {
     pub id: MessageId,
     pub originator: Originator,

@@ -8,7 +8,7 @@ use sms_concat::ConcatKey;
 use sms_rows::table::{Key, Row};
 
 /// A short message of a message that was accepted.
-#[derive(Debug, Drop)]
+#[derive(Drop)]
 pub struct PartRow {
     pub id: MessageId,
     /// The part's number, from 1.

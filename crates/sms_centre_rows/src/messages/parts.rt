@@ -9,7 +9,7 @@ use sms_concat::ConcatKey;
 use sms_rows::table::{Key, Row};
 
 /// A part without its TPDU, which stays in the store.
-#[derive(Clone, Copy, Debug, PartialEq, Eq)]
+#[derive(Clone, Copy, PartialEq, Eq)]
 pub struct PartEntry {
     pub id: MessageId,
     /// The part's number, from 1.

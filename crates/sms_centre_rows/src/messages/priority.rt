@@ -6,7 +6,7 @@ use sms_base::MessageId;
 use sms_rows::table::{Key, Row};
 
 /// The priority of a message, 0 to 3.
-#[derive(Clone, Copy, Debug, PartialEq, Eq)]
+#[derive(Clone, Copy, PartialEq, Eq)]
 pub struct PriorityRow {
     pub id: MessageId,
     pub priority: u8,

@@ -7,7 +7,7 @@ use sms_base::{MessageId, Moment, Octets};
 use sms_rows::table::{Key, Row};
 
 /// How the end of a message is reported.
-#[derive(Debug, Drop)]
+#[derive(Drop)]
 pub enum ReportKind {
     /// To an application, by deliver_sm (SMPP v3.4 4.6).
     Receipt,
@@ -18,7 +18,7 @@ pub enum ReportKind {
 }
 
 /// A report to an originator of how a message ended.
-#[derive(Debug, Drop)]
+#[derive(Drop)]
 pub struct ReportRow {
     /// The report's place in the order in which reports were made, from 1.
     pub place: u64,

@@ -8,7 +8,7 @@ use sms_base::{Digits, Moment};
 use sms_rows::table::{Key, Row};
 
 /// A handset that was given a reference.
-#[derive(Clone, Copy, Debug, PartialEq, Eq)]
+#[derive(Clone, Copy, PartialEq, Eq)]
 pub struct HandsetRow {
     /// The handset's place in the order of first mention, from 1.
     pub place: u32,

@@ -7,7 +7,7 @@ use sms_link::{Link, Outgoing, Side};
 use std::alloc::{AllocError, Global};
 
 /// A frame to a handset.
-#[derive(Debug, Drop)]
+#[derive(Drop)]
 pub struct Sent {
     /// The handset's digits 0 to 9.
     pub handset: Digits,

@@ -2,7 +2,7 @@
 use sms_base::Moment;
 
 /// How far the transfer of a part or of a report is: all of a row that changes once it was made.
-#[derive(Clone, Copy, Debug, PartialEq, Eq)]
+#[derive(Clone, Copy, PartialEq, Eq)]
 pub struct Progress {
     /// Whether it was answered for good: a part acknowledged, a report answered or dropped.
     pub is_done: bool,

@@ -7,7 +7,7 @@ use sms_base::{MessageId, Moment};
 use sms_rows::table::{Key, Row};
 
 /// A part of a pending message that isn't done, or an open status report.
-#[derive(Clone, Copy, Debug, PartialEq, Eq)]
+#[derive(Clone, Copy, PartialEq, Eq)]
 pub struct QueuedPart {
     /// The message.
     pub id: MessageId,

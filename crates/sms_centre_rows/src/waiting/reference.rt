@@ -6,7 +6,7 @@ use sms_base::Moment;
 use sms_rows::table::{Key, Row};
 
 /// A reference that was given at a handset (3GPP TS 24.011 8.2.3).
-#[derive(Clone, Copy, Debug, PartialEq, Eq)]
+#[derive(Clone, Copy, PartialEq, Eq)]
 pub struct ReferenceRow {
     /// The place of the handset in the order of first mention.
     pub place: u32,

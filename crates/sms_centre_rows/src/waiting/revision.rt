@@ -7,7 +7,7 @@ use crate::waiting::progress::Progress;
 use sms_rows::table::{Key, Row};
 
 /// A change of a list whose rows keep a TPDU. Who amends a row needs to know nothing of its TPDU, which stays.
-#[derive(Debug, Drop)]
+#[derive(Drop)]
 pub enum Revision<T: Drop> {
     /// The row replaces that of its key, or is added where its key belongs.
     Put(T),

@@ -5,7 +5,7 @@ ghost use Rattle.sms_centre_spec.specs.jobs.Requests.{is_request};
 use sms_base::{Digits, MessageId, Octets};
 
 /// What the seat of a session or a link asks of the centre. An account is named by its place in the setup, from 0.
-#[derive(Debug, Drop)]
+#[derive(Drop)]
 pub enum Job {
     /// The session of the seat is bound, as a receiver or transceiver or as a transmitter alone.
     Bound { account: u8, receives: bool },

@@ -4,7 +4,7 @@ use sms_base::Octets;
 use sms_receipt::Final;
 
 /// What the seat of a session or a link gets.
-#[derive(Debug, Drop)]
+#[derive(Drop)]
 pub enum Reply {
     /// The answer to the oldest request of its session that has none yet.
     Answer(CentreAnswer),

@@ -6,7 +6,7 @@ use sms_base::Octets;
 use sms_rows::table::{Key, Row};
 
 /// A discarded group, until each of its parts has arrived.
-#[derive(Debug, Drop)]
+#[derive(Drop)]
 pub struct DiscardedGroup {
     /// The entry number of the group's first stored part.
     pub number: u32,

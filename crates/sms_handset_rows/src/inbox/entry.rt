@@ -8,7 +8,7 @@ use sms_concat::{ConcatReference, Content};
 use sms_rows::table::{Key, Row};
 
 /// What ties the parts of one long message together at a handset (3GPP TS 23.040 9.2.3.24.1).
-#[derive(Clone, Copy, Debug, PartialEq, Eq)]
+#[derive(Clone, Copy, PartialEq, Eq)]
 pub struct Group {
     /// The whole address that the parts are from.
     pub source: Address,
@@ -19,7 +19,7 @@ pub struct Group {
 }
 
 /// What an entry holds.
-#[derive(Debug, Drop)]
+#[derive(Drop)]
 pub enum Message {
     /// A DELIVER as received, 1 to 255 octets.
     Single {
@@ -40,7 +40,7 @@ pub enum Message {
 }
 
 /// An entry of the inbox.
-#[derive(Debug, Drop)]
+#[derive(Drop)]
 pub struct Entry {
     /// The entry's number, 1 to 4294967294. It is given once and to no entry of the outbox.
     pub number: u32,

@@ -8,7 +8,7 @@ use sms_rows::table::{Key, Row};
 use sms_tpdu::same_message;
 
 /// The TPDU that was accepted last under a reference.
-#[derive(Debug, Drop)]
+#[derive(Drop)]
 pub struct LastAccepted {
     /// The reference of the RP-DATA.
     pub reference: u8,

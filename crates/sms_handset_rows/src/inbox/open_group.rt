@@ -9,7 +9,7 @@ use sms_concat::Part;
 use sms_concat::joiner::Joiner;
 
 /// A stored part of an open group.
-#[derive(Clone, Copy, Debug, PartialEq, Eq)]
+#[derive(Clone, Copy, PartialEq, Eq)]
 pub struct StoredPart {
     /// The number of its entry.
     pub entry: u32,
@@ -18,7 +18,7 @@ pub struct StoredPart {
 }
 
 /// An open group with its stored parts, those of the lower entry numbers first.
-#[derive(Debug, Drop)]
+#[derive(Drop)]
 pub struct OpenGroup {
     pub group: Group,
     pub parts: Listed<StoredPart>,
@@ -28,7 +28,7 @@ pub struct OpenGroup {
 }
 
 /// What an event changes in the index of open groups.
-#[derive(Debug, Drop)]
+#[derive(Drop)]
 pub enum Regrouping {
     Unchanged,
     /// The group is under the number of its first stored part, in the place of what was there.

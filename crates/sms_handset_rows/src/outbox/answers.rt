@@ -9,7 +9,7 @@ use sms_relay::RpCause;
 use sms_tpdu::{Carrier, Down, FailureCause, read_down};
 
 /// How a transfer that the handset began ended.
-#[derive(Clone, Copy, Debug, PartialEq, Eq)]
+#[derive(Clone, Copy, PartialEq, Eq)]
 pub enum TransferEnd {
     /// RP-ACK under its reference.
     Acknowledged,

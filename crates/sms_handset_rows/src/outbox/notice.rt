@@ -5,7 +5,7 @@ use sms_base::Moment;
 use sms_rows::table::{Key, Row};
 
 /// An RP-SMMA that was sent and has not ended (3GPP TS 24.011 6.3.3.2).
-#[derive(Clone, Copy, Debug, PartialEq, Eq)]
+#[derive(Clone, Copy, PartialEq, Eq)]
 pub struct Notice {
     pub number: u32,
     pub reference: u8,

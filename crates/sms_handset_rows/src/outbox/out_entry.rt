@@ -9,7 +9,7 @@ use sms_rows::table::{Key, Row};
 use std::alloc::{AllocError, Global};
 
 /// How far an entry of the outbox is.
-#[derive(Clone, Copy, Debug, PartialEq, Eq)]
+#[derive(Clone, Copy, PartialEq, Eq)]
 pub enum EntryState {
     /// The SUBMIT waits to be sent.
     Queued,
@@ -36,7 +36,7 @@ impl EntryState {
 }
 
 /// An entry of the outbox: one SUBMIT.
-#[derive(Debug, Drop)]
+#[derive(Drop)]
 pub struct OutEntry {
     /// The entry's number, 1 to 4294967294. It is given once and to no entry of the inbox.
     pub number: u32,

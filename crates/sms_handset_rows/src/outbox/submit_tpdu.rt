@@ -6,7 +6,7 @@ use std::alloc::{AllocError, Global};
 use std::marker::Model;
 
 /// The octets of a SUBMIT, 1 to 200, seen by contracts as a list.
-#[derive(Debug, Drop)]
+#[derive(Drop)]
 pub struct SubmitTpdu {
     octets: Octets,
 }

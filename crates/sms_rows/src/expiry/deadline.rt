@@ -2,7 +2,7 @@
 use sms_base::{MessageId, Moment};
 
 /// From when on a message is not delivered any more.
-#[derive(Clone, Copy, Debug, PartialEq, Eq, PartialOrd, Ord)]
+#[derive(Clone, Copy, PartialEq, Eq, PartialOrd, Ord)]
 pub struct Deadline {
     pub limit: Moment,
     pub id: MessageId,

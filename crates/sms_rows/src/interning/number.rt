@@ -8,7 +8,7 @@ use sms_base::Digits;
 use std::hash::{Hash, Hasher};
 
 /// A number or a name as a key, distinguished from others by its characters.
-#[derive(Clone, Copy, Debug, Drop)]
+#[derive(Clone, Copy, Drop)]
 pub struct Number {
     /// The number's characters.
     pub digits: Digits,

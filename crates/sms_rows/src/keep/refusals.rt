@@ -6,7 +6,7 @@ use crate::table::Key;
 
 /// How many calls a keep refused, and which read last. A program needs none of it. Contracts say by it that a step was
 /// refused only where the store refused a call in it.
-#[derive(Clone, Copy, Debug, PartialEq, Eq)]
+#[derive(Clone, Copy, PartialEq, Eq)]
 pub struct Refusals {
     /// How many there were, modulo 2^64.
     pub calls: u64,

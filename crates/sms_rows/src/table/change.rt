@@ -7,7 +7,7 @@ use crate::table::Row;
 use crate::table::key::Key;
 
 /// A change of a table of rows.
-#[derive(Debug, Drop)]
+#[derive(Drop)]
 pub enum Change<T: Drop> {
     /// The row replaces that of its key, or is added where its key belongs.
     Put(T),

@@ -9,7 +9,7 @@ use std::marker::Model;
 ///
 /// Contracts see a key as one number, which orders the rows. Keys of one kind are equal exactly where what they were
 /// made of is. Those of a first part are neighbours. A table has keys of one kind.
-#[derive(Clone, Copy, Debug, PartialEq, Eq)]
+#[derive(Clone, Copy, PartialEq, Eq)]
 pub struct Key {
     place: u128,
 }

@@ -3,7 +3,7 @@ use crate::TextView;
 use sms_base::OctetView;
 
 /// What the owner of a handset asks of it.
-#[derive(Debug, Drop)]
+#[derive(Drop)]
 pub enum OwnersAct<'a> {
     /// A text to a number, as it was written; `report` asks for a status report.
     Write {

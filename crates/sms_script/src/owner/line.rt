@@ -12,7 +12,7 @@ use crate::owner::act::OwnersAct;
 const LONGEST_LINE: usize = 16_384;
 
 /// The first word of a line.
-#[derive(Clone, Copy, Debug, PartialEq, Eq)]
+#[derive(Clone, Copy, PartialEq, Eq)]
 pub(crate) enum Verb {
     Write,
     Delete,

@@ -4,7 +4,7 @@ use sms_base::{MessageId, OctetView};
 use sms_centre_rows::report_lines::MessageState;
 
 /// What a request of an application or an act of an owner was answered.
-#[derive(Debug, Drop)]
+#[derive(Drop)]
 pub enum Answered {
     /// A submission was taken under that id.
     Accepted(MessageId),
@@ -21,7 +21,7 @@ pub enum Answered {
 }
 
 /// What the event of that number was answered.
-#[derive(Debug, Drop)]
+#[derive(Drop)]
 pub struct Answer {
     pub event: u64,
     pub answered: Answered,

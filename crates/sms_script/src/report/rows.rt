@@ -2,7 +2,7 @@
 use sms_base::{Carried, Digits, Holder, Moment, Octets};
 
 /// A TPDU that a handset accepted under a reference, as received.
-#[derive(Debug, Drop)]
+#[derive(Drop)]
 pub struct AcceptedRow {
     pub handset: Digits,
     pub reference: u8,
@@ -10,7 +10,7 @@ pub struct AcceptedRow {
 }
 
 /// How the units of a joined content are coded: compressed text counts as octets.
-#[derive(Clone, Copy, Debug, PartialEq, Eq)]
+#[derive(Clone, Copy, PartialEq, Eq)]
 pub enum JoinedCoding {
     Septets,
     Octets,
@@ -18,7 +18,7 @@ pub enum JoinedCoding {
 }
 
 /// A long message that a handset joined.
-#[derive(Debug, Drop)]
+#[derive(Drop)]
 pub struct JoinedRow {
     pub handset: Digits,
     /// The digits or the name of its source.
@@ -29,7 +29,7 @@ pub struct JoinedRow {
 }
 
 /// How far an entry of an outbox is.
-#[derive(Clone, Copy, Debug, PartialEq, Eq)]
+#[derive(Clone, Copy, PartialEq, Eq)]
 pub enum EntryState {
     Queued,
     Sending,
@@ -39,7 +39,7 @@ pub enum EntryState {
 }
 
 /// An entry of an outbox.
-#[derive(Debug, Drop)]
+#[derive(Drop)]
 pub struct OutboxRow {
     pub handset: Digits,
     pub entry: u32,
@@ -47,14 +47,14 @@ pub struct OutboxRow {
 }
 
 /// The way to the centre, or to a handset.
-#[derive(Clone, Copy, Debug, PartialEq, Eq)]
+#[derive(Clone, Copy, PartialEq, Eq)]
 pub enum Direction {
     Up,
     Down,
 }
 
 /// A reference that was given: by the centre for what it sends, by the handset for what it sends.
-#[derive(Debug, Drop)]
+#[derive(Drop)]
 pub struct GivenRow {
     pub handset: Digits,
     pub direction: Direction,
@@ -64,7 +64,7 @@ pub struct GivenRow {
 }
 
 /// A frame that was sent.
-#[derive(Debug, Drop)]
+#[derive(Drop)]
 pub struct FrameRow {
     /// The frame's number, from 1.
     pub number: u64,

@@ -12,7 +12,7 @@ use sqlite::{Alter, Error, Row, Transaction, params};
 use std::alloc::Global;
 
 /// The counters as the one row of a list, at place 1.
-#[derive(Clone, Copy, Debug, PartialEq, Eq)]
+#[derive(Clone, Copy, PartialEq, Eq)]
 pub struct CountersRow {
     pub counters: Counters,
 }

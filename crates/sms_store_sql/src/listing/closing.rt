@@ -18,7 +18,7 @@ use sqlite::{Alter, Connection, Error, Transaction};
 use std::alloc::Global;
 
 /// What a keep knows of its connection.
-#[derive(Clone, Copy, Debug, PartialEq, Eq)]
+#[derive(Clone, Copy, PartialEq, Eq)]
 pub enum Health {
     /// No call has failed since the connection was last asked.
     Sound,

@@ -11,14 +11,14 @@ use sms_rows::table::{Key, Row};
 use sqlite::{Error, Row as Columns};
 
 /// Whose rows a store keeps.
-#[derive(Clone, Copy, Debug, PartialEq, Eq)]
+#[derive(Clone, Copy, PartialEq, Eq)]
 pub enum StoreKind {
     Handset,
     Centre,
 }
 
 /// The one row of a store that says what it is.
-#[derive(Clone, Copy, Debug, PartialEq, Eq)]
+#[derive(Clone, Copy, PartialEq, Eq)]
 pub struct Meta {
     pub version: u32,
     pub kind: StoreKind,

@@ -8,7 +8,7 @@ use sms_relay::{RelayFault, Rp, RpCause, read_down, read_up};
 use sms_script::report::Direction;
 
 /// Why a transfer failed, or why a transaction ended early.
-#[derive(Clone, Copy, Debug, PartialEq, Eq)]
+#[derive(Clone, Copy, PartialEq, Eq)]
 pub enum Cause {
     /// The cause of an RP-ERROR (3GPP TS 24.011 8.2.5.4).
     Relay(RpCause),

@@ -8,7 +8,7 @@ use sms_trace_files::picture::{Picture, PictureSoFar, Route, put_picture};
 use std::alloc::{AllocError, Global};
 
 /// How a ladder is drawn.
-#[derive(Clone, Copy, Debug)]
+#[derive(Clone, Copy)]
 pub enum LadderForm {
     /// A line of text for each row.
     Text,

@@ -1,7 +1,7 @@
 //! Hosts of a capture.
 
 // A host of the network 10.0.0.0/8.
-#[derive(Clone, Copy, Debug, PartialEq, Eq)]
+#[derive(Clone, Copy, PartialEq, Eq)]
 pub(crate) struct Host {
     // The second octet of its address.
     pub(crate) network: u8,

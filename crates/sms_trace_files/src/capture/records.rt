@@ -14,7 +14,7 @@ const FILE_HEAD: [u8; 24] = [
 ];
 
 /// A frame on the link of a handset, at most 251 octets.
-#[derive(Debug, Drop)]
+#[derive(Drop)]
 pub struct CapturedFrame<'a> {
     pub moment: Moment,
     /// The place of the handset among all.
@@ -25,7 +25,7 @@ pub struct CapturedFrame<'a> {
 }
 
 /// A PDU of an application, or to it, at most 65,495 octets.
-#[derive(Debug, Drop)]
+#[derive(Drop)]
 pub struct CapturedPdu<'a> {
     pub moment: Moment,
     /// The place of the application among all.

@@ -11,7 +11,7 @@ const SMPP_PORT: u16 = 2775;
 const APPLICATION_PORT: u16 = 49_152;
 
 // From where to where a segment goes, and how many octets its sender has sent before and was sent.
-#[derive(Clone, Copy, Debug, PartialEq, Eq)]
+#[derive(Clone, Copy, PartialEq, Eq)]
 pub(crate) struct Way {
     pub(crate) source: Host,
     pub(crate) destination: Host,

@@ -7,7 +7,7 @@ use crate::picture::rows::{Departure, Passage, PictureRow, Shape};
 use std::alloc::{AllocError, Global};
 
 /// The column of each lane, none of a lane that is left out; and how many columns there are.
-#[derive(Debug, Drop)]
+#[derive(Drop)]
 pub(crate) struct Columns {
     pub table: Vec<Option<u16>>,
     pub count: u16,

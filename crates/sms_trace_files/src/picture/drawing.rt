@@ -14,7 +14,7 @@ use sms_base::{Octets, put_decimal};
 use std::alloc::{AllocError, Global};
 
 /// How much a picture has to hold.
-#[derive(Clone, Copy, Debug)]
+#[derive(Clone, Copy)]
 pub struct Extent {
     /// How many lanes there are.
     pub lanes: u16,
@@ -25,14 +25,14 @@ pub struct Extent {
 }
 
 /// A lane: its place from the left, counted from 0, and the name of its side.
-#[derive(Debug, Drop)]
+#[derive(Drop)]
 pub struct Lane {
     pub place: u16,
     pub name: Octets,
 }
 
 /// A run to be drawn.
-#[derive(Debug, Drop)]
+#[derive(Drop)]
 pub struct Picture {
     pub extent: Extent,
     pub lanes: Vec<Lane>,

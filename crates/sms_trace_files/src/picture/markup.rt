@@ -7,7 +7,7 @@ use sms_base::{Octets, put_decimal};
 use std::alloc::AllocError;
 
 /// A place in a picture, in pixels from its left and upper edges.
-#[derive(Clone, Copy, Debug)]
+#[derive(Clone, Copy)]
 pub(crate) struct Point {
     pub x: u64,
     pub y: u64,

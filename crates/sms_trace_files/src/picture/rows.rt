@@ -11,7 +11,7 @@ use sms_base::Octets;
 use std::alloc::AllocError;
 
 /// What reaches a lane: it left the lane `from` at the row `begun`.
-#[derive(Clone, Copy, Debug)]
+#[derive(Clone, Copy)]
 pub struct Passage {
     pub from: u16,
     pub to: u16,
@@ -21,7 +21,7 @@ pub struct Passage {
 }
 
 /// What leaves the lane `from` towards the lane `to`.
-#[derive(Clone, Copy, Debug)]
+#[derive(Clone, Copy)]
 pub struct Departure {
     pub from: u16,
     pub to: u16,
@@ -32,7 +32,7 @@ pub struct Departure {
 }
 
 /// What is done in one lane.
-#[derive(Clone, Copy, Debug, PartialEq, Eq)]
+#[derive(Clone, Copy, PartialEq, Eq)]
 pub enum Sign {
     /// The clock of that side ticks.
     Tick,
@@ -43,7 +43,7 @@ pub enum Sign {
 }
 
 /// What a row draws beside its note.
-#[derive(Clone, Copy, Debug)]
+#[derive(Clone, Copy)]
 pub enum Shape {
     Passage(Passage),
     Departure(Departure),
@@ -51,7 +51,7 @@ pub enum Shape {
 }
 
 /// A row: its place from the top, counted from 0, what it draws, and its note.
-#[derive(Debug, Drop)]
+#[derive(Drop)]
 pub struct PictureRow {
     pub place: u32,
     pub shape: Shape,

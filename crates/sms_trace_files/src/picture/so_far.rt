@@ -18,7 +18,7 @@ pub struct PictureSoFar {
 }
 
 /// From a lane to another. Lanes are counted from 0, from the left.
-#[derive(Clone, Copy, Debug)]
+#[derive(Clone, Copy)]
 pub struct Route {
     pub from: u16,
     pub to: u16,

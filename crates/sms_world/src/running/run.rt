@@ -46,7 +46,7 @@ pub enum SimError {
 }
 
 // What is written of a run.
-#[derive(Clone, Copy, Debug)]
+#[derive(Clone, Copy)]
 enum Form {
     Report,
     Ladder,

@@ -10,7 +10,7 @@ use sms_base::{Digits, FinalState, MessageId, Originator};
 use sms_centre_rows::messages::MessageRow;
 
 /// Which messages are shown: those that are as wanted in each of these, where something is wanted.
-#[derive(Clone, Copy, Debug)]
+#[derive(Clone, Copy)]
 pub struct Filter<'a> {
     /// The message's number.
     pub id: Option<MessageId>,

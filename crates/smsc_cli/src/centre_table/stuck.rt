@@ -9,7 +9,7 @@ use sms_base::{Digits, Moment, Octets};
 use std::alloc::{AllocError, Global};
 
 /// What waits for a handset.
-#[derive(Clone, Copy, Debug)]
+#[derive(Clone, Copy)]
 pub struct StuckLine {
     pub handset: Digits,
     /// How many short messages wait for it.

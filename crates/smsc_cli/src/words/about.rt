@@ -3,7 +3,7 @@ ghost use Rattle.std.specs.Prelude.{◌≡◌};
 ghost use Rattle.smsc_cli.specs.words.About.{about_in};
 
 /// What a word asks about a program.
-#[derive(Clone, Copy, Debug, PartialEq, Eq)]
+#[derive(Clone, Copy, PartialEq, Eq)]
 pub enum About {
     /// `--help` or `-h`: how it is used.
     Help,

@@ -63,7 +63,7 @@ pub struct TableAccount<'a> {
 }
 
 /// A source that an account may give, as it is written.
-#[derive(Clone, Copy, Debug, PartialEq, Eq)]
+#[derive(Clone, Copy, PartialEq, Eq)]
 pub enum SourceWords<'a> {
     /// A number, by its digits.
     Number(&'a str),

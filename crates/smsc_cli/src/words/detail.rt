@@ -4,7 +4,7 @@ ghost use Rattle.smsc_cli.specs.declared.words.detail.LogDetail.{LogDetail as Lo
 ghost use Rattle.smsc_cli.specs.words.LogWords.{SpellsLog, is_log_word as is_log_word_of};
 
 /// What the log has besides the lines of the run itself.
-#[derive(Clone, Copy, Debug, PartialEq, Eq)]
+#[derive(Clone, Copy, PartialEq, Eq)]
 pub enum LogDetail {
     /// Nothing.
     Runs,

@@ -15,7 +15,7 @@ use sms_base::Address;
 use std::alloc::{AllocError, Global};
 
 /// What a run of a handset is to do.
-#[derive(Clone, Copy, Debug)]
+#[derive(Clone, Copy)]
 pub enum HandsetWords<'a> {
     /// `--connect PORT --number NUMBER --centre NUMBER --slots K --store FILE --frames N`, and as wanted `--secret FILE`.
     Run {
@@ -42,7 +42,7 @@ pub enum HandsetWords<'a> {
 }
 
 // The options of a run, as text.
-#[derive(Debug, Drop)]
+#[derive(Drop)]
 struct RunOptions<'a> {
     connect: Option<&'a str>,
     number: Option<&'a str>,

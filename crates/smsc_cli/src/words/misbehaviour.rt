@@ -18,7 +18,7 @@ use clap::{ArgMatches, Error};
 use std::alloc::Global;
 
 /// A handset that refuses what is offered to it.
-#[derive(Clone, Copy, Debug, PartialEq, Eq)]
+#[derive(Clone, Copy, PartialEq, Eq)]
 pub struct Refusal {
     /// The cause of the RP-ERROR, 0 to 127 (3GPP TS 24.011 8.2.5.4).
     pub cause: u8,
@@ -27,7 +27,7 @@ pub struct Refusal {
 }
 
 /// What a handset is to do wrong on purpose.
-#[derive(Clone, Copy, Debug, PartialEq, Eq)]
+#[derive(Clone, Copy, PartialEq, Eq)]
 pub struct Misbehaviour {
     /// The handset refuses what is offered.
     pub refuses: Option<Refusal>,

@@ -31,7 +31,7 @@ use sms_base::{Address, MessageId};
 use std::alloc::{AllocError, Global};
 
 /// What a run of the server is to do, but for its accounts.
-#[derive(Clone, Copy, Debug)]
+#[derive(Clone, Copy)]
 pub struct ServerRun<'a> {
     /// The path of its store.
     pub store: &'a str,
@@ -123,7 +123,7 @@ pub enum ServerWords<'a> {
 }
 
 /// What can be ordered of a message.
-#[derive(Clone, Copy, Debug, PartialEq, Eq)]
+#[derive(Clone, Copy, PartialEq, Eq)]
 pub enum OrderWord {
     /// What waits of the message is due now.
     Retry,

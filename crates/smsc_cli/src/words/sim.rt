@@ -13,7 +13,7 @@ use sms_base::{Address, Moment};
 use std::alloc::{AllocError, Global};
 
 /// What a run of the simulator is to do.
-#[derive(Clone, Copy, Debug, PartialEq, Eq)]
+#[derive(Clone, Copy, PartialEq, Eq)]
 pub enum SimWords {
     /// `relay --centre NUMBER --from NUMBER --now SECONDS`.
     Relay {
@@ -27,7 +27,7 @@ pub enum SimWords {
 }
 
 // The options of a relay run, as text.
-#[derive(Debug, Drop)]
+#[derive(Drop)]
 struct RelayOptions<'a> {
     centre: Option<&'a str>,
     from: Option<&'a str>,

@@ -120,7 +120,7 @@ fn act_all<K: Keep<Rows = Rows, Changes = Changes> + Drop, W: Write, A: Write, C
 }
 
 /// How a run ended.
-#[derive(Clone, Copy, Debug, PartialEq, Eq)]
+#[derive(Clone, Copy, PartialEq, Eq)]
 pub enum RunEnd {
     /// All frames have arrived, or the link closed.
     Done,

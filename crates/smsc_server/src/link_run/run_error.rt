@@ -24,7 +24,7 @@ pub enum RunError {
 }
 
 /// Why no more is done on the link.
-#[derive(Debug, Drop)]
+#[derive(Drop)]
 pub(crate) enum LinkStop {
     /// A write of it failed.
     Broken,

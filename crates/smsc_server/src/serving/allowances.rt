@@ -50,7 +50,7 @@ impl Turnstile {
 }
 
 /// What an account may do.
-#[derive(Clone, Copy, Debug, PartialEq, Eq)]
+#[derive(Clone, Copy, PartialEq, Eq)]
 pub struct Allowance {
     /// The account may have no session for now.
     pub is_suspended: bool,

@@ -17,7 +17,7 @@ use std::thread::{Threads, join};
 use std::time::Clock as SystemClock;
 
 /// Where a server of this process listens.
-#[derive(Clone, Copy, Debug, PartialEq, Eq)]
+#[derive(Clone, Copy, PartialEq, Eq)]
 pub struct Loopback {
     /// The port for applications.
     pub applications: SocketAddr,

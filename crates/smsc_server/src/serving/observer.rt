@@ -8,7 +8,7 @@ use smsc_loop::{Activity, LeaveReason, Note};
 use std::net::SocketAddr;
 
 /// What happens in a run.
-#[derive(Clone, Copy, Debug, PartialEq, Eq)]
+#[derive(Clone, Copy, PartialEq, Eq)]
 pub enum Event {
     /// What the note says happened to the endpoint at the seat of the number. The endpoint's other side has the address.
     Endpoint(usize, SocketAddr, Note),

@@ -28,7 +28,7 @@ fn may_sit(side: PeerKind, applications: usize, links: usize) -> bool
 }
 
 /// How many sit, when somebody had no seat.
-#[derive(Clone, Copy, Debug, PartialEq, Eq)]
+#[derive(Clone, Copy, PartialEq, Eq)]
 pub struct Seated {
     /// How many applications sit.
     pub applications: usize,

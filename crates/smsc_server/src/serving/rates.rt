@@ -12,7 +12,7 @@ use std::sync::{Mutex, Wait};
 use std::time::Clock;
 
 /// How many requests an account may put in a second of the run's clock, and how many it has put.
-#[derive(Clone, Copy, Debug, PartialEq, Eq)]
+#[derive(Clone, Copy, PartialEq, Eq)]
 pub struct Rate {
     /// So many in a second.
     pub most: u32,

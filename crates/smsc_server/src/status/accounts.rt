@@ -14,7 +14,7 @@ const ACCOUNTS: u8 = 32;
 const NO_ACCOUNT: u8 = u8::MAX;
 
 /// What all sessions of the account at this place did.
-#[derive(Clone, Copy, Debug, PartialEq, Eq)]
+#[derive(Clone, Copy, PartialEq, Eq)]
 pub struct AccountCounts {
     pub account: u8,
     pub submits: u64,

@@ -29,7 +29,7 @@ struct Shelf {
 }
 
 /// A handset for which parts of messages wait.
-#[derive(Clone, Copy, Debug, PartialEq, Eq)]
+#[derive(Clone, Copy, PartialEq, Eq)]
 pub struct WaitingHandset {
     pub handset: Digits,
     /// How many parts wait for it.
@@ -43,7 +43,7 @@ pub struct WaitingHandset {
 }
 
 /// A message that is pending.
-#[derive(Clone, Copy, Debug, PartialEq, Eq)]
+#[derive(Clone, Copy, PartialEq, Eq)]
 pub struct Pending {
     pub id: MessageId,
     pub handset: Digits,

@@ -14,7 +14,7 @@ const ROWS: usize = 33;
 const NO_ACCOUNT: usize = ROWS - 1;
 
 /// So many requests of the account at this place, or of none, were refused with this command_status.
-#[derive(Clone, Copy, Debug, PartialEq, Eq)]
+#[derive(Clone, Copy, PartialEq, Eq)]
 pub struct Refusals {
     pub account: Option<u8>,
     pub status: u32,

@@ -5,7 +5,7 @@ use sms_base::{MessageId, Moment};
 use sms_hub::{Broken, Clock, Errand, Fate, Gate, Machine, Out, Outs, Step, Stimulus, Unsettled};
 
 /// What the machine answers.
-#[derive(Clone, Copy, Debug, PartialEq, Eq)]
+#[derive(Clone, Copy, PartialEq, Eq)]
 pub enum Reply {
     /// The sum so far.
     Sum(u64),

@@ -23,7 +23,7 @@ use std::thread::Threads;
 use std::time::{Clock, Duration};
 
 /// A connection on which nothing arrives. What is written to it is let go.
-#[derive(Clone, Copy, Debug, PartialEq, Eq)]
+#[derive(Clone, Copy, PartialEq, Eq)]
 struct Numbered(u32);
 
 impl Read for Numbered {

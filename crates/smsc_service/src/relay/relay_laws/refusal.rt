@@ -16,7 +16,7 @@ pub const VALIDITY_PERIOD_FORMAT_NOT_SUPPORTED: u8 = 0xC6;
 pub const UNSPECIFIED_ERROR: u8 = 0xFF;
 
 /// Why a SUBMIT is refused.
-#[derive(Clone, Copy, Debug, PartialEq, Eq)]
+#[derive(Clone, Copy, PartialEq, Eq)]
 pub(crate) enum Refusal {
     /// The SUBMIT's type isn't supported.
     WrongType,

@@ -2,7 +2,7 @@
 use sms_base::{Address, Octets};
 
 /// The units of the relay layer that a centre sends for one unit of a handset.
-#[derive(Debug, Drop)]
+#[derive(Drop)]
 pub struct Relayed {
     /// The answer to the sender.
     pub answer: Option<Octets>,
