@@ -1,8 +1,9 @@
-//! The two listeners of a server.
+//! The two listeners of a server, and the streams that they give.
 ghost use Rattle.std.specs.Prelude.{◌≡◌, IfSome, MatchOption};
 ghost use Rattle.smsc_arrivals.specs.Arriving.{HasCome, HaveNotCome};
 
 use crate::arrival::{Arrival, Side};
+use std::io::{self, Read};
 use std::net::{SocketAddr, TcpListener, TcpStream};
 
 /// A listener, which gives the connections that wait there.
@@ -34,6 +35,27 @@ impl Door for TcpListener {
 
     fn accept(&mut self) -> Option<(TcpStream, SocketAddr)> {
         (*self).accept().ok()
+    }
+}
+
+/// A stream that can be had a second time, for the thread that reads it.
+pub trait Duplicate: Read {
+    ghost use Rattle.std.specs.Prelude.{◌≡◌, IfOk};
+
+    /// The same stream again. It is to give what this one is to give.
+    ///
+    /// # Errors
+    /// The connection has ended, or the system has no further file.
+    fn duplicate(&self) -> io::Result<Self>
+    where
+        Self: Sized,
+        ensures { IfOk result (λ again. Self.remaining again ≡ Self.remaining self.now) };
+}
+
+/// It states no octets.
+impl Duplicate for TcpStream {
+    fn duplicate(&self) -> io::Result<TcpStream> {
+        self.try_clone()
     }
 }
 

@@ -24,6 +24,6 @@ pub use serving::{
     Orders, Ports, Rate, RunClock, SEATS, Seated, ServeFault, loopback_pair, milliseconds,
     no_account_passes_its_rate, serve, serve_machine,
 };
-pub use smsc_arrivals::{Arrival, Door, Doors, Side};
+pub use smsc_arrivals::{Arrival, Door, Doors, Duplicate, Side};
 pub use smsc_service::CentreMachine;
 pub use smsc_service::relay::{Relayed, RunError, relay_laws, relay_once, run_relay};

@@ -22,8 +22,8 @@ use Rattle.smpp_session.specs.declared.account.Account.{Account}
 use Rattle.smsc_server.specs.serving.AccountBooks.{MayAdmit}
 use Rattle.smsc_server.specs.serving.Connections.{Admitted, Session, Link, TurnedAway, HasSat, IsOpened, arrival_of, has_ended, is_closed, remaining_on, written_on}
 
-module _ {S : Type 0} (remaining contents : S → Option (List ℕ)) (s t : Seat Job Reply) (stream reader : S) (wire wire_then : Socket S)
-    (opened : IsOpened remaining contents stream reader wire) where
+module _ {S : Type 0} (remaining contents : S → Option (List ℕ)) (s t : Seat Job Reply) (stream : S) (wire wire_then : Socket S)
+    (opened : IsOpened remaining contents stream wire) where
   abbrev SessionServed : EsmeView → EsmeView → Type 0
   SessionServed e f =
       Served octets_of is_over (λ (e : EsmeView). is_any_request e.waiting) EsmeDoes (λ (e : EsmeView). is_any e.outbox.jobs) ⊤ (has_ended wire_then) (is_closed wire_then)
@@ -41,7 +41,6 @@ module _ {S : Type 0} (remaining contents : S → Option (List ℕ)) (s t : Seat
     Session accounts may (record {
       arrival = arrival_of stream Application peer;
       side_so = refl;
-      reader = reader;
       wire = wire;
       wire_then = wire_then;
       seat = s;
@@ -60,7 +59,6 @@ module _ {S : Type 0} (remaining contents : S → Option (List ℕ)) (s t : Seat
     Link (record {
       arrival = arrival_of stream Handset peer;
       side_so = refl;
-      reader = reader;
       wire = wire;
       wire_then = wire_then;
       seat = s;

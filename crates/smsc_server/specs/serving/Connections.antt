@@ -54,9 +54,9 @@ module _ {S : Type 0} where
   written_on contents wire = contents wire.stream
 
 module _ {S : Type 0} (remaining contents : S → Option (List ℕ)) where
-  -- The wire of a stream that was accepted. It gives what a second handle of the stream is to give, and nothing has passed over it.
-  pub record IsOpened (stream reader : S) (wire : Socket S) : Type 0 where
-    pub remaining_so : remaining_on wire ≡ remaining reader
+  -- The wire of a stream that was accepted. It gives what the stream is to give, and nothing has passed over it.
+  pub record IsOpened (stream : S) (wire : Socket S) : Type 0 where
+    pub remaining_so : remaining_on wire ≡ remaining stream
     pub written_so : written_on contents wire ≡ contents stream
     pub may_send : has_ended wire ≡ false
     pub may_take : is_closed wire ≡ false
@@ -66,14 +66,13 @@ module _ {S : Type 0} (remaining contents : S → Option (List ℕ)) where
   pub record Visit {V : Type 0} (waits : V → List ℕ) (over owing : V → Bool) (does : Call → V → V → Type 0) (any_job : V → Bool) (opened : V) (side : Side) : Type 0 where
     pub arrival : Arrival S
     pub side_so : arrival.side ≡ side
-    pub reader : S
     -- the wire as it was opened, and at the end; so of the seat
     pub wire : Socket S
     pub wire_then : Socket S
     pub seat : Seat Job Reply
     pub seat_then : Seat Job Reply
     pub endpoint : V
-    pub is_opened : IsOpened arrival.stream reader wire
+    pub is_opened : IsOpened arrival.stream wire
     pub served : Served waits over owing does any_job ⊤ (has_ended wire_then) (is_closed wire_then)
         (standing opened Serves (remaining_on wire) (written_on contents wire) seat) endpoint (remaining_on wire_then) (written_on contents wire_then) seat_then
 

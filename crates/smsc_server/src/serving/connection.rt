@@ -9,7 +9,7 @@ use crate::serving::poller::Poller;
 use crate::serving::refusing::refuse;
 use crossbeam_channel::TryRecvError;
 use mio::Waker;
-use smsc_arrivals::{Doors, Piece, PieceReceiver, Reading, Side, open_pieces};
+use smsc_arrivals::{Doors, Duplicate, Piece, PieceReceiver, Reading, Side, open_pieces};
 use smsc_loop::{Found, LeaveReason, Wire};
 use std::alloc::Global;
 use std::io::{self, Read, Write};
@@ -68,18 +68,20 @@ pub(crate) struct Socket<S> {
 }
 
 // Sets what the connection is to do, and gives it a second time, for its reader.
-fn prepare<S: OpenStream>(stream: &S) -> io::Result<S> {
+fn prepare<S: OpenStream + Duplicate>(stream: &S) -> io::Result<S>
+    ensures { IfOk result (λ again. S.remaining again ≡ S.remaining stream.now) }
+{
     stream.set_write_timeout(Some(Duration::from_millis(WRITE_WAIT)))?;
     stream.set_nodelay(true)?;
-    stream.try_clone()
+    stream.duplicate()
 }
 
 // What a connection is read by, and where what arrived is taken.
-fn open_reading<S: OpenStream + Read + Drop>(
+fn open_reading<S: OpenStream + Duplicate + Drop>(
     alloc: Global,
     stream: &S,
 ) -> Result<(Reading<S>, PieceReceiver), LeaveReason>
-    ensures { IfOk result (λ r. left_at r.1 ≡ S.remaining r.0.stream) }
+    ensures { IfOk result (λ r. left_at r.1 ≡ S.remaining stream.now) }
 {
     let Ok(stream) = prepare(stream) else {
         return Err(LeaveReason::Closed);
@@ -90,7 +92,7 @@ fn open_reading<S: OpenStream + Read + Drop>(
     }
 }
 
-impl<S: OpenStream + Read + Write + Drop> Socket<S> {
+impl<S: OpenStream + Duplicate + Read + Write + Drop> Socket<S> {
     /// The wire of a connection, and what its reader needs. Where they can't be had, the other side gets the answer
     /// that there is no room. The system then refused a second handle, since the connection has ended or too many files
     /// are open, or there was no memory.
@@ -99,7 +101,7 @@ impl<S: OpenStream + Read + Write + Drop> Socket<S> {
         stream: S,
         side: Side,
     ) -> Result<(Socket<S>, Reading<S>), LeaveReason>
-        ensures remaining { IfOk result (λ r. left_at r.0.pieces ≡ S.remaining r.1.stream) }
+        ensures remaining { IfOk result (λ r. left_at r.0.pieces ≡ S.remaining stream) }
         ensures written { IfOk result (λ r. S.contents r.0.stream ≡ S.contents stream) }
         ensures open { IfOk result (λ r. (r.0.has_ended ≡ false) × (r.0.is_closed ≡ false)) }
     {
@@ -129,7 +131,7 @@ impl<S: OpenStream + Read + Write + Drop> Socket<S> {
 }
 
 impl<S: OpenStream + Read + Write + Drop> Wire for Socket<S> {
-    // What its reader's stream was to give when it was opened, behind what was taken.
+    // What its stream was to give when it was opened, behind what was taken.
     ghost remaining = { λ s. left_at s.pieces };
 
     ghost written = { λ s. S.contents s.stream };

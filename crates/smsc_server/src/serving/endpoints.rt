@@ -25,7 +25,7 @@ use crossbeam_channel::Sender;
 use smpp_session::FullAccounts;
 use sms_centre_spec::jobs::{Job, Reply};
 use sms_keeper::Seat;
-use smsc_arrivals::{Arrival, Reading, Side};
+use smsc_arrivals::{Arrival, Duplicate, Reading, Side};
 use smsc_endpoint::{Esme, LinkAccess, LinkEndpoint};
 use smsc_loop::{Activity, Counts, LeaveReason, Note, OpenSeat, Order, Surroundings, Wire, serve};
 use std::alloc::Global;
@@ -216,7 +216,7 @@ fn refuse_new<A: Surroundings, W: Wire>(side: Side, around: &A, seat: &OpenSeat,
     );
 }
 
-fn serve_application<R: Wait + Clock, S: OpenStream + Read + Write + Drop, T: Observer>(
+fn serve_application<R: Wait + Clock, S: OpenStream + Duplicate + Read + Write + Drop, T: Observer>(
     rt: &R,
     alloc: Global,
     book: &AccountBook,
@@ -224,7 +224,7 @@ fn serve_application<R: Wait + Clock, S: OpenStream + Read + Write + Drop, T: Ob
     seat: &mut OpenSeat,
     wire: &mut Socket<S>,
 )
-    ensures { (stream reader : S) → IsOpened S.remaining S.contents stream reader wire.old → (access : AccessOf) (peer : PeerOf)
+    ensures { (stream : S) → IsOpened S.remaining S.contents stream wire.old → (access : AccessOf) (peer : PeerOf)
         → HasSat S.remaining S.contents (admits book.now access) (arrival_of stream ForApplication peer) seat.old.seat seat.new.seat }
 {
     let Ok(accounts) = book.in_force(rt) else {
@@ -234,7 +234,7 @@ fn serve_application<R: Wait + Clock, S: OpenStream + Read + Write + Drop, T: Ob
     serve(rt, alloc, around, wire, seat, &mut endpoint);
 }
 
-fn serve_handset<R: Wait + Clock, S: OpenStream + Read + Write + Drop, T: Observer>(
+fn serve_handset<R: Wait + Clock, S: OpenStream + Duplicate + Read + Write + Drop, T: Observer>(
     rt: &R,
     alloc: Global,
     access: &Arc<LinkAccess>,
@@ -242,7 +242,7 @@ fn serve_handset<R: Wait + Clock, S: OpenStream + Read + Write + Drop, T: Observ
     seat: &mut OpenSeat,
     wire: &mut Socket<S>,
 )
-    ensures { (stream reader : S) → IsOpened S.remaining S.contents stream reader wire.old → (book : Book) (peer : PeerOf)
+    ensures { (stream : S) → IsOpened S.remaining S.contents stream wire.old → (book : Book) (peer : PeerOf)
         → HasSat S.remaining S.contents (admits book (arc_value access.now)) (arrival_of stream ForHandset peer) seat.old.seat seat.new.seat }
 {
     let Ok(access) = Arc::try_clone(access) else {
@@ -252,7 +252,11 @@ fn serve_handset<R: Wait + Clock, S: OpenStream + Read + Write + Drop, T: Observ
     serve(rt, alloc, around, wire, seat, &mut endpoint);
 }
 
-impl<R: Wait + Clock, S: OpenStream + Read + Write + Drop, T: Observer> SeatContext<R, S, T> {
+impl<R: Wait + Clock, S: OpenStream + Duplicate + Read + Write + Drop, T: Observer> SeatContext<
+    R,
+    S,
+    T,
+> {
     fn surroundings(&self, side: Side, peer: SocketAddr) -> SeatSurroundings<'_, R, T> {
         SeatSurroundings {
             rt: &self.rt,
@@ -274,7 +278,7 @@ impl<R: Wait + Clock, S: OpenStream + Read + Write + Drop, T: Observer> SeatCont
         side: Side,
         socket: &mut Socket<S>,
     )
-        ensures { (stream reader : S) → IsOpened S.remaining S.contents stream reader socket.old → (peer : PeerOf)
+        ensures { (stream : S) → IsOpened S.remaining S.contents stream socket.old → (peer : PeerOf)
             → HasSat S.remaining S.contents (admits (arc_value self.now.accounts) (arc_value self.now.access)) (arrival_of stream side peer)
             seat.old.seat seat.new.seat }
     {
@@ -290,7 +294,7 @@ impl<R: Wait + Clock, S: OpenStream + Read + Write + Drop, T: Observer> SeatCont
 
     // The wire of the connection, which is read from now on.
     fn open_socket(&self, stream: S, side: Side) -> Result<Socket<S>, LeaveReason>
-        ensures { IfOk result (λ wire. (reader : S) × IsOpened S.remaining S.contents stream reader wire) }
+        ensures { IfOk result (λ wire. IsOpened S.remaining S.contents stream wire) }
     {
         let (socket, reading) = Socket::open(self.alloc, stream, side)?;
         match self.readings.send(&self.rt, reading) {
@@ -307,7 +311,7 @@ impl<R: Wait + Clock, S: OpenStream + Read + Write + Drop, T: Observer> SeatCont
         side: Side,
         socket: Socket<S>,
     )
-        ensures { (stream reader : S) → IsOpened S.remaining S.contents stream reader socket → (peer : PeerOf)
+        ensures { (stream : S) → IsOpened S.remaining S.contents stream socket → (peer : PeerOf)
             → HasSat S.remaining S.contents (admits (arc_value self.now.accounts) (arc_value self.now.access)) (arrival_of stream side peer)
             seat.old.seat seat.new.seat }
     {
@@ -372,11 +376,11 @@ pub(crate) struct Returned<S: Drop> {
 }
 
 /// Serves one connection after another at a seat, until there will be none any more; then the seat closes, and comes back.
-pub(crate) fn serve_seat<R: Wait + Clock, S: OpenStream + Read + Write + Drop, T: Observer>(
-    context: &SeatContext<R, S, T>,
-    seat: Seat<Job, Reply>,
-    taker: ArrivalTaker<S>,
-) -> Returned<S>
+pub(crate) fn serve_seat<
+    R: Wait + Clock,
+    S: OpenStream + Duplicate + Read + Write + Drop,
+    T: Observer,
+>(context: &SeatContext<R, S, T>, seat: Seat<Job, Reply>, taker: ArrivalTaker<S>) -> Returned<S>
     requires seat { (put_by seat ≡ []) × (taken_by seat ≡ []) }
     requires taker { items_taken taker ≡ [] }
     ensures seat { IsSameSeat seat result.seat }

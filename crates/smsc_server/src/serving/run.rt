@@ -37,7 +37,7 @@ use crate::serving::server::{Given, SLOTS, Server, Shared, start_entrance};
 use sms_centre_spec::jobs::{Job, Reply};
 use sms_hub::{Hub, run_terms};
 use sms_keeper::{Clock, Gate, Item, Keeper, Machine, Recorder, Seat};
-use smsc_arrivals::{Door, Doors};
+use smsc_arrivals::{Door, Doors, Duplicate};
 use smsc_service::{Archive, CentreStore, Forgetting, serve_with};
 use std::alloc::Global;
 use std::io::{Read, Write};
@@ -104,7 +104,7 @@ fn run_keeper<R: Wait, M: Machine<Job, Reply>, G: Gate, C: Clock, T: Observer>(
 // Takes all seats back, and what was given to none. Gives the listeners.
 fn close_all<
     R: Threads + Wait,
-    S: OpenStream + Read + Write + Drop + Send + 'static,
+    S: OpenStream + Duplicate + Read + Write + Drop + Send + 'static,
     L: Door<Stream = S> + Drop,
 >(
     rt: &R,
@@ -136,7 +136,7 @@ fn run_started<
     M: Machine<Job, Reply>,
     G: Gate,
     C: Clock,
-    S: OpenStream + Read + Write + Drop + Send + 'static,
+    S: OpenStream + Duplicate + Read + Write + Drop + Send + 'static,
     L: Door<Stream = S> + Drop + Send + 'static,
     T: Observer + Drop,
 >(
@@ -197,7 +197,7 @@ fn run_started<
 // Starts all threads of a run.
 fn start_all<
     R: Threads + Wait + SystemClock + Copy + Send + 'static,
-    S: OpenStream + Read + Write + Drop + Send + 'static,
+    S: OpenStream + Duplicate + Read + Write + Drop + Send + 'static,
     L: Door<Stream = S> + Drop + Send + 'static,
     T: Observer + Drop + Send + Sync + 'static,
 >(
@@ -241,7 +241,7 @@ pub fn serve_machine<
     given: &Given<T>,
 ) -> Result<Doors<L>, ServeFault>
 where
-    L::Stream: OpenStream + Read + Write + Send + 'static,
+    L::Stream: OpenStream + Duplicate + Read + Write + Send + 'static,
     // What its connections asked was run, and is one history of the machine. They are those that came at the ports.
     ensures history { IfOk result (λ doors. IsOneHistory L.Stream.remaining L.Stream.contents
         (admits (arc_value given.now.accounts) (arc_value given.now.access)) (C.reads clock.now) L.came (doors_of ports) doors
@@ -314,7 +314,7 @@ pub fn serve<
     given: &Given<T>,
 ) -> Result<(Doors<L>, K, A), ServeFault>
 where
-    L::Stream: OpenStream + Read + Write + Send + 'static,
+    L::Stream: OpenStream + Duplicate + Read + Write + Send + 'static,
     // What its connections asked was run, and is one history of the centre's definition. It begins with the rows of the keep and nobody
     // at any seat. The connections are those that came at the ports. Each read the centre's answers to its own requests in its own part of that
     // history, and had all replies of that part. The keep that is given back holds the rows of the end. Each message that went is kept by the

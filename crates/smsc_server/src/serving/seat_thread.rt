@@ -21,6 +21,7 @@ use crate::serving::fault::ServeFault;
 use crate::serving::observer::Observer;
 use sms_centre_spec::jobs::{Job, Reply};
 use sms_keeper::{Keeper, Seat};
+use smsc_arrivals::Duplicate;
 use smsc_endpoint::LinkAccess;
 use std::alloc::Global;
 use std::io::{Read, Write};
@@ -51,7 +52,7 @@ pub(crate) type SeatThread<S> = PromisedHandle<Returned<S>, SeatPromise<S>>;
 /// Starts the thread of a seat.
 pub(crate) fn start_thread<
     R: Threads + Wait + Clock + Copy + Send + 'static,
-    S: OpenStream + Read + Write + Drop + Send + 'static,
+    S: OpenStream + Duplicate + Read + Write + Drop + Send + 'static,
     T: Observer + Drop + Send + Sync + 'static,
 >(
     context: SeatContext<R, S, T>,

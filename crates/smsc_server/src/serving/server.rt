@@ -28,7 +28,7 @@ use crossbeam_channel::{Sender, bounded};
 use mio::Waker;
 use sms_centre_spec::jobs::{Job, Reply};
 use sms_keeper::Seat;
-use smsc_arrivals::{Door, Doors, Reader, Reading, share};
+use smsc_arrivals::{Door, Doors, Duplicate, Reader, Reading, share};
 use smsc_endpoint::LinkAccess;
 use smsc_service::LinkBoard;
 use std::alloc::{AllocError, Global};
@@ -128,7 +128,7 @@ fn open_reader<R: Copy, S: Read + Drop>(
     Ok((sender, Reader { rt, bell, readings }))
 }
 
-impl<S: OpenStream + Read + Write + Drop + Send + 'static> Server<S> {
+impl<S: OpenStream + Duplicate + Read + Write + Drop + Send + 'static> Server<S> {
     /// No thread.
     pub(crate) fn new(alloc: Global) -> Server<S>
         ensures { result.seats.items ≡ [] }

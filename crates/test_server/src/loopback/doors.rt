@@ -5,7 +5,9 @@ use crate::clock_and_gate::Open;
 use crate::rows::holds;
 use crate::service::centre::{book, clock, keep};
 use smsc_endpoint::LinkAccess;
-use smsc_server::{Allowances, Door, Doors, Event, Given, Observer, Orders, Ports, Side, serve};
+use smsc_server::{
+    Allowances, Door, Doors, Duplicate, Event, Given, Observer, Orders, Ports, Side, serve,
+};
 use smsc_service::{Forgetting, NoArchive};
 use std::alloc::Global;
 use std::io::{self, ErrorKind, Read, Write};
@@ -52,8 +54,10 @@ impl OpenStream for Numbered {
     fn set_write_timeout(&self, _dur: Option<Duration>) -> io::Result<()> {
         Ok(())
     }
+}
 
-    fn try_clone(&self) -> io::Result<Numbered> {
+impl Duplicate for Numbered {
+    fn duplicate(&self) -> io::Result<Numbered> {
         Ok(*self)
     }
 }
