@@ -35,7 +35,7 @@ of_status other = Failed
 
 abbrev pub told_by : Option CentreAnswer → OrderOutcome
 told_by None = Failed
-told_by (Some (Queried id state done)) = of_state state
+told_by (Some (Queried id state _)) = of_state state
 told_by (Some Cancelled) = Deleted
 told_by (Some (Refused status)) = of_status status
 told_by (Some other) = Failed
