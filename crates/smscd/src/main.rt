@@ -225,21 +225,25 @@ fn do_words<R: Threads + Wait + Clock + Copy + Send + Sync + 'static>(
 const WAIT: u32 = 15;
 
 // Why the server did not do it. A reload, or an order of a message, has a reason of its own.
-fn refused(command: Command, text: String) -> RunFault {
-    match command {
-        Command::Reload | Command::Retry(_) | Command::Cancel(_) => RunFault::NotDone(text),
-        Command::Stop | Command::End(_) => {
-            drop(text);
-            RunFault::Refused
-        }
+fn refused(has_reason: bool, text: String) -> RunFault {
+    if has_reason {
+        return RunFault::NotDone(text);
     }
+    drop(text);
+    RunFault::Refused
 }
 
-fn give(host: &HostRuntime, control: &str, command: Command, wait: u32) -> Result<(), RunFault> {
+fn give(
+    host: &HostRuntime,
+    control: &str,
+    command: Command,
+    has_reason: bool,
+    wait: u32,
+) -> Result<(), RunFault> {
     match order(host, control, command, wait) {
         Ok(()) => Ok(()),
         Err(OrderFault::Nobody(error)) => Err(RunFault::Control(error)),
-        Err(OrderFault::Refused(text)) => Err(refused(command, text)),
+        Err(OrderFault::Refused(text)) => Err(refused(has_reason, text)),
         Err(OrderFault::NotEnded) => Err(RunFault::NotEnded(wait)),
     }
 }
@@ -266,12 +270,14 @@ fn do_asked<R: Threads + Wait + Clock + Copy + Send + Sync + 'static>(
         ServerWords::Save { store, to } => save_store(&host, store, to),
         ServerWords::Stop { control, wait } => {
             let wait = wait.unwrap_or(WAIT);
-            give(&host, control, Command::Stop, wait)
+            give(&host, control, Command::Stop, false, wait)
         }
-        ServerWords::End { control, seat } => { give(&host, control, Command::End(*seat), WAIT) }
-        ServerWords::Reload { control } => give(&host, control, Command::Reload, WAIT),
+        ServerWords::End { control, seat } => {
+            give(&host, control, Command::End(*seat), false, WAIT)
+        }
+        ServerWords::Reload { control } => give(&host, control, Command::Reload, true, WAIT),
         ServerWords::Order { control, order, id } => {
-            give(&host, control, order_by(*order, *id), WAIT)
+            give(&host, control, order_by(*order, *id), true, WAIT)
         }
         ServerWords::Password => print_password(&host),
     }
