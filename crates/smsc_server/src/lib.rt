@@ -1,8 +1,8 @@
 //! A run of the server, and a run of a handset over a link.
 //!
 //! `serve` starts a centre with the rows of a keep and serves the connections of two listeners. What it runs is one
-//! history of the centre's definition. Its gate, clock, keep and listeners are whatever the caller gives. The relay run
-//! of `smsc_service::relay` and the machine of a centre (`smsc_service`) are passed on.
+//! history of the centre's definition. Its gate, clock, keep and listeners are whatever the caller gives. The machine of a
+//! centre (`smsc_service`) is passed on.
 //!
 //! - `answer_laws`: what an application reads in answer to what it submits
 //! - `connection_laws`: what a connection takes of the centre
@@ -26,4 +26,3 @@ pub use serving::{
 };
 pub use smsc_arrivals::{Arrival, Door, Doors, Duplicate, Side};
 pub use smsc_service::CentreMachine;
-pub use smsc_service::relay::{Relayed, RunError, relay_laws, relay_once, run_relay};

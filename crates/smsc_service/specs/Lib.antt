@@ -15,4 +15,3 @@ pub mod Course
 pub mod Starting
 pub mod Stepping
 pub mod Replies
-pub mod relay

@@ -30,7 +30,6 @@
 //! - `made`: what came of a stimulus
 //! - `number`: the numbers of handsets
 //! - `order_desk`: where an order of the owner waits, and its outcome
-//! - `relay`: a relay run, which has no seats and no rows
 //! - `restarting`: a centre that starts again
 //! - `seat_table`: rows of the seats of a hub
 //! - `seated_centre`: a centre over its store, with who sits where
@@ -59,7 +58,6 @@ mod machine;
 mod made;
 mod number;
 mod order_desk;
-pub mod relay;
 mod replies;
 mod restarting;
 mod seat_map;
