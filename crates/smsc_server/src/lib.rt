@@ -1,4 +1,4 @@
-//! A run of the server, and a run of a handset over a link.
+//! A run of the server.
 //!
 //! `serve` starts a centre with the rows of a keep and serves the connections of two listeners. What it runs is one
 //! history of the centre's definition. Its gate, clock, keep and listeners are whatever the caller gives. The machine of a
@@ -6,7 +6,6 @@
 //!
 //! - `answer_laws`: what an application reads in answer to what it submits
 //! - `connection_laws`: what a connection takes of the centre
-//! - `link_run`: a run of a handset over any link, keep and clock
 //! - `run_laws`: what a run of the server keeps, whatever its connections ask
 //! - `serving`: a run of the server
 //! - `status`: what a run says of itself
@@ -14,7 +13,6 @@
 
 pub mod answer_laws;
 pub mod connection_laws;
-pub mod link_run;
 pub mod run_laws;
 mod serving;
 pub mod status;
