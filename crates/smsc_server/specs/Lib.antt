@@ -1,6 +1,4 @@
-pub mod AccountTotals
 pub mod serving
-pub mod Refusals
 pub mod WhatIsRead
 pub mod WhatALinkReads
 pub mod RunPromises
@@ -11,4 +9,3 @@ pub mod Forgotten
 pub mod FramesGiven
 pub mod RunReads
 pub mod OwnReplies
-pub mod Occupants

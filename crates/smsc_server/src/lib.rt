@@ -6,21 +6,22 @@
 //!
 //! - `answer_laws`: what an application reads in answer to what it submits
 //! - `connection_laws`: what a connection takes of the centre
+//! - `link_lines`: the links that are up, as a status page shows them
 //! - `run_laws`: what a run of the server keeps, whatever its connections ask
 //! - `serving`: a run of the server
-//! - `status`: what a run says of itself
 #![tactic(auto)]
 
 pub mod answer_laws;
 pub mod connection_laws;
+mod link_lines;
 pub mod run_laws;
 mod serving;
-pub mod status;
 
+pub use link_lines::link_lines;
 pub use serving::{
-    AccountBook, Allowance, Allowances, Clocks, Event, Given, Loopback, ObservedKeep, Observer,
-    Orders, Ports, Rate, RunClock, SEATS, Seated, ServeFault, loopback_pair, milliseconds,
-    no_account_passes_its_rate, serve, serve_machine,
+    AccountBook, Allowance, Allowances, Clocks, Given, Loopback, ObservedKeep, Orders, Ports, Rate,
+    RunClock, ServeFault, loopback_pair, milliseconds, no_account_passes_its_rate, serve,
+    serve_machine,
 };
 pub use smsc_arrivals::{Arrival, Door, Doors, Duplicate, Side};
 pub use smsc_service::CentreMachine;

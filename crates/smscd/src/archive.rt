@@ -3,7 +3,7 @@ use crate::lines::{number_text, put_quoted, state_word};
 use crate::moments::text_of;
 use sms_base::{Moment, Originator, Wish};
 use sms_centre_rows::messages::MessageRow;
-use smsc_server::status::{NO_MESSAGES, with_message};
+use smsc_observer::{NO_MESSAGES, with_message};
 use smsc_service::{Archive, NotArchived};
 use smsc_status::MessageFigures;
 use std::alloc::{AllocError, Global};

@@ -11,7 +11,7 @@ use sms_base::Moment;
 use sms_centre_rows::messages::MessageRow;
 use sms_centre_spec::Rows;
 use smsc_cli::words::ServerRun;
-use smsc_server::status::NO_MESSAGES;
+use smsc_observer::NO_MESSAGES;
 use smsc_service::{Archive, CentreStore, ForgetError, Forgetting, NotArchived, forget_ended};
 use smsc_status::MessageFigures;
 use std::alloc::{AllocError, Global};

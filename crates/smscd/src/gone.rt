@@ -5,7 +5,7 @@ use sms_base::FinalState;
 use sms_centre_rows::messages::MessageRow;
 use sms_centre_spec::Changes;
 use sms_rows::table::{Change, Key};
-use smsc_server::status::{NO_MESSAGES, with_message};
+use smsc_observer::{NO_MESSAGES, with_message};
 use smsc_status::MessageFigures;
 use std::alloc::{AllocError, Global};
 use std::sync::{Mutex, Wait};

@@ -2,8 +2,7 @@
 use smpp_session::BindKind;
 use sms_base::{Digits, FinalState, MessageId};
 use smsc_loop::{Counts, LeaveReason, Note};
-use smsc_server::status::Refusals;
-use smsc_server::{Event, Seated};
+use smsc_observer::{Event, Refusals, Seated};
 use std::alloc::{AllocError, Global};
 use std::net::SocketAddr;
 

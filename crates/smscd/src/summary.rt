@@ -4,7 +4,7 @@ use sms_base::Moment;
 use sms_centre_recovery::starting::moment_among;
 use sms_centre_rows::messages::MessageRow;
 use sms_centre_spec::Rows;
-use smsc_server::status::message_figures;
+use smsc_observer::message_figures;
 use smsc_status::MessageFigures;
 
 /// What the rows of a store say.

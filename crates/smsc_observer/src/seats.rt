@@ -1,15 +1,15 @@
 //! Who sits at each seat, as the events of a run say one after the other.
 ghost use Rattle.std.specs.Prelude.{◌≡◌, IfOk, replicate};
-ghost use Rattle.smsc_server.specs.Occupants.{kind_shown, occupant_behind, seated_at};
-ghost use Rattle.smsc_server.specs.declared.status.seats.Occupant.TheVariants.{Unknown as NobodyKnown};
+ghost use Rattle.smsc_observer.specs.Occupants.{kind_shown, occupant_behind, seated_at};
+ghost use Rattle.smsc_observer.specs.declared.seats.Occupant.TheVariants.{Unknown as NobodyKnown};
 
-use crate::serving::{Event, SEATS};
-use crate::status::counters::Counters;
+use crate::counters::Counters;
+use crate::observer::Event;
+use crate::seated::SEATS;
 use smpp_session::BindKind;
 use sms_base::{Digits, Moment};
 use smsc_loop::Note;
-use smsc_service::LinkBoard;
-use smsc_status::{LinkLine, SessionKind, SessionLine};
+use smsc_status::{SessionKind, SessionLine};
 use std::alloc::{AllocError, Global};
 
 // Who sits at a seat.
@@ -49,14 +49,6 @@ fn occupant_by(note: &Note, now: Moment) -> Option<Occupant>
         Note::Unbound | Note::Ended(_, _) => Some(Occupant::Unknown),
         _ => None,
     }
-}
-
-fn digits_text(alloc: Global, digits: &Digits) -> Result<String, AllocError> {
-    let mut text = String::new(alloc);
-    for digit in digits.as_slice() {
-        text.push(*digit)?;
-    }
-    Ok(text)
 }
 
 fn name_text(alloc: Global, names: &[String], account: u8) -> Result<String, AllocError> {
@@ -137,23 +129,11 @@ impl SeatTable {
         Ok(sessions)
     }
 
-    /// The links that are up, as the keeper saw them last.
-    pub fn links(&self, alloc: Global, board: &LinkBoard) -> Result<Vec<LinkLine>, AllocError> {
-        let mut links = Vec::new(alloc);
-        for seat in 0..self.seats.len() {
-            if let Occupant::Link(handset, since) = self.seats[seat] {
-                if let Some(figures) = board.at(seat) {
-                    links.push(LinkLine {
-                        seat,
-                        handset: digits_text(alloc, &handset)?,
-                        since,
-                        waiting: figures.waiting as u64,
-                        is_full: figures.is_full,
-                        is_under_way: figures.is_under_way,
-                    })?;
-                }
-            }
+    /// The handset whose link is up at the seat of this number, and since when.
+    pub fn link_at(&self, seat: usize) -> Option<(Digits, Moment)> {
+        match self.seats.get(seat) {
+            Some(Occupant::Link(handset, since)) => Some((*handset, *since)),
+            _ => None,
         }
-        Ok(links)
     }
 }

@@ -1,5 +1,5 @@
 //! The observer of a run.
-use crate::serving::occupancy::Seated;
+use crate::seated::Seated;
 use sms_base::{Digits, FinalState, MessageId};
 use sms_centre_spec::Changes;
 use sms_rows::keep::KeepError;

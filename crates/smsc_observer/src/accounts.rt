@@ -1,8 +1,8 @@
 //! What the sessions of each account did since the run began. A session's end takes nothing from it.
 ghost use Rattle.std.specs.Prelude.{◌≡◌};
-ghost use Rattle.smsc_server.specs.AccountTotals.{gained as gained_of};
+ghost use Rattle.smsc_observer.specs.AccountTotals.{gained as gained_of};
 
-use crate::serving::SEATS;
+use crate::seated::SEATS;
 use smsc_loop::Counts;
 use std::alloc::{AllocError, Global};
 use std::sync::atomic::{AtomicU8, AtomicU64, Ordering};

@@ -6,8 +6,8 @@ use Rattle.smsc_loop.specs.declared.note.Note.{Note}
 use Rattle.smsc_loop.specs.declared.note.Note.TheVariants.{Bound, Unbound, LinkUp, Ended}
 use Rattle.smsc_status.specs.declared.figures.SessionKind.{SessionKind}
 use Rattle.smsc_status.specs.declared.figures.SessionKind.TheVariants.{Transmitter as ShownTransmitter, Receiver as ShownReceiver, Transceiver as ShownTransceiver}
-use Rattle.smsc_server.specs.declared.status.seats.Occupant.{Occupant}
-use Rattle.smsc_server.specs.declared.status.seats.Occupant.TheVariants.{Unknown, Session, Link}
+use Rattle.smsc_observer.specs.declared.seats.Occupant.{Occupant}
+use Rattle.smsc_observer.specs.declared.seats.Occupant.TheVariants.{Unknown, Session, Link}
 
 abbrev pub kind_shown : BindKind → SessionKind
 kind_shown Transmitter = ShownTransmitter

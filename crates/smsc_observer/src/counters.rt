@@ -1,7 +1,8 @@
 //! What the threads of a run count. Each adds to numbers that it shares with nobody who waits, so that a look holds up nobody.
-use crate::serving::{Event, SEATS};
-use crate::status::accounts::{AccountCounts, AccountTotals};
-use crate::status::refusals::{RefusalTable, Refusals};
+use crate::accounts::{AccountCounts, AccountTotals};
+use crate::observer::Event;
+use crate::refusals::{RefusalTable, Refusals};
+use crate::seated::SEATS;
 use sms_base::FinalState;
 use smsc_loop::{Activity, Note};
 use smsc_status::{CommitFigures, GroupFigures, MessageCounts, PLACES, place_of};

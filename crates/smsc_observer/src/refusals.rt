@@ -1,6 +1,6 @@
 //! Refused requests, counted by the account and the command_status.
 ghost use Rattle.std.specs.Prelude.{◌≡◌, ◌<◌, ◌≤◌};
-ghost use Rattle.smsc_server.specs.Refusals.{account_at, column_of as column, place_of as place_of_pair, refusals_at, row_of as row};
+ghost use Rattle.smsc_observer.specs.Refusals.{account_at, column_of as column, place_of as place_of_pair, refusals_at, row_of as row};
 
 use std::alloc::{AllocError, Global};
 use std::sync::atomic::{AtomicU64, Ordering};

@@ -1,5 +1,5 @@
 //! A client of the status page: one request, and its response.
-use crate::serving::is_later;
+use crate::later::is_later;
 use sms_base::Octets;
 use smsc_status::{Wanted, wanted_of};
 use std::alloc::{AllocError, Global};

@@ -1,6 +1,6 @@
 -- Where refused requests are counted: a row for each of 32 accounts and one for those of none, with a place for each command_status.
 use Rattle.std.specs.Prelude.{ℕ, ◌+◌, ◌*◌, ◌/◌, ◌%◌, nat_lt, Option, Some, None, if◌then◌else◌}
-use Rattle.smsc_server.specs.declared.status.refusals.Refusals.{Refusals}
+use Rattle.smsc_observer.specs.declared.refusals.Refusals.{Refusals}
 
 abbrev pub row_of : Option ℕ → ℕ
 row_of None = 32
