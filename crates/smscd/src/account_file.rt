@@ -2,14 +2,14 @@
 //!
 //! A file whose name ends in `.toml`, or that has a line `[[account]]`, has a table for each account, any other a line. No line of
 //! an account is `[[account]]`, since that has no colon.
-use crate::link_secrets::access_of;
-use crate::run_fault::RunFault;
 use crate::setup::RunAccounts;
-use crate::store_files::public_mode_at;
 use smsc_cli::words::{
     AccountWords, FileFault, PasswordWords, ServerRun, TableAccount, TableFault, add_lines,
     add_tables, source_of,
 };
+use smsc_operation::link_secrets::access_of;
+use smsc_operation::run_fault::RunFault;
+use smsc_operation::store_files::public_mode_at;
 use std::alloc::Global;
 use std::{fs, io};
 use toml::{Table, Value};
