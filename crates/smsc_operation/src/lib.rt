@@ -6,6 +6,7 @@
 //! store, and on no server. So it is proved beside the server.
 //!
 //! - `access`: the access log
+//! - `account_file`: the accounts that a file spells
 //! - `archive`: the file to which a run writes what it forgets
 //! - `feed`: what the threads of a run give to the thread of its status page
 //! - `gone`: how many messages a run has forgotten
@@ -26,6 +27,7 @@
 #![tactic(auto)]
 
 pub mod access;
+pub mod account_file;
 pub mod archive;
 pub mod feed;
 pub mod gone;

@@ -3,7 +3,7 @@
 //! It gives sockets, a clock, a file and a log to `smsc_server::serve`, which does the work. What its threads and sockets
 //! carry is not proved.
 //!
-//! - `account_file`: the accounts of a run, from its words and from their file
+//! - `account_book`: the accounts of a run, from its words and from their file
 //! - `control`: orders of an operator, over a Unix socket
 //! - `forgetting`: what a run forgets as it starts
 //! - `ports`: the ports of a run
@@ -15,7 +15,7 @@
 //! - `watching`: whether the store's files are still those that were opened
 #![tactic(auto)]
 
-mod account_file;
+mod account_book;
 mod control;
 mod forgetting;
 mod ports;

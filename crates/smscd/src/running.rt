@@ -1,5 +1,5 @@
 //! A run of the server.
-use crate::account_file::book_of;
+use crate::account_book::book_of;
 use crate::control::Control;
 use crate::forgetting::{LoggedArchive, forget_old, forgetting_of};
 use crate::ports::{listen, ports_of};
