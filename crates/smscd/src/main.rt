@@ -1,7 +1,7 @@
 //! The centre's server: applications by SMPP and handsets by links, on this machine; or a look at its store, or an order to it.
 //!
 //! It gives sockets, a clock, a file and a log to `smsc_server::serve`, which does the work. What its threads and sockets
-//! carry is not proved.
+//! carry is not proved. The log, the store's files, a look, a copy, and why a run ended early are `smsc_operation`'s.
 //!
 //! - `account_book`: the accounts of a run, from its words and from their file
 //! - `control`: orders of an operator, over a Unix socket
