@@ -6,18 +6,18 @@
 //!
 //! - `answer_laws`: what an application reads in answer to what it submits
 //! - `connection_laws`: what a connection takes of the centre
-//! - `link_lines`: the links that are up, as a status page shows them
+//! - `links_shown`: the links that are up, as a status page shows them
 //! - `run_laws`: what a run of the server keeps, whatever its connections ask
 //! - `serving`: a run of the server
 #![tactic(auto)]
 
 pub mod answer_laws;
 pub mod connection_laws;
-mod link_lines;
+mod links_shown;
 pub mod run_laws;
 mod serving;
 
-pub use link_lines::link_lines;
+pub use links_shown::link_lines;
 pub use serving::{
     AccountBook, Allowance, Allowances, Clocks, Given, Loopback, ObservedKeep, Orders, Ports, Rate,
     RunClock, ServeFault, loopback_pair, milliseconds, no_account_passes_its_rate, serve,
