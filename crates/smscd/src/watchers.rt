@@ -1,53 +1,18 @@
 //! The observers of a run: its log, and what its status page shows.
-use crate::access::Access;
-use crate::gone::Gone;
-use crate::logging::Log;
 use crate::watching::Guard;
-use crossbeam_channel::{Receiver, Sender, bounded};
 use sms_centre_spec::{Changes, Rows};
 use sms_rows::keep::KeepError;
 use smsc_cli::words::LogDetail;
-use smsc_loop::{Activity, Note};
-use smsc_observer::{Counters, Event, Observer, PendingTable};
+use smsc_loop::Activity;
+use smsc_observer::{Event, Observer};
+use smsc_operation::access::Access;
+use smsc_operation::feed::{Feed, Source, fed, is_of_messages};
+use smsc_operation::gone::Gone;
+use smsc_operation::logging::Log;
 use std::alloc::{AllocError, Global};
 use std::sync::atomic::{AtomicU64, Ordering};
 use std::sync::{Arc, Wait};
 use std::time::Clock;
-
-// So many events wait for the status page at most. What finds no room is counted.
-const MOST_EVENTS: usize = 4096;
-
-// What the threads of a run give to the thread of its status page. None of them waits for it.
-#[derive(Drop)]
-struct Feed<R> {
-    rt: R,
-    counters: Arc<Counters>,
-    pending: Arc<PendingTable>,
-    gone: Arc<Gone>,
-    // What changes who sits where.
-    seats: Sender<Event>,
-    // That a message was accepted, or has ended.
-    messages: Sender<Event>,
-    // All else that is worth a line.
-    others: Sender<Event>,
-    lost: Arc<AtomicU64>,
-}
-
-/// What the thread of a status page takes.
-#[derive(Drop)]
-pub struct Source {
-    pub counters: Arc<Counters>,
-    pub pending: Arc<PendingTable>,
-    /// What the run has forgotten.
-    pub gone: Arc<Gone>,
-    pub seats: Receiver<Event>,
-    pub messages: Receiver<Event>,
-    pub others: Receiver<Event>,
-    /// How many events found no room.
-    pub lost: Arc<AtomicU64>,
-    /// How many lines of the log were lost.
-    pub lost_lines: Arc<AtomicU64>,
-}
 
 /// The observers of a run.
 #[derive(Drop)]
@@ -72,73 +37,6 @@ fn micros<R: Clock>(rt: &R) -> u64 {
             .saturating_mul(1_000_000)
             .saturating_add(u64::from(since.subsec_micros())),
         Err(_) => 0,
-    }
-}
-
-// Whether the event may change who sits where.
-fn is_of_seats(event: &Event) -> bool {
-    matches!(
-        event,
-        Event::Endpoint(
-            _,
-            _,
-            Note::Bound(_, _) | Note::Unbound | Note::LinkUp(_) | Note::Ended(_, _)
-        )
-    )
-}
-
-/// Whether a message was accepted, or has ended.
-pub fn is_of_messages(event: &Event) -> bool {
-    matches!(event, Event::Accepted(_, _) | Event::Final(_, _))
-}
-
-impl<R: Wait + Clock> Feed<R> {
-    fn put(&self, event: &Event) {
-        let sender = if is_of_seats(event) {
-            &self.seats
-        } else if is_of_messages(event) {
-            &self.messages
-        } else {
-            &self.others
-        };
-        if sender.try_send(&self.rt, *event).is_err() {
-            self.lost.fetch_add(1, Ordering::SeqCst);
-        }
-    }
-
-    fn observe(&self, event: &Event) {
-        self.counters.count(event);
-        // A connection that never said who it is has no line, and a refused submit_sm is counted.
-        if !matches!(event, Event::Unknown(_, _, _) | Event::SubmitRefused(_, _)) {
-            self.put(event);
-        }
-    }
-
-    fn end_commit(&self, is_done: bool, took: u64) {
-        if is_done {
-            self.counters.commit_took(took);
-        } else {
-            self.counters.commit_refused();
-            self.gone.refuse(&self.rt);
-        }
-    }
-}
-
-impl<R: Wait> Feed<R> {
-    // What is pending is counted where there is no memory for it.
-    fn note(&self, noted: Result<(), AllocError>) {
-        if noted.is_err() {
-            self.lost.fetch_add(1, Ordering::SeqCst);
-        }
-    }
-
-    fn begin(&self, rows: &Rows) {
-        self.note(self.pending.begin(&self.rt, rows));
-    }
-
-    fn committed(&self, changes: &Changes) {
-        self.note(self.pending.take(&self.rt, changes));
-        self.gone.commit(&self.rt, changes);
     }
 }
 
@@ -211,66 +109,6 @@ impl<R: Wait + Copy + Clock> Observer for Watchers<R> {
             feed.committed(changes);
         }
     }
-}
-
-fn source_of(
-    alloc: Global,
-    seats: Receiver<Event>,
-    messages: Receiver<Event>,
-    others: Receiver<Event>,
-    lost_lines: Arc<AtomicU64>,
-) -> Result<Source, AllocError> {
-    let counters = Counters::new(alloc)?;
-    let counters = Arc::new(alloc, counters)?;
-    let pending = Arc::new(alloc, PendingTable::new(alloc))?;
-    let gone = Arc::new(alloc, Gone::new(alloc))?;
-    let lost = Arc::new(alloc, AtomicU64::new(0))?;
-    Ok(Source {
-        counters,
-        pending,
-        gone,
-        seats,
-        messages,
-        others,
-        lost,
-        lost_lines,
-    })
-}
-
-fn feed_of<R: Copy>(
-    rt: R,
-    source: &Source,
-    seats: Sender<Event>,
-    messages: Sender<Event>,
-    others: Sender<Event>,
-) -> Result<Feed<R>, AllocError> {
-    let counters = Arc::try_clone(&source.counters)?;
-    let pending = Arc::try_clone(&source.pending)?;
-    let gone = Arc::try_clone(&source.gone)?;
-    let lost = Arc::try_clone(&source.lost)?;
-    Ok(Feed {
-        rt,
-        counters,
-        pending,
-        gone,
-        seats,
-        messages,
-        others,
-        lost,
-    })
-}
-
-fn fed<R: Copy>(
-    rt: R,
-    alloc: Global,
-    lost_lines: Arc<AtomicU64>,
-) -> Result<(Feed<R>, Source), AllocError> {
-    let (seats, seats_taken) = bounded::<Event, _>(alloc, MOST_EVENTS)?;
-    let (messages, messages_taken) = bounded::<Event, _>(alloc, MOST_EVENTS)?;
-    let (others, others_taken) = bounded::<Event, _>(alloc, MOST_EVENTS)?;
-    let source = source_of(alloc, seats_taken, messages_taken, others_taken, lost_lines)?;
-    let feed = feed_of(rt, &source, seats, messages, others)?;
-    Ok((feed, source))
 }
 
 // What the observers of a run have, whether or not it has a status page.

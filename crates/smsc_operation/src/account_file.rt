@@ -1,14 +1,12 @@
-//! The accounts of a run, from its words and from their file.
+//! The accounts that a file spells.
 //!
 //! A file whose name ends in `.toml`, or that has a line `[[account]]`, has a table for each account, any other a line. No line of
 //! an account is `[[account]]`, since that has no colon.
-use crate::link_secrets::access_of;
 use crate::run_fault::RunFault;
-use crate::setup::RunAccounts;
 use crate::store_files::public_mode_at;
 use smsc_cli::words::{
-    AccountWords, FileFault, PasswordWords, ServerRun, TableAccount, TableFault, add_lines,
-    add_tables, source_of,
+    AccountWords, FileFault, PasswordWords, TableAccount, TableFault, add_lines, add_tables,
+    source_of,
 };
 use std::alloc::Global;
 use std::{fs, io};
@@ -29,25 +27,6 @@ fn lines_fault(fault: FileFault) -> RunFault {
         FileFault::BadLine(number) => RunFault::AccountLine(number),
         FileFault::NoMemory => RunFault::NoMemory,
     }
-}
-
-fn added(is_added: bool) -> Result<(), RunFault> {
-    if is_added {
-        Ok(())
-    } else {
-        Err(RunFault::Accounts)
-    }
-}
-
-fn add_words(
-    alloc: Global,
-    accounts: &[AccountWords<'_>],
-    book: &mut RunAccounts,
-) -> Result<(), RunFault> {
-    for account in accounts {
-        added(book.add(alloc, account)?)?;
-    }
-    Ok(())
 }
 
 // The account as a table would have it. It has no rate, is not suspended, and gives these sources.
@@ -246,62 +225,4 @@ pub fn line_at(path: &str, file: &str, number: usize) -> usize {
 /// The text of the accounts' file.
 pub fn read_file(host: &HostRuntime, path: &str) -> Result<String, RunFault> {
     fs::read_to_string(host, path).map_err(reading_fault)
-}
-
-fn add_all(
-    alloc: Global,
-    accounts: &[TableAccount<'_>],
-    book: &mut RunAccounts,
-) -> Result<(), RunFault> {
-    for account in accounts {
-        added(book.add_table(alloc, account)?)?;
-    }
-    Ok(())
-}
-
-fn add_spelled(
-    alloc: Global,
-    path: &str,
-    file: &str,
-    document: &Table,
-    book: &mut RunAccounts,
-) -> Result<(), RunFault> {
-    let accounts = accounts_in(alloc, path, file, document)?;
-    add_all(alloc, accounts.as_slice(), book)
-}
-
-fn add_accounts(
-    alloc: Global,
-    path: &str,
-    file: &str,
-    book: &mut RunAccounts,
-) -> Result<(), RunFault> {
-    let document = document_of(alloc, path, file)?;
-    let added = add_spelled(alloc, path, file, &document, book);
-    drop(document);
-    added
-}
-
-fn add_file(host: &HostRuntime, path: &str, book: &mut RunAccounts) -> Result<(), RunFault> {
-    let file = read_file(host, path)?;
-    add_accounts(host.alloc(), path, file.as_str(), book)?;
-    book.file = Some(file);
-    Ok(())
-}
-
-/// Who may connect to the run: those accounts of its words, then those of its file, and links by their secrets.
-pub fn book_of(
-    host: &HostRuntime,
-    run: &ServerRun<'_>,
-    accounts: &[AccountWords<'_>],
-) -> Result<RunAccounts, RunFault> {
-    let access = access_of(host, run.link_secrets)?;
-    let mut book = RunAccounts::new(host.alloc(), access);
-    add_words(host.alloc(), accounts, &mut book)?;
-    book.of_words = accounts.len();
-    if let Some(path) = run.accounts {
-        judge_file(host, path, run.opens_accounts)?;
-        add_file(host, path, &mut book)?;
-    }
-    Ok(book)
 }

@@ -3,7 +3,6 @@ use crate::moments::text_of;
 use sms_base::Moment;
 use sms_rows::keep::KeepError;
 use smsc_cli::words::{WordsFault, why_no_server_words};
-use smsc_server::ServeFault;
 use std::alloc::{AllocError, AllocFailed, Global};
 use std::io;
 use thiserror::Error;
@@ -239,9 +238,13 @@ pub fn lost_fault(error: io::Error) -> RunFault {
 /// The paths that a fault may be about.
 #[derive(Clone, Copy)]
 pub struct Paths<'a> {
+    /// The store's.
     pub store: &'a str,
+    /// The path of the file of accounts.
     pub accounts: &'a str,
+    /// The path of the file of the secrets of links.
     pub secrets: &'a str,
+    /// The path of the control socket.
     pub control: &'a str,
 }
 
@@ -400,18 +403,6 @@ impl From<KeepError> for RunFault {
             KeepError::Disk | KeepError::Interrupted | KeepError::Closed => {
                 RunFault::Store(StoreFault::Other)
             }
-        }
-    }
-}
-
-impl From<ServeFault> for RunFault {
-    fn from(fault: ServeFault) -> RunFault {
-        match fault {
-            ServeFault::NoMemory => RunFault::NoMemory,
-            ServeFault::NoThread => RunFault::NoThread,
-            ServeFault::BadRows => RunFault::BadRows,
-            ServeFault::Store(error) => RunFault::from(error),
-            ServeFault::Broken => RunFault::Broken,
         }
     }
 }

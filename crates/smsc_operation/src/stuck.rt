@@ -88,7 +88,7 @@ fn put_message(
 }
 
 /// A line for each handset for which messages wait that have not ended, first the one for which most waits.
-pub fn stuck_lines(
+pub(crate) fn stuck_lines(
     alloc: Global,
     messages: &[MessageRow],
     parts: &Table<PartRow>,

@@ -52,7 +52,9 @@ pub fn number_text(alloc: Global, handset: &Digits) -> Result<String, AllocError
 /// A part of a line, and how much it matters.
 #[derive(Drop)]
 pub struct Line {
+    /// How much it matters: `info`, `warn` or `error`.
     pub level: &'static str,
+    /// The part behind the time and the level.
     pub text: String,
 }
 
@@ -78,7 +80,7 @@ fn is_bare(text: &str) -> bool {
 }
 
 /// An octet between quotation marks; a question mark for one that is no printable ASCII.
-pub fn put_quoted(text: &mut String, octet: u8) -> Result<(), AllocError> {
+pub(crate) fn put_quoted(text: &mut String, octet: u8) -> Result<(), AllocError> {
     match octet {
         b'"' => text.push_str("\\\""),
         b'\\' => text.push_str("\\\\"),
@@ -231,7 +233,7 @@ pub fn cause_word(cause: u8) -> &'static str {
 }
 
 /// The text of a line for submit_sm that were refused within a second.
-pub fn refusals_text(
+pub(crate) fn refusals_text(
     alloc: Global,
     names: &[String],
     refusals: &Refusals,
@@ -252,7 +254,7 @@ pub fn refusals_text(
 }
 
 /// The word of a receipt for an end (SMPP v3.4 appendix B).
-pub fn state_word(state: FinalState) -> &'static str {
+pub(crate) fn state_word(state: FinalState) -> &'static str {
     match state {
         FinalState::Delivered => "DELIVRD",
         FinalState::Expired => "EXPIRED",

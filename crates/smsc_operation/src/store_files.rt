@@ -101,7 +101,7 @@ pub fn octets_at(rt: &HostRuntime, path: &str) -> u64 {
 
 /// Makes the file at the path where it is missing, for its owner alone. The log gets the mode of its file. Where it can't be made, what
 /// opens it says why.
-pub fn make_private(rt: &HostRuntime, path: &str) {
+pub(crate) fn make_private(rt: &HostRuntime, path: &str) {
     let _ = OpenOptions::new()
         .write(true)
         .create_new(true)
@@ -110,7 +110,7 @@ pub fn make_private(rt: &HostRuntime, path: &str) {
 }
 
 /// Makes a new file for its owner alone, and waits until the disk has what is written.
-pub fn write_private(rt: &HostRuntime, path: &str, octets: &[u8]) -> io::Result<()> {
+pub(crate) fn write_private(rt: &HostRuntime, path: &str, octets: &[u8]) -> io::Result<()> {
     let mut file = OpenOptions::new()
         .write(true)
         .create_new(true)

@@ -8,15 +8,15 @@ use crate::run_fault::{RunFault, StoreFault, lost_fault};
 use crate::store_files::{StorePaths, look_at, write_private};
 use sms_base::{Listed, MessageId, Moment};
 use sms_centre_recovery::soundness::RowTables;
-use sms_centre_spec::Rows;
+use sms_centre_spec::bodies::CentreStore;
 use sms_centre_spec::numbers::step_after_loss;
+use sms_centre_spec::{Rows, Setup};
 use sms_store::CentreKeep;
 use sms_store_files::{
     FilesFault, FilesFinding, Mark, Verdict, are_still, drop_log, finding_of, mark_at, octets_of,
     verdict_of, write_back, write_mark,
 };
 use smsc_cli::words::ServerRun;
-use smsc_service::{CentreStore, Setup};
 use sqlite::{File, FileStore, Files};
 use std::alloc::Global;
 
@@ -106,7 +106,7 @@ fn keep_log(
 }
 
 /// Keeps a copy of a log whose file is missing, under the moment of the start, and empties the log.
-pub fn set_log_aside(
+pub(crate) fn set_log_aside(
     rt: &HostRuntime,
     paths: &StorePaths,
     files: &mut Files<File>,
@@ -271,7 +271,7 @@ fn stepped(
 }
 
 /// Makes the files ready for a run: they are judged, what the log holds is written into FILE, and FILE's mark says that a run has it open.
-pub fn ready(
+pub(crate) fn ready(
     rt: &HostRuntime,
     run: &ServerRun<'_>,
     paths: &StorePaths,
@@ -307,7 +307,7 @@ fn put_closed(alloc: Global, files: &mut Files<File>, step: u32) -> Result<(), F
 
 /// Puts back the mark that a run found, once the database was refused that it would have opened. A database that was not left in order was
 /// judged before the run's mark was set, so that this is one which a run has left whole.
-pub fn put_back(rt: &HostRuntime, path: &str, begun: &Begun) {
+pub(crate) fn put_back(rt: &HostRuntime, path: &str, begun: &Begun) {
     if let Mark::Closed(step) = begun.finding.mark {
         let _ = closed_again(rt, path, step);
     }

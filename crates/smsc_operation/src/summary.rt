@@ -87,7 +87,7 @@ pub struct Files {
 }
 
 /// The files of the store at the paths.
-pub fn files_at(rt: &HostRuntime, paths: &StorePaths) -> Files {
+pub(crate) fn files_at(rt: &HostRuntime, paths: &StorePaths) -> Files {
     Files {
         is_there: octets_at(rt, paths.file.as_str()) > 0,
         log_octets: octets_at(rt, paths.log.as_str()),

@@ -4,12 +4,12 @@ use crate::run_fault::{RunFault, StoreFault};
 use crate::store_files::{StorePaths, is_full, look_at, make_private, octets_at, probe_disk};
 use crate::summary::{Files as FilesFound, files_at};
 use sms_base::Moment;
+use sms_centre_spec::Setup;
 use sms_centre_spec::numbers::first_number;
 use sms_rows::keep::KeepError;
 use sms_store::CentreKeep;
 use sms_store_files::{FilesLook, OpenedFiles, is_log_alone, lengths_of, opened_of};
 use smsc_cli::words::ServerRun;
-use smsc_service::Setup;
 use sqlite::{Connection, Error, ErrorCode, File, FileStore, Files, Options, Unknown};
 use sqlite_std_file::OpenError;
 use std::fs::{self, OpenOptions};
@@ -19,11 +19,13 @@ use std::io::{self, ErrorKind};
 /// What a run finds as it opens its store.
 #[derive(Drop)]
 pub struct FoundStore {
+    /// The paths of both files.
     pub paths: StorePaths,
     /// What the files were before.
     pub files: FilesFound,
     /// The files that were opened.
     pub opened: OpenedFiles,
+    /// What both say of the runs before.
     pub begun: Begun,
 }
 
@@ -40,7 +42,7 @@ fn fault_of(kind: ErrorKind) -> StoreFault {
 }
 
 /// What the system says of the file at the path.
-pub fn system_fault(rt: &HostRuntime, path: &str) -> StoreFault {
+pub(crate) fn system_fault(rt: &HostRuntime, path: &str) -> StoreFault {
     match fs::metadata(rt, path) {
         Ok(found) if found.is_dir() => return StoreFault::Folder,
         Ok(_) | Err(_) => (),
@@ -90,7 +92,7 @@ fn judge_octets(file: u64, log: u64, begins_anew: bool) -> Result<(), RunFault> 
 }
 
 // Opens both files, and makes those that are missing. From here on a second server finds them locked.
-pub fn open_files(rt: &HostRuntime, path: &str) -> Result<Files<File>, RunFault> {
+pub(crate) fn open_files(rt: &HostRuntime, path: &str) -> Result<Files<File>, RunFault> {
     match sqlite_std_file::open(rt, path, Unknown) {
         Ok(files) => Ok(files),
         Err(error) => Err(open_fault(rt, path, &error)),
@@ -138,7 +140,7 @@ fn open_judged(
 // ---- the database in them
 
 /// Why the database in the files can't be opened or closed.
-pub fn database_fault(rt: &HostRuntime, path: &str, error: Error) -> RunFault {
+pub(crate) fn database_fault(rt: &HostRuntime, path: &str, error: Error) -> RunFault {
     let Error::SqliteFailure(code) = error else {
         return RunFault::Store(StoreFault::NoDatabase);
     };
@@ -153,7 +155,7 @@ pub fn database_fault(rt: &HostRuntime, path: &str, error: Error) -> RunFault {
 }
 
 /// A number that nobody can foretell.
-pub fn seed_of(rt: &HostRuntime) -> Result<u64, RunFault> {
+pub(crate) fn seed_of(rt: &HostRuntime) -> Result<u64, RunFault> {
     match RandomState::new(rt) {
         Ok(state) => Ok(state.hash_one(&0u8)),
         Err(_) => Err(RunFault::Store(StoreFault::Other)),
@@ -161,7 +163,7 @@ pub fn seed_of(rt: &HostRuntime) -> Result<u64, RunFault> {
 }
 
 /// Opens the database in both files.
-pub fn connect(
+pub(crate) fn connect(
     rt: &HostRuntime,
     path: &str,
     files: Files<File>,
@@ -195,7 +197,7 @@ fn keep_fault(rt: &HostRuntime, path: &str, error: KeepError) -> RunFault {
 
 /// The keep of a centre's store in the database. A database without tables becomes one, and one of an earlier version is brought to the
 /// present one.
-pub fn keep_of(
+pub(crate) fn keep_of(
     rt: &HostRuntime,
     path: &str,
     conn: Connection<FileStore<File>>,

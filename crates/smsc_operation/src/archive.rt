@@ -2,9 +2,9 @@
 use crate::lines::{number_text, put_quoted, state_word};
 use crate::moments::text_of;
 use sms_base::{Moment, Originator, Wish};
+use sms_centre::{Archive, NotArchived};
 use sms_centre_rows::messages::MessageRow;
 use smsc_observer::{NO_MESSAGES, with_message};
-use smsc_service::{Archive, NotArchived};
 use smsc_status::MessageFigures;
 use std::alloc::{AllocError, Global};
 use std::fs::{File, OpenOptions};
