@@ -1,6 +1,6 @@
 -- What is told of a script that was played, by how its calls ended.
 use Rattle.std.proofs.Common.{◌≡◌, ℕ, ◌+◌, List, [], ◌∷◌, Bool, true, false, refl, sym, ◌∙◌, subst, ap, Option, Some, None, Result, Ok, Err}
-use Rattle.std.specs.Prelude.{IfOk, if◌then◌else◌}
+use Rattle.std.specs.Prelude.{IfErr, IfOk, if◌then◌else◌}
 use Rattle.sms_base.specs.Reading.{◌>>=◌}
 use Rattle.sms_play.specs.PlayState.{PlayState}
 use Rattle.sms_play.specs.PlayedEvent.{played}
@@ -26,6 +26,14 @@ report_made (Err e) event wanted is = tt
 
 pub report_reported : {E : Type 0} (res : Result Report E) (told : Result Report PlayFault) (event : ℕ) (wanted : Report) → told ≡ or_no_memory event res → IfOk res (λ report. report ≡ wanted) → Reports told (Ok wanted)
 report_reported res told event wanted e is = subst (λ (r : Result Report PlayFault). Reports r (Ok wanted)) (sym e) (report_made res event wanted is)
+
+fault_made : {X E : Type 0} (res : Result X E) (event : ℕ) → IfErr (or_no_memory event res) (λ fault. fault ≡ NoMemory event)
+fault_made (Ok x) event = tt
+fault_made (Err e) event = refl
+
+-- its want of memory is told with this event
+pub fault_named : {X E : Type 0} (res : Result X E) (told : Result X PlayFault) (event : ℕ) → told ≡ or_no_memory event res → IfErr told (λ fault. fault ≡ NoMemory event)
+fault_named {X} res told event e = subst (λ (r : Result X PlayFault). IfErr r (λ fault. fault ≡ NoMemory event)) (sym e) (fault_made res event)
 
 -- all events were played, and this is told of where they lead
 pub report_there : {X : Type 0} (part : X → Report) (told : Result X PlayFault) (events : List WorldEvent) (c d : PlayState) → played_on 1 events c ≡ Ok d → Gives part told (Ok (report_of d)) → Gives part told (report_on events c)

@@ -1,8 +1,9 @@
 //! The report of a script that was played to its end.
-ghost use Rattle.std.specs.Prelude.{Ok, Option, IfOk};
+ghost use Rattle.std.specs.Prelude.{◌≡◌, Ok, Option, IfErr, IfOk};
 ghost use Rattle.sms_play.specs.PlayState.{PlayState};
 ghost use Rattle.sms_play.specs.Playing.{report_of as report_of_play};
 ghost use Rattle.sms_player.specs.playing.Plays.{Represents};
+ghost use Rattle.sms_script.specs.declared.play_fault.PlayFault.TheVariants.{NoMemory};
 ghost use Rattle.sms_script.specs.declared.report.Broken.{Broken as BrokenOf};
 ghost use Rattle.sms_world.specs.running.Reporting.{Gives, Reports};
 ghost use Rattle.sms_world.specs.declared.running.ending.Judged.{Judged as JudgedOf};
@@ -20,7 +21,8 @@ pub(crate) struct Judged {
 }
 
 fn report_of(playing: Playing<'_>, events: usize) -> Result<Report, PlayFault>
-    ensures { (c : PlayState) → Represents c playing.entry → Reports result (Ok (report_of_play c)) }
+    ensures report { (c : PlayState) → Represents c playing.entry → Reports result (Ok (report_of_play c)) }
+    ensures fault { IfErr result (λ fault. fault ≡ NoMemory events) }
 {
     or_no_memory(events as u64, playing.report())
 }
@@ -32,6 +34,7 @@ pub(crate) fn finish<W: Finder>(
     events: usize,
 ) -> Result<Judged, PlayFault>
     ensures report { (c : PlayState) → Represents c playing.entry → Gives (λ (judged : JudgedOf). judged.report) result (Ok (report_of_play c)) }
+    ensures fault { IfErr result (λ fault. fault ≡ NoMemory events) }
     ensures verdict { (broken : Option BrokenOf) (c : PlayState) → W.has_seen watcher.now broken c → IfOk result (λ judged. W.reports judged.broken broken) }
 {
     match report_of(playing, events) {
