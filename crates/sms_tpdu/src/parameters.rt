@@ -133,7 +133,7 @@ pub(crate) fn put_parameters(
     put_optional_data(out, &parameters.user_data)
 }
 
-/// What TP-UDL says, or 0 where no user data is there. The octets of user data are at most so many.
+/// What TP-UDL says, or 0 where no user data is there. A writer makes so many octets of room for it.
 pub(crate) fn data_length(parameters: &Parameters<'_>) -> u8
     ensures { result ≡ data_length parameters.now.user_data }
 {

@@ -18,7 +18,7 @@
 //! - `opening`: how a run opens its store, and why it can't
 //! - `password`: what is written of a password
 //! - `preparing`: how both files are made ready before a run, and left after it
-//! - `readiness`: what whoever started the server is told of it
+//! - `readiness`: the lines to the manager of services, that the server listens and that it begins to end
 //! - `run_fault`: why a run ended early
 //! - `saving`: a copy of a store
 //! - `store_files`: the two files of a store as the system has them
