@@ -1,6 +1,6 @@
 //! The line of a message at its end.
 ghost use Rattle.std.specs.Prelude.{◌≡◌, ◌++◌, IfOk, OnOk, option_map};
-ghost use Rattle.smsc_status.specs.Access.{access_text, course_text, end_word as end_word_of, number_text, originator_text, parties_text};
+ghost use Rattle.smsc_status.specs.Access.{access_text, course_text, end_text, end_word as end_word_of, number_text, originator_text, parties_text};
 
 use crate::pieces::{Piece, put_pieces};
 use crate::words::put_word;
@@ -24,6 +24,8 @@ pub struct AccessLine<'a> {
     pub state: FinalState,
     /// How often the part was tried in vain that was tried in vain most often.
     pub failed_attempts: u64,
+    /// The last cause by which a handset refused a part (3GPP TS 24.011 8.2.5.4), if it refused one.
+    pub last_cause: Option<u8>,
     /// How long the commit took that has its end, in millionths of a second.
     pub commit_micros: u64,
 }
@@ -94,10 +96,28 @@ fn put_course(out: &mut Octets, line: &AccessLine<'_>) -> Result<(), AllocError>
             Piece::Text(end_word(line.state)),
             Piece::Text(b" failed_attempts="),
             Piece::Number(line.failed_attempts),
-            Piece::Text(b" commit_seconds="),
-            Piece::Seconds(line.commit_micros),
         ],
     )
+}
+
+fn put_end(out: &mut Octets, last_cause: Option<u8>, micros: u64) -> Result<(), AllocError>
+    ensures { OnOk result (out.new ≡ out.old ++ end_text last_cause micros) }
+{
+    match last_cause {
+        Some(cause) => put_pieces(
+            out,
+            &[
+                Piece::Text(b" last_cause="),
+                Piece::Number(cause as u64),
+                Piece::Text(b" commit_seconds="),
+                Piece::Seconds(micros),
+            ],
+        ),
+        None => put_pieces(
+            out,
+            &[Piece::Text(b" commit_seconds="), Piece::Seconds(micros)],
+        ),
+    }
 }
 
 #[tactic(auto, unfolding(crate::specs::Access::access_text))]
@@ -107,7 +127,8 @@ fn put_line(out: &mut Octets, line: &AccessLine<'_>) -> Result<(), AllocError>
     put_number(out, line.id)?;
     put_originator(out, line.account, line.source)?;
     put_parties(out, line.source, line.destination)?;
-    put_course(out, line)
+    put_course(out, line)?;
+    put_end(out, line.last_cause, line.commit_micros)
 }
 
 /// The line of a message at its end, in logfmt.
