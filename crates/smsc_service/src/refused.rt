@@ -37,9 +37,13 @@ fn refusal_in(unit: &[u8]) -> Option<Refusal>
     ensures { result ≡ refusal_of_unit (up_at unit.now) }
 {
     match read_up(unit) {
-        Ok(Rp::ErrorUnit {
-            reference, cause, ..
-        }) => Some(Refusal {
+        Ok(
+            Rp::ErrorUnit {
+                reference,
+                cause,
+                ..
+            },
+        ) => Some(Refusal {
             reference,
             cause: cause.number(),
         }),

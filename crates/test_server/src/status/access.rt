@@ -21,7 +21,13 @@ fn id() -> Result<MessageId, Fail> {
 }
 
 // An account, a source, the last cause, and how the line begins and ends. A name with a space or a quotation mark is put between quotation marks.
-type Row = (Option<&'static str>, &'static str, Option<u8>, &'static str, &'static str);
+type Row = (
+    Option<&'static str>,
+    &'static str,
+    Option<u8>,
+    &'static str,
+    &'static str,
+);
 
 const ROWS: &[Row] = &[
     (
