@@ -30,11 +30,17 @@ course_text a =
     codes " parts=" ++ (decimal a.parts ++ (codes " submitted=" ++ (moment_text a.submitted ++ (codes " ended=" ++ (moment_text a.ended ++ (codes " state="
     ++ (end_word a.state ++ (codes " failed_attempts=" ++ decimal a.failed_attempts))))))))
 
--- without a cause where no handset refused a part of it
-abbrev pub end_text : Option ℕ → ℕ → List ℕ
-end_text None micros = codes " commit_seconds=" ++ millionths_text micros
-end_text (Some cause) micros = codes " last_cause=" ++ (decimal cause ++ (codes " commit_seconds=" ++ millionths_text micros))
+unfoldable pub cause_text : ℕ → List ℕ
+cause_text cause = codes " last_cause=" ++ decimal cause
+
+-- nothing where no handset refused a part of it
+abbrev pub last_cause_text : Option ℕ → List ℕ
+last_cause_text None = codes ""
+last_cause_text (Some cause) = cause_text cause
+
+unfoldable pub commit_text : ℕ → List ℕ
+commit_text micros = codes " commit_seconds=" ++ millionths_text micros
 
 unfoldable pub access_text : AccessLine → Option (List ℕ) → List ℕ → List ℕ → List ℕ
 access_text a account source destination =
-    number_text a.id ++ (originator_text account source ++ (parties_text source destination ++ (course_text a ++ end_text a.last_cause a.commit_micros)))
+    number_text a.id ++ (originator_text account source ++ (parties_text source destination ++ (course_text a ++ (last_cause_text a.last_cause ++ commit_text a.commit_micros))))

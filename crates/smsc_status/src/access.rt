@@ -1,6 +1,6 @@
 //! The line of a message at its end.
 ghost use Rattle.std.specs.Prelude.{◌≡◌, ◌++◌, IfOk, OnOk, option_map};
-ghost use Rattle.smsc_status.specs.Access.{access_text, course_text, end_text, end_word as end_word_of, number_text, originator_text, parties_text};
+ghost use Rattle.smsc_status.specs.Access.{access_text, cause_text, commit_text, course_text, end_word as end_word_of, last_cause_text, number_text, originator_text, parties_text};
 
 use crate::pieces::{Piece, put_pieces};
 use crate::words::put_word;
@@ -100,24 +100,33 @@ fn put_course(out: &mut Octets, line: &AccessLine<'_>) -> Result<(), AllocError>
     )
 }
 
-fn put_end(out: &mut Octets, last_cause: Option<u8>, micros: u64) -> Result<(), AllocError>
-    ensures { OnOk result (out.new ≡ out.old ++ end_text last_cause micros) }
+#[tactic(auto, unfolding(crate::specs::Access::cause_text))]
+fn put_cause(out: &mut Octets, cause: u8) -> Result<(), AllocError>
+    ensures { OnOk result (out.new ≡ out.old ++ cause_text cause) }
+{
+    put_pieces(
+        out,
+        &[Piece::Text(b" last_cause="), Piece::Number(cause as u64)],
+    )
+}
+
+fn put_last_cause(out: &mut Octets, last_cause: Option<u8>) -> Result<(), AllocError>
+    ensures { OnOk result (out.new ≡ out.old ++ last_cause_text last_cause) }
 {
     match last_cause {
-        Some(cause) => put_pieces(
-            out,
-            &[
-                Piece::Text(b" last_cause="),
-                Piece::Number(cause as u64),
-                Piece::Text(b" commit_seconds="),
-                Piece::Seconds(micros),
-            ],
-        ),
-        None => put_pieces(
-            out,
-            &[Piece::Text(b" commit_seconds="), Piece::Seconds(micros)],
-        ),
+        Some(cause) => put_cause(out, cause),
+        None => out.append(b""),
     }
+}
+
+#[tactic(auto, unfolding(crate::specs::Access::commit_text))]
+fn put_commit(out: &mut Octets, micros: u64) -> Result<(), AllocError>
+    ensures { OnOk result (out.new ≡ out.old ++ commit_text micros) }
+{
+    put_pieces(
+        out,
+        &[Piece::Text(b" commit_seconds="), Piece::Seconds(micros)],
+    )
 }
 
 #[tactic(auto, unfolding(crate::specs::Access::access_text))]
@@ -128,7 +137,8 @@ fn put_line(out: &mut Octets, line: &AccessLine<'_>) -> Result<(), AllocError>
     put_originator(out, line.account, line.source)?;
     put_parties(out, line.source, line.destination)?;
     put_course(out, line)?;
-    put_end(out, line.last_cause, line.commit_micros)
+    put_last_cause(out, line.last_cause)?;
+    put_commit(out, line.commit_micros)
 }
 
 /// The line of a message at its end, in logfmt.
