@@ -2,7 +2,6 @@
 ghost use Rattle.std.specs.Prelude.{◌≡◌, ◌++◌, IfOk, OnOk, option_map};
 ghost use Rattle.smsc_status.specs.Access.{access_text, cause_text, commit_text, course_text, end_word as end_word_of, last_cause_text, number_text, originator_text, parties_text};
 
-use crate::markup::put_number as put_decimal;
 use crate::pieces::{Piece, put_pieces};
 use crate::words::put_word;
 use sms_base::{FinalState, MessageId, Moment, Octets};
@@ -101,12 +100,13 @@ fn put_course(out: &mut Octets, line: &AccessLine<'_>) -> Result<(), AllocError>
     )
 }
 
-#[tactic(auto, unfolding(crate::specs::Access::cause_text))]
 fn put_cause(out: &mut Octets, cause: u8) -> Result<(), AllocError>
     ensures { OnOk result (out.new ≡ out.old ++ cause_text cause) }
 {
-    out.append(b" last_cause=")?;
-    put_decimal(out, cause as u64)
+    put_pieces(
+        out,
+        &[Piece::Text(b" last_cause="), Piece::Number(cause as u64)],
+    )
 }
 
 fn put_last_cause(out: &mut Octets, last_cause: Option<u8>) -> Result<(), AllocError>
