@@ -52,13 +52,12 @@ struct RefusedPlace {
 
 impl RefusedPlace {
     // Keeps it, if the place is free or has the same message.
-    fn put(&self, part: RefusedPart) -> bool {
-        let number = part.id.number();
+    fn put(&self, number: u64, cause: u8) -> bool {
         let there = self.message.load(Ordering::SeqCst);
         if there != 0 && there != number {
             return false;
         }
-        self.cause.store(part.cause, Ordering::SeqCst);
+        self.cause.store(cause, Ordering::SeqCst);
         self.message.store(number, Ordering::SeqCst);
         true
     }
@@ -172,8 +171,10 @@ impl LinkBoard {
 
     /// Keeps the message of which a handset refused a part, until somebody takes it. What finds no place is lost.
     pub(crate) fn put_refused(&self, part: RefusedPart) {
+        let RefusedPart { id, cause } = part;
+        let number = id.number();
         for place in self.refused.iter() {
-            if place.put(part) {
+            if place.put(number, cause) {
                 return;
             }
         }
