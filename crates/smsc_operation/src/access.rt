@@ -1,7 +1,7 @@
 //! The access log: a line of each message at its end, with what became of it, and never with what it says.
 //!
-//! A commit has the rows that it changes. So the run keeps how many parts each pending message has, and how often they failed,
-//! until the message has ended.
+//! A commit has the rows that it changes. So the run keeps how many parts each pending message has, how often they failed, and the last cause
+//! by which a handset refused one, until the message has ended.
 use crate::lines::number_text;
 use crate::logging::Log;
 use sms_base::{FinalState, MessageId, Octets, Originator};
@@ -21,11 +21,14 @@ struct Course {
     parts: u8,
     // How often the part failed that failed most often.
     failed: u8,
+    // The last cause by which a handset refused a part, if it refused one.
+    last_cause: Option<u8>,
 }
 
 const NO_COURSE: Course = Course {
     parts: 0,
     failed: 0,
+    last_cause: None,
 };
 
 #[derive(Drop)]
@@ -52,8 +55,21 @@ impl Courses {
         let course = Course {
             parts: course.parts.max(number),
             failed: course.failed.max(failed),
+            last_cause: course.last_cause,
         };
         let _ = self.by_message.insert(message, course);
+    }
+
+    // A handset refused a part of the message. One that is not pending has its line already.
+    fn refuse(&mut self, message: u64, cause: u8) {
+        if let Some(course) = self.at(message) {
+            let course = Course {
+                parts: course.parts,
+                failed: course.failed,
+                last_cause: Some(cause),
+            };
+            let _ = self.by_message.insert(message, course);
+        }
     }
 
     fn put_part(&mut self, part: &PartRow) {
@@ -127,6 +143,7 @@ fn line_of(
             ended: message.done.unwrap_or(message.submitted),
             state,
             failed_attempts: u64::from(course.failed),
+            last_cause: course.last_cause,
             commit_micros: micros,
         },
     )
@@ -162,6 +179,11 @@ impl Access {
         for part in rows.parts.as_slice() {
             self.courses.lock(rt).put_known(part);
         }
+    }
+
+    /// A handset refused a part of this message by this cause, before the commit that is taken next.
+    pub fn refuse<R: Wait>(&self, rt: &R, id: MessageId, cause: u8) {
+        self.courses.lock(rt).refuse(id.number(), cause);
     }
 
     /// A commit changed these rows, and took so many millionths of a second.

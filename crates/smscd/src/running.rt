@@ -13,7 +13,7 @@ use sms_base::{Address, Moment};
 use sms_centre_spec::numbers::first_number;
 use sms_keeper::Gate;
 use sms_store_files::{LogFinding, LogJudgement};
-use smsc_cli::words::{AccountWords, ServerRun};
+use smsc_cli::words::{AccountWords, LogDetail, ServerRun};
 use smsc_endpoint::LinkAccess;
 use smsc_operation::feed::Source;
 use smsc_operation::logging::{self, Log, LogThread};
@@ -207,13 +207,14 @@ fn watchers_of<R: Wait + Copy>(
     run: &ServerRun<'_>,
     log: Arc<Log<R>>,
     names: Arc<Vec<String>>,
+    board: Arc<LinkBoard>,
     guard: Arc<Guard>,
 ) -> Result<(Watchers<R>, Option<StatusPart>), AllocError> {
     let Some(port) = run.status else {
-        return Ok((log_alone(rt, alloc, log, run.log, guard), None));
+        return Ok((log_alone(rt, alloc, log, run.log, board, guard), None));
     };
-    let (watchers, source) = log_and_page(rt, alloc, log, run.log, guard)?;
-    let links = Arc::new(alloc, LinkBoard::new(alloc)?)?;
+    let links = Arc::try_clone(&board)?;
+    let (watchers, source) = log_and_page(rt, alloc, log, run.log, board, guard)?;
     let part = StatusPart {
         port,
         source,
@@ -223,10 +224,15 @@ fn watchers_of<R: Wait + Copy>(
     Ok((watchers, Some(part)))
 }
 
-fn board_of(part: &Option<StatusPart>) -> Result<Option<Arc<LinkBoard>>, AllocError> {
-    match part {
-        Some(part) => Ok(Some(Arc::try_clone(&part.links)?)),
-        None => Ok(None),
+// The board, where the status page or the access log looks at it.
+fn board_of(
+    run: &ServerRun<'_>,
+    board: &Arc<LinkBoard>,
+) -> Result<Option<Arc<LinkBoard>>, AllocError> {
+    if run.status.is_some() || run.log == LogDetail::Access {
+        Ok(Some(Arc::try_clone(board)?))
+    } else {
+        Ok(None)
     }
 }
 
@@ -245,8 +251,9 @@ fn given_of<R: Wait + Copy>(
         log,
         orders,
     } = parts;
-    let (watchers, status) = watchers_of(rt, alloc, run, log, names, guard)?;
-    let links = board_of(&status)?;
+    let board = Arc::new(alloc, LinkBoard::new(alloc)?)?;
+    let links = board_of(run, &board)?;
+    let (watchers, status) = watchers_of(rt, alloc, run, log, names, board, guard)?;
     let access = Arc::new(alloc, access)?;
     let observer = Arc::new(alloc, watchers)?;
     let Limits {

@@ -9,6 +9,7 @@ use smsc_operation::access::Access;
 use smsc_operation::feed::{Feed, Source, fed, is_of_messages};
 use smsc_operation::gone::Gone;
 use smsc_operation::logging::Log;
+use smsc_service::{LinkBoard, MOST_REFUSED};
 use std::alloc::{AllocError, Global};
 use std::sync::atomic::{AtomicU64, Ordering};
 use std::sync::{Arc, Wait};
@@ -23,6 +24,8 @@ pub struct Watchers<R: Wait> {
     // The log has lines of messages as they are accepted and end.
     logs_messages: bool,
     access: Option<Access>,
+    // Where the keeper puts down of which messages handsets refuse parts.
+    board: Arc<LinkBoard>,
     pub guard: Arc<Guard>,
     feed: Option<Feed<R>>,
     // When the commit under way began, and how long the last one took, in millionths of a second.
@@ -46,6 +49,16 @@ impl<R: Wait> Watchers<R> {
         match &self.feed {
             Some(feed) => Ok(Some(Arc::try_clone(&feed.gone)?)),
             None => Ok(None),
+        }
+    }
+
+    // What handsets refused since the commit before this one.
+    fn take_refused(&self, access: &Access) {
+        for place in 0..MOST_REFUSED {
+            match self.board.take_refused(place) {
+                Some(part) => access.refuse(&self.rt, part.id, part.cause),
+                None => return,
+            }
         }
     }
 
@@ -102,6 +115,7 @@ impl<R: Wait + Copy + Clock> Observer for Watchers<R> {
 
     fn committed(&self, changes: &Changes) {
         if let Some(access) = &self.access {
+            self.take_refused(access);
             let took = self.took.load(Ordering::SeqCst);
             access.take(&self.rt, self.alloc, &*self.log, changes, took);
         }
@@ -117,6 +131,7 @@ fn watchers_of<R: Wait>(
     alloc: Global,
     log: Arc<Log<R>>,
     detail: LogDetail,
+    board: Arc<LinkBoard>,
     guard: Arc<Guard>,
     feed: Option<Feed<R>>,
 ) -> Watchers<R> {
@@ -130,6 +145,7 @@ fn watchers_of<R: Wait>(
         log,
         logs_messages: detail == LogDetail::Messages,
         access,
+        board,
         guard,
         feed,
         began: AtomicU64::new(0),
@@ -143,9 +159,10 @@ pub fn log_alone<R: Wait>(
     alloc: Global,
     log: Arc<Log<R>>,
     detail: LogDetail,
+    board: Arc<LinkBoard>,
     guard: Arc<Guard>,
 ) -> Watchers<R> {
-    watchers_of(rt, alloc, log, detail, guard, None)
+    watchers_of(rt, alloc, log, detail, board, guard, None)
 }
 
 /// The log and a status page, and what the thread of the page takes.
@@ -154,9 +171,10 @@ pub fn log_and_page<R: Wait + Copy>(
     alloc: Global,
     log: Arc<Log<R>>,
     detail: LogDetail,
+    board: Arc<LinkBoard>,
     guard: Arc<Guard>,
 ) -> Result<(Watchers<R>, Source), AllocError> {
     let (feed, source) = fed(rt, alloc, log.lost_lines()?)?;
-    let watchers = watchers_of(rt, alloc, log, detail, guard, Some(feed));
+    let watchers = watchers_of(rt, alloc, log, detail, board, guard, Some(feed));
     Ok((watchers, source))
 }
