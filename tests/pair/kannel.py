@@ -13,8 +13,10 @@ HERE = os.path.dirname(os.path.abspath(__file__))
 PAGE = os.path.join(HERE, "..", "..", "docs", "PAIR.md")
 sys.path.insert(0, os.path.join(HERE, "..", "clients"))
 import handset as handsets  # noqa: E402
+import nodes  # noqa: E402
 
-SEND = 13013
+# Where bearerbox waits for smsbox, and where smsbox waits for texts.
+BOX, SEND = 13001, 13013
 
 
 def block(word):
@@ -47,12 +49,17 @@ class Reader:
         while not over.is_set():
             try:
                 link = handsets.Handset(self.port, self.number)
+            except OSError:
+                time.sleep(0.2)
+                continue
+            try:
                 while not over.is_set() and link.serve(0.2):
                     self.keep(link)
-                self.keep(link)
-                link.close()
             except OSError:
                 pass
+            # What it accepted before its link was lost it has.
+            self.keep(link)
+            link.close()
             time.sleep(0.2)
 
     def keep(self, link):
@@ -63,17 +70,21 @@ class Reader:
 class Kannel:
     """bearerbox and smsbox on a node."""
 
-    def __init__(self, node):
+    def __init__(self, node, seconds):
         self.node, self.taken, self.others = node, {}, {}
         file = os.path.join(node.room, "kannel.conf")
         with open(file, "w") as out:
             out.write(block("smsc-id = north"))
         self.programs = []
-        for program in ("bearerbox", "smsbox"):
+        for program, port in (("bearerbox", BOX), ("smsbox", SEND)):
             # Both write into the folder that they are started in.
             words = ["sh", "-c", 'cd "$1" && exec "$2" "$3"', "sh", node.room, program, file]
             self.programs.append(node.start(*words, stdout=subprocess.DEVNULL, stderr=subprocess.DEVNULL))
-            time.sleep(2)
+            assert nodes.wait_until(lambda: self.is_taken(port), seconds), f"{program} does not listen"
+
+    def is_taken(self, port):
+        """Whether somebody listens on that port of the node."""
+        return f":{port} " in self.node.run("ss", "-ltnH")
 
     def send(self, to, text):
         """Asks smsbox to send, and keeps what it took: 202 where it did."""

@@ -1,6 +1,6 @@
 //! The clock of this machine.
 use sms_base::Moment;
-use smsc_server::link_run::Clock;
+use sms_handset_link::Clock;
 use std::time::SystemTime;
 
 // The first second of the year 2000.

@@ -35,7 +35,7 @@ use crate::refusing::{cancel_refusal, query_refusal, submit_refusal};
 use crate::state::{CentreState, RecoverError};
 use smpp_pdu::{CancelSm, CommandStatus, Message as SubmitSm, QuerySm};
 use sms_base::lending::put;
-use sms_base::{Digits, Listed, MessageId, Moment, Octets};
+use sms_base::{Carried, Digits, Listed, MessageId, Moment, Octets};
 use sms_centre_messages::message_index::copy_of_changes;
 use sms_centre_queue::queue::LinkFigures;
 use sms_centre_recovery::commit;
@@ -342,6 +342,13 @@ impl Centre {
         ensures { (c : Core) → Represents c self.now → AllDigits handset.now → result ≡ figures_of (all_for handset.now c.rows) (line_of handset.now c.lines) }
     {
         self.centre_state.figures(handset)
+    }
+
+    /// What the transaction to the handset carries that is under way.
+    pub fn under_way(&self, handset: &Digits) -> Option<Carried>
+        ensures { (c : Core) → Represents c self.now → AllDigits handset.now → result ≡ (line_of handset.now c.lines).link.under_way }
+    {
+        self.centre_state.under_way(handset)
     }
 
     /// Every message with its state, by number. It takes time linear in the messages.

@@ -180,6 +180,7 @@ pub trait Machine<J, O> {
         ensures ok { is_honest self.new → (s : Self.State) → resumes self.old s → OnOk result (stands self.new s s) }
         ensures fails { is_honest self.new → (s : Self.State) → resumes self.old s → OnErr result (fails_as self.new s) }
         ensures before { is_honest self.new → is_honest self.old }
+        ensures opened { OnOk result (is_broken self.new → ⊥) }
         ensures err { OnErr result (is_broken self.new) };
 
     /// Refuses an item, once it could not be opened again. Its store is asked nothing.

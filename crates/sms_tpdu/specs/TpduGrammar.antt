@@ -134,6 +134,11 @@ abbrev pub data_field : Option UserData → List ℕ
 data_field None = []
 data_field (Some text) = user_data_field text
 
+-- what TP-UDL says; no user data has no length
+abbrev pub data_length : Option UserData → ℕ
+data_length None = 0
+data_length (Some text) = text.length
+
 -- user data is in the default alphabet where no data coding scheme is announced
 abbrev pub report_coding : Option ℕ → Coding
 report_coding None = Septets

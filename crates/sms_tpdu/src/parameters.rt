@@ -1,7 +1,7 @@
 //! What the parameter indicator of a report announces (3GPP TS 23.040 9.2.3.27).
 ghost use Rattle.std.specs.Prelude.{◌≡◌, ◌<◌, ◌++◌, ℕ, List, OnOk};
 ghost use Rattle.sms_base.specs.Reading.{Takes};
-ghost use Rattle.sms_tpdu.specs.TpduGrammar.{report_coding, indicator_of, octet_field, data_field, parameter_fields};
+ghost use Rattle.sms_tpdu.specs.TpduGrammar.{report_coding, indicator_of, octet_field, data_field, data_length, parameter_fields};
 ghost use Rattle.sms_tpdu.specs.TpduReading.{optional_octet_in, optional_data_in, parameters_in, follows_in};
 
 use crate::bits::{bit, bit_value};
@@ -133,8 +133,10 @@ pub(crate) fn put_parameters(
     put_optional_data(out, &parameters.user_data)
 }
 
-/// A bound on the octets of user data.
-pub(crate) fn data_length(parameters: &Parameters<'_>) -> u8 {
+/// What TP-UDL says, or 0 where no user data is there. A writer makes so many octets of room for it.
+pub(crate) fn data_length(parameters: &Parameters<'_>) -> u8
+    ensures { result ≡ data_length parameters.now.user_data }
+{
     match &parameters.user_data {
         Some(user_data) => user_data.length,
         None => 0,

@@ -1,7 +1,4 @@
-pub mod AccountTotals
 pub mod serving
-pub mod link_run
-pub mod Refusals
 pub mod WhatIsRead
 pub mod WhatALinkReads
 pub mod RunPromises
@@ -12,4 +9,3 @@ pub mod Forgotten
 pub mod FramesGiven
 pub mod RunReads
 pub mod OwnReplies
-pub mod Occupants

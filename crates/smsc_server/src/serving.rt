@@ -24,7 +24,6 @@
 //! - `run`: a run
 //! - `seat_thread`: the threads of the seats, each of which hands its seat back
 //! - `occupancy`: which connections may sit at the seats
-//! - `observer`: the observer of a run
 //! - `telling`: what an observer is told
 
 mod accepting;
@@ -39,7 +38,6 @@ mod fault;
 mod link_seats;
 mod loopback;
 mod observed_keep;
-mod observer;
 mod occupancy;
 mod orders;
 mod poller;
@@ -54,13 +52,10 @@ pub use account_book::AccountBook;
 pub use allowances::{Allowance, Allowances};
 pub use clock::{Clocks, RunClock, milliseconds};
 pub use connection::Ports;
-pub(crate) use connection::is_later;
 pub use fault::ServeFault;
 pub use loopback::{Loopback, loopback_pair};
 pub use observed_keep::ObservedKeep;
-pub use observer::{Event, Observer};
-pub use occupancy::Seated;
-pub use orders::{Orders, SEATS};
+pub use orders::Orders;
 pub use rates::{Rate, no_account_passes_its_rate};
 pub use run::{serve, serve_machine};
 pub use server::Given;

@@ -12,7 +12,7 @@ pub mod Serving
 pub mod BoundSession
 pub mod Causes
 pub mod Course
+pub mod Refused
 pub mod Starting
 pub mod Stepping
 pub mod Replies
-pub mod relay

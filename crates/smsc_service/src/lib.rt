@@ -30,7 +30,7 @@
 //! - `made`: what came of a stimulus
 //! - `number`: the numbers of handsets
 //! - `order_desk`: where an order of the owner waits, and its outcome
-//! - `relay`: a relay run, which has no seats and no rows
+//! - `refused`: of which message a handset refuses a part, and by which cause
 //! - `restarting`: a centre that starts again
 //! - `seat_table`: rows of the seats of a hub
 //! - `seated_centre`: a centre over its store, with who sits where
@@ -59,7 +59,7 @@ mod machine;
 mod made;
 mod number;
 mod order_desk;
-pub mod relay;
+mod refused;
 mod replies;
 mod restarting;
 mod seat_map;
@@ -79,9 +79,10 @@ pub use cutoff::Cutoff;
 pub use errands::{Errands, Forgetting};
 pub use forgetting::forget_ended;
 pub use lending::serve_with;
-pub use link_board::{CauseCount, LinkBoard};
+pub use link_board::{CauseCount, LinkBoard, MOST_REFUSED};
 pub use machine::CentreMachine;
 pub use order_desk::{OrderDesk, OrderOutcome};
+pub use refused::RefusedPart;
 pub use replies::{Requester, failed, reply_outs, taken};
 pub use seat_map::{BoundSession, LinkSeat, SeatMap};
 pub use served::Served;

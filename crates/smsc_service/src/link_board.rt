@@ -1,5 +1,7 @@
 //! The links at the seats, as the keeper saw them last.
+use crate::refused::RefusedPart;
 use crate::shown_links::{SEATS, ShownLinks};
+use sms_base::MessageId;
 use sms_centre::LinkFigures;
 use std::alloc::{AllocError, Global};
 use std::sync::atomic::{AtomicBool, AtomicU8, AtomicU64, AtomicUsize, Ordering};
@@ -8,6 +10,9 @@ use std::sync::atomic::{AtomicBool, AtomicU8, AtomicU64, AtomicUsize, Ordering};
 const CAUSE_NUMBERS: u8 = 128;
 
 const CAUSES: usize = CAUSE_NUMBERS as usize;
+
+/// So many messages of which a handset refused a part are kept at once. A group has at most so many items, and each refuses one part at most.
+pub const MOST_REFUSED: usize = 64;
 
 // No cause has this number.
 const NO_CAUSE: u8 = u8::MAX;
@@ -37,6 +42,34 @@ impl LinkPlace {
     }
 }
 
+// A message of which a handset refused a part, and the last cause, until somebody takes it.
+#[derive(Drop)]
+struct RefusedPlace {
+    // Its number, or 0 where the place is free.
+    message: AtomicU64,
+    cause: AtomicU8,
+}
+
+impl RefusedPlace {
+    // Keeps it, if the place is free or has the same message.
+    fn put(&self, number: u64, cause: u8) -> bool {
+        let there = self.message.load(Ordering::SeqCst);
+        if there != 0 && there != number {
+            return false;
+        }
+        self.cause.store(cause, Ordering::SeqCst);
+        self.message.store(number, Ordering::SeqCst);
+        true
+    }
+
+    // Gives what it keeps, and is free then.
+    fn take(&self) -> Option<RefusedPart> {
+        let id = MessageId::new(self.message.swap(0, Ordering::SeqCst))?;
+        let cause = self.cause.load(Ordering::SeqCst);
+        Some(RefusedPart { id, cause })
+    }
+}
+
 /// The links at the seats, as the keeper saw them last. The keeper puts them here when a link is up, and once a second. Neither side waits for
 /// the other.
 #[derive(Drop)]
@@ -44,6 +77,8 @@ pub struct LinkBoard {
     places: Vec<LinkPlace>,
     // How often handsets refused something by the cause of this number.
     causes: Vec<AtomicU64>,
+    // The messages of which handsets refused parts, from the first place on without a gap.
+    refused: Vec<RefusedPlace>,
 }
 
 /// How often handsets refused something by this cause (3GPP TS 24.011 8.2.5.4).
@@ -61,6 +96,17 @@ fn no_causes(alloc: Global) -> Result<Vec<AtomicU64>, AllocError> {
     Ok(causes)
 }
 
+fn none_refused(alloc: Global) -> Result<Vec<RefusedPlace>, AllocError> {
+    let mut refused = Vec::with_capacity(alloc, MOST_REFUSED)?;
+    for _ in 0..MOST_REFUSED {
+        refused.push(RefusedPlace {
+            message: AtomicU64::new(0),
+            cause: AtomicU8::new(NO_CAUSE),
+        })?;
+    }
+    Ok(refused)
+}
+
 impl LinkBoard {
     /// Nothing waits anywhere.
     pub fn new(alloc: Global) -> Result<LinkBoard, AllocError> {
@@ -74,7 +120,12 @@ impl LinkBoard {
             })?;
         }
         let causes = no_causes(alloc)?;
-        Ok(LinkBoard { places, causes })
+        let refused = none_refused(alloc)?;
+        Ok(LinkBoard {
+            places,
+            causes,
+            refused,
+        })
     }
 
     /// The handset of the link at the seat of this number refused something by this cause.
@@ -116,6 +167,23 @@ impl LinkBoard {
             }
         }
         Ok(causes)
+    }
+
+    /// Keeps the message of which a handset refused a part, until somebody takes it. What finds no place is lost.
+    pub(crate) fn put_refused(&self, part: RefusedPart) {
+        let RefusedPart { id, cause } = part;
+        let number = id.number();
+        for place in self.refused.iter() {
+            if place.put(number, cause) {
+                return;
+            }
+        }
+    }
+
+    /// Gives the message of which a handset refused a part that this place keeps, and its last cause. Whoever takes them begins with the
+    /// first place, and has all at the first that keeps none. The keeper's thread alone may do so.
+    pub fn take_refused(&self, place: usize) -> Option<RefusedPart> {
+        self.refused.get(place)?.take()
     }
 
     /// Puts down how the links at all seats are.

@@ -14,6 +14,7 @@ use crate::errands::{Errands, walks_to};
 use crate::link_board::LinkBoard;
 use crate::machine::CentreMachine;
 use crate::made::Made;
+use crate::refused::part_refused;
 use crate::restarting::restarted_from;
 use crate::seat_map::SeatMap;
 use crate::seated_centre::SeatedCentre;
@@ -151,7 +152,8 @@ impl<K: CentreStore + Drop, A: Archive + Drop> Service<K, A> {
         }
     }
 
-    // Counts the cause by which a handset refuses something, where anybody looks. It is what the handset said, whatever becomes of the group.
+    // Counts the cause by which a handset refuses something, and keeps of which message it refuses a part, where anybody looks. It is what the
+    // handset said, whatever becomes of the group. The centre has not taken it yet, so that what is under way is what it answers.
     fn count_cause(&self, stimulus: &Stimulus<Job>) {
         let Some(board) = &self.board else {
             return;
@@ -164,6 +166,10 @@ impl<K: CentreStore + Drop, A: Archive + Drop> Service<K, A> {
         }
         if let Some(cause) = cause_told_by(stimulus) {
             board.count(*seat, cause);
+        }
+        let seated = &self.seated;
+        if let Some(part) = part_refused(&seated.machine.centre, &seated.seat_map, stimulus) {
+            board.put_refused(part);
         }
     }
 
@@ -210,10 +216,10 @@ impl<K: CentreStore + Drop, A: Archive + Drop> Machine<Job, Reply> for Service<K
         let if_refused = refused_with_group(&mut self.resumed, stimulus);
         let is_late = self.cutoff.is_past();
         let next = walks_to(&self.seated.machine.centre, stimulus);
+        self.count_cause(stimulus);
         let archive = &mut self.errands.archive;
         let Made { fate, outs, told } = self.seated.answer(&asked, stimulus, archive, is_late);
         self.errands.note(stimulus, fate, told, next);
-        self.count_cause(stimulus);
         self.shows = shown_links::are_shown_after(self.shows, stimulus);
         Step {
             fate,

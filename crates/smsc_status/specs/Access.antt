@@ -28,8 +28,19 @@ parties_text source destination = codes " source=" ++ (word_text source ++ (code
 unfoldable pub course_text : AccessLine → List ℕ
 course_text a =
     codes " parts=" ++ (decimal a.parts ++ (codes " submitted=" ++ (moment_text a.submitted ++ (codes " ended=" ++ (moment_text a.ended ++ (codes " state="
-    ++ (end_word a.state ++ (codes " failed_attempts=" ++ (decimal a.failed_attempts ++ (codes " commit_seconds=" ++ millionths_text a.commit_micros))))))))))
+    ++ (end_word a.state ++ (codes " failed_attempts=" ++ decimal a.failed_attempts))))))))
+
+unfoldable pub cause_text : ℕ → List ℕ
+cause_text cause = codes " last_cause=" ++ decimal cause
+
+-- nothing where no handset refused a part of it
+abbrev pub last_cause_text : Option ℕ → List ℕ
+last_cause_text None = codes ""
+last_cause_text (Some cause) = cause_text cause
+
+unfoldable pub commit_text : ℕ → List ℕ
+commit_text micros = codes " commit_seconds=" ++ millionths_text micros
 
 unfoldable pub access_text : AccessLine → Option (List ℕ) → List ℕ → List ℕ → List ℕ
 access_text a account source destination =
-    number_text a.id ++ (originator_text account source ++ (parties_text source destination ++ course_text a))
+    number_text a.id ++ (originator_text account source ++ (parties_text source destination ++ (course_text a ++ (last_cause_text a.last_cause ++ commit_text a.commit_micros))))

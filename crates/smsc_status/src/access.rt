@@ -1,6 +1,6 @@
 //! The line of a message at its end.
 ghost use Rattle.std.specs.Prelude.{◌≡◌, ◌++◌, IfOk, OnOk, option_map};
-ghost use Rattle.smsc_status.specs.Access.{access_text, course_text, end_word as end_word_of, number_text, originator_text, parties_text};
+ghost use Rattle.smsc_status.specs.Access.{access_text, cause_text, commit_text, course_text, end_word as end_word_of, last_cause_text, number_text, originator_text, parties_text};
 
 use crate::pieces::{Piece, put_pieces};
 use crate::words::put_word;
@@ -24,6 +24,8 @@ pub struct AccessLine<'a> {
     pub state: FinalState,
     /// How often the part was tried in vain that was tried in vain most often.
     pub failed_attempts: u64,
+    /// The last cause by which a handset refused a part (3GPP TS 24.011 8.2.5.4), if it refused one.
+    pub last_cause: Option<u8>,
     /// How long the commit took that has its end, in millionths of a second.
     pub commit_micros: u64,
 }
@@ -94,9 +96,35 @@ fn put_course(out: &mut Octets, line: &AccessLine<'_>) -> Result<(), AllocError>
             Piece::Text(end_word(line.state)),
             Piece::Text(b" failed_attempts="),
             Piece::Number(line.failed_attempts),
-            Piece::Text(b" commit_seconds="),
-            Piece::Seconds(line.commit_micros),
         ],
+    )
+}
+
+fn put_cause(out: &mut Octets, cause: u8) -> Result<(), AllocError>
+    ensures { OnOk result (out.new ≡ out.old ++ cause_text cause) }
+{
+    put_pieces(
+        out,
+        &[Piece::Text(b" last_cause="), Piece::Number(cause as u64)],
+    )
+}
+
+fn put_last_cause(out: &mut Octets, last_cause: Option<u8>) -> Result<(), AllocError>
+    ensures { OnOk result (out.new ≡ out.old ++ last_cause_text last_cause) }
+{
+    match last_cause {
+        Some(cause) => put_cause(out, cause),
+        None => out.append(b""),
+    }
+}
+
+#[tactic(auto, unfolding(crate::specs::Access::commit_text))]
+fn put_commit(out: &mut Octets, micros: u64) -> Result<(), AllocError>
+    ensures { OnOk result (out.new ≡ out.old ++ commit_text micros) }
+{
+    put_pieces(
+        out,
+        &[Piece::Text(b" commit_seconds="), Piece::Seconds(micros)],
     )
 }
 
@@ -107,7 +135,9 @@ fn put_line(out: &mut Octets, line: &AccessLine<'_>) -> Result<(), AllocError>
     put_number(out, line.id)?;
     put_originator(out, line.account, line.source)?;
     put_parties(out, line.source, line.destination)?;
-    put_course(out, line)
+    put_course(out, line)?;
+    put_last_cause(out, line.last_cause)?;
+    put_commit(out, line.commit_micros)
 }
 
 /// The line of a message at its end, in logfmt.

@@ -1,11 +1,11 @@
 //! Orders of an operator, over a Unix socket that its owner alone may use.
 //!
 //! One thread reads all who are connected, in turns, so that nobody who says nothing holds up the others.
-use crate::readiness;
 use crate::reloading::Reloader;
-use crate::run_fault::{Paths, RunFault};
 use sms_base::lending::put;
 use sms_base::{FinalState, MessageId, Octets};
+use smsc_operation::readiness;
+use smsc_operation::run_fault::{Paths, RunFault};
 use smsc_server::Orders;
 use smsc_service::{Order, OrderOutcome};
 use std::alloc::{AllocError, Global};

@@ -1,17 +1,17 @@
 //! What a run forgets as it starts, and as it goes on.
-use crate::archive::RunArchive;
-use crate::gone::Gone;
-use crate::logging::Log;
-use crate::moments::text_of;
-use crate::opening::FoundStore;
-use crate::preparing::judge_rows;
-use crate::run_fault::RunFault;
 use crate::watchers::Watchers;
 use sms_base::Moment;
 use sms_centre_rows::messages::MessageRow;
 use sms_centre_spec::Rows;
 use smsc_cli::words::ServerRun;
-use smsc_server::status::NO_MESSAGES;
+use smsc_observer::NO_MESSAGES;
+use smsc_operation::archive::RunArchive;
+use smsc_operation::gone::Gone;
+use smsc_operation::logging::Log;
+use smsc_operation::moments::text_of;
+use smsc_operation::opening::FoundStore;
+use smsc_operation::preparing::judge_rows;
+use smsc_operation::run_fault::RunFault;
 use smsc_service::{Archive, CentreStore, ForgetError, Forgetting, NotArchived, forget_ended};
 use smsc_status::MessageFigures;
 use std::alloc::{AllocError, Global};

@@ -1,72 +1,39 @@
 //! The centre's server: applications by SMPP and handsets by links, on this machine; or a look at its store, or an order to it.
 //!
 //! It gives sockets, a clock, a file and a log to `smsc_server::serve`, which does the work. What its threads and sockets
-//! carry is not proved.
+//! carry is not proved. The log, the store's files, a look, a copy, and why a run ended early are `smsc_operation`'s.
 //!
-//! - `access`: the access log
-//! - `account_file`: the accounts of a run, from its words and from their file
-//! - `archive`: the file to which a run writes what it forgets
+//! - `account_book`: the accounts of a run, from its words and from their file
 //! - `control`: orders of an operator, over a Unix socket
 //! - `forgetting`: what a run forgets as it starts
-//! - `lines`: the lines of the log
-//! - `link_secrets`: the secrets of links, from their file
-//! - `logging`: the log, which a thread of its own writes
-//! - `looking`: a look at a store, which changes nothing
-//! - `moments`: moments of this machine's clock, and their text
-//! - `opening`: why a store can't be opened
-//! - `password`: what is written of a password
 //! - `ports`: the ports of a run
-//! - `preparing`: how both files are made ready before a run, and left after it
-//! - `readiness`: what whoever started the server is told of it
 //! - `reloading`: the accounts' file, read again as the run goes on
-//! - `run_fault`: why a run ended early
 //! - `running`: a run of the server
-//! - `saving`: a copy of a store
 //! - `setup`: the accounts of a run, as each part of it wants them
 //! - `status`: the status page
-//! - `store_files`: the two files of a store as the system has them
-//! - `stuck`: what waits in a store, by handset
-//! - `summary`: what a store holds as a run starts
 //! - `watchers`: the observers of a run
 //! - `watching`: whether the store's files are still those that were opened
 #![tactic(auto)]
 
-mod access;
-mod account_file;
-mod archive;
+mod account_book;
 mod control;
 mod forgetting;
-mod gone;
-mod lines;
-mod link_secrets;
-mod logging;
-mod looking;
-mod moments;
-mod opening;
-mod password;
 mod ports;
-mod preparing;
-mod readiness;
 mod reloading;
-mod run_fault;
 mod running;
-mod saving;
 mod setup;
 mod status;
-mod store_files;
-mod stuck;
-mod summary;
 mod watchers;
 mod watching;
 
 use crate::control::{Command, OrderFault, order};
-use crate::looking::show_store;
-use crate::password::print_password;
-use crate::run_fault::{Paths, RunFault, USAGE, words_fault};
 use crate::running::run_words;
-use crate::saving::save_store;
 use sms_base::MessageId;
 use smsc_cli::words::{About, OrderWord, ServerWords, VERSION, about_of, server_words};
+use smsc_operation::looking::show_store;
+use smsc_operation::password::print_password;
+use smsc_operation::run_fault::{Paths, RunFault, USAGE, words_fault};
+use smsc_operation::saving::save_store;
 use std::env;
 use std::io::{self, Print};
 use std::process::ExitCode;
@@ -225,21 +192,25 @@ fn do_words<R: Threads + Wait + Clock + Copy + Send + Sync + 'static>(
 const WAIT: u32 = 15;
 
 // Why the server did not do it. A reload, or an order of a message, has a reason of its own.
-fn refused(command: Command, text: String) -> RunFault {
-    match command {
-        Command::Reload | Command::Retry(_) | Command::Cancel(_) => RunFault::NotDone(text),
-        Command::Stop | Command::End(_) => {
-            drop(text);
-            RunFault::Refused
-        }
+fn refused(has_reason: bool, text: String) -> RunFault {
+    if has_reason {
+        return RunFault::NotDone(text);
     }
+    drop(text);
+    RunFault::Refused
 }
 
-fn give(host: &HostRuntime, control: &str, command: Command, wait: u32) -> Result<(), RunFault> {
+fn give(
+    host: &HostRuntime,
+    control: &str,
+    command: Command,
+    has_reason: bool,
+    wait: u32,
+) -> Result<(), RunFault> {
     match order(host, control, command, wait) {
         Ok(()) => Ok(()),
         Err(OrderFault::Nobody(error)) => Err(RunFault::Control(error)),
-        Err(OrderFault::Refused(text)) => Err(refused(command, text)),
+        Err(OrderFault::Refused(text)) => Err(refused(has_reason, text)),
         Err(OrderFault::NotEnded) => Err(RunFault::NotEnded(wait)),
     }
 }
@@ -266,12 +237,14 @@ fn do_asked<R: Threads + Wait + Clock + Copy + Send + Sync + 'static>(
         ServerWords::Save { store, to } => save_store(&host, store, to),
         ServerWords::Stop { control, wait } => {
             let wait = wait.unwrap_or(WAIT);
-            give(&host, control, Command::Stop, wait)
+            give(&host, control, Command::Stop, false, wait)
         }
-        ServerWords::End { control, seat } => { give(&host, control, Command::End(*seat), WAIT) }
-        ServerWords::Reload { control } => give(&host, control, Command::Reload, WAIT),
+        ServerWords::End { control, seat } => {
+            give(&host, control, Command::End(*seat), false, WAIT)
+        }
+        ServerWords::Reload { control } => give(&host, control, Command::Reload, true, WAIT),
         ServerWords::Order { control, order, id } => {
-            give(&host, control, order_by(*order, *id), WAIT)
+            give(&host, control, order_by(*order, *id), true, WAIT)
         }
         ServerWords::Password => print_password(&host),
     }

@@ -3,12 +3,12 @@
 //! A run takes over what accounts may do, their rates and which are suspended, and their passwords. An account that has gone from the file is
 //! suspended until it comes again. All else of an account a run has from its start. So a file that says something else of an account, or has a
 //! new one, changes nothing, as one with a fault does.
-use crate::account_file::{accounts_in, document_of, judge_file, line_at, read_file};
-use crate::run_fault::RunFault;
 use crate::setup::{allowance_of, login_of};
 use smpp_session::{Account as Login, Password};
 use sms_base::Octets;
 use smsc_cli::words::{ServerRun, TableAccount};
+use smsc_operation::account_file::{accounts_in, document_of, judge_file, line_at, read_file};
+use smsc_operation::run_fault::RunFault;
 use smsc_server::{AccountBook, Allowance, Allowances, Orders};
 use std::alloc::{AllocError, Global};
 use std::sync::{Arc, Wait};

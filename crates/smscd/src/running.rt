@@ -1,28 +1,29 @@
 //! A run of the server.
-use crate::account_file::book_of;
+use crate::account_book::book_of;
 use crate::control::Control;
 use crate::forgetting::{LoggedArchive, forget_old, forgetting_of};
-use crate::logging::{self, Log, LogThread};
-use crate::moments::{now, text_of};
-use crate::opening::{FoundStore, open_store};
 use crate::ports::{listen, ports_of};
-use crate::preparing::leave_after;
-use crate::readiness;
 use crate::reloading::{Reloader, first_of};
-use crate::run_fault::RunFault;
 use crate::setup::{RunAccounts, setup_of};
 use crate::status::{self, About, Pages};
-use crate::store_files::{StorePaths, open_mode_at, public_mode_at};
-use crate::summary::{Files, Summary, left_in, left_of, summary_of};
-use crate::watchers::{Source, Watchers, log_alone, log_and_page};
+use crate::watchers::{Watchers, log_alone, log_and_page};
 use crate::watching::{FileWatch, Guard};
 use smpp_session::Account as Login;
 use sms_base::{Address, Moment};
 use sms_centre_spec::numbers::first_number;
 use sms_keeper::Gate;
 use sms_store_files::{LogFinding, LogJudgement};
-use smsc_cli::words::{AccountWords, ServerRun};
+use smsc_cli::words::{AccountWords, LogDetail, ServerRun};
 use smsc_endpoint::LinkAccess;
+use smsc_operation::feed::Source;
+use smsc_operation::logging::{self, Log, LogThread};
+use smsc_operation::moments::{now, text_of};
+use smsc_operation::opening::{FoundStore, open_store};
+use smsc_operation::preparing::leave_after;
+use smsc_operation::readiness;
+use smsc_operation::run_fault::RunFault;
+use smsc_operation::store_files::{StorePaths, open_mode_at, public_mode_at};
+use smsc_operation::summary::{Files, Summary, left_in, left_of, summary_of};
 use smsc_server::{
     AccountBook, Allowance, Allowances, Clocks, Given, ObservedKeep, Orders, Ports, RunClock,
     ServeFault, serve,
@@ -206,13 +207,14 @@ fn watchers_of<R: Wait + Copy>(
     run: &ServerRun<'_>,
     log: Arc<Log<R>>,
     names: Arc<Vec<String>>,
+    board: Arc<LinkBoard>,
     guard: Arc<Guard>,
 ) -> Result<(Watchers<R>, Option<StatusPart>), AllocError> {
     let Some(port) = run.status else {
-        return Ok((log_alone(rt, alloc, log, run.log, guard), None));
+        return Ok((log_alone(rt, alloc, log, run.log, board, guard), None));
     };
-    let (watchers, source) = log_and_page(rt, alloc, log, run.log, guard)?;
-    let links = Arc::new(alloc, LinkBoard::new(alloc)?)?;
+    let links = Arc::try_clone(&board)?;
+    let (watchers, source) = log_and_page(rt, alloc, log, run.log, board, guard)?;
     let part = StatusPart {
         port,
         source,
@@ -222,10 +224,15 @@ fn watchers_of<R: Wait + Copy>(
     Ok((watchers, Some(part)))
 }
 
-fn board_of(part: &Option<StatusPart>) -> Result<Option<Arc<LinkBoard>>, AllocError> {
-    match part {
-        Some(part) => Ok(Some(Arc::try_clone(&part.links)?)),
-        None => Ok(None),
+// The board, where the status page or the access log looks at it.
+fn board_of(
+    run: &ServerRun<'_>,
+    board: &Arc<LinkBoard>,
+) -> Result<Option<Arc<LinkBoard>>, AllocError> {
+    if run.status.is_some() || run.log == LogDetail::Access {
+        Ok(Some(Arc::try_clone(board)?))
+    } else {
+        Ok(None)
     }
 }
 
@@ -244,8 +251,9 @@ fn given_of<R: Wait + Copy>(
         log,
         orders,
     } = parts;
-    let (watchers, status) = watchers_of(rt, alloc, run, log, names, guard)?;
-    let links = board_of(&status)?;
+    let board = Arc::new(alloc, LinkBoard::new(alloc)?)?;
+    let links = board_of(run, &board)?;
+    let (watchers, status) = watchers_of(rt, alloc, run, log, names, board, guard)?;
     let access = Arc::new(alloc, access)?;
     let observer = Arc::new(alloc, watchers)?;
     let Limits {
@@ -476,6 +484,17 @@ fn observed<'a, K: CentreStore, R: Wait>(
     }
 }
 
+// Why the server ended, as a run says it.
+fn fault_of(fault: ServeFault) -> RunFault {
+    match fault {
+        ServeFault::NoMemory => RunFault::NoMemory,
+        ServeFault::NoThread => RunFault::NoThread,
+        ServeFault::BadRows => RunFault::BadRows,
+        ServeFault::Store(error) => RunFault::from(error),
+        ServeFault::Broken => RunFault::Broken,
+    }
+}
+
 // How the run ended, once the threads beside it have.
 fn end_run<R: Threads + Wait + Copy, K: Drop>(
     rt: &R,
@@ -489,7 +508,10 @@ fn end_run<R: Threads + Wait + Copy, K: Drop>(
         drop(ended);
         return Err(fault);
     }
-    Ok(ended?)
+    match ended {
+        Ok(keep) => Ok(keep),
+        Err(fault) => Err(fault_of(fault)),
+    }
 }
 
 // The keep itself, once nobody observes it any more.

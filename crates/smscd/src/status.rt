@@ -2,19 +2,19 @@
 //!
 //! It reads numbers that the run counts and takes the events that the run leaves for it. It never opens the store: it
 //! asks the system how long its files are.
-use crate::lines::{cause_word, line_of, number_text, refusal_word};
-use crate::moments::{now, text_of};
 use crate::ports::listen;
-use crate::store_files::{StorePaths, octets_at};
-use crate::summary::without;
-use crate::watchers::{Source, is_of_messages};
 use sms_base::lending::put;
 use sms_base::{MessageId, Moment, Octets};
 use smsc_cli::words::VERSION;
-use smsc_server::status::{
-    AccountCounts, Client, Heard, Pending, Refusals, SeatTable, WaitingHandset,
+use smsc_observer::{
+    AccountCounts, Client, Event, Heard, Pending, Refusals, SeatTable, WaitingHandset,
 };
-use smsc_server::{Event, milliseconds};
+use smsc_operation::feed::{Source, is_of_messages};
+use smsc_operation::lines::{cause_word, line_of, number_text, refusal_word};
+use smsc_operation::moments::{now, text_of};
+use smsc_operation::store_files::{StorePaths, octets_at};
+use smsc_operation::summary::without;
+use smsc_server::{link_lines, milliseconds};
 use smsc_service::{CauseCount, LinkBoard};
 use smsc_status::{
     AccountLine, LastCause, LinkLine, MessageCounts, MessageFigures, PendingMessage, RefusedBinds,
@@ -496,7 +496,7 @@ impl<R: Wait + Clock> Pages<R> {
         let names = self.about.names.as_slice();
         let sessions = self.table.sessions(alloc, names, &*self.source.counters)?;
         put(&mut lists.sessions, sessions);
-        let mut links = self.table.links(alloc, &self.about.links)?;
+        let mut links = link_lines(alloc, &self.table, &self.about.links)?;
         // Those for whom most waits come first.
         links.sort_by_key(|link| u64::MAX - link.waiting)?;
         put(&mut lists.links, links);

@@ -1,54 +1,19 @@
 //! The observers of a run: its log, and what its status page shows.
-use crate::access::Access;
-use crate::gone::Gone;
-use crate::logging::Log;
 use crate::watching::Guard;
-use crossbeam_channel::{Receiver, Sender, bounded};
 use sms_centre_spec::{Changes, Rows};
 use sms_rows::keep::KeepError;
 use smsc_cli::words::LogDetail;
-use smsc_loop::{Activity, Note};
-use smsc_server::status::{Counters, PendingTable};
-use smsc_server::{Event, Observer};
+use smsc_loop::Activity;
+use smsc_observer::{Event, Observer};
+use smsc_operation::access::Access;
+use smsc_operation::feed::{Feed, Source, fed, is_of_messages};
+use smsc_operation::gone::Gone;
+use smsc_operation::logging::Log;
+use smsc_service::{LinkBoard, MOST_REFUSED};
 use std::alloc::{AllocError, Global};
 use std::sync::atomic::{AtomicU64, Ordering};
 use std::sync::{Arc, Wait};
 use std::time::Clock;
-
-// So many events wait for the status page at most. What finds no room is counted.
-const MOST_EVENTS: usize = 4096;
-
-// What the threads of a run give to the thread of its status page. None of them waits for it.
-#[derive(Drop)]
-struct Feed<R> {
-    rt: R,
-    counters: Arc<Counters>,
-    pending: Arc<PendingTable>,
-    gone: Arc<Gone>,
-    // What changes who sits where.
-    seats: Sender<Event>,
-    // That a message was accepted, or has ended.
-    messages: Sender<Event>,
-    // All else that is worth a line.
-    others: Sender<Event>,
-    lost: Arc<AtomicU64>,
-}
-
-/// What the thread of a status page takes.
-#[derive(Drop)]
-pub struct Source {
-    pub counters: Arc<Counters>,
-    pub pending: Arc<PendingTable>,
-    /// What the run has forgotten.
-    pub gone: Arc<Gone>,
-    pub seats: Receiver<Event>,
-    pub messages: Receiver<Event>,
-    pub others: Receiver<Event>,
-    /// How many events found no room.
-    pub lost: Arc<AtomicU64>,
-    /// How many lines of the log were lost.
-    pub lost_lines: Arc<AtomicU64>,
-}
 
 /// The observers of a run.
 #[derive(Drop)]
@@ -59,6 +24,8 @@ pub struct Watchers<R: Wait> {
     // The log has lines of messages as they are accepted and end.
     logs_messages: bool,
     access: Option<Access>,
+    // Where the keeper puts down of which messages handsets refuse parts.
+    board: Arc<LinkBoard>,
     pub guard: Arc<Guard>,
     feed: Option<Feed<R>>,
     // When the commit under way began, and how long the last one took, in millionths of a second.
@@ -76,79 +43,22 @@ fn micros<R: Clock>(rt: &R) -> u64 {
     }
 }
 
-// Whether the event may change who sits where.
-fn is_of_seats(event: &Event) -> bool {
-    matches!(
-        event,
-        Event::Endpoint(
-            _,
-            _,
-            Note::Bound(_, _) | Note::Unbound | Note::LinkUp(_) | Note::Ended(_, _)
-        )
-    )
-}
-
-/// Whether a message was accepted, or has ended.
-pub fn is_of_messages(event: &Event) -> bool {
-    matches!(event, Event::Accepted(_, _) | Event::Final(_, _))
-}
-
-impl<R: Wait + Clock> Feed<R> {
-    fn put(&self, event: &Event) {
-        let sender = if is_of_seats(event) {
-            &self.seats
-        } else if is_of_messages(event) {
-            &self.messages
-        } else {
-            &self.others
-        };
-        if sender.try_send(&self.rt, *event).is_err() {
-            self.lost.fetch_add(1, Ordering::SeqCst);
-        }
-    }
-
-    fn observe(&self, event: &Event) {
-        self.counters.count(event);
-        // A connection that never said who it is has no line, and a refused submit_sm is counted.
-        if !matches!(event, Event::Unknown(_, _, _) | Event::SubmitRefused(_, _)) {
-            self.put(event);
-        }
-    }
-
-    fn end_commit(&self, is_done: bool, took: u64) {
-        if is_done {
-            self.counters.commit_took(took);
-        } else {
-            self.counters.commit_refused();
-            self.gone.refuse(&self.rt);
-        }
-    }
-}
-
-impl<R: Wait> Feed<R> {
-    // What is pending is counted where there is no memory for it.
-    fn note(&self, noted: Result<(), AllocError>) {
-        if noted.is_err() {
-            self.lost.fetch_add(1, Ordering::SeqCst);
-        }
-    }
-
-    fn begin(&self, rows: &Rows) {
-        self.note(self.pending.begin(&self.rt, rows));
-    }
-
-    fn committed(&self, changes: &Changes) {
-        self.note(self.pending.take(&self.rt, changes));
-        self.gone.commit(&self.rt, changes);
-    }
-}
-
 impl<R: Wait> Watchers<R> {
     /// Where it is counted what the run forgets, if there is a status page.
     pub fn gone(&self) -> Result<Option<Arc<Gone>>, AllocError> {
         match &self.feed {
             Some(feed) => Ok(Some(Arc::try_clone(&feed.gone)?)),
             None => Ok(None),
+        }
+    }
+
+    // What handsets refused since the commit before this one.
+    fn take_refused(&self, access: &Access) {
+        for place in 0..MOST_REFUSED {
+            match self.board.take_refused(place) {
+                Some(part) => access.refuse(&self.rt, part.id, part.cause),
+                None => return,
+            }
         }
     }
 
@@ -205,6 +115,7 @@ impl<R: Wait + Copy + Clock> Observer for Watchers<R> {
 
     fn committed(&self, changes: &Changes) {
         if let Some(access) = &self.access {
+            self.take_refused(access);
             let took = self.took.load(Ordering::SeqCst);
             access.take(&self.rt, self.alloc, &*self.log, changes, took);
         }
@@ -214,72 +125,13 @@ impl<R: Wait + Copy + Clock> Observer for Watchers<R> {
     }
 }
 
-fn source_of(
-    alloc: Global,
-    seats: Receiver<Event>,
-    messages: Receiver<Event>,
-    others: Receiver<Event>,
-    lost_lines: Arc<AtomicU64>,
-) -> Result<Source, AllocError> {
-    let counters = Counters::new(alloc)?;
-    let counters = Arc::new(alloc, counters)?;
-    let pending = Arc::new(alloc, PendingTable::new(alloc))?;
-    let gone = Arc::new(alloc, Gone::new(alloc))?;
-    let lost = Arc::new(alloc, AtomicU64::new(0))?;
-    Ok(Source {
-        counters,
-        pending,
-        gone,
-        seats,
-        messages,
-        others,
-        lost,
-        lost_lines,
-    })
-}
-
-fn feed_of<R: Copy>(
-    rt: R,
-    source: &Source,
-    seats: Sender<Event>,
-    messages: Sender<Event>,
-    others: Sender<Event>,
-) -> Result<Feed<R>, AllocError> {
-    let counters = Arc::try_clone(&source.counters)?;
-    let pending = Arc::try_clone(&source.pending)?;
-    let gone = Arc::try_clone(&source.gone)?;
-    let lost = Arc::try_clone(&source.lost)?;
-    Ok(Feed {
-        rt,
-        counters,
-        pending,
-        gone,
-        seats,
-        messages,
-        others,
-        lost,
-    })
-}
-
-fn fed<R: Copy>(
-    rt: R,
-    alloc: Global,
-    lost_lines: Arc<AtomicU64>,
-) -> Result<(Feed<R>, Source), AllocError> {
-    let (seats, seats_taken) = bounded::<Event, _>(alloc, MOST_EVENTS)?;
-    let (messages, messages_taken) = bounded::<Event, _>(alloc, MOST_EVENTS)?;
-    let (others, others_taken) = bounded::<Event, _>(alloc, MOST_EVENTS)?;
-    let source = source_of(alloc, seats_taken, messages_taken, others_taken, lost_lines)?;
-    let feed = feed_of(rt, &source, seats, messages, others)?;
-    Ok((feed, source))
-}
-
 // What the observers of a run have, whether or not it has a status page.
 fn watchers_of<R: Wait>(
     rt: R,
     alloc: Global,
     log: Arc<Log<R>>,
     detail: LogDetail,
+    board: Arc<LinkBoard>,
     guard: Arc<Guard>,
     feed: Option<Feed<R>>,
 ) -> Watchers<R> {
@@ -293,6 +145,7 @@ fn watchers_of<R: Wait>(
         log,
         logs_messages: detail == LogDetail::Messages,
         access,
+        board,
         guard,
         feed,
         began: AtomicU64::new(0),
@@ -306,9 +159,10 @@ pub fn log_alone<R: Wait>(
     alloc: Global,
     log: Arc<Log<R>>,
     detail: LogDetail,
+    board: Arc<LinkBoard>,
     guard: Arc<Guard>,
 ) -> Watchers<R> {
-    watchers_of(rt, alloc, log, detail, guard, None)
+    watchers_of(rt, alloc, log, detail, board, guard, None)
 }
 
 /// The log and a status page, and what the thread of the page takes.
@@ -317,9 +171,10 @@ pub fn log_and_page<R: Wait + Copy>(
     alloc: Global,
     log: Arc<Log<R>>,
     detail: LogDetail,
+    board: Arc<LinkBoard>,
     guard: Arc<Guard>,
 ) -> Result<(Watchers<R>, Source), AllocError> {
     let (feed, source) = fed(rt, alloc, log.lost_lines()?)?;
-    let watchers = watchers_of(rt, alloc, log, detail, guard, Some(feed));
+    let watchers = watchers_of(rt, alloc, log, detail, board, guard, Some(feed));
     Ok((watchers, source))
 }

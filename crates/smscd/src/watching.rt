@@ -1,8 +1,8 @@
 //! Whether the store's files are still those that were opened, on a disk that is there.
-use crate::run_fault::{RunFault, lost_fault};
-use crate::store_files::{StorePaths, is_full, look_at, probe_disk};
 use sms_rows::keep::KeepError;
 use sms_store_files::{FilesLook, OpenedFiles, are_still};
+use smsc_operation::run_fault::{RunFault, lost_fault};
+use smsc_operation::store_files::{StorePaths, is_full, look_at, probe_disk};
 use smsc_server::Orders;
 use std::io::{self, ErrorKind};
 use std::sync::Arc;

@@ -8,7 +8,7 @@ ghost use Rattle.sms_centre_spec.specs.SoundRows.{all_for};
 ghost use Rattle.sms_centre.specs.state.CentreState.{Represents};
 
 use crate::state::centre_state::CentreState;
-use sms_base::Digits;
+use sms_base::{Carried, Digits};
 use sms_centre_queue::queue::LinkFigures;
 
 impl CentreState {
@@ -17,5 +17,12 @@ impl CentreState {
         ensures { (c : Core) → Represents c self.now → AllDigits handset.now → result ≡ figures_of (all_for handset.now c.rows) (line_of handset.now c.lines) }
     {
         self.queues.figures(handset)
+    }
+
+    /// What the transaction to the handset carries that is under way.
+    pub fn under_way(&self, handset: &Digits) -> Option<Carried>
+        ensures { (c : Core) → Represents c self.now → AllDigits handset.now → result ≡ (line_of handset.now c.lines).link.under_way }
+    {
+        self.queues.under_way(handset)
     }
 }

@@ -13,7 +13,7 @@ ghost use Rattle.sms_centre_queue.specs.queues.Representing.{Represents};
 use crate::queue::LinkFigures;
 use crate::queues::delivery_queues::DeliveryQueues;
 use crate::queues::placed_queue::PlacedQueue;
-use sms_base::Digits;
+use sms_base::{Carried, Digits};
 use sms_rows::table::Key;
 
 impl DeliveryQueues {
@@ -40,6 +40,17 @@ impl DeliveryQueues {
                 is_full: false,
                 is_under_way: false,
             },
+        }
+    }
+
+    /// What the transaction to the handset carries that is under way.
+    pub fn under_way(&self, number: &Digits) -> Option<Carried>
+        ensures { (handsets : List HandsetRow) (references : List ReferenceRow) (lines : List HandsetLink) (waiting : List ℕ → List QueuedPart)
+            → Represents handsets references lines waiting self.now → AllDigits number.now → result ≡ (line_of number.now lines).link.under_way }
+    {
+        match self.placed(Key::digits(number).number()) {
+            Some(placed) => placed.queue.line().link.under_way(),
+            None => None,
         }
     }
 }

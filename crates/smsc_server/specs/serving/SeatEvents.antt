@@ -7,8 +7,8 @@ use Rattle.smsc_arrivals.specs.declared.arrival.PeerKind.{PeerKind}
 use Rattle.smsc_loop.specs.declared.note.LeaveReason.{LeaveReason}
 use Rattle.smsc_loop.specs.declared.note.Note.{Note}
 use Rattle.smsc_loop.specs.declared.note.Note.TheVariants.{SubmitRefused as RefusedNote, Ended}
-use Rattle.smsc_server.specs.declared.serving.observer.Event.{Event}
-use Rattle.smsc_server.specs.declared.serving.observer.Event.TheVariants.{Endpoint, Unknown, SubmitRefused, Accepted, Final}
+use Rattle.smsc_observer.specs.declared.observer.Event.{Event}
+use Rattle.smsc_observer.specs.declared.observer.Event.TheVariants.{Endpoint, Unknown, SubmitRefused, Accepted, Final}
 
 -- no account has the number 255
 abbrev pub account_numbered : ℕ → Option ℕ

@@ -4,11 +4,12 @@ ghost use Rattle.smpp_session.specs.Logins.{is_full};
 ghost use Rattle.smsc_server.specs.serving.SessionLimits.{full_where, suspends};
 
 use crate::serving::occupancy::{Bound, MOST_ACCOUNTS};
-use crate::serving::orders::{Orders, SEATS};
+use crate::serving::orders::Orders;
 use crate::serving::rates::Rates;
 use crossbeam_channel::{Receiver, Sender, bounded};
 use smpp_session::FullAccounts;
 use sms_centre_spec::jobs::Job;
+use smsc_observer::SEATS;
 use std::alloc::{AllocError, Global};
 use std::sync::{Mutex, Wait};
 use std::time::{Clock, Duration};

@@ -1,13 +1,14 @@
 //! What the threads of a run share.
 use crate::serving::allowances::Allowances;
 use crate::serving::link_seats::LinkSeats;
-use crate::serving::occupancy::{Seated, Seating};
+use crate::serving::occupancy::Seating;
 use crate::serving::orders::Orders;
 use mio::Waker;
 use smpp_session::FullAccounts;
 use sms_base::Digits;
 use sms_centre_spec::jobs::Job;
 use smsc_arrivals::PeerKind;
+use smsc_observer::Seated;
 use std::alloc::{AllocError, Global};
 use std::sync::atomic::{AtomicBool, Ordering};
 use std::sync::{Arc, Mutex, Wait};

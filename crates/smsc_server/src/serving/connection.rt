@@ -11,6 +11,7 @@ use crossbeam_channel::TryRecvError;
 use mio::Waker;
 use smsc_arrivals::{Doors, Duplicate, PeerKind, Piece, PieceReceiver, Reading, open_pieces};
 use smsc_loop::{Found, LeaveReason, Wire};
+use smsc_observer::is_later;
 use std::alloc::Global;
 use std::io::{self, Read, Write};
 use std::net::{Net, OpenListener, OpenStream, Shutdown};
@@ -188,12 +189,4 @@ impl<S: OpenStream + Read + Write + Drop> Wire for Socket<S> {
             }
         }
     }
-}
-
-/// Whether there was no room, or nothing to read, meanwhile.
-pub(crate) fn is_later(error: &io::Error) -> bool {
-    matches!(
-        error.kind(),
-        io::ErrorKind::WouldBlock | io::ErrorKind::TimedOut | io::ErrorKind::Interrupted
-    )
 }

@@ -6,8 +6,8 @@ ghost use Rattle.smsc_arrivals.specs.declared.doors.Doors.{Doors as DoorsOf};
 ghost use Rattle.smsc_server.specs.serving.Entering.{HasSameSeats, HaveEntered, arrivals_among};
 
 use crate::serving::board::Board;
-use crate::serving::orders::SEATS;
 use smsc_arrivals::{Arrival, Door, Doors, Giver, PeerKind, Taker};
+use smsc_observer::SEATS;
 use std::snapshot::Snapshot;
 use std::sync::Wait;
 use std::thread::{Promise, PromisedHandle};

@@ -2,8 +2,8 @@
 ghost use Rattle.std.specs.Prelude.{◌≡◌, ◌≢◌, ℕ, None, IfOk, IfNone, IfSome, bytes_eq, false, replicate, slice_set, true};
 ghost use Rattle.smsc_server.specs.serving.LinkPlaces.{is_at as is_at_of};
 
-use crate::serving::orders::SEATS;
 use sms_base::Digits;
+use smsc_observer::SEATS;
 use std::alloc::{AllocError, Global};
 
 /// The handset at each seat that has a link.

@@ -3,11 +3,11 @@ ghost use Rattle.std.specs.Thread.{IsSend};
 
 use crate::serving::connection::Ports;
 use crate::serving::fault::ServeFault;
-use crate::serving::observer::Observer;
 use crate::serving::run::serve;
 use crate::serving::server::Given;
 use sms_keeper::{Clock, Gate};
 use smsc_arrivals::Doors;
+use smsc_observer::Observer;
 use smsc_service::{CentreStore, Forgetting, NoArchive};
 use std::alloc::Global;
 use std::io;

@@ -1,11 +1,11 @@
 //! A keep whose commits are reported.
-use crate::serving::observer::Observer;
 use crate::serving::telling::event_of_message;
 use sms_base::Octets;
 use sms_centre_spec::bodies::CentreStore;
 use sms_centre_spec::{Changes, Rows};
 use sms_rows::keep::{BodyKeep, Keep, KeepError, RowStore};
 use sms_rows::table::{Change, Key};
+use smsc_observer::Observer;
 
 /// A keep that reports each commit, each message which a commit accepts, and each which it ends. It is as honest as the keep in it, and holds the
 /// rows that the keep in it holds.

@@ -5,9 +5,9 @@ ghost use Rattle.smsc_server.specs.serving.KeptSeats.{may_sit as may_sit_of};
 ghost use Rattle.smsc_server.specs.serving.SessionLimits.{bound_at, bound_where, count_of, full_where, has_room as has_room_of, is_of as is_of_account};
 ghost use Rattle.smsc_server.specs.serving.SessionLimits.{is_suspended_at, limit_of, may_be_bound, may_have_more as may_have_more_of, AreWithin};
 
-use crate::serving::orders::SEATS;
 use smpp_session::FullAccounts;
 use smsc_arrivals::PeerKind;
+use smsc_observer::{SEATS, Seated};
 use std::alloc::{AllocError, Global};
 use std::sync::atomic::{AtomicUsize, Ordering};
 
@@ -25,17 +25,6 @@ fn may_sit(side: PeerKind, applications: usize, links: usize) -> bool
         PeerKind::Handset => links,
     };
     applications.saturating_add(links) < SEATS && own < MOST
-}
-
-/// How many sit, when somebody had no seat.
-#[derive(Clone, Copy, PartialEq, Eq)]
-pub struct Seated {
-    /// How many applications sit.
-    pub applications: usize,
-    /// How many handsets sit.
-    pub links: usize,
-    /// The place of the account that has most sessions, and how many; none where no session is bound.
-    pub most: Option<(u8, usize)>,
 }
 
 // So many accounts may be.

@@ -4,13 +4,11 @@ ghost use Rattle.smsc_server.specs.serving.SeatOrders.{order_of};
 
 use sms_base::MessageId;
 use smsc_loop::Order;
+use smsc_observer::SEATS;
 use smsc_service::{Cutoff, Order as MessageOrder, OrderDesk, OrderOutcome};
 use std::alloc::{AllocError, Global};
 use std::sync::Arc;
 use std::sync::atomic::{AtomicBool, AtomicU8, Ordering};
-
-/// How many seats a server has, and so how many connections are open at most.
-pub const SEATS: usize = 32;
 
 // The numbers of what is ordered of one seat.
 const STAY: u8 = 0;

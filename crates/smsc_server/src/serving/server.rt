@@ -20,8 +20,7 @@ use crate::serving::entrance::{
     ArrivalGiver, ArrivalTaker, Entrance, EntrancePromise, EntranceThread, PLACES,
 };
 use crate::serving::fault::ServeFault;
-use crate::serving::observer::Observer;
-use crate::serving::orders::{Orders, SEATS};
+use crate::serving::orders::Orders;
 use crate::serving::poller::Poller;
 use crate::serving::seat_thread::{SeatThread, start_thread};
 use crossbeam_channel::{Sender, bounded};
@@ -30,6 +29,7 @@ use sms_centre_spec::jobs::{Job, Reply};
 use sms_keeper::Seat;
 use smsc_arrivals::{Door, Doors, Duplicate, Reader, Reading, share};
 use smsc_endpoint::LinkAccess;
+use smsc_observer::{Observer, SEATS};
 use smsc_service::LinkBoard;
 use std::alloc::{AllocError, Global};
 use std::io::{Read, Write};

@@ -2,10 +2,10 @@
 ghost use Rattle.std.specs.Prelude.{◌≡◌};
 ghost use Rattle.smsc_server.specs.serving.SeatEvents.{account_numbered, message_told, note_told};
 
-use crate::serving::observer::Event;
 use sms_centre_rows::messages::MessageRow;
 use smsc_arrivals::PeerKind;
 use smsc_loop::Note;
+use smsc_observer::Event;
 use std::net::SocketAddr;
 
 /// There are fewer accounts.

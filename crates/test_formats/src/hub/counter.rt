@@ -178,6 +178,7 @@ impl Machine<u32, Reply> for Counter {
         }
         self.sum = self.kept;
         self.opened = self.opened.wrapping_add(1);
+        self.broken = false;
         Ok(())
     }
 

@@ -2,8 +2,8 @@
 use crate::handset_runs::machine::{moving_clock, number, with_machine};
 use crate::rows::holds;
 use sms_handset::machine::HandsetMachine;
+use sms_handset_link::{RunEnd, run_handset};
 use sms_store_memory::handset::MemoryKeep;
-use smsc_server::link_run::{RunEnd, run_handset};
 use std::alloc::Global;
 use std::io::{self, ErrorKind, Read};
 use std::test::Fail;

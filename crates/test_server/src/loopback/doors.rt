@@ -5,9 +5,8 @@ use crate::clock_and_gate::Open;
 use crate::rows::holds;
 use crate::service::centre::{book, clock, keep};
 use smsc_endpoint::LinkAccess;
-use smsc_server::{
-    Allowances, Door, Doors, Duplicate, Event, Given, Observer, Orders, PeerKind, Ports, serve,
-};
+use smsc_observer::{Event, Observer};
+use smsc_server::{Allowances, Door, Doors, Duplicate, Given, Orders, PeerKind, Ports, serve};
 use smsc_service::{Forgetting, NoArchive};
 use std::alloc::Global;
 use std::io::{self, ErrorKind, Read, Write};

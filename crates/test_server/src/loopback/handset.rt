@@ -2,8 +2,8 @@
 use crate::handset_runs::machine::{clock, number};
 use crate::rows::holds;
 use sms_handset::machine::HandsetMachine;
+use sms_handset_link::{RunEnd, run_handset};
 use sms_store_memory::handset::MemoryKeep;
-use smsc_server::link_run::{RunEnd, run_handset};
 use std::alloc::Global;
 use std::io;
 use std::net::{Net, SocketAddr, TcpStream};

@@ -4,9 +4,8 @@ use crate::service::centre::{book, clock};
 use sms_base::FinalState;
 use sms_keeper::Gate;
 use smsc_endpoint::LinkAccess;
-use smsc_server::{
-    Allowances, Event, Given, Loopback, Observer, Orders, ServeFault, loopback_pair,
-};
+use smsc_observer::{Event, Observer};
+use smsc_server::{Allowances, Given, Loopback, Orders, ServeFault, loopback_pair};
 use smsc_service::CentreStore;
 use std::alloc::Global;
 use std::net::{Net, TcpListener, TcpStream};

@@ -1,9 +1,9 @@
 //! Relay and play runs over readers and writers that fail at one of their calls, and over inputs without an end.
 use crate::rows::holds;
 use sms_base::Moment;
+use sms_relay_run::{RunError, run_relay};
 use sms_world::{SimError, run_sim};
 use smsc_cli::words::own_address;
-use smsc_server::{RunError, run_relay};
 use std::alloc::{AllocError, Global};
 use std::io::{self, ErrorKind, Read, Write};
 use std::test::Fail;

@@ -1,7 +1,7 @@
 use crate::rows::holds;
 use sms_base::Moment;
+use sms_relay_run::{RunError, run_relay};
 use smsc_cli::words::own_address;
-use smsc_server::{RunError, run_relay};
 use std::alloc::Global;
 use std::test::Fail;
 

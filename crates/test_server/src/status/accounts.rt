@@ -1,7 +1,7 @@
 //! What the sessions of an account did, also those that have ended.
 use crate::rows::holds;
 use smsc_loop::Counts;
-use smsc_server::status::{AccountCounts, AccountTotals};
+use smsc_observer::{AccountCounts, AccountTotals};
 use std::test::Fail;
 
 fn counts(submits: u64, receipts: u64) -> Counts {

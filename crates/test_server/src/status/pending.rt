@@ -5,7 +5,7 @@ use sms_centre_rows::messages::{MessageRow, PartRow};
 use sms_centre_rows::waiting::{Progress, Revision};
 use sms_centre_spec::Changes;
 use sms_rows::table::{Change, Key};
-use smsc_server::status::{PendingTable, WaitingHandset};
+use smsc_observer::{PendingTable, WaitingHandset};
 use std::alloc::Global;
 use std::sync::Wait;
 use std::test::Fail;

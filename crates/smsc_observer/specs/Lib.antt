@@ -1,0 +1,3 @@
+pub mod AccountTotals
+pub mod Occupants
+pub mod Refusals

@@ -1,8 +1,0 @@
-use Rattle.smsc_service.proofs.relay.relay_laws.Numbers.{are_different, are_numbers}
-use Rattle.smsc_service.proofs.relay.relay_laws.laws.handsets_can_have_links.Goals as goal
-
-pub returns-clause-numbers : goal.returns-clause-numbers
-returns-clause-numbers c = are_numbers
-
-pub returns-clause-apart : goal.returns-clause-apart
-returns-clause-apart c = are_different
