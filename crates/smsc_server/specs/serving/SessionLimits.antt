@@ -20,6 +20,14 @@ or_seats (Some limit) = limit
 abbrev pub limit_of : ℕ → List ℕ → ℕ
 limit_of account limits = or_seats (slice_get limits account)
 
+-- an account may have more sessions than before; which places there are stays
+abbrev pub raised_where : Option ℕ → ℕ → ℕ → List ℕ → List ℕ
+raised_where None place most limits = limits
+raised_where (Some limit) place most limits = if nat_lt limit most then slice_set limits place most else limits
+
+abbrev pub raised : ℕ → ℕ → List ℕ → List ℕ
+raised place most limits = raised_where (slice_get limits place) place most limits
+
 -- no account has more sessions than it may have
 abbrev pub AreWithin : List ℕ → List (Option ℕ) → Type 0
 AreWithin limits seats = (account : ℕ) → count_of account seats ≤ limit_of account limits
