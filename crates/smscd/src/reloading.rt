@@ -11,6 +11,7 @@ use smpp_session::{Account as Login, Password};
 use sms_base::Octets;
 use smsc_cli::words::{ServerRun, TableAccount};
 use smsc_operation::account_file::{accounts_in, document_of, judge_file, line_at, read_file};
+use smsc_operation::account_names::AccountNames;
 use smsc_operation::run_fault::RunFault;
 use smsc_server::{AccountBook, Allowance, Allowances, Orders};
 use smsc_service::{AllowedSource, CentreAccount, OrderOutcome};
@@ -31,6 +32,7 @@ pub struct Reloader {
     known: Vec<KnownAccount>,
     allowances: Arc<Allowances>,
     book: Arc<AccountBook>,
+    names: Arc<AccountNames>,
     // Those that are to come, the last one first, and what is taken over once they have.
     coming: Vec<KnownAccount>,
     renewal: Option<Renewal>,
@@ -249,6 +251,12 @@ fn put_new(
     Ok(())
 }
 
+fn name_of(alloc: Global, account: &KnownAccount) -> Result<String, AllocError> {
+    let mut name = String::new(alloc);
+    name.push_str(std::str::from_utf8(account.account.name.as_slice()).unwrap_or(""))?;
+    Ok(name)
+}
+
 // That the centre has not taken an account.
 fn not_taken(alloc: Global) -> RunFault {
     let mut text = String::new(alloc);
@@ -267,10 +275,13 @@ impl Reloader {
         of_words: usize,
         allowances: &Arc<Allowances>,
         book: &Arc<AccountBook>,
+        names: &Arc<AccountNames>,
     ) -> Result<Option<Reloader>, AllocError> {
         match run.accounts {
             Some(path) => {
-                let reloader = Reloader::new(host, run, path, known, of_words, allowances, book)?;
+                let reloader = Reloader::new(
+                    host, run, path, known, of_words, allowances, book, names,
+                )?;
                 Ok(Some(reloader))
             }
             None => {
@@ -288,11 +299,13 @@ impl Reloader {
         of_words: usize,
         allowances: &Arc<Allowances>,
         book: &Arc<AccountBook>,
+        names: &Arc<AccountNames>,
     ) -> Result<Reloader, AllocError> {
         let mut own = String::new(host.alloc());
         own.push_str(path)?;
         let allowances = Arc::try_clone(allowances)?;
         let book = Arc::try_clone(book)?;
+        let names = Arc::try_clone(names)?;
         Ok(Reloader {
             host,
             path: own,
@@ -301,6 +314,7 @@ impl Reloader {
             known,
             allowances,
             book,
+            names,
             coming: Vec::new(host.alloc()),
             renewal: None,
             is_ordered: false,
@@ -421,10 +435,21 @@ impl Reloader {
         Ok(())
     }
 
+    // The last one is called by its name from now on, if there is memory for that.
+    fn name_last(&self) {
+        let Some(last) = self.known.last() else {
+            return;
+        };
+        if let Ok(name) = name_of(self.host.alloc(), last) {
+            self.names.put(self.known.len() - 1, name);
+        }
+    }
+
     // The centre has said what came of the one that was ordered.
     fn note(&mut self, outcome: OrderOutcome) -> Result<(), RunFault> {
         self.is_ordered = false;
         if outcome == OrderOutcome::Enrolled {
+            self.name_last();
             return Ok(());
         }
         drop(self.known.pop());

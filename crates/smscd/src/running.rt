@@ -15,6 +15,7 @@ use sms_keeper::Gate;
 use sms_store_files::{LogFinding, LogJudgement};
 use smsc_cli::words::{AccountWords, LogDetail, ServerRun};
 use smsc_endpoint::LinkAccess;
+use smsc_operation::account_names::AccountNames;
 use smsc_operation::feed::Source;
 use smsc_operation::logging::{self, Log, LogThread};
 use smsc_operation::moments::{now, text_of};
@@ -72,7 +73,7 @@ pub fn run_words<R: Threads + Wait + Clock + Copy + Send + Sync + 'static>(
 fn start_log<R: Threads + Wait + Clock + Copy + Send + Sync + 'static>(
     host: HostRuntime,
     rt: R,
-    names: &Arc<Vec<String>>,
+    names: &Arc<AccountNames>,
 ) -> Result<(Arc<Log<R>>, LogThread), RunFault> {
     let names = Arc::try_clone(names)?;
     logging::start(host, rt, names)
@@ -96,6 +97,8 @@ fn serve_book<R: Threads + Wait + Clock + Copy + Send + Sync + 'static>(
         of_words,
         has_file,
     } = book;
+    let names = AccountNames::new(host.alloc(), names, MOST_ACCOUNTS)?;
+    let names = Arc::new(host.alloc(), names)?;
     let limits = limits_of(
         host,
         run,
@@ -105,9 +108,9 @@ fn serve_book<R: Threads + Wait + Clock + Copy + Send + Sync + 'static>(
         known,
         of_words,
         has_file,
+        &names,
     )?;
     let setup = setup_of(host.alloc(), run, start);
-    let names = Arc::new(host.alloc(), names)?;
     let (log, thread) = start_log(host, rt, &names)?;
     let ended = match parts_of(host.alloc(), access, accounts, limits, names, &log) {
         Ok(parts) => serve_store(host, rt, run, parts, setup),
@@ -164,13 +167,14 @@ fn limits_of(
     known: Vec<KnownAccount>,
     of_words: usize,
     has_file: bool,
+    names: &Arc<AccountNames>,
 ) -> Result<Limits, AllocError> {
     let alloc = host.alloc();
     let allowances = allowances_of(alloc, limits, allowed)?;
     let allowances = Arc::new(alloc, allowances)?;
     let book = AccountBook::new(alloc, logins, has_file)?;
     let book = Arc::new(alloc, book)?;
-    let reloader = Reloader::of(host, run, known, of_words, &allowances, &book)?;
+    let reloader = Reloader::of(host, run, known, of_words, &allowances, &book, names)?;
     Ok(Limits {
         book,
         allowances,
@@ -185,7 +189,7 @@ struct RunParts<R: Wait> {
     // Whose messages the centre takes.
     accounts: Vec<CentreAccount>,
     limits: Limits,
-    names: Arc<Vec<String>>,
+    names: Arc<AccountNames>,
     log: Arc<Log<R>>,
     orders: Arc<Orders>,
 }
@@ -200,7 +204,7 @@ fn parts_of<R: Wait>(
     access: LinkAccess,
     accounts: Vec<CentreAccount>,
     limits: Limits,
-    names: Arc<Vec<String>>,
+    names: Arc<AccountNames>,
     log: &Arc<Log<R>>,
 ) -> Result<RunParts<R>, AllocError> {
     let orders = orders(alloc)?;
@@ -221,7 +225,7 @@ struct StatusPart {
     port: u16,
     source: Source,
     links: Arc<LinkBoard>,
-    names: Arc<Vec<String>>,
+    names: Arc<AccountNames>,
 }
 
 // What the centre and the threads beside the server are to have.
@@ -238,7 +242,7 @@ fn watchers_of<R: Wait + Copy>(
     alloc: Global,
     run: &ServerRun<'_>,
     log: Arc<Log<R>>,
-    names: Arc<Vec<String>>,
+    names: Arc<AccountNames>,
     board: Arc<LinkBoard>,
     guard: Arc<Guard>,
 ) -> Result<(Watchers<R>, Option<StatusPart>), AllocError> {
@@ -685,7 +689,7 @@ fn digits_of(alloc: Global, address: &Address) -> Result<String, AllocError> {
 fn about_of(
     alloc: Global,
     run: &ServerRun<'_>,
-    names: Arc<Vec<String>>,
+    names: Arc<AccountNames>,
     links: Arc<LinkBoard>,
     paths: &StorePaths,
     summary: &Summary,
