@@ -1,23 +1,29 @@
 -- A centre that takes one account more is sound, and is represented as before.
-use Rattle.std.proofs.Common.{◌≡◌, ◌⊎◌, inl, inr, Bool, true, false, List, [], ◌∷◌, ◌++◌, Result, Ok, Err, OnOk, refl, sym, ap, subst, if◌then◌else◌}
+use Rattle.std.proofs.Common.{◌≡◌, ◌⊎◌, inl, inr, ℕ, Bool, true, false, List, [], ◌∷◌, ◌++◌, Option, Some, None, Result, Ok, Err, OnOk, OnErr, refl, sym, ap, subst, if◌then◌else◌}
 use Rattle.sms_base.specs.Address.{IsAddress}
 use Rattle.sms_base.specs.Among.{Among}
+use Rattle.sms_base.specs.declared.carried.Carried.{Carried}
+use Rattle.sms_base.specs.declared.holder.Holder.{Holder}
+use Rattle.sms_base.specs.declared.holder.Holder.TheVariants.{Part, Report, Entry, Memory}
 use Rattle.sms_centre_rows.proofs.conditions.AddressTested.{address_from}
+use Rattle.sms_centre_rows.specs.declared.waiting.handset_link.HandsetLink.{HandsetLink}
+use Rattle.sms_centre_rows.specs.reports.Receipts.{Session}
 use Rattle.sms_centre_spec.specs.conditions.RowsTest.{has_address}
 use Rattle.sms_centre_spec.specs.declared.rows.Rows.{Rows}
 use Rattle.sms_centre_spec.specs.declared.setup.Setup.{Setup}
 use Rattle.sms_centre_spec.specs.Draft.{Core}
-use Rattle.sms_centre_spec.specs.SoundCore.{IsSoundCore}
+use Rattle.sms_centre_spec.specs.SoundCore.{IsLine, IsSentFor, IsSession, IsSoundCore, IsUnderWay}
 use Rattle.sms_centre_spec.specs.SoundRows.{IsSetup, IsSound}
 use Rattle.sms_centre.specs.Enrolling.{accounts_of, accounts_with, enrolled, rows_with, setup_with, state_with}
 use Rattle.sms_centre.specs.state.CentreState.{CentreStateOf, Represents}
 use Rattle.sms_intake.specs.declared.submission.CentreAccount.{CentreAccount}
+use Rattle.sms_tpdu.specs.AddressGrammar.{relay_address}
 
 abbrev HaveAddresses : List CentreAccount → Type 0
 HaveAddresses accounts = (a : CentreAccount) → Among a accounts → IsAddress a.address
 
 one_more : (x : CentreAccount) (accounts : List CentreAccount) → IsAddress x.address → HaveAddresses accounts → HaveAddresses (accounts ++ x ∷ [])
-one_more x [] is have a (inl e) = subst (λ (y : CentreAccount). IsAddress y.address) e is
+one_more x [] is have a (inl e) = subst (λ (y : CentreAccount). IsAddress y.address) (sym e) is
 one_more x (y ∷ ys) is have a (inl e) = have a (inl e)
 one_more x (y ∷ ys) is have a (inr there) = one_more x ys is (λ b among. have b (inr among)) a there
 
@@ -41,15 +47,33 @@ rows_more x rows s = record {
   splits = s.splits;
 }
 
+-- what is under way is of the same rows
+module _ (x : CentreAccount) (rows : Rows) where
+  sent_more : (handset : List ℕ) (reference : ℕ) (tag : Holder) → IsSentFor handset reference tag rows → IsSentFor handset reference tag (rows_with x rows)
+  sent_more handset reference (Part id number) is = is
+  sent_more handset reference (Report id) is = is
+  sent_more handset reference (Entry n) is = is
+  sent_more handset reference (Memory n) is = is
+
+  under_way_more : (handset : List ℕ) (o : Option Carried) → IsUnderWay handset o rows → IsUnderWay handset o (rows_with x rows)
+  under_way_more handset None is = is
+  under_way_more handset (Some transfer) is = (is.0, sent_more handset transfer.reference transfer.tag is.1)
+
+  line_more : (l : HandsetLink) → IsLine rows l → IsLine (rows_with x rows) l
+  line_more l k = record { handset = k.handset; side = k.side; under_way = under_way_more l.handset l.link.under_way k.under_way; answered = k.answered }
+
+  session_more : (s : Session) → IsSession rows s → IsSession (rows_with x rows) s
+  session_more s k = record { unanswered = k.unanswered }
+
 pub core_more : (x : CentreAccount) (c : Core) → IsSoundCore c → IsSoundCore (enrolled x c)
 core_more x c s = record {
   rows = rows_more x c.rows s.rows;
   now = s.now;
   moment = s.moment;
-  each_line = s.each_line;
+  each_line = λ l there. line_more x c.rows l (s.each_line l there);
   apart = s.apart;
   session_keys = s.session_keys;
-  each_session = s.each_session;
+  each_session = λ q there. session_more x c.rows q (s.each_session q there);
 }
 
 pub represents_more : (x : CentreAccount) (c : Core) (s : CentreStateOf) → Represents c s → Represents (enrolled x c) (state_with x s)
@@ -79,3 +103,12 @@ pub accounts_so : {A E : Type 0} (r : Result A E) (x : CentreAccount) (before af
     → OnOk r (accounts_of after ≡ accounts_with x (accounts_of before))
 accounts_so (Ok done) x before after is = ap accounts_of is
 accounts_so (Err error) x before after is = tt
+
+-- what a centre has in memory besides
+abbrev pub StandsOn : List ℕ → CentreStateOf → Type 0
+StandsOn address s = IsSetup s.setup × (address ≡ relay_address s.setup.centre)
+
+pub stands_still : {A E : Type 0} (r : Result A E) (x : CentreAccount) (before after : CentreStateOf) (address : List ℕ) → OnOk r (after ≡ state_with x before)
+    → OnErr r (after ≡ before) → StandsOn address before → StandsOn address after
+stands_still (Ok done) x before after address is same stood = subst (λ (s : CentreStateOf). StandsOn address s) (sym is) (setup_more x before.setup stood.0, stood.1)
+stands_still (Err error) x before after address is same stood = subst (λ (s : CentreStateOf). StandsOn address s) (sym same) stood

@@ -135,10 +135,12 @@ impl Bound {
         ensures accounts { self.new.accounts ≡ self.old.accounts }
         ensures suspended { self.new.suspended ≡ self.old.suspended }
     {
-        if let Some(limit) = self.limits.get(place) {
-            if *limit < most {
-                self.set_limit(place, most);
-            }
+        let limit = match self.limits.get(place) {
+            Some(limit) => *limit,
+            None => return,
+        };
+        if limit < most {
+            self.set_limit(place, most);
         }
     }
 
