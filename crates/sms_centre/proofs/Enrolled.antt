@@ -24,6 +24,7 @@ HaveAddresses accounts = (a : CentreAccount) → Among a accounts → IsAddress 
 
 one_more : (x : CentreAccount) (accounts : List CentreAccount) → IsAddress x.address → HaveAddresses accounts → HaveAddresses (accounts ++ x ∷ [])
 one_more x [] is have a (inl e) = subst (λ (y : CentreAccount). IsAddress y.address) (sym e) is
+one_more x [] is have a (inr there) = absurd there
 one_more x (y ∷ ys) is have a (inl e) = have a (inl e)
 one_more x (y ∷ ys) is have a (inr there) = one_more x ys is (λ b among. have b (inr among)) a there
 
