@@ -4,6 +4,8 @@ use Rattle.std.specs.Prelude.{slice_get}
 use Rattle.std.proofs.lemmas.Option.{none-some}
 use Rattle.sms_centre.specs.Enrolling.{accounts_with}
 use Rattle.sms_centre_spec.specs.declared.event.CentreEvent.{CentreEvent}
+use Rattle.sms_centre_spec.specs.declared.event.CentreEvent.TheVariants.{Ordered as OrderedOf, Tick as TickOf}
+use Rattle.sms_centre_spec.specs.declared.order.Order.TheVariants.{Retry as RetryOf, Delete as DeleteOf}
 use Rattle.sms_centre_spec.specs.declared.jobs.job.Job.{Job}
 use Rattle.sms_centre_spec.specs.declared.jobs.reply.Reply.{Reply}
 use Rattle.sms_intake.specs.declared.submission.CentreAccount.{CentreAccount}
@@ -48,10 +50,10 @@ seat_stays (Enrol account) fate s stimulus keeps = absurd keeps
 
 pub accounts_then : (s : Serving) (stimulus : Stimulus Job) (fate : Fate) → accounts_of (after s stimulus fate) ≡ come_by stimulus fate (accounts_of s)
 accounts_then s (JobOf seat job) fate = seat_stays (asked_by s.seats (JobOf seat job)) fate s (JobOf seat job) (seat_keeps s.seats seat job)
-accounts_then s (Tick now) fate = event_stays _ fate s (Tick now)
+accounts_then s (Tick now) fate = event_stays (TickOf now) fate s (Tick now)
 accounts_then s (Own (ForgetErrand before from most)) fate = forget_stays before from most fate s (Own (ForgetErrand before from most))
-accounts_then s (Own (Retry id)) fate = event_stays _ fate s (Own (Retry id))
-accounts_then s (Own (Delete id)) fate = event_stays _ fate s (Own (Delete id))
+accounts_then s (Own (Retry id)) fate = event_stays (OrderedOf RetryOf id) fate s (Own (Retry id))
+accounts_then s (Own (Delete id)) fate = event_stays (OrderedOf DeleteOf id) fate s (Own (Delete id))
 accounts_then s (Own (EnrolErrand account)) Done = refl
 accounts_then s (Own (EnrolErrand account)) NoMemory = refl
 accounts_then s (Own (EnrolErrand account)) Refused = refl
