@@ -1,11 +1,10 @@
 -- How many sessions an account has once somebody is bound at a seat, or nobody, and which accounts are full.
-use Rattle.std.proofs.Common.{◌≡◌, ◌≢◌, ◌≤◌, ◌<◌, ◌+◌, ℕ, zero, suc, Bool, true, false, cond, not, eqb, List, [], ◌∷◌, length, set, slice_get, replicate, Option, Some, None, inl, inr, refl, sym, ap, subst, ◌∙◌, arith}
+use Rattle.std.proofs.Common.{◌≡◌, ◌≢◌, ◌≤◌, ◌<◌, ◌+◌, ℕ, zero, suc, Bool, true, false, cond, not, eqb, List, [], ◌∷◌, length, set, replicate, Option, Some, None, inl, inr, refl, sym, ap, subst, ◌∙◌, arith}
 use Rattle.std.proofs.lemmas.Bool.{ltb-true}
 use Rattle.std.proofs.lemmas.Bool.Decides.{eqb_tells}
 use Rattle.std.proofs.lemmas.List.{length-set, length-replicate}
-use Rattle.std.proofs.lemmas.Option.{none-some}
 use Rattle.smpp_session.specs.Logins.{is_full}
-use Rattle.smsc_server.specs.serving.SessionLimits.{AreWithin, count_of, full_where, has_room, is_of, limit_of}
+use Rattle.smsc_server.specs.serving.SessionLimits.{AreWithin, count_of, full_where, has_room, is_of, limit_of, rises}
 
 abbrev one_if : Bool → ℕ
 one_if true = 1
@@ -67,19 +66,16 @@ one_within limits seats seat account within room other = by_test (eqb account ot
       omega (arith, few, none, was)
 
 -- an account may have more
-some_is : (x y : ℕ) → Some x ≡ Some y → x ≡ y
-some_is x y e = cc
+limit_rises : (limits : List ℕ) (place most account : ℕ) → rises place most limits ≡ true → limit_of account limits ≤ limit_of account (set limits place most)
+limit_rises [] place most account e = omega arith
+limit_rises (l ∷ ls) zero most zero e = let less : l < most = ltb-true l most e in omega (arith, less)
+limit_rises (l ∷ ls) zero most (suc account) e = omega arith
+limit_rises (l ∷ ls) (suc place) most zero e = omega arith
+limit_rises (l ∷ ls) (suc place) most (suc account) e = limit_rises ls place most account e
 
-limit_rises : (limits : List ℕ) (place limit most account : ℕ) → slice_get limits place ≡ Some limit → limit < most → limit_of account limits ≤ limit_of account (set limits place most)
-limit_rises [] place limit most account e less = absurd (none-some limit e)
-limit_rises (l ∷ ls) zero limit most zero e less = let same : l ≡ limit = some_is l limit e in omega (arith, same, less)
-limit_rises (l ∷ ls) zero limit most (suc account) e less = omega arith
-limit_rises (l ∷ ls) (suc place) limit most zero e less = omega arith
-limit_rises (l ∷ ls) (suc place) limit most (suc account) e less = limit_rises ls place limit most account e less
-
-pub raised_within : (limits : List ℕ) (seats : List (Option ℕ)) (place limit most : ℕ) → slice_get limits place ≡ Some limit → limit < most → AreWithin limits seats → AreWithin (set limits place most) seats
-raised_within limits seats place limit most e less within account =
-    let up = limit_rises limits place limit most account e less in
+pub raised_within : (limits : List ℕ) (seats : List (Option ℕ)) (place most : ℕ) → rises place most limits ≡ true → AreWithin limits seats → AreWithin (set limits place most) seats
+raised_within limits seats place most e within account =
+    let up = limit_rises limits place most account e in
     let was = within account in
     omega (arith, up, was)
 

@@ -3,7 +3,7 @@ ghost use Rattle.std.specs.Prelude.{◌≡◌, ◌<◌, ◌≤◌, ℕ, not, Non
 ghost use Rattle.smpp_session.specs.Logins.{is_full};
 ghost use Rattle.smsc_server.specs.serving.KeptSeats.{may_sit as may_sit_of};
 ghost use Rattle.smsc_server.specs.serving.SessionLimits.{bound_at, bound_where, count_of, full_where, has_room as has_room_of, is_of as is_of_account};
-ghost use Rattle.smsc_server.specs.serving.SessionLimits.{is_suspended_at, limit_of, may_be_bound, may_have_more as may_have_more_of, raised, AreWithin};
+ghost use Rattle.smsc_server.specs.serving.SessionLimits.{is_suspended_at, limit_of, may_be_bound, may_have_more as may_have_more_of, raised, rises as rises_of, AreWithin};
 
 use smpp_session::FullAccounts;
 use smsc_arrivals::PeerKind;
@@ -129,17 +129,23 @@ impl Bound {
         self.suspended = suspended;
     }
 
+    // Whether the account at that place may have more sessions by this number.
+    fn rises(&self, place: usize, most: u8) -> bool
+        ensures { result ≡ rises_of place most self.now.limits.items }
+    {
+        match self.limits.get(place) {
+            Some(limit) => *limit < most,
+            None => false,
+        }
+    }
+
     /// The account at that place may have so many sessions from now on, where those are more than before.
     pub(crate) fn raise(&mut self, place: usize, most: u8)
         ensures limits { self.new.limits.items ≡ raised place most self.old.limits.items }
         ensures accounts { self.new.accounts ≡ self.old.accounts }
         ensures suspended { self.new.suspended ≡ self.old.suspended }
     {
-        let limit = match self.limits.get(place) {
-            Some(limit) => *limit,
-            None => return,
-        };
-        if limit < most {
+        if self.rises(place, most) {
             self.set_limit(place, most);
         }
     }

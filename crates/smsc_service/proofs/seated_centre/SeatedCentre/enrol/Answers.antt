@@ -1,5 +1,7 @@
 use Rattle.std.proofs.Common.{◌∙◌, refl, sym, subst, true≢false}
+use Rattle.sms_centre.specs.Enrolling.{enrolled}
 use Rattle.sms_centre.specs.state.CentreState.{Represents, CentreStateOf}
+use Rattle.sms_intake.specs.declared.submission.CentreAccount.{CentreAccount}
 use Rattle.smsc_service.specs.InSeated.{IsLeft, Reaches}
 use Rattle.smsc_service.proofs.ByFate.{has_come, none_came, not_done, was_done, was_undone}
 use Rattle.smsc_service.proofs.seated_centre.SeatedCentre.enrol.Goals as goal
@@ -15,7 +17,8 @@ returns-in-Ok-clause-gives g c = λ s base honest sound made.
     let before = c.args.self.now in
     let seated = record before { machine = record before.machine { centre = c.enrol.new.self } } in
     has_come (Reaches g.K.RowStore.state base seated) (IsLeft g.K.RowStore.state base seated) seated.machine.centre seated.seat_map s c.args.stimulus.now c.args.account.now
-    _ _ refl c.none.ensures made.rows (c.in-Ok.ensures.centre_state s.core made.centre) made.seats
+    _ _ refl c.none.ensures made.rows
+    (subst (λ (a : CentreAccount). Represents (enrolled a s.core) c.enrol.new.self) c.get.ensures (c.in-Ok.ensures.centre_state s.core made.centre)) made.seats
 
 pub returns-in-Err-clause-gives : goal.returns-in-Err-clause-gives
 returns-in-Err-clause-gives g c = λ s base honest sound made.
