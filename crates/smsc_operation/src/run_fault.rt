@@ -4,7 +4,7 @@ use sms_base::Moment;
 use sms_rows::keep::KeepError;
 use smsc_cli::words::{WordsFault, why_no_server_words};
 use std::alloc::{AllocError, AllocFailed, Global};
-use std::io;
+use std::{fmt, io};
 use thiserror::Error;
 
 /// Why a store can't be opened.
@@ -58,6 +58,22 @@ pub enum StoreFault {
     /// Something else, of which the system says nothing more.
     #[error("it can't be read or written")]
     Other,
+}
+
+/// A clock that is more than ten minutes behind the rows of its store.
+#[derive(Clone, Copy)]
+pub struct ClockBehind {
+    /// The newest moment of the rows.
+    pub newest: Moment,
+    /// The moment that the clock has.
+    pub now: Moment,
+}
+
+// A moment has no text for debugging; who runs the server is shown both (`RunFault::text`).
+impl fmt::Debug for ClockBehind {
+    fn fmt<W: fmt::Write>(&self, f: &mut fmt::Formatter<W>) -> fmt::Result {
+        f.debug_struct("ClockBehind").finish_non_exhaustive()
+    }
 }
 
 /// Why a run ended before its time.
@@ -135,9 +151,9 @@ pub enum RunFault {
     /// The run has ended in order, but its store could not be left whole.
     #[error("the run has ended, but its log could not be written back, so keep it with FILE: {0}")]
     NotLeft(StoreFault),
-    /// The newest moment of the rows is more than ten minutes ahead of this one, which the clock has.
+    /// The clock is behind the rows.
     #[error("its rows are ahead of the clock")]
-    Ahead(Moment, Moment),
+    Ahead(ClockBehind),
     /// The accounts' file can't be read.
     #[error("they can't be read: {0}")]
     NoAccounts(io::Error),
@@ -254,9 +270,9 @@ fn plain(alloc: Global, text: &str) -> Result<String, AllocError> {
     Ok(all)
 }
 
-fn ahead_text(alloc: Global, newest: Moment, now: Moment) -> Result<String, AllocError> {
-    let newest = text_of(alloc, newest)?;
-    let now = text_of(alloc, now)?;
+fn ahead_text(alloc: Global, clock: ClockBehind) -> Result<String, AllocError> {
+    let newest = text_of(alloc, clock.newest)?;
+    let now = text_of(alloc, clock.now)?;
     Ok(format!(in alloc;
         "smscd: the clock shows {now}, but the store has rows of {newest}: set the clock, or start with --ahead\n"
     )?)
@@ -329,7 +345,7 @@ impl RunFault {
             | RunFault::StoreReplaced
             | RunFault::StoreLost(_)
             | RunFault::NotLeft(_)
-            | RunFault::Ahead(_, _) => 4,
+            | RunFault::Ahead(_) => 4,
             RunFault::NoAccounts(_)
             | RunFault::NoSecrets(_)
             | RunFault::Port(_, _)
@@ -363,7 +379,7 @@ impl RunFault {
             RunFault::SecretsNoText | RunFault::NoSecrets(_) => {
                 secrets_text(alloc, paths.secrets, self)
             }
-            RunFault::Ahead(newest, now) => ahead_text(alloc, *newest, *now),
+            RunFault::Ahead(clock) => ahead_text(alloc, *clock),
             RunFault::Control(_) | RunFault::ControlTaken => {
                 control_text(alloc, paths.control, self)
             }

@@ -17,14 +17,14 @@ use sms_keeper::Stimulus;
 use sms_relay::{Rp, read_up};
 
 /// An RP-ERROR: the reference of what it answers, and its cause.
-#[derive(Clone, Copy, Debug, PartialEq, Eq)]
+#[derive(Clone, Copy, PartialEq, Eq)]
 pub(crate) struct Refusal {
     pub(crate) reference: u8,
     pub(crate) cause: u8,
 }
 
 /// A message of which a handset refused a part, and by which cause (3GPP TS 24.011 8.2.5.4).
-#[derive(Clone, Copy, Debug, PartialEq, Eq)]
+#[derive(Clone, Copy, PartialEq, Eq)]
 pub struct RefusedPart {
     pub id: MessageId,
     pub cause: u8,

@@ -22,7 +22,7 @@ use smsc_operation::moments::{now, text_of};
 use smsc_operation::opening::{FoundStore, open_store};
 use smsc_operation::preparing::leave_after;
 use smsc_operation::readiness;
-use smsc_operation::run_fault::RunFault;
+use smsc_operation::run_fault::{ClockBehind, RunFault};
 use smsc_operation::store_files::{StorePaths, open_mode_at, public_mode_at};
 use smsc_operation::summary::{Files, Summary, left_in, left_of, summary_of};
 use smsc_server::{
@@ -509,7 +509,10 @@ fn clock_of<R: Clock + Copy>(
     };
     let ahead = newest.seconds().saturating_sub(clocks.day.seconds());
     if ahead > MOST_AHEAD && !may_be_ahead {
-        return Err(RunFault::Ahead(newest, clocks.day));
+        return Err(RunFault::Ahead(ClockBehind {
+            newest,
+            now: clocks.day,
+        }));
     }
     Ok(clocks.from(newest))
 }
