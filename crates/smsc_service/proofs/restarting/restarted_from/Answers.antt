@@ -1,4 +1,4 @@
-use Rattle.std.proofs.Common.{List, ◌∙◌, IfOk, ap, subst}
+use Rattle.std.proofs.Common.{◌∙◌, IfOk, ap, subst}
 use Rattle.sms_centre.specs.state.CentreState.{Represents, CentreStateOf}
 use Rattle.sms_centre_spec.specs.declared.rows.Rows.{Rows}
 use Rattle.smsc_service.specs.Accounts.{bare, with_accounts}

@@ -3,7 +3,7 @@ use Rattle.sms_centre.specs.Enrolling.{enrolled}
 use Rattle.sms_centre.specs.state.CentreState.{Represents, CentreStateOf}
 use Rattle.sms_intake.specs.declared.submission.CentreAccount.{CentreAccount}
 use Rattle.smsc_service.specs.InSeated.{IsLeft, Reaches}
-use Rattle.smsc_service.proofs.ByFate.{has_come, none_came, not_done, was_done, was_undone}
+use Rattle.smsc_service.proofs.ByFate.{has_come, none_came, was_done, was_undone}
 use Rattle.smsc_service.proofs.seated_centre.SeatedCentre.enrol.Goals as goal
 
 pub returns-then-is_late-clause-gives : goal.returns-then-is_late-clause-gives

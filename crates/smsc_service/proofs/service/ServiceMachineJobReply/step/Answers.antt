@@ -1,4 +1,4 @@
-use Rattle.std.proofs.Common.{◌≡◌, ◌⊎◌, ◌∙◌, ◌++◌, ℕ, List, length, ap, sym, subst}
+use Rattle.std.proofs.Common.{◌≡◌, ◌⊎◌, ◌∙◌, ◌++◌, ℕ, length, ap, sym, subst}
 use Rattle.sms_centre.specs.Archiving.{Stays}
 use Rattle.sms_centre_rows.specs.declared.messages.message.MessageRow.{MessageRow}
 use Rattle.sms_centre_group.specs.Grouping.{store_of}
@@ -7,7 +7,6 @@ use Rattle.sms_centre_spec.specs.declared.rows.Rows.{Rows}
 use Rattle.sms_keeper.specs.declared.machine.Fate.TheVariants.{Refused}
 use Rattle.smsc_service.specs.Asking.{asked_by}
 use Rattle.smsc_service.specs.declared.asking.SeatRequest.{SeatRequest}
-use Rattle.sms_intake.specs.declared.submission.CentreAccount.{CentreAccount}
 use Rattle.smsc_service.specs.Accounts.{ComeBehind, bare}
 use Rattle.smsc_service.specs.InSeated.{IsMadeBy, accounts_in, held_by}
 use Rattle.smsc_service.specs.Seats.{Seats}
