@@ -1,6 +1,7 @@
 mod ActsFirst
 mod Archived
 mod AsDefined
+pub mod Enrolled
 mod MayGo
 mod Forgotten
 mod Promises

@@ -1,5 +1,5 @@
 //! The centre.
-ghost use Rattle.std.specs.Prelude.{◌≡◌, ℕ, List, IfErr, IfOk, OnErr, OnOk};
+ghost use Rattle.std.specs.Prelude.{◌≡◌, ℕ, List, IfErr, IfOk, OnErr, OnOk, length, take};
 ghost use Rattle.sms_base.specs.Among.{Among};
 ghost use Rattle.sms_centre_rows.specs.waiting.SoundAllocations.{IsNumber};
 ghost use Rattle.sms_centre_spec.specs.declared.event.CentreEvent.{CentreEvent as CentreEventOf};
@@ -10,6 +10,7 @@ ghost use Rattle.sms_centre_spec.specs.Requests.{cancel_refusal, octets_refusal,
 ghost use Rattle.sms_centre_spec.specs.SoundCore.{AreDifferent, HasNumber, IsEvent};
 ghost use Rattle.sms_centre_spec.specs.SoundRows.{IsSetup};
 ghost use Rattle.sms_centre.specs.Archiving.{AreArchived, Stays};
+ghost use Rattle.sms_centre.specs.Enrolling.{accounts_of, accounts_with, enrolled};
 ghost use Rattle.sms_centre.specs.Planning.{DefinedOutcome, FitsTheCentre};
 ghost use Rattle.sms_centre.specs.Stored.{StoresRows};
 ghost use Rattle.sms_centre_rows.specs.messages.Messages.{message_at};
@@ -44,6 +45,7 @@ use sms_centre_rows::messages::MessageRow as Message;
 use sms_centre_rows::report_lines::{ReceiptRow, ReportedMessage};
 use sms_centre_spec::bodies::CentreStore;
 use sms_centre_spec::{CentreEvent, Changes, PlanError, Rows, is_event};
+use sms_intake::CentreAccount;
 use sms_rows::keep::BodyKeep;
 use sms_rows::table::Table;
 use sms_tpdu::write_relay_address;
@@ -327,6 +329,33 @@ impl Centre {
                 Err(error)
             }
         }
+    }
+
+    /// The account is the last of the centre's accounts from now on. Those before it keep their places, and all else stays. One whose
+    /// address no unit can carry does not come.
+    ///
+    /// # Errors
+    /// A growth was refused: the centre stays unchanged.
+    pub fn enrol(&mut self, account: &CentreAccount) -> Result<(), AllocError>
+        ensures centre_state { OnOk result ((c : Core) → Represents c self.old → Represents (enrolled account.now c) self.new) }
+        ensures accounts { OnOk result (accounts_of self.new ≡ accounts_with account.now (accounts_of self.old)) }
+        ensures same { OnErr result (self.new ≡ self.old) }
+    {
+        self.centre_state.enrol(self.alloc, account)
+    }
+
+    /// How many accounts there are.
+    pub fn account_count(&self) -> usize
+        ensures { result ≡ length (accounts_of self.now) }
+    {
+        self.centre_state.setup.accounts.len()
+    }
+
+    /// The first so many accounts, or all where there are fewer, in memory of their own.
+    pub fn first_accounts(&self, count: usize) -> Result<Vec<CentreAccount>, AllocError>
+        ensures { IfOk result (λ first. first.items ≡ take count (accounts_of self.now)) }
+    {
+        self.centre_state.first_accounts(self.alloc, count)
     }
 
     /// The message of that number, in memory of its own.

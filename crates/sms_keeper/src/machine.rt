@@ -9,9 +9,10 @@ ghost use Rattle.sms_keeper.specs.Fates.{MatchFate};
 
 use crate::outs::Outs;
 use sms_base::{MessageId, Moment};
+use sms_intake::CentreAccount;
 
 /// What the machine is to do that no seat asks.
-#[derive(Clone, Copy, PartialEq, Eq)]
+#[derive(Drop)]
 pub enum Errand {
     /// The machine looks at so many messages, from that number on, and forgets those that may go and ended before that moment.
     Forget {
@@ -23,6 +24,8 @@ pub enum Errand {
     Retry(MessageId),
     /// The machine's owner orders that the message is deleted.
     Delete(MessageId),
+    /// The account comes: it is the last of the machine's accounts from now on.
+    Enrol(CentreAccount),
 }
 
 /// What the machine is asked.

@@ -7,6 +7,7 @@
 //!
 //! - `access`: the access log
 //! - `account_file`: the accounts that a file spells
+//! - `account_names`: the names of a run's accounts
 //! - `archive`: the file to which a run writes what it forgets
 //! - `feed`: what the threads of a run give to the thread of its status page
 //! - `gone`: how many messages a run has forgotten
@@ -28,6 +29,7 @@
 
 pub mod access;
 pub mod account_file;
+pub mod account_names;
 pub mod archive;
 pub mod feed;
 pub mod gone;

@@ -1,4 +1,5 @@
 //! The lines of the log, in logfmt: `event=bound seat=3 peer=127.0.0.1:51234 account=bank kind=transceiver`.
+use crate::account_names::AccountNames;
 use smpp_session::BindKind;
 use sms_base::{Digits, FinalState, MessageId};
 use smsc_loop::{Counts, LeaveReason, Note};
@@ -108,16 +109,16 @@ fn bare_or_quoted(alloc: Global, word: &str) -> Result<String, AllocError> {
     }
 }
 
-fn account_name(alloc: Global, names: &[String], account: u8) -> Result<String, AllocError> {
-    match names.get(usize::from(account)) {
-        Some(name) => bare_or_quoted(alloc, name.as_str()),
+fn account_name(alloc: Global, names: &AccountNames, account: u8) -> Result<String, AllocError> {
+    match names.at(usize::from(account)) {
+        Some(name) => bare_or_quoted(alloc, name),
         None => plain(alloc, "?"),
     }
 }
 
 fn bound_text(
     alloc: Global,
-    names: &[String],
+    names: &AccountNames,
     account: u8,
     kind: BindKind,
 ) -> Result<String, AllocError> {
@@ -157,7 +158,7 @@ fn note_level(note: &Note) -> &'static str {
     }
 }
 
-fn note_text(alloc: Global, names: &[String], note: &Note) -> Result<String, AllocError> {
+fn note_text(alloc: Global, names: &AccountNames, note: &Note) -> Result<String, AllocError> {
     match note {
         Note::Bound(account, kind) => bound_text(alloc, names, *account, *kind),
         Note::BindRefused(status, name) => refused_text(alloc, *status, name),
@@ -235,7 +236,7 @@ pub fn cause_word(cause: u8) -> &'static str {
 /// The text of a line for submit_sm that were refused within a second.
 pub(crate) fn refusals_text(
     alloc: Global,
-    names: &[String],
+    names: &AccountNames,
     refusals: &Refusals,
 ) -> Result<String, AllocError> {
     let Refusals {
@@ -285,7 +286,7 @@ fn final_text(alloc: Global, id: MessageId, state: FinalState) -> Result<String,
 }
 
 // Who has the seats that others wait for.
-fn seats_text(alloc: Global, names: &[String], seated: &Seated) -> Result<String, AllocError> {
+fn seats_text(alloc: Global, names: &AccountNames, seated: &Seated) -> Result<String, AllocError> {
     let Seated {
         applications,
         links,
@@ -303,7 +304,7 @@ fn seats_text(alloc: Global, names: &[String], seated: &Seated) -> Result<String
 
 fn endpoint_text(
     alloc: Global,
-    names: &[String],
+    names: &AccountNames,
     seat: usize,
     peer: SocketAddr,
     note: &Note,
@@ -321,7 +322,11 @@ fn at_level(
 }
 
 /// The line of an event; none of a connection that never said who it is, and of a refused submit_sm, which are counted.
-pub fn line_of(alloc: Global, names: &[String], event: &Event) -> Result<Option<Line>, AllocError> {
+pub fn line_of(
+    alloc: Global,
+    names: &AccountNames,
+    event: &Event,
+) -> Result<Option<Line>, AllocError> {
     match event {
         Event::Endpoint(seat, peer, note) => at_level(
             note_level(note),

@@ -1,4 +1,5 @@
 //! The log: lines in a ring, which a thread of its own writes to standard error.
+use crate::account_names::AccountNames;
 use crate::lines::{Line, line_of, refusals_text};
 use crate::moments::{now, text_of};
 use crate::run_fault::RunFault;
@@ -49,7 +50,7 @@ impl Counted {
 pub struct Log<R: Wait> {
     host: HostRuntime,
     rt: R,
-    names: Arc<Vec<String>>,
+    names: Arc<AccountNames>,
     lines: Sender<String>,
     counted: Arc<Counted>,
 }
@@ -59,7 +60,7 @@ pub struct Log<R: Wait> {
 struct Writer<R> {
     host: HostRuntime,
     rt: R,
-    names: Arc<Vec<String>>,
+    names: Arc<AccountNames>,
     lines: Receiver<String>,
     counted: Arc<Counted>,
 }
@@ -110,7 +111,7 @@ impl<R: Wait + Clock> Writer<R> {
 
     fn are_refusals_written(&self, refusals: &Refusals) -> bool {
         let alloc = self.host.alloc();
-        let Ok(text) = refusals_text(alloc, self.names.as_slice(), refusals) else {
+        let Ok(text) = refusals_text(alloc, &*self.names, refusals) else {
             return false;
         };
         match whole_line(&self.host, "warn", text.as_str()) {
@@ -200,7 +201,7 @@ impl<R: Wait + Copy> Log<R> {
             self.counted.refused.count(*account, *status);
             return Ok(());
         }
-        match line_of(self.host.alloc(), self.names.as_slice(), event)? {
+        match line_of(self.host.alloc(), &*self.names, event)? {
             Some(Line { level, text }) => self.put(level, text.as_str()),
             None => {
                 self.counted.unknown.fetch_add(1, Ordering::SeqCst);
@@ -258,7 +259,7 @@ fn no_counts(alloc: Global) -> Result<Arc<Counted>, AllocError> {
 fn log_of<R: Wait + Copy>(
     host: HostRuntime,
     rt: R,
-    names: Arc<Vec<String>>,
+    names: Arc<AccountNames>,
     lines: Sender<String>,
     counted: &Arc<Counted>,
 ) -> Result<Arc<Log<R>>, AllocError> {
@@ -278,7 +279,7 @@ fn log_of<R: Wait + Copy>(
 fn writer_of<R: Copy>(
     host: HostRuntime,
     rt: R,
-    names: &Arc<Vec<String>>,
+    names: &Arc<AccountNames>,
     lines: Receiver<String>,
     counted: &Arc<Counted>,
 ) -> Result<Writer<R>, AllocError> {
@@ -308,7 +309,7 @@ fn start_writer<R: Threads + Wait + Clock + Copy + Send + Sync + 'static>(
 fn start_thread<R: Threads + Wait + Clock + Copy + Send + Sync + 'static>(
     host: HostRuntime,
     rt: R,
-    names: &Arc<Vec<String>>,
+    names: &Arc<AccountNames>,
     lines: Receiver<String>,
     counted: Arc<Counted>,
 ) -> Result<LogThread, RunFault> {
@@ -320,7 +321,7 @@ fn start_thread<R: Threads + Wait + Clock + Copy + Send + Sync + 'static>(
 pub fn start<R: Threads + Wait + Clock + Copy + Send + Sync + 'static>(
     host: HostRuntime,
     rt: R,
-    names: Arc<Vec<String>>,
+    names: Arc<AccountNames>,
 ) -> Result<(Arc<Log<R>>, LogThread), RunFault> {
     let counted = no_counts(host.alloc())?;
     let (sender, receiver) = bounded::<String, _>(host.alloc(), MOST_LINES)?;

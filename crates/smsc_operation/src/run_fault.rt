@@ -91,8 +91,8 @@ pub enum RunFault {
     /// The account at this line of the accounts' file has a source that ends in an asterisk and is no number's beginning.
     #[error("line {0}: a source ends in an asterisk and is no number's beginning")]
     StarredSource(usize),
-    /// The account at this line of the accounts' file is another than the run began with.
-    #[error("the account at line {0} is another than the run began with: a run takes over password, rate, suspended, and that one has gone")]
+    /// The account at this line of the accounts' file is another than the run knows.
+    #[error("the account at line {0} is another than the run knows: a run takes over password, rate, suspended, new accounts, and that one has gone")]
     OtherAccount(usize),
     /// The run has no file of accounts.
     #[error("the run has no file of accounts")]
@@ -232,7 +232,7 @@ pub const USAGE: &str =
     orders:\n\
     \u{20}  stop              end in good order; waited for 15 seconds, or SECONDS\n\
     \u{20}  end SEAT          end the connection at that seat, 0 to 31\n\
-    \u{20}  reload            read the accounts' file again: password, rate, suspended, accounts that have gone\n\
+    \u{20}  reload            read the accounts' file again: password, rate, suspended, accounts that come or have gone\n\
     \u{20}  retry ID          try that message now\n\
     \u{20}  cancel ID         delete that message: it is reported as deleted\n\
     a password, read from standard input:\n\

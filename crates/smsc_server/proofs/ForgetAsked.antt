@@ -1,4 +1,4 @@
--- Where the centre forgets something, an errand asked that of it.
+-- Where the centre forgets something, an errand asked that of it; so where it takes an account.
 use Rattle.std.proofs.Common.{◌≡◌, ℕ, List, Option, Some, None, Result, Ok, Err, Bool, true, false, true≢false, if◌then◌else◌, refl, sym, ap, subst, ◌∙◌}
 use Rattle.std.specs.Prelude.{nat_lt}
 use Rattle.std.proofs.lemmas.Bool.{cond_both}
@@ -12,23 +12,29 @@ use Rattle.sms_centre_spec.specs.declared.event.CentreEvent.TheVariants.{LinkDow
 use Rattle.sms_centre_spec.specs.declared.jobs.job.Job.{Job}
 use Rattle.sms_centre_spec.specs.declared.jobs.job.Job.TheVariants.{Bound, Unbound, Submit, Query, Cancel, DeliverAnswered, LinkUp, LinkDown, Frame}
 use Rattle.sms_centre_spec.specs.forgetting.Forget.{is_going_now}
-use Rattle.sms_keeper.specs.declared.machine.Errand.TheVariants.{Forget as ForgetErrand, Retry, Delete}
+use Rattle.sms_intake.specs.declared.submission.CentreAccount.{CentreAccount}
+use Rattle.sms_keeper.specs.declared.machine.Errand.TheVariants.{Forget as ForgetErrand, Retry, Delete, Enrol as EnrolErrand}
 use Rattle.sms_keeper.specs.declared.machine.Fate.{Fate}
 use Rattle.sms_keeper.specs.declared.machine.Fate.TheVariants.{Done, NoMemory, Refused}
 use Rattle.sms_keeper.specs.declared.machine.Stimulus.{Stimulus}
 use Rattle.sms_keeper.specs.declared.machine.Stimulus.TheVariants.{Job as JobOf, Tick, Own}
-use Rattle.smsc_service.specs.Asking.{IfForget, asked, asked_by, link_for, of_handset, question, read_as, submission, withdrawal}
+use Rattle.smsc_service.specs.Asking.{asked, asked_by, link_for, of_handset, question, read_as, submission, withdrawal}
 use Rattle.smsc_service.specs.Numbers.{is_number}
 use Rattle.smsc_service.specs.Seats.{Seats, handset_at, seat_of}
 use Rattle.smsc_service.specs.Serving.{Serving}
 use Rattle.smsc_service.specs.declared.asking.SeatRequest.{SeatRequest}
-use Rattle.smsc_service.specs.declared.asking.SeatRequest.TheVariants.{Event, Nothing, Taken, Forget}
+use Rattle.smsc_service.specs.declared.asking.SeatRequest.TheVariants.{Event, Nothing, Taken, Forget, Enrol}
 use Rattle.smsc_server.specs.Forgotten.{forgets_for}
 
 -- ---- what a job asks
 
-abbrev Keeps : SeatRequest → Type 0
-Keeps a = IfForget (λ before from most. ⊥) a
+-- no seat asks of it to forget, or to take an account
+abbrev pub Keeps : SeatRequest → Type 0
+Keeps (Event event) = Unit {0}
+Keeps Nothing = Unit {0}
+Keeps Taken = Unit {0}
+Keeps (Forget before from most) = ⊥
+Keeps (Enrol account) = ⊥
 
 submission_keeps : (account : ℕ) (body : Body) → Keeps (submission account body)
 submission_keeps account (SubmitSm asked) = tt
@@ -68,7 +74,7 @@ job_keeps s seat (LinkUp handset) =
 job_keeps s seat LinkDown = handset_keeps (λ (handset : List ℕ). LinkDownOf handset) (handset_at seat s.links)
 job_keeps s seat (Frame octets) = handset_keeps (λ (handset : List ℕ). FrameOf handset octets None) (handset_at seat s.links)
 
-seat_keeps : (s : Seats) (seat : ℕ) (job : Job) → Keeps (asked_by s (JobOf seat job))
+pub seat_keeps : (s : Seats) (seat : ℕ) (job : Job) → Keeps (asked_by s (JobOf seat job))
 seat_keeps s seat job = cond_both (nat_lt seat 32) (asked s seat job) Nothing (λ (a : SeatRequest). Keeps a) (λ t. job_keeps s seat job) (λ t. tt)
 
 -- ---- what an errand asks
@@ -79,9 +85,13 @@ errand_of (Event event) = Tick 0
 errand_of Nothing = Tick 0
 errand_of Taken = Tick 0
 errand_of (Forget before from most) = Own (ForgetErrand before from most)
+errand_of (Enrol account) = Own (EnrolErrand account)
 
 no_forget : (event : CentreEvent) (before from most : ℕ) → Event event ≡ Forget before from most → ⊥
 no_forget event before from most e = cc
+
+no_enrol : (account : CentreAccount) (before from most : ℕ) → Enrol account ≡ Forget before from most → ⊥
+no_enrol account before from most e = cc
 
 pub forget_asked : (s : Seats) (stimulus : Stimulus Job) (before from most : ℕ) → asked_by s stimulus ≡ Forget before from most → stimulus ≡ Own (ForgetErrand before from most)
 unfolding errand_of
@@ -90,6 +100,7 @@ forget_asked s (Tick now) before from most e = absurd (no_forget _ before from m
 forget_asked s (Own (ForgetErrand b f m)) before from most e = ap errand_of e
 forget_asked s (Own (Retry id)) before from most e = absurd (no_forget _ before from most e)
 forget_asked s (Own (Delete id)) before from most e = absurd (no_forget _ before from most e)
+forget_asked s (Own (EnrolErrand account)) before from most e = absurd (no_enrol account before from most e)
 
 pub forgot_so : (a : SeatRequest) (fate : Fate) (s : Serving) (id : ℕ) → forgets_for a fate s id ≡ true
     → (before : ℕ) × (from : ℕ) × (most : ℕ) × (a ≡ Forget before from most) × (is_going_now before from most s.core id ≡ true)
@@ -99,3 +110,4 @@ forgot_so Taken fate s id e = absurd (true≢false (sym e))
 forgot_so (Forget before from most) Done s id e = (before, from, most, refl, e)
 forgot_so (Forget before from most) NoMemory s id e = absurd (true≢false (sym e))
 forgot_so (Forget before from most) Refused s id e = absurd (true≢false (sym e))
+forgot_so (Enrol account) fate s id e = absurd (true≢false (sym e))

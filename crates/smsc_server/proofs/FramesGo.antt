@@ -26,6 +26,7 @@ use Rattle.sms_centre_spec.specs.jobs.Requests.{is_request}
 use Rattle.sms_keeper.specs.declared.machine.Fate.{Fate}
 use Rattle.sms_keeper.specs.declared.machine.Fate.TheVariants.{Done, NoMemory, Refused}
 use Rattle.sms_keeper.specs.declared.machine.Item.{Item}
+use Rattle.sms_intake.specs.declared.submission.CentreAccount.{CentreAccount}
 use Rattle.sms_keeper.specs.declared.machine.Errand.{Errand}
 use Rattle.sms_keeper.specs.declared.machine.Stimulus.{Stimulus}
 use Rattle.sms_keeper.specs.declared.machine.Stimulus.TheVariants.{Job as JobOf, Tick, Own}
@@ -40,7 +41,7 @@ use Rattle.smsc_service.specs.Replies.{answer_for, answer_out, asker, end_of, fa
 use Rattle.smsc_service.specs.Seats.{Seats, followed, handset_at, handset_of, link_key, nobody, raised, seat_of}
 use Rattle.smsc_service.specs.Serving.{Serving, after, after_for, followed_by, gives, gives_for, refusal_for, restarted, unless_refused}
 use Rattle.smsc_service.specs.declared.asking.SeatRequest.{SeatRequest}
-use Rattle.smsc_service.specs.declared.asking.SeatRequest.TheVariants.{Event, Nothing, Taken, Forget}
+use Rattle.smsc_service.specs.declared.asking.SeatRequest.TheVariants.{Event, Nothing, Taken, Forget, Enrol}
 use Rattle.smsc_service.specs.declared.seat_map.LinkSeat.{LinkSeat}
 use Rattle.smsc_server.specs.FramesGiven.{GoToHandsets, IsLinked, IsOfHandset, StaysUp, frame_for}
 use Rattle.smsc_server.proofs.RunKept.{among_parts, between}
@@ -129,10 +130,12 @@ module _ (n : ℕ) (octets : List ℕ) where
     request_sent stimulus Nothing Done refusal e there = absurd (none_by_nothing s.seats stimulus there)
     request_sent stimulus Taken Done refusal e there = absurd (none_taken stimulus there)
     request_sent stimulus (Forget before from most) Done refusal e there = absurd there
+    request_sent stimulus (Enrol account) Done refusal e there = absurd there
     request_sent stimulus (Event event) Refused refusal e there = absurd (none_failed stimulus there)
     request_sent stimulus Nothing Refused refusal e there = absurd (none_by_nothing s.seats stimulus there)
     request_sent stimulus Taken Refused refusal e there = absurd (none_taken stimulus there)
     request_sent stimulus (Forget before from most) Refused refusal e there = absurd (none_failed stimulus there)
+    request_sent stimulus (Enrol account) Refused refusal e there = absurd (none_failed stimulus there)
     request_sent (JobOf from job) a NoMemory (Some status) e there = absurd (no_failure true from status there)
     request_sent (Tick now) a NoMemory (Some status) e there = absurd there
     request_sent (Own errand) a NoMemory (Some status) e there = absurd there
@@ -140,6 +143,7 @@ module _ (n : ℕ) (octets : List ℕ) where
     request_sent stimulus Nothing NoMemory None e there = absurd (none_by_nothing s.seats stimulus there)
     request_sent stimulus Taken NoMemory None e there = absurd (none_taken stimulus there)
     request_sent stimulus (Forget before from most) NoMemory None e there = absurd (none_failed stimulus there)
+    request_sent stimulus (Enrol account) NoMemory None e there = absurd (none_failed stimulus there)
 
     pub was_sent : (stimulus : Stimulus Job) (fate : Fate) → Among (frame_for n octets) (gives s stimulus fate) → WasSent stimulus
     was_sent stimulus fate there = request_sent stimulus (asked_by s.seats stimulus) fate (refusal_for (asked_by s.seats stimulus) s.core) refl there
@@ -328,6 +332,9 @@ module _ (At : ℕ → Type 0) (s : Serving) (items : List (Item Job Reply)) (e 
   not_forget : (before from most : ℕ) (event : CentreEvent) → Forget before from most ≡ Event event → ⊥
   not_forget before from most event f = cc
 
+  not_enrol : (account : CentreAccount) (event : CentreEvent) → Enrol account ≡ Event event → ⊥
+  not_enrol account event f = cc
+
   request_links : (a : SeatRequest) (fate : Fate) → asked_by s.seats e.stimulus ≡ a → e.fate ≡ fate → AreLinked At (items ++ e ∷ []) (after_for a fate s e.stimulus).seats.links
   request_links (Event event) Done asks f = event_follows e.stimulus event refl asks
   request_links (Event event) NoMemory asks f = all_stay (λ l i down. f)
@@ -337,6 +344,9 @@ module _ (At : ℕ → Type 0) (s : Serving) (items : List (Item Job Reply)) (e 
   request_links (Forget before from most) Done asks f = all_stay (down_asks (Forget before from most) asks (not_forget before from most))
   request_links (Forget before from most) NoMemory asks f = all_stay (λ l i down. f)
   request_links (Forget before from most) Refused asks f = all_stay (down_asks (Forget before from most) asks (not_forget before from most))
+  request_links (Enrol account) Done asks f = all_stay (down_asks (Enrol account) asks (not_enrol account))
+  request_links (Enrol account) NoMemory asks f = all_stay (λ l i down. f)
+  request_links (Enrol account) Refused asks f = all_stay (down_asks (Enrol account) asks (not_enrol account))
 
   item_links : AreLinked At (items ++ e ∷ []) (after s e.stimulus e.fate).seats.links
   item_links = request_links (asked_by s.seats e.stimulus) e.fate refl refl

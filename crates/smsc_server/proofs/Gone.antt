@@ -19,7 +19,7 @@ use Rattle.smsc_service.specs.Asking.{asked_by}
 use Rattle.smsc_service.specs.Course.{Course, Gone, after as course_after, gives as course_gives, numbered, parts_of, went, went_for}
 use Rattle.smsc_service.specs.Serving.{Serving, after, gives}
 use Rattle.smsc_service.specs.declared.asking.SeatRequest.{SeatRequest}
-use Rattle.smsc_service.specs.declared.asking.SeatRequest.TheVariants.{Event, Nothing, Taken, Forget}
+use Rattle.smsc_service.specs.declared.asking.SeatRequest.TheVariants.{Event, Nothing, Taken, Forget, Enrol}
 use Rattle.smsc_server.specs.Forgotten.{IsSoOfGone, forgets, forgets_for}
 
 abbrev gone_of : MessageRow → Rows → Gone
@@ -50,6 +50,7 @@ went_among (Forget before from most) Done s id row e found =
     among_numbered ids s.core.rows row ms (found_among message_key id row ms found) (subst (λ (n : ℕ). is_among n ids ≡ true) (sym (found_key message_key id row ms found)) e)
 went_among (Forget before from most) NoMemory s id row e found = absurd (true≢false (sym e))
 went_among (Forget before from most) Refused s id row e found = absurd (true≢false (sym e))
+went_among (Enrol account) fate s id row e found = absurd (true≢false (sym e))
 
 -- what it had forgotten it has forgotten still
 gone_still : (items : List (Item Job Reply)) (c t : Course) → IsHistory course_gives course_after c items t → (m : Gone) → Among m c.gone → Among m t.gone

@@ -1,6 +1,7 @@
 pub mod AnswersAmongReplies
 pub mod BoundSessions
 pub mod CentresAnswers
+pub mod AccountsBehind
 pub mod ForgetAsked
 pub mod Forgotten
 pub mod FramesGo

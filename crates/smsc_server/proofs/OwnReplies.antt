@@ -23,9 +23,10 @@ use Rattle.smsc_service.specs.Asking.{asked, asked_by}
 use Rattle.smsc_service.specs.Seats.{Seats, bound_session_key, followed, is_vacant, link_key, nobody}
 use Rattle.smsc_service.specs.Serving.{Serving, after, after_for, followed_by, gives, restarted}
 use Rattle.smsc_service.specs.declared.asking.SeatRequest.{SeatRequest}
-use Rattle.smsc_service.specs.declared.asking.SeatRequest.TheVariants.{Event, Nothing, Taken, Forget}
+use Rattle.smsc_service.specs.declared.asking.SeatRequest.TheVariants.{Event, Nothing, Taken, Forget, Enrol}
 use Rattle.smsc_service.specs.declared.seat_map.BoundSession.{BoundSession}
 use Rattle.smsc_service.specs.declared.seat_map.LinkSeat.{LinkSeat}
+use Rattle.smsc_server.specs.AccountsCome.{accounts_behind}
 use Rattle.smsc_server.specs.Forgotten.{Behind}
 use Rattle.smsc_server.specs.FramesGiven.{IsLinked, frame_for}
 use Rattle.smsc_server.specs.OwnReplies.{GoToOwnAccount, GoToOwnHandset, HearTheirOwn, HearsOwn, IsOfOwnHandset}
@@ -51,6 +52,7 @@ AsksNone (Event event) = ⊥
 AsksNone Nothing = Unit {0}
 AsksNone Taken = Unit {0}
 AsksNone (Forget before from most) = Unit {0}
+AsksNone (Enrol account) = Unit {0}
 
 module _ (n : ℕ) (few : nat_lt n 32 ≡ true) (bound : Option Binding) (s : Serving) where
   same_there : (seat : ℕ) (job : Job) → IsSame s.seats seat job → bound_there n (JobOf seat job) bound ≡ bound
@@ -123,6 +125,9 @@ module _ (n : ℕ) (few : nat_lt n 32 ≡ true) (bound : Option Binding) (s : Se
   sits_request stimulus (Forget before from most) Done e h = h ∙ sym (none_there stimulus (subst AsksNone (sym e) tt))
   sits_request stimulus (Forget before from most) NoMemory e h = h
   sits_request stimulus (Forget before from most) Refused e h = h ∙ sym (none_there stimulus (subst AsksNone (sym e) tt))
+  sits_request stimulus (Enrol account) Done e h = h ∙ sym (none_there stimulus (subst AsksNone (sym e) tt))
+  sits_request stimulus (Enrol account) NoMemory e h = h
+  sits_request stimulus (Enrol account) Refused e h = h ∙ sym (none_there stimulus (subst AsksNone (sym e) tt))
 
 run_sits : (n : ℕ) → nat_lt n 32 ≡ true → (items : List (Item Job Reply)) (bound : Option Binding) (s t : Serving) → SitsAs n s.seats bound
     → IsHistory gives after s items t → SitsAs n t.seats (bound_after n bound items)
@@ -195,8 +200,10 @@ module _ (seat : ℕ) (few : nat_lt seat 32 ≡ true) (rows : Rows) (before own 
       let same : (before ++ one) ++ e ∷ [] ≡ before ++ (one ++ e ∷ []) = append_assoc before one (e ∷ []) in
       let bound : bound_after seat None (before ++ (one ++ e ∷ [])) ≡ bound_after seat None (one ++ e ∷ []) =
       bound_join seat None before (one ++ e ∷ []) ∙ ap (λ (o : Option Binding). bound_after seat o (one ++ e ∷ [])) (none_bound seat s vacant few rows before run_before) in
-      subst (λ (o : Option Binding). Behind (restarted rows nobody) (before ++ (one ++ e ∷ [])) (λ x. IsOfAccount rows.setup.accounts x (other ++ later) o end)) bound
-      (subst (λ (l : List (Item Job Reply)). Behind (restarted rows nobody) l (λ x. IsOfAccount rows.setup.accounts x (other ++ later) (bound_after seat None l) end)) same g)
+      subst (λ (o : Option Binding). Behind (restarted rows nobody) (before ++ (one ++ e ∷ []))
+      (λ x. IsOfAccount (accounts_behind rows.setup.accounts (before ++ (one ++ e ∷ []))) x (other ++ later) o end)) bound
+      (subst (λ (l : List (Item Job Reply)). Behind (restarted rows nobody) l
+      (λ x. IsOfAccount (accounts_behind rows.setup.accounts l) x (other ++ later) (bound_after seat None l) end)) same g)
 
   own_frames : GoToOwnHandset seat (restarted rows nobody) before own
   own_frames one other e octets part there =

@@ -38,7 +38,7 @@ use Rattle.sms_intake.specs.declared.submission.CentreAccount.{CentreAccount}
 use Rattle.sms_keeper.specs.declared.machine.Fate.{Fate}
 use Rattle.sms_keeper.specs.declared.machine.Fate.TheVariants.{Done, NoMemory, Refused}
 use Rattle.sms_keeper.specs.declared.machine.Item.{Item}
-use Rattle.sms_keeper.specs.declared.machine.Errand.TheVariants.{Forget as ForgetErrand, Retry, Delete}
+use Rattle.sms_keeper.specs.declared.machine.Errand.TheVariants.{Forget as ForgetErrand, Retry, Delete, Enrol as EnrolErrand}
 use Rattle.sms_keeper.specs.declared.machine.Stimulus.{Stimulus}
 use Rattle.sms_keeper.specs.declared.machine.Stimulus.TheVariants.{Job as JobOf, Tick, Own}
 use Rattle.sms_keeper.specs.declared.outs.Out.{Out}
@@ -46,6 +46,8 @@ use Rattle.sms_keeper.specs.History.{IsHistory}
 use Rattle.sms_receipt.specs.declared.final_message.Final.{Final}
 use Rattle.sms_rows.specs.table.Table.{put, without}
 use Rattle.sms_rows.proofs.table.Tables.{among_put, among_without, found_key}
+use Rattle.sms_centre.specs.Enrolling.{accounts_with}
+use Rattle.smsc_service.proofs.AccountsCome.{event_leaves}
 use Rattle.smsc_service.specs.Asking.{IfEvent, asked, asked_by, link_for, of_handset, question, read_as, submission, withdrawal}
 use Rattle.smsc_service.specs.BoundSession.{sessions_from, with_session}
 use Rattle.smsc_service.specs.Numbers.{is_number}
@@ -53,11 +55,13 @@ use Rattle.smsc_service.specs.Replies.{asker, end_in, end_of, ended, frame_outs,
 use Rattle.smsc_service.specs.Seats.{Seats, bound_session_key, followed, handset_at, nobody, seat_of}
 use Rattle.smsc_service.specs.Serving.{Serving, after, after_for, followed_by, gives, gives_for, outs_for, refusal_for, restarted, unless_refused}
 use Rattle.smsc_service.specs.declared.asking.SeatRequest.{SeatRequest}
-use Rattle.smsc_service.specs.declared.asking.SeatRequest.TheVariants.{Event, Nothing, Taken, Forget}
+use Rattle.smsc_service.specs.declared.asking.SeatRequest.TheVariants.{Event, Nothing, Taken, Forget, Enrol}
 use Rattle.smsc_service.specs.declared.seat_map.BoundSession.{BoundSession}
 use Rattle.smsc_server.specs.ReceiptsGiven.{Binding, GoToAccounts, IsOfAccount, bound_after, bound_behind, bound_by, bound_there, if_done}
+use Rattle.smsc_server.specs.AccountsCome.{accounts_behind}
 use Rattle.smsc_server.specs.Forgotten.{KeepsOrForgets, message_left}
 use Rattle.smsc_server.specs.RunPromises.{AreAsked, receipt_for}
+use Rattle.smsc_server.proofs.AccountsBehind.{keeps_place, run_accounts}
 use Rattle.smsc_server.proofs.BoundSessions.{Becomes, Each, Sends, StaysBut, StaysSo, sends_of}
 use Rattle.smsc_server.proofs.RunKept.{IsGood, among_parts, asked_parts, between, history_more, item_good, no_answer, no_failure, no_frames, none_by_nothing, none_failed, none_taken, restart_sound, run_good, run_left}
 
@@ -154,6 +158,9 @@ no_event event e = cc
 
 no_forgetting : (event : CentreEvent) (before from most : ℕ) → Forget before from most ≡ Event event → ⊥
 no_forgetting event before from most e = cc
+
+no_enrolling : (event : CentreEvent) (account : CentreAccount) → Enrol account ≡ Event event → ⊥
+no_enrolling event account e = cc
 
 place_of : (place : ℕ) (accounts : List CentreAccount) → account_at place accounts ≡ slice_get accounts place
 place_of place [] = refl
@@ -277,6 +284,7 @@ module _ (accounts : List CentreAccount) where
     leads (Tick now) event e =
         subst (λ (x : CentreEvent). Leads (Tick now) x) (event_same (TickOf now) event e) (λ k name is h. h)
     leads (Own (ForgetErrand before from most)) event e = absurd (no_forgetting event before from most e)
+    leads (Own (EnrolErrand account)) event e = absurd (no_enrolling event account e)
     leads (Own (Retry id)) event e =
         subst (λ (x : CentreEvent). Leads (Own (Retry id)) x) (event_same (OrderedOf RetryOf id) event e) (λ k name is h. h)
     leads (Own (Delete id)) event e =
@@ -297,6 +305,7 @@ module _ (accounts : List CentreAccount) where
     AsksNone Nothing = Unit {0}
     AsksNone Taken = Unit {0}
     AsksNone (Forget before from most) = Unit {0}
+    AsksNone (Enrol account) = Unit {0}
 
     job_unmoved : (seat : ℕ) (job : Job) → AsksNone (asked s.seats seat job) → (k : ℕ) → moved bound (JobOf seat job) k ≡ bound k
     job_unmoved seat (Bound account receives) none k = absurd none
@@ -321,35 +330,54 @@ module _ (accounts : List CentreAccount) where
     abbrev next : Stimulus Job → Fate → ℕ → Option Binding
     next stimulus fate k = bound_behind k (bound k) stimulus fate
 
-    request_fits : IsSoundCore s.core → (stimulus : Stimulus Job) (a : SeatRequest) (fate : Fate) → asked_by s.seats stimulus ≡ a
-        → Fits (next stimulus fate) (after_for a fate s stimulus)
-    request_fits sound stimulus (Event event) Done e =
-        record { sessions = (event_sends sound stimulus event e).held; bound_sessions = sits stimulus; setup = setup_stays event }
-    request_fits sound stimulus (Event event) NoMemory e = fits
-    request_fits sound stimulus (Event event) Refused e = restart_fits (moved bound stimulus) s.core.rows (followed_by stimulus s.seats) fits.setup (sits stimulus)
-    request_fits sound stimulus Nothing Done e = fits_same bound (moved bound stimulus) s (unmoved stimulus (subst AsksNone (sym e) tt)) fits
-    request_fits sound stimulus Nothing NoMemory e = fits
-    request_fits sound stimulus Nothing Refused e = fits_same bound (moved bound stimulus) s (unmoved stimulus (subst AsksNone (sym e) tt)) fits
-    request_fits sound stimulus Taken Done e = fits_same bound (moved bound stimulus) s (unmoved stimulus (subst AsksNone (sym e) tt)) fits
-    request_fits sound stimulus Taken NoMemory e = fits
-    request_fits sound stimulus Taken Refused e = fits_same bound (moved bound stimulus) s (unmoved stimulus (subst AsksNone (sym e) tt)) fits
-    request_fits sound stimulus (Forget before from most) Done e =
-        let still = fits_same bound (moved bound stimulus) s (unmoved stimulus (subst AsksNone (sym e) tt)) fits in
-        record { sessions = still.sessions; bound_sessions = still.bound_sessions; setup = forget_setup sound before from most }
-    request_fits sound stimulus (Forget before from most) NoMemory e = fits
-    request_fits sound stimulus (Forget before from most) Refused e =
-        restart_fits (moved bound stimulus) s.core.rows s.seats fits.setup (fits_same bound (moved bound stimulus) s (unmoved stimulus (subst AsksNone (sym e) tt)) fits).bound_sessions
+    -- the accounts behind it are those that it is said of
+    abbrev NextFits : Stimulus Job → SeatRequest → Fate → Type 0
+    NextFits stimulus a fate = (now : List CentreAccount) × Fits now (next stimulus fate) (after_for a fate s stimulus)
 
-    item_fits : IsSoundCore s.core → (e : Item Job Reply) → Fits (next e.stimulus e.fate) (after s e.stimulus e.fate)
+    stays_fit : (stimulus : Stimulus Job) (a : SeatRequest) → asked_by s.seats stimulus ≡ a → AsksNone a → Fits accounts (moved bound stimulus) s
+    stays_fit stimulus a e none = fits_same bound (moved bound stimulus) s (unmoved stimulus (subst AsksNone (sym e) none)) fits
+
+    request_fits : IsSoundCore s.core → (stimulus : Stimulus Job) (a : SeatRequest) (fate : Fate) → asked_by s.seats stimulus ≡ a → NextFits stimulus a fate
+    request_fits sound stimulus (Event event) Done e =
+        (accounts, record { sessions = (event_sends sound stimulus event e).held; bound_sessions = sits stimulus; setup = setup_stays event })
+    request_fits sound stimulus (Event event) NoMemory e = (accounts, fits)
+    request_fits sound stimulus (Event event) Refused e = (accounts, restart_fits (moved bound stimulus) s.core.rows (followed_by stimulus s.seats) fits.setup (sits stimulus))
+    request_fits sound stimulus Nothing Done e = (accounts, stays_fit stimulus Nothing e tt)
+    request_fits sound stimulus Nothing NoMemory e = (accounts, fits)
+    request_fits sound stimulus Nothing Refused e = (accounts, stays_fit stimulus Nothing e tt)
+    request_fits sound stimulus Taken Done e = (accounts, stays_fit stimulus Taken e tt)
+    request_fits sound stimulus Taken NoMemory e = (accounts, fits)
+    request_fits sound stimulus Taken Refused e = (accounts, stays_fit stimulus Taken e tt)
+    request_fits sound stimulus (Forget before from most) Done e =
+        let still = stays_fit stimulus (Forget before from most) e tt in
+        (accounts, record { sessions = still.sessions; bound_sessions = still.bound_sessions; setup = forget_setup sound before from most })
+    request_fits sound stimulus (Forget before from most) NoMemory e = (accounts, fits)
+    request_fits sound stimulus (Forget before from most) Refused e =
+        (accounts, restart_fits (moved bound stimulus) s.core.rows s.seats fits.setup (stays_fit stimulus (Forget before from most) e tt).bound_sessions)
+    request_fits sound stimulus (Enrol account) Done e =
+        let still = stays_fit stimulus (Enrol account) e tt in (
+          accounts_with account accounts,
+          record {
+            sessions = λ x i. let y = still.sessions x i in (y.0, y.1, y.2, y.3, keeps_place account accounts y.1 y.2 y.4, y.5);
+            bound_sessions = still.bound_sessions;
+            setup = ap (λ (l : List CentreAccount). accounts_with account l) fits.setup;
+          },
+        )
+    request_fits sound stimulus (Enrol account) NoMemory e = (accounts, fits)
+    request_fits sound stimulus (Enrol account) Refused e =
+        (accounts, restart_fits (moved bound stimulus) s.core.rows s.seats fits.setup (stays_fit stimulus (Enrol account) e tt).bound_sessions)
+
+    item_fits : IsSoundCore s.core → (e : Item Job Reply) → NextFits e.stimulus (asked_by s.seats e.stimulus) e.fate
     item_fits sound e = request_fits sound e.stimulus (asked_by s.seats e.stimulus) e.fate refl
 
-  -- ---- a run
+-- ---- a run
 
-  run_fits : (items : List (Item Job Reply)) (bound : ℕ → Option Binding) (s t : Serving) → IsGood s → Fits bound s → AreAsked items → IsHistory gives after s items t
-      → Fits (λ (k : ℕ). bound_after k (bound k) items) t
-  run_fits [] bound s t good fits are h = subst (λ (x : Serving). Fits bound x) (sym h) fits
-  run_fits (e ∷ items) bound s t good fits are h =
-      run_fits items (λ (k : ℕ). bound_behind k (bound k) e.stimulus e.fate) (after s e.stimulus e.fate) t (item_good s e good are.0) (item_fits bound s fits good.core e) are.1 h.1
+run_fits : (items : List (Item Job Reply)) (accounts : List CentreAccount) (bound : ℕ → Option Binding) (s t : Serving) → IsGood s → Fits accounts bound s → AreAsked items
+    → IsHistory gives after s items t → (now : List CentreAccount) × Fits now (λ (k : ℕ). bound_after k (bound k) items) t
+run_fits [] accounts bound s t good fits are h = (accounts, subst (λ (x : Serving). Fits accounts bound x) (sym h) fits)
+run_fits (e ∷ items) accounts bound s t good fits are h =
+    let one = item_fits accounts bound s fits good.core e in
+    run_fits items one.0 (λ (k : ℕ). bound_behind k (bound k) e.stimulus e.fate) (after s e.stimulus e.fate) t (item_good s e good are.0) one.1 are.1 h.1
 
 -- ---- a receipt that is given
 
@@ -401,10 +429,12 @@ module _ (seat : ℕ) (end : Final) where
     request_sent stimulus Nothing Done refusal e there = absurd (none_by_nothing seat end s.seats stimulus there)
     request_sent stimulus Taken Done refusal e there = absurd (none_taken seat end stimulus there)
     request_sent stimulus (Forget before from most) Done refusal e there = absurd there
+    request_sent stimulus (Enrol account) Done refusal e there = absurd there
     request_sent stimulus (Event event) Refused refusal e there = absurd (none_failed seat end stimulus there)
     request_sent stimulus Nothing Refused refusal e there = absurd (none_by_nothing seat end s.seats stimulus there)
     request_sent stimulus Taken Refused refusal e there = absurd (none_taken seat end stimulus there)
     request_sent stimulus (Forget before from most) Refused refusal e there = absurd (none_failed seat end stimulus there)
+    request_sent stimulus (Enrol account) Refused refusal e there = absurd (none_failed seat end stimulus there)
     request_sent (JobOf from job) a NoMemory (Some status) e there = absurd (no_failure seat end true from status there)
     request_sent (Tick now) a NoMemory (Some status) e there = absurd there
     request_sent (Own errand) a NoMemory (Some status) e there = absurd there
@@ -412,6 +442,7 @@ module _ (seat : ℕ) (end : Final) where
     request_sent stimulus Nothing NoMemory None e there = absurd (none_by_nothing seat end s.seats stimulus there)
     request_sent stimulus Taken NoMemory None e there = absurd (none_taken seat end stimulus there)
     request_sent stimulus (Forget before from most) NoMemory None e there = absurd (none_failed seat end stimulus there)
+    request_sent stimulus (Enrol account) NoMemory None e there = absurd (none_failed seat end stimulus there)
 
     was_sent : (stimulus : Stimulus Job) (fate : Fate) → Among (receipt_for seat end) (gives s stimulus fate) → WasSent stimulus fate
     was_sent stimulus fate there = request_sent stimulus (asked_by s.seats stimulus) fate (refusal_for (asked_by s.seats stimulus) s.core) refl there
@@ -462,6 +493,13 @@ module _ (accounts : List CentreAccount) (bound : ℕ → Option Binding) (s : S
         submitted = ap (λ (name : List ℕ). is_account name x.0.originator) h.5 ∙ (ap (λ (o : Originator). is_account g.session.account o) x.1.1.originator ∙ g.account);
       }
 
+-- no account comes by an item that made a delivery
+sent_stays : (seat : ℕ) (end : Final) (s : Serving) (stimulus : Stimulus Job) (fate : Fate) → WasSent seat end s stimulus fate
+    → (after s stimulus fate).core.rows.setup.accounts ≡ s.core.rows.setup.accounts
+sent_stays seat end s stimulus fate sent =
+    ap (λ (f : Fate). (after s stimulus f).core.rows.setup.accounts) sent.2
+    ∙ (ap (λ (a : SeatRequest). (after_for a Done s stimulus).core.rows.setup.accounts) sent.1 ∙ event_leaves sent.0 s.core)
+
 module _ (rows : Rows) (items : List (Item Job Reply)) (last : Serving) (sound : IsSound rows) (are : AreAsked items)
     (run : IsHistory gives after (restarted rows nobody) items last) where
   start_good : IsGood (restarted rows nobody)
@@ -472,17 +510,20 @@ module _ (rows : Rows) (items : List (Item Job Reply)) (last : Serving) (sound :
 
   pub receipts_go : GoToAccounts rows items
   receipts_go one other e seat end is there =
-      let accounts = rows.setup.accounts in
       let parts = asked_parts one (e ∷ other) (subst AreAsked is are) in
       let m = between one (e ∷ other) (restarted rows nobody) last (subst (λ (l : List (Item Job Reply)). IsHistory gives after (restarted rows nobody) l last) is run) in
       let good = run_good one (restarted rows nobody) m.0 start_good parts.0 m.1 in
-      let fits = run_fits accounts one (λ (k : ℕ). None) (restarted rows nobody) m.0 start_good nobody_fits parts.0 m.1 in
+      let fits = run_fits one rows.setup.accounts (λ (k : ℕ). None) (restarted rows nobody) m.0 start_good nobody_fits parts.0 m.1 in
+      let sent = was_sent seat end m.0 e.stimulus e.fate (subst (λ (l : List (Out Reply)). Among (receipt_for seat end) l) m.2.0 there) in
+      let run_to = history_more one e (restarted rows nobody) m.0 m.1 m.2.0 in
+      let now : fits.0 ≡ accounts_behind rows.setup.accounts (one ++ e ∷ []) =
+      sym fits.1.setup ∙ (sym (sent_stays seat end m.0 e.stimulus e.fate sent) ∙ run_accounts (one ++ e ∷ []) (restarted rows nobody) (after m.0 e.stimulus e.fate) run_to) in
       let keeps = run_left other (after m.0 e.stimulus e.fate) (item_good m.0 e good parts.1.0) parts.1.1 in (
         after m.0 e.stimulus e.fate,
         (
-          history_more one e (restarted rows nobody) m.0 m.1 m.2.0,
-          subst (λ (o : Option Binding). IsOfAccount accounts (after m.0 e.stimulus e.fate) other o end) (sym (behind_more seat None one e))
-              (goes_to_account accounts (λ (k : ℕ). bound_after k None one) m.0 other fits good.core seat end e.stimulus e.fate
-              (was_sent seat end m.0 e.stimulus e.fate (subst (λ (l : List (Out Reply)). Among (receipt_for seat end) l) m.2.0 there)) keeps),
+          run_to,
+          subst (λ (l : List CentreAccount). IsOfAccount l (after m.0 e.stimulus e.fate) other (bound_after seat None (one ++ e ∷ [])) end) now
+              (subst (λ (o : Option Binding). IsOfAccount fits.0 (after m.0 e.stimulus e.fate) other o end) (sym (behind_more seat None one e))
+              (goes_to_account fits.0 (λ (k : ℕ). bound_after k None one) m.0 other fits.1 good.core seat end e.stimulus e.fate sent keeps)),
         ),
       )

@@ -12,7 +12,7 @@ use Rattle.sms_centre_spec.specs.declared.event.CentreEvent.{CentreEvent}
 use Rattle.sms_centre_spec.specs.declared.event.CentreEvent.TheVariants.{LinkUp as LinkUpOf, LinkDown as LinkDownOf, Frame as FrameOf}
 use Rattle.sms_centre_spec.specs.declared.jobs.job.Job.{Job}
 use Rattle.sms_centre_spec.specs.declared.jobs.job.Job.TheVariants.{Bound, Unbound, Submit, Query, Cancel, DeliverAnswered, LinkUp, LinkDown, Frame}
-use Rattle.sms_keeper.specs.declared.machine.Errand.TheVariants.{Forget as ForgetErrand, Retry, Delete}
+use Rattle.sms_keeper.specs.declared.machine.Errand.TheVariants.{Forget as ForgetErrand, Retry, Delete, Enrol as EnrolErrand}
 use Rattle.sms_keeper.specs.declared.machine.Stimulus.{Stimulus}
 use Rattle.sms_keeper.specs.declared.machine.Stimulus.TheVariants.{Job as JobOf, Tick, Own}
 use Rattle.sms_rows.specs.table.Table.{row_at}
@@ -174,6 +174,7 @@ asked_is s (Tick now) is short = is
 asked_is s (Own (ForgetErrand before from most)) is short = tt
 asked_is s (Own (Retry id)) is short = tt
 asked_is s (Own (Delete id)) is short = tt
+asked_is s (Own (EnrolErrand account)) is short = tt
 
 -- ---- who sits where afterwards
 

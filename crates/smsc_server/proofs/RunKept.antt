@@ -47,6 +47,8 @@ use Rattle.sms_keeper.specs.History.{IsHistory}
 use Rattle.sms_receipt.specs.declared.final_message.Final.{Final}
 use Rattle.sms_rows.specs.table.Table.{Rises}
 use Rattle.sms_rows.proofs.table.Tables.{among_put, found_among, found_key, rises_put}
+use Rattle.sms_centre.specs.Enrolling.{rows_with}
+use Rattle.smsc_service.proofs.AccountsCome.{enrolled_sound}
 use Rattle.smsc_service.specs.Asking.{IfEvent, asked_by}
 use Rattle.smsc_service.specs.BoundSession.{AreNumbers, handsets_from, handsets_of, is_among, sessions_from, sessions_of, with_number, with_session}
 use Rattle.smsc_service.specs.Numbers.{is_number}
@@ -54,11 +56,12 @@ use Rattle.smsc_service.specs.Replies.{answer_for, answer_out, end_in, end_of, e
 use Rattle.smsc_service.specs.Seats.{Seats, nobody}
 use Rattle.smsc_service.specs.Serving.{Serving, after, after_for, followed_by, gives, gives_for, outs_for, refusal_for, restarted, unless_refused}
 use Rattle.smsc_service.specs.declared.asking.SeatRequest.{SeatRequest}
-use Rattle.smsc_service.specs.declared.asking.SeatRequest.TheVariants.{Event, Nothing, Taken, Forget}
+use Rattle.smsc_service.specs.declared.asking.SeatRequest.TheVariants.{Event, Nothing, Taken, Forget, Enrol}
 use Rattle.smsc_service.specs.declared.seat_map.BoundSession.{BoundSession}
 use Rattle.smsc_service.specs.declared.seat_map.LinkSeat.{LinkSeat}
 use Rattle.smsc_server.specs.Forgotten.{Behind, KeepsOrForgets, forgets, forgets_for, message_left}
 use Rattle.smsc_server.specs.RunPromises.{AreAsked, IsAsked, IsReported, KeepsPromises, receipt_for}
+use Rattle.smsc_server.proofs.AccountsBehind.{run_accounts}
 use Rattle.smsc_server.proofs.ForgetAsked.{forget_asked, forgot_so}
 use Rattle.smsc_server.proofs.Forgotten.{KeepsOne, forget_one, message_through, one_of, part_through, report_through, still_left}
 use Rattle.smsc_server.proofs.RunEvents.{AreShort, asked_is, number_of, seats_short}
@@ -155,9 +158,16 @@ request_good Taken fate s stimulus good is e = good
 request_good (Forget before from most) Done s stimulus good is e = record { core = (forgot_now before from most s.core good.core).left; short = good.short }
 request_good (Forget before from most) NoMemory s stimulus good is e = good
 request_good (Forget before from most) Refused s stimulus good is e = record { core = restart_sound s.core.rows s.seats good.core.rows good.short; short = good.short }
+request_good (Enrol account) Done s stimulus good is e = record { core = enrolled_sound account s.core good.core; short = good.short }
+request_good (Enrol account) NoMemory s stimulus good is e = good
+request_good (Enrol account) Refused s stimulus good is e = record { core = restart_sound s.core.rows s.seats good.core.rows good.short; short = good.short }
 
 pub item_good : (s : Serving) (e : Item Job Reply) → IsGood s → IsAsked e.stimulus → IsGood (after s e.stimulus e.fate)
 item_good s e good is = request_good (asked_by s.seats e.stimulus) e.fate s e.stimulus good is (asked_is s.seats e.stimulus is good.short)
+
+-- an account that comes changes no message
+one_enrolled : (n : ℕ) (account : CentreAccount) (rows : Rows) → KeepsOne n rows (rows_with account rows)
+one_enrolled n account rows = let same = one_of n rows rows (keeps_same rows) in record { messages = same.messages; parts = same.parts; reports = same.reports }
 
 request_one : (n : ℕ) (a : SeatRequest) (fate : Fate) (s : Serving) (stimulus : Stimulus Job) → IsGood s → IfEvent IsEvent a → forgets_for a fate s n ≡ false
     → KeepsOne n s.core.rows (after_for a fate s stimulus).core.rows
@@ -169,6 +179,9 @@ request_one n Taken fate s stimulus good e t = one_of n s.core.rows s.core.rows 
 request_one n (Forget before from most) Done s stimulus good e t = forget_one before from most n s.core good.core.rows t
 request_one n (Forget before from most) NoMemory s stimulus good e t = one_of n s.core.rows s.core.rows (keeps_same s.core.rows)
 request_one n (Forget before from most) Refused s stimulus good e t = one_of n s.core.rows s.core.rows (keeps_same s.core.rows)
+request_one n (Enrol account) Done s stimulus good e t = one_enrolled n account s.core.rows
+request_one n (Enrol account) NoMemory s stimulus good e t = one_of n s.core.rows s.core.rows (keeps_same s.core.rows)
+request_one n (Enrol account) Refused s stimulus good e t = one_of n s.core.rows s.core.rows (keeps_same s.core.rows)
 
 item_one : (n : ℕ) (s : Serving) (e : Item Job Reply) → IsGood s → IsAsked e.stimulus → forgets s e n ≡ false → KeepsOne n s.core.rows (after s e.stimulus e.fate).core.rows
 item_one n s e good is t = request_one n (asked_by s.seats e.stimulus) e.fate s e.stimulus good (asked_is s.seats e.stimulus is good.short) t
@@ -325,6 +338,9 @@ module _ (seat : ℕ) (end : Final) where
     request_is (Forget before from most) Done stimulus there = absurd there
     request_is (Forget before from most) NoMemory stimulus there = absurd (none_failed stimulus there)
     request_is (Forget before from most) Refused stimulus there = absurd (none_failed stimulus there)
+    request_is (Enrol account) Done stimulus there = absurd there
+    request_is (Enrol account) NoMemory stimulus there = absurd (none_failed stimulus there)
+    request_is (Enrol account) Refused stimulus there = absurd (none_failed stimulus there)
 
     outs_are : (a : SeatRequest) (fate : Fate) (refusal : Option CommandStatus) (stimulus : Stimulus Job)
         → Among (receipt_for seat end) (unless_refused fate refusal stimulus (gives_for a fate s stimulus)) → IsOf (after_for a fate s stimulus).core.rows.messages
@@ -415,6 +431,7 @@ module _ (stand : AnswersStand) (rows : Rows) (items : List (Item Job Reply)) (l
   pub run_keeps : KeepsPromises (restarted rows nobody) items last
   run_keeps = record {
     sound = λ one other s e h. (part one other e s h).0.core;
+    accounts = λ one other s e h. run_accounts one (restarted rows nobody) s h;
     kept = λ one other s e h. (part one other e s h).1;
     forgotten = went;
     confirmed = submitted;

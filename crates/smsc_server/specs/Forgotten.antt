@@ -18,7 +18,7 @@ use Rattle.smsc_service.specs.Asking.{asked_by}
 use Rattle.smsc_service.specs.Course.{parts_of}
 use Rattle.smsc_service.specs.Serving.{Serving, after, gives}
 use Rattle.smsc_service.specs.declared.asking.SeatRequest.{SeatRequest}
-use Rattle.smsc_service.specs.declared.asking.SeatRequest.TheVariants.{Event, Nothing, Taken, Forget}
+use Rattle.smsc_service.specs.declared.asking.SeatRequest.TheVariants.{Event, Nothing, Taken, Forget, Enrol}
 
 -- whether what is asked makes the centre forget the message of that number
 abbrev pub forgets_for : SeatRequest → Fate → Serving → ℕ → Bool
@@ -28,6 +28,7 @@ forgets_for Taken fate s id = false
 forgets_for (Forget before from most) Done s id = is_going_now before from most s.core id
 forgets_for (Forget before from most) NoMemory s id = false
 forgets_for (Forget before from most) Refused s id = false
+forgets_for (Enrol account) fate s id = false
 
 -- whether the item does
 abbrev pub forgets : Serving → Item Job Reply → ℕ → Bool

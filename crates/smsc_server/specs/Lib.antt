@@ -1,6 +1,7 @@
 pub mod serving
 pub mod WhatIsRead
 pub mod WhatALinkReads
+pub mod AccountsCome
 pub mod RunPromises
 pub mod Exchanges
 pub mod ReceiptsGiven

@@ -10,6 +10,7 @@ use Rattle.sms_keeper.specs.declared.machine.Stimulus.TheVariants.{Job as JobOf}
 use Rattle.sms_receipt.specs.declared.final_message.Final.{Final}
 use Rattle.smsc_service.specs.Seats.{nobody}
 use Rattle.smsc_service.specs.Serving.{Serving, restarted}
+use Rattle.smsc_server.specs.AccountsCome.{accounts_behind}
 use Rattle.smsc_server.specs.Forgotten.{Behind}
 use Rattle.smsc_server.specs.FramesGiven.{IsLinked, IsOfHandset, frame_for}
 use Rattle.smsc_server.specs.ReceiptsGiven.{IsOfAccount, bound_after}
@@ -22,7 +23,7 @@ abbrev pub GoToOwnAccount : ℕ → Rows → List (Item Job Reply) → List (Ite
 GoToOwnAccount seat rows before own later =
     (one other : List (Item Job Reply)) (e : Item Job Reply) (end : Final) → own ≡ one ++ e ∷ other → Among (receipt_for seat end) e.outs
     → Behind (restarted rows nobody) (before ++ (one ++ e ∷ []))
-    (λ s. IsOfAccount rows.setup.accounts s (other ++ later) (bound_after seat None (one ++ e ∷ [])) end)
+    (λ s. IsOfAccount (accounts_behind rows.setup.accounts (before ++ (one ++ e ∷ []))) s (other ++ later) (bound_after seat None (one ++ e ∷ [])) end)
 
 -- The frame goes to the handset whose link came up at the seat in these items.
 pub record IsOfOwnHandset (first : Serving) (before one : List (Item Job Reply)) (e : Item Job Reply) (seat : ℕ) (octets : List ℕ) : Type 0 where

@@ -16,6 +16,7 @@ use Rattle.sms_keeper.specs.declared.machine.Stimulus.TheVariants.{Job as JobOf,
 use Rattle.sms_receipt.specs.declared.final_message.Final.{Final}
 use Rattle.smsc_service.specs.Seats.{nobody}
 use Rattle.smsc_service.specs.Serving.{Serving, restarted}
+use Rattle.smsc_server.specs.AccountsCome.{accounts_behind}
 use Rattle.smsc_server.specs.Forgotten.{Behind, message_left}
 use Rattle.smsc_server.specs.RunPromises.{receipt_for}
 
@@ -70,8 +71,10 @@ pub record IsOfAccount (accounts : List CentreAccount) (s : Serving) (items : Li
   pub row_so : message_left end.id s items ≡ Some row
   pub submitted : is_account account.name row.originator ≡ true
 
--- Each receipt that a seat got is for the account that is bound there, by the jobs of the seat that were done so far.
+-- Each receipt that a seat got is for the account that is bound there, by the jobs of the seat that were done so far. Which account has that place
+-- say the accounts with which the run began, and those that came so far.
 abbrev pub GoToAccounts : Rows → List (Item Job Reply) → Type 0
 GoToAccounts rows items =
     (one other : List (Item Job Reply)) (e : Item Job Reply) (seat : ℕ) (end : Final) → items ≡ one ++ e ∷ other → Among (receipt_for seat end) e.outs
-    → Behind (restarted rows nobody) (one ++ e ∷ []) (λ s. IsOfAccount rows.setup.accounts s other (bound_after seat None (one ++ e ∷ [])) end)
+    → Behind (restarted rows nobody) (one ++ e ∷ [])
+    (λ s. IsOfAccount (accounts_behind rows.setup.accounts (one ++ e ∷ [])) s other (bound_after seat None (one ++ e ∷ [])) end)

@@ -22,6 +22,7 @@ use Rattle.sms_keeper.specs.History.{IsHistory}
 use Rattle.sms_receipt.specs.declared.final_message.Final.{Final}
 use Rattle.smsc_service.specs.Replies.{answer_for}
 use Rattle.smsc_service.specs.Serving.{Serving, after, gives}
+use Rattle.smsc_server.specs.AccountsCome.{accounts_behind}
 use Rattle.smsc_server.specs.Forgotten.{Behind, KeepsOrForgets, forgets, message_left}
 
 -- ---- what the types of a program have of a job and of a tick
@@ -69,6 +70,9 @@ WasReported first items end =
 pub record KeepsPromises (first : Serving) (items : List (Item Job Reply)) (last : Serving) : Type 0 where
   -- At each moment the centre is sound: what is under way to handsets is of the rows, under references that are apart.
   pub sound : (one other : List (Item Job Reply)) (s : Serving) → items ≡ one ++ other → IsHistory gives after first one s → IsSoundCore s.core
+  -- The accounts at each moment are those from the start, each at its place, and behind them those that came so far.
+  pub accounts : (one other : List (Item Job Reply)) (s : Serving) → items ≡ one ++ other → IsHistory gives after first one s
+      → s.core.rows.setup.accounts ≡ accounts_behind first.core.rows.setup.accounts one
   -- What the rows have at any moment they have at the end, but for what the centre forgot. Nothing else is lost, and a message that had ended is
   -- unchanged.
   pub kept : (one other : List (Item Job Reply)) (s : Serving) → items ≡ one ++ other → IsHistory gives after first one s → KeepsOrForgets s other

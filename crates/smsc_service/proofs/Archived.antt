@@ -14,7 +14,7 @@ use Rattle.smsc_service.specs.Asking.{IfForget}
 use Rattle.smsc_service.specs.Course.{Gone, numbered, parts_of, went_for}
 use Rattle.smsc_service.specs.Serving.{Serving}
 use Rattle.smsc_service.specs.declared.asking.SeatRequest.{SeatRequest}
-use Rattle.smsc_service.specs.declared.asking.SeatRequest.TheVariants.{Event, Nothing, Taken, Forget}
+use Rattle.smsc_service.specs.declared.asking.SeatRequest.TheVariants.{Event, Nothing, Taken, Forget, Enrol}
 
 module _ (has : MessageRow → ℕ → Type 0) where
   abbrev pub AreHad : List Gone → Type 0
@@ -47,6 +47,7 @@ module _ (has : MessageRow → ℕ → Type 0) where
       (among_either x went gone among)
   archived_more (Forget before from most) NoMemory s gone new old = old
   archived_more (Forget before from most) Refused s gone new old = old
+  archived_more (Enrol account) fate s gone new old = old
 
   -- what is refused forgets nothing
   pub archived_still : (a : SeatRequest) (s : Serving) (gone : List Gone) → AreHad gone → AreHad (went_for a Refused s ++ gone)
@@ -54,6 +55,7 @@ module _ (has : MessageRow → ℕ → Type 0) where
   archived_still Nothing s gone old = old
   archived_still Taken s gone old = old
   archived_still (Forget before from most) s gone old = old
+  archived_still (Enrol account) s gone old = old
 
 -- what was archived is so in an archive that keeps it
 pub forgets_to : (had has : MessageRow → ℕ → Type 0) → Stays had has → (a : SeatRequest) (s : Serving)
@@ -62,4 +64,5 @@ pub forgets_to : (had has : MessageRow → ℕ → Type 0) → Stays had has →
 forgets_to had has stays (Event event) s h = tt
 forgets_to had has stays Nothing s h = tt
 forgets_to had has stays Taken s h = tt
+forgets_to had has stays (Enrol account) s h = tt
 forgets_to had has stays (Forget before from most) s h = λ m among is. stays m (parts_in s.core.rows m.id) (h m among is)

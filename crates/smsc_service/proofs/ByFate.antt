@@ -1,5 +1,6 @@
 -- What comes of a stimulus, by what befell it.
 use Rattle.std.proofs.Common.{◌≡◌, ◌≢◌, ◌⊎◌, ⊎_elim, inl, inr, sym, subst, ap, ◌∙◌, ℕ, List, [], Option, Err}
+use Rattle.sms_centre.specs.Enrolling.{enrolled}
 use Rattle.sms_centre.specs.state.CentreState.{Represents, CentreStateOf}
 use Rattle.sms_rows.specs.declared.keep.refusals.Refusals.{Refusals}
 use Rattle.smsc_service.specs.Stepping.{OneRefused, PlansStep}
@@ -13,12 +14,13 @@ use Rattle.sms_centre_spec.specs.forgetting.Forget.{forget}
 use Rattle.sms_centre_spec.specs.declared.rows.Rows.{Rows}
 use Rattle.sms_centre_spec.specs.declared.jobs.job.Job.{Job}
 use Rattle.sms_centre_spec.specs.declared.jobs.reply.Reply.{Reply}
+use Rattle.sms_intake.specs.declared.submission.CentreAccount.{CentreAccount}
 use Rattle.sms_keeper.specs.declared.machine.Fate.{Fate}
 use Rattle.sms_keeper.specs.declared.machine.Fate.TheVariants.{Done, NoMemory, Refused}
 use Rattle.sms_keeper.specs.declared.machine.Stimulus.{Stimulus}
 use Rattle.sms_keeper.specs.declared.outs.Out.{Out}
 use Rattle.smsc_service.specs.declared.asking.SeatRequest.{SeatRequest}
-use Rattle.smsc_service.specs.declared.asking.SeatRequest.TheVariants.{Event, Forget}
+use Rattle.smsc_service.specs.declared.asking.SeatRequest.TheVariants.{Event, Forget, Enrol}
 use Rattle.smsc_service.specs.declared.seat_map.SeatMap.{SeatMap}
 use Rattle.smsc_service.specs.Seats.{seats_in}
 use Rattle.smsc_service.specs.Serving.{GivesUp, IsServing, Serves, Serving, followed_by}
@@ -66,6 +68,17 @@ module _ (held : Rows → Type 0) (left : Type 0) (centre : CentreStateOf) (seat
     -- nothing went
     pub is_kept : fate ≡ NoMemory → outs ≡ failed_by stimulus → IsServing held centre seat_map s → Serves held left centre seat_map (Forget before from most) s stimulus fate outs
     is_kept is outputs serving = with_fate (Forget before from most) fate NoMemory outs is (outputs, serving)
+
+  module _ (account : CentreAccount) (fate : Fate) (outs : List (Out Reply)) where
+    -- the account came
+    pub has_come : fate ≡ Done → outs ≡ [] → held (enrolled account s.core).rows → Represents (enrolled account s.core) centre
+        → seats_in seat_map ≡ s.seats → Serves held left centre seat_map (Enrol account) s stimulus fate outs
+    has_come is outputs rows centre_state seats =
+        with_fate (Enrol account) fate Done outs is (outputs, record { rows = rows; centre = centre_state; seats = seats })
+
+    -- none came
+    pub none_came : fate ≡ NoMemory → outs ≡ failed_by stimulus → IsServing held centre seat_map s → Serves held left centre seat_map (Enrol account) s stimulus fate outs
+    none_came is outputs serving = with_fate (Enrol account) fate NoMemory outs is (outputs, serving)
 
   module _ (event : CentreEvent) (fate : Fate) (outs : List (Out Reply)) where
     -- it happened

@@ -12,7 +12,7 @@ use Rattle.sms_keeper.specs.declared.machine.Fate.TheVariants.{Done, NoMemory, R
 use Rattle.sms_keeper.specs.declared.machine.Stimulus.{Stimulus}
 use Rattle.sms_keeper.specs.declared.outs.Out.{Out}
 use Rattle.smsc_service.specs.declared.asking.SeatRequest.{SeatRequest}
-use Rattle.smsc_service.specs.declared.asking.SeatRequest.TheVariants.{Event, Nothing, Taken, Forget}
+use Rattle.smsc_service.specs.declared.asking.SeatRequest.TheVariants.{Event, Nothing, Taken, Forget, Enrol}
 use Rattle.smsc_service.specs.declared.seat_map.SeatMap.{SeatMap}
 use Rattle.smsc_service.specs.Serving.{IsServing, Serves, Serving, IsStep, after_for, gives_for, refusal_for, short_of, unless_refused}
 
@@ -23,6 +23,7 @@ module _ (held : Rows → Type 0) (left : Type 0) (centre : CentreStateOf) (seat
   unchanged Nothing = refl
   unchanged Taken = refl
   unchanged (Forget before from most) = refl
+  unchanged (Enrol account) = refl
 
   was_short : (asked : SeatRequest) (fate : Fate) → MatchFate fate (IsServing held centre seat_map (after_for asked fate s stimulus)) left → fate ≡ NoMemory → Represents s.core centre
   was_short asked fate there short =

@@ -1,3 +1,4 @@
+pub mod AccountsCome
 mod Archived
 mod ByFate
 mod ByOctets

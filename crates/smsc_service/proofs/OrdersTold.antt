@@ -14,7 +14,7 @@ use Rattle.sms_centre_spec.specs.CentreEvent.{happened}
 use Rattle.sms_centre_spec.specs.Draft.{Core}
 use Rattle.sms_centre_spec.proofs.OrdersDone.{delete_does, delete_fails, none_ordered, retry_does}
 use Rattle.smsc_service.specs.declared.order_desk.OrderOutcome.{OrderOutcome}
-use Rattle.smsc_service.specs.declared.order_desk.OrderOutcome.TheVariants.{Waits, Ended, Deleted, HasEnded, Unknown, Failed}
+use Rattle.smsc_service.specs.declared.order_desk.OrderOutcome.TheVariants.{Waits, Ended, Deleted, HasEnded, Unknown, Enrolled, Failed}
 use Rattle.smsc_service.specs.Outcomes.{number_of, of_state, outcome_at, outcome_for, told_by}
 
 none_told : (order : Order) (id : ℕ) (c : Core) → message_at id c.rows.messages ≡ None
@@ -54,3 +54,4 @@ outcome_kept (Ended Delivered) = refl
 outcome_kept (Ended Expired) = refl
 outcome_kept (Ended DeletedState) = refl
 outcome_kept (Ended Undeliverable) = refl
+outcome_kept Enrolled = refl

@@ -31,7 +31,7 @@ use Rattle.sms_receipt.specs.declared.final_message.Final.{Final}
 use Rattle.sms_centre_rows.specs.declared.reports.delivery.Delivery.{Delivery}
 use Rattle.sms_centre_rows.specs.declared.waiting.handset_link.Sent.{Sent}
 use Rattle.smsc_service.specs.declared.asking.SeatRequest.{SeatRequest}
-use Rattle.smsc_service.specs.declared.asking.SeatRequest.TheVariants.{Event, Nothing, Taken, Forget}
+use Rattle.smsc_service.specs.declared.asking.SeatRequest.TheVariants.{Event, Nothing, Taken, Forget, Enrol}
 use Rattle.smsc_service.specs.declared.seat_map.LinkSeat.{LinkSeat}
 use Rattle.smsc_service.specs.Asking.{asked, asked_by, read_as, submission}
 use Rattle.smsc_service.specs.Serving.{Serving, after, after_for, gives, gives_for, refusal_for, unless_refused}
@@ -91,6 +91,7 @@ IsSubmission (Event event) = (account : ℕ) × ((message : Message) × (event �
 IsSubmission Nothing = Unit {0}
 IsSubmission Taken = ⊥
 IsSubmission (Forget before from most) = ⊥
+IsSubmission (Enrol account) = ⊥
 
 body_asks : (account : ℕ) (body : Body) → IsSubmission (submission account body)
 body_asks account (BindReceiver x) = tt
@@ -151,6 +152,7 @@ module _ (s : Serving) (seat account : ℕ) (pdu : List ℕ) (to id : ℕ) where
   asked_names Nothing fate is there = nothing_names Nothing fate there
   asked_names Taken fate is there = absurd is
   asked_names (Forget before from most) fate is there = absurd is
+  asked_names (Enrol account) fate is there = absurd is
 
   -- a refusal by octets has no number
   outs_names : (a : SeatRequest) (fate : Fate) (refusal : Option CommandStatus) → IsSubmission a → Among (answer_for to (Submitted id)) (unless_refused fate refusal (JobOf seat (Submit account pdu)) (gives_for a fate s (JobOf seat (Submit account pdu))))

@@ -1,5 +1,5 @@
 -- A service in a group, one step further.
-use Rattle.std.proofs.Common.{◌≡◌, ◌⊎◌, List, ⊎_elim, inl, inr, ap, refl, subst, sym, ◌∙◌}
+use Rattle.std.proofs.Common.{◌≡◌, ◌⊎◌, List, length, ⊎_elim, inl, inr, ap, refl, subst, sym, ◌∙◌}
 use Rattle.sms_rows.specs.keep.KeepState.{KeepState}
 use Rattle.sms_centre.specs.state.CentreState.{Represents}
 use Rattle.sms_centre_group.proofs.Joining.{settled}
@@ -15,12 +15,14 @@ use Rattle.sms_keeper.specs.declared.machine.Stimulus.{Stimulus}
 use Rattle.sms_keeper.specs.declared.outs.Out.{Out}
 use Rattle.smsc_service.specs.Asking.{UnlessEvent, asked_by}
 use Rattle.smsc_service.specs.declared.asking.SeatRequest.{SeatRequest}
-use Rattle.smsc_service.specs.declared.asking.SeatRequest.TheVariants.{Event, Nothing, Taken, Forget}
+use Rattle.smsc_service.specs.declared.asking.SeatRequest.TheVariants.{Event, Nothing, Taken, Forget, Enrol}
 use Rattle.smsc_service.specs.declared.service.Service.{Service}
-use Rattle.smsc_service.specs.InSeated.{held_by}
-use Rattle.smsc_service.specs.InService.{IsAwaitedBy, IsServedBy, store_in}
+use Rattle.smsc_service.specs.Accounts.{bare}
+use Rattle.smsc_service.specs.InSeated.{accounts_in, held_by}
+use Rattle.smsc_service.specs.InService.{HasAccounts, IsAwaitedBy, IsServedBy, store_in}
 use Rattle.smsc_service.specs.Seats.{Seats, seats_in}
 use Rattle.smsc_service.specs.Serving.{Serving, after, after_for, gives, gives_for, restarted}
+use Rattle.smsc_service.proofs.AccountsCome.{accounts_are, none_come}
 
 -- what starts again has the rows from before the group
 pub after_rows : (a : SeatRequest) (r : Serving) (stimulus : Stimulus Job) → (after_for a Refused r stimulus).core.rows ≡ r.core.rows
@@ -28,6 +30,7 @@ after_rows (Event event) r stimulus = refl
 after_rows Nothing r stimulus = refl
 after_rows Taken r stimulus = refl
 after_rows (Forget before from most) r stimulus = refl
+after_rows (Enrol account) r stimulus = refl
 
 -- what starts again still does so after one item more
 pub after_again : (a : SeatRequest) (r : Serving) (stimulus : Stimulus Job) → r ≡ restarted r.core.rows r.seats
@@ -36,6 +39,7 @@ after_again (Event event) r stimulus is = refl
 after_again Nothing r stimulus is = is
 after_again Taken r stimulus is = is
 after_again (Forget before from most) r stimulus is = refl
+after_again (Enrol account) r stimulus is = refl
 
 -- what an item gives whose group is refused, by what it asks
 pub refused_gives : (a : SeatRequest) (q : Seats) (r : Serving) (stimulus : Stimulus Job) (outs : List (Out Reply)) → a ≡ asked_by q stimulus → q ≡ r.seats → outs ≡ gives_for a Refused r stimulus
@@ -56,6 +60,7 @@ first_more (Event event) s r stimulus fate held now quiet none same = inr refl
 first_more Nothing s r stimulus fate held now quiet none same = inl (quiet.0 ∙ none, same)
 first_more Taken s r stimulus fate held now quiet none same = inl (quiet.0 ∙ none, same)
 first_more (Forget before from most) s r stimulus fate held now quiet none same = inr refl
+first_more (Enrol account) s r stimulus fate held now quiet none same = inr refl
 
 -- an item more: nothing happened yet, or the second is what starts again
 pub again_more : (a b : SeatRequest) (s r : Serving) (stimulus : Stimulus Job) (fate : Fate) (held now : Changes) → (s.seats ≡ r.seats → a ≡ b) → UnlessEvent a ((now ≡ held) × (fate ≡ Done)) → IsAgain held s r
@@ -70,6 +75,7 @@ refused_first (Event event) r stimulus fate quiet h is = refl
 refused_first Nothing r stimulus fate quiet h is = let done = h.1 in absurd cc
 refused_first Taken r stimulus fate quiet h is = let done = h.1 in absurd cc
 refused_first (Forget before from most) r stimulus fate quiet h is = refl
+refused_first (Enrol account) r stimulus fate quiet h is = refl
 
 -- after an item that was refused, the second is what starts again
 pub again_refused : (a b : SeatRequest) (s r : Serving) (stimulus : Stimulus Job) (fate : Fate) (held now : Changes) → (s.seats ≡ r.seats → a ≡ b) → UnlessEvent a ((now ≡ held) × (fate ≡ Done)) → fate ≡ Refused
@@ -90,23 +96,33 @@ again_of held s r some (inl first) = absurd (some first.0)
 again_of held s r some (inr again) = again
 
 module _ {K A : Type 0} (state : K → KeepState Rows) where
+  -- between two groups no account is one that may be let go
+  pub all_settled : (service : Service K A) (s : Serving) → Represents s.core service.seated.machine.centre → service.accounts ≡ length s.core.rows.setup.accounts → HasAccounts service s
+  all_settled service s centre count = record {
+    come = none_come s.core.rows.setup.accounts (accounts_in service.seated) (accounts_are s.core service.seated.machine.centre centre);
+    count = count;
+  }
+
   -- a service between two groups
-  pub stands_on : (service : Service K A) (s : Serving) → held_by service.seated ≡ no_changes → (state (store_in service)).holds s.core.rows → Represents s.core service.seated.machine.centre
-      → seats_in service.seated.seat_map ≡ s.seats → seats_in service.resumed ≡ s.seats → IsServedBy state service s
-  stands_on service s none holds centre seats resumed = record {
-    made = record { rows = (holds, settled (held_by service.seated) s.core.rows none); centre = centre; seats = seats };
+  pub stands_on : (service : Service K A) (s : Serving) → held_by service.seated ≡ no_changes → (state (store_in service)).holds (bare s.core.rows) → Represents s.core service.seated.machine.centre
+      → seats_in service.seated.seat_map ≡ s.seats → seats_in service.resumed ≡ s.seats → service.accounts ≡ length s.core.rows.setup.accounts → IsServedBy state service s
+  stands_on service s none holds centre seats resumed count = record {
+    made = record { rows = (holds, settled (held_by service.seated) (bare s.core.rows) none); centre = centre; seats = seats };
     sound = centre.centre.sound.rows;
     seats = resumed;
     again = inl (none, refl);
+    accounts = all_settled service s centre count;
   }
 
-  -- a service that starts again with the rows of its store
+  -- a service that starts again with the rows of its store, and with its accounts
   pub stands_again : (service now : Service K A) (r : Serving) → IsAwaitedBy state service r → held_by now.seated ≡ no_changes
-      → ((state (store_in service)).holds r.core.rows
-      → (state (store_in now)).holds r.core.rows × Represents (restarted r.core.rows (seats_in service.resumed)).core now.seated.machine.centre)
-      → ((state (store_in service)).is_closed → ⊥) → seats_in now.seated.seat_map ≡ seats_in service.resumed → seats_in now.resumed ≡ seats_in service.resumed → IsServedBy state now r
-  stands_again service now r waiting none there not_closed seats resumed =
-      let got = there (⊎_elim (λ (h : (state (store_in service)).holds r.core.rows). h) (λ (h : (state (store_in service)).is_closed). let no : ⊥ = not_closed h in absurd no) waiting.rows) in
+      → ((state (store_in service)).holds (bare r.core.rows)
+      → (state (store_in now)).holds (bare r.core.rows) × Represents (restarted r.core.rows (seats_in service.resumed)).core now.seated.machine.centre)
+      → ((state (store_in service)).is_closed → ⊥) → seats_in now.seated.seat_map ≡ seats_in service.resumed → seats_in now.resumed ≡ seats_in service.resumed
+      → now.accounts ≡ service.accounts → IsServedBy state now r
+  stands_again service now r awaited none there not_closed seats resumed same =
+      let waiting = awaited.waiting in
+      let got = there (⊎_elim (λ (h : (state (store_in service)).holds (bare r.core.rows)). h) (λ (h : (state (store_in service)).is_closed). let no : ⊥ = not_closed h in absurd no) waiting.rows) in
       stands_on now r none got.0
       (subst (λ (c : Core). Represents c now.seated.machine.centre) (ap (λ (q : Seats). (restarted r.core.rows q).core) waiting.seats ∙ sym (ap (λ (x : Serving). x.core) waiting.again)) got.1)
-      (seats ∙ waiting.seats) (resumed ∙ waiting.seats)
+      (seats ∙ waiting.seats) (resumed ∙ waiting.seats) (same ∙ awaited.accounts.count)

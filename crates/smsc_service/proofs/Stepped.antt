@@ -23,14 +23,18 @@ use Rattle.sms_centre_events.specs.offering.Refusing.{SucceedsOrRefuses, NoneRef
 use Rattle.sms_centre.specs.plans.EventOutcome.{IsOutcome}
 use Rattle.sms_centre.specs.Planning.{PlanOf}
 use Rattle.sms_centre.specs.Stored.{StoresRows}
+use Rattle.smsc_service.specs.Accounts.{bare}
 use Rattle.smsc_service.specs.Stepping.{PlansStep, step_error_of}
+use Rattle.smsc_service.proofs.AccountsCome.{bare_sound}
 
 -- over a store that gives the TPDUs of sound rows, a group gives each TPDU that a centre asks for
-pub stored : (body_of : Rows → ℕ → Option (List ℕ)) → GivesBodies body_of → (base : Rows) (held : Changes) (rows : Rows) → IsSound base → IsSound rows → rows ≡ rows_after held base
+pub stored : (body_of : Rows → ℕ → Option (List ℕ)) → GivesBodies body_of → (base : Rows) (held : Changes) (rows : Rows) → IsSound base → IsSound rows → bare rows ≡ rows_after held base
     → StoresRows (grouped_body body_of (base, held)) rows
-stored body_of gives base held rows base_sound sound is = subst (λ (r : Rows). StoresRows (grouped_body body_of (base, held)) r) (sym is)
-    (let after = subst IsSound is sound in
-    record { parts = part_given body_of gives base held base_sound after; reports = report_given body_of gives base held base_sound after })
+stored body_of gives base held rows base_sound sound is =
+    let after : IsSound (rows_after held base) = subst IsSound is (bare_sound rows sound) in
+    let there : StoresRows (grouped_body body_of (base, held)) (bare rows) = subst (λ (r : Rows). StoresRows (grouped_body body_of (base, held)) r) (sym is)
+    (record { parts = part_given body_of gives base held base_sound after; reports = report_given body_of gives base held base_sound after }) in
+    record { parts = there.parts; reports = there.reports }
 
 none_counted : (before after : Refusals) → NoneRefused before after → after.calls ≡ before.calls
 none_counted before after none = ⊎_elim (λ (e : after ≡ with_answer before). ap (λ (r : Refusals). r.calls) e) (λ (e : after ≡ before). ap (λ (r : Refusals). r.calls) e) none

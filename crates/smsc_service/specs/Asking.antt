@@ -16,11 +16,11 @@ use Rattle.sms_centre_spec.specs.declared.jobs.job.Job.{Job}
 use Rattle.sms_centre_spec.specs.declared.jobs.job.Job.TheVariants.{Bound, Unbound, Submit, Query, Cancel, DeliverAnswered, LinkUp, LinkDown, Frame}
 use Rattle.sms_centre_spec.specs.declared.order.Order.TheVariants.{Retry as RetryOf, Delete as DeleteOf}
 use Rattle.sms_keeper.specs.declared.machine.Errand.{Errand}
-use Rattle.sms_keeper.specs.declared.machine.Errand.TheVariants.{Forget as ForgetOf, Retry, Delete}
+use Rattle.sms_keeper.specs.declared.machine.Errand.TheVariants.{Forget as ForgetOf, Retry, Delete, Enrol as EnrolOf}
 use Rattle.sms_keeper.specs.declared.machine.Stimulus.{Stimulus}
 use Rattle.sms_keeper.specs.declared.machine.Stimulus.TheVariants.{Job as JobOf, Tick, Own}
 use Rattle.smsc_service.specs.declared.asking.SeatRequest.{SeatRequest}
-use Rattle.smsc_service.specs.declared.asking.SeatRequest.TheVariants.{Event, Nothing, Taken, Forget}
+use Rattle.smsc_service.specs.declared.asking.SeatRequest.TheVariants.{Event, Nothing, Taken, Forget, Enrol}
 use Rattle.smsc_service.specs.Numbers.{is_number}
 use Rattle.smsc_service.specs.Seats.{Seats, handset_at, seat_of}
 
@@ -72,6 +72,7 @@ abbrev pub errand_asks : Errand → SeatRequest
 errand_asks (ForgetOf before from most) = Forget before from most
 errand_asks (Retry id) = Event (OrderedOf RetryOf id)
 errand_asks (Delete id) = Event (OrderedOf DeleteOf id)
+errand_asks (EnrolOf account) = Enrol account
 
 -- a hub has 32 seats
 abbrev pub asked_by : Seats → Stimulus Job → SeatRequest
@@ -85,6 +86,7 @@ IfEvent Is (Event event) = Is event
 IfEvent Is Nothing = Unit {0}
 IfEvent Is Taken = Unit {0}
 IfEvent Is (Forget before from most) = Unit {0}
+IfEvent Is (Enrol account) = Unit {0}
 
 -- its answer, where it is an event that happens
 abbrev pub answer_of : SeatRequest → Core → Option CentreAnswer
@@ -92,6 +94,7 @@ answer_of (Event event) c = (happened event c).answer
 answer_of Nothing c = None
 answer_of Taken c = None
 answer_of (Forget before from most) c = None
+answer_of (Enrol account) c = None
 
 -- where it is to forget, the claim of what is looked at
 abbrev pub IfForget : (ℕ → ℕ → ℕ → Type 0) → SeatRequest → Type 0
@@ -99,6 +102,7 @@ IfForget Is (Event event) = Unit {0}
 IfForget Is Nothing = Unit {0}
 IfForget Is Taken = Unit {0}
 IfForget Is (Forget before from most) = Is before from most
+IfForget Is (Enrol account) = Unit {0}
 
 -- where nothing of the centre can change by it, the claim
 abbrev pub UnlessEvent : SeatRequest → Type 0 → Type 0
@@ -106,3 +110,4 @@ UnlessEvent (Event event) claim = Unit {0}
 UnlessEvent Nothing claim = claim
 UnlessEvent Taken claim = claim
 UnlessEvent (Forget before from most) claim = Unit {0}
+UnlessEvent (Enrol account) claim = Unit {0}

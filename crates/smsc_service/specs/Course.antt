@@ -14,7 +14,7 @@ use Rattle.sms_keeper.specs.declared.outs.Out.{Out}
 use Rattle.smsc_service.specs.Asking.{asked_by}
 use Rattle.smsc_service.specs.Serving.{Serving, after as serving_after, gives as serving_gives}
 use Rattle.smsc_service.specs.declared.asking.SeatRequest.{SeatRequest}
-use Rattle.smsc_service.specs.declared.asking.SeatRequest.TheVariants.{Event, Nothing, Taken, Forget}
+use Rattle.smsc_service.specs.declared.asking.SeatRequest.TheVariants.{Event, Nothing, Taken, Forget, Enrol}
 
 -- a message that went, and how many parts it had
 pub record Gone : Type 0 where
@@ -48,6 +48,7 @@ went_for Taken fate s = []
 went_for (Forget before from most) Done s = numbered (going_now before from most s.core) s.core.rows s.core.rows.messages
 went_for (Forget before from most) NoMemory s = []
 went_for (Forget before from most) Refused s = []
+went_for (Enrol account) fate s = []
 
 abbrev pub went : Serving → Stimulus Job → Fate → List Gone
 went s stimulus fate = went_for (asked_by s.seats stimulus) fate s

@@ -1,5 +1,5 @@
 -- What a centre has in the middle of a group, with who sits where.
-use Rattle.std.specs.Prelude.{◌⊎◌, List}
+use Rattle.std.specs.Prelude.{◌≡◌, ◌⊎◌, List}
 use Rattle.sms_rows.specs.keep.KeepState.{KeepState}
 use Rattle.sms_centre_group.specs.Grouping.{Spans, held_in, store_of}
 use Rattle.sms_centre_spec.specs.SoundRows.{IsSound}
@@ -10,6 +10,9 @@ use Rattle.sms_centre_spec.specs.declared.rows.Rows.{Rows}
 use Rattle.sms_keeper.specs.declared.machine.Fate.{Fate}
 use Rattle.sms_keeper.specs.declared.machine.Stimulus.{Stimulus}
 use Rattle.sms_keeper.specs.declared.outs.Out.{Out}
+use Rattle.sms_centre.specs.Enrolling.{accounts_of}
+use Rattle.sms_intake.specs.declared.submission.CentreAccount.{CentreAccount}
+use Rattle.smsc_service.specs.Accounts.{bare}
 use Rattle.smsc_service.specs.declared.asking.SeatRequest.{SeatRequest}
 use Rattle.smsc_service.specs.declared.seated_centre.SeatedCentre.{SeatedCentre}
 use Rattle.smsc_service.specs.Serving.{IsServing, IsStep, Serves, Serving}
@@ -20,18 +23,23 @@ module _ {K : Type 0} where
   abbrev pub held_by : SeatedCentre K → Changes
   held_by seated = held_in seated.machine.keep
 
-  -- between these two a read was refused
+  -- the accounts that its centre has in memory
+  abbrev pub accounts_in : SeatedCentre K → List CentreAccount
+  accounts_in seated = accounts_of seated.machine.centre
+
+  -- between these two a read was refused, and no account came
   abbrev pub RefusedRead : SeatedCentre K → SeatedCentre K → Type 0
-  RefusedRead before after = OneRefused before.machine.keep.refusals after.machine.keep.refusals
+  RefusedRead before after =
+      OneRefused before.machine.keep.refusals after.machine.keep.refusals × (accounts_in after ≡ accounts_in before)
 
 module _ {K : Type 0} (state : K → KeepState Rows) where
   -- its store has returned what was written, so far
   abbrev pub IsHonest : SeatedCentre K → Type 0
   IsHonest seated = (state (store_of seated.machine.keep)).is_honest
 
-  -- with what the group changed, the rows from before it are these
+  -- with what the group changed, the store's rows from before it are these, but for their accounts
   abbrev pub Reaches : Rows → SeatedCentre K → Rows → Type 0
-  Reaches base seated rows = Spans (state (store_of seated.machine.keep)) (held_by seated) base rows
+  Reaches base seated rows = Spans (state (store_of seated.machine.keep)) (held_by seated) base (bare rows)
 
   -- the store has the rows from before the group, and its memory has that centre and those seats
   abbrev pub IsMadeBy : Rows → SeatedCentre K → Serving → Type 0

@@ -1,5 +1,5 @@
 -- What a service has.
-use Rattle.std.specs.Prelude.{◌≡◌, ◌⊎◌, ℕ, true, List}
+use Rattle.std.specs.Prelude.{◌≡◌, ◌⊎◌, ℕ, true, List, length}
 use Rattle.sms_base.specs.Among.{Among}
 use Rattle.sms_centre_rows.specs.declared.messages.message.MessageRow.{MessageRow}
 use Rattle.sms_rows.specs.declared.keep.refusals.Refusals.{Refusals}
@@ -8,9 +8,10 @@ use Rattle.sms_centre_group.specs.Grouping.{store_of}
 use Rattle.sms_centre_spec.specs.Draft.{no_changes}
 use Rattle.sms_centre_spec.specs.SoundRows.{IsSound}
 use Rattle.sms_centre_spec.specs.declared.rows.Rows.{Rows}
+use Rattle.smsc_service.specs.Accounts.{ComeBehind, bare}
 use Rattle.smsc_service.specs.declared.service.Service.{Service}
 use Rattle.smsc_service.specs.Course.{Course, Gone}
-use Rattle.smsc_service.specs.InSeated.{IsMadeBy, held_by}
+use Rattle.smsc_service.specs.InSeated.{IsMadeBy, accounts_in, held_by}
 use Rattle.smsc_service.specs.Seats.{seats_in}
 use Rattle.smsc_service.specs.Serving.{IsWaiting, Serving, restarted}
 
@@ -35,6 +36,11 @@ module _ {K A : Type 0} where
   abbrev pub IsRefusedBy : Service K A → Serving → Type 0
   IsRefusedBy service r = seats_in service.resumed ≡ r.seats
 
+  -- The centre in memory has the accounts of this one, and perhaps some behind them. The service knows how many this one has.
+  pub record HasAccounts (service : Service K A) (r : Serving) : Type 0 where
+    pub come : ComeBehind r.core.rows.setup.accounts (accounts_in service.seated)
+    pub count : service.accounts ≡ length r.core.rows.setup.accounts
+
 module _ {K A : Type 0} (state : K → KeepState Rows) where
   -- its store has returned what was written, so far
   abbrev pub HasHonestStore : Service K A → Type 0
@@ -42,19 +48,21 @@ module _ {K A : Type 0} (state : K → KeepState Rows) where
 
   -- In a group it is the first. If the group is refused it starts again as the second, whose rows the store has.
   pub record IsStanding (service : Service K A) (s r : Serving) : Type 0 where
-    pub made : IsMadeBy state r.core.rows service.seated s
+    pub made : IsMadeBy state (bare r.core.rows) service.seated s
     pub sound : IsSound r.core.rows
     pub seats : seats_in service.resumed ≡ r.seats
     -- nothing happened in the group yet, or the second is what starts again
     pub again : ((held_by service.seated ≡ no_changes) × (s.seats ≡ r.seats)) ⊎ (r ≡ restarted r.core.rows r.seats)
+    pub accounts : HasAccounts service r
 
   -- between two groups its store has the rows, and its memory has that centre and those seats
   abbrev pub IsServedBy : Service K A → Serving → Type 0
   IsServedBy service s = IsStanding service s s
 
-  -- its store has the rows or is closed, its memory has those seats, and it starts again with both
-  abbrev pub IsAwaitedBy : Service K A → Serving → Type 0
-  IsAwaitedBy service r = IsWaiting (state (store_in service)).holds (state (store_in service)).is_closed service.resumed r
+  -- its store has the rows or is closed, its memory has those seats and accounts, and it starts again with all
+  pub record IsAwaitedBy (service : Service K A) (r : Serving) : Type 0 where
+    pub waiting : IsWaiting (λ rows. (state (store_in service)).holds (bare rows)) (state (store_in service)).is_closed service.resumed r
+    pub accounts : HasAccounts service r
 
   -- if the store is honest, and the service was to start again as that before the call
   abbrev pub IfAwaited : Serving → Service K A → Service K A → Type 0 → Type 0

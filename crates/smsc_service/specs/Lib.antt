@@ -1,3 +1,4 @@
+pub mod Accounts
 pub mod Asking
 pub mod Forgetting
 pub mod InMachine

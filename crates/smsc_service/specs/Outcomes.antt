@@ -10,8 +10,10 @@ use Rattle.sms_centre_spec.specs.declared.answer.CentreAnswer.{CentreAnswer}
 use Rattle.sms_centre_spec.specs.declared.answer.CentreAnswer.TheVariants.{Cancelled, Queried, Refused}
 use Rattle.sms_centre_spec.specs.declared.order.Order.{Order}
 use Rattle.sms_centre_spec.specs.declared.order.Order.TheVariants.{Retry, Delete}
+use Rattle.sms_keeper.specs.declared.machine.Fate.{Fate}
+use Rattle.sms_keeper.specs.declared.machine.Fate.TheVariants.{Done, NoMemory, Refused as RefusedFate}
 use Rattle.smsc_service.specs.declared.order_desk.OrderOutcome.{OrderOutcome}
-use Rattle.smsc_service.specs.declared.order_desk.OrderOutcome.TheVariants.{Waits, Ended, Deleted, HasEnded, Unknown, Failed}
+use Rattle.smsc_service.specs.declared.order_desk.OrderOutcome.TheVariants.{Waits, Ended, Deleted, HasEnded, Unknown, Enrolled, Failed}
 
 -- ---- what its owner is to hear, by the message as the order finds it
 
@@ -40,6 +42,12 @@ told_by (Some Cancelled) = Deleted
 told_by (Some (Refused status)) = of_status status
 told_by (Some other) = Failed
 
+-- what is told of an account that was to come, by what befell it
+abbrev pub told_of_account : Fate → OrderOutcome
+told_of_account Done = Enrolled
+told_of_account NoMemory = Failed
+told_of_account RefusedFate = Failed
+
 -- ---- the numbers of outcomes, in a desk
 
 abbrev pub number_of : OrderOutcome → ℕ
@@ -52,6 +60,7 @@ number_of (Ended Delivered) = 5
 number_of (Ended Expired) = 6
 number_of (Ended DeletedState) = 7
 number_of (Ended Undeliverable) = 8
+number_of Enrolled = 9
 
 abbrev pub outcome_at : ℕ → OrderOutcome
 outcome_at n =
@@ -62,4 +71,5 @@ outcome_at n =
     else (if n == 5 then Ended Delivered
     else (if n == 6 then Ended Expired
     else (if n == 7 then Ended DeletedState
-    else (if n == 8 then Ended Undeliverable else Failed)))))))
+    else (if n == 8 then Ended Undeliverable
+    else (if n == 9 then Enrolled else Failed))))))))

@@ -17,11 +17,12 @@ use Rattle.sms_keeper.specs.declared.machine.Fate.TheVariants.{Done, NoMemory, R
 use Rattle.sms_keeper.specs.declared.machine.Stimulus.{Stimulus}
 use Rattle.sms_keeper.specs.declared.machine.Stimulus.TheVariants.{Job as JobOf, Tick, Own}
 use Rattle.sms_keeper.specs.declared.outs.Out.{Out}
+use Rattle.sms_centre.specs.Enrolling.{enrolled}
 use Rattle.sms_centre.specs.state.CentreState.{Represents, CentreStateOf}
 use Rattle.smsc_service.specs.declared.step_error.StepError.{StepError}
 use Rattle.smsc_service.specs.declared.step_error.StepError.TheVariants.{NoMemory as NoPlan, NoBody, Store}
 use Rattle.smsc_service.specs.declared.asking.SeatRequest.{SeatRequest}
-use Rattle.smsc_service.specs.declared.asking.SeatRequest.TheVariants.{Event, Nothing, Taken, Forget}
+use Rattle.smsc_service.specs.declared.asking.SeatRequest.TheVariants.{Event, Nothing, Taken, Forget, Enrol}
 use Rattle.smsc_service.specs.declared.seat_map.SeatMap.{SeatMap}
 use Rattle.smsc_service.specs.Asking.{asked_by}
 use Rattle.smsc_service.specs.Seats.{Seats, followed, seats_in}
@@ -45,7 +46,7 @@ followed_by (Own errand) s = s
 
 -- ---- what is given
 
--- The outcome of the event decides: its replies, or the request has failed. Nobody hears of what is forgotten.
+-- The outcome of the event decides: its replies, or the request has failed. Nobody hears of what is forgotten, or of an account that comes.
 abbrev pub gives_for : SeatRequest → Fate → Serving → Stimulus Job → List (Out Reply)
 gives_for (Event event) Done s stimulus = replies_to s.seats stimulus (happened event s.core)
 gives_for (Event event) NoMemory s stimulus = failed_by stimulus
@@ -55,6 +56,9 @@ gives_for Taken fate s stimulus = taken_by stimulus
 gives_for (Forget before from most) Done s stimulus = []
 gives_for (Forget before from most) NoMemory s stimulus = failed_by stimulus
 gives_for (Forget before from most) Refused s stimulus = failed_by stimulus
+gives_for (Enrol account) Done s stimulus = []
+gives_for (Enrol account) NoMemory s stimulus = failed_by stimulus
+gives_for (Enrol account) Refused s stimulus = failed_by stimulus
 
 -- The status with which the request is refused whatever memory there is: a submit_sm by its octets, a question by what it asks about.
 abbrev pub refusal_of : CentreEvent → Core → Option CommandStatus
@@ -75,6 +79,7 @@ refusal_for (Event event) c = refusal_of event c
 refusal_for Nothing c = None
 refusal_for Taken c = None
 refusal_for (Forget before from most) c = None
+refusal_for (Enrol account) c = None
 
 -- Without memory such a request is still refused so; every other one has failed.
 abbrev pub short_of : Option CommandStatus → Stimulus Job → List (Out Reply) → List (Out Reply)
@@ -105,6 +110,9 @@ after_for Taken fate s stimulus = s
 after_for (Forget before from most) Done s stimulus = record { core = core_of (forget before from most s.core); seats = s.seats }
 after_for (Forget before from most) NoMemory s stimulus = s
 after_for (Forget before from most) Refused s stimulus = restarted s.core.rows s.seats
+after_for (Enrol account) Done s stimulus = record { core = enrolled account s.core; seats = s.seats }
+after_for (Enrol account) NoMemory s stimulus = s
+after_for (Enrol account) Refused s stimulus = restarted s.core.rows s.seats
 
 abbrev pub after : Serving → Stimulus Job → Fate → Serving
 after s stimulus fate = after_for (asked_by s.seats stimulus) fate s stimulus

@@ -7,6 +7,7 @@ ghost use Rattle.sms_centre_spec.specs.declared.jobs.job.Job.TheVariants.{LinkUp
 ghost use Rattle.smsc_service.specs.Asking.{IfEvent, asked as asked_of, errand_asks as errand_asks_of, of_handset, question, read_as, submission, withdrawal};
 ghost use Rattle.smsc_service.specs.Seats.{handset_at, seats_in};
 
+use crate::new_account::NewAccount;
 use crate::number::is_number;
 use crate::seat_map::SeatMap;
 use smpp_pdu::{Body, Pdu};
@@ -30,6 +31,8 @@ pub enum SeatRequest<'a> {
         from: u64,
         most: u16,
     },
+    /// The account is the last of the centre's accounts from now on.
+    Enrol(NewAccount<'a>),
 }
 
 // ---- requests
@@ -147,20 +150,25 @@ fn framed<'a>(seat_map: &SeatMap, seat: u32, octets: &'a Octets) -> SeatRequest<
 }
 
 /// What no seat asks of the centre.
-pub(crate) fn errand_asks(errand: Errand) -> SeatRequest<'static>
-    ensures asked { result ≡ errand_asks_of errand }
+pub(crate) fn errand_asks(errand: &Errand) -> SeatRequest<'_>
+    ensures asked { result ≡ errand_asks_of errand.entry.now }
     ensures number { IfEvent HasNumber result }
 {
     match errand {
-        Errand::Forget { before, from, most } => SeatRequest::Forget { before, from, most },
+        Errand::Forget { before, from, most } => SeatRequest::Forget {
+            before: *before,
+            from: *from,
+            most: *most,
+        },
         Errand::Retry(id) => SeatRequest::Event(CentreEvent::Ordered {
             order: Order::Retry,
-            id,
+            id: *id,
         }),
         Errand::Delete(id) => SeatRequest::Event(CentreEvent::Ordered {
             order: Order::Delete,
-            id,
+            id: *id,
         }),
+        Errand::Enrol(account) => SeatRequest::Enrol(NewAccount::of(account)),
     }
 }
 

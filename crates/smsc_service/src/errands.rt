@@ -1,5 +1,6 @@
 //! What a service does that no seat asks.
 ghost use Rattle.std.specs.Prelude.{◌≡◌};
+ghost use Rattle.smsc_service.specs.Outcomes.{told_of_account};
 
 use crate::order_desk::{OrderDesk, OrderOutcome, outcome_of};
 use sms_base::{MessageId, Moment};
@@ -66,6 +67,16 @@ pub(crate) fn walks_to(centre: &Centre, stimulus: &Stimulus<Job>) -> u64 {
     }
 }
 
+// What came of an account that was to come.
+fn account_outcome(fate: Fate) -> OrderOutcome
+    ensures { result ≡ told_of_account fate }
+{
+    match fate {
+        Fate::Done => OrderOutcome::Enrolled,
+        Fate::NoMemory | Fate::Refused => OrderOutcome::Failed,
+    }
+}
+
 impl<A: Archive + Drop> Errands<A> {
     /// The errands of an owner who orders at that desk.
     pub fn new(desk: Arc<OrderDesk>, forgetting: Forgetting<A>) -> Errands<A> {
@@ -116,6 +127,14 @@ impl<A: Archive + Drop> Errands<A> {
         }
     }
 
+    // The order was asked of the centre; so its owner is told, if it is committed.
+    fn take_order(&mut self, outcome: OrderOutcome)
+        ensures { self.new.archive ≡ self.old.archive }
+    {
+        self.desk.take();
+        self.told = Some(outcome);
+    }
+
     /// The stimulus was asked of the centre, with that fate and answer. Behind it a walk goes on from that number.
     pub(crate) fn note(
         &mut self,
@@ -128,10 +147,10 @@ impl<A: Archive + Drop> Errands<A> {
     {
         match stimulus {
             Stimulus::Own(Errand::Forget { before, .. }) => self.walk_on(*before, next, fate),
-            Stimulus::Own(_) => {
-                self.desk.take();
-                self.told = Some(outcome_of(answer));
-            }
+            Stimulus::Own(Errand::Enrol(_)) => self.take_order(account_outcome(fate)),
+            Stimulus::Own(Errand::Retry(_) | Errand::Delete(_)) => self.take_order(outcome_of(
+                answer,
+            )),
             _ => {}
         }
     }

@@ -3,6 +3,7 @@ ghost use Rattle.std.specs.Prelude.{◌≡◌, IfOk};
 ghost use Rattle.std.specs.Fn.{FnOnceReturnsAtMut};
 ghost use Rattle.sms_rows.specs.keep.StoreOutcome.{IfHeld, WasHonest};
 ghost use Rattle.sms_centre_spec.specs.declared.rows.Rows.{Rows as RowsOf};
+ghost use Rattle.smsc_service.specs.Accounts.{bare};
 ghost use Rattle.smsc_service.specs.Seats.{nobody};
 ghost use Rattle.smsc_service.specs.Serving.{restarted};
 ghost use Rattle.smsc_service.specs.InService.{IsServedBy, archive_in, store_in};
@@ -15,6 +16,7 @@ use crate::service::Service;
 use crate::start_error::StartError;
 use sms_centre::Archive;
 use sms_centre_spec::bodies::CentreStore;
+use sms_intake::CentreAccount;
 use std::alloc::Global;
 use std::sync::Arc;
 
@@ -48,15 +50,16 @@ fn lend_service<K: CentreStore + Drop, A: Archive + Drop, R, W: FnOnce(&mut Serv
     (given, keep, archive)
 }
 
-/// Starts a service with the rows of a keep, with nobody at any seat, and lends it to the work. Gives what the work gives, and the keep and the
-/// archive back. Who calls this owns no service. Where there is a board, the service puts on it how links are. Behind the cutoff it begins
-/// nothing. It does what is ordered at the desk, and forgets what it is to forget.
+/// Starts a service with the rows of a keep and these accounts, with nobody at any seat, and lends it to the work. The keep was opened without
+/// accounts. Gives what the work gives, and the keep and the archive back. Who calls this owns no service. Where there is a board, the service
+/// puts on it how links are. Behind the cutoff it begins nothing. It does what is ordered at the desk, and forgets what it is to forget.
 ///
 /// # Errors
 /// As `Service::start`. The work is not done then, and the keep and the archive are dropped.
 pub fn serve_with<K: CentreStore + Drop, A: Archive + Drop, R, W: FnOnce(&mut Service<K, A>) -> R>(
     alloc: Global,
     keep: K,
+    accounts: Vec<CentreAccount>,
     board: Option<&Arc<LinkBoard>>,
     cutoff: &Arc<Cutoff>,
     desk: &Arc<OrderDesk>,
@@ -64,15 +67,16 @@ pub fn serve_with<K: CentreStore + Drop, A: Archive + Drop, R, W: FnOnce(&mut Se
     work: W,
 ) -> Result<(R, K, A), StartError>
     requires { W.IsAlwaysCallable work }
-    // What is given is what the work gives of a service on the rows of the keep, and the keep and the archive as the work left them.
+    // What is given is what the work gives of a service on the rows of the keep, with the accounts, and the keep and the archive as the work left them.
     ensures given { IfOk result (λ given. (lent : _) × (left : _)
-        × ((rows : RowsOf) → IfHeld rows (K.state keep) (K.state (store_in lent)) (IsServedBy K.state lent (restarted rows nobody)))
+        × ((rows : RowsOf) → rows.setup.accounts ≡ accounts.items
+        → IfHeld (bare rows) (K.state keep) (K.state (store_in lent)) (IsServedBy K.state lent (restarted rows nobody)))
         × WasHonest (K.state keep) (K.state (store_in lent)) × FnOnceReturnsAtMut W.FnOnce work lent given.0 left × (given.1 ≡ store_in left)
         × (given.2 ≡ archive_in left)) }
 {
     let board = share_of_board(board)?;
     let cutoff = share_of(cutoff)?;
     let errands = Errands::new(share_of(desk)?, forgetting);
-    let service = Service::start(alloc, keep, board, cutoff, errands)?;
+    let service = Service::start(alloc, keep, accounts, board, cutoff, errands)?;
     Ok(lend_service(service, work))
 }

@@ -12,7 +12,8 @@
 //! its replies. Its steps are one history of the centre's definition (`specs/Serving.antt`). Behind its `Cutoff` it begins
 //! no event: each fails as for want of memory. It has errands, which no seat asks: an order that its owner left at the
 //! `OrderDesk`, and messages to forget, each of which its archive has before it goes. The answer to an order goes back to
-//! the desk, once its group is committed. `SeatMap` keeps which
+//! the desk, once its group is committed. So does an account that comes: it is the last of the centre's from then on. A store
+//! has no accounts. They are handed in as a service starts, and each centre that starts again gets them. `SeatMap` keeps which
 //! handset's link and which session is at which seat, so that frames and receipts find their seats. `serve_with` owns a
 //! service, lends it and gives the keep back, so that no crate above proves how a centre is dropped.
 //!
@@ -28,6 +29,7 @@
 //! - `link_board`: the links at the seats, as the keeper saw them last
 //! - `machine`: a centre and the keep of a group
 //! - `made`: what came of a stimulus
+//! - `new_account`: an account that comes
 //! - `number`: the numbers of handsets
 //! - `order_desk`: where an order of the owner waits, and its outcome
 //! - `refused`: of which message a handset refuses a part, and by which cause
@@ -57,6 +59,7 @@ mod lending;
 mod link_board;
 mod machine;
 mod made;
+mod new_account;
 mod number;
 mod order_desk;
 mod refused;
@@ -81,6 +84,7 @@ pub use forgetting::forget_ended;
 pub use lending::serve_with;
 pub use link_board::{CauseCount, LinkBoard, MOST_REFUSED};
 pub use machine::CentreMachine;
+pub use new_account::NewAccount;
 pub use order_desk::{OrderDesk, OrderOutcome};
 pub use refused::RefusedPart;
 pub use replies::{Requester, failed, reply_outs, taken};

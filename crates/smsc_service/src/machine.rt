@@ -15,6 +15,7 @@ ghost use Rattle.sms_centre_spec.specs.SoundRows.{IsSound};
 ghost use Rattle.sms_centre_spec.specs.forgetting.Forget.{forget, going_now};
 ghost use Rattle.sms_centre_spec.specs.declared.event.CentreEvent.{CentreEvent as CentreEventOf};
 ghost use Rattle.sms_centre_spec.specs.declared.rows.Rows.{Rows as RowsOf};
+ghost use Rattle.smsc_service.specs.Accounts.{bare};
 ghost use Rattle.smsc_service.specs.Stepping.{PlanningOutcome, step_error_of as step_error_of_plan};
 ghost use Rattle.smsc_service.specs.InMachine.{HoldsEvent, centre_in, keep_in};
 
@@ -64,8 +65,8 @@ impl<K: CentreStore + Drop> CentreMachine<K> {
     /// What the event leads to. Nothing has changed yet, but that bodies were read. A handset that the event names has a number.
     pub fn plan(&mut self, event: &CentreEvent<'_>) -> Result<Plan, StepError>
         requires { HasNumber event.now }
-        // The store holds the rows from before the group, and with what it changed they are the centre's.
-        ensures outcome { (c : Core) (base : RowsOf) → Represents c (centre_in self.old) → IsSound base → c.rows ≡ rows_after (held_in (keep_in self.old)) base
+        // The store holds the rows from before the group, and with what it changed they are the centre's, without its accounts.
+        ensures outcome { (c : Core) (base : RowsOf) → Represents c (centre_in self.old) → IsSound base → bare c.rows ≡ rows_after (held_in (keep_in self.old)) base
             → PlanningOutcome (base, held_in (keep_in self.old)) (group_state K.state (keep_in self.old)) (group_state K.state (keep_in self.new))
             (happened event.now c) result }
         ensures fits { IfOk result (FitsTheCentre (centre_in self.new)) }
@@ -105,10 +106,10 @@ impl<K: CentreStore + Drop> CentreMachine<K> {
         requires room { HasRoomFor planned.plan.changes (keep_in self.old).held }
         ensures outputs { IfOk result (λ outputs. outputs ≡ planned.plan.outputs) }
         ensures outcome { (event : CentreEventOf) (c : Core) (base : RowsOf) → IsEvent event → Represents c (centre_in self.old)
-            → IsOutcome (happened event c) planned.plan → Spans (K.state (store_of (keep_in self.old))) (held_in (keep_in self.old)) base c.rows
+            → IsOutcome (happened event c) planned.plan → Spans (K.state (store_of (keep_in self.old))) (held_in (keep_in self.old)) base (bare c.rows)
             → MatchResult result (λ outputs. HoldsEvent K.state base (core_of (happened event c)) self.new) (λ error. HoldsEvent K.state base c self.new) }
         ensures forgotten { (before from most : ℕ) (c : Core) (base : RowsOf) → Represents c (centre_in self.old)
-            → IsOutcome (forget before from most c) planned.plan → Spans (K.state (store_of (keep_in self.old))) (held_in (keep_in self.old)) base c.rows
+            → IsOutcome (forget before from most c) planned.plan → Spans (K.state (store_of (keep_in self.old))) (held_in (keep_in self.old)) base (bare c.rows)
             → MatchResult result (λ outputs. HoldsEvent K.state base (core_of (forget before from most c)) self.new)
             (λ error. HoldsEvent K.state base c self.new) }
         ensures store { store_of (keep_in self.new) ≡ store_of (keep_in self.old) }
@@ -131,10 +132,10 @@ impl<K: CentreStore + Drop> CentreMachine<K> {
         requires { FitsTheCentre (centre_in self.old) planned }
         ensures outputs { IfOk result (λ outputs. outputs ≡ planned.plan.outputs) }
         ensures outcome { (event : CentreEventOf) (c : Core) (base : RowsOf) → IsEvent event → Represents c (centre_in self.old)
-            → IsOutcome (happened event c) planned.plan → Spans (K.state (store_of (keep_in self.old))) (held_in (keep_in self.old)) base c.rows
+            → IsOutcome (happened event c) planned.plan → Spans (K.state (store_of (keep_in self.old))) (held_in (keep_in self.old)) base (bare c.rows)
             → MatchResult result (λ outputs. HoldsEvent K.state base (core_of (happened event c)) self.new) (λ error. HoldsEvent K.state base c self.new) }
         ensures forgotten { (before from most : ℕ) (c : Core) (base : RowsOf) → Represents c (centre_in self.old)
-            → IsOutcome (forget before from most c) planned.plan → Spans (K.state (store_of (keep_in self.old))) (held_in (keep_in self.old)) base c.rows
+            → IsOutcome (forget before from most c) planned.plan → Spans (K.state (store_of (keep_in self.old))) (held_in (keep_in self.old)) base (bare c.rows)
             → MatchResult result (λ outputs. HoldsEvent K.state base (core_of (forget before from most c)) self.new)
             (λ error. HoldsEvent K.state base c self.new) }
         ensures store { store_of (keep_in self.new) ≡ store_of (keep_in self.old) }

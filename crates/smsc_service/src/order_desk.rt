@@ -5,8 +5,11 @@ ghost use Rattle.smsc_service.specs.Outcomes.{number_of as number_of_outcome, ou
 use smpp_pdu::CommandStatus;
 use sms_base::{FinalState, MessageId};
 use sms_centre::{CentreAnswer, Order};
+use sms_centre_rows::conditions::is_address;
+use sms_intake::CentreAccount;
 use sms_keeper::Errand;
-use std::sync::atomic::{AtomicBool, AtomicU8, AtomicU64, Ordering};
+use std::sync::Mutex;
+use std::sync::atomic::{AtomicU8, AtomicU64, Ordering};
 
 // How far the order is. Nobody has ordered anything.
 const FREE: u8 = 0;
@@ -17,6 +20,13 @@ const WAITING: u8 = 1;
 const TAKEN: u8 = 2;
 
 const TOLD: u8 = 3;
+
+// What is ordered.
+const RETRY: u8 = 0;
+
+const DELETE: u8 = 1;
+
+const ENROL: u8 = 2;
 
 /// What came of an order.
 #[derive(Clone, Copy, PartialEq, Eq)]
@@ -31,6 +41,8 @@ pub enum OrderOutcome {
     HasEnded,
     /// There is no message of that number.
     Unknown,
+    /// The account is the last of the centre's.
+    Enrolled,
     /// Nothing was done: the centre had no memory, or its store refused.
     Failed,
 }
@@ -67,6 +79,7 @@ fn number_of(outcome: OrderOutcome) -> u8
         OrderOutcome::Ended(FinalState::Expired) => 6,
         OrderOutcome::Ended(FinalState::Deleted) => 7,
         OrderOutcome::Ended(FinalState::Undeliverable) => 8,
+        OrderOutcome::Enrolled => 9,
     }
 }
 
@@ -82,6 +95,7 @@ fn outcome_at(number: u8) -> OrderOutcome
         6 => OrderOutcome::Ended(FinalState::Expired),
         7 => OrderOutcome::Ended(FinalState::Deleted),
         8 => OrderOutcome::Ended(FinalState::Undeliverable),
+        9 => OrderOutcome::Enrolled,
         _ => OrderOutcome::Failed,
     }
 }
@@ -91,8 +105,11 @@ fn outcome_at(number: u8) -> OrderOutcome
 #[derive(Drop)]
 pub struct OrderDesk {
     progress: AtomicU8,
+    kind: AtomicU8,
+    // Of which message.
     id: AtomicU64,
-    deletes: AtomicBool,
+    // The account that is to come.
+    account: Mutex<Option<CentreAccount>>,
     outcome: AtomicU8,
 }
 
@@ -101,21 +118,45 @@ impl OrderDesk {
     pub fn new() -> OrderDesk {
         OrderDesk {
             progress: AtomicU8::new(FREE),
+            kind: AtomicU8::new(RETRY),
             id: AtomicU64::new(0),
-            deletes: AtomicBool::new(false),
+            account: Mutex::new(None),
             outcome: AtomicU8::new(0),
         }
     }
 
+    fn is_free(&self) -> bool {
+        self.progress.load(Ordering::SeqCst) == FREE
+    }
+
+    fn begin(&self, kind: u8) {
+        self.kind.store(kind, Ordering::SeqCst);
+        self.progress.store(WAITING, Ordering::SeqCst);
+    }
+
     /// Puts an order. False where another one is not done yet.
     pub fn put(&self, order: Order, id: MessageId) -> bool {
-        if self.progress.load(Ordering::SeqCst) != FREE {
+        if !self.is_free() {
             return false;
         }
         self.id.store(id.number(), Ordering::SeqCst);
-        self.deletes
-            .store(matches!(order, Order::Delete), Ordering::SeqCst);
-        self.progress.store(WAITING, Ordering::SeqCst);
+        self.begin(match order {
+            Order::Retry => RETRY,
+            Order::Delete => DELETE,
+        });
+        true
+    }
+
+    /// Orders that the account comes. False where another order is not done yet, or where no unit can carry the account's address.
+    pub fn put_account(&self, account: CentreAccount) -> bool {
+        if !self.is_free() || !is_address(&account.address) {
+            return false;
+        }
+        let Some(mut place) = self.account.try_lock() else {
+            return false;
+        };
+        *place = Some(account);
+        self.begin(ENROL);
         true
     }
 
@@ -129,16 +170,25 @@ impl OrderDesk {
         Some(outcome)
     }
 
-    /// The order that waits, if one does.
+    fn message(&self) -> Option<MessageId> {
+        MessageId::new(self.id.load(Ordering::SeqCst))
+    }
+
+    // Takes the account from where it waits.
+    fn comer(&self) -> Option<CentreAccount> {
+        let mut place = self.account.try_lock()?;
+        place.take()
+    }
+
+    /// The order that waits, if one does. The keeper asks it at once.
     pub(crate) fn waiting(&self) -> Option<Errand> {
         if self.progress.load(Ordering::SeqCst) != WAITING {
             return None;
         }
-        let id = MessageId::new(self.id.load(Ordering::SeqCst))?;
-        if self.deletes.load(Ordering::SeqCst) {
-            Some(Errand::Delete(id))
-        } else {
-            Some(Errand::Retry(id))
+        match self.kind.load(Ordering::SeqCst) {
+            ENROL => Some(Errand::Enrol(self.comer()?)),
+            DELETE => Some(Errand::Delete(self.message()?)),
+            _ => Some(Errand::Retry(self.message()?)),
         }
     }
 

@@ -8,6 +8,7 @@ ghost use Rattle.sms_centre_spec.specs.CentreEvent.{recovered};
 ghost use Rattle.sms_centre_spec.specs.Draft.{no_changes};
 ghost use Rattle.sms_centre_spec.specs.SoundCore.{AreDifferent};
 ghost use Rattle.sms_centre_spec.specs.declared.rows.Rows.{Rows as RowsOf};
+ghost use Rattle.smsc_service.specs.Accounts.{bare, with_accounts};
 ghost use Rattle.smsc_service.specs.Seats.{seats_in};
 ghost use Rattle.smsc_service.specs.Serving.{restarted};
 ghost use Rattle.smsc_service.specs.BoundSession.{AreNumbers, sessions_of as sessions_of_bound};
@@ -15,10 +16,12 @@ ghost use Rattle.smsc_service.specs.BoundSession.{AreNumbers, sessions_of as ses
 use crate::bound_session::{handsets_of, sessions_of};
 use crate::seat_map::SeatMap;
 use crate::start_error::StartError;
-use sms_base::Digits;
+use sms_base::lending::put;
+use sms_base::{Digits, Listed};
 use sms_centre::{Centre, Rows};
 use sms_centre_group::GroupKeep;
 use sms_centre_spec::bodies::CentreStore;
+use sms_intake::CentreAccount;
 use std::alloc::Global;
 
 // With links to these handsets, and the sessions of the seat map.
@@ -48,19 +51,35 @@ fn recovered_at(alloc: Global, rows: Rows, seat_map: &SeatMap) -> Result<Centre,
     }
 }
 
-/// The centre that starts again with the rows of the store, and with the links and sessions of the seat map. What the group changed is
-/// let go.
+// The rows, with these accounts.
+fn with_accounts_of(rows: Rows, accounts: Vec<CentreAccount>) -> Rows
+    ensures { result ≡ with_accounts accounts.items rows }
+{
+    let mut rows = rows;
+    put(&mut rows.setup.accounts, Listed::from_vec(accounts));
+    rows
+}
+
+/// The centre that starts again with the rows of the store and these accounts, and with the links and sessions of the seat map. The store
+/// was opened without accounts. What the group changed is let go.
 pub(crate) fn restarted_from<K: CentreStore + Drop>(
     alloc: Global,
     keep: &mut GroupKeep<K>,
+    accounts: Vec<CentreAccount>,
     seat_map: &SeatMap,
 ) -> Result<Centre, StartError>
-    ensures outcome { (rows : RowsOf) → StoreOutcome (λ centre. Represents (restarted rows (seats_in seat_map.now)).core centre) rows rows
+    ensures outcome { (rows : RowsOf) → rows.setup.accounts ≡ accounts.items
+        → StoreOutcome (λ centre. Represents (restarted rows (seats_in seat_map.now)).core centre) (bare rows) (bare rows)
         (K.state (store_of keep.old)) (K.state (store_of keep.new)) result }
     ensures closed { IfClosed (K.state (store_of keep.old)) (K.state (store_of keep.new)) (OnOk result ⊥) }
     ensures held { held_in keep.new ≡ no_changes }
     ensures before { WasHonest (K.state (store_of keep.old)) (K.state (store_of keep.new)) }
 {
-    let rows = keep.gather()?;
-    recovered_at(alloc, rows, seat_map)
+    match keep.gather() {
+        Ok(rows) => recovered_at(alloc, with_accounts_of(rows, accounts), seat_map),
+        Err(error) => {
+            drop(accounts);
+            Err(StartError::Store(error))
+        }
+    }
 }

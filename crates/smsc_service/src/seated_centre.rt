@@ -9,7 +9,7 @@ ghost use Rattle.sms_centre_spec.specs.forgetting.Forget.{forget, going_now};
 ghost use Rattle.sms_centre_spec.specs.SoundCore.{HasNumber, IsEvent};
 ghost use Rattle.sms_centre_spec.specs.declared.event.CentreEvent.{CentreEvent as CentreEventOf};
 ghost use Rattle.sms_centre_spec.specs.declared.rows.Rows.{Rows as RowsOf};
-ghost use Rattle.smsc_service.specs.declared.asking.SeatRequest.TheVariants.{Event, Forget};
+ghost use Rattle.smsc_service.specs.declared.asking.SeatRequest.TheVariants.{Enrol, Event, Forget};
 ghost use Rattle.smsc_service.specs.Asking.{IfEvent, IfForget, UnlessEvent, answer_of};
 ghost use Rattle.smsc_service.specs.Seats.{seats_in};
 ghost use Rattle.sms_keeper.specs.declared.machine.Fate.TheVariants.{Done, NoMemory, Refused};
@@ -20,6 +20,7 @@ ghost use Rattle.smsc_service.specs.InSeated.{IfMade, IsHonest, MakingOutcome, R
 use crate::asking::SeatRequest;
 use crate::machine::CentreMachine;
 use crate::made::Made;
+use crate::new_account::NewAccount;
 use crate::seat_map::SeatMap;
 use crate::short::answered;
 use crate::step_error::StepError;
@@ -196,6 +197,28 @@ impl<K: CentreStore + Drop> SeatedCentre<K> {
         }
     }
 
+    // The account comes. Nothing changes where there is no memory for it, or where it is late.
+    fn enrol(&mut self, stimulus: &Stimulus<Job>, account: &NewAccount<'_>, is_late: bool) -> Made
+        ensures late { is_late ≡ true → self.new ≡ self.old }
+        ensures before { IsHonest K.state self.new → IsHonest K.state self.old }
+        ensures refused { result.fate ≡ Refused → RefusedRead self.old self.new }
+        ensures gives { (s : Serving) (base : RowsOf)
+            → MakingOutcome K.state base self.old self.new (Enrol account.now) s stimulus.now result.fate result.outs }
+        ensures told { result.told ≡ None }
+    {
+        if is_late {
+            return unmade(Fate::NoMemory, stimulus);
+        }
+        match self.machine.centre.enrol(account.get()) {
+            Ok(()) => Made {
+                fate: Fate::Done,
+                outs: Outs::none(),
+                told: None,
+            },
+            Err(_) => unmade(Fate::NoMemory, stimulus),
+        }
+    }
+
     // What is asked is done. Where it is late, nothing changes.
     fn serve<A: Archive>(
         &mut self,
@@ -224,6 +247,7 @@ impl<K: CentreStore + Drop> SeatedCentre<K> {
             SeatRequest::Forget { before, from, most } => {
                 self.forget(stimulus, archive, *before, *from, *most, is_late)
             }
+            SeatRequest::Enrol(account) => self.enrol(stimulus, account, is_late),
         }
     }
 

@@ -1,7 +1,9 @@
 //! The centre as the machine of a hub.
-ghost use Rattle.std.specs.Prelude.{◌≡◌, IfOk, OnOk};
+ghost use Rattle.std.specs.Prelude.{◌≡◌, IfOk, OnOk, take};
 ghost use Rattle.sms_rows.specs.keep.StoreOutcome.{IfHeld, WasHonest};
 ghost use Rattle.sms_centre_spec.specs.declared.rows.Rows.{Rows as RowsOf};
+ghost use Rattle.sms_centre.specs.Enrolling.{accounts_of};
+ghost use Rattle.smsc_service.specs.Accounts.{bare};
 ghost use Rattle.smsc_service.specs.Seats.{nobody, seats_in};
 ghost use Rattle.smsc_service.specs.Stepping.{OneRefused};
 ghost use Rattle.smsc_service.specs.Serving.{Serving, restarted};
@@ -28,6 +30,7 @@ use sms_centre::{Archive, Centre};
 use sms_centre_group::GroupKeep;
 use sms_centre_spec::bodies::CentreStore;
 use sms_centre_spec::jobs::{Job, Reply};
+use sms_intake::CentreAccount;
 use sms_keeper::{Broken, Errand, Gate, Machine, Outs, Step, Stimulus, Unsettled};
 use std::alloc::{AllocError, Global};
 use std::sync::Arc;
@@ -38,6 +41,8 @@ pub struct Service<K: CentreStore + Drop, A: Archive + Drop> {
     pub(crate) seated: SeatedCentre<K>,
     // Who sits where if the group is refused.
     pub(crate) resumed: SeatMap,
+    // How many of the centre's accounts there are if the group is refused: those that came in it are let go then.
+    pub(crate) accounts: usize,
     // The rows could not be read when they were last to be.
     pub(crate) is_broken: bool,
     // Whether it is to be put down how links are, once the group is committed.
@@ -65,6 +70,16 @@ fn empty_maps(alloc: Global) -> Result<(SeatMap, SeatMap), AllocError>
     }
 }
 
+// The first so many accounts of the centre.
+fn first_accounts(centre: &Centre, count: usize) -> Result<Vec<CentreAccount>, StartError>
+    ensures { IfOk result (λ first. first.items ≡ take count (accounts_of centre.now)) }
+{
+    match centre.first_accounts(count) {
+        Ok(first) => Ok(first),
+        Err(_) => Err(StartError::NoMemory),
+    }
+}
+
 impl<K: CentreStore + Drop, A: Archive + Drop> Service<K, A> {
     fn of(
         alloc: Global,
@@ -72,6 +87,7 @@ impl<K: CentreStore + Drop, A: Archive + Drop> Service<K, A> {
         centre: Centre,
         seat_map: SeatMap,
         resumed: SeatMap,
+        accounts: usize,
         board: Option<Arc<LinkBoard>>,
         cutoff: Arc<Cutoff>,
         errands: Errands<A>,
@@ -80,6 +96,7 @@ impl<K: CentreStore + Drop, A: Archive + Drop> Service<K, A> {
         ensures centre { result.seated.machine.centre ≡ centre }
         ensures seat_map { result.seated.seat_map ≡ seat_map }
         ensures resumed { result.resumed ≡ resumed }
+        ensures accounts { result.accounts ≡ accounts }
     {
         Service {
             seated: SeatedCentre {
@@ -88,6 +105,7 @@ impl<K: CentreStore + Drop, A: Archive + Drop> Service<K, A> {
                 seat_map,
             },
             resumed,
+            accounts,
             is_broken: false,
             shows: false,
             board,
@@ -96,29 +114,31 @@ impl<K: CentreStore + Drop, A: Archive + Drop> Service<K, A> {
         }
     }
 
-    /// The service that starts with the rows of a keep, with nobody at any seat. Where there is a board, it puts on it how links are. Behind
-    /// the cutoff it begins nothing. It does the errands whenever there is one.
+    /// The service that starts with the rows of a keep and these accounts, with nobody at any seat. The keep was opened without accounts.
+    /// Where there is a board, it puts on it how links are. Behind the cutoff it begins nothing. It does the errands whenever there is one.
     ///
     /// # Errors
     /// The store gave no rows, or they are not sound, or a growth was refused.
     pub fn start(
         alloc: Global,
         keep: K,
+        accounts: Vec<CentreAccount>,
         board: Option<Arc<LinkBoard>>,
         cutoff: Arc<Cutoff>,
         errands: Errands<A>,
     ) -> Result<Service<K, A>, StartError>
-        ensures served { IfOk result (λ service. (rows : RowsOf)
-            → IfHeld rows (K.state keep) (K.state (store_in service)) (IsServedBy K.state service (restarted rows nobody))) }
+        ensures served { IfOk result (λ service. (rows : RowsOf) → rows.setup.accounts ≡ accounts.items
+            → IfHeld (bare rows) (K.state keep) (K.state (store_in service)) (IsServedBy K.state service (restarted rows nobody))) }
         ensures before { IfOk result (λ service. WasHonest (K.state keep) (K.state (store_in service))) }
     {
+        let count = accounts.len();
         let Ok((seat_map, resumed)) = empty_maps(alloc) else {
             return Err(StartError::NoMemory);
         };
         let mut group = GroupKeep::over(alloc, keep);
-        let centre = restarted_from(alloc, &mut group, &seat_map)?;
+        let centre = restarted_from(alloc, &mut group, accounts, &seat_map)?;
         Ok(Service::of(
-            alloc, group, centre, seat_map, resumed, board, cutoff, errands,
+            alloc, group, centre, seat_map, resumed, count, board, cutoff, errands,
         ))
     }
 
@@ -173,7 +193,7 @@ impl<K: CentreStore + Drop, A: Archive + Drop> Service<K, A> {
         }
     }
 
-    // The centre starts again with the rows of the store. What its group changed is let go.
+    // The centre starts again with the rows of the store. What its group changed is let go, and the accounts that came in it.
     fn restart(&mut self) -> Result<(), StartError>
         ensures served { (r : Serving) → IfAwaited K.state r self.old self.new (OnOk result (IsServedBy K.state self.new r)) }
         ensures resumed { self.new.resumed ≡ self.old.resumed }
@@ -181,7 +201,9 @@ impl<K: CentreStore + Drop, A: Archive + Drop> Service<K, A> {
         ensures before { HasHonestStore K.state self.new → HasHonestStore K.state self.old }
     {
         let seated = &mut self.seated;
-        let centre = restarted_from(seated.alloc, &mut seated.machine.keep, &self.resumed)?;
+        let accounts = first_accounts(&seated.machine.centre, self.accounts)?;
+        let keep = &mut seated.machine.keep;
+        let centre = restarted_from(seated.alloc, keep, accounts, &self.resumed)?;
         put(&mut seated.machine.centre, centre);
         seated.seat_map.copy_from(&self.resumed);
         Ok(())
@@ -232,6 +254,7 @@ impl<K: CentreStore + Drop, A: Archive + Drop> Machine<Job, Reply> for Service<K
         match self.seated.machine.flush(gate) {
             Ok(()) => {
                 self.resumed.copy_from(&self.seated.seat_map);
+                self.accounts = self.seated.machine.centre.account_count();
                 self.publish();
                 self.shows = false;
                 self.errands.tell(true);

@@ -19,7 +19,10 @@ fn refusal_for(centre: &Centre, asked: &SeatRequest<'_>) -> Option<CommandStatus
 {
     match asked {
         SeatRequest::Event(event) => refusal_of(centre, event),
-        SeatRequest::Nothing | SeatRequest::Taken | SeatRequest::Forget { .. } => None,
+        SeatRequest::Nothing
+        | SeatRequest::Taken
+        | SeatRequest::Forget { .. }
+        | SeatRequest::Enrol(_) => None,
     }
 }
 

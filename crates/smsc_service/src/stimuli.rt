@@ -35,7 +35,7 @@ pub(crate) fn asked_by<'a>(seat_map: &SeatMap, stimulus: &'a Stimulus<Job>) -> S
             }
         }
         Stimulus::Tick(now) => SeatRequest::Event(CentreEvent::Tick(*now)),
-        Stimulus::Own(errand) => errand_asks(*errand),
+        Stimulus::Own(errand) => errand_asks(errand),
     }
 }
 
@@ -181,5 +181,6 @@ pub(crate) fn refused_with_group(seat_map: &mut SeatMap, stimulus: &Stimulus<Job
         SeatRequest::Nothing => vacancy_at(seat_map, stimulus),
         SeatRequest::Taken => taken_at(stimulus),
         SeatRequest::Forget { .. } => failed_at(stimulus),
+        SeatRequest::Enrol(_) => failed_at(stimulus),
     }
 }

@@ -62,9 +62,8 @@ fn add_accounts(
 
 fn add_file(host: &HostRuntime, path: &str, book: &mut RunAccounts) -> Result<(), RunFault> {
     let file = read_file(host, path)?;
-    add_accounts(host.alloc(), path, file.as_str(), book)?;
-    book.file = Some(file);
-    Ok(())
+    book.has_file = true;
+    add_accounts(host.alloc(), path, file.as_str(), book)
 }
 
 /// Who may connect to the run: those accounts of its words, then those of its file, and links by their secrets.

@@ -102,7 +102,7 @@ fn put_order(orders: &Orders, command: Command) -> bool {
 // What is told to whoever ordered something of a message.
 fn told_of(outcome: OrderOutcome) -> &'static [u8] {
     match outcome {
-        OrderOutcome::Waits | OrderOutcome::Deleted => DONE,
+        OrderOutcome::Waits | OrderOutcome::Deleted | OrderOutcome::Enrolled => DONE,
         OrderOutcome::Ended(FinalState::Delivered) => b"smscd: the message was delivered\n",
         OrderOutcome::Ended(FinalState::Expired) => b"smscd: the message has expired\n",
         OrderOutcome::Ended(FinalState::Deleted) => b"smscd: the message was deleted\n",
@@ -126,18 +126,17 @@ fn reload_text(alloc: Global, path: &str, fault: &RunFault) -> Result<String, Al
     )
 }
 
-// Reads the accounts' file again, and says how that went.
-fn reload<R: Wait + Clock>(
-    rt: &R,
-    orders: &Orders,
+// Says how the accounts' file was taken over.
+fn say_reloaded(
     alloc: Global,
-    reloader: &Reloader,
+    path: &str,
+    ended: Result<(), RunFault>,
     stream: &mut UnixStream,
 ) -> bool {
-    let Err(fault) = reloader.reload(rt, orders) else {
+    let Err(fault) = ended else {
         return stream.write_all(DONE).is_ok();
     };
-    match reload_text(alloc, reloader.path(), &fault) {
+    match reload_text(alloc, path, &fault) {
         Ok(text) => stream.write_all(text.as_str().as_bytes()).is_ok(),
         Err(_) => stream.write_all(b"smscd: out of memory\n").is_ok(),
     }
@@ -166,6 +165,17 @@ fn is_later(error: &io::Error) -> bool {
     )
 }
 
+// How far it is that the accounts' file is read again.
+#[derive(Clone, Copy, PartialEq, Eq)]
+enum Reloading {
+    // Nobody ordered it.
+    Nobody,
+    // It waits until another one is done.
+    Waits,
+    // The file was read, and is being taken over.
+    Runs,
+}
+
 // Who is connected.
 #[derive(Drop)]
 struct Client {
@@ -180,6 +190,8 @@ struct Client {
     order: Option<Command>,
     // The centre has its order, and it waits for the outcome.
     is_ordering: bool,
+    // It ordered that the accounts' file is read again.
+    reloading: Reloading,
 }
 
 // What was heard of somebody.
@@ -202,6 +214,7 @@ impl Client {
             is_waiting: false,
             order: None,
             is_ordering: false,
+            reloading: Reloading::Nobody,
         })
     }
 
@@ -238,7 +251,7 @@ impl Client {
         host: &HostRuntime,
         rt: &R,
         orders: &Orders,
-        reloader: &Option<Reloader>,
+        reloader: &mut Option<Reloader>,
     ) -> bool {
         let command = self.command();
         if is_of_message(command) {
@@ -247,10 +260,40 @@ impl Client {
         }
         match reloader {
             Some(reloader) if command == Some(Command::Reload) => {
-                let _ = reload(rt, orders, host.alloc(), reloader, &mut self.stream);
-                false
+                self.reloading = Reloading::Waits;
+                self.pursue_reload(host, rt, orders, reloader)
             }
             _ => self.do_command(host, orders, command),
+        }
+    }
+
+    // Reads the accounts' file once no other such order is under way. It stays until that is taken over, as accounts may have to come first.
+    fn pursue_reload<R: Wait + Clock>(
+        &mut self,
+        host: &HostRuntime,
+        rt: &R,
+        orders: &Orders,
+        reloader: &mut Reloader,
+    ) -> bool {
+        let ended = match self.reloading {
+            Reloading::Runs => reloader.pursue(rt, orders),
+            Reloading::Waits if reloader.is_busy() => None,
+            Reloading::Waits | Reloading::Nobody => self.begin_reload(reloader),
+        };
+        match ended {
+            Some(ended) => {
+                let _ = say_reloaded(host.alloc(), reloader.path(), ended, &mut self.stream);
+                false
+            }
+            None => true,
+        }
+    }
+
+    fn begin_reload(&mut self, reloader: &mut Reloader) -> Option<Result<(), RunFault>> {
+        self.reloading = Reloading::Runs;
+        match reloader.begin() {
+            Ok(()) => None,
+            Err(fault) => Some(Err(fault)),
         }
     }
 
@@ -295,10 +338,16 @@ impl Client {
         host: &HostRuntime,
         rt: &R,
         orders: &Orders,
-        reloader: &Option<Reloader>,
+        reloader: &mut Option<Reloader>,
     ) -> bool {
         if self.is_ordering || self.order.is_some() {
             return self.pursue(orders);
+        }
+        if self.reloading != Reloading::Nobody {
+            return match reloader {
+                Some(reloader) => self.pursue_reload(host, rt, orders, reloader),
+                None => false,
+            };
         }
         match self.hear() {
             Heard::Left => false,
@@ -460,7 +509,7 @@ impl Control {
         }
         if let Some(client) = self.clients[place].take() {
             let mut client = client;
-            if client.attend(&self.host, rt, &self.orders, &self.reloader) {
+            if client.attend(&self.host, rt, &self.orders, &mut self.reloader) {
                 put(&mut self.clients[place], Some(client));
             }
         }

@@ -3,8 +3,8 @@ use crate::account_book::book_of;
 use crate::control::Control;
 use crate::forgetting::{LoggedArchive, forget_old, forgetting_of};
 use crate::ports::{listen, ports_of};
-use crate::reloading::{Reloader, first_of};
-use crate::setup::{RunAccounts, setup_of};
+use crate::reloading::Reloader;
+use crate::setup::{KnownAccount, MOST_ACCOUNTS, RunAccounts, setup_of};
 use crate::status::{self, About, Pages};
 use crate::watchers::{Watchers, log_alone, log_and_page};
 use crate::watching::{FileWatch, Guard};
@@ -15,6 +15,7 @@ use sms_keeper::Gate;
 use sms_store_files::{LogFinding, LogJudgement};
 use smsc_cli::words::{AccountWords, LogDetail, ServerRun};
 use smsc_endpoint::LinkAccess;
+use smsc_operation::account_names::AccountNames;
 use smsc_operation::feed::Source;
 use smsc_operation::logging::{self, Log, LogThread};
 use smsc_operation::moments::{now, text_of};
@@ -28,7 +29,7 @@ use smsc_server::{
     AccountBook, Allowance, Allowances, Clocks, Given, ObservedKeep, Orders, Ports, RunClock,
     ServeFault, serve,
 };
-use smsc_service::{CentreStore, Forgetting, LinkBoard, Setup};
+use smsc_service::{CentreAccount, CentreStore, Forgetting, LinkBoard, Setup};
 use smsc_status::MessageFigures;
 use std::alloc::{AllocError, Global};
 use std::io;
@@ -72,7 +73,7 @@ pub fn run_words<R: Threads + Wait + Clock + Copy + Send + Sync + 'static>(
 fn start_log<R: Threads + Wait + Clock + Copy + Send + Sync + 'static>(
     host: HostRuntime,
     rt: R,
-    names: &Arc<Vec<String>>,
+    names: &Arc<AccountNames>,
 ) -> Result<(Arc<Log<R>>, LogThread), RunFault> {
     let names = Arc::try_clone(names)?;
     logging::start(host, rt, names)
@@ -92,22 +93,26 @@ fn serve_book<R: Threads + Wait + Clock + Copy + Send + Sync + 'static>(
         access,
         limits,
         allowed,
-        file,
+        known,
         of_words,
+        has_file,
     } = book;
+    let names = AccountNames::new(host.alloc(), names, MOST_ACCOUNTS)?;
+    let names = Arc::new(host.alloc(), names)?;
     let limits = limits_of(
         host,
         run,
         logins,
         limits.as_slice(),
         allowed.as_slice(),
-        file,
+        known,
         of_words,
+        has_file,
+        &names,
     )?;
-    let setup = setup_of(run, start, accounts);
-    let names = Arc::new(host.alloc(), names)?;
+    let setup = setup_of(host.alloc(), run, start);
     let (log, thread) = start_log(host, rt, &names)?;
-    let ended = match parts_of(host.alloc(), access, limits, names, &log) {
+    let ended = match parts_of(host.alloc(), access, accounts, limits, names, &log) {
         Ok(parts) => serve_store(host, rt, run, parts, setup),
         Err(_) => Err(RunFault::NoMemory),
     };
@@ -128,22 +133,48 @@ struct Limits {
     reloader: Option<Reloader>,
 }
 
+// With so many places as there may be accounts, of which the last are for those that come.
+fn all_places<T: Copy + Drop>(alloc: Global, first: &[T], rest: T) -> Result<Vec<T>, AllocError> {
+    let mut all = Vec::new(alloc);
+    all.extend_from_slice(first)?;
+    for _ in first.len()..MOST_ACCOUNTS {
+        all.push(rest)?;
+    }
+    Ok(all)
+}
+
+// An account that has not come has no session.
+fn allowances_of(
+    alloc: Global,
+    limits: &[u8],
+    allowed: &[Allowance],
+) -> Result<Allowances, AllocError> {
+    let limits = all_places(alloc, limits, 0)?;
+    let none = Allowance {
+        is_suspended: false,
+        rate: None,
+    };
+    let allowed = all_places(alloc, allowed, none)?;
+    Allowances::new(alloc, limits.as_slice(), allowed.as_slice())
+}
+
 fn limits_of(
     host: HostRuntime,
     run: &ServerRun<'_>,
     logins: Vec<Login>,
     limits: &[u8],
     allowed: &[Allowance],
-    file: Option<String>,
+    known: Vec<KnownAccount>,
     of_words: usize,
+    has_file: bool,
+    names: &Arc<AccountNames>,
 ) -> Result<Limits, AllocError> {
     let alloc = host.alloc();
-    let allowances = Allowances::new(alloc, limits, allowed)?;
+    let allowances = allowances_of(alloc, limits, allowed)?;
     let allowances = Arc::new(alloc, allowances)?;
-    let of_words = first_of(alloc, logins.as_slice(), of_words)?;
-    let book = AccountBook::new(alloc, logins, file.is_some())?;
+    let book = AccountBook::new(alloc, logins, has_file)?;
     let book = Arc::new(alloc, book)?;
-    let reloader = Reloader::of(host, run, file, of_words, &allowances, &book)?;
+    let reloader = Reloader::of(host, run, known, of_words, &allowances, &book, names)?;
     Ok(Limits {
         book,
         allowances,
@@ -155,8 +186,10 @@ fn limits_of(
 #[derive(Drop)]
 struct RunParts<R: Wait> {
     access: LinkAccess,
+    // Whose messages the centre takes.
+    accounts: Vec<CentreAccount>,
     limits: Limits,
-    names: Arc<Vec<String>>,
+    names: Arc<AccountNames>,
     log: Arc<Log<R>>,
     orders: Arc<Orders>,
 }
@@ -169,14 +202,16 @@ fn orders(alloc: Global) -> Result<Arc<Orders>, AllocError> {
 fn parts_of<R: Wait>(
     alloc: Global,
     access: LinkAccess,
+    accounts: Vec<CentreAccount>,
     limits: Limits,
-    names: Arc<Vec<String>>,
+    names: Arc<AccountNames>,
     log: &Arc<Log<R>>,
 ) -> Result<RunParts<R>, AllocError> {
     let orders = orders(alloc)?;
     let log = Arc::try_clone(log)?;
     Ok(RunParts {
         access,
+        accounts,
         limits,
         names,
         log,
@@ -190,12 +225,13 @@ struct StatusPart {
     port: u16,
     source: Source,
     links: Arc<LinkBoard>,
-    names: Arc<Vec<String>>,
+    names: Arc<AccountNames>,
 }
 
-// What the threads beside the server are to have.
+// What the centre and the threads beside the server are to have.
 #[derive(Drop)]
 struct Beside {
+    accounts: Vec<CentreAccount>,
     status: Option<StatusPart>,
     reloader: Option<Reloader>,
 }
@@ -206,7 +242,7 @@ fn watchers_of<R: Wait + Copy>(
     alloc: Global,
     run: &ServerRun<'_>,
     log: Arc<Log<R>>,
-    names: Arc<Vec<String>>,
+    names: Arc<AccountNames>,
     board: Arc<LinkBoard>,
     guard: Arc<Guard>,
 ) -> Result<(Watchers<R>, Option<StatusPart>), AllocError> {
@@ -246,6 +282,7 @@ fn given_of<R: Wait + Copy>(
     let alloc = host.alloc();
     let RunParts {
         access,
+        accounts,
         limits,
         names,
         log,
@@ -271,7 +308,11 @@ fn given_of<R: Wait + Copy>(
             sessions: run.sessions,
             allowances,
         },
-        Beside { status, reloader },
+        Beside {
+            accounts,
+            status,
+            reloader,
+        },
     ))
 }
 
@@ -530,13 +571,14 @@ fn serve_open<R: Threads + Wait + Clock + Copy + Send + Sync + 'static, K: Centr
     alloc: Global,
     given: &Given<Watchers<R>>,
     keep: K,
+    accounts: Vec<CentreAccount>,
     forgetting: Forgetting<LoggedArchive<R>>,
     ports: Ports<TcpListener>,
     clock: &RunClock<R>,
 ) -> Result<K, ServeFault> {
     let keep = observed(keep, given);
     let (doors, keep, archive) = serve(
-        rt, alloc, keep, forgetting, &OpenGate, clock, ports, given,
+        rt, alloc, keep, accounts, forgetting, &OpenGate, clock, ports, given,
     )?;
     drop(doors);
     archive.end();
@@ -557,8 +599,14 @@ fn serve_ports<R: Threads + Wait + Clock + Copy + Send + Sync + 'static, K: Cent
     let watchers = &*given.observer;
     let forgetting = forgetting_of(&host, rt, watchers, run, clock.start, summary.newest)?;
     let mut helpers = Helpers::new(host.alloc())?;
-    helpers.start_all(host, rt, run, given, beside, summary, clock.start)?;
-    let ended = serve_open(rt, host.alloc(), given, keep, forgetting, ports, clock);
+    let Beside {
+        accounts,
+        status,
+        reloader,
+    } = beside;
+    helpers.start_all(host, rt, run, given, status, reloader, summary, clock.start)?;
+    let alloc = host.alloc();
+    let ended = serve_open(rt, alloc, given, keep, accounts, forgetting, ports, clock);
     end_run(&rt, helpers, &*given.observer, ended)
 }
 
@@ -644,7 +692,7 @@ fn digits_of(alloc: Global, address: &Address) -> Result<String, AllocError> {
 fn about_of(
     alloc: Global,
     run: &ServerRun<'_>,
-    names: Arc<Vec<String>>,
+    names: Arc<AccountNames>,
     links: Arc<LinkBoard>,
     paths: &StorePaths,
     summary: &Summary,
@@ -799,12 +847,12 @@ impl Helpers {
         rt: R,
         run: &ServerRun<'_>,
         given: &Given<Watchers<R>>,
-        beside: Beside,
+        status: Option<StatusPart>,
+        reloader: Option<Reloader>,
         summary: &Summary,
         start: Moment,
     ) -> Result<(), RunFault> {
         let guard = &given.observer.guard;
-        let Beside { status, reloader } = beside;
         self.start_status(host, rt, run, status, &guard.paths, summary, start)?;
         self.start(host, &rt, run, guard, &given.orders, reloader)?;
         say_listening(host.alloc(), run, &*given.observer.log)?;

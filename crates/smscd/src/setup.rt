@@ -10,8 +10,8 @@ use smsc_service::{AllowedSource, CentreAccount, Setup};
 use std::alloc::{AllocError, Global};
 use toml::Value;
 
-// How many accounts there may be.
-const MOST_ACCOUNTS: usize = 32;
+/// How many accounts there may be.
+pub const MOST_ACCOUNTS: usize = 32;
 
 /// Who may connect to a run, as each part of it wants it.
 #[derive(Drop)]
@@ -28,9 +28,22 @@ pub struct RunAccounts {
     pub limits: Vec<u8>,
     /// What else each may do, which a run takes over anew as it goes on.
     pub allowed: Vec<Allowance>,
-    /// The text of their file, and how many are of words.
-    pub file: Option<String>,
+    /// What a run knows of each, by which it compares the file that it reads again.
+    pub known: Vec<KnownAccount>,
+    /// How many are of words, and whether there is a file of others.
     pub of_words: usize,
+    pub has_file: bool,
+}
+
+/// An account as a run knows it.
+#[derive(Drop)]
+pub struct KnownAccount {
+    /// As the centre has it.
+    pub account: CentreAccount,
+    /// How it bound first.
+    pub login: Login,
+    pub sessions: u8,
+    pub rate: Option<u32>,
 }
 
 fn password_of(alloc: Global, words: PasswordWords<'_>) -> Result<Password, AllocError> {
@@ -76,7 +89,8 @@ fn source_in(words: SourceWords<'_>) -> Option<AllowedSource> {
     }
 }
 
-fn source_at(value: &Value) -> Option<AllowedSource> {
+/// The source that the value spells.
+pub fn source_at(value: &Value) -> Option<AllowedSource> {
     source_in(source_of(value.as_str()?)?)
 }
 
@@ -101,6 +115,28 @@ fn account_of(alloc: Global, account: &TableAccount<'_>) -> Result<CentreAccount
     })
 }
 
+/// The account, in memory of its own.
+pub fn copy_of_account(
+    alloc: Global,
+    account: &CentreAccount,
+) -> Result<CentreAccount, AllocError> {
+    Ok(CentreAccount {
+        name: Octets::copy_of(alloc, account.name.as_slice())?,
+        address: account.address,
+        sources: Listed::from_vec(Vec::from_slice(alloc, account.sources.as_slice())?),
+    })
+}
+
+/// The account, as a run knows it from now on.
+pub fn known_of(alloc: Global, account: &TableAccount<'_>) -> Result<KnownAccount, AllocError> {
+    Ok(KnownAccount {
+        account: account_of(alloc, account)?,
+        login: login_of(alloc, account)?,
+        sessions: account.sessions,
+        rate: account.rate,
+    })
+}
+
 /// What the account may do, which a run takes over anew as it goes on.
 pub fn allowance_of(account: &TableAccount<'_>) -> Allowance {
     Allowance {
@@ -119,8 +155,9 @@ impl RunAccounts {
             access,
             limits: Vec::new(alloc),
             allowed: Vec::new(alloc),
-            file: None,
+            known: Vec::new(alloc),
             of_words: 0,
+            has_file: false,
         }
     }
 
@@ -142,6 +179,7 @@ impl RunAccounts {
         self.accounts.push(account_of(alloc, account)?)?;
         self.limits.push(account.sessions)?;
         self.allowed.push(allowance_of(account))?;
+        self.known.push(known_of(alloc, account)?)?;
         Ok(true)
     }
 
@@ -160,12 +198,12 @@ impl RunAccounts {
     }
 }
 
-/// The setup of the centre when it starts.
-pub fn setup_of(run: &ServerRun<'_>, start: Moment, accounts: Vec<CentreAccount>) -> Setup {
+/// The setup with which a store is opened: it has no accounts.
+pub fn setup_of(alloc: Global, run: &ServerRun<'_>, start: Moment) -> Setup {
     Setup {
         centre: run.centre,
         start,
         first: 1,
-        accounts: Listed::from_vec(accounts),
+        accounts: Listed::new(alloc),
     }
 }

@@ -9,6 +9,7 @@ use smsc_cli::words::VERSION;
 use smsc_observer::{
     AccountCounts, Client, Event, Heard, Pending, Refusals, SeatTable, WaitingHandset,
 };
+use smsc_operation::account_names::AccountNames;
 use smsc_operation::feed::{Source, is_of_messages};
 use smsc_operation::lines::{cause_word, line_of, number_text, refusal_word};
 use smsc_operation::moments::{now, text_of};
@@ -57,7 +58,7 @@ pub struct About {
     pub messages: MessageFigures,
     pub paths: StorePaths,
     /// The names of the accounts, by their places.
-    pub names: Arc<Vec<String>>,
+    pub names: Arc<AccountNames>,
     pub links: Arc<LinkBoard>,
 }
 
@@ -268,11 +269,11 @@ fn shown_oldest(oldest: &Option<Oldest>) -> Option<PendingMessage<'_>> {
 // ---- what was refused
 
 // The name of the account at this place; no characters for none.
-fn name_of(alloc: Global, names: &[String], account: Option<u8>) -> Result<String, AllocError> {
+fn name_of(alloc: Global, names: &AccountNames, account: Option<u8>) -> Result<String, AllocError> {
     let mut text = String::new(alloc);
     if let Some(place) = account {
-        if let Some(name) = names.get(usize::from(place)) {
-            text.push_str(name.as_str())?;
+        if let Some(name) = names.at(usize::from(place)) {
+            text.push_str(name)?;
         }
     }
     Ok(text)
@@ -280,7 +281,7 @@ fn name_of(alloc: Global, names: &[String], account: Option<u8>) -> Result<Strin
 
 fn put_accounts(
     alloc: Global,
-    names: &[String],
+    names: &AccountNames,
     accounts: &[AccountCounts],
     lines: &mut Vec<AccountLine>,
 ) -> Result<(), AllocError> {
@@ -296,7 +297,7 @@ fn put_accounts(
 
 fn put_submits(
     alloc: Global,
-    names: &[String],
+    names: &AccountNames,
     refusals: &[Refusals],
     lines: &mut Vec<RefusedSubmits>,
 ) -> Result<(), AllocError> {
@@ -359,7 +360,7 @@ impl<R: Wait + Clock> Pages<R> {
 
     fn text_of_event(&self, event: &Event, moment: Moment) -> Result<Option<String>, AllocError> {
         let alloc = self.host.alloc();
-        match line_of(alloc, self.about.names.as_slice(), event)? {
+        match line_of(alloc, &*self.about.names, event)? {
             Some(line) => Ok(Some(timed(alloc, moment, line.text.as_str())?)),
             None => Ok(None),
         }
@@ -491,11 +492,18 @@ impl<R: Wait + Clock> Pages<R> {
 // ---- clients
 
 impl<R: Wait + Clock> Pages<R> {
+    fn sessions(&self) -> Result<Vec<SessionLine>, AllocError> {
+        let alloc = self.host.alloc();
+        let names = self.about.names.all(alloc)?;
+        let counters = &*self.source.counters;
+        let sessions = self.table.sessions(alloc, names.as_slice(), counters);
+        drop(names);
+        sessions
+    }
+
     fn put_seats(&self, lists: &mut Lists) -> Result<(), AllocError> {
         let alloc = self.host.alloc();
-        let names = self.about.names.as_slice();
-        let sessions = self.table.sessions(alloc, names, &*self.source.counters)?;
-        put(&mut lists.sessions, sessions);
+        put(&mut lists.sessions, self.sessions()?);
         let mut links = link_lines(alloc, &self.table, &self.about.links)?;
         // Those for whom most waits come first.
         links.sort_by_key(|link| u64::MAX - link.waiting)?;
@@ -517,7 +525,7 @@ impl<R: Wait + Clock> Pages<R> {
 
     fn put_lists(&self, lists: &mut Lists) -> Result<(), AllocError> {
         let alloc = self.host.alloc();
-        let names = self.about.names.as_slice();
+        let names = &*self.about.names;
         let counters = &*self.source.counters;
         self.put_seats(lists)?;
         self.put_pending(lists)?;

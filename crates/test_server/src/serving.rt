@@ -6,8 +6,11 @@
 //! answers. So has each where the machine refuses from one of its groups on and can't be opened again. A full queue loses
 //! no job, and a connection at a used seat gets nothing of the one before. A ring of a seat's bell is noticed, whether its
 //! thread waits by then or not.
-//! The clock of a run goes on from the time of day, or from the newest moment of the rows.
+//! The clock of a run goes on from the time of day, or from the newest moment of the rows. A list of accounts takes the place of another only
+//! where it begins with its names.
 
+#[cfg(test)]
+mod account_books;
 #[cfg(test)]
 mod answering;
 #[cfg(test)]

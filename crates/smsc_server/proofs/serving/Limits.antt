@@ -4,7 +4,7 @@ use Rattle.std.proofs.lemmas.Bool.{ltb-true}
 use Rattle.std.proofs.lemmas.Bool.Decides.{eqb_tells}
 use Rattle.std.proofs.lemmas.List.{length-set, length-replicate}
 use Rattle.smpp_session.specs.Logins.{is_full}
-use Rattle.smsc_server.specs.serving.SessionLimits.{AreWithin, count_of, full_where, has_room, is_of, limit_of}
+use Rattle.smsc_server.specs.serving.SessionLimits.{AreWithin, count_of, full_where, has_room, is_of, limit_of, rises}
 
 abbrev one_if : Bool → ℕ
 one_if true = 1
@@ -64,6 +64,20 @@ one_within limits seats seat account within room other = by_test (eqb account ot
       let none : one_if (eqb account other) ≡ 0 = ap one_if e in
       let was = within other in
       omega (arith, few, none, was)
+
+-- an account may have more
+limit_rises : (limits : List ℕ) (place most account : ℕ) → rises place most limits ≡ true → limit_of account limits ≤ limit_of account (set limits place most)
+limit_rises [] place most account e = omega arith
+limit_rises (l ∷ ls) zero most zero e = let less : l < most = ltb-true l most e in omega (arith, less)
+limit_rises (l ∷ ls) zero most (suc account) e = omega arith
+limit_rises (l ∷ ls) (suc place) most zero e = omega arith
+limit_rises (l ∷ ls) (suc place) most (suc account) e = limit_rises ls place most account e
+
+pub raised_within : (limits : List ℕ) (seats : List (Option ℕ)) (place most : ℕ) → rises place most limits ≡ true → AreWithin limits seats → AreWithin (set limits place most) seats
+raised_within limits seats place most e within account =
+    let up = limit_rises limits place most account e in
+    let was = within account in
+    omega (arith, up, was)
 
 -- nobody is bound at first
 none_count : (account n : ℕ) → count_of account (replicate n None) ≡ 0

@@ -32,7 +32,7 @@ use Rattle.sms_centre_spec.specs.jobs.Requests.{is_request}
 use Rattle.sms_keeper.specs.declared.machine.Fate.{Fate}
 use Rattle.sms_keeper.specs.declared.machine.Fate.TheVariants.{Done, NoMemory, Refused}
 use Rattle.sms_keeper.specs.declared.machine.Errand.{Errand}
-use Rattle.sms_keeper.specs.declared.machine.Errand.TheVariants.{Forget as ForgetErrand, Retry, Delete}
+use Rattle.sms_keeper.specs.declared.machine.Errand.TheVariants.{Forget as ForgetErrand, Retry, Delete, Enrol as EnrolErrand}
 use Rattle.sms_keeper.specs.declared.machine.Stimulus.{Stimulus}
 use Rattle.sms_keeper.specs.declared.machine.Stimulus.TheVariants.{Job as JobOf, Tick, Own}
 use Rattle.sms_keeper.specs.declared.outs.Out.{Out}
@@ -40,7 +40,7 @@ use Rattle.sms_keeper.specs.History.{outs_to}
 use Rattle.sms_receipt.specs.declared.final_message.Final.{Final}
 use Rattle.smsc_loop.specs.Owing.{answers_in, asks_nothing}
 use Rattle.smsc_service.specs.declared.asking.SeatRequest.{SeatRequest}
-use Rattle.smsc_service.specs.declared.asking.SeatRequest.TheVariants.{Event, Nothing, Taken, Forget}
+use Rattle.smsc_service.specs.declared.asking.SeatRequest.TheVariants.{Event, Nothing, Taken, Forget, Enrol}
 use Rattle.smsc_service.specs.declared.seat_map.LinkSeat.{LinkSeat}
 use Rattle.smsc_service.specs.Asking.{asked, asked_by, link_for, of_handset, question, read_as, submission, withdrawal}
 use Rattle.smsc_service.specs.Numbers.{is_number}
@@ -171,6 +171,7 @@ Suits c job (Event event) = (is_some (happened event c).answer ≡ is_request jo
 Suits c job Nothing = Unit {0}
 Suits c job Taken = is_request job ≡ false
 Suits c job (Forget before from most) = ⊥
+Suits c job (Enrol account) = ⊥
 
 submits : (c : Core) (account : ℕ) (pdu : List ℕ) (body : Body) → Suits c (Submit account pdu) (submission account body)
 submits c account pdu (BindReceiver x) = tt
@@ -302,6 +303,9 @@ module _ (n seat : ℕ) (job : Job) where
   one_asked s Done (Forget before from most) h = absurd h
   one_asked s NoMemory (Forget before from most) h = absurd h
   one_asked s Refused (Forget before from most) h = absurd h
+  one_asked s Done (Enrol account) h = absurd h
+  one_asked s NoMemory (Enrol account) h = absurd h
+  one_asked s Refused (Enrol account) h = absurd h
 
   one_of : (s : Serving) (fate : Fate) (b : Bool)
       → answers_to n (outs_for (if b then asked s.seats seat job else Nothing) fate s (JobOf seat job)) ≡ one_if (n == seat) (is_request job)
@@ -342,6 +346,9 @@ one_given s n (Own (Retry id)) Refused = refl
 one_given s n (Own (Delete id)) Done = own_given s n (Delete id) (OrderedOf DeleteOf id)
 one_given s n (Own (Delete id)) NoMemory = refl
 one_given s n (Own (Delete id)) Refused = refl
+one_given s n (Own (EnrolErrand account)) Done = refl
+one_given s n (Own (EnrolErrand account)) NoMemory = refl
+one_given s n (Own (EnrolErrand account)) Refused = refl
 
 -- ---- what asks nothing
 

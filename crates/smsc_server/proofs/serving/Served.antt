@@ -10,6 +10,8 @@ use Rattle.sms_keeper.specs.declared.machine.Item.{Item}
 use Rattle.sms_keeper.specs.History.{IsHistory, answers_in, jobs_of}
 use Rattle.smsc_service.specs.declared.service.Service.{Service}
 use Rattle.smsc_service.specs.Course.{after as course_after, begun, gives as course_gives}
+use Rattle.sms_intake.specs.declared.submission.CentreAccount.{CentreAccount}
+use Rattle.smsc_service.specs.Accounts.{bare}
 use Rattle.smsc_service.specs.InService.{HasHonestStore, IsRunAs, IsServedBy, archive_in, store_in}
 use Rattle.smsc_service.specs.Seats.{nobody}
 use Rattle.smsc_service.specs.Serving.{Serving, after, gives, restarted}
@@ -42,21 +44,21 @@ module _ {L S : Type 0} (remaining contents : S → Option (List ℕ)) (admitted
       )
 
   -- One history of a service that was lent is one history from the rows of its keep on.
-  pub served : {K A : Type 0} (state : K → KeepState Rows) (keeps : A → MessageRow → ℕ → Type 0) (keep : K) (lent left : Service K A) (doors_then : Doors L)
-      → ((rows : Rows) → IfHeld rows (state keep) (state (store_in lent)) (IsServedBy state lent (restarted rows nobody)))
+  pub served : {K A : Type 0} (state : K → KeepState Rows) (keeps : A → MessageRow → ℕ → Type 0) (keep : K) (accounts : List CentreAccount) (lent left : Service K A) (doors_then : Doors L)
+      → ((rows : Rows) → rows.setup.accounts ≡ accounts → IfHeld (bare rows) (state keep) (state (store_in lent)) (IsServedBy state lent (restarted rows nobody)))
       → WasHonest (state keep) (state (store_in lent))
       → IsOneHistory remaining contents admitted reads came doors doors_then course_gives course_after (HasHonestStore state left) (IsRunAs state keeps lent) (IsRunAs state keeps left)
       → WasHonest (state (store_in lent)) (state (store_in left))
-      → IsServed remaining contents admitted reads came doors doors_then state keeps keep (store_in left) (archive_in left)
-  served state keeps keep lent left doors_then begins so history before = (
+      → IsServed remaining contents admitted reads came doors doors_then state keeps keep accounts (store_in left) (archive_in left)
+  served state keeps keep accounts lent left doors_then begins so history before = (
     (λ is. so (before is)),
     history.0,
     history.1,
     history.2,
     history.3,
-    λ rows is held.
+    λ rows are is held.
         let first = begun (restarted rows nobody) in
-        let led = history.4 is first (record { standing = begins rows (before is) held; archived = λ m none. absurd none; left = λ m none. absurd none }) in
+        let led = history.4 is first (record { standing = begins rows are (before is) held; archived = λ m none. absurd none; left = λ m none. absurd none }) in
         let run = is_history history.1 first led.0 led.1.0 in (
           led.0.serving,
           (
@@ -69,24 +71,24 @@ module _ {L S : Type 0} (remaining contents : S → Option (List ℕ)) (admitted
   )
 
   -- So of a run that ended in order: the work is done on the service that is lent, and leaves the service in which the rows end.
-  pub served_if : {K A F : Type 0} (state : K → KeepState Rows) (keeps : A → MessageRow → ℕ → Type 0) (keep : K) (lent shown left : Service K A) (ended : Result (Doors L) F)
-      → ((rows : Rows) → IfHeld rows (state keep) (state (store_in lent)) (IsServedBy state lent (restarted rows nobody)))
+  pub served_if : {K A F : Type 0} (state : K → KeepState Rows) (keeps : A → MessageRow → ℕ → Type 0) (keep : K) (accounts : List CentreAccount) (lent shown left : Service K A) (ended : Result (Doors L) F)
+      → ((rows : Rows) → rows.setup.accounts ≡ accounts → IfHeld (bare rows) (state keep) (state (store_in lent)) (IsServedBy state lent (restarted rows nobody)))
       → WasHonest (state keep) (state (store_in lent))
       → shown ≡ lent
       → IfOk ended (λ doors_then. IsOneHistory remaining contents admitted reads came doors doors_then course_gives course_after (HasHonestStore state left) (IsRunAs state keeps shown) (IsRunAs state keeps left))
       → WasHonest (state (store_in shown)) (state (store_in left))
-      → IfOk ended (λ doors_then. IsServed remaining contents admitted reads came doors doors_then state keeps keep (store_in left) (archive_in left))
-  served_if {K} {A} state keeps keep lent shown left (Ok doors_then) begins so shows history before =
+      → IfOk ended (λ doors_then. IsServed remaining contents admitted reads came doors doors_then state keeps keep accounts (store_in left) (archive_in left))
+  served_if {K} {A} state keeps keep accounts lent shown left (Ok doors_then) begins so shows history before =
       let begun : HasHonestStore state shown → HasHonestStore state lent = subst (λ (s : Service K A). HasHonestStore state s) shows in
-      served state keeps keep shown left doors_then
-      (λ rows is held. subst (λ (s : Service K A). IsServedBy state s (restarted rows nobody)) (sym shows) (begins rows (begun is) held))
+      served state keeps keep accounts shown left doors_then
+      (λ rows are is held. subst (λ (s : Service K A). IsServedBy state s (restarted rows nobody)) (sym shows) (begins rows are (begun is) held))
       (λ is. so (begun is)) history before
-  served_if state keeps keep lent shown left (Err fault) begins so shows history before = tt
+  served_if state keeps keep accounts lent shown left (Err fault) begins so shows history before = tt
 
   -- So with the keep and the archive that are given back.
-  pub served_by : {K A F : Type 0} (state : K → KeepState Rows) (keeps : A → MessageRow → ℕ → Type 0) (keep kept : K) (archive : A) (lent shown left : Service K A)
+  pub served_by : {K A F : Type 0} (state : K → KeepState Rows) (keeps : A → MessageRow → ℕ → Type 0) (keep kept : K) (accounts : List CentreAccount) (archive : A) (lent shown left : Service K A)
       (ended : Result (Doors L) F) (given : Result (Doors L × K × A) F)
-      → ((rows : Rows) → IfHeld rows (state keep) (state (store_in lent)) (IsServedBy state lent (restarted rows nobody)))
+      → ((rows : Rows) → rows.setup.accounts ≡ accounts → IfHeld (bare rows) (state keep) (state (store_in lent)) (IsServedBy state lent (restarted rows nobody)))
       → WasHonest (state keep) (state (store_in lent))
       → shown ≡ lent
       → IfOk ended (λ doors_then. IsOneHistory remaining contents admitted reads came doors doors_then course_gives course_after (HasHonestStore state left) (IsRunAs state keeps shown) (IsRunAs state keeps left))
@@ -94,10 +96,10 @@ module _ {L S : Type 0} (remaining contents : S → Option (List ℕ)) (admitted
       → kept ≡ store_in left
       → archive ≡ archive_in left
       → IfOk given (λ r. (ended ≡ Ok r.0) × (r.1 ≡ kept) × (r.2 ≡ archive))
-      → IfOk given (λ r. IsServed remaining contents admitted reads came doors r.0 state keeps keep r.1 r.2)
-  served_by {K} {A} {F} state keeps keep kept archive lent shown left ended (Ok r) begins so shows history before held had gives =
-      subst (λ (a : A). IsServed remaining contents admitted reads came doors r.0 state keeps keep r.1 a) (sym (gives.2 ∙ had))
-      (subst (λ (k : K). IsServed remaining contents admitted reads came doors r.0 state keeps keep k (archive_in left)) (sym (gives.1 ∙ held))
-      (subst (λ (e : Result (Doors L) F). IfOk e (λ doors_then. IsServed remaining contents admitted reads came doors doors_then state keeps keep (store_in left) (archive_in left))) gives.0
-      (served_if state keeps keep lent shown left ended begins so shows history before)))
-  served_by state keeps keep kept archive lent shown left ended (Err fault) begins so shows history before held had gives = tt
+      → IfOk given (λ r. IsServed remaining contents admitted reads came doors r.0 state keeps keep accounts r.1 r.2)
+  served_by {K} {A} {F} state keeps keep kept accounts archive lent shown left ended (Ok r) begins so shows history before held had gives =
+      subst (λ (a : A). IsServed remaining contents admitted reads came doors r.0 state keeps keep accounts r.1 a) (sym (gives.2 ∙ had))
+      (subst (λ (k : K). IsServed remaining contents admitted reads came doors r.0 state keeps keep accounts k (archive_in left)) (sym (gives.1 ∙ held))
+      (subst (λ (e : Result (Doors L) F). IfOk e (λ doors_then. IsServed remaining contents admitted reads came doors doors_then state keeps keep accounts (store_in left) (archive_in left))) gives.0
+      (served_if state keeps keep accounts lent shown left ended begins so shows history before)))
+  served_by state keeps keep kept accounts archive lent shown left ended (Err fault) begins so shows history before held had gives = tt

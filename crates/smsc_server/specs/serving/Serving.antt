@@ -19,6 +19,8 @@ use Rattle.smsc_service.specs.Serving.{Serving, after, gives, restarted}
 use Rattle.smsc_arrivals.specs.Sharing.{of}
 use Rattle.smsc_arrivals.specs.declared.arrival.Arrival.{Arrival}
 use Rattle.smsc_arrivals.specs.declared.doors.Doors.{Doors}
+use Rattle.sms_intake.specs.declared.submission.CentreAccount.{CentreAccount}
+use Rattle.smsc_service.specs.Accounts.{bare}
 use Rattle.smsc_server.specs.RunReads.{HaveRead}
 use Rattle.smsc_server.specs.Forgotten.{IsSoOfGone}
 use Rattle.smsc_server.specs.serving.Connections.{Admitted}
@@ -53,15 +55,15 @@ module _ {S : Type 0} (remaining contents : S → Option (List ℕ)) (admitted :
         (arrivals : List (ℕ × Arrival S)) × (items : List (Item Job Reply)) × Came came doors doors_then arrivals × WereRun arrivals items
         × (honest → Leads gives after before items behind)
 
-    -- What connections asked was run. As long as the store is honest it is one history of the centre's definition on its rows, from nobody at
-    -- any seat on, and the keep that is given back holds the rows of its end. Each connection had its own of that history. The archive that is
-    -- given back keeps each message that went, with the number of its parts.
-    abbrev pub IsServed : {K A : Type 0} → (K → KeepState Rows) → (A → MessageRow → ℕ → Type 0) → K → K → A → Type 0
-    IsServed state keeps keep kept archive =
+    -- What connections asked was run. As long as the store is honest it is one history of the centre's definition on its rows with the accounts of
+    -- the run, from nobody at any seat on, and the keep that is given back holds the rows of its end. A keep has no accounts. Each connection had its
+    -- own of that history. The archive that is given back keeps each message that went, with the number of its parts.
+    abbrev pub IsServed : {K A : Type 0} → (K → KeepState Rows) → (A → MessageRow → ℕ → Type 0) → K → List CentreAccount → K → A → Type 0
+    IsServed state keeps keep accounts kept archive =
         WasHonest (state keep) (state kept) × (arrivals : List (ℕ × Arrival S)) × (items : List (Item Job Reply))
         × Came came doors doors_then arrivals × (run : WereRun arrivals items)
-        × ((rows : Rows) → IfHeld rows (state keep) (state kept)
-        ((end : Serving) × (IsHistory gives after (restarted rows nobody) items end × (state kept).holds end.core.rows
+        × ((rows : Rows) → rows.setup.accounts ≡ accounts → IfHeld (bare rows) (state keep) (state kept)
+        ((end : Serving) × (IsHistory gives after (restarted rows nobody) items end × (state kept).holds (bare end.core.rows)
         × HaveTheirOwn (restarted rows nobody) arrivals items run × IsSoOfGone (keeps archive) (restarted rows nobody) items)))
 
 -- why there was no answer

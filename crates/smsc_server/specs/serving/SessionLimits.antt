@@ -20,6 +20,18 @@ or_seats (Some limit) = limit
 abbrev pub limit_of : ℕ → List ℕ → ℕ
 limit_of account limits = or_seats (slice_get limits account)
 
+-- an account may have more sessions than before
+abbrev pub is_fewer : ℕ → Option ℕ → Bool
+is_fewer most None = false
+is_fewer most (Some limit) = nat_lt limit most
+
+abbrev pub rises : ℕ → ℕ → List ℕ → Bool
+rises place most limits = is_fewer most (slice_get limits place)
+
+-- which places there are stays
+abbrev pub raised : ℕ → ℕ → List ℕ → List ℕ
+raised place most limits = if rises place most limits then slice_set limits place most else limits
+
 -- no account has more sessions than it may have
 abbrev pub AreWithin : List ℕ → List (Option ℕ) → Type 0
 AreWithin limits seats = (account : ℕ) → count_of account seats ≤ limit_of account limits

@@ -1,13 +1,13 @@
 //! The accounts of a run.
 //!
 //! A run begins with a list of accounts. Where it may be renewed, another one takes its place as the run goes on. That has the same names at the
-//! same places, and perhaps other passwords. A connection that came before binds by the list from before.
+//! same places, perhaps with other passwords, and perhaps further names behind them. A connection that came before binds by the list from before.
 mod named_list;
 
 ghost use Rattle.std.specs.Prelude.{◌≡◌, ◌&&◌, true, IfOk};
 ghost use Rattle.std.specs.Arc.{arc_value};
 ghost use Rattle.smsc_server.specs.serving.AccountBooks.{MayAdmit};
-ghost use Rattle.smsc_server.specs.serving.AccountNames.{names_of, same_names};
+ghost use Rattle.smsc_server.specs.serving.AccountNames.{begin_with, names_of};
 
 use named_list::NamedList;
 use smpp_session::{Account, Accounts};
@@ -50,14 +50,14 @@ impl AccountBook {
         })
     }
 
-    /// The accounts take the place of those that are in force. False where none may, or where they have other names.
+    /// The accounts take the place of those that are in force. False where none may, or where they do not begin with the names of the first list.
     pub fn renew<R: Wait>(
         &self,
         rt: &R,
         alloc: Global,
         accounts: Vec<Account>,
     ) -> Result<bool, AllocError>
-        ensures { IfOk result (λ renewed. renewed ≡ (self.now.is_renewed && same_names (names_of accounts.items) (names_of self.now.first))) }
+        ensures { IfOk result (λ renewed. renewed ≡ (self.now.is_renewed && begin_with (names_of accounts.items) (names_of self.now.first))) }
     {
         let list = NamedList::of(alloc, accounts)?;
         let is_taken = self.takes(&list);
@@ -67,9 +67,9 @@ impl AccountBook {
 
     // Whether the list may take the place of the one that is in force.
     fn takes(&self, list: &NamedList) -> bool
-        ensures { result ≡ (self.now.is_renewed && same_names (names_of (arc_value list.now.accounts)) (names_of self.now.first)) }
+        ensures { result ≡ (self.now.is_renewed && begin_with (names_of (arc_value list.now.accounts)) (names_of self.now.first)) }
     {
-        self.is_renewed && list.has_names_of(&self.first)
+        self.is_renewed && list.begins_with(&self.first)
     }
 
     fn put_if<R: Wait>(&self, rt: &R, is_taken: bool, list: NamedList) {
@@ -94,11 +94,11 @@ impl AccountBook {
     // The last list that took the place of the first, or the first.
     #[tactic(auto, using(crate::proofs::serving::SameNames::same_as_itself))]
     fn newest<R: Wait>(&self, rt: &R) -> Result<Arc<Accounts>, AllocError>
-        ensures { IfOk result (λ accounts. same_names (names_of (arc_value accounts)) (names_of self.now.first) ≡ true) }
+        ensures { IfOk result (λ accounts. begin_with (names_of (arc_value accounts)) (names_of self.now.first) ≡ true) }
     {
         let newest = self.newest.lock(rt);
         match &*newest {
-            Some(list) if list.has_names_of(&self.first) => list.share(),
+            Some(list) if list.begins_with(&self.first) => list.share(),
             _ => self.first.share(),
         }
     }

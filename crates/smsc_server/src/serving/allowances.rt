@@ -115,17 +115,32 @@ impl Allowances {
         })
     }
 
-    /// From now on the accounts may do this. The sessions of those that are suspended are sent unbind. False where the run takes
-    /// no orders: it has not begun, or is about to end.
-    pub fn change<R: Wait + Clock>(&self, rt: &R, orders: &Orders, allowed: &[Allowance]) -> bool {
+    /// From now on the accounts may do this, and have so many sessions at once, where those are more than before. The sessions of those that
+    /// are suspended are sent unbind. False where the run takes no orders: it has not begun, or is about to end.
+    pub fn change<R: Wait + Clock>(
+        &self,
+        rt: &R,
+        orders: &Orders,
+        limits: &[u8],
+        allowed: &[Allowance],
+    ) -> bool {
         // Nobody is about to bind meanwhile.
         if !self.turnstile.take_soon(rt) {
             return false;
         }
         self.rates.change(rt, allowed);
+        self.raise(rt, limits);
         self.suspend(rt, orders, suspended_in(allowed));
         self.turnstile.put(rt);
         true
+    }
+
+    // The accounts may have so many sessions.
+    fn raise<R: Wait>(&self, rt: &R, limits: &[u8]) {
+        let mut bound = self.bound.lock(rt);
+        for place in 0..limits.len() {
+            bound.raise(place, limits[place]);
+        }
     }
 
     // These accounts are suspended, and no others.

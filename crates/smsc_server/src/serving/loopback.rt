@@ -8,7 +8,7 @@ use crate::serving::server::Given;
 use sms_keeper::{Clock, Gate};
 use smsc_arrivals::Doors;
 use smsc_observer::Observer;
-use smsc_service::{CentreStore, Forgetting, NoArchive};
+use smsc_service::{CentreAccount, CentreStore, Forgetting, NoArchive};
 use std::alloc::Global;
 use std::io;
 use std::net::{Ipv4Addr, Net, SocketAddr, TcpListener, TcpStream};
@@ -77,6 +77,7 @@ pub fn loopback_pair<
     rt: R,
     alloc: Global,
     keep: K,
+    accounts: Vec<CentreAccount>,
     gate: &G,
     clock: &C,
     given: &Given<T>,
@@ -94,7 +95,9 @@ pub fn loopback_pair<
                 keep: None,
                 archive: NoArchive,
             };
-            drop_given(serve(rt, alloc, keep, forgetting, gate, clock, ports, given))
+            drop_given(serve(
+                rt, alloc, keep, accounts, forgetting, gate, clock, ports, given,
+            ))
         },
         move || work(loopback),
     );

@@ -3,7 +3,7 @@ ghost use Rattle.std.specs.Prelude.{◌≡◌, ◌<◌, ◌≤◌, ℕ, not, Non
 ghost use Rattle.smpp_session.specs.Logins.{is_full};
 ghost use Rattle.smsc_server.specs.serving.KeptSeats.{may_sit as may_sit_of};
 ghost use Rattle.smsc_server.specs.serving.SessionLimits.{bound_at, bound_where, count_of, full_where, has_room as has_room_of, is_of as is_of_account};
-ghost use Rattle.smsc_server.specs.serving.SessionLimits.{is_suspended_at, limit_of, may_be_bound, may_have_more as may_have_more_of, AreWithin};
+ghost use Rattle.smsc_server.specs.serving.SessionLimits.{is_suspended_at, limit_of, may_be_bound, may_have_more as may_have_more_of, raised, rises as rises_of, AreWithin};
 
 use smpp_session::FullAccounts;
 use smsc_arrivals::PeerKind;
@@ -127,6 +127,38 @@ impl Bound {
         ensures limits { self.new.limits ≡ self.old.limits }
     {
         self.suspended = suspended;
+    }
+
+    // Whether the account at that place may have more sessions by this number.
+    fn rises(&self, place: usize, most: u8) -> bool
+        ensures { result ≡ rises_of place most self.now.limits.items }
+    {
+        match self.limits.get(place) {
+            Some(limit) => *limit < most,
+            None => false,
+        }
+    }
+
+    /// The account at that place may have so many sessions from now on, where those are more than before.
+    pub(crate) fn raise(&mut self, place: usize, most: u8)
+        ensures limits { self.new.limits.items ≡ raised place most self.old.limits.items }
+        ensures accounts { self.new.accounts ≡ self.old.accounts }
+        ensures suspended { self.new.suspended ≡ self.old.suspended }
+    {
+        if self.rises(place, most) {
+            self.set_limit(place, most);
+        }
+    }
+
+    fn set_limit(&mut self, place: usize, most: u8)
+        requires { AreWithin (slice_set self.old.limits.items place most) self.old.accounts.items }
+        ensures limits { self.new.limits.items ≡ slice_set self.old.limits.items place most }
+        ensures accounts { self.new.accounts ≡ self.old.accounts }
+        ensures suspended { self.new.suspended ≡ self.old.suspended }
+    {
+        if let Some(limit) = self.limits.get_mut(place) {
+            *limit = most;
+        }
     }
 
     /// Whether a session of a suspended account is bound at the seat.

@@ -5,7 +5,7 @@ ghost use Rattle.smsc_server.specs.serving.SeatOrders.{order_of};
 use sms_base::MessageId;
 use smsc_loop::Order;
 use smsc_observer::SEATS;
-use smsc_service::{Cutoff, Order as MessageOrder, OrderDesk, OrderOutcome};
+use smsc_service::{CentreAccount, Cutoff, Order as MessageOrder, OrderDesk, OrderOutcome};
 use std::alloc::{AllocError, Global};
 use std::sync::Arc;
 use std::sync::atomic::{AtomicBool, AtomicU8, Ordering};
@@ -46,7 +46,7 @@ pub struct Orders {
     cut: AtomicBool,
     // Behind it the centre begins nothing.
     cutoff: Arc<Cutoff>,
-    // Where orders of messages wait for the centre.
+    // Where orders of messages and accounts that come wait for the centre.
     desk: Arc<OrderDesk>,
 }
 
@@ -90,7 +90,13 @@ impl Orders {
         self.desk.put(order, id)
     }
 
-    /// What came of the order of a message, once it is done.
+    /// Orders that the account is the last of the centre's accounts from now on. False where another order of the centre is not done yet, or
+    /// where no unit can carry the account's address. One thread alone orders such.
+    pub fn enrol(&self, account: CentreAccount) -> bool {
+        self.desk.put_account(account)
+    }
+
+    /// What came of the order of a message, or of an account, once it is done.
     pub fn outcome(&self) -> Option<OrderOutcome> {
         self.desk.outcome()
     }

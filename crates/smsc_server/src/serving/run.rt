@@ -38,7 +38,7 @@ use sms_hub::{Hub, run_terms};
 use sms_keeper::{Clock, Gate, Item, Keeper, Machine, Recorder, Seat};
 use smsc_arrivals::{Door, Doors, Duplicate};
 use smsc_observer::{Event, Observer, SEATS};
-use smsc_service::{Archive, CentreStore, Forgetting, serve_with};
+use smsc_service::{Archive, CentreAccount, CentreStore, Forgetting, serve_with};
 use std::alloc::Global;
 use std::io::{Read, Write};
 use std::net::OpenStream;
@@ -288,8 +288,8 @@ fn with_parts<L: Drop, K: Drop, A: Drop>(
     }
 }
 
-/// Starts a centre with the rows of a keep, and serves the connections of two ports. It ends once as many were served as are given,
-/// or the run is ordered to end. Then it gives the listeners back, the keep and the archive. At most 32 connections are open at once. Those beyond
+/// Starts a centre with the rows of a keep and these accounts, and serves the connections of two ports. The keep was opened without accounts. The
+/// run ends once as many connections were served as are given, or it is ordered to end. Then it gives the listeners back, the keep and the archive. At most 32 connections are open at once. Those beyond
 /// wait unaccepted, and each is accepted as a seat becomes free. As it runs it forgets what it is to forget.
 ///
 /// # Errors
@@ -307,6 +307,7 @@ pub fn serve<
     rt: R,
     alloc: Global,
     keep: K,
+    accounts: Vec<CentreAccount>,
     forgetting: Forgetting<A>,
     gate: &G,
     clock: &C,
@@ -315,18 +316,19 @@ pub fn serve<
 ) -> Result<(Doors<L>, K, A), ServeFault>
 where
     L::Stream: OpenStream + Duplicate + Read + Write + Send + 'static,
-    // What its connections asked was run, and is one history of the centre's definition. It begins with the rows of the keep and nobody
+    // What its connections asked was run, and is one history of the centre's definition. It begins with the rows of the keep, the accounts and nobody
     // at any seat. The connections are those that came at the ports. Each read the centre's answers to its own requests in its own part of that
     // history, and had all replies of that part. The keep that is given back holds the rows of the end. Each message that went is kept by the
     // archive that is given back, with the number of its parts.
     ensures served { IfOk result (λ ended. IsServed L.Stream.remaining L.Stream.contents
         (admits (arc_value given.now.accounts) (arc_value given.now.access)) (C.reads clock.now) L.came (doors_of ports) ended.0 K.state A.keeps keep
-        ended.1 ended.2) }
+        accounts.items ended.1 ended.2) }
 {
     each_connection_reads_the_centres_answers::<L::Stream>();
     let served = serve_with(
         alloc,
         keep,
+        accounts,
         given.links.as_ref(),
         given.orders.cutoff(),
         given.orders.desk(),

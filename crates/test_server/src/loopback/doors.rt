@@ -3,7 +3,7 @@ ghost use Rattle.std.specs.Prelude.{Some};
 
 use crate::clock_and_gate::Open;
 use crate::rows::holds;
-use crate::service::centre::{book, clock, keep};
+use crate::service::centre::{accounts, book, clock, keep};
 use smsc_endpoint::LinkAccess;
 use smsc_observer::{Event, Observer};
 use smsc_server::{Allowances, Door, Doors, Duplicate, Given, Orders, PeerKind, Ports, serve};
@@ -180,6 +180,7 @@ fn run<
         rt,
         alloc,
         keep(alloc)?,
+        accounts(alloc)?,
         forgetting,
         &Open,
         &clock,

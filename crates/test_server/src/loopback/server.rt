@@ -1,6 +1,6 @@
 //! What a run of the server is given in a test.
 use crate::rows::holds;
-use crate::service::centre::{book, clock};
+use crate::service::centre::{accounts, book, clock};
 use sms_base::FinalState;
 use sms_keeper::Gate;
 use smsc_endpoint::LinkAccess;
@@ -134,6 +134,7 @@ pub(crate) fn serves_within<
 {
     let clock = clock()?;
     let run = given(alloc, sessions, limits)?;
-    let (ended, came) = loopback_pair(rt, alloc, store, gate, &clock, &run, come)?;
+    let all = accounts(alloc)?;
+    let (ended, came) = loopback_pair(rt, alloc, store, all, gate, &clock, &run, come)?;
     is_over(&ended, came)
 }

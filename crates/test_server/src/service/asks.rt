@@ -10,9 +10,13 @@ use std::test::Fail;
 pub(crate) enum Request {
     /// The session is bound, and takes receipts.
     Bound,
+    /// So it is as the account app2, which has the second place.
+    BoundSecond,
     Unbound,
     /// The session submits `hello` to the handset.
     Submits,
+    /// So it does as app2.
+    SubmitsSecond,
     /// The session has taken the receipt of message 1.
     Takes,
     /// The link is the handset's.
@@ -40,9 +44,17 @@ pub(crate) fn job(alloc: Global, asked: &Request) -> Result<Job, Fail> {
             account: 0,
             receives: true,
         }),
+        Request::BoundSecond => Ok(Job::Bound {
+            account: 1,
+            receives: true,
+        }),
         Request::Unbound => Ok(Job::Unbound),
         Request::Submits => Ok(Job::Submit {
             account: 0,
+            pdu: Octets::copy_of(alloc, &SUBMIT)?,
+        }),
+        Request::SubmitsSecond => Ok(Job::Submit {
+            account: 1,
             pdu: Octets::copy_of(alloc, &SUBMIT)?,
         }),
         Request::Takes => Ok(Job::DeliverAnswered {

@@ -43,9 +43,10 @@ pub(crate) fn clock() -> Result<Still, Fail> {
     Ok(Still(Moment::from_seconds(START)?))
 }
 
-fn account(alloc: Global) -> Result<CentreAccount, Fail> {
-    let address = Address::new(1, 1, "447700900001")?;
-    let name = Octets::copy_of(alloc, b"app1")?;
+/// The account of that name and number.
+pub(crate) fn account(alloc: Global, name: &str, number: &str) -> Result<CentreAccount, Fail> {
+    let address = Address::new(1, 1, number)?;
+    let name = Octets::copy_of(alloc, name.as_bytes())?;
     Ok(CentreAccount {
         name,
         address,
@@ -53,24 +54,24 @@ fn account(alloc: Global) -> Result<CentreAccount, Fail> {
     })
 }
 
-fn accounts(alloc: Global) -> Result<Listed<CentreAccount>, Fail> {
-    let accounts = vec![in alloc; account(alloc)?]?;
-    Ok(Listed::from_vec(accounts))
+/// The accounts with which a run begins: app1.
+pub(crate) fn accounts(alloc: Global) -> Result<Vec<CentreAccount>, Fail> {
+    let first = account(alloc, "app1", "447700900001")?;
+    Ok(vec![in alloc; first]?)
 }
 
 fn setup(alloc: Global) -> Result<Setup, Fail> {
     let centre = Address::new(1, 1, "447700900999")?;
     let start = Moment::from_seconds(START)?;
-    let accounts = accounts(alloc)?;
     Ok(Setup {
         centre,
         start,
         first: 1,
-        accounts,
+        accounts: Listed::new(alloc),
     })
 }
 
-/// A store of a centre that has no message yet.
+/// A store of a centre that has no message yet. No store has accounts.
 pub(crate) fn keep(alloc: Global) -> Result<MemoryKeep, Fail> {
     Ok(MemoryKeep::new(alloc, setup(alloc)?))
 }

@@ -22,6 +22,13 @@ const DELIVER: &[u8] = &[
     0x00, 0x05, 0xE8, 0x32, 0x9B, 0xFD, 0x06,
 ];
 
+// The same from 447700900002, the number of app2.
+const SECOND_DELIVER: &[u8] = &[
+    0x09, 0x01, 0x24, 0x01, 0x00, 0x07, 0x91, 0x44, 0x77, 0x00, 0x09, 0x90, 0x99, 0x00, 0x18, 0x24,
+    0x0C, 0x91, 0x44, 0x77, 0x00, 0x09, 0x00, 0x20, 0x00, 0x00, 0x42, 0x20, 0x92, 0x32, 0x95, 0x85,
+    0x00, 0x05, 0xE8, 0x32, 0x9B, 0xFD, 0x06,
+];
+
 const DONE: Fate = Fate::Done;
 
 // A session submits; the handset accepts; the receipt goes to the session.
@@ -254,6 +261,83 @@ const GROUP_REFUSED: &[Turn] = &[
     Turn::Tick(1, DONE, &[To(5, ExpectedReply::Frame(DELIVER))]),
 ];
 
+// app2 comes: only from then on it submits, from its number, and its receipt goes to its own session, not to that of app1.
+const ACCOUNT_COMES: &[Turn] = &[
+    Turn::Job(3, Request::Bound, DONE, &[]),
+    Turn::Job(5, Request::Rises, DONE, &[]),
+    Turn::Job(4, Request::BoundSecond, DONE, &[]),
+    Turn::Job(
+        4,
+        Request::SubmitsSecond,
+        DONE,
+        &[To(4, ExpectedReply::Failed)],
+    ),
+    Turn::Comes(&[]),
+    Turn::Job(4, Request::BoundSecond, DONE, &[]),
+    Turn::Job(
+        4,
+        Request::SubmitsSecond,
+        DONE,
+        &[
+            To(4, ExpectedReply::Accepted(1)),
+            To(5, ExpectedReply::Frame(SECOND_DELIVER)),
+        ],
+    ),
+    Turn::Job(5, Request::Sends(CP_ACK), DONE, &[]),
+    Turn::Job(
+        5,
+        Request::Sends(RP_ACK),
+        DONE,
+        &[
+            To(5, ExpectedReply::Frame(CP_ACK_DOWN)),
+            To(4, ExpectedReply::Receipt(1)),
+        ],
+    ),
+];
+
+// The commit of the group in which app2 came is refused: app2 goes with it. It comes again, and stays then, though a later commit is refused.
+const ACCOUNT_REFUSED: &[Turn] = &[
+    Turn::Commits(0),
+    Turn::Comes(&[
+        Asked(
+            3,
+            Request::Submits,
+            Fate::Refused,
+            &[To(3, ExpectedReply::Failed)],
+        ),
+        Asked(
+            4,
+            Request::SubmitsSecond,
+            Fate::Refused,
+            &[To(4, ExpectedReply::Failed)],
+        ),
+    ]),
+    Turn::Commits(MANY),
+    Turn::Reopens,
+    Turn::Job(
+        4,
+        Request::SubmitsSecond,
+        DONE,
+        &[To(4, ExpectedReply::Failed)],
+    ),
+    Turn::Comes(&[]),
+    Turn::Commits(0),
+    Turn::Job(
+        4,
+        Request::SubmitsSecond,
+        Fate::Refused,
+        &[To(4, ExpectedReply::Failed)],
+    ),
+    Turn::Commits(MANY),
+    Turn::Reopens,
+    Turn::Job(
+        4,
+        Request::SubmitsSecond,
+        DONE,
+        &[To(4, ExpectedReply::Accepted(1))],
+    ),
+];
+
 const COURSES: &[Course] = &[
     ("a submission has its answer and its receipt", RECEIPT),
     ("a receipt waits for its account", RECEIPT_WAITS),
@@ -273,6 +357,8 @@ const COURSES: &[Course] = &[
         GROUP_REFUSED,
     ),
     ("where it is too late nothing is begun", TOO_LATE),
+    ("an account that comes has its own messages", ACCOUNT_COMES),
+    ("an account goes with its group", ACCOUNT_REFUSED),
 ];
 
 #[test]

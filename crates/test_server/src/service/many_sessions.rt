@@ -1,7 +1,7 @@
 //! Lists of a submit and a query, each by a session in a thread of its own.
 use crate::clock_and_gate::Open;
 use crate::rows::holds;
-use crate::service::centre::{QUERY, SUBMIT, clock, keep};
+use crate::service::centre::{QUERY, SUBMIT, accounts, clock, keep};
 use sms_base::Octets;
 use sms_centre_spec::CentreAnswer;
 use sms_centre_spec::jobs::{Job, Reply};
@@ -219,6 +219,7 @@ fn serves<R: Threads + Wait + Copy + Send + 'static>(
     let (went, store, _) = serve_with(
         alloc,
         store,
+        accounts(alloc)?,
         None,
         &cutoff,
         &desk,

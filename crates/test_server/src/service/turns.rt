@@ -2,11 +2,11 @@
 use crate::clock_and_gate::Open;
 use crate::rows::turn_holds;
 use crate::service::asks::{Request, job, ticks};
-use crate::service::centre::keep;
+use crate::service::centre::{account, accounts, keep};
 use crate::service::store::{Limits, Store};
 use crate::service::telling::{To, is_item};
 use sms_centre_spec::jobs::{Job, Reply};
-use sms_keeper::{Fate, Machine, Step, Stimulus};
+use sms_keeper::{Errand, Fate, Machine, Step, Stimulus};
 use smsc_service::{Cutoff, Forgetting, NoArchive, OrderDesk, Service, serve_with};
 use std::alloc::Global;
 use std::sync::Arc;
@@ -28,6 +28,8 @@ pub(crate) enum Turn {
     Job(usize, Request, Fate, &'static [To]),
     /// What seats ask in one group.
     Group(&'static [Asked]),
+    /// The account app2 comes, and seats ask this in the same group.
+    Comes(&'static [Asked]),
     /// The clock shows so many seconds after the start: what befalls that, and who is told what.
     Tick(u32, Fate, &'static [To]),
     /// The store takes so many commits more.
@@ -68,6 +70,13 @@ fn steps_of(
     Ok(steps)
 }
 
+// The account app2 comes, and nobody hears of it.
+fn comes(alloc: Global, service: &mut Service<Store<'_>, NoArchive>) -> Result<bool, Fail> {
+    let other = account(alloc, "app2", "447700900002")?;
+    let step = service.step(&Stimulus::Own(Errand::Enrol(other)));
+    Ok(step.fate == Fate::Done && step.outs.is_empty() && step.if_refused.is_empty())
+}
+
 // Whether each item of the group is as told, once it is committed or refused.
 fn meets_all(
     alloc: Global,
@@ -98,6 +107,7 @@ fn take_turn(
             Ok(meets(service, Stimulus::Job(*seat, job), *fate, told))
         }
         Turn::Group(group) => meets_all(alloc, service, group),
+        Turn::Comes(group) => Ok(comes(alloc, service)? && meets_all(alloc, service, group)?),
         Turn::Tick(seconds, fate, told) => Ok(meets(service, ticks(*seconds)?, *fate, told)),
         Turn::Commits(count) => {
             limits.commits.set(*count);
@@ -142,6 +152,7 @@ pub(crate) fn plays(alloc: Global, course: &Course) -> Result<(), Fail> {
     let (went, store, _) = serve_with(
         alloc,
         store,
+        accounts(alloc)?,
         None,
         &cutoff,
         &desk,

@@ -1,7 +1,7 @@
 //! Accounts, with their names beside them.
 ghost use Rattle.std.specs.Prelude.{◌≡◌, IfOk};
 ghost use Rattle.std.specs.Arc.{arc_value};
-ghost use Rattle.smsc_server.specs.serving.AccountNames.{names_of, same_names};
+ghost use Rattle.smsc_server.specs.serving.AccountNames.{begin_with, names_of};
 
 use smpp_session::{Account, Accounts};
 use sms_base::Octets;
@@ -26,19 +26,16 @@ fn names_in(alloc: Global, accounts: &[Account]) -> Result<Vec<Octets>, AllocErr
     Ok(names)
 }
 
-// Whether these are the same names in the same order.
-fn are_same(one: &[Octets], other: &[Octets]) -> bool
-    ensures { result ≡ same_names one.now other.now }
+// Whether the first names are the others, in the same order.
+fn begin(names: &[Octets], others: &[Octets]) -> bool
+    ensures { result ≡ begin_with names.now others.now }
 {
-    match one {
-        [] => match other {
-            [] => true,
-            [_, ..] => false,
-        },
-        [first, rest @ ..] => match other {
+    match others {
+        [] => true,
+        [other, other_rest @ ..] => match names {
             [] => false,
-            [other_first, other_rest @ ..] => {
-                first.as_slice() == other_first.as_slice() && are_same(rest, other_rest)
+            [first, rest @ ..] => {
+                first.as_slice() == other.as_slice() && begin(rest, other_rest)
             }
         },
     }
@@ -59,9 +56,9 @@ impl NamedList {
         Ok(Arc::try_clone(&self.accounts)?)
     }
 
-    pub(crate) fn has_names_of(&self, other: &NamedList) -> bool
-        ensures { result ≡ same_names (names_of (arc_value self.now.accounts)) (names_of (arc_value other.now.accounts)) }
+    pub(crate) fn begins_with(&self, other: &NamedList) -> bool
+        ensures { result ≡ begin_with (names_of (arc_value self.now.accounts)) (names_of (arc_value other.now.accounts)) }
     {
-        are_same(self.names.as_slice(), other.names.as_slice())
+        begin(self.names.as_slice(), other.names.as_slice())
     }
 }

@@ -25,6 +25,12 @@ returns-in-Forget-clause-outs c = λ r same. refused_gives _ (seats_in c.args.se
 pub returns-in-Forget-clause-seats : goal.returns-in-Forget-clause-seats
 returns-in-Forget-clause-seats c = λ r same. refused_seats _ (seats_in c.args.seat_map.now) (seats_in c.args.seat_map.now) r c.args.stimulus.now c.in-Forget.ensures.asked same same
 
+pub returns-in-Enrol-clause-outs : goal.returns-in-Enrol-clause-outs
+returns-in-Enrol-clause-outs c = λ r same. refused_gives _ (seats_in c.args.seat_map.now) r c.args.stimulus.now c.failed_at-in-Enrol.result c.in-Enrol.ensures.asked same c.failed_at-in-Enrol.ensures
+
+pub returns-in-Enrol-clause-seats : goal.returns-in-Enrol-clause-seats
+returns-in-Enrol-clause-seats c = λ r same. refused_seats _ (seats_in c.args.seat_map.now) (seats_in c.args.seat_map.now) r c.args.stimulus.now c.in-Enrol.ensures.asked same same
+
 pub returns-in-Nothing-clause-seats : goal.returns-in-Nothing-clause-seats
 returns-in-Nothing-clause-seats c = λ r same. refused_seats _ (seats_in c.args.seat_map.now) (seats_in c.args.seat_map.now) r c.args.stimulus.now c.in-Nothing.ensures.asked same same
 

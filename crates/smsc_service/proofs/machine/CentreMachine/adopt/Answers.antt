@@ -5,6 +5,7 @@ use Rattle.sms_centre_group.specs.HeldRoom.{HasRoomFor}
 use Rattle.sms_centre_spec.specs.Draft.{rows_after}
 use Rattle.sms_centre_spec.specs.declared.rows.Changes.{Changes}
 use Rattle.sms_centre_spec.specs.declared.rows.Rows.{Rows}
+use Rattle.smsc_service.specs.Accounts.{bare}
 use Rattle.smsc_service.proofs.Stepped.{rows_left, rows_then}
 use Rattle.smsc_service.proofs.machine.CentreMachine.adopt.Goals as goal
 
@@ -14,15 +15,15 @@ hold-requires g c = subst (λ (x : Changes). HasRoomFor x c.args.self.now.keep.h
 pub returns-in-Ok-clause-outcome : goal.returns-in-Ok-clause-outcome
 returns-in-Ok-clause-outcome g c = λ event core base is centre_state plan spans. record {
   centre = c.in-Ok.ensures.centre_state event core centre_state is plan;
-  rows = subst (λ (rows : Rows). Spans (g.K.RowStore.state (store_of c.hold.new.self)) (held_in c.hold.new.self) base rows)
-      (ap (λ (x : Changes). rows_after x core.rows) c.in-Ok.ensures.changes ∙ rows_then event core c.args.planned.plan plan) (c.hold.ensures.rows base core.rows spans);
+  rows = subst (λ (rows : Rows). Spans (g.K.RowStore.state (store_of c.hold.new.self)) (held_in c.hold.new.self) base (bare rows))
+      (ap (λ (x : Changes). rows_after x core.rows) c.in-Ok.ensures.changes ∙ rows_then event core c.args.planned.plan plan) (c.hold.ensures.rows base (bare core.rows) spans);
 }
 
 pub returns-in-Ok-clause-forgotten : goal.returns-in-Ok-clause-forgotten
 returns-in-Ok-clause-forgotten g c = λ before from most core base centre_state plan spans. record {
   centre = c.in-Ok.ensures.forgotten before from most core centre_state plan;
-  rows = subst (λ (rows : Rows). Spans (g.K.RowStore.state (store_of c.hold.new.self)) (held_in c.hold.new.self) base rows)
-      (ap (λ (x : Changes). rows_after x core.rows) c.in-Ok.ensures.changes ∙ rows_left before from most core c.args.planned.plan plan) (c.hold.ensures.rows base core.rows spans);
+  rows = subst (λ (rows : Rows). Spans (g.K.RowStore.state (store_of c.hold.new.self)) (held_in c.hold.new.self) base (bare rows))
+      (ap (λ (x : Changes). rows_after x core.rows) c.in-Ok.ensures.changes ∙ rows_left before from most core c.args.planned.plan plan) (c.hold.ensures.rows base (bare core.rows) spans);
 }
 
 pub returns-in-Err-clause-forgotten : goal.returns-in-Err-clause-forgotten

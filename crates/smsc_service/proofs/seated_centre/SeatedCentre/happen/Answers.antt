@@ -1,4 +1,5 @@
 use Rattle.std.proofs.Common.{◌∙◌, ⊎_elim, ap, inl, inr, refl, subst, sym}
+use Rattle.sms_centre.specs.Enrolling.{accounts_of}
 use Rattle.sms_centre.specs.state.CentreState.{Represents, CentreStateOf}
 use Rattle.sms_centre_group.specs.Grouping.{group_state, held_in}
 use Rattle.sms_centre_spec.specs.Draft.{rows_after}
@@ -35,7 +36,7 @@ returns-in-Err-clause-gives g c = λ s base honest sound made.
 pub returns-in-Ok-clause-refused : goal.returns-in-Ok-clause-refused
 returns-in-Ok-clause-refused g c = λ s base honest sound made e.
     let planned = c.in-Ok.ensures.outcome s.core base made.centre sound made.rows.1 (c.reply_and_hold.ensures.before honest) (made.rows.0, refl) in
-    c.reply_and_hold.ensures.refused e ∙ ap one_more planned.1.1
+    let refused = c.reply_and_hold.ensures.refused e in (refused.0 ∙ ap one_more planned.1.1, refused.1 ∙ ap accounts_of c.plan.ensures.same)
 
 pub returns-in-Ok-clause-told : goal.returns-in-Ok-clause-told
 returns-in-Ok-clause-told g c = λ s base honest sound made e.
@@ -48,6 +49,8 @@ returns-in-Err-clause-told g c = λ s base honest sound made e. was_given_up c.i
 pub returns-in-Err-clause-refused : goal.returns-in-Err-clause-refused
 returns-in-Err-clause-refused g c = λ s base honest sound made e.
     let held = held_in c.args.self.now.machine.keep in
-    let group = group_state g.K.RowStore.state c.plan.new.self.keep in
-    was_refused (group.holds (base, held)) group.is_closed c.args.self.now.machine.keep.refusals c.plan.new.self.keep.refusals s c.args.event.now c.in-Err.error c.give_up.result.fate c.give_up.ensures.fate
-    (c.in-Err.ensures.outcome s.core base made.centre sound made.rows.1 honest (made.rows.0, refl)) e
+    let group = group_state g.K.RowStore.state c.plan.new.self.keep in (
+      was_refused (group.holds (base, held)) group.is_closed c.args.self.now.machine.keep.refusals c.plan.new.self.keep.refusals s c.args.event.now c.in-Err.error c.give_up.result.fate c.give_up.ensures.fate
+          (c.in-Err.ensures.outcome s.core base made.centre sound made.rows.1 honest (made.rows.0, refl)) e,
+      ap accounts_of c.plan.ensures.same,
+    )

@@ -24,6 +24,12 @@ returns-in-Forget-clause-gives g c = λ s base honest sound made.
     subst (λ (a : SeatRequest). Serves (Reaches g.K.RowStore.state base seated) (IsLeft g.K.RowStore.state base seated) seated.machine.centre seated.seat_map a s c.args.stimulus.now c.forget.result.fate c.forget.result.outs)
     (sym c.in-Forget.is) (c.forget.ensures.gives s base honest sound made)
 
+pub returns-in-Enrol-clause-gives : goal.returns-in-Enrol-clause-gives
+returns-in-Enrol-clause-gives g c = λ s base honest sound made.
+    let seated = c.enrol.new.self in
+    subst (λ (a : SeatRequest). Serves (Reaches g.K.RowStore.state base seated) (IsLeft g.K.RowStore.state base seated) seated.machine.centre seated.seat_map a s c.args.stimulus.now c.enrol.result.fate c.enrol.result.outs)
+    (sym c.in-Enrol.is) (c.enrol.ensures.gives s base honest sound made)
+
 pub returns-in-Nothing-clause-gives : goal.returns-in-Nothing-clause-gives
 returns-in-Nothing-clause-gives g c = λ s base honest sound made.
     let seated = c.args.self.now in
@@ -46,6 +52,9 @@ returns-in-Event-clause-refused g c = λ s base honest sound made e. c.begin.ens
 pub returns-in-Forget-clause-refused : goal.returns-in-Forget-clause-refused
 returns-in-Forget-clause-refused g c = λ s base honest sound made e. c.forget.ensures.refused e
 
+pub returns-in-Enrol-clause-refused : goal.returns-in-Enrol-clause-refused
+returns-in-Enrol-clause-refused g c = λ s base honest sound made e. c.enrol.ensures.refused e
+
 pub returns-in-Nothing-clause-refused : goal.returns-in-Nothing-clause-refused
 returns-in-Nothing-clause-refused g c = λ s base honest sound made e. was_done _ _ c.unasked.ensures.fate e
 
@@ -57,6 +66,9 @@ returns-in-Event-clause-late g c = λ e. (c.begin.ensures.late e).1
 
 pub returns-in-Forget-clause-late : goal.returns-in-Forget-clause-late
 returns-in-Forget-clause-late g c = λ e. c.forget.ensures.late e
+
+pub returns-in-Enrol-clause-late : goal.returns-in-Enrol-clause-late
+returns-in-Enrol-clause-late g c = λ e. c.enrol.ensures.late e
 
 pub returns-in-Nothing-clause-late : goal.returns-in-Nothing-clause-late
 returns-in-Nothing-clause-late g c = λ e. refl
@@ -72,6 +84,10 @@ pub returns-in-Forget-clause-quiet : goal.returns-in-Forget-clause-quiet
 returns-in-Forget-clause-quiet g c =
     subst (λ (a : SeatRequest). UnlessEvent a ((held_by c.forget.new.self ≡ held_by c.args.self.now) × (c.forget.result.fate ≡ Done))) (sym c.in-Forget.is) tt
 
+pub returns-in-Enrol-clause-quiet : goal.returns-in-Enrol-clause-quiet
+returns-in-Enrol-clause-quiet g c =
+    subst (λ (a : SeatRequest). UnlessEvent a ((held_by c.enrol.new.self ≡ held_by c.args.self.now) × (c.enrol.result.fate ≡ Done))) (sym c.in-Enrol.is) tt
+
 pub returns-in-Nothing-clause-quiet : goal.returns-in-Nothing-clause-quiet
 returns-in-Nothing-clause-quiet g c =
     subst (λ (a : SeatRequest). UnlessEvent a ((held_by c.args.self.now ≡ held_by c.args.self.now) × (c.unasked.result.fate ≡ Done))) (sym c.in-Nothing.is) (refl, c.unasked.ensures.fate)
@@ -83,6 +99,10 @@ returns-in-Taken-clause-quiet g c =
 pub returns-in-Event-clause-told : goal.returns-in-Event-clause-told
 returns-in-Event-clause-told g c = λ s base honest sound made e.
     subst (λ (a : SeatRequest). c.begin.result.told ≡ answer_of a s.core) (sym c.in-Event.is) (c.begin.ensures.told s base honest sound made e)
+
+pub returns-in-Enrol-clause-told : goal.returns-in-Enrol-clause-told
+returns-in-Enrol-clause-told g c = λ s base honest sound made e.
+    subst (λ (a : SeatRequest). c.enrol.result.told ≡ answer_of a s.core) (sym c.in-Enrol.is) c.enrol.ensures.told
 
 pub returns-in-Nothing-clause-told : goal.returns-in-Nothing-clause-told
 returns-in-Nothing-clause-told g c = λ s base honest sound made e.
@@ -99,6 +119,10 @@ returns-in-Forget-clause-told g c = λ s base honest sound made e.
 pub returns-in-Event-clause-archived : goal.returns-in-Event-clause-archived
 returns-in-Event-clause-archived g c = λ s base honest sound made e.
     subst (λ (a : SeatRequest). IfForget (λ before from most. AreArchived (g.A.Archive.keeps c.args.archive.now) (going_now before from most s.core) s.core.rows) a) (sym c.in-Event.is) tt
+
+pub returns-in-Enrol-clause-archived : goal.returns-in-Enrol-clause-archived
+returns-in-Enrol-clause-archived g c = λ s base honest sound made e.
+    subst (λ (a : SeatRequest). IfForget (λ before from most. AreArchived (g.A.Archive.keeps c.args.archive.now) (going_now before from most s.core) s.core.rows) a) (sym c.in-Enrol.is) tt
 
 pub returns-in-Nothing-clause-archived : goal.returns-in-Nothing-clause-archived
 returns-in-Nothing-clause-archived g c = λ s base honest sound made e.

@@ -1,7 +1,9 @@
-use Rattle.std.proofs.Common.{◌∙◌, ap, subst, sym}
+use Rattle.std.proofs.Common.{List, length, ◌∙◌, ap, subst, sym}
 use Rattle.sms_centre.specs.state.CentreState.{Represents, CentreStateOf}
 use Rattle.sms_centre_group.specs.Grouping.{held_in, store_of}
 use Rattle.sms_centre_group.specs.declared.group_keep.GroupKeep.{GroupKeep}
+use Rattle.sms_intake.specs.declared.submission.CentreAccount.{CentreAccount}
+use Rattle.smsc_service.specs.Accounts.{bare}
 use Rattle.smsc_service.specs.declared.seat_map.SeatMap.{SeatMap}
 use Rattle.smsc_service.specs.Seats.{Seats, nobody, seats_in}
 use Rattle.smsc_service.specs.Serving.{restarted}
@@ -9,18 +11,19 @@ use Rattle.smsc_service.proofs.Standing.{stands_on}
 use Rattle.smsc_service.proofs.service.Service.start.Goals as goal
 
 pub returns-clause-served : goal.returns-clause-served
-returns-clause-served g c = λ rows honest holds.
+returns-clause-served g c = λ rows is honest holds.
     let state = g.K.RowStore.state in
     let started = c.in_ok-centre.ensures in
-    let there = started.outcome rows (subst (λ (k : GroupKeep g.row.K.Denot). (state (store_of k)).is_honest) c.of.ensures.keep honest)
-    (subst (λ (k : g.row.K.Denot). (state k).holds rows) (sym c.over-group.ensures.store) holds) in
+    let there = started.outcome rows is (subst (λ (k : GroupKeep g.row.K.Denot). (state (store_of k)).is_honest) c.of.ensures.keep honest)
+    (subst (λ (k : g.row.K.Denot). (state k).holds (bare rows)) (sym c.over-group.ensures.store) holds) in
     stands_on state c.of.result (restarted rows nobody)
     (ap (λ (k : GroupKeep g.row.K.Denot). held_in k) c.of.ensures.keep ∙ started.held)
-    (subst (λ (k : GroupKeep g.row.K.Denot). (state (store_of k)).holds rows) (sym c.of.ensures.keep) there.1)
+    (subst (λ (k : GroupKeep g.row.K.Denot). (state (store_of k)).holds (bare rows)) (sym c.of.ensures.keep) there.1)
     (subst (λ (x : CentreStateOf). Represents (restarted rows nobody).core x) (sym c.of.ensures.centre)
     (subst (λ (q : Seats). Represents (restarted rows q).core c.in_ok-centre.centre) c.in-Ok.ensures.first there.0))
     (ap (λ (m : SeatMap). seats_in m) c.of.ensures.seat_map ∙ c.in-Ok.ensures.first)
     (ap (λ (m : SeatMap). seats_in m) c.of.ensures.resumed ∙ c.in-Ok.ensures.second)
+    (c.of.ensures.accounts ∙ c.len-count.ensures ∙ ap (λ (l : List CentreAccount). length l) (sym is))
 
 pub returns-clause-before : goal.returns-clause-before
 returns-clause-before g c = λ honest. subst (λ (k : g.row.K.Denot). (g.K.RowStore.state k).is_honest) c.over-group.ensures.store

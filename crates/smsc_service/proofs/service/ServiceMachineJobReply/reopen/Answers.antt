@@ -9,10 +9,10 @@ returns-in-Ok-clause-ok g c = λ honest s waiting.
     let has : AreHad (g.A.Archive.keeps c.restart.new.self.errands.archive) s.gone = λ x k.
     subst (λ (a : g.row.A.Denot). g.A.Archive.keeps a x.message x.parts) (sym (c.in-Ok.ensures.archive ∙ c.tell.ensures)) (waiting.1 x k) in
     let there = c.in-Ok.ensures.served s.serving honest waiting.0 in
-    record { standing = record { made = there.made; sound = there.sound; seats = there.seats; again = there.again }; archived = has; left = has }
+    record { standing = record { made = there.made; sound = there.sound; seats = there.seats; again = there.again; accounts = record { come = there.accounts.come; count = there.accounts.count } }; archived = has; left = has }
 
 pub returns-in-Err-clause-fails : goal.returns-in-Err-clause-fails
 returns-in-Err-clause-fails g c = λ honest s waiting.
     let has : AreHad (g.A.Archive.keeps c.restart.new.self.errands.archive) s.gone = λ x k.
     subst (λ (a : g.row.A.Denot). g.A.Archive.keeps a x.message x.parts) (sym (c.in-Err.ensures.archive ∙ c.tell.ensures)) (waiting.1 x k) in
-    (ap (λ (m : SeatMap). seats_in m) c.in-Err.ensures.resumed ∙ waiting.0.seats, has)
+    (ap (λ (m : SeatMap). seats_in m) c.in-Err.ensures.resumed ∙ waiting.0.waiting.seats, has)
