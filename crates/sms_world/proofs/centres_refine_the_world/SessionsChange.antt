@@ -28,6 +28,7 @@ use Rattle.sms_world.specs.centres_refine_the_world.CentreRefinement.{CentreRefi
 use Rattle.sms_world.proofs.centres_refine_the_world.LinksChange.{Both}
 use Rattle.sms_world.proofs.centres_refine_the_world.Offers.{follow_law}
 use Rattle.sms_world.proofs.centres_refine_the_world.Unseen.{report_far_unseen}
+use Rattle.sms_world.proofs.Options.{some_is}
 
 no_status : (k : ReportKind) → is_receipt k ≡ true → is_status k ≡ false
 no_status Receipt e = refl
@@ -80,9 +81,6 @@ among_is n (x ∷ xs) e = which (x == n) (λ t. sym (eqb-true x n t)) (λ t. amo
     which true f g e = inl (f refl)
     which false f g e = inr (g e)
 
-same_report : (r x : ReportRow) → Some r ≡ Some x → r ≡ x
-same_report r x e = cc
-
 pub answered_refines : (b : World) (id : ℕ) (accepted : Bool) (o : Option Session) (d : Draft) (w : World) → ((session : Session) → o ≡ Some session → (n : ℕ) → Among n session.unanswered
     → (r : ReportRow) → report_of n (reports_in d.store) ≡ Some r → is_status r.kind ≡ false)
     → SoundStore d.store → CentreRefines b d w → CentreRefines b (answered_by id accepted o d) w
@@ -102,7 +100,7 @@ pub receipt_there : (c : Core) (session : Session) (number : ℕ) → IsSoundCor
     → (r : ReportRow) → report_of n c.rows.reports ≡ Some r → is_status r.kind ≡ false
 receipt_there c session number sound e n i r q =
     let x : IsReceiptRow c.rows n = (sound.each_session session (found_among session_key number session c.sessions e)).unanswered n i in
-    let same : x.0 ≡ r = same_report x.0 r (sym x.1.0 ∙ q) in
+    let same : x.0 ≡ r = some_is x.0 r (sym x.1.0 ∙ q) in
     ap (λ (z : ReportRow). is_status z.kind) (sym same) ∙ no_status x.0.kind x.1.1
 
 pub answered_event : AnsweredLaw

@@ -97,6 +97,7 @@ use Rattle.sms_play.specs.Premises.{last_holder}
 use Rattle.sms_world.specs.entries_keep_references.ReportedEntries.{AreBelow, EventLaw, EntriesAgree}
 use Rattle.sms_world.proofs.entries_keep_references.RowsGiven.{all_reference, appended, carrying_reported, copies_reported, entries_new, entries_old, entries_removed, last_other, last_over, last_own, memories_over, nothing_more, numbered_reported}
 use Rattle.sms_world.proofs.scripts_are_runs.Growing.{either_part, in_front, in_rest}
+use Rattle.sms_world.proofs.Options.{some_is}
 use Rattle.sms_link.proofs.Known.{begin_is}
 use Rattle.sms_play.specs.PlayState.{Party}
 use Rattle.sms_control.specs.declared.message.Cp.TheVariants.{DataUnit as CpData}
@@ -144,14 +145,11 @@ latest_one : (a b : Option OutEntry) (x : OutEntry) (P : Type 0) → latest a b 
 latest_one a None x P e f g = f e
 latest_one a (Some o) x P e f g = g e
 
-some_entry : (a b : OutEntry) → Some a ≡ Some b → a ≡ b
-some_entry a b e = cc
-
 reported_among : (r : StatusReportOf) (os : List OutEntry) (x : OutEntry) → reported r os ≡ Some x → Among x os
 reported_among r [] x e = absurd cc
 reported_among r (o ∷ os) x e =
     latest_one (cond (is_reported r o) (Some o) None) (reported r os) x (Among x (o ∷ os)) e
-    (cond_both (is_reported r o) (Some o) None (λ (z : Option OutEntry). z ≡ Some x → Among x (o ∷ os)) (λ t q. inl (sym (some_entry o x q))) (λ t q. absurd cc))
+    (cond_both (is_reported r o) (Some o) None (λ (z : Option OutEntry). z ≡ Some x → Among x (o ∷ os)) (λ t q. inl (sym (some_is o x q))) (λ t q. absurd cc))
     (λ q. inr (reported_among r os x q))
 
 -- a reference that no unfinished entry holds is none of theirs
@@ -209,9 +207,6 @@ put_own x os = found_among out_key x.number x (put out_key x os) (row_at_put out
 put_rest : (x y : OutEntry) (os : List OutEntry) → Rises out_key os → Among y os → (x.number ≡ y.number → ⊥) → Among y (put out_key x os)
 put_rest x y os order i ne = found_among out_key y.number y (put out_key x os) (row_at_put_other out_key y.number x os ne ∙ among_found out_key y os order i)
 
-same_entry : (a b : OutEntry) → Some a ≡ Some b → a ≡ b
-same_entry a b e = cc
-
 module _ (h : List ℕ) (base : List OutEntry) (W : OutEntry → Type 0) where
   -- an entry stands another way
   news_put : (o x : OutEntry) (os : List OutEntry) (rows : List GivenRow) → Rises out_key os → row_at out_key o.number os ≡ Some o → IsEntry o x → (W o → W x) → News h base W os rows → News h base W (put out_key x os) rows
@@ -237,7 +232,7 @@ module _ (h : List ℕ) (base : List OutEntry) (W : OutEntry → Type 0) where
         ⊎_elim
         (λ (e : x.number ≡ y.0.number).
         let found : row_at out_key o.number os ≡ Some y.0 = ap (λ (k : ℕ). row_at out_key k os) (sym is.0 ∙ e) ∙ among_found out_key y.0 os order y.1.0 in
-        let own : y.0 ≡ o = same_entry y.0 o (sym found ∙ at) in (
+        let own : y.0 ≡ o = some_is y.0 o (sym found ∙ at) in (
           x,
           (
             put_own x os,

@@ -30,15 +30,13 @@ use Rattle.sms_world.proofs.handset_runs_are_steps.Ending.{no_members}
 use Rattle.sms_world.proofs.handset_runs_are_steps.Grouping.{pair, by_group, closed, entered, here, matches_mark, matches_none, numbers_alike, numbers_more, passing, places_more}
 use Rattle.sms_world.proofs.handset_runs_are_steps.PartsArrive.{arrived_as, single_law}
 use Rattle.sms_world.proofs.handset_runs_are_steps.Taking.{AwaitsAnswer, taken, takes}
+use Rattle.sms_world.proofs.Options.{some_is}
 
 -- ---- the mark of a group is the one of the group among the marks
 
-same_some : (x y : DiscardedGroup) → Some x ≡ Some y → x ≡ y
-same_some x y e = cc
-
 same_mark : (ms : List DiscardedGroup) (x y : DiscardedGroup) → Rises mark_key ms → Among x ms → Among y ms → x.number ≡ y.number → x ≡ y
 same_mark ms x y r i j e =
-    same_some x y (sym (among_found mark_key x ms r i) ∙ ap (λ (z : ℕ). row_at mark_key z ms) e ∙ among_found mark_key y ms r j)
+    some_is x y (sym (among_found mark_key x ms r i) ∙ ap (λ (z : ℕ). row_at mark_key z ms) e ∙ among_found mark_key y ms r j)
 
 pub mark_is : (k : ℕ) (es : List Entry) (ms : List DiscardedGroup) (x : DiscardedGroup) → Discarded k es ms → Among x ms → mark_of x.group ms ≡ Some x
 mark_is k es ms x d i = at (mark_of x.group ms) refl

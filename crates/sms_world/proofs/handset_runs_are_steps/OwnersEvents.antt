@@ -48,6 +48,7 @@ use Rattle.sms_world.proofs.handset_runs_are_steps.Ending.{discarded_as, with_en
 use Rattle.sms_world.proofs.handset_runs_are_steps.Moving.{Begins, begins_then, removes}
 use Rattle.sms_world.proofs.handset_runs_are_steps.Offering.{follow_law}
 use Rattle.sms_world.proofs.handset_runs_are_steps.OutboxRows.{SameEntry, digits_same, same_digits}
+use Rattle.sms_world.proofs.Options.{some_is, none_some}
 
 -- no mark has that number
 abbrev IsApart : ℕ → List DiscardedGroup → Type 0
@@ -94,9 +95,6 @@ removed_back e y (x ∷ xs) i =
     (λ (p : Among y (removed e xs)). let k = removed_back e y xs p in (inr k.0, k.1))
     (subst (λ (z : List OutEntry). Among y z) (cond-false (is_same_handset x.handset e.handset && (x.number == e.number)) (removed e xs) (x ∷ removed e xs) t) i))
     (cases_Bool (is_same_handset x.handset e.handset && (x.number == e.number)))
-
-none_some : (o : OutRow) → None ≡ Some o → ⊥
-none_some o q = absurd cc
 
 out_removed : (h : List ℕ) (next n : ℕ) (outbox : List OutRow) (entries : List OutEntry) (up : List Allocation) (o : OutRow) → row_at out_key n outbox ≡ Some o → RefinesOut h next outbox entries up
     → RefinesOut h next (without out_key n outbox) (removed (entry_seen h o) entries) up
@@ -179,12 +177,9 @@ module _ (m : ℕ) (h : List ℕ) (b : World) (d : Draft) (w : World) (sound : S
       (all_from (λ (y : Entry). ¬ (y.number ≡ n)) (members g d.rows.entries)
       (λ y i q.
       let a = members_among g y d.rows.entries i in
-      let same : y ≡ x = same_entry_row y x (sym (found_row y a.0) ∙ ap (λ (z : ℕ). row_at entry_key z d.rows.entries) q ∙ e) in
+      let same : y ≡ x = some_is y x (sym (found_row y a.0) ∙ ap (λ (z : ℕ). row_at entry_key z d.rows.entries) q ∙ e) in
       both_ways (is_part_of g y.message) (ap (λ (z : Entry). is_part_of g z.message) same ∙ no_part g x.message t) a.1))
     where
-      same_entry_row : (y z : Entry) → Some y ≡ Some z → y ≡ z
-      same_entry_row y z q = cc
-
       found_row : (y : Entry) → Among y d.rows.entries → row_at entry_key y.number d.rows.entries ≡ Some y
       found_row y i = among_found entry_key y d.rows.entries sound.inbox.order i
 

@@ -37,6 +37,7 @@ use Rattle.sms_world.proofs.handset_runs_are_steps.Putting.{accepted_here, taken
 use Rattle.sms_world.proofs.handset_runs_are_steps.Grouping.{pair}
 use Rattle.sms_world.proofs.frames_pass_between_sides.Linking.{Awaits}
 use Rattle.sms_world.proofs.handset_runs_are_steps.Replying.{ack_answers, error_answers, replies}
+use Rattle.sms_world.proofs.Options.{some_is}
 
 -- ---- doubles
 
@@ -44,12 +45,9 @@ pub last_is : (octets : List ℕ) (o : Option LastAccepted) → is_double octets
 last_is octets None e = absurd cc
 last_is octets (Some l) e = ap (λ (z : List ℕ). Some z) (sym ((is_same octets l.tpdu).0 e))
 
-alike : (a b : List ℕ) → Some a ≡ Some b → a ≡ b
-alike a b e = cc
-
 pub last_isn't : (octets : List ℕ) (o : Option LastAccepted) → is_double octets o ≡ false → octets_at o ≡ Some (compared octets) → ⊥
 last_isn't octets None e g = absurd cc
-last_isn't octets (Some l) e g = both_ways (same_message octets l.tpdu) e ((is_same octets l.tpdu).1 (sym (alike (compared l.tpdu) (compared octets) g)))
+last_isn't octets (Some l) e g = both_ways (same_message octets l.tpdu) e ((is_same octets l.tpdu).1 (sym (some_is (compared l.tpdu) (compared octets) g)))
 
 -- ---- the last accepted
 
@@ -62,7 +60,7 @@ last_taken h r octets last accepted refines q o =
     (λ (e : r ≡ q).
     let here : octets_at (row_at last_key q (put_row last_key l last)) ≡ Some (compared octets) =
     ap octets_at (ap (λ (z : ℕ). row_at last_key z (put_row last_key l last)) (sym e) ∙ row_at_put last_key l last) in (
-      (λ g. let x : compared octets ≡ o = alike (compared octets) o (sym here ∙ g) in inl (λ j. record { handset = h; reference = sym e j; tpdu = sym x j })),
+      (λ g. let x : compared octets ≡ o = some_is (compared octets) o (sym here ∙ g) in inl (λ j. record { handset = h; reference = sym e j; tpdu = sym x j })),
       (λ g. ⊎_elim
           (λ (x : p ≡ pair h r octets). here ∙ ap (λ (z : Accepted). Some z.tpdu) (sym x))
           (λ (x : ¬ ((h ≡ h) × (q ≡ r)) × IsLast p accepted). absurd (x.0 (refl, sym e))) g),

@@ -5,7 +5,6 @@ use Rattle.sms_base.specs.Reading.{◌>>=◌}
 use Rattle.sms_base.specs.declared.carried.Carried.{Carried as Carries}
 use Rattle.sms_base.specs.declared.carried.Kind.{Kind}
 use Rattle.sms_base.specs.declared.carried.Kind.TheVariants.{Data, Ack, Error}
-use Rattle.sms_base.specs.declared.holder.Holder.{Holder}
 use Rattle.sms_base.specs.declared.holder.Holder.TheVariants.{Entry}
 use Rattle.sms_handset_rows.specs.outbox.Keys.{out_key}
 use Rattle.sms_handset_rows.specs.outbox.References.{is_unfinished}
@@ -43,6 +42,7 @@ use Rattle.sms_world.proofs.scripts_are_runs.Events.{ok_play}
 use Rattle.sms_world.proofs.scripts_are_runs.Parties.{party_found}
 use Rattle.sms_world.proofs.headline.DecidedTimely.{number_by, number_sent, numbered_there, one_number}
 use Rattle.sms_world.proofs.headline.HeldReferences.{AllPartiesAgree}
+use Rattle.sms_world.proofs.Options.{some_is}
 
 -- an acknowledgement that is handed over, under a reference that an entry holds, is timely
 abbrev pub HandsAnswers : World → Event → Type 0
@@ -56,9 +56,6 @@ is_open Sending u = refl
 is_open WasSent u = absurd u
 is_open Failed u = absurd u
 is_open Unsure u = absurd u
-
-some_holder : (a b : Holder) → Some a ≡ Some b → a ≡ b
-some_holder a b e = cc
 
 same_frame : (u v : Frame) → Carried u ≡ Carried v → u ≡ v
 same_frame u v e = cc
@@ -81,7 +78,7 @@ module _ (c : PlayState) (w : World) (s : PlayRefines c w) (tells : AllPartiesAg
       let name : o.number ≡ e.number = found_key out_key e.number o q.core.rows.outbox row.1.0 in
       let one : x.reference ≡ o.reference = sym reference ∙ sym has.2 ∙ same in
       let holder : x.tag ≡ Entry e.number =
-      some_holder x.tag (Entry o.number) (sym last ∙ (λ j. last_holder None (sym number j) UpRow (one j) c.given) ∙ told) ∙ ap (λ (z : ℕ). Entry z) name in
+      some_is x.tag (Entry o.number) (sym last ∙ (λ j. last_holder None (sym number j) UpRow (one j) c.given) ∙ told) ∙ ap (λ (z : ℕ). Entry z) name in
       (g, (subst (λ (gs : List Allocation). IsLatest g gs) (up_allocations u.line line) (upward.held g e has.0.0 has.0.1 has.0.2 has.0.3 has.0.4), has.1, has.2, has.0.3 ∙ sym holder ∙ sym tag))
 
   abbrev Held : FrameRow → Direction → Carries → Type 0

@@ -13,6 +13,7 @@ use Rattle.sms_script.specs.declared.event.WorldEvent.TheVariants.{Restart, Stop
 use Rattle.sms_tpdu.specs.declared.user_data.UserData.{UserData}
 use Rattle.sms_world.specs.headline.OneRun.{happening_of}
 use Rattle.sms_world.specs.headline.PlainScript.{Does}
+use Rattle.sms_world.proofs.Options.{some_is}
 use Rattle.sms_world_model.proofs.Tables.{entered_back}
 use Rattle.sms_world_model.specs.ScriptRun.{AllControl, AllMayFollow, AllWrite, Asked, Belongs, Cancelled, Event, Follows, Handed, IsControl, IsExpiry, IsInOrder, IsOwn, IsPlayed, MayFollow, Reads, Removed, Restarted, Submitted, Tick_centre, Tick_handset, Wrote, items}
 use Rattle.sms_world_model.specs.Submission.{Submission}
@@ -26,9 +27,6 @@ use Rattle.sms_world_model.specs.References.{Ticket}
 abbrev pub IsDeleted : ℕ → Submission → List Message → Type 0
 IsDeleted id u table = IsRecorded table id u (Final Deleted)
 
-one_message : (x y : Message) → Some x ≡ Some y → x ≡ y
-one_message x y e = cc
-
 deleted_here : (id : ℕ) (e : Message) (z : State) (es rest : List Message) (u : Submission) → (z ≡ Final Deleted → e.state ≡ Final Deleted) → (IsDeleted id u rest → IsDeleted id u es)
     → IsDeleted id u (record { submission = e.submission; state = z } ∷ rest) → IsDeleted id u (e ∷ es)
 deleted_here id e z es rest u only more k =
@@ -36,7 +34,7 @@ deleted_here id e z es rest u only more k =
     let x : Message = record { submission = u; state = Final Deleted } in
     ⊎_elim
     (λ (t : (e.submission.id == id) ≡ true).
-    let same : y ≡ x = one_message y x (sym (cond-true (e.submission.id == id) (Some y) (find id rest) t) ∙ k) in
+    let same : y ≡ x = some_is y x (sym (cond-true (e.submission.id == id) (Some y) (find id rest) t) ∙ k) in
     let state : e.state ≡ Final Deleted = only (ap (λ (m : Message). m.state) same) in
     let submission : e.submission ≡ u = ap (λ (m : Message). m.submission) same in
     let whole : e ≡ x = λ j. record { submission = submission j; state = state j } in

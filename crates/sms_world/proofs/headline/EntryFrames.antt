@@ -24,6 +24,7 @@ use Rattle.sms_link.specs.declared.outgoing.Outgoing.{Outgoing}
 use Rattle.sms_link.specs.LinkTurn.{LinkOf, Turn, carried_in, carrying, fired, from_links, taken}
 use Rattle.sms_world.specs.headline.SeenFrames.{frame_tpdu}
 use Rattle.sms_world.proofs.frames_pass_between_sides.Linking.{ack_read, rejection_read}
+use Rattle.sms_world.proofs.Options.{some_is}
 
 -- CP-DATA that arrives is in a transaction that has an identifier
 abbrev pub Brings : Result Cp CpFault → Type 0
@@ -31,9 +32,6 @@ Brings (Ok (DataUnit t unit)) = t.identifier < 7
 Brings (Ok (AckUnit t)) = Unit {0}
 Brings (Ok (ErrorUnit t cause)) = Unit {0}
 Brings (Err fault) = Unit {0}
-
-some_carried : (a b : Carried) → Some a ≡ Some b → a ≡ b
-some_carried a b e = cc
 
 -- no new transaction is begun
 pub reply_next : (now : ℕ) (unit : List ℕ) (s : LinkState) → s.next_identifier < 7 → (reply_step now unit s).state.next_identifier < 7
@@ -69,7 +67,7 @@ module _ (Known : ℕ → List ℕ → Type 0) where
   -- what carries no data
   pub quiet_frames : (c : Carried) (fs : List (List ℕ)) → (c.kind ≡ Data → ⊥) → AllSay (carrying (Some c) fs)
   quiet_frames c [] never = tt
-  quiet_frames c (f ∷ fs) never = (λ x is kind. absurd (never (ap (λ (z : Carried). z.kind) (some_carried c x is) ∙ kind)), quiet_frames c fs never)
+  quiet_frames c (f ∷ fs) never = (λ x is kind. absurd (never (ap (λ (z : Carried). z.kind) (some_is c x is) ∙ kind)), quiet_frames c fs never)
 
   -- ---- the links' own
 

@@ -92,9 +92,7 @@ use Rattle.sms_world.proofs.frames_pass_between_sides.Linking.{begin_is, data_fr
 use Rattle.sms_world.proofs.handset_runs_are_steps.Offering.{smma_sends}
 use Rattle.sms_world.proofs.handset_runs_are_steps.Submitting.{centre_is, data_fits, data_read, data_some, submit_fits}
 use Rattle.sms_world.proofs.headline.EntryFrames.{AllSay, Brings, HolderSays, LinkSays, TurnSays, both_say, fired_says, quiet_frames, reply_next, taken_says}
-
-some_carried : (a b : Carried) → Some a ≡ Some b → a ≡ b
-some_carried a b e = cc
+use Rattle.sms_world.proofs.Options.{some_is}
 
 further : (k i : ℕ) → k + suc i ≡ k + 1 + i
 further k i = omega arith
@@ -185,7 +183,7 @@ module _ (Known : ℕ → List ℕ → Type 0) (again : (n : ℕ) (t : List ℕ)
       let framed = data_framed FromOriginator i unit s.0.next some fits in
       let q : frame_tpdu (cp_at frame) ≡ tpdu = ap (λ (z : Result Cp CpFault). frame_tpdu z) (cp_again frame (CpData (in_transaction FromOriginator i) unit) framed) ∙ reads in
       begins_as reference tag unit d (
-        (λ x is k. subst (λ (z : Holder × List ℕ). HolderSays Known z.0 z.1) (λ j. ((some_carried (of_kind Data reference tag) x is j).tag, sym q j)) known),
+        (λ x is k. subst (λ (z : Holder × List ℕ). HolderSays Known z.0 z.1) (λ j. ((some_is (of_kind Data reference tag) x is j).tag, sym q j)) known),
         tt,
       ) s
 

@@ -15,6 +15,7 @@ use Rattle.sms_play.specs.Setups.{beginning, can_be_played}
 use Rattle.sms_world.specs.headline.Claims.{IfPlayed, AllTimely, AllFresh}
 use Rattle.sms_world.proofs.scripts_are_runs.Events.{ok_play}
 use Rattle.sms_world.specs.headline.DecidedPremises.{Breaks, BreaksFirst, FirstLaw, NoneLaw, Plays, Premises}
+use Rattle.sms_world.proofs.Options.{some_is}
 use Rattle.sms_script.specs.declared.setup.Setup.{Setup}
 
 abbrev Decided : Type 0
@@ -44,13 +45,10 @@ abbrev Looks : ℕ → Bool → Bool → Broken → Type 0
 Looks n t f (Timely k) = (k ≡ n) × (t ≡ false)
 Looks n t f (Reused k) = (k ≡ n) × (t ≡ true) × (f ≡ false)
 
-same_broken : (a b : Broken) → Some a ≡ Some b → a ≡ b
-same_broken a b e = cc
-
 some_looked : (n : ℕ) (t f : Bool) (b : Broken) → looked n t f ≡ Some b → Looks n t f b
 some_looked n true true b e = absurd cc
-some_looked n true false b e = subst (λ (x : Broken). Looks n true false x) (same_broken (Reused n) b e) (refl, refl, refl)
-some_looked n false f b e = subst (λ (x : Broken). Looks n false f x) (same_broken (Timely n) b e) (refl, refl)
+some_looked n true false b e = subst (λ (x : Broken). Looks n true false x) (some_is (Reused n) b e) (refl, refl, refl)
+some_looked n false f b e = subst (λ (x : Broken). Looks n false f x) (some_is (Timely n) b e) (refl, refl)
 
 looked_some : (n : ℕ) (t f : Bool) (b : Broken) → Looks n t f b → looked n t f ≡ Some b
 looked_some n t f (Timely k) l =

@@ -34,6 +34,7 @@ use Rattle.sms_world.specs.scripts_are_runs.AllocationLaws.{IsReached}
 use Rattle.sms_world.proofs.scripts_are_runs.Agreeing.{sound_there}
 use Rattle.sms_world.proofs.scripts_are_runs.Bags.{among_last}
 use Rattle.sms_world.specs.scripts_are_runs.PlayRefinement.{PlayRefines}
+use Rattle.sms_world.proofs.Options.{some_is}
 
 pub placed_there : (w : World) → IsReached w → IsPlaced w
 placed_there w (is, (run, at)) = subst (λ (v : World). IsPlaced v) at (placed_run empty is placed_empty run)
@@ -61,9 +62,6 @@ seen_of p = record { reference = p.reference; tpdu = compared p.tpdu; is_done = 
 some_part : (o : Option PartRow) (x : PartSeen) → part_seen o ≡ Some x → (p : PartRow) × ((o ≡ Some p) × (part_seen (Some p) ≡ Some x))
 some_part None x e = absurd cc
 some_part (Some p) x e = (p, (refl, e))
-
-some_seen : (a b : PartSeen) → Some a ≡ Some b → a ≡ b
-some_seen a b e = cc
 
 some_none : (p : Place) → Some p ≡ None → ⊥
 some_none p e = cc
@@ -93,7 +91,7 @@ module _ (c : PlayState) (w : World) (s : PlayRefines c w) (q : Party) (there : 
       let p_id : p.id ≡ id = same_id p.id id p.number n small octet.0 keys in
       let p_number : p.number ≡ n = same_number p.id id p.number n small octet.0 keys in
       let m_id : m.id ≡ id = found_key message_key id m c.centre.rows.messages row.2.0 in
-      let seen : row.1 ≡ seen_of p = some_seen row.1 (seen_of p) (sym found.1.1) in
+      let seen : row.1 ≡ seen_of p = some_is row.1 (seen_of p) (sym found.1.1) in
       let as_row : x ≡ pair_in_row m p = pair ∙ ap pair_given row.2.2 ∙ (λ t. record { handset = m.handset; reference = (seen t).reference; tpdu = (seen t).tpdu }) in
       let at = s.centre.rows.table.there id m row.2.0 in
       let same = same_message w.table id known.0 at.0 known.1 at.1 known.2.0 (subst (λ (k : ℕ). IsRecorded w.table k at.0 at.1) m_id at.2.0) in
@@ -238,9 +236,6 @@ not_joined (y ∷ js) x h k place n i a b c = ⊎_elim
     (λ (t : Among x js). not_joined js x h k place n.1 t a b c)
     i
 
-some_place : (a b : Place) → Some a ≡ Some b → a ≡ b
-some_place a b e = cc
-
 module _ (w : World) (placed : IsPlaced w) (f : IsFaithful w) where
   -- a part of a joined group is one of its key
   is_of : (j : Joined) → Among j w.joined → (x : Accepted) → Among x j.group → is_for j.handset j.key x ≡ true
@@ -250,7 +245,7 @@ module _ (w : World) (placed : IsPlaced w) (f : IsFaithful w) where
   two_apart j y i l differ own x k m =
       let a = (for_is j.handset j.key x (is_of j i x k)).1 in
       let b = (for_is y.handset y.key x (is_of y l x m)).1 in
-      let key : j.key ≡ y.key = ap (λ (z : Place). z.key) (some_place _ _ (sym a ∙ b)) in
+      let key : j.key ≡ y.key = ap (λ (z : Place). z.key) (some_is _ _ (sym a ∙ b)) in
       let his : IsEndedAt y.place y.group (groups_of j.handset j.key w.accepted).ended =
       subst (λ (z : List ℕ × Key). IsEndedAt y.place y.group (groups_of z.0 z.1 w.accepted).ended) (λ t. (sym own t, sym key t)) (placed.ended y l) in
       places_apart (groups_of j.handset j.key w.accepted).ended j.place y.place j.group y.group x

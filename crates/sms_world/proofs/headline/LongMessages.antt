@@ -28,12 +28,10 @@ use Rattle.sms_world.specs.headline.SeenWorld.{IsRowOf, PartSeen, part_seen, par
 use Rattle.sms_world.specs.headline.Claims.{pair_in_row, IsLongMessage}
 use Rattle.sms_world.proofs.scripts_are_runs.Agreeing.{sound_there}
 use Rattle.sms_world.specs.scripts_are_runs.PlayRefinement.{PlayRefines}
+use Rattle.sms_world.proofs.Options.{some_is}
 
 small : (n : ℕ) → n ≤ 20 → n < 256
 small n l = omega (arith, l)
-
-some_seen : (a b : PartSeen) → Some a ≡ Some b → a ≡ b
-some_seen a b e = cc
 
 no_row : (x : PartSeen) → part_seen None ≡ Some x → ⊥
 no_row x e = absurd cc
@@ -43,7 +41,7 @@ seen_of p = record { reference = p.reference; tpdu = compared p.tpdu; is_done = 
 
 row_seen : (o : Option PartRow) (x : PartSeen) → part_seen o ≡ Some x → (p : PartRow) × ((o ≡ Some p) × (seen_of p ≡ x))
 row_seen None x e = absurd (no_row x e)
-row_seen (Some p) x e = (p, (refl, some_seen (seen_of p) x e))
+row_seen (Some p) x e = (p, (refl, some_is (seen_of p) x e))
 
 -- a list has an element at each place below its length
 there_at : (xs : List UserData) (n : ℕ) → n < length xs → (x : UserData) × (slice_get xs n ≡ Some x)

@@ -57,6 +57,7 @@ use Rattle.sms_world.proofs.headline.Tables.{line_of, line_there, row_of_line, s
 use Rattle.sms_world.proofs.headline.TimelyClaims.{Reaches, among_own}
 use Rattle.sms_world.proofs.scripts_are_runs.Agreeing.{sound_there}
 use Rattle.sms_world.proofs.submissions_stay.WrittenParts.{AllWritten, writings_hold}
+use Rattle.sms_world.proofs.Options.{some_is}
 
 -- ---- once, in the order of the lines
 
@@ -169,9 +170,6 @@ same_number a b n k l m e = omega (arith, l, m, e)
 some_part : (o : Option PartRow) (x : PartSeen) → part_seen o ≡ Some x → (p : PartRow) × ((o ≡ Some p) × (part_seen (Some p) ≡ Some x))
 some_part None x e = absurd cc
 some_part (Some p) x e = (p, (refl, e))
-
-some_seen : (a b : PartSeen) → Some a ≡ Some b → a ≡ b
-some_seen a b e = cc
 
 abbrev seen_of : PartRow → PartSeen
 seen_of p = record { reference = p.reference; tpdu = compared p.tpdu; is_done = p.progress.is_done }
@@ -306,7 +304,7 @@ module _ (script : Script) (after : ℕ → Report) (typed : AreTyped script.eve
         let m_id : m.id ≡ id = found_key message_key id m c.centre.rows.messages row.2.0 in
         let m_there : Among m c.centre.rows.messages = found_among message_key id m c.centre.rows.messages row.2.0 in
         let of : p.id ≡ m.id = p_id ∙ sym m_id in
-        let seen : row.1 ≡ seen_of p = some_seen row.1 (seen_of p) (sym found.1.1) in
+        let seen : row.1 ≡ seen_of p = some_is row.1 (seen_of p) (sym found.1.1) in
         let in_row : pair_given g ≡ pair_in_row m p = ap pair_given row.2.2 ∙ (λ t. record { handset = m.handset; reference = (seen t).reference; tpdu = (seen t).tpdu }) in
         let as_row : pair a ≡ pair_in_row m p = given ∙ in_row in
         let t = of_row m m_there in

@@ -107,11 +107,9 @@ use Rattle.sms_world.proofs.scripts_are_runs.Events.{ok_play, same_play}
 use Rattle.sms_world.proofs.scripts_are_runs.Growing.{either_part, in_front, in_rest}
 use Rattle.sms_world.proofs.scripts_are_runs.Meetings.{Meets, meets, number_of}
 use Rattle.sms_world.proofs.scripts_are_runs.Parties.{number_there, party_found, with_numbers}
+use Rattle.sms_world.proofs.Options.{some_is}
 
 -- ---- plain facts
-
-some_carried : (a b : Carries) → Some a ≡ Some b → a ≡ b
-some_carried a b e = cc
 
 same_entry : (a b : ℕ) → Entry a ≡ Entry b → a ≡ b
 same_entry a b e = cc
@@ -358,13 +356,13 @@ module _ (script : Script) (after : ℕ → Report) where
     begun_says : (o : Option Begun) → RefinesBegun h w.bag u o → BegunSays (Owners h) u a o
     begun_says None r = tt
     begun_says (Some b) (x, (is, sent)) = λ y q kind.
-        let same : x ≡ y = some_carried x y (sym (again_carries h w.bag FromOriginator b.frame x u a sent ∙ is) ∙ q) in
+        let same : x ≡ y = some_is x y (sym (again_carries h w.bag FromOriginator b.frame x u a sent ∙ is) ∙ q) in
         subst (λ (z : Carries). HolderSays (Owners h) z.tag (frame_tpdu (cp_at b.frame))) same (frame_known sent.2.0 b.frame x sent.2.1 (ap (λ (v : Carries). v.kind) same ∙ kind))
 
     answer_says : (o : Option Answer) → RefinesAnswer h w.bag a o → AnswerSays (Owners h) u a o
     answer_says None r = tt
     answer_says (Some b) (x, (is, sent)) = λ y q kind.
-        let same : x ≡ y = some_carried x y (sym (again_carries h w.bag ToOriginator b.frame x u a sent ∙ is) ∙ q) in
+        let same : x ≡ y = some_is x y (sym (again_carries h w.bag ToOriginator b.frame x u a sent ∙ is) ∙ q) in
         let own : x.kind ≡ Data = ap (λ (v : Carries). v.kind) same ∙ kind in
         absurd (not_answer (sym (ap (λ (z : Kind). flag_for z) own) ∙ sent.1))
 

@@ -54,6 +54,7 @@ use Rattle.sms_world.proofs.headline.PlainEvents.{IsTraced}
 use Rattle.sms_world.proofs.headline.SplitJoins.{carried_from, one_key_of, parts_there, split_long}
 use Rattle.sms_world.proofs.headline.Tables.{line_of, line_there, one_row}
 use Rattle.sms_world.proofs.headline.TimelyClaims.{parts_once}
+use Rattle.sms_world.proofs.Options.{some_is}
 
 -- ---- plain facts
 
@@ -134,9 +135,6 @@ one_stamp tpdu n k a b =
 
 same_part : (a b n k : ℕ) → Part a n ≡ Part b k → a ≡ b
 same_part a b n k e = cc
-
-some_row : (a b : PartRow) → Some a ≡ Some b → a ≡ b
-some_row a b e = cc
 
 -- whose pair a piece is
 record IsPairFor (script : Script) (after : ℕ → Report) (typed : AreTyped script.events) (reports : AreReports script after) (q : Party) (y : Accepted) (x : Piece) : Type 0 where
@@ -259,7 +257,7 @@ module _ (script : Script) (after : ℕ → Report) (typed : AreTyped script.eve
       let at_p = among_found part_key p now.centre.rows.parts s.sound.rows.messages.part_keys p_there in
       let at_r = among_found part_key r now.centre.rows.parts s.sound.rows.messages.part_keys r_there in
       let ids : p.id ≡ r.id = p_its ∙ id ∙ sym r_its in
-      let part : p ≡ r = some_row p r (sym at_p ∙ (λ j. part_at (ids j) (number j) now.centre.rows.parts) ∙ at_r) in
+      let part : p ≡ r = some_is p r (sym at_p ∙ (λ j. part_at (ids j) (number j) now.centre.rows.parts) ∙ at_r) in
       λ j. pair_in_row (message j) (part j)
 
   -- ---- a row

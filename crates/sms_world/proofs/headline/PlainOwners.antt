@@ -37,6 +37,7 @@ use Rattle.sms_world.specs.headline.PlainReport.{HasLine, IsOwn}
 use Rattle.sms_world.specs.headline.PlainScript.{Does}
 use Rattle.sms_world.specs.headline.PlainWords.{numbered}
 use Rattle.sms_world.specs.headline.TypedEvents.{AreTyped}
+use Rattle.sms_world.proofs.Options.{some_is}
 use Rattle.std.proofs.Common.{List, Ok, Result, Some, [], ap, arith, false, inl, inr, length, refl, subst, suc, sym, true, ⊎_elim, ℕ, ◌+◌, ◌++◌, ◌∙◌, ◌∷◌, ◌≡◌}
 use Rattle.std.proofs.lemmas.Bool.{cases_Bool, cond-false, cond-true}
 use Rattle.std.proofs.lemmas.Slice.Eq.{bytes_eq-Decides}
@@ -53,19 +54,13 @@ one_more p k q e = omega (arith, e)
 from_none : (p q : ℕ) → p ≡ 0 + q → q ≡ p
 from_none p q e = omega (arith, e)
 
-same_place : (a b : ℕ) → Some a ≡ Some b → a ≡ b
-same_place a b e = cc
-
-same_account : (a b : CentreAccount) → Some a ≡ Some b → a ≡ b
-same_account a b e = cc
-
 at_place_of : (k p : ℕ) (name : List ℕ) (accounts : List CentreAccount) → account_from k name accounts ≡ Some p
     → (q : ℕ) × (a : CentreAccount) × ((p ≡ k + q) × (account_at q accounts ≡ Some a) × (a.name ≡ name))
 at_place_of k p name [] e = absurd cc
 at_place_of k p name (a ∷ accounts) e = ⊎_elim
     (λ (t : bytes_eq a.name name ≡ true).
     let found : Some k ≡ Some p = sym (cond-true (bytes_eq a.name name) (Some k) (account_from (k + 1) name accounts) t) ∙ e in
-    (0, a, (sym (same_place k p found) ∙ no_more k, refl, (bytes_eq-Decides a.name name).0 t)))
+    (0, a, (sym (some_is k p found) ∙ no_more k, refl, (bytes_eq-Decides a.name name).0 t)))
     (λ (t : bytes_eq a.name name ≡ false).
     let x = at_place_of (k + 1) p name accounts (sym (cond-false (bytes_eq a.name name) (Some k) (account_from (k + 1) name accounts) t) ∙ e) in
     (suc x.0, x.1, (one_more p k x.0 x.2.0, x.2.1, x.2.2)))
@@ -75,7 +70,7 @@ pub account_named : (p : ℕ) (name : List ℕ) (accounts : List CentreAccount) 
 account_named p name accounts a e at =
     let x = at_place_of 0 p name accounts e in
     let both : Some x.1 ≡ Some a = sym x.2.1 ∙ ap (λ (q : ℕ). account_at q accounts) (from_none p x.0 x.2.0) ∙ at in
-    ap (λ (z : CentreAccount). z.name) (sym (same_account x.1 a both)) ∙ x.2.2
+    ap (λ (z : CentreAccount). z.name) (sym (some_is x.1 a both)) ∙ x.2.2
 
 -- ---- whose a message is
 

@@ -35,15 +35,13 @@ use Rattle.sms_world.specs.headline.PlainWords.{id_in, numbered}
 use Rattle.sms_world.specs.headline.RequestClaims.{IsAnswered, IsNamedBy}
 use Rattle.sms_world.specs.headline.RequestClaims.{IsCancelled as CancelsSo, IsQueried}
 use Rattle.sms_world.specs.headline.TypedEvents.{AreTyped}
+use Rattle.sms_world.proofs.Options.{some_is}
 use Rattle.std.proofs.Common.{List, Some, [], ap, arith, false, inl, inr, length, refl, subst, suc, sym, true, ⊎_elim, ℕ, ◌+◌, ◌++◌, ◌<◌, ◌≤◌, ◌∙◌, ◌∷◌, ◌≡◌}
 use Rattle.std.proofs.lemmas.Bool.{cases_Bool, cond-false, cond-true, eqb-false}
 use Rattle.std.proofs.lemmas.Option.{slice_get_within}
 use Rattle.std.specs.Prelude.{slice_get, ◌==◌}
 
 -- ---- a row that takes the place of that of its key
-
-same_row : (a b : MessageRow) → Some a ≡ Some b → a ≡ b
-same_row a b e = cc
 
 -- lines of other messages
 same_lines : (id : ℕ) (state : MessageState) (ms : List MessageRow) → ((x : MessageRow) → Among x ms → ¬ (x.id ≡ id)) → IsChanged id state (message_lines ms) (message_lines ms)
@@ -89,7 +87,7 @@ module _ (moment : ℕ) (m : MessageRow) where
   changed_lines (r ∷ rs) rises at = ⊎_elim
       (λ (t : (r.id == m.id) ≡ true).
       let found : Some r ≡ Some m = sym (cond-true (r.id == m.id) (Some r) (message_at m.id rs) t) ∙ at in
-      changed_first r rs rises.0 (same_row r m found))
+      changed_first r rs rises.0 (some_is r m found))
       (λ (t : (r.id == m.id) ≡ false).
       let behind : message_at m.id rs ≡ Some m = sym (cond-false (r.id == m.id) (Some r) (message_at m.id rs) t) ∙ at in
       changed_behind r rs rises.0 (eqb-false r.id m.id t) behind (changed_lines rs rises.1 behind))
@@ -102,9 +100,6 @@ one_more k = omega arith
 
 within : (n k : ℕ) → n < k → suc n ≤ k
 within n k l = omega (arith, l)
-
-same_event : (a b : WorldEvent) → Some a ≡ Some b → a ≡ b
-same_event a b e = cc
 
 same_suc : (a b : ℕ) → suc a ≡ suc b → b ≡ a
 same_suc a b e = omega (arith, e)
@@ -126,7 +121,7 @@ module _ (script : Script) (after : ℕ → Report) (typed : AreTyped script.eve
       let place : length x.some ≡ n = same_suc n (length x.some) x.number in
       let here : Some x.event ≡ Some e =
       sym (at_place x.some x.others x.event) ∙ ap (λ (es : List WorldEvent). slice_get es (length x.some)) (sym x.step.parts) ∙ ap (λ (k : ℕ). slice_get script.events k) place ∙ at in
-      subst (λ (z : WorldEvent). IsAnsweredAt script after n z y) (same_event x.event e here)
+      subst (λ (z : WorldEvent). IsAnsweredAt script after n z y) (some_is x.event e here)
       (record {
         some = x.some;
         others = x.others;

@@ -65,6 +65,7 @@ use Rattle.sms_world.proofs.headline.Tables.{line_of, row_of_line}
 use Rattle.sms_world.proofs.scripts_are_runs.Bags.{row_seen}
 use Rattle.sms_world.proofs.scripts_are_runs.Beginnings.{begins}
 use Rattle.sms_world.proofs.scripts_are_runs.Events.{event_leads, ok_play, same_play}
+use Rattle.sms_world.proofs.Options.{some_is}
 
 -- ---- plain facts
 
@@ -99,9 +100,6 @@ as_many n = omega arith
 
 low : (k n : ℕ) → k < n → k ≤ n
 low k n l = omega (arith, l)
-
-some_event : (a b : WorldEvent) → Some a ≡ Some b → a ≡ b
-some_event a b e = cc
 
 whole_acts : (a b : Act) → Whole a ≡ Whole b → a ≡ b
 whole_acts a b e = cc
@@ -382,7 +380,7 @@ module _ (script : Script) (after : ℕ → Report) where
             a.next ∙ ap (λ (z : ℕ). suc z) (one_place k.id a.before k.place few (low k.place (length script.events) (soon k.place (length script.events) within)) new later k.new k.there)
 
         its_event : (e : WorldEvent) → numbered of.number script.events ≡ Some e → k.event ≡ e
-        its_event e at = some_event k.event e (sym k.at ∙ ap (λ (n : ℕ). numbered n script.events) (sym same_event) ∙ at)
+        its_event e at = some_is k.event e (sym k.at ∙ ap (λ (n : ℕ). numbered n script.events) (sym same_event) ∙ at)
 
         sent_so : IsOfApplication script.setup script.events after of.number l.id of.origin ⊎ IsOfOwner script.setup script.events after of.number l.id of.origin → IsSent script.setup script.events after (after (length script.events)) x
         sent_so (inl a) = absurd (submits_nothing k.number a.asked (one_act k.event (Deliver k.number) (Submit a.asked) k.does (subst (λ (z : WorldEvent). Does z (Submit a.asked)) (sym (its_event a.event a.at)) a.does)))

@@ -33,6 +33,7 @@ use Rattle.sms_world.proofs.centre_runs_are_steps.RowsAreTrue.{reported_is_true}
 use Rattle.sms_world.specs.centres_refine_the_world.CentreRefinement.{CentreRefines}
 use Rattle.sms_world.specs.centres_refine_the_world.RefinesReports.{ReportSeen, report_seen}
 use Rattle.sms_world.specs.centre_runs_are_steps.TruthfulRows.{ReportedRows}
+use Rattle.sms_world.proofs.Options.{some_is}
 use Rattle.std.proofs.Common.{ap, inl, inr, refl, subst, sym, ⊎_elim, ◌∙◌}
 use Rattle.std.proofs.lemmas.Bool.{cases_eq}
 use Rattle.std.specs.Prelude.{List, None, Option, Some, [], ℕ, ◌∷◌, ◌≡◌}
@@ -66,12 +67,6 @@ found_by r (s ∷ rs) i = ⊎_elim
 once_among : (x : ReceiptOf) (xs : List ReceiptOf) → OccursOnce x xs → Among x xs
 once_among x [] o = absurd o
 once_among x (y ∷ ys) o = ⊎_elim (λ (a : (x ≡ y) × ¬ Among x ys). inl a.0) (λ (a : ¬ (x ≡ y) × OccursOnce x ys). inr (once_among x ys a.1)) o
-
-some_message : (a b : MessageRow) → Some a ≡ Some b → a ≡ b
-some_message a b e = cc
-
-some_state : (a b : FinalState) → Some a ≡ Some b → a ≡ b
-some_state a b e = cc
 
 no_report : (x : ReportSeen) → report_seen None ≡ Some x → ⊥
 no_report x e = absurd cc
@@ -111,8 +106,8 @@ module _ (c : PlayState) (w : World) (s : PlayRefines c w) where
       let f = from_report r messages reports i in
       let at = found_by f.report reports f.among in
       let t = told f.report.id at.0 at.1 in
-      let same : t.0 ≡ f.message = some_message t.0 f.message (sym t.2.0 ∙ f.found) in
-      let state : t.1 ≡ r.state = some_state t.1 r.state (sym t.2.1 ∙ ap (λ (m : MessageRow). m.state) same ∙ f.state) in
+      let same : t.0 ≡ f.message = some_is t.0 f.message (sym t.2.0 ∙ f.found) in
+      let state : t.1 ≡ r.state = some_is t.1 r.state (sym t.2.1 ∙ ap (λ (m : MessageRow). m.state) same ∙ f.state) in
       let id : f.report.id ≡ r.id = sym (found_key message_key f.report.id f.message messages f.found) ∙ f.id in
       let here : Among (record { id = f.report.id; state = t.1 }) w.receipts = once_among (record { id = f.report.id; state = t.1 }) w.receipts t.2.2 in
       subst (λ (x : ReceiptOf). Among x w.receipts) (λ j. record { id = id j; state = state j }) here

@@ -45,6 +45,7 @@ use Rattle.sms_world.proofs.headline.AnswersTimely.{hands_answers}
 use Rattle.sms_world.proofs.headline.DecidedTimely.{hands_down}
 use Rattle.sms_world.proofs.headline.HeldReferences.{AllPartiesAgree, held_reported}
 use Rattle.sms_world.proofs.headline.UpwardRuns.{event_upward}
+use Rattle.sms_world.proofs.Options.{some_is}
 
 -- ---- one event, and then the others
 
@@ -89,12 +90,6 @@ one_is_small = omega arith
 only_one : (n : ℕ) → 0 < n → n ≤ 1 → n ≡ 1
 only_one n a b = omega (arith, a, b)
 
-some_row : (a b : PartRow) → Some a ≡ Some b → a ≡ b
-some_row a b e = cc
-
-some_seen : (a b : PartSeen) → Some a ≡ Some b → a ≡ b
-some_seen a b e = cc
-
 no_row : (x : PartSeen) → part_seen None ≡ Some x → ⊥
 no_row x e = absurd cc
 
@@ -138,7 +133,7 @@ module _ (c : PlayState) (w : World) (s : PlayRefines c w) (up : IsUpward w) (q 
         let part : UserData = known.2.1.0 in
         let has : HasPart u 1 part = subst (λ (z : Submission). HasPart z 1 part) mine known.2.1.1.0 in
         let is_data : part ≡ text = (let both : Some part ≡ Some text = sym has ∙ first in cc) in
-        let seen_is : seen.0.tpdu ≡ compared p.tpdu = ap (λ (z : PartSeen). z.tpdu) (sym (some_seen (seen_of p) seen.0 (ap part_seen (sym row.1) ∙ octet.1))) in
+        let seen_is : seen.0.tpdu ≡ compared p.tpdu = ap (λ (z : PartSeen). z.tpdu) (sym (some_is (seen_of p) seen.0 (ap part_seen (sym row.1) ∙ octet.1))) in
         let deliver : IsDeliverOf u text g.0 (compared p.tpdu) =
         subst (λ (z : Submission × UserData × List ℕ). IsDeliverOf z.0 z.1 g.0 z.2) (λ j. (mine j, is_data j, seen_is j)) known.2.1.1.1 in (
           p,
@@ -154,7 +149,7 @@ module _ (c : PlayState) (w : World) (s : PlayRefines c w) (up : IsUpward w) (q 
                 let in_u : HasPart u y.number z.0 = subst (λ (v : Submission). HasPart v y.number z.0) same z.1 in
                 let bounds = part_within u.parts y.number z.0 in_u in
                 let number : y.number ≡ 1 = only_one y.number bounds.0 (subst (λ (ps : List UserData). y.number ≤ length ps) one bounds.1) in
-                some_row y p (sym at_y ∙ ap (λ (k : ℕ). part_at id k c.centre.rows.parts) number ∙ row.1);
+                some_is y p (sym at_y ∙ ap (λ (k : ℕ). part_at id k c.centre.rows.parts) number ∙ row.1);
             source = ap (λ (z : Address). z.digits) (sym is.source) ∙ source;
             handset = sym is.handset ∙ handset;
             submitted = (u, g.0, (is, one, deliver));

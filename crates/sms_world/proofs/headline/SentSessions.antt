@@ -56,6 +56,7 @@ use Rattle.sms_centre_spec.specs.Submitting.{accept, is_reference_taken}
 use Rattle.sms_centre_spec.specs.declared.answer.CentreAnswer.TheVariants.{Cancelled}
 use Rattle.sms_centre_spec.specs.declared.event.CentreEvent.{CentreEvent}
 use Rattle.sms_centre_spec.specs.declared.event.CentreEvent.TheVariants.{Submit, Query, Cancel, Bound, Unbound, DeliverAnswered, Frame, LinkUp, LinkDown, Ordered, Tick}
+use Rattle.sms_world.proofs.Options.{some_is}
 
 -- ---- sending
 
@@ -72,9 +73,6 @@ pub record Goes (messages : List MessageRow) (sessions : List Session) (x : Deli
 record Sends (messages : List MessageRow) (bindings : Bindings) : Type 0 where
   keys : Rises session_key bindings.sessions
   each : (x : Delivery) → Among x bindings.deliveries → Goes messages bindings.sessions x
-
-same_session : (a b : Session) → Some a ≡ Some b → a ≡ b
-same_session a b e = cc
 
 -- the session that is chosen
 record IsChosen (m : MessageRow) (s : Session) (ss : List Session) : Type 0 where
@@ -109,7 +107,7 @@ module _ (messages : List MessageRow) where
             ⊎_elim
             (λ (e : g.session.number ≡ s.number).
             let same : g.session ≡ s =
-            same_session g.session s (sym (among_found session_key g.session bindings.sessions k.keys g.bound) ∙ ap (λ (n : ℕ). row_at session_key n bindings.sessions) e ∙ among_found session_key s bindings.sessions k.keys is.among) in
+            some_is g.session s (sym (among_found session_key g.session bindings.sessions k.keys g.bound) ∙ ap (λ (n : ℕ). row_at session_key n bindings.sessions) e ∙ among_found session_key s bindings.sessions k.keys is.among) in
             let found : Goes messages sessions x = record {
               message = g.message;
               there = g.there;

@@ -23,6 +23,7 @@ use Rattle.sms_world_model.proofs.Keys.{for_is, number_placed}
 use Rattle.sms_world.specs.headline.Claims.{pair_in_row, AreJoinedRounds, IsJoinedRound, IsLongMessage, JoinedWhole}
 use Rattle.sms_world.specs.scripts_are_runs.PlayRefinement.{PlayRefines}
 use Rattle.sms_world.specs.headline.SplitClaims.{IsSplitOf, IsSplitUnder, split_key, AllSaySplit, SaysSplit, SplitsJoined}
+use Rattle.sms_world.proofs.Options.{some_is}
 
 -- ---- lists of parts, piece by piece
 
@@ -93,12 +94,6 @@ pub parts_there : (o : Option (List PartOf)) (content : Content) → joined_part
 parts_there None content e = absurd cc
 parts_there (Some ps) content e = (ps, (refl, e))
 
-one_part : (a b : PartOf) → Some a ≡ Some b → a ≡ b
-one_part a b e = cc
-
-one_content : (a b : Content) → Some a ≡ Some b → a ≡ b
-one_content a b e = cc
-
 pub one_key_of : (k l : Key) (a b : ℕ) (o : Option Place) → o ≡ Some (record { key = k; number = a }) → o ≡ Some (record { key = l; number = b }) → k ≡ l
 one_key_of k l a b o x y = same (record { key = k; number = a }) (record { key = l; number = b }) (sym x ∙ y)
   where
@@ -160,7 +155,7 @@ module _ (c : PlayState) (w : World) (s : PlayRefines c w) where
         let one : r.0 ≡ z.0 = cc in
         let carries : carried_in y.0.tpdu ≡ Some piece =
         ap (λ (k : Accepted). carried_in k.tpdu) r.1.2 ∙ carried_alike r.0.tpdu ∙ ap (λ (k : PartRow). carried_in k.tpdu) one ∙ z.1.1 in
-        one_part x piece (sym y.1.2 ∙ carries)
+        some_is x piece (sym y.1.2 ∙ carries)
 
     joins : is.joined.content ≡ content
     joins =
@@ -173,7 +168,7 @@ module _ (c : PlayState) (w : World) (s : PlayRefines c w) where
         let x = some_piece ps.0 i l in
         let f = some_piece of.pieces i (omega (arith, l, long, total)) in
         x.1 ∙ ap (λ (z : PartOf). Some z) (piece_is i x.0 f.0 (all.1 i (omega (arith, l, long)) ∙ x.1) f.1) ∙ sym f.1) in
-        one_content is.joined.content content (sym ps.1.1 ∙ ap (λ (z : List PartOf). content_joined z) same ∙ split_joins content reference of.pieces of.split)
+        some_is is.joined.content content (sym ps.1.1 ∙ ap (λ (z : List PartOf). content_joined z) same ∙ split_joins content reference of.pieces of.split)
 
     says : row ≡ record { handset = q.number; from = m.source.digits; coding = coding_of content.coding; units = content.units }
     says =

@@ -19,6 +19,7 @@ use Rattle.sms_world_model.specs.Submission.{Submission}
 use Rattle.sms_world_model.specs.World.{Final, Pending, IsRecorded, State, World}
 use Rattle.sms_world.specs.centres_refine_the_world.CentreRefinement.{CentreRefines}
 use Rattle.sms_world.specs.headline.SeenWorld.{IsStateOf, PartSeen, parts_by}
+use Rattle.sms_world.proofs.Options.{some_is}
 
 abbrev pub line_of : MessageRow → ReportedMessage
 line_of m = record { id = m.id; from = m.source.digits; to = m.handset; state = state_of m.state }
@@ -40,10 +41,7 @@ pub one_row : (a b : MessageRow) (ms : List MessageRow) → Rises message_key ms
 one_row a b ms rises i j e =
     let p = among_found message_key a ms rises i in
     let q = among_found message_key b ms rises j in
-    some_row a b (sym p ∙ ap (λ (k : ℕ). message_at k ms) e ∙ q)
-  where
-    some_row : (x y : MessageRow) → Some x ≡ Some y → x ≡ y
-    some_row x y e = cc
+    some_is a b (sym p ∙ ap (λ (k : ℕ). message_at k ms) e ∙ q)
 
 pub one_line : (a b : ReportedMessage) (ms : List MessageRow) → Rises message_key ms → Among a (message_lines ms) → Among b (message_lines ms) → a.id ≡ b.id → a ≡ b
 one_line a b ms rises i j e =

@@ -42,6 +42,7 @@ use Rattle.sms_script.specs.declared.report.rows.GivenRow.{GivenRow}
 use Rattle.sms_script.specs.declared.report.rows.Direction.{Direction}
 use Rattle.sms_script.specs.declared.report.rows.Direction.TheVariants.{Up as UpRow, Down as DownRow}
 use Rattle.sms_world.specs.centres_refine_the_world.RefinesGiven.{given_part}
+use Rattle.sms_world.proofs.Options.{some_is}
 use Rattle.sms_tpdu.specs.declared.user_data.UserData.{UserData}
 
 -- ---- one event, and then the others
@@ -110,12 +111,6 @@ own_once h x (p ∷ ps) e o = ⊎_elim
 small : (n : ℕ) → n ≤ 20 → n < 256
 small n l = omega (arith, l)
 
-some_message : (a b : MessageRow) → Some a ≡ Some b → a ≡ b
-some_message a b e = cc
-
-some_seen : (a b : PartSeen) → Some a ≡ Some b → a ≡ b
-some_seen a b e = cc
-
 abbrev seen_of : PartRow → PartSeen
 seen_of p = record { reference = p.reference; tpdu = compared p.tpdu; is_done = p.progress.is_done }
 
@@ -134,8 +129,8 @@ module _ (c : PlayState) (w : World) (s : PlayRefines c w) (all : DeliveredAccep
   given_is : (g : Allocation) → Among g w.down → g.holder ≡ Part m.id p.number → pair_given g ≡ pair_in_row m p
   given_is g among holder =
       let x = s.centre.rows.holders.of_part g m.id p.number among holder in
-      let row : x.0 ≡ m = some_message x.0 m (sym x.2.0 ∙ there) in
-      let part : x.1 ≡ seen_of p = some_seen x.1 (seen_of p) (sym x.2.1 ∙ seen) in
+      let row : x.0 ≡ m = some_is x.0 m (sym x.2.0 ∙ there) in
+      let part : x.1 ≡ seen_of p = some_is x.1 (seen_of p) (sym x.2.1 ∙ seen) in
       ap pair_given x.2.2 ∙ (λ t. record { handset = (row t).handset; reference = (part t).reference; tpdu = (part t).tpdu })
 
   -- the row of its giving

@@ -40,6 +40,7 @@ use Rattle.sms_world.proofs.headline.AnsweredSubmits.{last_same, one_longer, who
 use Rattle.sms_world.proofs.messages_have_origins.Unmoved.{Rows, meets_leaves}
 use Rattle.sms_world.proofs.scripts_are_runs.Events.{ok_play, same_play}
 use Rattle.sms_world.specs.headline.RequestClaims.{IsAnswered, IsCancelled, IsQueried, RequestsAreTrue}
+use Rattle.sms_world.proofs.Options.{some_is}
 use Rattle.std.proofs.Common.{Bool, List, None, Option, Some, ap, cond, false, inl, inr, refl, subst, sym, true, ⊎_elim, ℕ, ◌&&◌, ◌∙◌, ◌≡◌}
 use Rattle.std.proofs.lemmas.Bool.{cond_both}
 use Rattle.std.specs.Prelude.{is_none, ◌⊎◌}
@@ -182,9 +183,6 @@ told n (Some a) x c y same e =
     let own : record { event = n; answered = answered_as a } ≡ record { event = n; answered = y } = last_same x.answers c.answers _ _ same e in
     (a, (refl, ap (λ (z : Answer). z.answered) own))
 
-same_answer : (a b : CentreAnswer) → Some a ≡ Some b → a ≡ b
-same_answer a b e = cc
-
 same_status : (a b : CommandStatus) → Status a ≡ Status b → a ≡ b
 same_status a b e = cc
 
@@ -240,11 +238,11 @@ module _ (n : ℕ) (name text : List ℕ) (c d : PlayState) where
               ),
             ))
             (λ (x : Refuses (draft_of c.centre) k).
-            absurd (x.fails (same_status x.status ESME_ROK (ap answered_as (sym (same_answer t.0 (Refused x.status) (sym t.1.0 ∙ x.answers))) ∙ t.1.1))))
+            absurd (x.fails (same_status x.status ESME_ROK (ap answered_as (sym (some_is t.0 (Refused x.status) (sym t.1.0 ∙ x.answers))) ∙ t.1.1))))
             f;
         refused = λ y answered fails. let t = tells y answered in
             ⊎_elim
-            (λ (x : Deletes o text (draft_of c.centre) k). absurd (fails (sym t.1.1 ∙ ap answered_as (same_answer t.0 Cancelled (sym t.1.0 ∙ x.answers)))))
+            (λ (x : Deletes o text (draft_of c.centre) k). absurd (fails (sym t.1.1 ∙ ap answered_as (some_is t.0 Cancelled (sym t.1.0 ∙ x.answers)))))
             (λ (x : Refuses (draft_of c.centre) k). rows ∙ x.same)
             f;
       }

@@ -12,6 +12,7 @@ use Rattle.sms_world_model.specs.World.{Carried, Final, Frame, Message, OutEntry
 use Rattle.sms_world_model.proofs.Tables.{entered_back}
 use Rattle.sms_world.proofs.headline.FaithfulRuns.{end_parts, run_parts}
 use Rattle.sms_world.proofs.headline.FreshRuns.{AllQuiet, HandsOne, IsQuiet, control_quiet, follows_quiet, writes_quiet}
+use Rattle.sms_world.proofs.Options.{some_is}
 
 -- the message of that id is that submission, whatever its state
 abbrev pub IsInTable : ℕ → Submission → List Message → Type 0
@@ -19,16 +20,13 @@ IsInTable id u table = (st : State) × IsRecorded table id u st
 
 -- ---- a message whose state changes
 
-one_message : (x y : Message) → Some x ≡ Some y → x ≡ y
-one_message x y e = cc
-
 still_here : (id : ℕ) (e : Message) (z : State) (es rest : List Message) (u : Submission) (st : State) → (IsRecorded rest id u st → IsInTable id u es) → IsRecorded (record { submission = e.submission; state = z } ∷ rest) id u st → IsInTable id u (e ∷ es)
 still_here id e z es rest u st more k =
     let y : Message = record { submission = e.submission; state = z } in
     let x : Message = record { submission = u; state = st } in
     ⊎_elim
     (λ (t : (e.submission.id == id) ≡ true).
-    let same : y ≡ x = one_message y x (sym (cond-true (e.submission.id == id) (Some y) (find id rest) t) ∙ k) in
+    let same : y ≡ x = some_is y x (sym (cond-true (e.submission.id == id) (Some y) (find id rest) t) ∙ k) in
     let found : IsInTable id u (e ∷ es) =
     (e.state, cond-true (e.submission.id == id) (Some e) (find id es) t ∙ ap (λ (m : Message). let w : Message = record { submission = m.submission; state = e.state } in Some w) same) in found)
     (λ (t : (e.submission.id == id) ≡ false).

@@ -58,9 +58,7 @@ use Rattle.sms_world.proofs.messages_have_origins.HandsetOriginators.{IsAsked, f
 use Rattle.sms_world.proofs.messages_have_origins.KeptRows.{HasRow, row_kept}
 use Rattle.sms_world.proofs.messages_have_origins.HandsetMessages.{of_handset}
 use Rattle.sms_world.proofs.messages_have_origins.Unmoved.{Rows, meets_leaves, rows_in, rows_of}
-
-one_row : (x y : MessageRow) → Some x ≡ Some y → x ≡ y
-one_row x y e = cc
+use Rattle.sms_world.proofs.Options.{some_is}
 
 -- ---- what was submitted stays so
 
@@ -150,7 +148,7 @@ module _ (n : ℕ) (e : WorldEvent) (es : List WorldEvent) (c next d : PlayState
       let l = event_leads n e c next w s good octets is in
       let now : HasSubmitted m.id u next.centre.rows.messages next.centre.rows.parts = (y, (there, subst (λ (qs : List PartRow). IsSubmitted u y qs) (sym ps) z.2.2)) in
       let last = all_preserved (HasSubmitted m.id u) (submitted_preserved m.id u) (n + 1) es next d (end w (happened_in h l.0)) l.1.2 now goods more leads in
-      let same : last.0 ≡ m = one_row last.0 m (sym last.1.0 ∙ at) in
+      let same : last.0 ≡ m = some_is last.0 m (sym last.1.0 ∙ at) in
       let found : WasStoredIn c m.id ⊎ IsOfApplication x c m d.centre.rows.parts =
       inr (record { number = number; place = k.place; account = z.0; submission = u; named = k.named; its = z.2.0; reads = z.2.1; is = subst (λ (y : MessageRow). IsSubmitted u y d.centre.rows.parts) same last.1.1 }) in found)
       (made_is k.place (submit_of x) c.centre y s.sound here)
@@ -165,7 +163,7 @@ module _ (n : ℕ) (e : WorldEvent) (es : List WorldEvent) (c next d : PlayState
       let now : HasRow m.id (IsAskedAt number c) next.centre.rows.messages next.centre.rows.parts = (x, (there, new)) in
       let l = event_leads n e c next w s good octets is in
       let last = all_preserved (HasRow m.id (IsAskedAt number c)) (row_kept m.id (IsAskedAt number c) (asked_ends number c)) (n + 1) es next d (end w (happened_in h l.0)) l.1.2 now goods more leads in
-      subst (λ (z : MessageRow). IsAskedAt number c z) (one_row last.0 m (sym last.1.0 ∙ at)) last.1.1
+      subst (λ (z : MessageRow). IsAskedAt number c z) (some_is last.0 m (sym last.1.0 ∙ at)) last.1.1
 
   -- it is a handset's
   asked_for : (number : ℕ) (u : Submission) → IsInTable m.id u (end w (happened_in h (event_leads n e c next w s good octets is).0)).table → Enters w (Handed number) u → m.id ≡ next_number c.centre.rows

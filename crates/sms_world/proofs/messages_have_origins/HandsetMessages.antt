@@ -44,6 +44,7 @@ use Rattle.sms_world.proofs.headline.DecidedTimely.{number_by, numbered_there, o
 use Rattle.sms_world.proofs.messages_have_origins.HandsetOriginators.{IsAsked}
 use Rattle.sms_world.proofs.scripts_are_runs.Bags.{frame_found, row_seen as bag_seen}
 use Rattle.sms_world.specs.headline.Origins.{IsOfHandset}
+use Rattle.sms_world.proofs.Options.{some_is}
 
 -- ---- the frame, by its row
 
@@ -98,12 +99,6 @@ one_is_small = omega arith
 only_one : (n : ℕ) → 0 < n → n ≤ 1 → n ≡ 1
 only_one n a b = omega (arith, a, b)
 
-some_row : (a b : PartRow) → Some a ≡ Some b → a ≡ b
-some_row a b e = cc
-
-some_seen : (a b : PartSeen) → Some a ≡ Some b → a ≡ b
-some_seen a b e = cc
-
 no_row : (x : PartSeen) → part_seen None ≡ Some x → ⊥
 no_row x e = absurd cc
 
@@ -147,7 +142,7 @@ module _ (c : PlayState) (w : World) (s : PlayRefines c w) (u : Submission) (st 
       let part : UserData = known.2.1.0 in
       let has : HasPart u 1 part = subst (λ (z : Submission). HasPart z 1 part) mine known.2.1.1.0 in
       let is_data : part ≡ text = (let both : Some part ≡ Some text = sym has ∙ first in cc) in
-      let seen_is : seen.0.tpdu ≡ compared p.tpdu = ap (λ (z : PartSeen). z.tpdu) (sym (some_seen (seen_of p) seen.0 (ap part_seen (sym row.1) ∙ octet.1))) in
+      let seen_is : seen.0.tpdu ≡ compared p.tpdu = ap (λ (z : PartSeen). z.tpdu) (sym (some_is (seen_of p) seen.0 (ap part_seen (sym row.1) ∙ octet.1))) in
       record {
         part = p;
         part_there = row.1;
@@ -159,7 +154,7 @@ module _ (c : PlayState) (w : World) (s : PlayRefines c w) (u : Submission) (st 
             let in_u : HasPart u y.number z.0 = subst (λ (v : Submission). HasPart v y.number z.0) same z.1 in
             let bounds = part_within u.parts y.number z.0 in_u in
             let number : y.number ≡ 1 = only_one y.number bounds.0 (subst (λ (ps : List UserData). y.number ≤ length ps) asks.parts bounds.1) in
-            some_row y p (sym at_y ∙ ap (λ (k : ℕ). part_at m.id k c.centre.rows.parts) number ∙ row.1);
+            some_is y p (sym at_y ∙ ap (λ (k : ℕ). part_at m.id k c.centre.rows.parts) number ∙ row.1);
         row = subst (λ (z : Submission). IsRowOf m z) same t.2.1;
         moment = g.0;
         deliver = subst (λ (z : Submission × UserData × List ℕ). IsDeliverOf z.0 z.1 g.0 z.2) (λ j. (mine j, is_data j, seen_is j)) known.2.1.1.1;

@@ -61,6 +61,7 @@ use Rattle.sms_world.proofs.scripts_are_runs.Events.{event_leads, ok_play}
 use Rattle.sms_world.proofs.scripts_are_runs.Meetings.{MeetsCentre, meets}
 use Rattle.sms_world.proofs.split_messages_stay.MadeParts.{Accepts, IsAccepted, accept_leads}
 use Rattle.sms_world.proofs.split_messages_stay.SplitSteady.{end_touches, own_number}
+use Rattle.sms_world.proofs.Options.{some_is}
 
 -- ---- a submission is accepted at the moment of the store, which stays
 
@@ -183,9 +184,6 @@ submitted_then event c sound is still m i none =
 
 -- ---- an event of a script
 
-one_row : (x y : MessageRow) → Some x ≡ Some y → x ≡ y
-one_row x y e = cc
-
 module _ (n : ℕ) (e : WorldEvent) (es : List WorldEvent) (c next d : PlayState) (w : World) (s : PlayRefines c w) (good : IsGoodEvent e) (octets : HandsOctets e c) (is : played n e c ≡ ok_play next)
     (goods : AreGood es) (more : AllHandOctets (n + 1) es next) (leads : played_on (n + 1) es next ≡ ok_play d) (m : MessageRow) (at : message_at m.id d.centre.rows.messages ≡ Some m) where
   abbrev IsThen : MessageRow → Type 0
@@ -226,4 +224,4 @@ module _ (n : ℕ) (e : WorldEvent) (es : List WorldEvent) (c next d : PlayState
       let now : HasRow m.id IsThen next.centre.rows.messages next.centre.rows.parts = (x, (there, new)) in
       let l = event_leads n e c next w s good octets is in
       let last = all_preserved (HasRow m.id IsThen) (row_kept m.id IsThen (λ f k y p. p)) (n + 1) es next d (world_end w (happened_in (happening_of e c.centre.moment) l.0)) l.1.2 now goods more leads in
-      subst (λ (z : MessageRow). IsThen z) (one_row last.0 m (sym last.1.0 ∙ at)) last.1.1
+      subst (λ (z : MessageRow). IsThen z) (some_is last.0 m (sym last.1.0 ∙ at)) last.1.1

@@ -17,6 +17,7 @@ use Rattle.sms_world.specs.headline.SeenFrames.{sent_as, sent_down}
 use Rattle.sms_world.specs.centres_refine_the_world.FramesOut.{AreWholeDown, stacked_down}
 use Rattle.sms_world.specs.scripts_are_runs.PlayRefinement.{IsSentRow}
 use Rattle.sms_world.specs.headline.SeenWorld.{all_seen, sent_row}
+use Rattle.sms_world.proofs.Options.{some_is}
 
 -- ---- one more frame
 
@@ -82,14 +83,11 @@ down_rows (f ∷ fs) bag whole all =
 
 -- ---- a frame that is found
 
-some_row : (f g : FrameRow) → Some f ≡ Some g → f ≡ g
-some_row f g e = cc
-
 pub frame_found : (n : ℕ) (fs : List FrameRow) (f : FrameRow) → frame_at n fs ≡ Some f → Among f fs × (f.number ≡ n)
 frame_found n [] f e = absurd cc
 frame_found n (x ∷ xs) f e = ⊎_elim
     (λ (y : (x.number == n) ≡ true).
-    let q : x ≡ f = some_row x f (sym (cond-true (x.number == n) (Some x) (frame_at n xs) y) ∙ e) in
+    let q : x ≡ f = some_is x f (sym (cond-true (x.number == n) (Some x) (frame_at n xs) y) ∙ e) in
     (inl (sym q), ap (λ (z : FrameRow). z.number) (sym q) ∙ eqb-true x.number n y))
     (λ (y : (x.number == n) ≡ false).
     let r = frame_found n xs f (sym (cond-false (x.number == n) (Some x) (frame_at n xs) y) ∙ e) in (inr r.0, r.1))

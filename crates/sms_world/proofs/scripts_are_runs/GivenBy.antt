@@ -44,7 +44,8 @@ use Rattle.sms_world.specs.scripts_are_runs.AllocationLaws.{HoldersSee}
 use Rattle.sms_world.proofs.scripts_are_runs.Growing.{Grown, either_part, in_front, in_rest, not_twice}
 use Rattle.sms_world.proofs.scripts_are_runs.Latest.{RecordAll, Records}
 use Rattle.sms_world.proofs.scripts_are_runs.PartMoves.{IsNewPart, IsSame, new_was_put, put_is_new}
-use Rattle.sms_world.proofs.scripts_are_runs.ReportMoves.{Reporting, some_report, came, committed, event_reports, new_report_put, put_report_new}
+use Rattle.sms_world.proofs.scripts_are_runs.ReportMoves.{Reporting, came, committed, event_reports, new_report_put, put_report_new}
+use Rattle.sms_world.proofs.Options.{some_is}
 
 -- ---- rows of parts and of status reports
 
@@ -131,13 +132,10 @@ none_report s e = absurd cc
 abbrev seen_of : PartRow → PartSeen
 seen_of p = record { reference = p.reference; tpdu = compared p.tpdu; is_done = p.progress.is_done }
 
-some_seen : (a b : PartSeen) → Some a ≡ Some b → a ≡ b
-some_seen a b e = cc
-
 -- the row that a part is seen of
 seen_row : (o : Option PartRow) (s : PartSeen) → part_seen o ≡ Some s → (p : PartRow) × ((o ≡ Some p) × (s ≡ seen_of p))
 seen_row None s e = absurd (none_seen s e)
-seen_row (Some p) s e = (p, (refl, sym (some_seen (seen_of p) s e)))
+seen_row (Some p) s e = (p, (refl, sym (some_is (seen_of p) s e)))
 
 seen_report_row : (o : Option ReportRow) (s : ReportSeen) → report_seen o ≡ Some s → (r : ReportRow) × ((o ≡ Some r) × (r.kind ≡ s.kind))
 seen_report_row None s e = absurd (none_report s e)
@@ -299,7 +297,7 @@ module _ (event : CentreEvent) (c : Core) (sound : IsSoundCore c) (is : IsEvent 
   had_none x id i e q now reference tpdu kind None at = refl
   had_none x id i e q now reference tpdu kind (Some r) at =
       let k = (keeps_rows event c sound is).reports id r at in
-      let same : k.0 ≡ q = some_report k.0 q (sym k.1.0 ∙ now) in
+      let same : k.0 ≡ q = some_is k.0 q (sym k.1.0 ∙ now) in
       let was : r.kind ≡ Status reference tpdu = sym k.1.1.kind ∙ ap (λ (z : ReportRow). z.kind) same ∙ kind in
       let found = report_found id r c.rows.reports at in
       let message = (sound.rows.reports.each r found.0).message in

@@ -14,10 +14,8 @@ use Rattle.sms_base.specs.declared.holder.Holder.TheVariants.{Part, Report, Entr
 use Rattle.sms_world.specs.headline.SeenWorld.{HoldersDiffer, IsDown, PartGiven, AgreesDown, latest_holder, parts_given, parts_reported, with_part}
 use Rattle.sms_world.proofs.scripts_are_runs.Growing.{either_part, in_front, in_rest}
 use Rattle.sms_world.proofs.scripts_are_runs.Falling.{Falls, part_from, part_to, parts_append, same_order, told_from, reported_on, told_over, told_to}
+use Rattle.sms_world.proofs.Options.{some_is}
 use Rattle.sms_script.specs.declared.report.rows.Direction.{Direction}
-
-pub some_holder : (a b : Holder) → Some a ≡ Some b → a ≡ b
-some_holder a b e = cc
 
 abbrev pub or_else : Option Holder → Option Holder → Option Holder
 or_else (Some k) o = Some k
@@ -66,8 +64,8 @@ module _ (side : Direction) (h : List ℕ) (r : ℕ) where
   found_at : (g : GivenRow) (gs : List GivenRow) (k : Holder) → (o : Option Holder) → last None gs ≡ o → ((l : Holder) → o ≡ Some l → IsLast gs l) → (b : Bool) → of g ≡ b
       → or_else o (cond b (Some g.holder) None) ≡ Some k → IsLast (g ∷ gs) k
   found_at g gs k (Some l) q each b is e =
-      let x = each l refl in (x.0, (inr x.1.0, x.1.1, x.1.2 ∙ some_holder l k e))
-  found_at g gs k None q each true is e = (g, (inl refl, is, some_holder g.holder k e))
+      let x = each l refl in (x.0, (inr x.1.0, x.1.1, x.1.2 ∙ some_is l k e))
+  found_at g gs k None q each true is e = (g, (inl refl, is, some_is g.holder k e))
   found_at g gs k None q each false is e = absurd cc
 
   pub found_last : (gs : List GivenRow) (k : Holder) → last None gs ≡ Some k → IsLast gs k
@@ -106,7 +104,7 @@ module _ (side : Direction) (h : List ℕ) (r : ℕ) where
   pub found_latest : (ds : List Allocation) (k : Holder) → latest ds ≡ Some k → IsLatestOf ds k
   found_latest [] k e = absurd cc
   found_latest (g ∷ ds) k e = ⊎_elim
-      (λ (t : names h r g ≡ true). (g, (inl refl, t, some_holder g.holder k (sym (cond-true (names h r g) (Some g.holder) (latest ds) t) ∙ e))))
+      (λ (t : names h r g ≡ true). (g, (inl refl, t, some_is g.holder k (sym (cond-true (names h r g) (Some g.holder) (latest ds) t) ∙ e))))
       (λ (f : names h r g ≡ false). let x = found_latest ds k (sym (cond-false (names h r g) (Some g.holder) (latest ds) f) ∙ e) in (x.0, (inr x.1.0, x.1.1, x.1.2)))
       (cases_Bool (names h r g))
 
@@ -308,7 +306,7 @@ latest_is h r k [] e = absurd cc
 latest_is h r k (g ∷ older) e = ⊎_elim
     (λ (t : names h r g ≡ true).
     let n = names_it h r g t in
-    (g, (inl refl, n.0, n.1, some_holder g.holder k (sym (cond-true (names h r g) (Some g.holder) (latest_holder h r older) t) ∙ e))))
+    (g, (inl refl, n.0, n.1, some_is g.holder k (sym (cond-true (names h r g) (Some g.holder) (latest_holder h r older) t) ∙ e))))
     (λ (f : names h r g ≡ false).
     let x = latest_is h r k older (sym (cond-false (names h r g) (Some g.holder) (latest_holder h r older) f) ∙ e) in
     (x.0, (inr ((λ s. both_ways (names h r g) f (named h r g (sym s.0 ∙ x.1.1) (sym s.1 ∙ x.1.2))), x.1.0), x.1.1, x.1.2, x.1.3)))

@@ -48,6 +48,7 @@ use Rattle.sms_centre_spec.proofs.StagesConsistent.{next_is_new}
 use Rattle.sms_centre_spec.proofs.Steady.{IsSteady, message_own}
 use Rattle.sms_centre_spec.proofs.SteadyEvents.{steady_event}
 use Rattle.sms_world.proofs.scripts_are_runs.Growing.{among_last}
+use Rattle.sms_world.proofs.Options.{some_is, none_some}
 
 -- each report that came was of a message that had none, over the rows that those behind it led to
 abbrev pub ReportsMove : List (Revision ReportRow) → List ReportRow → Type 0
@@ -178,12 +179,6 @@ event_reports event c sound is =
 
 -- ---- a report that was put is new, and stands in the end; and one that is new was put
 
-pub some_report : (a b : ReportRow) → Some a ≡ Some b → a ≡ b
-some_report a b e = cc
-
-no_row : (a : ReportRow) → None ≡ Some a → ⊥
-no_row a e = absurd cc
-
 abbrev rows : List (Revision ReportRow) → List ReportRow → List ReportRow
 rows news rs = rows_after report_key report_reaching news rs
 
@@ -243,17 +238,17 @@ WasMade id kind news = (r : ReportRow) × (Among (Put r) news × (r.id ≡ id) �
 
 before_amend : (id n : ℕ) (p : Progress) (q : ReportRow) (news : List (Revision ReportRow)) (rs : List ReportRow) → report_of id (amended report_key report_reaching n p (rows news rs)) ≡ Some q
     → ((s : ReportRow) → report_of id (rows news rs) ≡ Some s → WasMade id s.kind news) → (o : Option ReportRow) → report_of id (rows news rs) ≡ o → WasMade id q.kind (Amend n p ∷ news)
-before_amend id n p q news rs at made None e = absurd (no_row q (sym (far_none id n p (rows news rs) e) ∙ at))
+before_amend id n p q news rs at made None e = absurd (none_some q (sym (far_none id n p (rows news rs) e) ∙ at))
 before_amend id n p q news rs at made (Some s) e =
     let y = made s e in
-    let same : so_far n p s ≡ q = some_report (so_far n p s) q (sym (far_of id n p (rows news rs) s e) ∙ at) in
+    let same : so_far n p s ≡ q = some_is (so_far n p s) q (sym (far_of id n p (rows news rs) s e) ∙ at) in
     (y.0, (inr y.1.0, y.1.1, y.1.2 ∙ sym (far_kind n p s) ∙ ap (λ (z : ReportRow). z.kind) same))
 
 pub new_report_put : (id : ℕ) (q : ReportRow) (news : List (Revision ReportRow)) (rs : List ReportRow) → ReportsMove news rs → report_of id rs ≡ None → report_of id (rows news rs) ≡ Some q → WasMade id q.kind news
-new_report_put id q [] rs moves none at = absurd (no_row q (sym none ∙ at))
+new_report_put id q [] rs moves none at = absurd (none_some q (sym none ∙ at))
 new_report_put id q (Put x ∷ news) rs moves none at = ⊎_elim
     (λ (e : x.id ≡ id).
-    let same : x ≡ q = some_report x q (sym (new_report x (rows news rs) moves.0) ∙ ap (λ (k : ℕ). report_of k (put report_key x (rows news rs))) e ∙ at) in
+    let same : x ≡ q = some_is x q (sym (new_report x (rows news rs) moves.0) ∙ ap (λ (k : ℕ). report_of k (put report_key x (rows news rs))) e ∙ at) in
     (x, (inl refl, e, ap (λ (z : ReportRow). z.kind) same)))
     (λ (ne : x.id ≡ id → ⊥).
     let y = new_report_put id q news rs moves.1 none (sym (new_report_other id x (rows news rs) moves.0 ne) ∙ at) in (y.0, (inr y.1.0, y.1.1, y.1.2)))

@@ -17,13 +17,14 @@ use Rattle.sms_world.proofs.entries_keep_references.Elsewhere.{AllElsewhere, las
 use Rattle.sms_world.proofs.entries_keep_references.EntriesAgreeing.{Ends, IsOpen, IsRowFor, SentOne}
 use Rattle.sms_world.proofs.entries_keep_references.RowsGiven.{appended, last_over as last_over_up, last_own}
 use Rattle.sms_world.proofs.scripts_are_runs.Growing.{either_part, in_front, in_rest}
-use Rattle.sms_world.proofs.scripts_are_runs.Latest.{found_last, found_latest, last_else, last_over, latest_else, named, names, names_it, none_last, none_latest, or_else, some_holder}
+use Rattle.sms_world.proofs.scripts_are_runs.Latest.{found_last, found_latest, last_else, last_over, latest_else, named, names, names_it, none_last, none_latest, or_else}
 use Rattle.sms_world.proofs.scripts_are_runs.UpGrown.{HasEntry, IsOwnHolder, UpGrown, UpSingle}
 use Rattle.sms_world.specs.scripts_are_runs.PlayRefinement.{OwnAllocations}
 use Rattle.sms_world.specs.headline.SeenWorld.{IsOfAllocationUp, IsUp, AgreesUp, latest_holder}
 use Rattle.sms_world_model.specs.World.{Allocation, World}
 use Rattle.sms_world_model.specs.WorldStep.{Step}
 use Rattle.sms_world.specs.handset_runs_are_steps.Refinement.{Refines}
+use Rattle.sms_world.proofs.Options.{some_is}
 use Rattle.std.proofs.Common.{ap, arith, inl, inr, refl, subst, sym, ⊎_elim, ◌∙◌}
 use Rattle.std.proofs.lemmas.Bool.{and_from, and_parts, both_ways, cases_Bool, cond-false, eq-eqb, eqb-true, ltb-false, ltb-true}
 use Rattle.std.proofs.lemmas.Slice.Eq.{bytes_eq-Decides}
@@ -281,7 +282,7 @@ module _ (p : Party) (d : Draft) (given : List GivenRow) (w x : World) (steps : 
       let n = ends.news.from b j in
       let one : m.0.reference ≡ n.0.reference = sym m.1.3.reference ∙ same ∙ n.1.3.reference in
       let both : Entry m.0.number ≡ Entry n.0.number =
-      some_holder (Entry m.0.number) (Entry n.0.number)
+      some_is (Entry m.0.number) (Entry n.0.number)
       (sym (last_reported m.0 m.1.0 m.1.2) ∙ ap (λ (r : ℕ). last_holder None h Up r (given ++ rows)) one ∙ last_reported n.0 n.1.0 n.1.2) in
       m.1.3.holder ∙ both ∙ sym n.1.3.holder
 

@@ -9,6 +9,7 @@ use Rattle.sms_world.specs.headline.Claims.{AreJoinedRounds, IsJoinedFrom}
 use Rattle.sms_world.specs.wrong_plays.Plays.{joined, of_handset, setup}
 use Rattle.sms_world.specs.wrong_plays.Told.{JoinedOfNoneLaw, SplitOfNoneLaw}
 use Rattle.sms_world.specs.wrong_reports.Literals.{handset, joined_row}
+use Rattle.sms_world.proofs.Options.{none_some}
 use Rattle.sms_concat.specs.declared.content.Part.{Part as PartOf}
 use Rattle.sms_world_model.specs.Place.{joined_parts, with_part}
 use Rattle.sms_world_model.specs.Groups.{joined_content, parts_to}
@@ -17,14 +18,11 @@ use Rattle.sms_world_model.specs.World.{Accepted}
 abbrev play : PlayState
 play = joined (joined_row ∷ [])
 
-no_content : (content : Content) → None ≡ Some content → ⊥
-no_content content e = absurd cc
-
 -- of no parts nothing is joined
 nothing_joins : (total : ℕ) (content : Content) → joined_content total [] ≡ Some content → ⊥
-nothing_joins zero content e = no_content content e
-nothing_joins (suc zero) content e = no_content content e
-nothing_joins (suc (suc n)) content e = no_content content (sym (none n) ∙ e)
+nothing_joins zero content e = none_some content e
+nothing_joins (suc zero) content e = none_some content e
+nothing_joins (suc (suc n)) content e = none_some content (sym (none n) ∙ e)
   where
     no_parts : (n : ℕ) → parts_to (suc n) [] ≡ None
     no_parts zero = refl

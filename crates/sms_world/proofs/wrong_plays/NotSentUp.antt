@@ -35,6 +35,7 @@ use Rattle.sms_world.specs.headline.SeenWorld.{user_data_in}
 use Rattle.sms_world.specs.wrong_plays.Plays.{entry, from_writer, part_one, part_two, party, writers_core}
 use Rattle.sms_world.specs.wrong_plays.SentUp.{AloneLaw, CommonLaw, FrameLaw, HandsetLaw, NextLaw, OwnersLaw, ReferenceLaw, RightLaw, SentByOtherLaw, SentOtherTextLaw, SourceLaw, SubmittedTextLaw, TakersLaw, TextLaw, WishLaw, frame_up, other_deliver, part_up, sent_up}
 use Rattle.sms_world.specs.wrong_reports.Literals.{deliver, handset, hello_octets, other_octets, source, writer}
+use Rattle.sms_world.proofs.Options.{some_is}
 
 -- ---- what the octets read as
 
@@ -216,13 +217,10 @@ sent_other_text all =
 
 -- ---- an application's message
 
-same_part : (p q : PartRow) → Some p ≡ Some q → p ≡ q
-same_part p q e = cc
-
 pub submitted_text : SubmittedTextLaw
 submitted_text s =
     let x = s.each 1 part (ap (λ (ps : List SinglePart). part_numbered 1 ps) (parts_read s.reference)) in
-    let p : record part_one { tpdu = deliver other_octets } ≡ x.0 = same_part _ x.0 x.1.0 in
+    let p : record part_one { tpdu = deliver other_octets } ≡ x.0 = some_is _ x.0 x.1.0 in
     let its = x.1.1 in
     let d : record delivered { originating_address = own_address source; user_data = text other_octets } ≡ its.deliver =
     same_deliver _ its.deliver (sym application_reads ∙ (ap (λ (z : PartRow). down_at InData (compared z.tpdu)) p ∙ its.reads)) in

@@ -3,7 +3,6 @@ use Rattle.std.proofs.Common.{arith, ◌≡◌, ℕ, List, [], ◌∷◌, refl, 
 use Rattle.sms_base.specs.declared.address.Address.{Address}
 use Rattle.sms_base.specs.declared.originator.Originator.TheVariants.{Application, Handset}
 use Rattle.sms_base.specs.declared.wish.Wish.TheVariants.{Always, Nothing}
-use Rattle.sms_centre_rows.specs.declared.messages.part.PartRow.{PartRow}
 use Rattle.sms_concat.specs.Splitting.{IsDivision, joined, joined_each, numbered, room}
 use Rattle.sms_concat.specs.WholeUnits.{whole_units}
 use Rattle.sms_concat.specs.declared.content.Part.{Part as PartOf}
@@ -14,6 +13,7 @@ use Rattle.sms_world.specs.headline.SplitClaims.{IsSplitOf}
 use Rattle.sms_world.specs.wrong_plays.Played.{LostPartLaw, LostTextLaw, OnePartMoreLaw, OtherHandsetLaw, OtherLimitLaw, OtherOriginatorLaw, OtherProtocolLaw, OtherSourceLaw, OtherSplitLaw, OtherWishLaw, ShortLaw, long_content}
 use Rattle.sms_world.specs.wrong_plays.Plays.{from_application, part_one}
 use Rattle.sms_world.specs.wrong_reports.Literals.{name}
+use Rattle.sms_world.proofs.Options.{none_some}
 use Rattle.std.specs.Prelude.{slice_get}
 
 handset_is : Handset 7 ≡ Application name → ⊥
@@ -46,20 +46,14 @@ no_reference n e = absurd cc
 pub other_split : OtherSplitLaw
 other_split s = no_reference 7 s.split
 
-no_part : (p : PartRow) → None ≡ Some p → ⊥
-no_part p e = absurd cc
-
-no_body : (b : SinglePart) → None ≡ Some b → ⊥
-no_body b e = absurd cc
-
 pub lost_part : LostPartLaw
 lost_part s =
-    let x = s.each 1 part (ap (λ (ps : List SinglePart). part_numbered 1 ps) (parts_read s.reference)) in no_part x.0 x.1.0
+    let x = s.each 1 part (ap (λ (ps : List SinglePart). part_numbered 1 ps) (parts_read s.reference)) in none_some x.0 x.1.0
 
 pub one_part_more : OnePartMoreLaw
 one_part_more s =
     let x = s.only (record part_one { number = 2 }) (inr (inl refl)) refl in
-    no_body x.0 (sym (ap (λ (ps : List SinglePart). part_numbered 2 ps) (parts_read s.reference)) ∙ x.1.0)
+    none_some x.0 (sym (ap (λ (ps : List SinglePart). part_numbered 2 ps) (parts_read s.reference)) ∙ x.1.0)
 
 pub short : ShortLaw
 short s = let q : 160 < 5 = s.long in let l : ⊥ = omega (arith, q) in l
@@ -80,7 +74,7 @@ first_of : (pieces : List (List ℕ)) (all : List PartOf) (s : IsSplitOf from_ap
     → s.pieces ≡ numbered long_content 7 (length pieces) 1 pieces → ⊥
 first_of [] all s d e = no_division [] refl d
 first_of (p ∷ ps) all s d e =
-    let x = s.carried 0 _ (ap (λ (z : List PartOf). slice_get z 0) e) in no_part x.0 x.1.0
+    let x = s.carried 0 _ (ap (λ (z : List PartOf). slice_get z 0) e) in none_some x.0 x.1.0
 
 pub lost_text : LostTextLaw
 lost_text s = let x = s.split.cut s.long in first_of x.1.0 s.pieces s x.1.1 x.1.2

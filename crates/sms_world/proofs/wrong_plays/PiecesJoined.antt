@@ -22,6 +22,7 @@ use Rattle.sms_world.specs.wrong_plays.Pieces.{EntryWithoutRowLaw, JoinedUnknown
 use Rattle.sms_world.specs.wrong_plays.Plays.{entry, from_writer, part_two, party, status_report, writers_core}
 use Rattle.sms_world.specs.wrong_plays.Shown.{receipt_there}
 use Rattle.sms_world.specs.wrong_reports.Literals.{handset, joined_row, source, writer}
+use Rattle.sms_world.proofs.Options.{none_some}
 use Rattle.sms_world_model.specs.Groups.{joined_content, parts_to}
 use Rattle.sms_world_model.specs.Place.{Key, joined_parts, with_part}
 use Rattle.sms_world_model.specs.Submission.{Always, IsDeliverOf, Submission}
@@ -203,13 +204,10 @@ right_round q i = ⊎_elim
 
 -- ---- no reference was given
 
-no_content : (c : Content) → None ≡ Some c → ⊥
-no_content c e = absurd cc
-
 nothing_joins : (total : ℕ) (c : Content) → joined_content total [] ≡ Some c → ⊥
-nothing_joins zero c e = no_content c e
-nothing_joins (suc zero) c e = no_content c e
-nothing_joins (suc (suc n)) c e = no_content c (sym (none n) ∙ e)
+nothing_joins zero c e = none_some c e
+nothing_joins (suc zero) c e = none_some c e
+nothing_joins (suc (suc n)) c e = none_some c (sym (none n) ∙ e)
   where
     no_parts : (n : ℕ) → parts_to (suc n) [] ≡ None
     no_parts zero = refl
@@ -258,11 +256,8 @@ receipt_seen = record { kind = Receipt; is_done = false }
 pub report_unknown : ReportUnknownLaw
 report_unknown r = (r.there 1 receipt_seen refl).1
 
-no_report : (r : ReportSeen) → None ≡ Some r → ⊥
-no_report r e = absurd cc
-
 pub report_without_row : ReportWithoutRowLaw
-report_without_row r = let x = r.only receipt_there (inl refl) in no_report x.0 x.1
+report_without_row r = let x = r.only receipt_there (inl refl) in none_some x.0 x.1
 
 abbrev status_seen : ReportSeen
 status_seen = record { kind = Status 0 status_report; is_done = false }

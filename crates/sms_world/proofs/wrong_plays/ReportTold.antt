@@ -1,10 +1,9 @@
 -- A STATUS-REPORT that says what its message does, and such as are of another, or go to another handset.
-use Rattle.std.proofs.Common.{arith, ◌≡◌, ℕ, List, [], ◌∷◌, refl, sym, ◌∙◌, ap, subst, inl, inr, ⊎_elim, Some, None, Result, Ok}
+use Rattle.std.proofs.Common.{arith, ◌≡◌, ℕ, List, [], ◌∷◌, refl, sym, ◌∙◌, ap, subst, inl, inr, ⊎_elim, Some, Result, Ok}
 use Rattle.std.specs.Prelude.{◌⊎◌}
 use Rattle.sms_base.specs.Among.{Among}
 use Rattle.sms_base.specs.declared.carried.Carried.{Carried}
 use Rattle.sms_base.specs.declared.carried.Kind.TheVariants.{Data}
-use Rattle.sms_base.specs.declared.final_state.FinalState.{FinalState}
 use Rattle.sms_base.specs.declared.final_state.FinalState.TheVariants.{Delivered}
 use Rattle.sms_base.specs.declared.holder.Holder.TheVariants.{Report as ReportHolder}
 use Rattle.sms_centre_rows.specs.declared.messages.message.MessageRow.{MessageRow}
@@ -21,6 +20,7 @@ use Rattle.sms_world.specs.headline.SeenFrames.{octets_down}
 use Rattle.sms_world.specs.wrong_plays.Plays.{frame_to, from_application, from_writer}
 use Rattle.sms_world.specs.wrong_plays.Told.{RightToldLaw, ToRecipientLaw, ToldEarlyLaw, ToldOfNoneLaw, pending}
 use Rattle.sms_world.specs.wrong_reports.Literals.{handset, writer}
+use Rattle.sms_world.proofs.Options.{none_some}
 use Rattle.std.specs.Prelude.{length}
 
 abbrev IsTold : FrameRow → Carried → StatusReportOf → Type 0
@@ -79,13 +79,10 @@ told_of_none say =
     (λ (n : ⊥). n)
     x.1.0
 
-no_end : (state : FinalState) → None ≡ Some state → ⊥
-no_end state e = absurd cc
-
 pub told_early : ToldEarlyLaw
 told_early say =
     let x = say (frame_to writer) carried says (inl refl) refl refl refl reads in
     ⊎_elim
-    (λ (e : x.0 ≡ pending from_writer). no_end x.1.3.state (sym (ap (λ (m : MessageRow). m.state) e) ∙ x.1.3.ended))
+    (λ (e : x.0 ≡ pending from_writer). none_some x.1.3.state (sym (ap (λ (m : MessageRow). m.state) e) ∙ x.1.3.ended))
     (λ (n : ⊥). n)
     x.1.0

@@ -27,7 +27,8 @@ use Rattle.sms_world.specs.wrong_plays.Played.{long_content}
 use Rattle.sms_world.specs.wrong_plays.Plays.{part_one}
 use Rattle.sms_world.specs.wrong_plays.SplitText.{MixedRoundLaw, NoPlaceLaw, OtherContentLaw, OtherPlanLaw, OtherRowLaw, OtherWordsLaw, RightSplitLaw, odd, second, split_message, split_one, split_parts, split_two, stray}
 use Rattle.sms_world.specs.wrong_reports.Literals.{deliver, hello_octets, source, zeros}
-use Rattle.sms_world_model.specs.Place.{Place, carried_in, place_in}
+use Rattle.sms_world.proofs.Options.{some_is, none_some}
+use Rattle.sms_world_model.specs.Place.{carried_in, place_in}
 use Rattle.sms_world_model.specs.World.{Accepted}
 
 -- ---- the text in its parts
@@ -118,14 +119,11 @@ two_carried : carried_in split_two.tpdu ≡ Some second_piece
 unfolding everything
 two_carried = refl
 
-no_piece : (x : PartOf) → None ≡ Some x → ⊥
-no_piece x e = absurd cc
-
 carried : (n : ℕ) (piece : PartOf) → slice_get pieces n ≡ Some piece
     → (p : PartRow) × ((part_at 1 (suc n) split_parts ≡ Some p) × (carried_in p.tpdu ≡ Some piece))
 carried zero piece e = (split_one, (refl, one_carried ∙ e))
 carried (suc zero) piece e = (split_two, (refl, two_carried ∙ e))
-carried (suc (suc n)) piece e = absurd (no_piece piece e)
+carried (suc (suc n)) piece e = absurd (none_some piece e)
 
 is_long : 140 < 141
 is_long = omega arith
@@ -161,9 +159,6 @@ other_first : (rest : List ℕ) (key : Option ConcatKey)
     → Some first_piece ≡ Some (record { content = record { coding = Octets; dcs = 4; units = 1 ∷ rest }; key = key }) → ⊥
 other_first rest key e = first_differs (zeros 132) rest (ap (λ (p : Option PartOf). units_in p) e)
 
-same_part : (p q : PartRow) → Some p ≡ Some q → p ≡ q
-same_part p q e = cc
-
 abbrev other_content_is : Content
 other_content_is = record long_content { units = 1 ∷ zeros 140 }
 
@@ -174,18 +169,15 @@ other_content s =
     let is : s.pieces ≡ numbered other_content_is 7 (length x.1.0) 1 ((1 ∷ f.0) ∷ f.1) =
     x.1.2 ∙ ap (λ (z : List (List ℕ)). numbered other_content_is 7 (length x.1.0) 1 z) f.2 in
     let row = s.carried 0 _ (ap (λ (z : List PartOf). slice_get z 0) is) in
-    let its : split_one ≡ row.0 = same_part split_one row.0 row.1.0 in
+    let its : split_one ≡ row.0 = some_is split_one row.0 row.1.0 in
     other_first f.0 _ (sym one_carried ∙ (ap (λ (z : PartRow). carried_in z.tpdu) its ∙ row.1.1))
 
 nowhere : place_in (deliver hello_octets) ≡ None
 unfolding everything
 nowhere = refl
 
-no_place_is : (x : Place) → None ≡ Some x → ⊥
-no_place_is x e = absurd cc
-
 pub no_place : NoPlaceLaw
-no_place s = no_place_is _ (sym nowhere ∙ s.under.placed (record part_one { number = 3 }) (inr (inr (inl refl))) refl)
+no_place s = none_some _ (sym nowhere ∙ s.under.placed (record part_one { number = 3 }) (inr (inr (inl refl))) refl)
 
 -- ---- what was joined of it
 

@@ -32,6 +32,7 @@ use Rattle.sms_world.specs.headline.PlainWords.{numbered}
 use Rattle.sms_world.specs.wrong_reports.Literals.{handset, hello, of_writer, owner_carried, owner_events, owner_frame, owner_given, owner_line, owner_reports, owner_setup, writer}
 use Rattle.sms_world.specs.wrong_reports.Tried.{OtherEntryLaw, OwnerLaw, TrueOwnerLaw, TrueSentLaw}
 use Rattle.sms_world.proofs.wrong_reports.Read.{content, part}
+use Rattle.sms_world.proofs.Options.{some_is}
 
 abbrev u : Submission
 u = record {
@@ -236,15 +237,12 @@ entry_refused m =
     let number : o.number ≡ 2 = two_events o.number w.event w.number w.at w.does in
     let there : Among w.frame (owner_frame 2 ∷ []) = subst (λ (bag : List FrameRow). Among w.frame bag) (ap (λ (n : ℕ). (reports n).bag) number) w.among in
     let frame : w.frame ≡ owner_frame 2 = ⊎_elim (λ (e : w.frame ≡ owner_frame 2). e) (λ (n : ⊥). absurd n) there in
-    let carried : owner_carried 2 ≡ w.carried = some_carried (owner_carried 2) w.carried (ap (λ (f : FrameRow). f.carried) (sym frame) ∙ w.carries) in
+    let carried : owner_carried 2 ≡ w.carried = some_is (owner_carried 2) w.carried (ap (λ (f : FrameRow). f.carried) (sym frame) ∙ w.carries) in
     let place : w.place ≡ 1 = second_place w.first w.place (ap (λ (c : Carried). c.tag) carried ∙ w.of_entry) first in
     let text : o.origin.submission.text ≡ WholeText (content_of_text (chars hello)) = w.submission.text ∙ ap (λ (t : List ℕ). WholeText (content_of_text (chars t))) (sym k.words) in
     let parts : bodies_under w.reference o.origin.submission.text ≡ part ∷ [] = ap (λ (t : Text). bodies_under w.reference t) text ∙ one_piece w.reference in
     no_second 0 w.part (ap (λ (bs : List SinglePart). numbered 2 bs) (sym parts) ∙ ap (λ (n : ℕ). numbered (suc n) (bodies_under w.reference o.origin.submission.text)) (sym place) ∙ w.piece)
   where
-    some_carried : (a b : Carried) → Some a ≡ Some b → a ≡ b
-    some_carried a b e = cc
-
     two_events : (k : ℕ) (w : WorldEvent) (n : ℕ) → numbered k owner_events ≡ Some w → Does w (Deliver n) → k ≡ 2
     two_events zero w n e d = absurd cc
     two_events (suc zero) w n e d = ⊎_elim (λ (q : w ≡ Whole (Deliver n)). absurd cc) (λ (q : w ≡ Stopped After (Deliver n)). absurd cc) d

@@ -1,5 +1,5 @@
 -- A STATUS-REPORT that says what its message does, and such as do not.
-use Rattle.std.proofs.Common.{arith, ◌≡◌, ℕ, length, refl, sym, ◌∙◌, ap, Some}
+use Rattle.std.proofs.Common.{arith, ◌≡◌, length, refl, sym, ◌∙◌, ap}
 use Rattle.sms_base.specs.declared.address.Address.{Address}
 use Rattle.sms_base.specs.declared.final_state.FinalState.{FinalState}
 use Rattle.sms_base.specs.declared.final_state.FinalState.TheVariants.{Delivered}
@@ -8,12 +8,7 @@ use Rattle.sms_centre_spec.specs.Finals.{submit_reference}
 use Rattle.sms_receipt.specs.StatusReports.{status_of}
 use Rattle.sms_tpdu.specs.Codes.{status_octet}
 use Rattle.sms_world.specs.wrong_reports.StatusReports.{DoneLaw, RecipientLaw, ReferenceLaw, RightLaw, StateLaw, SubmittedLaw}
-
-some_value : (a b : ℕ) → Some a ≡ Some b → a ≡ b
-some_value a b e = cc
-
-some_state : (a b : FinalState) → Some a ≡ Some b → a ≡ b
-some_state a b e = cc
+use Rattle.sms_world.proofs.Options.{some_is}
 
 pub right : RightLaw
 right = record { reference = refl; recipient = refl; submitted = refl; done = refl; state = Delivered; ended = refl; status = refl }
@@ -35,11 +30,11 @@ submitted k =
 
 pub done : DoneLaw
 done k =
-    let q : 946684860 ≡ 946684800 = some_value 946684860 946684800 k.done in
+    let q : 946684860 ≡ 946684800 = some_is 946684860 946684800 k.done in
     let l : ⊥ = omega (arith, q) in l
 
 pub state : StateLaw
 state k =
-    let same : k.state ≡ Delivered = sym (some_state Delivered k.state k.ended) in
+    let same : k.state ≡ Delivered = sym (some_is Delivered k.state k.ended) in
     let q : 70 ≡ 0 = k.status ∙ ap (λ (s : FinalState). status_octet (status_of s)) same in
     let l : ⊥ = omega (arith, q) in l
