@@ -1,5 +1,5 @@
 -- What the centre's rows hold at a handset, the world holds there.
-use Rattle.std.proofs.Common.{◌≡◌, ℕ, ◌<◌, ◌≤◌, List, true, false, refl, sym, ◌∙◌, ap, subst, Option, Some, None, arith}
+use Rattle.std.proofs.Common.{◌≡◌, ℕ, ◌<◌, List, true, false, refl, sym, ◌∙◌, ap, subst, Option, Some, None}
 use Rattle.sms_base.specs.Among.{Among}
 use Rattle.sms_base.specs.declared.final_state.FinalState.{FinalState}
 use Rattle.sms_base.specs.declared.holder.Holder.{Holder}
@@ -14,6 +14,7 @@ use Rattle.sms_tpdu.specs.MoreMessages.{compared}
 use Rattle.sms_world_model.specs.Agreement.{HeldDiffer as WorldHeldDiffer}
 use Rattle.sms_world_model.specs.World.{Allocation, IsHeld, IsUnanswered, Pending, IsRecorded, State, World}
 use Rattle.sms_world.proofs.centres_refine_the_world.ByOctets.{by_octet_is}
+use Rattle.sms_world.proofs.SeenParts.{small as small_number}
 use Rattle.sms_world.specs.centres_refine_the_world.CentreRefinement.{CentreRefines}
 use Rattle.sms_world.specs.centres_refine_the_world.RefinesGiven.{given_part, given_report}
 use Rattle.sms_world.specs.headline.SeenWorld.{IsStateOf, PartSeen, part_seen, parts_by}
@@ -26,9 +27,6 @@ IsHeldFor w h r holder = (g : Allocation) × (IsHeld w g × (g.handset ≡ h) ×
 
 not_done : true ≡ false → ⊥
 not_done e = absurd cc
-
-small_number : (n : ℕ) → n ≤ 20 → n < 256
-small_number n l = omega (arith, l)
 
 module _ (c : Core) (w : World) (sound : IsSoundCore c) (s : CentreRefines w (draft_of c) w) where
   part_held : (h : List ℕ) (r id number : ℕ) → Holds c.rows h r (Part id number) → IsHeldFor w h r (Part id number)

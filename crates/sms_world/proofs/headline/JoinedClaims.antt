@@ -12,7 +12,6 @@ use Rattle.sms_centre_rows.specs.declared.messages.message.MessageRow.{MessageRo
 use Rattle.sms_centre_rows.specs.declared.messages.part.PartRow.{PartRow}
 use Rattle.sms_script.specs.declared.report.rows.JoinedRow.{JoinedRow}
 use Rattle.sms_rows.proofs.table.Tables.{found_among, found_key}
-use Rattle.sms_tpdu.specs.MoreMessages.{compared}
 use Rattle.sms_tpdu.specs.declared.deliver.Deliver.{Deliver as DeliverOf}
 use Rattle.sms_tpdu.specs.declared.user_data.UserData.{UserData}
 use Rattle.sms_play.specs.PlayState.{PlayState, Party}
@@ -35,6 +34,7 @@ use Rattle.sms_world.proofs.scripts_are_runs.Agreeing.{sound_there}
 use Rattle.sms_world.proofs.scripts_are_runs.Bags.{among_last}
 use Rattle.sms_world.specs.scripts_are_runs.PlayRefinement.{PlayRefines}
 use Rattle.sms_world.proofs.Options.{some_is}
+use Rattle.sms_world.proofs.SeenParts.{seen_of}
 
 pub placed_there : (w : World) → IsReached w → IsPlaced w
 placed_there w (is, (run, at)) = subst (λ (v : World). IsPlaced v) at (placed_run empty is placed_empty run)
@@ -54,9 +54,6 @@ in_accepted h x (p ∷ ps) i e = ⊎_elim
     (λ (j : Among x ps). in_accepted h x ps j e)
     i))
     (cases_Bool (bytes_eq p.handset h))
-
-abbrev seen_of : PartRow → PartSeen
-seen_of p = record { reference = p.reference; tpdu = compared p.tpdu; is_done = p.progress.is_done }
 
 -- the row that a part was seen by
 some_part : (o : Option PartRow) (x : PartSeen) → part_seen o ≡ Some x → (p : PartRow) × ((o ≡ Some p) × (part_seen (Some p) ≡ Some x))

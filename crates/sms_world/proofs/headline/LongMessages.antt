@@ -29,18 +29,10 @@ use Rattle.sms_world.specs.headline.Claims.{pair_in_row, IsLongMessage}
 use Rattle.sms_world.proofs.scripts_are_runs.Agreeing.{sound_there}
 use Rattle.sms_world.specs.scripts_are_runs.PlayRefinement.{PlayRefines}
 use Rattle.sms_world.proofs.Options.{some_is}
-
-small : (n : ℕ) → n ≤ 20 → n < 256
-small n l = omega (arith, l)
-
-no_row : (x : PartSeen) → part_seen None ≡ Some x → ⊥
-no_row x e = absurd cc
-
-abbrev seen_of : PartRow → PartSeen
-seen_of p = record { reference = p.reference; tpdu = compared p.tpdu; is_done = p.progress.is_done }
+use Rattle.sms_world.proofs.SeenParts.{small, seen_of, none_seen}
 
 row_seen : (o : Option PartRow) (x : PartSeen) → part_seen o ≡ Some x → (p : PartRow) × ((o ≡ Some p) × (seen_of p ≡ x))
-row_seen None x e = absurd (no_row x e)
+row_seen None x e = absurd (none_seen x e)
 row_seen (Some p) x e = (p, (refl, some_is (seen_of p) x e))
 
 -- a list has an element at each place below its length

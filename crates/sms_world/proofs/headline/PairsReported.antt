@@ -16,6 +16,7 @@ use Rattle.sms_world.proofs.centres_refine_the_world.ByOctets.{by_octet_some}
 use Rattle.sms_world.specs.headline.SeenWorld.{PartSeen, part_seen, PartGiven, parts_given, parts_reported, with_part}
 use Rattle.sms_world.specs.scripts_are_runs.PlayRefinement.{PlayRefines}
 use Rattle.sms_world.proofs.Options.{some_is}
+use Rattle.sms_world.proofs.SeenParts.{none_seen}
 
 -- ---- what is offered for a part, as its row has it
 
@@ -52,11 +53,8 @@ rows_reported rows (r ∷ given) gs ps k =
 
 -- ---- of the world's allocations
 
-no_part : (s : PartSeen) → part_seen None ≡ Some s → ⊥
-no_part s e = absurd cc
-
 seen_tpdu : (o : Option PartRow) (s : PartSeen) → part_seen o ≡ Some s → s.tpdu ≡ compared (tpdu_in o)
-seen_tpdu None s e = absurd (no_part s e)
+seen_tpdu None s e = absurd (none_seen s e)
 seen_tpdu (Some p) s e = ap (λ (z : PartSeen). z.tpdu) (sym (some_is (record { reference = p.reference; tpdu = compared p.tpdu; is_done = p.progress.is_done }) s e))
 
 module _ (d : PlayState) (v : World) (s : PlayRefines d v) where

@@ -58,6 +58,7 @@ use Rattle.sms_world.proofs.headline.TimelyClaims.{Reaches, among_own}
 use Rattle.sms_world.proofs.scripts_are_runs.Agreeing.{sound_there}
 use Rattle.sms_world.proofs.submissions_stay.WrittenParts.{AllWritten, writings_hold}
 use Rattle.sms_world.proofs.Options.{some_is}
+use Rattle.sms_world.proofs.SeenParts.{small, seen_of}
 
 -- ---- once, in the order of the lines
 
@@ -139,9 +140,6 @@ compared_deliver (first ∷ rest) is = ap (λ (k : ℕ). k == 0) (keeps false fi
 
 -- ---- numbers
 
-small : (n : ℕ) → n ≤ 20 → n < 256
-small n l = omega (arith, l)
-
 below_more : (n k : ℕ) → n < k → suc n < suc k
 below_more n k l = omega (arith, l)
 
@@ -170,9 +168,6 @@ same_number a b n k l m e = omega (arith, l, m, e)
 some_part : (o : Option PartRow) (x : PartSeen) → part_seen o ≡ Some x → (p : PartRow) × ((o ≡ Some p) × (part_seen (Some p) ≡ Some x))
 some_part None x e = absurd cc
 some_part (Some p) x e = (p, (refl, e))
-
-abbrev seen_of : PartRow → PartSeen
-seen_of p = record { reference = p.reference; tpdu = compared p.tpdu; is_done = p.progress.is_done }
 
 is_down : (d : Direction) → is_same_side d Down ≡ true → d ≡ Down
 is_down Up e = absurd cc

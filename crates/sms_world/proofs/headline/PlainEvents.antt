@@ -103,17 +103,12 @@ use Rattle.sms_world.proofs.messages_have_origins.OriginClaims.{origin_is}
 use Rattle.sms_world.proofs.messages_have_origins.Unmoved.{Rows, meets_leaves}
 use Rattle.sms_world.proofs.scripts_are_runs.Events.{ok_play, same_play}
 use Rattle.sms_world.proofs.scripts_are_runs.Growing.{in_rest}
+use Rattle.sms_world.proofs.SeenParts.{one_is_small}
 
 -- ---- plain facts
 
 one_more : (k : ℕ) → 1 + k ≡ suc k
 one_more k = omega arith
-
-small : (n : ℕ) → n ≤ 20 → n < 256
-small n l = omega (arith, l)
-
-one_is_small : 1 < 256
-one_is_small = omega arith
 
 one_is_few : 1 ≤ 20
 one_is_few = omega arith

@@ -1,5 +1,5 @@
 -- What handsets count as sent the centre has, while frames are decided timely.
-use Rattle.std.proofs.Common.{◌≡◌, ℕ, ◌+◌, ◌<◌, ◌≤◌, arith, List, [], ◌∷◌, length, true, refl, sym, ◌∙◌, ap, subst, Option, Some, None, Result, Ok, Err}
+use Rattle.std.proofs.Common.{◌≡◌, ℕ, ◌+◌, ◌≤◌, List, [], ◌∷◌, length, true, refl, sym, ◌∙◌, ap, subst, Some, Result, Ok, Err}
 use Rattle.sms_base.specs.Among.{Among}
 use Rattle.sms_base.specs.Reading.{◌>>=◌}
 use Rattle.sms_base.specs.declared.address.Address.{Address}
@@ -46,6 +46,7 @@ use Rattle.sms_world.proofs.headline.DecidedTimely.{hands_down}
 use Rattle.sms_world.proofs.headline.HeldReferences.{AllPartiesAgree, held_reported}
 use Rattle.sms_world.proofs.headline.UpwardRuns.{event_upward}
 use Rattle.sms_world.proofs.Options.{some_is}
+use Rattle.sms_world.proofs.SeenParts.{small, one_is_small, only_one, none_seen, seen_of, row_seen}
 
 -- ---- one event, and then the others
 
@@ -80,25 +81,6 @@ all_send n (e ∷ es) c d w s good octets timely up tells q =
     s good.0 octets.0 timely.0 up tells (played n e c) refl octets.1 timely.1 q
 
 -- ---- the message of an entry
-
-small : (n : ℕ) → n ≤ 20 → n < 256
-small n l = omega (arith, l)
-
-one_is_small : 1 < 256
-one_is_small = omega arith
-
-only_one : (n : ℕ) → 0 < n → n ≤ 1 → n ≡ 1
-only_one n a b = omega (arith, a, b)
-
-no_row : (x : PartSeen) → part_seen None ≡ Some x → ⊥
-no_row x e = absurd cc
-
-abbrev seen_of : PartRow → PartSeen
-seen_of p = record { reference = p.reference; tpdu = compared p.tpdu; is_done = p.progress.is_done }
-
-row_seen : (o : Option PartRow) (x : PartSeen) → part_seen o ≡ Some x → (p : PartRow) × (o ≡ Some p)
-row_seen None x e = absurd (no_row x e)
-row_seen (Some p) x e = (p, refl)
 
 module _ (c : PlayState) (w : World) (s : PlayRefines c w) (up : IsUpward w) (q : Party) (o : OutRow) (there : Among q c.parties) (i : Among o q.core.rows.outbox) (sent : o.state ≡ Sent) where
   abbrev text : UserData

@@ -1,5 +1,5 @@
 -- What counts as delivered was accepted, while frames are decided timely.
-use Rattle.std.proofs.Common.{◌≡◌, ℕ, ◌+◌, ◌<◌, ◌≤◌, arith, List, [], ◌∷◌, true, false, refl, sym, ◌∙◌, ap, subst, inl, inr, ⊎_elim, Option, Some, Result, Ok, Err}
+use Rattle.std.proofs.Common.{◌≡◌, ℕ, ◌+◌, List, [], ◌∷◌, true, false, refl, sym, ◌∙◌, ap, subst, inl, inr, ⊎_elim, Option, Some, Result, Ok, Err}
 use Rattle.std.proofs.lemmas.Bool.{both_ways, cases_Bool, cond-false, cond-true}
 use Rattle.std.proofs.lemmas.Slice.Eq.{bytes_eq-Decides}
 use Rattle.std.specs.Str.{bytes_eq}
@@ -18,7 +18,6 @@ use Rattle.sms_play.specs.PlayedEvent.{played}
 use Rattle.sms_play.specs.Playing.{played_on}
 use Rattle.sms_play.specs.Premises.{is_timely_event, is_same_side}
 use Rattle.sms_rows.proofs.table.Tables.{among_found}
-use Rattle.sms_tpdu.specs.MoreMessages.{compared}
 use Rattle.sms_world_model.specs.Agreement.{DeliveredAccepted}
 use Rattle.sms_world_model.specs.Groups.{OccursOnce}
 use Rattle.sms_world_model.specs.WorldStep.{end}
@@ -26,7 +25,7 @@ use Rattle.sms_world_model.specs.ScriptRun.{Happening, happened}
 use Rattle.sms_world_model.specs.Submission.{IsDeliverOf, Submission}
 use Rattle.sms_world_model.specs.World.{Accepted, Final, Allocation, IsRecorded, State, World, pair_given}
 use Rattle.sms_world_model.proofs.Faithful.{IsFaithful, delivered_accepted, no_part_twice}
-use Rattle.sms_world.specs.headline.SeenWorld.{IsStateOf, PartSeen, part_seen, parts_by, accepted_at}
+use Rattle.sms_world.specs.headline.SeenWorld.{IsStateOf, part_seen, parts_by, accepted_at}
 use Rattle.sms_world.proofs.centres_refine_the_world.ByOctets.{by_octet_is}
 use Rattle.sms_world.specs.headline.Claims.{IsAsSubmitted, pair_in_row, IfPlayed, AllTimely, DeliveredOnce, IsGivenTo, IsStamped, PartsOnce}
 use Rattle.sms_world.proofs.scripts_are_runs.Agreeing.{sound_there}
@@ -43,6 +42,7 @@ use Rattle.sms_script.specs.declared.report.rows.Direction.{Direction}
 use Rattle.sms_script.specs.declared.report.rows.Direction.TheVariants.{Up as UpRow, Down as DownRow}
 use Rattle.sms_world.specs.centres_refine_the_world.RefinesGiven.{given_part}
 use Rattle.sms_world.proofs.Options.{some_is}
+use Rattle.sms_world.proofs.SeenParts.{small, seen_of}
 use Rattle.sms_tpdu.specs.declared.user_data.UserData.{UserData}
 
 -- ---- one event, and then the others
@@ -107,12 +107,6 @@ own_once h x (p ∷ ps) e o = ⊎_elim
         (cases_Bool (bytes_eq p.handset h))
 
 -- ---- a part of a delivered message
-
-small : (n : ℕ) → n ≤ 20 → n < 256
-small n l = omega (arith, l)
-
-abbrev seen_of : PartRow → PartSeen
-seen_of p = record { reference = p.reference; tpdu = compared p.tpdu; is_done = p.progress.is_done }
 
 module _ (c : PlayState) (w : World) (s : PlayRefines c w) (all : DeliveredAccepted w) (m : MessageRow) (p : PartRow) (i : Among m c.centre.rows.messages) (ended : m.state ≡ Some Delivered)
     (j : Among p c.centre.rows.parts) (of : p.id ≡ m.id) where

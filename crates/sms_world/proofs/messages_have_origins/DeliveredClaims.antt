@@ -32,16 +32,11 @@ use Rattle.sms_world.specs.headline.Origins.{IsDeliverFor, part_numbered, ActAcc
 use Rattle.sms_world.proofs.submissions_stay.Delivers.{same_number, within}
 use Rattle.sms_world.specs.messages_have_origins.OriginLaws.{DeliveredLaw}
 use Rattle.sms_world.proofs.messages_have_origins.OriginClaims.{origin_is}
+use Rattle.sms_world.proofs.SeenParts.{small, one_is_small}
 use Rattle.sms_script.specs.declared.report.rows.GivenRow.{GivenRow}
-
-small : (n : ℕ) → n ≤ 20 → n < 256
-small n l = omega (arith, l)
 
 within_few : (n k : ℕ) → n < 1 + k → k ≤ 20 → n < 256
 within_few n k l m = omega (arith, l, m)
-
-one_is_small : 1 < 256
-one_is_small = omega arith
 
 -- each part of the message was accepted once
 module _ (c : PlayState) (m : MessageRow) (few : (p : PartRow) → Among p c.centre.rows.parts → p.number < 256) (once : (p : PartRow) → Among p c.centre.rows.parts → p.id ≡ m.id → IsAcceptedOnce c m p) where

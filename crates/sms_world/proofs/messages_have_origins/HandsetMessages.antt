@@ -1,5 +1,5 @@
 -- A handset's message is what the SUBMIT in a frame asks for.
-use Rattle.std.proofs.Common.{◌≡◌, ℕ, ◌<◌, ◌≤◌, arith, List, [], length, refl, sym, ◌∙◌, ap, subst, Option, Some, None, Result, Ok}
+use Rattle.std.proofs.Common.{◌≡◌, ℕ, ◌≤◌, List, [], length, refl, sym, ◌∙◌, ap, subst, Option, Some, None, Result, Ok}
 use Rattle.sms_base.specs.Among.{Among}
 use Rattle.sms_base.specs.declared.address.Address.{Address}
 use Rattle.sms_base.specs.declared.carried.Carried.{Carried as Carries}
@@ -45,6 +45,7 @@ use Rattle.sms_world.proofs.messages_have_origins.HandsetOriginators.{IsAsked}
 use Rattle.sms_world.proofs.scripts_are_runs.Bags.{frame_found, row_seen as bag_seen}
 use Rattle.sms_world.specs.headline.Origins.{IsOfHandset}
 use Rattle.sms_world.proofs.Options.{some_is}
+use Rattle.sms_world.proofs.SeenParts.{small, only_one, seen_of, none_seen, row_seen}
 
 -- ---- the frame, by its row
 
@@ -89,25 +90,6 @@ same_submit : (a b : SubmitOf) → ok_up a ≡ ok_up b → a ≡ b
 same_submit a b e = cc
 
 -- ---- its message
-
-small : (n : ℕ) → n ≤ 20 → n < 256
-small n l = omega (arith, l)
-
-one_is_small : 1 < 256
-one_is_small = omega arith
-
-only_one : (n : ℕ) → 0 < n → n ≤ 1 → n ≡ 1
-only_one n a b = omega (arith, a, b)
-
-no_row : (x : PartSeen) → part_seen None ≡ Some x → ⊥
-no_row x e = absurd cc
-
-abbrev seen_of : PartRow → PartSeen
-seen_of p = record { reference = p.reference; tpdu = compared p.tpdu; is_done = p.progress.is_done }
-
-row_seen : (o : Option PartRow) (x : PartSeen) → part_seen o ≡ Some x → (p : PartRow) × (o ≡ Some p)
-row_seen None x e = absurd (no_row x e)
-row_seen (Some p) x e = (p, refl)
 
 -- what the rows have of a message of one part
 record OnePart (c : PlayState) (m : MessageRow) (u : Submission) (text : UserData) : Type 0 where

@@ -1,5 +1,5 @@
 -- The rows that an event of the centre tells are the allocations that its steps gave.
-use Rattle.std.proofs.Common.{◌≡◌, ℕ, ◌<◌, ◌≤◌, List, [], ◌∷◌, refl, sym, ◌∙◌, ap, subst, inl, inr, ⊎_elim, Option, Some, None, arith}
+use Rattle.std.proofs.Common.{◌≡◌, ℕ, ◌<◌, List, [], ◌∷◌, refl, sym, ◌∙◌, ap, subst, inl, inr, ⊎_elim, Option, Some, None}
 use Rattle.sms_base.specs.Among.{Among}
 use Rattle.sms_base.specs.declared.holder.Holder.{Holder}
 use Rattle.sms_base.specs.declared.holder.Holder.TheVariants.{Part, Report, Entry, Memory}
@@ -17,7 +17,6 @@ use Rattle.sms_rows.specs.table.Keys.{pair_key}
 use Rattle.sms_rows.specs.table.Table.{all_applied, row_at}
 use Rattle.sms_rows.proofs.table.KeyLaws.{pairs_apart}
 use Rattle.sms_rows.proofs.table.Tables.{found_among, found_key}
-use Rattle.sms_tpdu.specs.MoreMessages.{compared}
 use Rattle.sms_centre_rows.specs.declared.waiting.revision.Revision.{Revision}
 use Rattle.sms_centre_rows.specs.declared.waiting.revision.Revision.TheVariants.{Put, Amend, Remove}
 use Rattle.sms_centre_rows.specs.waiting.Revisions.{all_revised}
@@ -46,6 +45,7 @@ use Rattle.sms_world.proofs.scripts_are_runs.Latest.{RecordAll, Records}
 use Rattle.sms_world.proofs.scripts_are_runs.PartMoves.{IsNewPart, IsSame, new_was_put, put_is_new}
 use Rattle.sms_world.proofs.scripts_are_runs.ReportMoves.{Reporting, came, committed, event_reports, new_report_put, put_report_new}
 use Rattle.sms_world.proofs.Options.{some_is}
+use Rattle.sms_world.proofs.SeenParts.{small, none_seen, seen_of}
 
 -- ---- rows of parts and of status reports
 
@@ -120,17 +120,8 @@ report_there moment ms (Remove n ∷ cs) r reference tpdu e i = ⊎_elim (λ (z 
 
 -- ---- look-ups
 
-small : (n : ℕ) → n ≤ 20 → n < 256
-small n l = omega (arith, l)
-
-none_seen : (s : PartSeen) → part_seen None ≡ Some s → ⊥
-none_seen s e = absurd cc
-
 none_report : (s : ReportSeen) → report_seen None ≡ Some s → ⊥
 none_report s e = absurd cc
-
-abbrev seen_of : PartRow → PartSeen
-seen_of p = record { reference = p.reference; tpdu = compared p.tpdu; is_done = p.progress.is_done }
 
 -- the row that a part is seen of
 seen_row : (o : Option PartRow) (s : PartSeen) → part_seen o ≡ Some s → (p : PartRow) × ((o ≡ Some p) × (s ≡ seen_of p))
