@@ -43,7 +43,7 @@ use Rattle.sms_centre_spec.specs.SoundCore.{IsLine, IsSentFor, IsUnderWay}
 use Rattle.sms_centre_spec.specs.Submitted.{UnitGives, UpGives}
 use Rattle.sms_centre_spec.specs.Transfers.{conclude}
 use Rattle.sms_world.proofs.centre_runs_are_steps.LinesOf.{own_line}
-use Rattle.sms_world.proofs.frames_pass_between_sides.Linking.{Awaits, ack_read, data_is, rejection_read, taken_is}
+use Rattle.sms_world.proofs.frames_pass_between_sides.Linking.{Awaits, data_is, taken_is}
 use Rattle.sms_world.specs.frames_pass_between_sides.Between.{IsCarriedUp, IsUnitUp}
 use Rattle.sms_world.specs.frames_pass_between_sides.FramesUp.{IsBare}
 use Rattle.sms_world_model.specs.World.{World, Line as LineOf, Frame, Sent, Carried, Bare, Down}
@@ -55,17 +55,13 @@ use Rattle.sms_world.specs.centre_runs_are_steps.Stages.{AnswersInEvent, Begins}
 use Rattle.sms_world.proofs.centre_runs_are_steps.Concluding.{acknowledged, refused}
 use Rattle.sms_world.proofs.centre_runs_are_steps.Hearing.{bare_alone, bare_and_again, bare_begins, hears, hears_bare, hears_nothing, with_links}
 use Rattle.sms_world.proofs.centre_runs_are_steps.Stepping.{WasHanded, begins_still, still}
-use Rattle.sms_world.proofs.centre_runs_are_steps.UnitsArrive.{data_law, data_up, memory_law}
+use Rattle.sms_world.proofs.centre_runs_are_steps.UnitsArrive.{data_law, memory_law}
+use Rattle.sms_world.proofs.handset_runs_are_steps.Offering.{data_sent as data_up}
+use Rattle.sms_world.proofs.handset_runs_are_steps.FrameArrives.{bare_rejection, bare_ack}
 
 -- what the link did of its own accord, and what went up
 abbrev pub frame_reported : Holder → HandsetLink → Step → Draft → Draft
 frame_reported tag line step d = frame_heard line tag (heard step line.link) d
-
-bare_ack : (t : Transaction) → t.identifier < 7 → IsBare (cp_at (acknowledgement t))
-bare_ack t l = subst (λ (z : Result Cp CpFault). IsBare z) (sym (ack_read t l)) tt
-
-bare_rejection : (t : Transaction) → t.identifier < 7 → IsBare (cp_at (rejection t))
-bare_rejection t l = subst (λ (z : Result Cp CpFault). IsBare z) (sym (rejection_read t l)) tt
 
 -- an answer from a handset
 abbrev ack_up : List ℕ → ℕ → ℕ → List ℕ → Holder → Frame

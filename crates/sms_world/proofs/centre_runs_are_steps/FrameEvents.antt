@@ -9,12 +9,12 @@ use Rattle.sms_centre_spec.specs.CentreEvent.{frame_taken, tag_of}
 use Rattle.sms_centre_spec.specs.Draft.{Draft, draft_of}
 use Rattle.sms_centre_spec.specs.declared.event.CentreEvent.TheVariants.{Frame}
 use Rattle.sms_world.proofs.centres_refine_the_world.Offers.{line_refines}
-use Rattle.sms_world.proofs.centres_refine_the_world.SessionsChange.{start}
 use Rattle.sms_world.specs.centre_runs_are_steps.FrameLaws.{FrameLaw}
 use Rattle.sms_world.specs.centre_runs_are_steps.Handing.{IsHandedUp}
 use Rattle.sms_world.specs.centre_runs_are_steps.Stages.{Begins}
 use Rattle.sms_world.proofs.centre_runs_are_steps.FrameArrives.{handed_law}
 use Rattle.sms_world.proofs.centre_runs_are_steps.Stepping.{frame_leads}
+use Rattle.sms_world.proofs.centres_refine_the_world.QuietEvents.{start}
 
 pub frame_event : FrameLaw
 frame_event number handset octets tag c w sound is are s handed =

@@ -17,7 +17,8 @@ use Rattle.sms_world_model.specs.World.{World}
 use Rattle.sms_world.specs.centres_refine_the_world.CentreRefinement.{CentreRefines, StoreRefines}
 use Rattle.sms_world.specs.centres_refine_the_world.FramesOut.{AreWholeDown, stacked_down}
 use Rattle.sms_world.specs.centres_refine_the_world.RefinesLines.{RefinesLines}
-use Rattle.sms_world.proofs.centres_refine_the_world.SessionsChange.{answered_refines, receipt_there, start}
+use Rattle.sms_world.proofs.centres_refine_the_world.SessionsChange.{answered_refines, receipt_there}
+use Rattle.sms_world.proofs.centres_refine_the_world.QuietEvents.{start}
 
 -- nothing was sent, and the lines are as they were
 same_links : (x d : Draft) (w : World) → x.links ≡ d.links → CentreRefines w d w → StoreRefines x.store w → CentreRefines w x w

@@ -106,7 +106,7 @@ among_is n [] e = absurd cc
 among_is n (x ∷ xs) e =
     ⊎_elim (λ (t : (x == n) ≡ true). inl (sym (eqb-true x n t))) (λ (t : is_among n xs ≡ true). inr (among_is n xs t)) (or_cases (x == n) (is_among n xs) e)
 
-no_status : (k : ReportKind) → is_receipt k ≡ true → is_status k ≡ false
+pub no_status : (k : ReportKind) → is_receipt k ≡ true → is_status k ≡ false
 no_status Receipt e = refl
 no_status (Status reference tpdu) e = absurd cc
 no_status Unsent e = absurd cc

@@ -7,15 +7,12 @@ use Rattle.sms_base.specs.declared.carried.Carried.{Carried}
 use Rattle.sms_base.specs.declared.carried.Kind.{Kind}
 use Rattle.sms_base.specs.declared.carried.Kind.TheVariants.{Ack, Error}
 use Rattle.sms_base.specs.declared.holder.Holder.{Holder}
-use Rattle.sms_control.specs.ControlGrammar.{spelled}
 use Rattle.sms_control.specs.LinkStep.{Step, answer_of, answered, awaits_reply, in_transaction, reply_step}
 use Rattle.sms_control.specs.declared.link_state.Answer.{Answer}
 use Rattle.sms_control.specs.declared.link_state.Opened.{Opened}
-use Rattle.sms_control.specs.declared.message.Cp.TheVariants.{DataUnit as CpData}
 use Rattle.sms_control.specs.declared.transaction.TransactionFlag.TheVariants.{ToOriginator}
 use Rattle.sms_link.specs.LinkTurn.{Turn, answering, of_kind, still}
 use Rattle.sms_relay.proofs.UnitLaws.{down_again, written_down_is}
-use Rattle.sms_relay.specs.Cause.{IsRpCause}
 use Rattle.sms_relay.specs.RelayGrammar.{ack_down, error_down}
 use Rattle.sms_relay.specs.RelayReading.{down_at}
 use Rattle.sms_relay.specs.declared.cause.RpCause.{RpCause}
@@ -25,7 +22,6 @@ use Rattle.sms_relay.specs.declared.frame.Rp.TheVariants.{AckUnit, ErrorUnit}
 use Rattle.sms_intake.specs.Refusals.{cause_of}
 use Rattle.sms_intake.specs.SubmitReports.{accepting_report, refusing_report}
 use Rattle.sms_intake.specs.declared.refusal.SubmitRefusal.{SubmitRefusal}
-use Rattle.sms_intake.specs.declared.refusal.SubmitRefusal.TheVariants.{WrongType, WrongValidityFormat, Unreadable, NoHandset, OfAccount, PastLimit, Duplicate, ReferenceTaken, Congested}
 use Rattle.sms_centre_rows.specs.waiting.Links.{line_of, turn_line, turned}
 use Rattle.sms_centre_rows.specs.declared.waiting.handset_link.HandsetLink.{HandsetLink}
 use Rattle.sms_centre_rows.specs.declared.waiting.handset_link.Sent.{Sent as SentRow}
@@ -41,10 +37,8 @@ use Rattle.sms_world.specs.headline.SeenFrames.{sent_down}
 use Rattle.sms_world.specs.centres_refine_the_world.RefinesLines.{RefinesLine, RefinesOpenedDown}
 use Rattle.sms_world.proofs.centres_refine_the_world.Offers.{line_refines, lines_with, stacked_both, whole_both}
 use Rattle.sms_world.proofs.centres_refine_the_world.Staying.{line_still}
-
--- the frame of an answer in that transaction
-abbrev pub answer_frame : Opened → List ℕ → List ℕ
-answer_frame o unit = spelled (CpData (in_transaction ToOriginator o.identifier) unit)
+use Rattle.sms_world.proofs.handset_runs_are_steps.Replying.{answer_frame}
+use Rattle.sms_centre_draft.proofs.AnswerLengths.{refusal_cause}
 
 opened_below : (h : List ℕ) (bag : List Sent) (a : Option Carried) (s : Option Opened) (o : Opened) → s ≡ Some o → RefinesOpenedDown h bag a s → o.identifier < 7
 opened_below h bag a None o e s = absurd cc
@@ -103,17 +97,6 @@ module _ (kind : Kind) (r : ℕ) (tag : Holder) (unit : List ℕ) (i : IsAnswerD
       (sym (cond-true (awaits_reply line.link.links) (answering c (reply_step d.store.moment unit line.link.links) line.link) (still line.link) awaits)) z)
 
 -- ---- the answers that the centre gives
-
-refusal_cause : (refusal : SubmitRefusal) → IsRpCause (cause_of refusal)
-refusal_cause WrongType = tt
-refusal_cause WrongValidityFormat = tt
-refusal_cause Unreadable = tt
-refusal_cause NoHandset = tt
-refusal_cause OfAccount = tt
-refusal_cause PastLimit = tt
-refusal_cause Duplicate = tt
-refusal_cause ReferenceTaken = tt
-refusal_cause Congested = tt
 
 short : (n k : ℕ) → n ≡ k → k ≤ 10 → n < 256
 short n k e l = omega (arith, e, l)

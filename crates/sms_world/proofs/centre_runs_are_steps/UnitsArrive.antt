@@ -48,10 +48,7 @@ use Rattle.sms_world.proofs.centres_refine_the_world.Playing.{store_is_reached}
 use Rattle.sms_world.specs.centre_runs_are_steps.Stages.{AnswersInEvent}
 use Rattle.sms_world.proofs.centre_runs_are_steps.Replying.{confirming, plain_ack, refusing, replies}
 use Rattle.sms_world.proofs.centre_runs_are_steps.Stepping.{WasHanded, reads_then}
-
--- data from a handset
-abbrev pub data_up : List ℕ → ℕ → ℕ → List ℕ → Holder → Frame
-data_up h number r tpdu tag = record { number = number; handset = h; line = Up; kind = Data; reference = r; tpdu = tpdu; tag = tag }
+use Rattle.sms_world.proofs.handset_runs_are_steps.Offering.{data_sent}
 
 -- what is made of a SUBMIT that passes all checks
 made_of : (accounts : List CentreAccount) (from : List ℕ) (now : ℕ) (x : SubmitOf) (u : SubmissionRow) → from_submit accounts from now x ≡ Ok u → submission_of from now x ≡ u
@@ -63,7 +60,7 @@ made_of accounts from now x u e =
     ok_is {E = SubmitRefusal} (submission_of from now x) u b.2
 
 module _ (h : List ℕ) (r : ℕ) (tag : Holder) (tpdu : List ℕ) (number : ℕ) (b : World) (d : Draft) (w : World) (sound : SoundStore d.store) (s : CentreRefines b d w)
-    (o : Opened) (awaits : Awaits (line_of h d.links.lines).link.links o) (was : WasHanded number b (data_up h number r tpdu tag)) (sent : Among (Carried_frame (data_up h number r tpdu tag)) w.bag) where
+    (o : Opened) (awaits : Awaits (line_of h d.links.lines).link.links o) (was : WasHanded number b (data_sent h number r tpdu tag)) (sent : Among (Carried_frame (data_sent h number r tpdu tag)) w.bag) where
   abbrev m : ℕ
   m = d.store.moment
 
@@ -71,7 +68,7 @@ module _ (h : List ℕ) (r : ℕ) (tag : Holder) (tpdu : List ℕ) (number : ℕ
   accounts = d.store.setup.accounts
 
   abbrev u : Frame
-  u = data_up h number r tpdu tag
+  u = data_sent h number r tpdu tag
 
   came : IsSent w u Up Data
   came = (sent, refl, refl)

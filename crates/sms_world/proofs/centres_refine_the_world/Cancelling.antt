@@ -26,7 +26,7 @@ use Rattle.sms_world.specs.centres_refine_the_world.CentreLaws.{CancelLaw, Delet
 use Rattle.sms_world.specs.centres_refine_the_world.CentreRefinement.{CentreRefines, StoreRefines}
 use Rattle.sms_world.proofs.centres_refine_the_world.Ending.{can_end, end_is_reached, ended_refines, pending_in_world}
 use Rattle.sms_world.proofs.centres_refine_the_world.Playing.{Acts, acts_lead, answer_refines, store_is_reached, agrees_follow}
-use Rattle.sms_world.proofs.centres_refine_the_world.SessionsChange.{start}
+use Rattle.sms_world.proofs.centres_refine_the_world.QuietEvents.{start}
 
 -- nothing but an answer
 answered_acts : (m : ℕ) (w : World) (a : CentreAnswer) (d : Draft) → CentreRefines w d w → Acts Cancelled m w (answer_with a d)

@@ -8,7 +8,7 @@ use Rattle.sms_base.specs.declared.carried.Carried.{Carried}
 use Rattle.sms_control.proofs.ControlFrames.{cp_again}
 use Rattle.sms_control.proofs.FiringCases.{firing_cases}
 use Rattle.sms_control.specs.ControlReading.{cp_at}
-use Rattle.sms_control.specs.LinkStep.{Step, answer_frames, begun_fired, begun_frames, failed_by, fire_step, fired as links_fired, frames_of, if_again, opened_fired}
+use Rattle.sms_control.specs.LinkStep.{Step, answer_frames, begun_fired, begun_frames, failed_by, fire_step, frames_of, if_again, opened_fired}
 use Rattle.sms_control.specs.Timers.{begun_firing, opened_firing, sent_again}
 use Rattle.sms_control.specs.declared.fault.CpFault.{CpFault}
 use Rattle.sms_control.specs.declared.link_state.Answer.{Answer}
@@ -46,6 +46,7 @@ use Rattle.sms_world.proofs.centres_refine_the_world.Aging.{InTick, tick_both}
 use Rattle.sms_world.proofs.centres_refine_the_world.LinksChange.{lost_law, raise_law}
 use Rattle.sms_world.proofs.centres_refine_the_world.Offers.{lines_with, stacked_both, whole_both}
 use Rattle.sms_world.proofs.centres_refine_the_world.Staying.{line_still}
+use Rattle.sms_world.proofs.handset_runs_are_steps.Ticks.{fire_is, fires}
 
 -- ---- one stage after another
 
@@ -172,13 +173,6 @@ module _ (bag : List Sent) (now : ℕ) (line : HandsetLink) (s : RefinesLine bag
       (answer_again line.handset bag now line.link.under_way line.link.answered line.link.links.opened s.opened) tt (opened_firing now line.link.links.opened)
 
 -- ---- the timers of a line fire
-
-abbrev fires : ℕ → LinkState → Step
-fires now l = links_fired now (begun_firing now l.begun) (opened_firing now l.opened) l
-
-fire_is : (now : ℕ) (l : LinkState) → fire_step now l ≡ fires now l
-unfolding fire_step
-fire_is now l = refl
 
 line_fires : (m : ℕ) (b : World) (line : HandsetLink) (d : Draft) (w : World) (now : ℕ) → Among line d.links.lines → CentreRefines b d w
     → StageIsSteps m b (on_links (turn_line line (heard (fires now line.link.links) line.link) d.links) d) w

@@ -2,11 +2,8 @@
 use Rattle.std.proofs.Common.{◌≡◌, ◌⊎◌, ℕ, suc, ◌+◌, ◌<◌, ◌≤◌, arith, List, [], ◌∷◌, ◌++◌, Bool, true, false, refl, sym, ◌∙◌, ap, subst, inl, inr, ⊎_elim, length, length-append, Option, Some, None, Result, Ok}
 use Rattle.std.specs.Prelude.{◌&&◌, not}
 use Rattle.std.specs.Str.{bytes_eq}
-use Rattle.std.specs.declared.alloc.AllocError.{AllocError}
 use Rattle.std.proofs.lemmas.Bool.{and_parts, cond_both, cond-false}
-use Rattle.sms_base.specs.Address.{IsAddress}
 use Rattle.sms_base.specs.Among.{Among}
-use Rattle.sms_base.specs.declared.address.Address.{Address}
 use Rattle.sms_base.specs.declared.carried.Carried.{Carried}
 use Rattle.sms_base.specs.declared.carried.Kind.TheVariants.{Data}
 use Rattle.sms_control.proofs.ControlFrames.{cp_again}
@@ -17,7 +14,6 @@ use Rattle.sms_control.specs.declared.message.Cp.{Cp}
 use Rattle.sms_control.specs.declared.message.Cp.TheVariants.{DataUnit as CpData}
 use Rattle.sms_control.specs.declared.transaction.TransactionFlag.TheVariants.{FromOriginator}
 use Rattle.sms_link.specs.LinkTurn.{Turn, begun, carrying, of_kind, started as turn_started, still}
-use Rattle.sms_handset_rows.proofs.outbox.CentreAddresses.{relay_some}
 use Rattle.sms_relay.proofs.UnitLaws.{down_again}
 use Rattle.sms_relay.specs.RelayGrammar.{IsCentre, data_down}
 use Rattle.sms_relay.specs.RelayReading.{down_at}
@@ -25,7 +21,6 @@ use Rattle.sms_relay.specs.declared.fault.RelayFault.{RelayFault}
 use Rattle.sms_relay.specs.declared.frame.Rp.{Rp}
 use Rattle.sms_relay.specs.declared.frame.Rp.TheVariants.{DataUnit}
 use Rattle.sms_tpdu.proofs.MoreBits.{more_messages_same}
-use Rattle.sms_tpdu.proofs.NameValues.{relay_short}
 use Rattle.sms_tpdu.specs.AddressGrammar.{relay_address}
 use Rattle.sms_tpdu.specs.MoreMessages.{with_more_messages}
 use Rattle.sms_centre_rows.specs.waiting.Links.{Links, is_ready, line_of, or_new_line, line_at, read_for, to_handset, turn_line, turned as line_turned, with_line}
@@ -54,14 +49,9 @@ use Rattle.sms_world.specs.centres_refine_the_world.FramesOut.{AreWholeDown, sta
 use Rattle.sms_world.specs.centres_refine_the_world.RefinesLines.{RefinesLine, RefinesLines}
 use Rattle.sms_world.proofs.centres_refine_the_world.QueuedParts.{IsOffered, allocation_at, queued_offered}
 use Rattle.sms_world.proofs.centres_refine_the_world.Staying.{line_still}
+use Rattle.sms_world.proofs.handset_runs_are_steps.Submitting.{centre_is}
 
 -- ---- octets
-
-centre_is : (a : Address) → IsAddress a → IsCentre (relay_address a)
-centre_is a i =
-    let r : Result (List ℕ) AllocError = Ok (relay_address a) in
-    let few : length (relay_address a) < 12 = relay_short r a i refl in
-    (relay_some a i, omega (arith, few))
 
 down_long : (r : ℕ) (centre unit : List ℕ) → length (data_down r centre unit) ≡ 5 + length centre + length unit
 down_long r centre unit =

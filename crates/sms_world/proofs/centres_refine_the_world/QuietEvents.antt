@@ -28,7 +28,7 @@ query_refines : (b : World) (a : Option CentreAccount) (q : QuerySm) (d : Draft)
 query_refines b None q d w s = record { frames = s.frames; whole = s.whole; lines = s.lines; rows = s.rows }
 query_refines b (Some a) q d w s = queried_refines b _ d w s
 
-start : (c : Core) → IsSoundCore c → SoundStore (draft_of c).store
+pub start : (c : Core) → IsSoundCore c → SoundStore (draft_of c).store
 start c s = store_sound c.rows c.moment s.rows s.now s.moment
 
 pub query_event : QueryLaw

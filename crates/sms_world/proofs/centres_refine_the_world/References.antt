@@ -6,7 +6,7 @@ use Rattle.sms_world.specs.centres_refine_the_world.CentreLaws.{NextReferenceLaw
 use Rattle.sms_world.specs.centres_refine_the_world.CentreRefinement.{StoreRefines}
 use Rattle.sms_world.specs.headline.SeenWorld.{messages_by, parts_by}
 use Rattle.sms_world.proofs.centres_refine_the_world.Allocations.{RefinesStates, can_give, cannot_give}
-use Rattle.sms_world.proofs.centres_refine_the_world.SessionsChange.{start}
+use Rattle.sms_world.proofs.centres_refine_the_world.QuietEvents.{start}
 
 pub states_of : (s : Store) (w : World) → StoreRefines s w → RefinesStates (messages_by (messages_in s)) (parts_by (parts_in s)) w.table
 states_of s w refines id m e = let x = refines.table.there id m e in (x.0, x.1, (x.2.0, x.2.2))

@@ -26,7 +26,8 @@ use Rattle.sms_world.specs.centres_refine_the_world.CentreLaws.{BoundLaw}
 use Rattle.sms_world.specs.centres_refine_the_world.CentreRefinement.{CentreRefines, StoreRefines}
 use Rattle.sms_world.proofs.centres_refine_the_world.LinksChange.{Both}
 use Rattle.sms_world.proofs.centres_refine_the_world.Offers.{follow_law}
-use Rattle.sms_world.proofs.centres_refine_the_world.SessionsChange.{receipt_both, start, unbound_refines}
+use Rattle.sms_world.proofs.centres_refine_the_world.SessionsChange.{receipt_both, unbound_refines}
+use Rattle.sms_world.proofs.centres_refine_the_world.QuietEvents.{start}
 
 -- one report's progress leaves those behind it
 pub far_leaves : (r : ReportRow) (q : Progress) (rs : List ReportRow) (s : Store) → Rises report_key (reports_in s) → Rises report_key (r ∷ rs) → ReportsInStore (r ∷ rs) s

@@ -5,9 +5,7 @@ use Rattle.std.proofs.lemmas.Bool.{both_ways, cond_both, eqb-true}
 use Rattle.sms_base.specs.Among.{Among}
 use Rattle.sms_centre_rows.specs.reports.Receipts.{Session, all_tried, answered_in, receipt_ended, receipt_tried, session_key}
 use Rattle.sms_centre_rows.specs.messages.SplitReferences.{is_among}
-use Rattle.sms_centre_rows.specs.reports.Reports.{amend_report, is_receipt, is_status, report_of, reports_of}
-use Rattle.sms_centre_rows.specs.declared.reports.report.ReportKind.{ReportKind}
-use Rattle.sms_centre_rows.specs.declared.reports.report.ReportKind.TheVariants.{Receipt, Status, Unsent}
+use Rattle.sms_centre_rows.specs.reports.Reports.{amend_report, is_status, report_of, reports_of}
 use Rattle.sms_centre_rows.specs.declared.reports.report.ReportRow.{ReportRow}
 use Rattle.sms_rows.specs.table.Table.{row_at}
 use Rattle.sms_rows.proofs.table.Tables.{found_among}
@@ -16,7 +14,7 @@ use Rattle.sms_centre_rows.specs.waiting.Trying.{finished}
 use Rattle.sms_centre_rows.specs.declared.waiting.progress.Progress.{Progress}
 use Rattle.sms_centre_spec.proofs.SoundAccepted.{sound_steady}
 use Rattle.sms_centre_spec.proofs.SoundEvents.{event_after}
-use Rattle.sms_centre_spec.proofs.SoundStores.{SoundStore, store_sound}
+use Rattle.sms_centre_spec.proofs.SoundStores.{SoundStore}
 use Rattle.sms_centre_spec.proofs.Steady.{report_own}
 use Rattle.sms_centre_spec.specs.Draft.{Core, Draft, Store, draft_of, reports_in, with_report_at, with_reports}
 use Rattle.sms_centre_spec.specs.Sessions.{answered_by, deliver_answered, unbind, unbound_from}
@@ -29,11 +27,8 @@ use Rattle.sms_world.proofs.centres_refine_the_world.LinksChange.{Both}
 use Rattle.sms_world.proofs.centres_refine_the_world.Offers.{follow_law}
 use Rattle.sms_world.proofs.centres_refine_the_world.Unseen.{report_far_unseen}
 use Rattle.sms_world.proofs.Options.{some_is}
-
-no_status : (k : ReportKind) → is_receipt k ≡ true → is_status k ≡ false
-no_status Receipt e = refl
-no_status (Status reference tpdu) e = absurd cc
-no_status Unsent e = absurd cc
+use Rattle.sms_world.proofs.centre_runs_are_steps.NothingOffered.{no_status}
+use Rattle.sms_world.proofs.centres_refine_the_world.QuietEvents.{start}
 
 module _ (w : World) where
   pub receipt_both : (r : ReportRow) (q : Progress) (s : Store) → Both w s → report_of r.id (reports_in s) ≡ Some r → (q.is_done ≡ false → r.progress.is_done ≡ false) → (is_status r.kind ≡ true → q.is_done ≡ r.progress.is_done)
@@ -55,9 +50,6 @@ module _ (w : World) where
   all_tried_both n (id ∷ ids) t s k =
       all_tried_both n ids (receipt_ended false n (report_of id (reports_of t)) t) s
       (ended_both false n id (report_of id (reports_of t)) t s k refl (λ e. absurd cc))
-
-pub start : (c : Core) → IsSoundCore c → SoundStore (draft_of c).store
-start c s = store_sound c.rows c.moment s.rows s.now s.moment
 
 -- ---- a session ends: its receipts go again
 

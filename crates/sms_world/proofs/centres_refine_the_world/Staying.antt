@@ -1,5 +1,5 @@
 -- What others do leaves what the centre sees, and the next event finds it.
-use Rattle.std.proofs.Common.{ℕ, List, [], ◌∷◌, Bool, true, false, refl, sym, subst, Option, Some, None}
+use Rattle.std.proofs.Common.{ℕ, List, refl, sym, subst, Option, Some, None}
 use Rattle.sms_base.specs.Among.{Among}
 use Rattle.sms_base.specs.declared.carried.Carried.{Carried}
 use Rattle.sms_control.specs.declared.link_state.Answer.{Answer}
@@ -14,15 +14,15 @@ use Rattle.sms_world.specs.centres_refine_the_world.RefinesGiven.{RefinesHolders
 use Rattle.sms_world.specs.headline.SeenWorld.{PartSeen, RefinesTable, messages_by, parts_by}
 use Rattle.sms_world.specs.centres_refine_the_world.RefinesReports.{ReportSeen, RefinesReports, reports_by}
 use Rattle.sms_centre_rows.specs.declared.waiting.handset_link.HandsetLink.{HandsetLink}
-use Rattle.sms_world_model.specs.WorldStep.{after_item, end, Step}
+use Rattle.sms_world_model.specs.WorldStep.{end}
 use Rattle.sms_world_model.specs.ScriptRun.{items}
 use Rattle.sms_world_model.specs.Sides.{LeavesCentre}
 use Rattle.sms_world_model.specs.World.{Allocation, Message, ReceiptOf, Sent, World}
 use Rattle.sms_world_model.proofs.Apart.{handset_leaves_centre}
-use Rattle.sms_world_model.proofs.Runs.{bag_grows}
 use Rattle.sms_world.specs.centres_refine_the_world.CentreLaws.{HandsetLaw, NextLaw}
 use Rattle.sms_world.specs.centres_refine_the_world.CentreRefinement.{RowsSee}
 use Rattle.sms_world.specs.centres_refine_the_world.RefinesLines.{RefinesAnswerDown, RefinesBegunDown, RefinesLine, RefinesOpenedDown, WasSentDown}
+use Rattle.sms_world.proofs.handset_runs_are_steps.Others.{items_grow}
 
 -- ---- frames only come
 
@@ -48,11 +48,6 @@ line_still bag more grown line s = record {
   opened = opened_still bag more grown line.handset line.link.answered line.link.links.opened s.opened;
   begun = begun_still bag more grown line.handset line.link.under_way line.link.links.begun s.begun;
 }
-
-items_grow : (w : World) (m : ℕ) (b : Bool) (ss : List Step) (x : Sent) → Among x w.bag → Among x (end w (items m b ss)).bag
-items_grow w m b [] x i = i
-items_grow w m true (s ∷ ss) x i = items_grow (after_item w (record { step = s; moment = m; stopped = true })) m true ss x i
-items_grow w m false (s ∷ ss) x i = items_grow (after_item w (record { step = s; moment = m; stopped = false })) m false ss x (bag_grows w m s x i)
 
 -- ---- rows see what is left
 

@@ -44,7 +44,7 @@ use Rattle.sms_world.specs.centres_refine_the_world.CentreLaws.{SubmitLaw}
 use Rattle.sms_world.specs.centres_refine_the_world.CentreRefinement.{CentreRefines, StoreRefines}
 use Rattle.sms_world.proofs.centres_refine_the_world.Entering.{Submits, any_submits, entered_as, under_submits}
 use Rattle.sms_world.proofs.centres_refine_the_world.Playing.{Acts, acts_lead, answer_refines, store_is_reached}
-use Rattle.sms_world.proofs.centres_refine_the_world.SessionsChange.{start}
+use Rattle.sms_world.proofs.centres_refine_the_world.QuietEvents.{start}
 
 -- ---- the parts of a text all have a header, or none has
 

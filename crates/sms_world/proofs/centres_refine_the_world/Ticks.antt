@@ -19,7 +19,7 @@ use Rattle.sms_world.proofs.centres_refine_the_world.Aging.{InTick, reached_then
 use Rattle.sms_world.proofs.centres_refine_the_world.Ending.{IsReached}
 use Rattle.sms_world.proofs.centres_refine_the_world.Firing.{StageIsSteps, fired_goes, fired_sound, steps_still, steps_then, raise_all_refines}
 use Rattle.sms_world.proofs.centres_refine_the_world.Playing.{Acts, acts_lead, store_is_reached}
-use Rattle.sms_world.proofs.centres_refine_the_world.SessionsChange.{start}
+use Rattle.sms_world.proofs.centres_refine_the_world.QuietEvents.{start}
 
 later_moment : (m n : ℕ) → IsMoment m → IsMoment n → IsMoment (max m n)
 later_moment m n was is =

@@ -1,7 +1,7 @@
 -- Every stage of an event leaves told to whom the references of unfinished entries were given last.
 use Rattle.std.proofs.Common.{◌≡◌, ℕ, ◌+◌, ◌-◌, ◌%◌, ◌<◌, ◌≤◌, arith, List, [], ◌∷◌, ◌++◌, length, Bool, true, false, cond, refl, sym, ◌∙◌, ap, subst, inl, inr, ⊎_elim, Option, Some, None, Result, Ok, Err}
 use Rattle.std.specs.Prelude.{◌==◌, ◌||◌, min, nat_le, nat_lt, ◌⊎◌}
-use Rattle.std.proofs.lemmas.Bool.{both_ways, cases_Bool, cond-false, cond-true, cond_both, leb-true, cases_eq, le-leb}
+use Rattle.std.proofs.lemmas.Bool.{both_ways, cond-false, cond-true, cond_both, leb-true, cases_eq, le-leb}
 use Rattle.sms_base.specs.Address.{address_of}
 use Rattle.sms_base.specs.Among.{Among}
 use Rattle.sms_base.specs.declared.address.Address.{Address}
@@ -59,7 +59,7 @@ use Rattle.sms_handset_rows.specs.declared.inbox.entry.Message.TheVariants.{Join
 use Rattle.sms_handset_rows.proofs.inbox.SoundMarks.{above_at}
 use Rattle.sms_handset_rows.specs.outbox.Answers.{verdict_of}
 use Rattle.sms_handset_rows.specs.outbox.Keys.{notice_key, out_key}
-use Rattle.sms_handset_rows.specs.outbox.Offers.{first_due, first_fired, is_fired, submit_of}
+use Rattle.sms_handset_rows.specs.outbox.Offers.{first_due, first_fired, submit_of}
 use Rattle.sms_handset_rows.specs.outbox.References.{held_by_entries, held_message_references, held_references, is_unfinished, next_free}
 use Rattle.sms_handset_rows.specs.outbox.Reports.{is_reported, reported}
 use Rattle.sms_handset_rows.specs.outbox.Settling.{is_sending, lost, most_tries, put_back, retry_delay, settled}
@@ -98,6 +98,7 @@ use Rattle.sms_world.specs.entries_keep_references.ReportedEntries.{AreBelow, Ev
 use Rattle.sms_world.proofs.entries_keep_references.RowsGiven.{all_reference, appended, carrying_reported, copies_reported, entries_new, entries_old, entries_removed, last_other, last_over, last_own, memories_over, nothing_more, numbered_reported}
 use Rattle.sms_world.proofs.scripts_are_runs.Growing.{either_part, in_front, in_rest}
 use Rattle.sms_world.proofs.Options.{some_is}
+use Rattle.sms_world.proofs.handsets_send_octets.StageOctets.{fired_among}
 use Rattle.sms_link.proofs.Known.{begin_is}
 use Rattle.sms_play.specs.PlayState.{Party}
 use Rattle.sms_control.specs.declared.message.Cp.TheVariants.{DataUnit as CpData}
@@ -164,15 +165,6 @@ none_at k os below (Some o) e =
     let low = below o (found_among out_key k o os e) in
     let own = found_key out_key k o os e in
     absurd (omega (arith, low, own))
-
-fired_among : (moment : ℕ) (ns : List Notice) (n : Notice) → first_fired moment ns ≡ Some n → Among n ns
-fired_among moment [] n e = absurd cc
-fired_among moment (x ∷ xs) n e = ⊎_elim
-    (λ (t : is_fired moment x.due ≡ true).
-    let both : Some n ≡ Some x = sym e ∙ cond-true (is_fired moment x.due) (Some x) (first_fired moment xs) t in
-    let q : n ≡ x = cc in inl q)
-    (λ (t : is_fired moment x.due ≡ false). inr (fired_among moment xs n (sym (cond-false (is_fired moment x.due) (Some x) (first_fired moment xs) t) ∙ e)))
-    (cases_Bool (is_fired moment x.due))
 
 -- ---- entries that come into the outbox
 

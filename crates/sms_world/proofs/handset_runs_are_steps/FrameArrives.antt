@@ -53,10 +53,10 @@ use Rattle.sms_world.proofs.handset_runs_are_steps.Moving.{Begins, only_follows,
 abbrev frame_reported : Holder → Step → Draft → Draft
 frame_reported tag step d = frame_heard tag (heard step (link_of d)) d
 
-bare_ack : (t : Transaction) → t.identifier < 7 → IsBare (cp_at (acknowledgement t))
+pub bare_ack : (t : Transaction) → t.identifier < 7 → IsBare (cp_at (acknowledgement t))
 bare_ack t l = subst (λ (z : Result Cp CpFault). IsBare z) (sym (ack_read t l)) tt
 
-bare_rejection : (t : Transaction) → t.identifier < 7 → IsBare (cp_at (rejection t))
+pub bare_rejection : (t : Transaction) → t.identifier < 7 → IsBare (cp_at (rejection t))
 bare_rejection t l = subst (λ (z : Result Cp CpFault). IsBare z) (sym (rejection_read t l)) tt
 
 -- ---- a repeated opening: CP-ACK, and the answer again where there is one

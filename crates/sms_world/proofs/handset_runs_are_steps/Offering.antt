@@ -1,7 +1,7 @@
 -- What follows an event: entries that a restart left Sending lapse, and the next transaction begins.
 use Rattle.std.proofs.Common.{◌≡◌, ℕ, ◌+◌, ◌-◌, ◌%◌, ◌<◌, ◌≤◌, arith, List, [], ◌∷◌, ◌++◌, true, false, refl, sym, ◌∙◌, ap, subst, inl, inr, ⊎_elim, Option, Some, None, Result, length}
 use Rattle.std.specs.Prelude.{◌||◌, min, nat_le}
-use Rattle.std.proofs.lemmas.Bool.{both_ways, cases_Bool, cond_both, cond-false, cond-true}
+use Rattle.std.proofs.lemmas.Bool.{both_ways, cond_both, cond-false}
 use Rattle.sms_base.specs.Among.{Among}
 use Rattle.sms_rows.specs.table.Table.{Rises, row_at}
 use Rattle.sms_rows.proofs.table.Tables.{among_found, found_among, row_at_put_other}
@@ -33,7 +33,7 @@ use Rattle.sms_link.specs.LinkTurn.{Turn, carrying, started as turn_started, sti
 use Rattle.sms_handset_rows.specs.inbox.Groups.{is_among}
 use Rattle.sms_handset_rows.specs.outbox.Keys.{out_key}
 use Rattle.sms_handset_draft.specs.MemoryAvailable.{first_notice, put_notice, send_notice}
-use Rattle.sms_handset_rows.specs.outbox.Offers.{first_due, first_fired, is_fired, submit_of}
+use Rattle.sms_handset_rows.specs.outbox.Offers.{first_due, first_fired, submit_of}
 use Rattle.sms_handset_draft.specs.Outbox.{follow, is_notice_next, lapse, lapse_rows, offer, offer_after, offer_entry, offer_message, offer_wanted}
 use Rattle.sms_handset_rows.specs.outbox.Settling.{is_sending, lost, most_tries}
 use Rattle.sms_handset_rows.specs.outbox.References.{held_by_entries, held_references, is_unfinished, next_free}
@@ -56,6 +56,7 @@ use Rattle.sms_world.proofs.handset_runs_are_steps.Concluding.{lost_law, notice_
 use Rattle.sms_world.proofs.frames_pass_between_sides.Linking.{begin_is, data_framed, next_below}
 use Rattle.sms_world.proofs.handset_runs_are_steps.Moving.{frames_more, links_more, moves_then, stays, whole_both}
 use Rattle.sms_world.proofs.handset_runs_are_steps.Submitting.{centre_is, data_fits, data_read, data_some, submit_fits, submit_is}
+use Rattle.sms_world.proofs.handsets_send_octets.StageOctets.{fired_among}
 
 -- ---- a transaction begins
 
@@ -258,15 +259,6 @@ module _ (m : ℕ) (h : List ℕ) (b : World) (d : Draft) (w : World) (idle : is
 
 -- ---- the next transaction
 
-first_fired_among : (moment : ℕ) (ns : List Notice) (n : Notice) → first_fired moment ns ≡ Some n → Among n ns
-first_fired_among moment [] n e = absurd cc
-first_fired_among moment (x ∷ xs) n e = ⊎_elim
-    (λ (t : is_fired moment x.due ≡ true).
-    let both : Some n ≡ Some x = sym e ∙ cond-true (is_fired moment x.due) (Some x) (first_fired moment xs) t in
-    let q : n ≡ x = cc in inl q)
-    (λ (t : is_fired moment x.due ≡ false). inr (first_fired_among moment xs n (sym (cond-false (is_fired moment x.due) (Some x) (first_fired moment xs) t) ∙ e)))
-    (cases_Bool (is_fired moment x.due))
-
 module _ (m : ℕ) (h : List ℕ) (b : World) (d : Draft) (w : World) (sound : SoundAt d) (s : Refines h b d w) where
   free : is_among (next_free d.rows.counters.reference (held_references d.notices d.rows.outbox)) (held_by_entries d.rows.outbox) ≡ false
   free =
@@ -282,7 +274,7 @@ module _ (m : ℕ) (h : List ℕ) (b : World) (d : Draft) (w : World) (sound : S
 
   after_law : is_busy d.links ≡ false → (n : Option Notice) → first_fired d.moment d.notices ≡ n → Moves (AllMine h) m h b (offer_after n d) w
   after_law idle None e = wanted_law idle
-  after_law idle (Some n) e = again_law m h b d w idle s n (first_fired_among d.moment d.notices n e)
+  after_law idle (Some n) e = again_law m h b d w idle s n (fired_among d.moment d.notices n e)
 
   pub offer_law : Moves (AllMine h) m h b (offer d) w
   offer_law = cond_both (is_busy d.links) d (offer_after (first_fired d.moment d.notices) d) (λ (z : Draft). Moves (AllMine h) m h b z w) (λ t. stays m h b d w s) (λ t. after_law t (first_fired d.moment d.notices) refl)

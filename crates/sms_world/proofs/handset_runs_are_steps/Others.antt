@@ -23,7 +23,7 @@ use Rattle.sms_world.specs.handset_runs_are_steps.RefinesLink.{RefinesAnswer, Re
 use Rattle.sms_world.specs.handset_runs_are_steps.Refinement.{Refines}
 
 -- frames only come
-items_grow : (w : World) (m : ℕ) (b : Bool) (ss : List Step) (x : Sent) → Among x w.bag → Among x (end w (items m b ss)).bag
+pub items_grow : (w : World) (m : ℕ) (b : Bool) (ss : List Step) (x : Sent) → Among x w.bag → Among x (end w (items m b ss)).bag
 items_grow w m b [] x i = i
 items_grow w m true (s ∷ ss) x i = items_grow (after_item w (record { step = s; moment = m; stopped = true })) m true ss x i
 items_grow w m false (s ∷ ss) x i = items_grow (after_item w (record { step = s; moment = m; stopped = false })) m false ss x (bag_grows w m s x i)

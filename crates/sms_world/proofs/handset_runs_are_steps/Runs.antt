@@ -67,7 +67,7 @@ first_sound setup t = record {
   few_marks = (let l : 0 ≤ 64 = omega arith in l);
 }
 
-recovered_sound : (rows : Rows) → IsSound rows → IsSoundCore (recovered rows)
+pub recovered_sound : (rows : Rows) → IsSound rows → IsSoundCore (recovered rows)
 recovered_sound rows s = record { rows = s; recovered = λ e. refl; under_way = tt; few_notices = (let l : 0 ≤ 200 = omega arith in l) }
 
 -- ---- one episode

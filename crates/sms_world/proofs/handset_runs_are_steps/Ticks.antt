@@ -129,7 +129,7 @@ module _ (h : List ℕ) (bag : List Sent) (now : ℕ) (d : Draft) (s : RefinesLi
       (opened_firing now d.links.opened)
 
 -- what the timers have the link do
-abbrev fires : ℕ → LinkState → Step
+abbrev pub fires : ℕ → LinkState → Step
 fires now l = links_fired now (begun_firing now l.begun) (opened_firing now l.opened) l
 
 fires_heard : (m : ℕ) (h : List ℕ) (b : World) (d : Draft) (w : World) (now : ℕ) → Refines h b d w → Moves (AllMine h) m h b (hears (fires now d.links) d) w
@@ -163,7 +163,7 @@ timed_law m h b d e v now x s =
     firing_cases (λ f. Moves (AllMine h) m h b (timed_out (passed_up HandsetSide d.under_way (failed_by f)) e) v)
     (stays m h b e v s) (stays m h b e v s) (closes_law m h b e v d.under_way x s) (begun_firing now d.links.begun)
 
-fire_is : (now : ℕ) (l : LinkState) → fire_step now l ≡ fires now l
+pub fire_is : (now : ℕ) (l : LinkState) → fire_step now l ≡ fires now l
 unfolding fire_step
 fire_is now l = refl
 

@@ -468,7 +468,7 @@ offers_wanted d s =
     (free_small 256 d.rows.counters.reference (held_references d.notices d.rows.outbox) s.0.reference) s)
     (offers_message d s)
 
-fired_among : (moment : ℕ) (ns : List Notice) (n : Notice) → first_fired moment ns ≡ Some n → Among n ns
+pub fired_among : (moment : ℕ) (ns : List Notice) (n : Notice) → first_fired moment ns ≡ Some n → Among n ns
 fired_among moment [] n e = absurd cc
 fired_among moment (x ∷ xs) n e = ⊎_elim
     (λ (t : is_fired moment x.due ≡ true).

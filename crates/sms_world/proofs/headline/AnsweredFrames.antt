@@ -22,13 +22,12 @@ use Rattle.sms_world_model.proofs.Tables.{entered_here, new_not_found}
 use Rattle.sms_world_model.proofs.Upward.{IsUpward, removed_from, up_item}
 use Rattle.sms_world.proofs.headline.AnswersTimely.{HandsAnswers}
 use Rattle.sms_world.proofs.headline.FaithfulRuns.{HandsDown, end_parts, run_parts, stays_timely}
-use Rattle.sms_world.proofs.headline.UpwardRuns.{HandsOne, control_leaves, reads_timely}
+use Rattle.sms_world.proofs.headline.UpwardRuns.{control_leaves, reads_timely}
 use Rattle.sms_world.proofs.scripts_are_runs.Growing.{in_front, in_rest}
+use Rattle.sms_world.proofs.headline.DecidedTimely.{same_frame}
+use Rattle.sms_world.proofs.headline.FreshRuns.{HandsOne}
 
 -- ---- plain facts
-
-same_frame : (u v : Frame) → Carried u ≡ Carried v → u ≡ v
-same_frame u v e = cc
 
 data_ack : Data ≡ Ack → ⊥
 data_ack e = absurd cc

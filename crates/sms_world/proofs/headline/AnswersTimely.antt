@@ -40,7 +40,7 @@ use Rattle.sms_world.specs.headline.OneRun.{event_of, happening_of}
 use Rattle.sms_world.proofs.scripts_are_runs.Bags.{frame_found, row_seen}
 use Rattle.sms_world.proofs.scripts_are_runs.Events.{ok_play}
 use Rattle.sms_world.proofs.scripts_are_runs.Parties.{party_found}
-use Rattle.sms_world.proofs.headline.DecidedTimely.{number_by, number_sent, numbered_there, one_number}
+use Rattle.sms_world.proofs.headline.DecidedTimely.{number_by, number_sent, numbered_there, one_number, same_frame}
 use Rattle.sms_world.proofs.headline.HeldReferences.{AllPartiesAgree}
 use Rattle.sms_world.proofs.Options.{some_is}
 
@@ -56,9 +56,6 @@ is_open Sending u = refl
 is_open WasSent u = absurd u
 is_open Failed u = absurd u
 is_open Unsure u = absurd u
-
-same_frame : (u v : Frame) → Carried u ≡ Carried v → u ≡ v
-same_frame u v e = cc
 
 module _ (c : PlayState) (w : World) (s : PlayRefines c w) (tells : AllPartiesAgree c) (upward : IsUpward w) (u : Frame) (line : u.line ≡ Up) (kind : u.kind ≡ Ack) (g : Allocation) (e : OutEntry) (has : HasReferenceUp w u g e) where
   up_allocations : (l : Line) → l ≡ Up → w.up ≡ allocations w l

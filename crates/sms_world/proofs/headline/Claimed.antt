@@ -1,5 +1,5 @@
 -- The claims of every script.
-use Rattle.std.proofs.Common.{◌≡◌, ◌+◌, List, length, true, false, sym, ◌∙◌, ap, subst, ⊎_elim, Some, Result, Err}
+use Rattle.std.proofs.Common.{◌≡◌, ◌+◌, List, length, true, false, sym, ◌∙◌, ap, subst, ⊎_elim, Some}
 use Rattle.std.proofs.lemmas.Bool.{cases_Bool, cond-false, cond-true}
 use Rattle.sms_base.specs.Among.{Among}
 use Rattle.sms_base.specs.declared.final_state.FinalState.{FinalState}
@@ -8,8 +8,6 @@ use Rattle.sms_script.specs.declared.event.WorldEvent.{WorldEvent}
 use Rattle.sms_script.specs.declared.script.Script.{Script}
 use Rattle.sms_script.specs.declared.setup.Setup.{Setup}
 use Rattle.sms_rows.proofs.table.Tables.{found_among}
-use Rattle.sms_script.specs.declared.play_fault.PlayFault.{PlayFault}
-use Rattle.sms_script.specs.declared.play_fault.PlayFault.TheVariants.{BadSetup}
 use Rattle.sms_play.specs.CentreSide.{state_of}
 use Rattle.sms_play.specs.PlayState.{PlayState}
 use Rattle.sms_play.specs.Playing.{play_state_of, played_on}
@@ -23,7 +21,7 @@ use Rattle.sms_world.specs.scripts_are_runs.PlayRuns.{AllHandOctets, AreGood, ha
 use Rattle.sms_world.specs.scripts_are_runs.PlayRefinement.{PlayRefines}
 use Rattle.sms_world.proofs.scripts_are_runs.Beginnings.{begins}
 use Rattle.sms_world.proofs.scripts_are_runs.Events.{ok_play, same_play}
-use Rattle.sms_world.proofs.scripts_are_runs.Runs.{run_leads}
+use Rattle.sms_world.proofs.scripts_are_runs.Runs.{run_leads, unplayed}
 use Rattle.sms_world.specs.headline.Claims.{AllTimely, DeliveredOnce, AllFresh}
 use Rattle.sms_world.specs.headline.HeadlineLaws.{DeliveredLaw, FinalLaw, GivenLaw, HeldLaw, IsScript, JoinedLaw, JoinedOnceLaw, JoinedWholeLaw, LeadsOn, LineLaw, OnceLaw, ReceiptLaw, RunLaw, SentLaw, ReportedLaw}
 use Rattle.sms_world.proofs.headline.GivenRows.{given_once}
@@ -41,9 +39,6 @@ use Rattle.sms_world.proofs.headline.SentClaims.{Sends, all_send, none_tell, sen
 use Rattle.sms_world.proofs.headline.TimelyClaims.{Reaches, all_reach, delivered_once}
 use Rattle.sms_world.proofs.headline.Tables.{line_of, line_stays, line_there, one_line}
 use Rattle.sms_world.specs.headline.TypedEvents.{AreTyped}
-
-abbrev pub unplayed : Result PlayState PlayFault
-unplayed = Err BadSetup
 
 -- a head that leads anywhere can be played
 pub record CanPlay (s : Setup) (es : List WorldEvent) (c : PlayState) : Type 0 where

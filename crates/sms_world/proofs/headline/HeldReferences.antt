@@ -39,6 +39,7 @@ use Rattle.sms_world.proofs.scripts_are_runs.Parties.{party_found, with_among, w
 use Rattle.sms_world.specs.entries_keep_references.ReportedEntries.{AreBelow, EntriesAgree}
 use Rattle.sms_world.proofs.entries_keep_references.EntriesAgreeing.{event_reported}
 use Rattle.sms_world.proofs.entries_keep_references.Elsewhere.{centre_elsewhere, other_elsewhere, agrees_still}
+use Rattle.sms_world.proofs.scripts_are_runs.Meetings.{ok_meeting}
 
 -- ---- a course
 
@@ -54,9 +55,6 @@ IsReady p = IsSoundCore p.core × AreBelow p.core.rows.counters.notice p.core.no
 
 still_apart : (z : Party) (c : PlayState) → AreDifferent (numbers_of c.parties) → AreDifferent (numbers_of (with_party z c.parties))
 still_apart z c apart = subst (λ (ns : List (List ℕ)). AreDifferent ns) (sym (with_numbers z c.parties)) apart
-
-abbrev ok_meeting : Meeting → Result Meeting PlayFault
-ok_meeting m = Ok m
 
 same_meeting : (a b : Meeting) → ok_meeting a ≡ ok_meeting b → a ≡ b
 same_meeting a b e = cc

@@ -31,10 +31,10 @@ use Rattle.sms_world.specs.headline.SeenWorld.{PartSeen, part_seen, JoinedText, 
 use Rattle.sms_world.specs.headline.Claims.{pair_in_row, AreJoinedFrom, HaveNoneInCommon, IsJoinedFrom, IsPartOf, JoinedOfParts, JoinedOnce}
 use Rattle.sms_world.specs.scripts_are_runs.AllocationLaws.{IsReached}
 use Rattle.sms_world.proofs.scripts_are_runs.Agreeing.{sound_there}
-use Rattle.sms_world.proofs.scripts_are_runs.Bags.{among_last}
 use Rattle.sms_world.specs.scripts_are_runs.PlayRefinement.{PlayRefines}
 use Rattle.sms_world.proofs.Options.{some_is}
 use Rattle.sms_world.proofs.SeenParts.{seen_of}
+use Rattle.sms_world.proofs.scripts_are_runs.Growing.{among_last}
 
 pub placed_there : (w : World) → IsReached w → IsPlaced w
 placed_there w (is, (run, at)) = subst (λ (v : World). IsPlaced v) at (placed_run empty is placed_empty run)
@@ -56,17 +56,17 @@ in_accepted h x (p ∷ ps) i e = ⊎_elim
     (cases_Bool (bytes_eq p.handset h))
 
 -- the row that a part was seen by
-some_part : (o : Option PartRow) (x : PartSeen) → part_seen o ≡ Some x → (p : PartRow) × ((o ≡ Some p) × (part_seen (Some p) ≡ Some x))
+pub some_part : (o : Option PartRow) (x : PartSeen) → part_seen o ≡ Some x → (p : PartRow) × ((o ≡ Some p) × (part_seen (Some p) ≡ Some x))
 some_part None x e = absurd cc
 some_part (Some p) x e = (p, (refl, e))
 
 some_none : (p : Place) → Some p ≡ None → ⊥
 some_none p e = cc
 
-same_id : (a b n k : ℕ) → n < 256 → k < 256 → 256 * a + n ≡ 256 * b + k → a ≡ b
+pub same_id : (a b n k : ℕ) → n < 256 → k < 256 → 256 * a + n ≡ 256 * b + k → a ≡ b
 same_id a b n k l m e = omega (arith, l, m, e)
 
-same_number : (a b n k : ℕ) → n < 256 → k < 256 → 256 * a + n ≡ 256 * b + k → n ≡ k
+pub same_number : (a b n k : ℕ) → n < 256 → k < 256 → 256 * a + n ≡ 256 * b + k → n ≡ k
 same_number a b n k l m e = omega (arith, l, m, e)
 
 module _ (c : PlayState) (w : World) (s : PlayRefines c w) (q : Party) (there : Among q c.parties) (key : Key) (x : Accepted) (in_world : Among x w.accepted) (own : is_for q.number key x ≡ true) where

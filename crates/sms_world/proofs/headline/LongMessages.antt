@@ -45,7 +45,7 @@ last_part : (n : ℕ) (xs : List UserData) → n ≡ length xs → 0 < n → (x 
 last_part zero xs e l = absurd (omega (arith, l))
 last_part (suc n) xs e l = there_at xs n (omega (arith, e))
 
-as_many : (a b : ℕ) → a ≤ b → b ≤ a → a ≡ b
+pub as_many : (a b : ℕ) → a ≤ b → b ≤ a → a ≡ b
 as_many a b l m = omega (arith, l, m)
 
 none_or_some : (n : ℕ) → ¬ (n ≡ 0) → 0 < n

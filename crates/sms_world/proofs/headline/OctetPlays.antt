@@ -49,7 +49,6 @@ use Rattle.sms_world.specs.handsets_send_octets.Arriving.{BringsInOctets, Arrive
 use Rattle.sms_world.specs.handsets_send_octets.Keeping.{CoreKeepsOctets, SentInOctets}
 use Rattle.sms_world.specs.handsets_send_octets.OctetLaws.{SendsOctets, happened as octets_happened}
 use Rattle.sms_world.proofs.handsets_send_octets.EventOctets.{event_sends, restart_keeps, start_keeps}
-use Rattle.sms_handset_draft.specs.FirstRows.{first_rows}
 use Rattle.sms_script.specs.declared.setup.HandsetSetup.{HandsetSetup}
 use Rattle.sms_script.specs.declared.setup.Setup.{Setup}
 use Rattle.sms_play.specs.Setups.{beginning, handset_setup, parties_of}
@@ -70,11 +69,13 @@ use Rattle.sms_world.specs.headline.Claims.{IfPlayed}
 use Rattle.sms_world.specs.scripts_are_runs.PlayRefinement.{PlayRefines, IsWholeBy}
 use Rattle.sms_world.specs.headline.SeenWorld.{sent_by, sent_row}
 use Rattle.sms_world.specs.scripts_are_runs.Happening.{ActHandsOctets, HandsOctets, IsOctetsAt, IsOctetsUp}
-use Rattle.sms_world.proofs.scripts_are_runs.Bags.{among_last, frame_found, row_seen}
+use Rattle.sms_world.proofs.scripts_are_runs.Bags.{frame_found, row_seen}
 use Rattle.sms_world.proofs.scripts_are_runs.Events.{event_leads, ok_play, same_play}
 use Rattle.sms_world.proofs.scripts_are_runs.Parties.{party_found}
 use Rattle.sms_world.proofs.headline.SmallReferences.{data_small}
 use Rattle.sms_world.specs.headline.TypedEvents.{AreTexts, IsTextAct, IsTextEvent}
+use Rattle.sms_world.proofs.scripts_are_runs.Growing.{among_last}
+use Rattle.sms_player.specs.heads.Heads.{party_of}
 
 -- each handset keeps octets, and each frame that goes up is octets
 pub record PlayKeepsOctets (c : PlayState) : Type 0 where
@@ -128,7 +129,7 @@ centre_keeps n e c k =
 -- ---- what a handset meets
 
 -- one handset is another now
-with_among : (z : Party) (ps : List Party) (q : Party) → Among q (with_party z ps) → (q ≡ z) ⊎ Among q ps
+pub with_among : (z : Party) (ps : List Party) (q : Party) → Among q (with_party z ps) → (q ≡ z) ⊎ Among q ps
 with_among z [] q i = absurd i
 with_among z (p ∷ ps) q i =
     cond_both (bytes_eq p.number z.number) (z ∷ ps) (p ∷ with_party z ps) (λ (xs : List Party). Among q xs → (q ≡ z) ⊎ Among q (p ∷ ps))
@@ -353,13 +354,10 @@ all_hand n (e ∷ es) c w s k good texts =
 
 -- ---- from the beginning
 
-abbrev first_party : Setup → HandsetSetup → Party
-first_party s h = record { number = h.number; core = recovered (first_rows (handset_setup s h)); accepted = []; joined = [] }
-
 parties_begin : (s : Setup) (hs : List HandsetSetup) → ((p : Party) → Among p (parties_of s hs) → IsAddress p.core.rows.setup.centre) → (p : Party) → Among p (parties_of s hs) → CoreKeepsOctets p.core
 parties_begin s [] all p i = absurd i
 parties_begin s (h ∷ hs) all p i = ⊎_elim
-    (λ (e : p ≡ first_party s h). subst (λ (z : Party). CoreKeepsOctets z.core) (sym e) (start_keeps (handset_setup s h) (all (first_party s h) (inl refl))))
+    (λ (e : p ≡ party_of s h). subst (λ (z : Party). CoreKeepsOctets z.core) (sym e) (start_keeps (handset_setup s h) (all (party_of s h) (inl refl))))
     (λ (j : Among p (parties_of s hs)). parties_begin s hs (λ q l. all q (inr l)) p j)
     i
 

@@ -7,8 +7,8 @@ use Rattle.sms_centre_spec.specs.SoundCore.{AreDifferent}
 use Rattle.sms_play.specs.PlayState.{Party, PlayState, numbers_of}
 use Rattle.sms_play.specs.Playing.{accepted_lines, report_of}
 use Rattle.sms_play.specs.Premises.{pairs_of}
+use Rattle.sms_play.specs.judging.Watching.{pair_accepted}
 use Rattle.sms_script.specs.declared.report.rows.AcceptedRow.{AcceptedRow}
-use Rattle.sms_tpdu.specs.MoreMessages.{compared}
 use Rattle.sms_tpdu.specs.TpduReading.{data_down_at, deliver_at, down_at, is_status_report, status_report_at}
 use Rattle.sms_tpdu.specs.declared.carrier.Carrier.TheVariants.{InData}
 use Rattle.sms_tpdu.specs.declared.deliver.Deliver.{Deliver as DeliverOf}
@@ -56,32 +56,29 @@ status_is_other (first ∷ rest) r is e =
 
 -- ---- pairs, newest first
 
-abbrev pub pair : AcceptedRow → Accepted
-pair a = record { handset = a.handset; reference = a.reference; tpdu = compared a.tpdu }
-
 -- of a line that was compared already
 abbrev pub of_line : AcceptedRow → Accepted
 of_line a = record { handset = a.handset; reference = a.reference; tpdu = a.tpdu }
 
 abbrev pub pairs : List AcceptedRow → List Accepted
 pairs [] = []
-pairs (a ∷ rows) = pair a ∷ pairs rows
+pairs (a ∷ rows) = pair_accepted a ∷ pairs rows
 
 still_there : (x : Accepted) (newest : List Accepted) (rows : List AcceptedRow) → Among x newest → Among x (pairs_of newest rows)
 still_there x newest [] i = i
-still_there x newest (a ∷ rows) i = still_there x (pair a ∷ newest) rows (inr i)
+still_there x newest (a ∷ rows) i = still_there x (pair_accepted a ∷ newest) rows (inr i)
 
 -- what stands once and was there before is not among those that came since
 not_since : (x : Accepted) (newest : List Accepted) (rows : List AcceptedRow) → OccursOnce x (pairs_of newest rows) → Among x newest → OccursOnce x newest × ¬ Among x (pairs rows)
 not_since x newest [] once i = (once, λ j. j)
 not_since x newest (a ∷ rows) once i =
-    let behind = not_since x (pair a ∷ newest) rows once (inr i) in
+    let behind = not_since x (pair_accepted a ∷ newest) rows once (inr i) in
     ⊎_elim
-    (λ (here : (x ≡ pair a) × ¬ Among x newest). absurd (here.1 i))
-    (λ (before : ¬ (x ≡ pair a) × OccursOnce x newest). (before.1, λ j. ⊎_elim before.0 behind.1 j))
+    (λ (here : (x ≡ pair_accepted a) × ¬ Among x newest). absurd (here.1 i))
+    (λ (before : ¬ (x ≡ pair_accepted a) × OccursOnce x newest). (before.1, λ j. ⊎_elim before.0 behind.1 j))
     behind.0
 
-as_pair : (a : AcceptedRow) (rows : List AcceptedRow) → Among (compared_line a) (compared_lines rows) → Among (pair a) (pairs rows)
+as_pair : (a : AcceptedRow) (rows : List AcceptedRow) → Among (compared_line a) (compared_lines rows) → Among (pair_accepted a) (pairs rows)
 as_pair a [] i = absurd i
 as_pair a (b ∷ rows) i = ⊎_elim
     (λ (e : compared_line a ≡ compared_line b). inl (ap of_line e))
@@ -96,9 +93,9 @@ none_twice : (newest : List Accepted) (rows : List AcceptedRow) → DeliversOnce
 none_twice newest [] once = tt
 none_twice newest (a ∷ rows) once = (
   λ is i.
-      let o : OccursOnce (pair a) (pairs_of (pair a ∷ newest) rows) = once (pair a) (still_there (pair a) (pair a ∷ newest) rows (inl refl)) is in
-      (not_since (pair a) (pair a ∷ newest) rows o (inl refl)).1 (as_pair a rows i),
-  none_twice (pair a ∷ newest) rows once,
+      let o : OccursOnce (pair_accepted a) (pairs_of (pair_accepted a ∷ newest) rows) = once (pair_accepted a) (still_there (pair_accepted a) (pair_accepted a ∷ newest) rows (inl refl)) is in
+      (not_since (pair_accepted a) (pair_accepted a ∷ newest) rows o (inl refl)).1 (as_pair a rows i),
+  none_twice (pair_accepted a ∷ newest) rows once,
 )
 
 -- ---- one handset behind another
@@ -157,8 +154,8 @@ at_number h x (p ∷ ps) i = ⊎_elim
 pub since_there : (x : Accepted) (newest : List Accepted) (rows : List AcceptedRow) → Among x (pairs rows) → Among x (pairs_of newest rows)
 since_there x newest [] i = absurd i
 since_there x newest (a ∷ rows) i = ⊎_elim
-    (λ (e : x ≡ pair a). still_there x (pair a ∷ newest) rows (inl e))
-    (λ (j : Among x (pairs rows)). since_there x (pair a ∷ newest) rows j)
+    (λ (e : x ≡ pair_accepted a). still_there x (pair_accepted a ∷ newest) rows (inl e))
+    (λ (j : Among x (pairs rows)). since_there x (pair_accepted a ∷ newest) rows j)
     i
 
 pub as_any_pair : (a : AcceptedRow) (rows : List AcceptedRow) → Among a (compared_lines rows) → Among (of_line a) (pairs rows)

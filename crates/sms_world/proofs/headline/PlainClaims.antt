@@ -5,15 +5,15 @@ use Rattle.sms_play.specs.PlayState.{PlayState}
 use Rattle.sms_play.specs.Playing.{report_of}
 use Rattle.sms_play.specs.Setups.{beginning}
 use Rattle.sms_script.specs.declared.play_fault.PlayFault.{PlayFault}
-use Rattle.sms_script.specs.declared.report.Report.{Report}
 use Rattle.sms_world.proofs.headline.Claimed.{can_play, final_is, given_is, once_is, reaches, receipts_are, run_is}
 use Rattle.sms_world.proofs.headline.HeadlineHolds.{lines_stay_is, receipts_stay_is}
 use Rattle.sms_world.proofs.headline.PlainAccepted.{lines_once}
 use Rattle.sms_world.proofs.headline.PlainTables.{answers_ascend, lines_ascend}
 use Rattle.sms_world.proofs.headline.StatusFrames.{tags_listed}
+use Rattle.sms_world.proofs.headline.PlainReports.{ok_report}
 use Rattle.sms_world.specs.headline.PlainLaws.{AscendLaw, AscendingLaw, LongerLaw, NoErrorLaw, NoneTwiceLaw, ReceiptsLaw, ReferencesLaw}
 use Rattle.sms_world.specs.scripts_are_runs.PlayRefinement.{PlayRefines}
-use Rattle.std.proofs.Common.{Ok, Result, ap, refl}
+use Rattle.std.proofs.Common.{Result, ap, refl}
 
 pub ascending_is : AscendingLaw
 ascending_is script some others c d is on =
@@ -38,9 +38,6 @@ references_is = given_is
 
 pub ascend_is : AscendLaw
 ascend_is script some others c d is on = answers_ascend some (beginning script.setup) c refl (can_play script.setup some c on.here).leads
-
-abbrev ok_report : Report → Result Report PlayFault
-ok_report r = Ok r
 
 pub no_error_is : NoErrorLaw
 no_error_is script some others c d is on =

@@ -1,5 +1,5 @@
 -- Each line is of an event; what counts as delivered was accepted, as its event's words say; and what was accepted is a part of a message.
-use Rattle.std.proofs.Common.{◌≡◌, false, ℕ, zero, suc, ◌+◌, ◌*◌, ◌<◌, ◌≤◌, arith, List, [], ◌∷◌, ◌++◌, length, true, refl, sym, ◌∙◌, ap, subst, inl, inr, ⊎_elim, Option, Some, None}
+use Rattle.std.proofs.Common.{◌≡◌, false, ℕ, zero, suc, ◌+◌, ◌*◌, ◌<◌, ◌≤◌, arith, List, [], ◌∷◌, ◌++◌, length, true, refl, sym, ◌∙◌, ap, subst, inl, inr, ⊎_elim, Some}
 use Rattle.std.proofs.lemmas.Bool.{cond-true}
 use Rattle.std.specs.Prelude.{◌==◌, ◌⊎◌, slice_get}
 use Rattle.sms_base.specs.Among.{Among}
@@ -36,7 +36,7 @@ use Rattle.sms_world.specs.headline.HeadlineLaws.{IsScript, LeadsOn}
 use Rattle.sms_world.specs.headline.PlainLaws.{AreReports, DeliveredLinesLaw, OfEventsLaw, AcceptedPartsLaw, ToldLaw}
 use Rattle.sms_world.specs.headline.PlainReport.{IsAcceptedOnce, IsOfEvent, IsPartOf, WasDelivered, compared_line, compared_lines, is_deliver}
 use Rattle.sms_world.specs.headline.PlainWords.{OccursOnce, numbered}
-use Rattle.sms_world.specs.headline.SeenWorld.{PartSeen, part_seen, parts_by}
+use Rattle.sms_world.specs.headline.SeenWorld.{part_seen, parts_by}
 use Rattle.sms_world.specs.headline.SplitClaims.{AllSplitUnder}
 use Rattle.sms_world.specs.centres_refine_the_world.RefinesGiven.{given_part}
 use Rattle.sms_world.specs.headline.TypedEvents.{AreTyped}
@@ -46,8 +46,8 @@ use Rattle.sms_world_model.specs.Groups.{OccursOnce as PairOnce}
 use Rattle.sms_world_model.specs.World.{Accepted, Allocation, World, pair_given}
 use Rattle.sms_world.proofs.centres_refine_the_world.ByOctets.{by_octet_is, by_octet_some}
 use Rattle.sms_world.proofs.headline.AskedWords.{as_written}
-use Rattle.sms_world.proofs.headline.Claimed.{can_play, delivered_is, reaches, run_is, unplayed}
-use Rattle.sms_world.proofs.headline.PlainAccepted.{EachOwn, as_any_pair, compared_over, each_own, in_either, of_line, of_one, pair, pairs, since_there, status_is_other}
+use Rattle.sms_world.proofs.headline.Claimed.{can_play, delivered_is, reaches, run_is}
+use Rattle.sms_world.proofs.headline.PlainAccepted.{EachOwn, as_any_pair, compared_over, each_own, in_either, of_line, of_one, pairs, since_there, status_is_other}
 use Rattle.sms_world.proofs.headline.PlainEvents.{IsTraced, traced}
 use Rattle.sms_world.proofs.headline.PlainSteps.{all_of, last_of, on_last}
 use Rattle.sms_world.proofs.headline.ReceiptLines.{from_report}
@@ -59,6 +59,9 @@ use Rattle.sms_world.proofs.scripts_are_runs.Agreeing.{sound_there}
 use Rattle.sms_world.proofs.submissions_stay.WrittenParts.{AllWritten, writings_hold}
 use Rattle.sms_world.proofs.Options.{some_is}
 use Rattle.sms_world.proofs.SeenParts.{small, seen_of}
+use Rattle.sms_world.proofs.headline.JoinedClaims.{some_part, same_number, same_id}
+use Rattle.sms_play.specs.judging.Watching.{pair_accepted as pair}
+use Rattle.sms_world.proofs.scripts_are_runs.Runs.{unplayed}
 
 -- ---- once, in the order of the lines
 
@@ -157,17 +160,6 @@ below_length (suc n) (x ∷ bs) b e = below_more n (length bs) (below_length n b
 number_small : (n : ℕ) (bs : List SinglePart) (b : SinglePart) → length bs ≤ 20 → numbered n bs ≡ Some b → n < 256
 number_small zero bs b few e = absurd cc
 number_small (suc n) bs b few e = small_in n (length bs) (below_length n bs b e) few
-
-same_id : (a b n k : ℕ) → n < 256 → k < 256 → 256 * a + n ≡ 256 * b + k → a ≡ b
-same_id a b n k l m e = omega (arith, l, m, e)
-
-same_number : (a b n k : ℕ) → n < 256 → k < 256 → 256 * a + n ≡ 256 * b + k → n ≡ k
-same_number a b n k l m e = omega (arith, l, m, e)
-
--- the row that a part was seen by
-some_part : (o : Option PartRow) (x : PartSeen) → part_seen o ≡ Some x → (p : PartRow) × ((o ≡ Some p) × (part_seen (Some p) ≡ Some x))
-some_part None x e = absurd cc
-some_part (Some p) x e = (p, (refl, e))
 
 is_down : (d : Direction) → is_same_side d Down ≡ true → d ≡ Down
 is_down Up e = absurd cc

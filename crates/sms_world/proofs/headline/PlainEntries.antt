@@ -1,7 +1,7 @@
 -- Each entry of an outbox, and each frame that is sent for one, carries a part of a text that an event of its owner gave.
 use Rattle.std.proofs.Common.{◌≡◌, ℕ, zero, suc, ◌+◌, ◌<◌, ◌≤◌, arith, List, [], ◌∷◌, ◌++◌, length, Bool, true, refl, sym, ◌∙◌, ap, subst, inl, inr, ⊎_elim, Option, Some, None, Result, Ok, Err}
 use Rattle.std.specs.Prelude.{◌⊎◌, if◌then◌else◌, slice_get}
-use Rattle.std.specs.Str.{bytes_eq, chars}
+use Rattle.std.specs.Str.{chars}
 use Rattle.std.proofs.lemmas.Bool.{cond_both}
 use Rattle.sms_base.specs.Among.{Among}
 use Rattle.sms_base.specs.Reading.{◌>>=◌}
@@ -70,8 +70,7 @@ use Rattle.sms_play.specs.PlayState.{Party, PlayState, answer, numbers_of, party
 use Rattle.sms_play.specs.PlayedEvent.{handset_stored, handset_restarted, handset_restarts, met, party_restarted, played, restart, restarted, stored, stopped}
 use Rattle.sms_play.specs.Playing.{play_state_of}
 use Rattle.sms_play.specs.Premises.{is_same_side}
-use Rattle.sms_play.specs.Setups.{beginning, handset_setup, parties_of}
-use Rattle.sms_handset_draft.specs.FirstRows.{first_rows}
+use Rattle.sms_play.specs.Setups.{beginning, parties_of}
 use Rattle.sms_script.specs.declared.setup.HandsetSetup.{HandsetSetup}
 use Rattle.sms_script.specs.declared.setup.Setup.{Setup}
 use Rattle.sms_world_model.specs.ScriptRun.{Asked, Cancelled, Handed, Removed, Submitted, Tick_centre, Tick_handset, Wrote}
@@ -96,47 +95,32 @@ use Rattle.sms_world.proofs.entries_keep_references.EntriesAgreeing.{Ends, event
 use Rattle.sms_world.proofs.handset_runs_are_steps.Hearing.{again_carries}
 use Rattle.sms_world.proofs.handset_runs_are_steps.Submitting.{submit_rejects}
 use Rattle.sms_world.proofs.headline.Claimed.{can_play}
-use Rattle.sms_world.proofs.headline.DecidedTimely.{row_from}
+use Rattle.sms_world.proofs.headline.DecidedTimely.{row_from, same_frame}
 use Rattle.sms_world.proofs.headline.EntryFrames.{AllSay, AnswerSays, BegunSays, Brings, HolderSays, LinkSays, OpenedSays, Says}
 use Rattle.sms_world.proofs.headline.EntryStages.{EventBrings, IfDoneAt, WritesKnown, event_says}
 use Rattle.sms_world.proofs.headline.EntryWriting.{Has, body_at, same_octets, submit_reads, writable_at, wrote_has}
 use Rattle.sms_world.proofs.headline.HeadlineHolds.{of_play}
 use Rattle.sms_world.proofs.headline.PlainSteps.{IsStep, at_place, step_of}
-use Rattle.sms_world.proofs.scripts_are_runs.Bags.{among_last}
 use Rattle.sms_world.proofs.scripts_are_runs.Events.{ok_play, same_play}
-use Rattle.sms_world.proofs.scripts_are_runs.Growing.{either_part, in_front, in_rest}
-use Rattle.sms_world.proofs.scripts_are_runs.Meetings.{Meets, meets, number_of}
+use Rattle.sms_world.proofs.scripts_are_runs.Growing.{either_part, in_front, in_rest, among_last}
+use Rattle.sms_world.proofs.scripts_are_runs.Meetings.{Meets, meets, number_of, same_meeting}
 use Rattle.sms_world.proofs.scripts_are_runs.Parties.{number_there, party_found, with_numbers}
 use Rattle.sms_world.proofs.Options.{some_is}
+use Rattle.sms_world.proofs.headline.OctetPlays.{with_among}
+use Rattle.sms_world.proofs.scripts_are_runs.UpGrown.{entry_number}
+use Rattle.sms_world.proofs.scripts_are_runs.Falling.{not_itself}
+use Rattle.sms_player.specs.heads.Heads.{party_of}
 
 -- ---- plain facts
-
-same_entry : (a b : ℕ) → Entry a ≡ Entry b → a ≡ b
-same_entry a b e = cc
 
 no_memory : (a b : ℕ) → Entry a ≡ Memory b → ⊥
 no_memory a b e = absurd cc
 
-same_frame : (u v : Frame) → Carried u ≡ Carried v → u ≡ v
-same_frame u v e = cc
-
 less_one : (a b : ℕ) → suc a ≡ suc b → a ≡ b
 less_one a b e = omega (arith, e)
 
-not_below : (a : ℕ) → a < a → ⊥
-not_below a l = omega (arith, l)
-
-abbrev ok_meeting : Meeting → Result Meeting PlayFault
-ok_meeting m = Ok m
-
-same_meeting : (x m : Meeting) → ok_meeting x ≡ ok_meeting m → x ≡ m
-same_meeting x m e = cc
-
 not_answer : FromOriginator ≡ ToOriginator → ⊥
 not_answer e = absurd cc
-
-abbrev first_party : Setup → HandsetSetup → Party
-first_party s h = record { number = h.number; core = recovered (first_rows (handset_setup s h)); accepted = []; joined = [] }
 
 -- the row of a frame that went up with data
 record IsDataRow (f : FrameRow) (v : Frame) : Type 0 where
@@ -174,18 +158,6 @@ module _ (f : FrameRow) (v : Frame) (line : v.line ≡ UpLine) (is_data : v.kind
   row_by Down (Some x) at of e =
       let q : frame_down f.handset f.number f.octets x ≡ v = same_frame (frame_down f.handset f.number f.octets x) v e in
       absurd (not_down x.kind (ap (λ (z : Frame). z.kind) q ∙ is_data) (ap (λ (z : Frame). z.line) q ∙ line))
-
--- one handset is another now
-with_among : (z : Party) (ps : List Party) (q : Party) → Among q (with_party z ps) → (q ≡ z) ⊎ Among q ps
-with_among z [] q i = absurd i
-with_among z (p ∷ ps) q i =
-    cond_both (bytes_eq p.number z.number) (z ∷ ps) (p ∷ with_party z ps) (λ (xs : List Party). Among q xs → (q ≡ z) ⊎ Among q (p ∷ ps))
-    (λ t j. ⊎_elim (λ (e : q ≡ z). inl e) (λ (l : Among q ps). inr (inr l)) j)
-    (λ t j. ⊎_elim
-    (λ (e : q ≡ p). inr (inl e))
-    (λ (l : Among q (with_party z ps)). ⊎_elim (λ (e : q ≡ z). inl e) (λ (m : Among q ps). inr (inr m)) (with_among z ps q l))
-    j)
-    i
 
 moved : (some others : List WorldEvent) (e : WorldEvent) → some ++ e ∷ others ≡ (some ++ e ∷ []) ++ others
 moved [] others e = refl
@@ -425,7 +397,7 @@ module _ (script : Script) (after : ℕ → Report) where
           (λ (i : Among x.given (given_by p d)). ⊎_elim
           (λ (l : Among x.given (entries_given p.number d.moment p.core.rows.outbox d.changes.outbox)).
           let o = ends.news.from x.given l in
-          let number : o.0.number ≡ j = same_entry o.0.number j (sym o.1.3.holder ∙ x.holder) in
+          let number : o.0.number ≡ j = entry_number o.0.number j (sym o.1.3.holder ∙ x.holder) in
           let low : first ≤ o.0.number = o.1.2.1 in
           omega (arith, number, low))
           (λ (l : Among x.given (memories_given p.number d.moment p.core.rows.counters.notice d.frames)). absurd (memory_row x.given j l x.holder))
@@ -457,7 +429,7 @@ module _ (script : Script) (after : ℕ → Report) where
             there = subst (λ (r : Report). Among g.0 r.given) (sym st.behind) now;
             new = λ y i handset up holder.
                 let x = (st.refines.up p.number).each y (subst (λ (r : Report). Among y r.given) st.before i) (ap (λ (z : Direction). is_same_side z Up) up) handset in
-                not_below first ((st.refines.parties p there).refines.out.used first x.0 x.1.0 (x.1.1.handset ∙ handset) (x.1.1.holder ∙ holder));
+                not_itself first ((st.refines.parties p there).refines.out.used first x.0 x.1.0 (x.1.1.handset ∙ handset) (x.1.1.holder ∙ holder));
           }
 
       pub writes_known : WritesKnown (Owners p.number) (again p.number) (chars text) to report p.core.rows.counters.concat_reference p.core.rows.counters.entry
@@ -646,7 +618,7 @@ module _ (script : Script) (after : ℕ → Report) where
     first_outboxes : (s : Setup) (hs : List HandsetSetup) (p : Party) → Among p (parties_of s hs) → p.core.rows.outbox ≡ []
     first_outboxes s [] p i = absurd i
     first_outboxes s (h ∷ hs) p i = ⊎_elim
-        (λ (same : p ≡ first_party s h). ap (λ (z : Party). z.core.rows.outbox) same)
+        (λ (same : p ≡ party_of s h). ap (λ (z : Party). z.core.rows.outbox) same)
         (λ (j : Among p (parties_of s hs)). first_outboxes s hs p j)
         i
 

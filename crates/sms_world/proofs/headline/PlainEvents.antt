@@ -55,7 +55,6 @@ use Rattle.sms_script.specs.declared.event.StopPoint.TheVariants.{Before, After}
 use Rattle.sms_script.specs.declared.event.Submission.{Submission as ScriptSubmission}
 use Rattle.sms_script.specs.declared.event.WorldEvent.{WorldEvent}
 use Rattle.sms_script.specs.declared.event.WorldEvent.TheVariants.{Whole, Stopped, Restart}
-use Rattle.sms_script.specs.declared.play_fault.PlayFault.{PlayFault}
 use Rattle.sms_script.specs.declared.report.Report.{Report}
 use Rattle.sms_script.specs.declared.report.answers.Answer.{Answer}
 use Rattle.sms_script.specs.declared.report.answers.Answered.TheVariants.{Accepted}
@@ -73,10 +72,7 @@ use Rattle.sms_play.specs.Setups.{beginning, centre_setup, parties_of}
 use Rattle.sms_tpdu.specs.MoreMessages.{compared}
 use Rattle.sms_tpdu.specs.TpduReading.{data_up_at, submit_at, up_at}
 use Rattle.sms_tpdu.specs.declared.carrier.Carrier.TheVariants.{InData}
-use Rattle.sms_tpdu.specs.declared.fault.TpduFault.{TpduFault}
 use Rattle.sms_tpdu.specs.declared.submit.Submit.{Submit as SubmitOf}
-use Rattle.sms_tpdu.specs.declared.up.Up.{Up as UpUnit}
-use Rattle.sms_tpdu.specs.declared.up.Up.TheVariants.{Submit as SubmitUp}
 use Rattle.sms_world.specs.frames_pass_between_sides.FramesUp.{IsBare, IsOfKind, IsWhole}
 use Rattle.sms_world.specs.headline.Origins.{ActMakes, IsDeliverFor, IsFrom, MakesMessage, part_numbered}
 use Rattle.sms_world.specs.headline.Origins.{IsOfApplication as IsRowOfApplication, IsOfHandset as IsRowOfHandset}
@@ -94,8 +90,8 @@ use Rattle.sms_world.proofs.headline.EntryFrames.{HolderSays}
 use Rattle.sms_world.proofs.headline.HeadlineHolds.{of_play}
 use Rattle.sms_world.proofs.headline.PlainEntries.{IsOwners, owners_known}
 use Rattle.sms_world.proofs.headline.PlainGrowth.{Leaves, event_leaves}
-use Rattle.sms_world.proofs.headline.PlainNamed.{has_line, line_stored, next_is_free}
-use Rattle.sms_world.proofs.headline.PlainOwners.{account_named}
+use Rattle.sms_world.proofs.headline.PlainNamed.{has_line, line_stored, next_is_free, one_more}
+use Rattle.sms_world.proofs.headline.PlainOwners.{account_named, one_course}
 use Rattle.sms_world.proofs.headline.PlainSteps.{IsStep, at_place, last_of, on_last, all_of, step_of}
 use Rattle.sms_world.proofs.headline.Tables.{line_of}
 use Rattle.sms_world.proofs.messages_have_origins.EventsMake.{WasStoredIn}
@@ -104,11 +100,9 @@ use Rattle.sms_world.proofs.messages_have_origins.Unmoved.{Rows, meets_leaves}
 use Rattle.sms_world.proofs.scripts_are_runs.Events.{ok_play, same_play}
 use Rattle.sms_world.proofs.scripts_are_runs.Growing.{in_rest}
 use Rattle.sms_world.proofs.SeenParts.{one_is_small}
+use Rattle.sms_world.proofs.messages_have_origins.HandsetMessages.{same_submit, ok_up}
 
 -- ---- plain facts
-
-one_more : (k : ℕ) → 1 + k ≡ suc k
-one_more k = omega arith
 
 one_is_few : 1 ≤ 20
 one_is_few = omega arith
@@ -131,19 +125,10 @@ is_split reference (WholeText content) more = ⊎_elim
     absurd (not_more (subst (λ (r : Result (List PartOf) SplitError). 1 < length (bodies_of (parts_or_none r))) fits more)))
     (cases_Bool (nat_lt (capacity content.coding) (length content.units)))
 
-one_course : (r : Result PlayState PlayFault) (a b : PlayState) → r ≡ ok_play a → r ≡ ok_play b → a ≡ b
-one_course r a b p q = same_play a b (sym p ∙ q)
-
 -- the part of a number, from 1 on
 pub same_number : (n : ℕ) (bs : List SinglePart) → numbered n bs ≡ part_numbered n bs
 same_number zero bs = refl
 same_number (suc n) bs = refl
-
-abbrev ok_up : SubmitOf → Result UpUnit TpduFault
-ok_up s = Ok (SubmitUp s)
-
-same_submit : (a b : SubmitOf) → ok_up a ≡ ok_up b → a ≡ b
-same_submit a b e = cc
 
 up_is : (t : List ℕ) (s : SubmitOf) → submit_at t ≡ Ok s → up_at InData t ≡ ok_up s
 unfolding up_at data_up_at

@@ -35,6 +35,7 @@ use Rattle.sms_world.proofs.headline.PlainSteps.{IsStep, at_place, one_at, parte
 use Rattle.sms_world.proofs.headline.Tables.{line_of, line_there, row_of_line}
 use Rattle.sms_world.proofs.messages_have_origins.EventsMake.{WasStoredIn}
 use Rattle.sms_world.proofs.scripts_are_runs.Events.{ok_play, same_play}
+use Rattle.sms_world.proofs.scripts_are_runs.Growing.{none_less}
 use Rattle.sms_world.specs.headline.PlainLaws.{AreReports, NamedLaw}
 use Rattle.sms_world.specs.headline.PlainReport.{HasLine}
 use Rattle.sms_world.specs.headline.PlainWords.{numbered}
@@ -77,10 +78,10 @@ pub record IsAnswerAt (script : Script) (after : ℕ → Report) (a : Answer) : 
   pub more : step.next.answers ≡ step.first.answers ++ a ∷ []
   pub names : IsNamed (IsSubmitting event) step.next a.answered
 
-one_more : (k : ℕ) → 1 + k ≡ suc k
+pub one_more : (k : ℕ) → 1 + k ≡ suc k
 one_more k = omega arith
 
-sooner : (k n : ℕ) → suc k ≤ n → k < n
+pub sooner : (k n : ℕ) → suc k ≤ n → k < n
 sooner k n l = omega (arith, l)
 
 soon : (k n : ℕ) → suc k ≤ n → k ≤ n
@@ -160,12 +161,9 @@ submitting (Whole (Tick side now)) is = absurd is
 submitting (Stopped stop act) is = absurd is
 submitting (Restart side) is = absurd is
 
-all_of_them : (n : ℕ) → n ≤ n
-all_of_them n = omega arith
-
 pub named_is : NamedLaw
 named_is script after typed reports a id i e =
-    let x = answer_at script after typed reports (length script.events) (all_of_them (length script.events)) a i in
+    let x = answer_at script after typed reports (length script.events) (none_less (length script.events)) a i in
     let st = x.step in
     let c : PlayState = st.first in
     let d : PlayState = st.next in

@@ -127,7 +127,7 @@ further : (s1 o1 others : List WorldEvent) (e1 e : WorldEvent) → (s1 ++ e1 ∷
 further [] o1 others e1 e = refl
 further (x ∷ s1) o1 others e1 e = ap (λ (z : List WorldEvent). x ∷ z) (further s1 o1 others e1 e)
 
-one_course : (r : Result PlayState PlayFault) (a b : PlayState) → r ≡ ok_play a → r ≡ ok_play b → a ≡ b
+pub one_course : (r : Result PlayState PlayFault) (a b : PlayState) → r ≡ ok_play a → r ≡ ok_play b → a ≡ b
 one_course r a b p q = same_play a b (sym p ∙ q)
 
 module _ (script : Script) (after : ℕ → Report) (typed : AreTyped script.events) (reports : AreReports script after) (some : List WorldEvent) (e : WorldEvent) (others : List WorldEvent)

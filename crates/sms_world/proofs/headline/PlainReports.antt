@@ -8,7 +8,7 @@ use Rattle.sms_script.specs.declared.play_fault.PlayFault.{PlayFault}
 use Rattle.sms_script.specs.declared.report.Report.{Report}
 use Rattle.sms_script.specs.declared.script.Script.{Script}
 use Rattle.sms_script.specs.declared.setup.Setup.{Setup}
-use Rattle.sms_world.proofs.headline.Claimed.{can_play, script_hands, unplayed}
+use Rattle.sms_world.proofs.headline.Claimed.{can_play, script_hands}
 use Rattle.sms_world.proofs.headline.HeadlineHolds.{nothing_more, of_play}
 use Rattle.sms_world.proofs.headline.Parting.{parted}
 use Rattle.sms_world.proofs.scripts_are_runs.Events.{ok_play}
@@ -17,6 +17,7 @@ use Rattle.sms_world.specs.headline.TypedEvents.{AreTyped}
 use Rattle.sms_world.specs.scripts_are_runs.PlayRuns.{AllHandOctets}
 use Rattle.std.proofs.Common.{Err, List, Ok, Result, [], ap, length, refl, subst, sym, take, ℕ, ◌++◌, ◌∙◌, ◌∷◌, ◌≡◌}
 use Rattle.std.proofs.lemmas.Bool.{cond-true}
+use Rattle.sms_world.proofs.scripts_are_runs.Runs.{unplayed}
 
 abbrev no_report : Report
 no_report = record { answers = []; table = []; accepted = []; joined = []; receipts = []; outboxes = []; given = []; bag = [] }
@@ -25,7 +26,7 @@ abbrev or_none : Result Report PlayFault → Report
 or_none (Ok r) = r
 or_none (Err fault) = no_report
 
-abbrev ok_report : Report → Result Report PlayFault
+abbrev pub ok_report : Report → Result Report PlayFault
 ok_report r = Ok r
 
 first_of_them : (some others : List WorldEvent) → take (length some) (some ++ others) ≡ some

@@ -52,12 +52,12 @@ use Rattle.sms_world.specs.scripts_are_runs.PlayRefinement.{PlayRefines}
 use Rattle.sms_world.proofs.headline.AnsweredFrames.{Stands, TakesIn, event_stands, none_answered, taken_there}
 use Rattle.sms_world.proofs.headline.AnswersTimely.{hands_answers}
 use Rattle.sms_world.proofs.headline.Claimed.{can_play}
-use Rattle.sms_world.proofs.headline.DecidedTimely.{hands_down, number_by, number_sent, numbered_there, one_number}
+use Rattle.sms_world.proofs.headline.DecidedTimely.{hands_down, number_by, number_sent, numbered_there, one_number, same_frame}
 use Rattle.sms_world.proofs.headline.HeadlineHolds.{of_play}
 use Rattle.sms_world.proofs.headline.HeldReferences.{AllPartiesAgree, held_reported}
 use Rattle.sms_world.proofs.headline.PlainDelivered.{of_row}
 use Rattle.sms_world.proofs.headline.PlainEvents.{IsTraced}
-use Rattle.sms_world.proofs.headline.PlainNamed.{has_line, line_stored}
+use Rattle.sms_world.proofs.headline.PlainNamed.{has_line, line_stored, sooner as soon}
 use Rattle.sms_world.proofs.headline.PlainStays.{each_stays_is}
 use Rattle.sms_world.proofs.headline.PlainSteps.{IsPartedAt, IsStep, at_place, last_of, parted_at, step_of}
 use Rattle.sms_world.proofs.headline.SentClaims.{none_tell}
@@ -66,6 +66,8 @@ use Rattle.sms_world.proofs.scripts_are_runs.Bags.{row_seen}
 use Rattle.sms_world.proofs.scripts_are_runs.Beginnings.{begins}
 use Rattle.sms_world.proofs.scripts_are_runs.Events.{event_leads, ok_play, same_play}
 use Rattle.sms_world.proofs.Options.{some_is}
+use Rattle.sms_world.proofs.scripts_are_runs.Growing.{none_less}
+use Rattle.sms_world.proofs.headline.LongMessages.{as_many}
 
 -- ---- plain facts
 
@@ -80,23 +82,14 @@ no_more (x ∷ some) = ap (λ (z : List WorldEvent). x ∷ z) (no_more some)
 next_place : (some : List WorldEvent) (e : WorldEvent) → (1 + length some) + 1 ≡ 1 + length (some ++ e ∷ [])
 next_place some e = let l : length (some ++ e ∷ []) ≡ length some + 1 = length-append some (e ∷ []) in omega (arith, l)
 
-same_place : (a b : ℕ) → a ≤ b → b ≤ a → a ≡ b
-same_place a b l m = omega (arith, l, m)
-
 next_up : (a b : ℕ) → a < b → suc a ≤ b
 next_up a b l = omega (arith, l)
 
 sooner : (a k : ℕ) → a < suc k → a ≤ k
 sooner a k l = omega (arith, l)
 
-soon : (k n : ℕ) → suc k ≤ n → k < n
-soon k n l = omega (arith, l)
-
 none_before : (j : ℕ) → j ≤ 0 → j ≡ 0
 none_before j l = omega (arith, l)
-
-as_many : (n : ℕ) → n ≤ n
-as_many n = omega arith
 
 low : (k n : ℕ) → k < n → k ≤ n
 low k n l = omega (arith, l)
@@ -128,9 +121,6 @@ submits_nothing number s e = absurd cc
 
 one_frame : (a b : ℕ) → Deliver a ≡ Deliver b → a ≡ b
 one_frame a b e = cc
-
-same_frame : (u v : Frame) → Carried u ≡ Carried v → u ≡ v
-same_frame u v e = cc
 
 is_sent : (s : OwnState) → entry_state s ≡ Sent → s ≡ OwnSent
 is_sent OwnSent e = refl
@@ -320,7 +310,7 @@ module _ (script : Script) (after : ℕ → Report) where
         let stays : Stays (after k) (after (suc k)) = each_stays_is script after typed reports k (soon k (length script.events) few) in
         let x = stays.lines here.0 here.1.0 in
         (x.0, (x.1.0, x.1.1 ∙ here.1.1)))
-        (λ (more : suc k ≤ j). subst (λ (n : ℕ). HasLine id (after n).table) (same_place j (suc k) l more) h)
+        (λ (more : suc k ≤ j). subst (λ (n : ℕ). HasLine id (after n).table) (as_many j (suc k) l more) h)
         (cases_lt j (suc k))
 
     one_place : (id a b : ℕ) → a ≤ length script.events → b ≤ length script.events → ¬ HasLine id (after a).table → HasLine id (after (suc a)).table → ¬ HasLine id (after b).table → HasLine id (after (suc b)).table → a ≡ b
@@ -328,7 +318,7 @@ module _ (script : Script) (after : ℕ → Report) where
         (λ (l : a < b). absurd (new_b (lines_to id (suc a) b (next_up a b l) few_b there_a)))
         (λ (l : b ≤ a). ⊎_elim
         (λ (m : b < a). absurd (new_a (lines_to id (suc b) a (next_up b a m) few_a there_b)))
-        (λ (m : a ≤ b). same_place a b m l)
+        (λ (m : a ≤ b). as_many a b m l)
         (cases_lt b a))
         (cases_lt a b)
 
@@ -355,7 +345,7 @@ module _ (script : Script) (after : ℕ → Report) where
       line : (l : ReportedMessage) × IsLine l
       line =
           let same : after (length script.events) ≡ report_of last = (last_of script after typed reports).1.1 in
-          let found = lines_to k.id (suc k.place) (length script.events) within (as_many (length script.events)) k.there in
+          let found = lines_to k.id (suc k.place) (length script.events) within (none_less (length script.events)) k.there in
           let row = row_of_line found.0 last.centre.rows.messages (subst (λ (r : Report). Among found.0 r.table) same found.1.0) in
           let traced : IsTraced script after last row.0 = of_row script after typed reports row.0 row.1.0 in
           let is : line_of row.0 ≡ found.0 = sym row.1.1 in (

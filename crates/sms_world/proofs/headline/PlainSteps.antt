@@ -8,7 +8,7 @@ use Rattle.sms_script.specs.declared.event.WorldEvent.{WorldEvent}
 use Rattle.sms_script.specs.declared.play_fault.PlayFault.{PlayFault}
 use Rattle.sms_script.specs.declared.report.Report.{Report}
 use Rattle.sms_script.specs.declared.script.Script.{Script}
-use Rattle.sms_world.proofs.headline.Claimed.{can_play, unplayed}
+use Rattle.sms_world.proofs.headline.Claimed.{can_play}
 use Rattle.sms_world.proofs.headline.HeadlineHolds.{nothing_more, of_play}
 use Rattle.sms_world.proofs.headline.SplitClaimed.{between, first_of}
 use Rattle.sms_world.proofs.scripts_are_runs.Events.{ok_play, same_play}
@@ -21,6 +21,7 @@ use Rattle.sms_world_model.specs.World.{World}
 use Rattle.std.proofs.Common.{Err, List, Ok, Result, Some, [], ap, arith, length, refl, subst, suc, sym, zero, ℕ, ◌+◌, ◌++◌, ◌<◌, ◌∙◌, ◌∷◌, ◌≡◌}
 use Rattle.std.proofs.lemmas.Bool.{cond-true}
 use Rattle.std.specs.Prelude.{slice_get}
+use Rattle.sms_world.proofs.scripts_are_runs.Runs.{unplayed}
 
 -- ---- some of the events, one, and the others
 

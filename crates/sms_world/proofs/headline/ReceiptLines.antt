@@ -14,6 +14,7 @@ use Rattle.sms_rows.proofs.table.Tables.{found_key}
 use Rattle.sms_centre_spec.proofs.SteadyTimes.{above_among}
 use Rattle.sms_play.specs.Playing.{receipt_line, receipt_lines, receipt_of}
 use Rattle.sms_world.specs.headline.Claims.{AreOnce}
+use Rattle.sms_world.proofs.scripts_are_runs.Growing.{either_part}
 
 -- whose it is
 record IsOf (x : ReceiptRow) (o : Option MessageRow) : Type 0 where
@@ -31,10 +32,6 @@ in_state x m (Some f) e i = ⊎_elim
 in_line : (x : ReceiptRow) (o : Option MessageRow) → Among x (receipt_line o) → IsOf x o
 in_line x None i = absurd i
 in_line x (Some m) i = in_state x m m.state refl i
-
-either_part : {A : Type 0} (x : A) (xs ys : List A) → Among x (xs ++ ys) → Among x xs ⊎ Among x ys
-either_part x [] ys i = inr i
-either_part x (z ∷ zs) ys i = ⊎_elim (λ (e : x ≡ z). inl (inl e)) (λ (j : Among x (zs ++ ys)). ⊎_elim (λ (k : Among x zs). inl (inr k)) (λ (k : Among x ys). inr k) (either_part x zs ys j)) i
 
 -- the report that it is the line of
 pub record IsFrom (x : ReceiptRow) (ms : List MessageRow) (rs : List ReportRow) : Type 0 where

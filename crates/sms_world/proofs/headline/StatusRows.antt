@@ -26,7 +26,7 @@ use Rattle.sms_centre_rows.specs.declared.waiting.handset.HandsetRow.{HandsetRow
 use Rattle.sms_centre_rows.specs.declared.waiting.progress.Progress.{Progress}
 use Rattle.sms_centre_rows.specs.messages.Messages.{all_done, ended, is_pending, message_at, message_key}
 use Rattle.sms_centre_rows.specs.messages.SplitReferences.{next_split}
-use Rattle.sms_centre_rows.specs.reports.Reports.{next_place, report_key, report_reaching, reports_of}
+use Rattle.sms_centre_rows.specs.reports.Reports.{report_key, report_reaching, reports_of}
 use Rattle.sms_centre_rows.specs.waiting.References.{handset_of}
 use Rattle.sms_centre_rows.specs.waiting.Revisions.{Revised}
 use Rattle.sms_centre_rows.specs.waiting.SoundAllocations.{IsNumber}
@@ -52,6 +52,7 @@ use Rattle.sms_centre_spec.proofs.SteadyEvents.{steady_event}
 use Rattle.sms_centre_spec.proofs.TpdusRead.{status_reads}
 use Rattle.sms_world.proofs.split_messages_stay.MadeParts.{Accepts, IsAccepted, accept_leads}
 use Rattle.sms_world.proofs.split_messages_stay.SplitSteady.{own_number}
+use Rattle.sms_world.proofs.centres_refine_the_world.Ending.{row_made}
 
 -- Its message is a handset's and has ended, and the octets read as the STATUS-REPORT of that end.
 pub record IsStatusOf (messages : List MessageRow) (id : ℕ) (tpdu : List ℕ) : Type 0 where
@@ -110,20 +111,10 @@ end_stays ms rs m f n k there pending =
 
 -- ---- a report comes
 
--- the report that comes next, made now
-abbrev report_row : ℕ → ReportKind → Bool → Store → ReportRow
-report_row id kind closed s = record {
-  place = next_place (reports_in s);
-  id = id;
-  kind = kind;
-  made = s.moment;
-  progress = record { is_done = closed; attempts = 0; due = s.moment };
-}
-
 one_more : (id : ℕ) (kind : ReportKind) (closed : Bool) (s : Store) → AllStatus (messages_in s) (reports_in s) → ((reference : ℕ) (tpdu : List ℕ) → kind ≡ Status reference tpdu → IsStatusOf (messages_in s) id tpdu)
     → AllStatus (messages_in (make_report id kind closed s)) (reports_in (make_report id kind closed s))
 one_more id kind closed s k new x reference tpdu i is =
-    let r : ReportRow = report_row id kind closed s in
+    let r : ReportRow = row_made id kind closed s in
     ⊎_elim
     (λ (e : x ≡ r).
     subst (λ (z : ℕ). IsStatusOf (messages_in s) z tpdu) (ap (λ (z : ReportRow). z.id) (sym e)) (new reference tpdu (ap (λ (z : ReportRow). z.kind) (sym e) ∙ is)))

@@ -33,7 +33,7 @@ use Rattle.sms_world.specs.headline.OneRun.{event_of, happening_of}
 use Rattle.sms_world.proofs.scripts_are_runs.Bags.{frame_found, row_seen}
 use Rattle.sms_world.proofs.scripts_are_runs.Events.{ok_play}
 use Rattle.sms_world.proofs.scripts_are_runs.Parties.{number_there, party_found}
-use Rattle.sms_world.proofs.headline.DecidedTimely.{number_by, number_sent, numbered_there, one_number}
+use Rattle.sms_world.proofs.headline.DecidedTimely.{number_by, number_sent, numbered_there, one_number, same_frame}
 use Rattle.sms_world.proofs.headline.SameHandsets.{handsets_stay}
 
 -- ---- steps that accept
@@ -169,9 +169,6 @@ steps_take P w m b (s ∷ ss) t run a i = ⊎_elim
 
 abbrev pub TakersThere : PlayState → World → Type 0
 TakersThere c w = (a : Accepted) → Among a w.accepted → Among a.handset (numbers_of c.parties)
-
-same_frame : (u v : Frame) → Carried u ≡ Carried v → u ≡ v
-same_frame u v e = cc
 
 module _ (c : PlayState) (w : World) (s : PlayRefines c w) (n : ℕ) (u : Frame) (line : u.line ≡ Down) (kind : u.kind ≡ Data) where
   party_takes : (h : List ℕ) (e : HandsetEvent) (o : Option Party) (m : Meeting) → party_at h c.parties ≡ o → by_handset e n o ≡ Ok m → Among h (numbers_of c.parties)

@@ -6,11 +6,12 @@ use Rattle.sms_base.specs.declared.carried.Kind.TheVariants.{Ack}
 use Rattle.sms_world_model.specs.WorldStep.{Run, after_item, end, Acknowledged, Again, Can, Control, HasReferenceUp, Settle, Step, Take}
 use Rattle.sms_world_model.specs.ScriptRun.{After, AllControl, Asked, Before, Belongs, Cancelled, Event, Handed, Happening, IsInOrder, Reads, Removed, Restarted, Submitted, Tick_centre, Tick_handset, Went, Whole, Wrote, happened, is_stopped, items}
 use Rattle.sms_world_model.specs.Premises.{HandsTimely, IsTimely, ReadsTimely}
-use Rattle.sms_world_model.specs.World.{Carried, Down, Frame, Allocation, OutEntry, Up, World}
+use Rattle.sms_world_model.specs.World.{Down, Frame, Allocation, OutEntry, Up, World}
 use Rattle.sms_world_model.proofs.Scripts.{script_timely}
 use Rattle.sms_world_model.proofs.Upward.{IsUpward, up_run}
 use Rattle.sms_world.proofs.headline.AnswersTimely.{HandsAnswers}
 use Rattle.sms_world.proofs.headline.FaithfulRuns.{HandsDown, control_timely, end_parts, follows_timely, run_parts, stays_timely}
+use Rattle.sms_world.proofs.headline.FreshRuns.{HandsOne}
 
 -- control frames leave the outboxes, and what handsets gave
 pub control_leaves : (w : World) (m : ℕ) (b : Bool) (ss : List Step) → AllControl ss → ((end w (items m b ss)).up ≡ w.up) × ((end w (items m b ss)).outbox ≡ w.outbox)
@@ -44,9 +45,6 @@ module _ (w v : World) (u : Frame) (same : (v.up ≡ w.up) × (v.outbox ≡ w.ou
   reads_timely m _ r can = tt
 
 -- ---- an event
-
-abbrev pub HandsOne : World → ℕ → List Step → Type 0
-HandsOne w n own = (u : Frame) × (s : Step) × (Among (Carried u) w.bag × (u.number ≡ n) × Reads u s × (own ≡ s ∷ []))
 
 own_upward : (w v : World) (m n : ℕ) (b : Bool) (own : List Step) → (own ≡ []) ⊎ HandsOne w n own → ((v.up ≡ w.up) × (v.outbox ≡ w.outbox)) → ((u : Frame) → IsTimely w u → IsTimely v u) → HandsDown w (Handed n)
     → HandsAnswers w (Handed n) → IsUpward v → Run v (items m b own) → IsUpward (end v (items m b own))

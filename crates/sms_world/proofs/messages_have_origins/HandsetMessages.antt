@@ -40,7 +40,7 @@ use Rattle.sms_tpdu.specs.declared.fault.TpduFault.{TpduFault}
 use Rattle.sms_tpdu.specs.declared.submit.Submit.{Submit as SubmitOf}
 use Rattle.sms_tpdu.specs.declared.up.Up.{Up as UpUnit}
 use Rattle.sms_tpdu.specs.declared.up.Up.TheVariants.{Submit as SubmitUp}
-use Rattle.sms_world.proofs.headline.DecidedTimely.{number_by, numbered_there, one_number}
+use Rattle.sms_world.proofs.headline.DecidedTimely.{number_by, numbered_there, one_number, same_frame}
 use Rattle.sms_world.proofs.messages_have_origins.HandsetOriginators.{IsAsked}
 use Rattle.sms_world.proofs.scripts_are_runs.Bags.{frame_found, row_seen as bag_seen}
 use Rattle.sms_world.specs.headline.Origins.{IsOfHandset}
@@ -48,9 +48,6 @@ use Rattle.sms_world.proofs.Options.{some_is}
 use Rattle.sms_world.proofs.SeenParts.{small, only_one, seen_of, none_seen, row_seen}
 
 -- ---- the frame, by its row
-
-same_frame : (u v : Frame) → Carried u ≡ Carried v → u ≡ v
-same_frame u v e = cc
 
 -- the row of a frame that went up with data
 record IsRowUp (f : FrameRow) (u : Frame) : Type 0 where
@@ -83,10 +80,10 @@ module _ (f : FrameRow) (u : Frame) (line : u.line ≡ Up) (data_is : u.kind ≡
       let q : frame_down f.handset f.number f.octets x ≡ u = same_frame (frame_down f.handset f.number f.octets x) u e in
       absurd (not_down x.kind (ap (λ (z : Frame). z.kind) q ∙ data_is) (ap (λ (z : Frame). z.line) q ∙ line))
 
-abbrev ok_up : SubmitOf → Result UpUnit TpduFault
+abbrev pub ok_up : SubmitOf → Result UpUnit TpduFault
 ok_up s = Ok (SubmitUp s)
 
-same_submit : (a b : SubmitOf) → ok_up a ≡ ok_up b → a ≡ b
+pub same_submit : (a b : SubmitOf) → ok_up a ≡ ok_up b → a ≡ b
 same_submit a b e = cc
 
 -- ---- its message

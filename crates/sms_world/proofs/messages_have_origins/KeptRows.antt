@@ -25,7 +25,8 @@ use Rattle.sms_centre_spec.proofs.Stages.{IfThere}
 use Rattle.sms_centre_spec.proofs.Steady.{IsSteady}
 use Rattle.sms_centre_spec.proofs.SteadyEvents.{steady_event}
 use Rattle.sms_world.proofs.split_messages_stay.MadeParts.{Accepts, IsAccepted, accept_leads}
-use Rattle.sms_world.proofs.split_messages_stay.SplitSteady.{end_touches, own_number}
+use Rattle.sms_world.proofs.split_messages_stay.SplitSteady.{own_number}
+use Rattle.sms_world.proofs.scripts_are_runs.PartsInOrder.{end_touches}
 
 -- that is said of the row of the message of that number
 abbrev pub HasRow : ℕ → (MessageRow → Type 0) → List MessageRow → List PartRow → Type 0

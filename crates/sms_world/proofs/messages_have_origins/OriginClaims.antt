@@ -36,8 +36,8 @@ use Rattle.sms_world.specs.scripts_are_runs.PlayRefinement.{PlayRefines}
 use Rattle.sms_world.specs.headline.OneRun.{happening_of}
 use Rattle.sms_world.proofs.scripts_are_runs.Beginnings.{begins}
 use Rattle.sms_world.proofs.scripts_are_runs.Events.{event_leads, ok_play, same_play}
-use Rattle.sms_world.proofs.scripts_are_runs.Runs.{run_leads}
-use Rattle.sms_world.proofs.headline.Claimed.{can_play, script_hands, unplayed}
+use Rattle.sms_world.proofs.scripts_are_runs.Runs.{run_leads, unplayed}
+use Rattle.sms_world.proofs.headline.Claimed.{can_play, script_hands}
 use Rattle.sms_world.proofs.headline.Parting.{others_good, parted}
 use Rattle.sms_world.proofs.headline.SplitClaimed.{between, first_of}
 use Rattle.sms_world.proofs.headline.SplitPlays.{all_preserved}

@@ -60,8 +60,10 @@ use Rattle.sms_world.proofs.scripts_are_runs.EventMoments.{event_moment}
 use Rattle.sms_world.proofs.scripts_are_runs.Events.{event_leads, ok_play}
 use Rattle.sms_world.proofs.scripts_are_runs.Meetings.{MeetsCentre, meets}
 use Rattle.sms_world.proofs.split_messages_stay.MadeParts.{Accepts, IsAccepted, accept_leads}
-use Rattle.sms_world.proofs.split_messages_stay.SplitSteady.{end_touches, own_number}
+use Rattle.sms_world.proofs.split_messages_stay.SplitSteady.{own_number}
 use Rattle.sms_world.proofs.Options.{some_is}
+use Rattle.sms_world.proofs.scripts_are_runs.PartsInOrder.{end_touches}
+use Rattle.sms_world.proofs.scripts_are_runs.Growing.{none_less}
 
 -- ---- a submission is accepted at the moment of the store, which stays
 
@@ -94,9 +96,6 @@ module _ (now : ℕ) where
       (λ t. tt)
 
 -- ---- what was not there before is not older than that moment
-
-as_many : (n : ℕ) → n ≤ n
-as_many n = omega arith
 
 no_later : (a b n : ℕ) → a ≤ b → b ≤ n → a ≤ n
 no_later a b n l m = omega (arith, l, m)
@@ -169,7 +168,7 @@ pub submitted_then : (event : CentreEvent) (c : Core) → IsSoundCore c → IsEv
     → message_at m.id c.rows.messages ≡ None → m.submitted ≡ c.moment
 submitted_then event c sound is still m i none =
     let begun : Late c.rows.messages c.moment (draft_of c).store = record {
-      low = as_many c.moment;
+      low = none_less c.moment;
       each = λ x j gone. absurd (stood c sound x j gone);
     } in
     let k = steady_event (Since c.rows.messages c.moment) (late_steady c.rows.messages c.moment) event c

@@ -18,6 +18,7 @@ use Rattle.sms_world.specs.centres_refine_the_world.FramesOut.{AreWholeDown, sta
 use Rattle.sms_world.specs.scripts_are_runs.PlayRefinement.{IsSentRow}
 use Rattle.sms_world.specs.headline.SeenWorld.{all_seen, sent_row}
 use Rattle.sms_world.proofs.Options.{some_is}
+use Rattle.sms_world.proofs.scripts_are_runs.Growing.{among_last}
 
 -- ---- one more frame
 
@@ -58,10 +59,6 @@ down_stacked (f ∷ fs) bag =
     down_stacked fs (bag ++ row ∷ [])
     ∙ ap (λ (z : List Sent). stacked_down fs z)
     (seen_more [] bag row ∙ ap (λ (n : ℕ). sent_down f.handset (n + 1) f.frame.octets f.frame.carried ∷ all_seen [] bag) (sym (as_many bag)))
-
-pub among_last : {A : Type 0} (x y : A) (ys : List A) → Among x (ys ++ y ∷ []) → Among x ys ⊎ (x ≡ y)
-among_last x y [] i = ⊎_elim (λ (e : x ≡ y). inr e) (λ none. absurd none) i
-among_last x y (z ∷ zs) i = ⊎_elim (λ (e : x ≡ z). inl (inl e)) (λ (j : Among x (zs ++ y ∷ [])). ⊎_elim (λ (k : Among x zs). inl (inr k)) (λ (e : x ≡ y). inr e) (among_last x y zs j)) i
 
 abbrev AllRows : List FrameRow → Type 0
 AllRows bag = (f : FrameRow) → Among f bag → IsSentRow f

@@ -23,7 +23,6 @@ use Rattle.sms_centre_rows.specs.reports.Receipts.{Session}
 use Rattle.sms_world.specs.centre_runs_are_steps.Run.{CanRestart}
 use Rattle.sms_world.proofs.centre_runs_are_steps.Runs.{first_run_is_steps}
 use Rattle.sms_handset_draft.specs.declared.setup.Setup.{Setup as OwnSetup}
-use Rattle.sms_handset_draft.specs.Draft.{recovered}
 use Rattle.sms_handset_draft.specs.FirstRows.{first_rows}
 use Rattle.sms_handset.specs.SoundRows.{IsSetup, IsSound}
 use Rattle.sms_play.specs.PlayState.{Party, numbers_of}
@@ -34,7 +33,8 @@ use Rattle.sms_world.proofs.handset_runs_are_steps.Restarts.{start_seen}
 use Rattle.sms_world.specs.scripts_are_runs.PlayRuns.{BeginningLaw}
 use Rattle.sms_world.specs.scripts_are_runs.PlayRefinement.{OwnAllocations, PartyRefines}
 use Rattle.sms_world.proofs.scripts_are_runs.CentreMeets.{can_come}
-use Rattle.sms_world.proofs.scripts_are_runs.HandsetMeets.{recovered_sound}
+use Rattle.sms_world.proofs.handset_runs_are_steps.Runs.{recovered_sound}
+use Rattle.sms_player.specs.heads.Heads.{party_of}
 
 -- ---- numbers
 
@@ -89,9 +89,6 @@ first_sound setup t = record {
   few_marks = (let l : 0 ≤ 64 = omega arith in l);
 }
 
-abbrev first_party : Setup → HandsetSetup → Party
-first_party s h = record { number = h.number; core = recovered (first_rows (handset_setup s h)); accepted = []; joined = [] }
-
 not_both : (b : Bool) → b ≡ true → not b ≡ true → ⊥
 not_both true e f = absurd cc
 not_both false e f = absurd cc
@@ -105,7 +102,7 @@ or_second true b e = refl
 or_second false b e = e
 
 module _ (s : Setup) (centre : IsNumber s.centre) where
-  party_refines : (h : HandsetSetup) → is_handset h ≡ true → PartyRefines (first_party s h) empty
+  party_refines : (h : HandsetSetup) → is_handset h ≡ true → PartyRefines (party_of s h) empty
   party_refines h e =
       let a = and_parts (is_number h.number) (nat_lt 0 h.slots && nat_le h.slots 255) e in
       let b = and_parts (nat_lt 0 h.slots) (nat_le h.slots 255) a.1 in
@@ -124,7 +121,7 @@ module _ (s : Setup) (centre : IsNumber s.centre) where
   parties_see (h ∷ hs) e p i =
       let a = and_parts (is_handset h && not (has_handset h.number hs)) (are_handsets hs) e in
       let b = and_parts (is_handset h) (not (has_handset h.number hs)) a.0 in
-      ⊎_elim (λ (q : p ≡ first_party s h). subst (λ (z : Party). PartyRefines z empty) (sym q) (party_refines h b.0)) (λ (j : Among p (parties_of s hs)). parties_see hs a.1 p j) i
+      ⊎_elim (λ (q : p ≡ party_of s h). subst (λ (z : Party). PartyRefines z empty) (sym q) (party_refines h b.0)) (λ (j : Among p (parties_of s hs)). parties_see hs a.1 p j) i
 
   number_had : (n : List ℕ) (hs : List HandsetSetup) → Among n (numbers_of (parties_of s hs)) → has_handset n hs ≡ true
   number_had n [] i = absurd i
@@ -144,7 +141,7 @@ module _ (s : Setup) (centre : IsNumber s.centre) where
 none_given : (s : Setup) (hs : List HandsetSetup) → (p : Party) → Among p (parties_of s hs) → OwnAllocations p [] []
 none_given s [] p i = absurd i
 none_given s (h ∷ hs) p i = ⊎_elim
-    (λ (q : p ≡ first_party s h). subst (λ (z : Party). OwnAllocations z [] []) (sym q) (record { entries = λ o j u. absurd j; notices = λ n l. let no : ⊥ = omega (arith, l) in absurd no }))
+    (λ (q : p ≡ party_of s h). subst (λ (z : Party). OwnAllocations z [] []) (sym q) (record { entries = λ o j u. absurd j; notices = λ n l. let no : ⊥ = omega (arith, l) in absurd no }))
     (λ (j : Among p (parties_of s hs)). none_given s hs p j)
     i
 

@@ -22,7 +22,7 @@ Inside xs ys = (x : PartGiven) → Among x xs → Among x ys
 not_both : (a b : ℕ) → a < b → b < a → ⊥
 not_both a b l m = omega (arith, l, m)
 
-not_itself : (a : ℕ) → a < a → ⊥
+pub not_itself : (a : ℕ) → a < a → ⊥
 not_itself a l = omega (arith, l)
 
 -- the rest of the one stands in the rest of the other

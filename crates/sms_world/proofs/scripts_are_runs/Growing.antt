@@ -13,10 +13,7 @@ use Rattle.sms_world_model.proofs.Faithful.{was_earlier}
 use Rattle.sms_world.specs.scripts_are_runs.AllocationLaws.{NoneSubmits, OneSubmits, Submits}
 use Rattle.sms_world.specs.headline.SeenWorld.{PartGiven, parts_given}
 use Rattle.sms_world.proofs.scripts_are_runs.Falling.{Falls, falls_append, key_of, nothing_more, parts_append}
-
-appended : {A : Type 0} (xs ys zs : List A) → (xs ++ ys) ++ zs ≡ xs ++ (ys ++ zs)
-appended [] ys zs = refl
-appended (x ∷ xs) ys zs = ap (λ z. x ∷ z) (appended xs ys zs)
+use Rattle.sms_world.proofs.handset_runs_are_steps.Moving.{appended}
 
 pub record Grown (m : ℕ) (old new : List Allocation) : Type 0 where
   pub more : List Allocation
@@ -97,7 +94,7 @@ lower a b n k e l = omega (arith, e, l)
 less : (n k : ℕ) → suc n ≤ k → n ≤ k
 less n k l = omega (arith, l)
 
-none_less : (n : ℕ) → n ≤ n
+pub none_less : (n : ℕ) → n ≤ n
 none_less n = omega arith
 
 parts_grow : (s : Submission) (m n : ℕ) (ts : List Ticket) (down : List Allocation) → GrownFrom s.id n m down (given_parts s m n ts down)

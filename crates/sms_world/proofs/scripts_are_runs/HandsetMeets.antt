@@ -1,5 +1,5 @@
 -- An event of a handset, in a course: it is steps of the world, and the course after it sees where they lead.
-use Rattle.std.proofs.Common.{◌≡◌, ℕ, ◌≤◌, arith, List, [], ◌∷◌, ◌++◌, Bool, true, false, refl, sym, ◌∙◌, ap, subst, inl, ⊎_elim, Option, Some, None, Result, Ok, Err}
+use Rattle.std.proofs.Common.{◌≡◌, ℕ, List, [], ◌∷◌, ◌++◌, Bool, true, false, refl, sym, ◌∙◌, ap, subst, inl, ⊎_elim, Option, Some, None, Result, Ok, Err}
 use Rattle.sms_base.specs.Among.{Among}
 use Rattle.sms_base.specs.declared.carried.Carried.{Carried}
 use Rattle.sms_base.specs.declared.carried.Kind.{Kind}
@@ -24,13 +24,11 @@ use Rattle.sms_script.specs.declared.report.answers.Answered.{Answered}
 use Rattle.sms_script.specs.declared.report.answers.Answered.TheVariants.{Done, Refused}
 use Rattle.sms_script.specs.declared.report.rows.JoinedRow.{JoinedRow}
 use Rattle.sms_centre_spec.specs.SoundCore.{AreDifferent}
-use Rattle.sms_handset_draft.specs.declared.rows.Rows.{Rows}
 use Rattle.sms_handset_draft.specs.Draft.{Core, Draft, draft_of, recovered}
 use Rattle.sms_handset.specs.FaultCodes.{refusal_code}
 use Rattle.sms_handset.specs.HandsetEvent.{tag_of}
 use Rattle.sms_handset.specs.Planning.{OfFrame}
 use Rattle.sms_handset.specs.SoundCore.{IsSoundCore}
-use Rattle.sms_handset.specs.SoundRows.{IsSound}
 use Rattle.sms_handset.specs.declared.event.HandsetEvent.{HandsetEvent}
 use Rattle.sms_handset.specs.declared.event.HandsetEvent.TheVariants.{Frame, Tick, Write, Delete, Discard}
 use Rattle.sms_handset.specs.declared.refusal.Refusal.{Refusal}
@@ -65,6 +63,7 @@ use Rattle.sms_world_model.proofs.Stops.{stopped_so}
 use Rattle.sms_world.proofs.scripts_are_runs.Bags.{up_rows, up_stacked}
 use Rattle.sms_world.proofs.scripts_are_runs.Parties.{party_found, with_among, with_found, with_numbers}
 use Rattle.sms_world.proofs.scripts_are_runs.PutRows.{pairs_more, rows_more}
+use Rattle.sms_world.proofs.handset_runs_are_steps.Runs.{recovered_sound}
 
 -- the event is steps, whole or stopped, to a world that the course sees
 abbrev pub EventIsSteps : Event → ℕ → Bool → World → PlayState → Type 0
@@ -82,9 +81,6 @@ stopped_bag w m [] = refl
 stopped_bag w m (x ∷ xs) = stopped_bag (after_item w (record { step = x; moment = m; stopped = true })) m xs
 
 -- ---- soundness
-
-pub recovered_sound : (rows : Rows) → IsSound rows → IsSoundCore (recovered rows)
-recovered_sound rows s = record { rows = s; recovered = λ e. refl; under_way = tt; few_notices = (let l : 0 ≤ 200 = omega arith in l) }
 
 sound_if : (e : HandsetEvent) (c : Core) → IsSoundCore c → SoundIfDone (happened e c)
 sound_if (Frame octets tag) c s = frame_sound octets (tag_of tag) c s

@@ -72,10 +72,10 @@ Meets act c w (AtHandset p e) = MeetsHandset act c w p e
 
 -- ---- accounts and handsets that are there
 
-abbrev ok_meeting : Meeting → Result Meeting PlayFault
+abbrev pub ok_meeting : Meeting → Result Meeting PlayFault
 ok_meeting m = Ok m
 
-same_meeting : (x m : Meeting) → ok_meeting x ≡ ok_meeting m → x ≡ m
+pub same_meeting : (x m : Meeting) → ok_meeting x ≡ ok_meeting m → x ≡ m
 same_meeting x m e = cc
 
 by_account_is : (n : ℕ) (request : ℕ → CentreEvent) (o : Option ℕ) (m : Meeting) → by_account n request o ≡ Ok m → (place : ℕ) × (m ≡ AtCentre (request place))

@@ -124,16 +124,16 @@ far_ordered p q s k = record { have = have_amended (part_key p) q (parts_in s) s
 
 -- ---- a message ends
 
-status_touches : (f : FinalState) (m : MessageRow) (h : HandsetRow) (o : Option ℕ) (s : Store) → (status_given f m h o s).messages ≡ s.messages
+pub status_touches : (f : FinalState) (m : MessageRow) (h : HandsetRow) (o : Option ℕ) (s : Store) → (status_given f m h o s).messages ≡ s.messages
 status_touches f m h None s = refl
 status_touches f m h (Some r) s = refl
 
-report_touches : (o : Originator) (f : FinalState) (m : MessageRow) (s : Store) → (report_to o f m s).messages ≡ s.messages
+pub report_touches : (o : Originator) (f : FinalState) (m : MessageRow) (s : Store) → (report_to o f m s).messages ≡ s.messages
 report_touches (Application account) f m s = refl
 report_touches (Handset n) f m s =
     let h : HandsetRow = handset_of m.source.digits (handsets_in s) in status_touches f m h (reference_for h s) s
 
-end_touches : (f : FinalState) (m : MessageRow) (s : Store) → (end f m s).messages ≡ put_message (ended f s.moment m) s.messages
+pub end_touches : (f : FinalState) (m : MessageRow) (s : Store) → (end f m s).messages ≡ put_message (ended f s.moment m) s.messages
 end_touches f m s =
     let e : Store = with_message (ended f s.moment m) s in
     cond_both (is_wished m.wish f) (report_to m.originator f m e) e (λ (x : Store). x.messages ≡ e.messages) (λ t. report_touches m.originator f m e) (λ t. refl)
@@ -212,7 +212,7 @@ accept_ordered base u s since k =
 abbrev OrdersSince : Rows → Store → Type 0
 OrdersSince base s = SoundSince base s × Orders s
 
-both_there : (A B : Store → Type 0) (o : Option Store) → IfThere A o → IfThere B o → IfThere (λ (s : Store). A s × B s) o
+pub both_there : (A B : Store → Type 0) (o : Option Store) → IfThere A o → IfThere B o → IfThere (λ (s : Store). A s × B s) o
 both_there A B None a b = tt
 both_there A B (Some s) a b = (a, b)
 

@@ -49,6 +49,7 @@ use Rattle.sms_centre_spec.proofs.Steady.{IsSteady, message_own}
 use Rattle.sms_centre_spec.proofs.SteadyEvents.{steady_event}
 use Rattle.sms_world.proofs.scripts_are_runs.Growing.{among_last}
 use Rattle.sms_world.proofs.Options.{some_is, none_some}
+use Rattle.sms_world.proofs.scripts_are_runs.PartsInOrder.{both_there}
 
 -- each report that came was of a message that had none, over the rows that those behind it led to
 abbrev pub ReportsMove : List (Revision ReportRow) → List ReportRow → Type 0
@@ -145,10 +146,6 @@ module _ (base : Rows) where
 
 abbrev pub ReportingSince : Rows → Store → Type 0
 ReportingSince base s = SoundSince base s × Reporting base s
-
-both_there : (A B : Store → Type 0) (o : Option Store) → IfThere A o → IfThere B o → IfThere (λ (s : Store). A s × B s) o
-both_there A B None a b = tt
-both_there A B (Some s) a b = (a, b)
 
 same_there : (base : Rows) (s : Store) (o : Option Store) → IfThere (λ (e : Store). e.reports ≡ s.reports) o → Reporting base s → IfThere (λ (e : Store). Reporting base e) o
 same_there base s None q k = tt

@@ -40,7 +40,7 @@ run_leads n (e ∷ es) c d w s good octets q =
     then_more n e c d w (λ x. happenings (n + 1) es x) (λ x. played_on (n + 1) es x) (λ x. AllHandOctets (n + 1) es x) (λ x v k o p. run_leads (n + 1) es x d v k good.1 o p) s good.0 octets.0
     (played n e c) refl octets.1 q
 
-abbrev unplayed : Result PlayState PlayFault
+abbrev pub unplayed : Result PlayState PlayFault
 unplayed = Err BadSetup
 
 pub script_leads : ScriptLaw

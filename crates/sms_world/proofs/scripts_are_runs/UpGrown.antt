@@ -139,7 +139,7 @@ All P (s ∷ ss) = P s × All P ss
 abbrev pub HasEntry : List OutEntry → List ℕ → ℕ → Type 0
 HasEntry outbox h n = (e : OutEntry) × (Among e outbox × (e.handset ≡ h) × (e.number ≡ n))
 
-entry_number : (a b : ℕ) → Entry a ≡ Entry b → a ≡ b
+pub entry_number : (a b : ℕ) → Entry a ≡ Entry b → a ≡ b
 entry_number a b e = cc
 
 no_memory : (a b : ℕ) → Memory a ≡ Entry b → ⊥

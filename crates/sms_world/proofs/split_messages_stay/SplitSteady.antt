@@ -4,22 +4,18 @@ use Rattle.std.proofs.lemmas.Bool.{cond_both}
 use Rattle.sms_base.specs.Among.{Among}
 use Rattle.sms_base.specs.declared.final_state.FinalState.{FinalState}
 use Rattle.sms_base.specs.declared.final_state.FinalState.TheVariants.{Delivered}
-use Rattle.sms_base.specs.declared.originator.Originator.{Originator}
-use Rattle.sms_base.specs.declared.originator.Originator.TheVariants.{Application, Handset}
 use Rattle.sms_rows.proofs.table.Tables.{among_put, found_among, found_key}
 use Rattle.sms_intake.specs.declared.submission.Submission.{Submission}
 use Rattle.sms_centre_rows.specs.declared.messages.message.MessageRow.{MessageRow}
 use Rattle.sms_centre_rows.specs.declared.messages.part.PartRow.{PartRow}
 use Rattle.sms_centre_rows.specs.messages.Messages.{Messages, all_done, ended, message_at, message_key, messages_of, part_key, parts_of, put_message}
-use Rattle.sms_centre_rows.specs.declared.waiting.handset.HandsetRow.{HandsetRow}
 use Rattle.sms_centre_rows.specs.declared.waiting.progress.Progress.{Progress}
-use Rattle.sms_centre_rows.specs.waiting.References.{handset_of}
 use Rattle.sms_centre_rows.specs.waiting.Trying.{finished}
-use Rattle.sms_centre_spec.specs.Draft.{Store, handsets_in, messages_in, parts_in, rows_of, with_message, with_part_at}
+use Rattle.sms_centre_spec.specs.Draft.{Store, messages_in, parts_in, rows_of, with_part_at}
 use Rattle.sms_centre_spec.specs.MessageNumbers.{next_number}
-use Rattle.sms_centre_spec.specs.Ends.{end, is_wished, report_to, status_given}
+use Rattle.sms_centre_spec.specs.Ends.{end}
 use Rattle.sms_centre_spec.specs.Consistent.{IsSubmission}
-use Rattle.sms_centre_spec.specs.Submitting.{accept, message_of, reference_for}
+use Rattle.sms_centre_spec.specs.Submitting.{accept, message_of}
 use Rattle.sms_centre_spec.specs.Transfers.{complete}
 use Rattle.sms_centre_spec.proofs.NextNumbers.{below_next_number}
 use Rattle.sms_centre_spec.proofs.SoundAccepted.{sound_steady}
@@ -31,26 +27,13 @@ use Rattle.sms_world.proofs.split_messages_stay.MadeParts.{Accepts, IsAccepted, 
 use Rattle.sms_world.proofs.split_messages_stay.Places.{text_cut}
 use Rattle.sms_world.proofs.split_messages_stay.SameParts.{same_amended, same_parts, under_stays}
 use Rattle.sms_world.proofs.split_messages_stay.SplitParts.{stands_under}
+use Rattle.sms_world.proofs.scripts_are_runs.PartsInOrder.{end_touches}
 
 -- the messages and the parts of a store
 abbrev pub Splits : Messages → Type 0
 Splits m = AllSplitUnder (messages_of m) (parts_of m)
 
 -- ---- a message ends
-
-status_touches : (f : FinalState) (m : MessageRow) (h : HandsetRow) (o : Option ℕ) (s : Store) → (status_given f m h o s).messages ≡ s.messages
-status_touches f m h None s = refl
-status_touches f m h (Some r) s = refl
-
-report_touches : (o : Originator) (f : FinalState) (m : MessageRow) (s : Store) → (report_to o f m s).messages ≡ s.messages
-report_touches (Application account) f m s = refl
-report_touches (Handset n) f m s =
-    let h : HandsetRow = handset_of m.source.digits (handsets_in s) in status_touches f m h (reference_for h s) s
-
-pub end_touches : (f : FinalState) (m : MessageRow) (s : Store) → (end f m s).messages ≡ put_message (ended f s.moment m) s.messages
-end_touches f m s =
-    let e : Store = with_message (ended f s.moment m) s in
-    cond_both (is_wished m.wish f) (report_to m.originator f m e) e (λ (x : Store). x.messages ≡ e.messages) (λ t. report_touches m.originator f m e) (λ t. refl)
 
 ended_splits : (f : FinalState) (m : MessageRow) (s : Store) → Splits s.messages → message_at m.id (messages_in s) ≡ Some m → Splits (end f m s).messages
 ended_splits f m s k there =

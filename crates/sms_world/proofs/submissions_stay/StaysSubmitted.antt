@@ -26,10 +26,11 @@ use Rattle.sms_centre_spec.proofs.Steady.{IsSteady}
 use Rattle.sms_centre_spec.proofs.SteadyEvents.{steady_event}
 use Rattle.sms_world.proofs.split_messages_stay.MadeParts.{Accepts, IsAccepted, accept_leads}
 use Rattle.sms_world.proofs.split_messages_stay.SameParts.{SameParts, same_amended}
-use Rattle.sms_world.proofs.split_messages_stay.SplitSteady.{end_touches, own_number}
+use Rattle.sms_world.proofs.split_messages_stay.SplitSteady.{own_number}
 use Rattle.sms_world.specs.submissions_stay.SubmittedLaws.{StaysLaw}
 use Rattle.sms_world.specs.headline.Origins.{IsDeliverFor, IsSubmitted, part_numbered}
 use Rattle.sms_world.proofs.submissions_stay.Delivers.{same_number, within}
+use Rattle.sms_world.proofs.scripts_are_runs.PartsInOrder.{end_touches}
 
 -- while its parts keep their numbers and octets
 still : (u : Submission) (m : MessageRow) (ps qs : List PartRow) → IsSubmitted u m ps → SameParts m.id ps qs → IsSubmitted u m qs

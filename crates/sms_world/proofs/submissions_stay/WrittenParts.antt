@@ -34,7 +34,8 @@ use Rattle.sms_centre_spec.proofs.SteadyEvents.{steady_event}
 use Rattle.sms_world.proofs.split_messages_stay.MadeParts.{Accepts, IsAccepted, accept_leads}
 use Rattle.sms_world.proofs.split_messages_stay.SameParts.{same_amended}
 use Rattle.sms_world.proofs.split_messages_stay.SplitParts.{among_body}
-use Rattle.sms_world.proofs.split_messages_stay.SplitSteady.{end_touches, own_number}
+use Rattle.sms_world.proofs.split_messages_stay.SplitSteady.{own_number}
+use Rattle.sms_world.proofs.scripts_are_runs.PartsInOrder.{end_touches}
 
 pub record IsWritten (m : MessageRow) (p : PartRow) : Type 0 where
   pub moment : ℕ

@@ -14,10 +14,10 @@ use Rattle.sms_world.specs.wrong_plays.Plays.{first, from_application, setup}
 use Rattle.sms_world.specs.wrong_plays.Told.{FromNoneLaw, LineOfNoneLaw, NobodysLaw, ReceiptOfNoneLaw}
 use Rattle.sms_world.specs.wrong_reports.Literals.{line, receipt}
 
-abbrev Leads : Result PlayState PlayFault → PlayState → Type 0
+abbrev pub Leads : Result PlayState PlayFault → PlayState → Type 0
 Leads found c = found ≡ Ok c
 
-inside : (c d : PlayState) → Leads (Ok c) d → c ≡ d
+pub inside : (c d : PlayState) → Leads (Ok c) d → c ≡ d
 inside c d e = cc
 
 no_line : [] ≡ line Enroute ∷ [] → ⊥
@@ -28,7 +28,7 @@ nobodys h =
     no_line (sym (ap (λ (r : Report). r.table) h.is_of ∙ ap (λ (c : PlayState). (report_of c).table) (sym (inside first h.play h.leads))))
 
 -- no events have no first event
-no_events : (some : List WorldEvent) (e : WorldEvent) (others : List WorldEvent) → [] ≡ some ++ e ∷ others → ⊥
+pub no_events : (some : List WorldEvent) (e : WorldEvent) (others : List WorldEvent) → [] ≡ some ++ e ∷ others → ⊥
 no_events [] e others q = absurd cc
 no_events (x ∷ xs) e others q = absurd cc
 

@@ -1,5 +1,5 @@
 -- Events that a message is not from.
-use Rattle.std.proofs.Common.{arith, ◌≡◌, List, [], ◌∷◌, refl, sym, ◌∙◌, ap, subst, Result, Ok}
+use Rattle.std.proofs.Common.{arith, ◌≡◌, List, [], ◌∷◌, refl, sym, ◌∙◌, ap, subst}
 use Rattle.std.specs.Prelude.{◌++◌}
 use Rattle.sms_centre_spec.specs.MessageNumbers.{next_number}
 use Rattle.sms_play.specs.PlayState.{PlayState}
@@ -8,19 +8,15 @@ use Rattle.sms_script.specs.declared.event.Act.TheVariants.{Submit}
 use Rattle.sms_script.specs.declared.event.StopPoint.TheVariants.{Before}
 use Rattle.sms_script.specs.declared.event.WorldEvent.{WorldEvent}
 use Rattle.sms_script.specs.declared.event.WorldEvent.TheVariants.{Stopped}
-use Rattle.sms_script.specs.declared.play_fault.PlayFault.{PlayFault}
 use Rattle.sms_centre_rows.specs.declared.messages.message.MessageRow.{MessageRow}
 use Rattle.sms_centre_rows.specs.declared.messages.part.PartRow.{PartRow}
 use Rattle.sms_world.specs.headline.Origins.{IsFrom, MakesMessage}
 use Rattle.sms_world.specs.wrong_plays.Happened.{FromQueryLaw, FromStoppedLaw, OtherIdLaw, OtherMomentLaw, queries}
 use Rattle.sms_world.specs.wrong_plays.Plays.{first, from_application, part_one, setup}
 use Rattle.sms_world.specs.wrong_reports.Literals.{asked, submits}
+use Rattle.sms_world.proofs.wrong_plays.NoMessage.{no_events, inside, Leads}
 
 -- one event is its list's first one, behind none
-no_events : (some : List WorldEvent) (e : WorldEvent) (others : List WorldEvent) → [] ≡ some ++ e ∷ others → ⊥
-no_events [] e others q = absurd cc
-no_events (x ∷ xs) e others q = absurd cc
-
 is_event : (e : WorldEvent) (some : List WorldEvent) (x : WorldEvent) (others : List WorldEvent) → e ∷ [] ≡ some ++ x ∷ others → e ≡ x
 is_event e [] x others q = cc
 is_event e (y ∷ ys) x others q = absurd (no_events ys x others tail)
@@ -37,12 +33,6 @@ is_first e (y ∷ ys) x others q = absurd (no_events ys x others tail)
 
 makes : (e : WorldEvent) (m : MessageRow) (parts : List PartRow) (o : IsFrom setup (e ∷ []) m parts) → MakesMessage e o.before m parts
 makes e m parts o = subst (λ (x : WorldEvent). MakesMessage x o.before m parts) (sym (is_event e o.some o.event o.others o.among)) o.makes
-
-abbrev Leads : Result PlayState PlayFault → PlayState → Type 0
-Leads found c = found ≡ Ok c
-
-inside : (c d : PlayState) → Leads (Ok c) d → c ≡ d
-inside c d e = cc
 
 begins : (e : WorldEvent) (m : MessageRow) (parts : List PartRow) (o : IsFrom setup (e ∷ []) m parts) → first ≡ o.before
 begins e m parts o = inside first o.before (subst (λ (s : List WorldEvent). Leads (play_state_of setup s) o.before) (is_first e o.some o.event o.others o.among) o.leads)

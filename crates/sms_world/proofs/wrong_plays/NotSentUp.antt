@@ -75,7 +75,7 @@ submit_is m parts o =
     same_submit o.submit
     (sym reads ∙ (ap (λ (f : FrameRow). up_at InData (frame_tpdu (cp_at f.octets))) (only_frame o.frame o.there) ∙ o.reads))
 
-abbrev ReadsDown : Result DownOf TpduFault → DeliverOf → Type 0
+abbrev pub ReadsDown : Result DownOf TpduFault → DeliverOf → Type 0
 ReadsDown found d = found ≡ Ok (DeliverDown d)
 
 abbrev delivered : DeliverOf
@@ -105,7 +105,7 @@ application_reads : ReadsDown (down_at InData (compared (deliver other_octets)))
 unfolding everything
 application_reads = refl
 
-same_deliver : (d e : DeliverOf) → ReadsDown (Ok (DeliverDown d)) e → d ≡ e
+pub same_deliver : (d e : DeliverOf) → ReadsDown (Ok (DeliverDown d)) e → d ≡ e
 same_deliver d e q = cc
 
 octets_differ : other_octets ≡ hello_octets → ⊥

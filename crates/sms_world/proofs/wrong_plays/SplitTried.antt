@@ -1,5 +1,5 @@
 -- A text in its two parts is split so, and what differs from that is not. A row that says another thing than its part.
-use Rattle.std.proofs.Common.{arith, ◌≡◌, ℕ, zero, suc, List, [], ◌∷◌, true, false, refl, sym, ◌∙◌, ap, subst, inl, inr, ⊎_elim, Result, Ok, Option, Some, None, ◌<◌, ◌≤◌, length}
+use Rattle.std.proofs.Common.{arith, ◌≡◌, ℕ, zero, suc, List, [], ◌∷◌, true, false, refl, sym, ◌∙◌, ap, subst, inl, inr, ⊎_elim, Option, Some, None, ◌<◌, ◌≤◌, length}
 use Rattle.std.specs.Prelude.{◌⊎◌, ◌++◌, slice_get}
 use Rattle.sms_alphabet.specs.declared.concat_key.ConcatKey.{ConcatKey}
 use Rattle.sms_alphabet.specs.declared.scheme.Coding.TheVariants.{Octets}
@@ -17,9 +17,6 @@ use Rattle.sms_tpdu.specs.MoreMessages.{compared}
 use Rattle.sms_tpdu.specs.TpduReading.{down_at}
 use Rattle.sms_tpdu.specs.declared.carrier.Carrier.TheVariants.{InData}
 use Rattle.sms_tpdu.specs.declared.deliver.Deliver.{Deliver as DeliverOf}
-use Rattle.sms_tpdu.specs.declared.down.Down.{Down as DownOf}
-use Rattle.sms_tpdu.specs.declared.down.Down.TheVariants.{Deliver as DeliverDown}
-use Rattle.sms_tpdu.specs.declared.fault.TpduFault.{TpduFault}
 use Rattle.sms_world.proofs.Everything.{everything}
 use Rattle.sms_world.specs.headline.Claims.{pair_in_row}
 use Rattle.sms_world.specs.headline.SplitClaims.{IsSplitOf, IsSplitUnder, split_key}
@@ -28,6 +25,7 @@ use Rattle.sms_world.specs.wrong_plays.Plays.{part_one}
 use Rattle.sms_world.specs.wrong_plays.SplitText.{MixedRoundLaw, NoPlaceLaw, OtherContentLaw, OtherPlanLaw, OtherRowLaw, OtherWordsLaw, RightSplitLaw, odd, second, split_message, split_one, split_parts, split_two, stray}
 use Rattle.sms_world.specs.wrong_reports.Literals.{deliver, hello_octets, source, zeros}
 use Rattle.sms_world.proofs.Options.{some_is, none_some}
+use Rattle.sms_world.proofs.wrong_plays.NotSentUp.{same_deliver, ReadsDown}
 use Rattle.sms_world_model.specs.Place.{carried_in, place_in}
 use Rattle.sms_world_model.specs.World.{Accepted}
 
@@ -217,15 +215,9 @@ hello_deliver = record {
   user_data = record { length = 5; octets = hello_octets };
 }
 
-abbrev ReadsDown : Result DownOf TpduFault → DeliverOf → Type 0
-ReadsDown found d = found ≡ Ok (DeliverDown d)
-
 hello_reads : ReadsDown (down_at InData (compared part_one.tpdu)) hello_deliver
 unfolding everything
 hello_reads = refl
-
-same_deliver : (d e : DeliverOf) → ReadsDown (Ok (DeliverDown d)) e → d ≡ e
-same_deliver d e q = cc
 
 pub other_row : OtherRowLaw
 other_row d =

@@ -1,10 +1,9 @@
-use Rattle.std.proofs.Common.{Bool, ◌≡◌, ℕ, zero, suc, List, [], ◌∷◌, refl, sym, ◌∙◌, ap, subst, inl, ⊎_elim, Option, Some, None, Ok, Result}
+use Rattle.std.proofs.Common.{Bool, ◌≡◌, ℕ, zero, suc, List, [], ◌∷◌, refl, sym, ◌∙◌, ap, subst, inl, ⊎_elim, Option, Some, None, Ok}
 use Rattle.sms_base.specs.Among.{Among}
 use Rattle.sms_concat.specs.Cutting.{filled, split_of}
 use Rattle.sms_concat.specs.declared.content.Content.{Content}
 use Rattle.sms_alphabet.specs.declared.scheme.Coding.TheVariants.{Octets}
 use Rattle.sms_base.specs.declared.holder.Holder.TheVariants.{Part}
-use Rattle.smpp_pdu.specs.declared.status.CommandStatus.{CommandStatus}
 use Rattle.sms_intake.specs.PartTexts.{bodies_under, deliver_octets}
 use Rattle.sms_intake.specs.SmppText.{plain_text, text_in}
 use Rattle.sms_intake.specs.declared.submission.SinglePart.{SinglePart}
@@ -25,8 +24,9 @@ use Rattle.sms_base.specs.declared.final_state.FinalState.TheVariants.{Delivered
 use Rattle.sms_world.specs.headline.PlainReport.{IsAcceptedOnce, IsOfApplication, IsOfEvent, IsOfOwner, Origin, compared_line}
 use Rattle.sms_world.specs.headline.PlainScript.{Does, IsAskedBy}
 use Rattle.sms_world.specs.headline.PlainWords.{numbered}
-use Rattle.sms_world.specs.wrong_reports.Literals.{accepted, given, half, half_reports, handset, hello_octets, line, long_asked, long_events, setup, zeros}
+use Rattle.sms_world.specs.wrong_reports.Literals.{accepted, given, half, half_reports, handset, hello_octets, line, long_asked, long_events, setup, zeros, second_given}
 use Rattle.sms_world.specs.wrong_reports.Tried.{SplitLaw}
+use Rattle.sms_world.proofs.wrong_reports.Read.{inside, answers}
 
 abbrev content : Content
 content = record { coding = Octets; dcs = 4; units = zeros 141 }
@@ -57,12 +57,6 @@ one_submit zero w s e d = absurd cc
 one_submit (suc zero) w s e d = ⊎_elim (λ (q : w ≡ Whole (Submit s)). cc) (λ (q : w ≡ Stopped After (Submit s)). absurd cc) d
 one_submit (suc (suc n)) w s e d = absurd cc
 
-abbrev answers : Result Text CommandStatus → Result Text CommandStatus → Type 0
-answers a b = a ≡ b
-
-inside : (s t : Text) → answers (Ok s) (Ok t) → s ≡ t
-inside s t q = cc
-
 text_is : (t : Text) → answers (text_in (submit_of long_asked)) (Ok t) → WholeText content ≡ t
 unfolding plain_text split_of filled
 text_is t f = inside (WholeText content) t f
@@ -80,9 +74,6 @@ its_parts o = ⊎_elim
     o.makes
 
 -- ---- nothing under its reference was accepted
-
-abbrev second_given : GivenRow
-second_given = record given { reference = 1; holder = Part 1 2 }
 
 first_is_not : Part 1 1 ≡ Part 1 2 → ⊥
 first_is_not q = absurd cc

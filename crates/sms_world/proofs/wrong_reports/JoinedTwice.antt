@@ -4,7 +4,6 @@ use Rattle.std.proofs.lemmas.Bool.{cases_Bool, cond-false, eqb-true}
 use Rattle.std.specs.Prelude.{◌⊎◌, ◌==◌, length}
 use Rattle.sms_base.specs.Among.{Among}
 use Rattle.sms_base.specs.Reading.{run_in}
-use Rattle.smpp_pdu.specs.declared.status.CommandStatus.{CommandStatus}
 use Rattle.sms_alphabet.specs.Concatenation.{key_of}
 use Rattle.sms_alphabet.specs.HeaderGrammar.{elements_behind, header_at}
 use Rattle.sms_alphabet.specs.declared.concat_key.ConcatKey.{ConcatKey}
@@ -32,6 +31,7 @@ use Rattle.sms_world.specs.headline.PlainScript.{Does}
 use Rattle.sms_world.specs.headline.PlainWords.{numbered}
 use Rattle.sms_world.specs.wrong_reports.Literals.{joined_row, joined_twice, piece_asked, piece_events, piece_line, piece_reports, setup}
 use Rattle.sms_world.specs.wrong_reports.Tried.{JoinedTwiceLaw}
+use Rattle.sms_world.proofs.wrong_reports.Read.{inside, answers}
 
 -- ---- what was submitted
 
@@ -43,12 +43,6 @@ part_with number octet = record {
   octets = 5 ∷ 0 ∷ 3 ∷ 7 ∷ 2 ∷ number ∷ octet ∷ [];
   key = Some (record { reference = EightBit 7; total = 2; number = number });
 }
-
-abbrev answers : Result Text CommandStatus → Result Text CommandStatus → Type 0
-answers a b = a ≡ b
-
-inside : (s t : Text) → answers (Ok s) (Ok t) → s ≡ t
-inside s t q = cc
 
 first_text : (t : Text) → answers (text_in (submit_of (piece_asked 1 65))) (Ok t) → Single (part_with 1 65) ≡ t
 unfolding headed_text header_at elements_behind key_of run_in

@@ -46,7 +46,7 @@ pub parts_read : (reference : ℕ) → bodies_under reference (WholeText content
 unfolding split_of
 parts_read reference = refl
 
-abbrev answers : Result Text CommandStatus → Result Text CommandStatus → Type 0
+abbrev pub answers : Result Text CommandStatus → Result Text CommandStatus → Type 0
 answers a b = a ≡ b
 
 -- ---- the event
@@ -65,7 +65,7 @@ one_submit (suc (suc zero)) w s e d = ⊎_elim (λ (q : w ≡ Whole (Submit s)).
 one_submit (suc (suc (suc zero))) w s e d = ⊎_elim (λ (q : w ≡ Whole (Submit s)). absurd cc) (λ (q : w ≡ Stopped After (Submit s)). absurd cc) d
 one_submit (suc (suc (suc (suc n)))) w s e d = absurd cc
 
-inside : (s t : Text) → answers (Ok s) (Ok t) → s ≡ t
+pub inside : (s t : Text) → answers (Ok s) (Ok t) → s ≡ t
 inside s t q = cc
 
 text_is : (t : Text) → answers (text_in (submit_of asked)) (Ok t) → WholeText content ≡ t
