@@ -242,7 +242,7 @@ module _ (w : World) (placed : IsPlaced w) (f : IsFaithful w) where
   two_apart j y i l differ own x k m =
       let a = (for_is j.handset j.key x (is_of j i x k)).1 in
       let b = (for_is y.handset y.key x (is_of y l x m)).1 in
-      let key : j.key ≡ y.key = ap (λ (z : Place). z.key) (some_is _ _ (sym a ∙ b)) in
+      let key : j.key ≡ y.key = ap (λ (z : Place). z.key) (some_is {A = Place} _ _ (sym a ∙ b)) in
       let his : IsEndedAt y.place y.group (groups_of j.handset j.key w.accepted).ended =
       subst (λ (z : List ℕ × Key). IsEndedAt y.place y.group (groups_of z.0 z.1 w.accepted).ended) (λ t. (sym own t, sym key t)) (placed.ended y l) in
       places_apart (groups_of j.handset j.key w.accepted).ended j.place y.place j.group y.group x

@@ -23,7 +23,7 @@ use Rattle.sms_world.specs.wrong_plays.Shown.{submission}
 use Rattle.sms_world.specs.wrong_plays.Told.{pending}
 use Rattle.sms_world.specs.wrong_reports.Literals.{id_one, name, receipt, source}
 use Rattle.sms_world.proofs.Options.{none_some}
-use Rattle.sms_world_model.specs.World.{Pending}
+use Rattle.sms_world_model.specs.World.{Message, Pending}
 use Rattle.sms_world_model.specs.WorldStep.{Delete}
 
 -- ---- steps
@@ -35,14 +35,14 @@ pub not_of_event : NotOfEventLaw
 not_of_event b = no_steps b
 
 pub impossible_step : ImpossibleStepLaw
-impossible_step run = none_some _ run.0.2
+impossible_step run = none_some {A = Message} _ run.0.2
 
 pub not_taken_in : NotTakenInLaw
 not_taken_in b = ((b 1).0 refl).2.0
 
 pub other_number : OtherNumberLaw
 other_number b =
-    let q : 5 ≡ 1 = b 5 ((record submission { id = 5 }, (Pending [], refl)), λ u st e. none_some _ e) in let l : ⊥ = omega (arith, q) in l
+    let q : 5 ≡ 1 = b 5 ((record submission { id = 5 }, (Pending [], refl)), λ u st e. none_some {A = Message} _ e) in let l : ⊥ = omega (arith, q) in l
 
 -- ---- requests
 

@@ -10,7 +10,7 @@ use Rattle.sms_world.specs.wrong_plays.Shown.{AcceptedUnknownLaw, BeginningLaw, 
 use Rattle.sms_world.specs.wrong_reports.Literals.{given, receipt}
 use Rattle.sms_world.specs.wrong_reports.Worlds.{given_to}
 use Rattle.sms_world.proofs.Options.{none_some}
-use Rattle.sms_world_model.specs.World.{Accepted, Pending, Sent}
+use Rattle.sms_world_model.specs.World.{Accepted, Message, Pending, Sent}
 
 pub beginning : BeginningLaw
 beginning = (headline_is setup [] (report_of first) _ refl).run.0
@@ -22,13 +22,13 @@ no_frame : (x : Sent) → [] ≡ x ∷ [] → ⊥
 no_frame x e = absurd cc
 
 pub message_unknown : MessageUnknownLaw
-message_unknown r = let x = r.there 1 from_application refl in none_some _ x.2.0
+message_unknown r = let x = r.there 1 from_application refl in none_some {A = Message} _ x.2.0
 
 pub message_without_row : MessageWithoutRowLaw
 message_without_row r = let x = r.only 1 submission (Pending []) refl in none_some x.0 x.1
 
 pub part_unknown : PartUnknownLaw
-part_unknown p x = none_some _ x.4.0
+part_unknown p x = none_some {A = Message} _ x.4.0
 
 pub receipt_unknown : ReceiptUnknownLaw
 receipt_unknown r = r.there receipt (inl refl)

@@ -26,7 +26,7 @@ use Rattle.sms_world.specs.wrong_plays.SplitText.{MixedRoundLaw, NoPlaceLaw, Oth
 use Rattle.sms_world.specs.wrong_reports.Literals.{deliver, hello_octets, source, zeros}
 use Rattle.sms_world.proofs.Options.{some_is, none_some}
 use Rattle.sms_world.proofs.wrong_plays.NotSentUp.{same_deliver, ReadsDown}
-use Rattle.sms_world_model.specs.Place.{carried_in, place_in}
+use Rattle.sms_world_model.specs.Place.{Place, carried_in, place_in}
 use Rattle.sms_world_model.specs.World.{Accepted}
 
 -- ---- the text in its parts
@@ -175,7 +175,7 @@ unfolding everything
 nowhere = refl
 
 pub no_place : NoPlaceLaw
-no_place s = none_some _ (sym nowhere ∙ s.under.placed (record part_one { number = 3 }) (inr (inr (inl refl))) refl)
+no_place s = none_some {A = Place} _ (sym nowhere ∙ s.under.placed (record part_one { number = 3 }) (inr (inr (inl refl))) refl)
 
 -- ---- what was joined of it
 
