@@ -31,16 +31,16 @@ use Rattle.sms_world_model.proofs.Wholes.{split_place}
 
 -- ---- the pieces one by one
 
-piece_old : (ps : List PartOf) (p : PartOf) (i : ℕ) → i < length ps → slice_get (ps ++ p ∷ []) i ≡ slice_get ps i
+pub piece_old : (ps : List PartOf) (p : PartOf) (i : ℕ) → i < length ps → slice_get (ps ++ p ∷ []) i ≡ slice_get ps i
 piece_old [] p i l = absurd (omega arith)
 piece_old (x ∷ ps) p zero l = refl
 piece_old (x ∷ ps) p (suc i) l = piece_old ps p i (omega arith)
 
-piece_new : (ps : List PartOf) (p : PartOf) → slice_get (ps ++ p ∷ []) (length ps) ≡ Some p
+pub piece_new : (ps : List PartOf) (p : PartOf) → slice_get (ps ++ p ∷ []) (length ps) ≡ Some p
 piece_new [] p = refl
 piece_new (x ∷ ps) p = piece_new ps p
 
-length_new : (ps : List PartOf) (p : PartOf) → length (ps ++ p ∷ []) ≡ suc (length ps)
+pub length_new : (ps : List PartOf) (p : PartOf) → length (ps ++ p ∷ []) ≡ suc (length ps)
 length_new [] p = refl
 length_new (x ∷ ps) p = let e = length_new ps p in omega (arith, e)
 
@@ -99,7 +99,7 @@ part_key s part p e = at (part_in s.user_data_header_indicator s.data_coding_sch
 abbrev split_key : Submission → ℕ → Key
 split_key s reference = record { source = s.source; reference = SixteenBit reference; total = length s.parts }
 
-there : (ps : List PartOf) (i : ℕ) → i < length ps → (p : PartOf) × (slice_get ps i ≡ Some p)
+pub there : (ps : List PartOf) (i : ℕ) → i < length ps → (p : PartOf) × (slice_get ps i ≡ Some p)
 there [] i l = absurd (omega arith)
 there (x ∷ ps) zero l = (x, refl)
 there (x ∷ ps) (suc i) l = there ps i (omega arith)
@@ -135,7 +135,7 @@ split_content s content reference x =
 one_content : (a b : Content) → Some a ≡ Some b → a ≡ b
 one_content a b e = cc
 
-one_key_of : (k l : Key) (a b : ℕ) (o : Option Place) → o ≡ Some (record { key = k; number = a }) → o ≡ Some (record { key = l; number = b }) → k ≡ l
+pub one_key_of : (k l : Key) (a b : ℕ) (o : Option Place) → o ≡ Some (record { key = k; number = a }) → o ≡ Some (record { key = l; number = b }) → k ≡ l
 one_key_of k l a b o x y = same (record { key = k; number = a }) (record { key = l; number = b }) (sym x ∙ y)
   where
     same : (p q : Place) → Some p ≡ Some q → p.key ≡ q.key

@@ -362,7 +362,7 @@ received v ob u s st (Part id k) is x asks = tt
 received v ob u s st (Report id) is x asks = tt
 
 -- no SUBMIT is empty
-empty_submit : up_at InData [] ≡ Err Truncated
+pub empty_submit : up_at InData [] ≡ Err Truncated
 unfolding up_at data_up_at submit_at
 empty_submit = refl
 

@@ -50,7 +50,7 @@ use Rattle.sms_play.proofs.answers.Unanswered.{frame_unanswered, tick_unanswered
 abbrev Fine : PlayState → Type 0
 Fine c = HaveNoSystemError c.answers
 
-abbrev ok_play : PlayState → Result PlayState PlayFault
+abbrev pub ok_play : PlayState → Result PlayState PlayFault
 ok_play c = Ok c
 
 same_play : (x d : PlayState) → ok_play x ≡ ok_play d → x ≡ d

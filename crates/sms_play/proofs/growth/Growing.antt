@@ -62,28 +62,13 @@ use Rattle.sms_play.specs.Meeting.{Meeting, AtCentre, AtHandset, by_account, by_
 use Rattle.sms_play.specs.PlayedEvent.{centre_restarted, handset_stored, handset_restarted, handset_restarts, stored, met, party_restarted, restart, restarted, stopped}
 use Rattle.sms_script.specs.declared.play_fault.PlayFault.{PlayFault}
 use Rattle.sms_play.specs.growth.Growth.{AcceptMore, Grows, GrowthLaw, HasPart, HaveParts, PartsStay, IsCentreEvent}
+use Rattle.sms_play.proofs.answers.PlayAnswers.{ok_play}
+use Rattle.sms_play.proofs.judging.Looking.{none_behind, have_both, appended}
 
-abbrev ok_play : PlayState → Result PlayState PlayFault
-ok_play c = Ok c
-
-abbrev ok_meeting : Meeting → Result Meeting PlayFault
+abbrev pub ok_meeting : Meeting → Result Meeting PlayFault
 ok_meeting m = Ok m
 
--- ---- lists
-
-appended : {A : Type 0} (xs ys zs : List A) → (xs ++ ys) ++ zs ≡ xs ++ (ys ++ zs)
-appended [] ys zs = refl
-appended (x ∷ xs) ys zs = ap (λ z. x ∷ z) (appended xs ys zs)
-
-none_behind : {A : Type 0} (xs : List A) → xs ++ [] ≡ xs
-none_behind [] = refl
-none_behind (x ∷ xs) = ap (λ z. x ∷ z) (none_behind xs)
-
 -- ---- parts that are there
-
-have_both : (parts : List PartRow) (xs ys : List GivenRow) → HaveParts parts xs → HaveParts parts ys → HaveParts parts (xs ++ ys)
-have_both parts [] ys a b = b
-have_both parts (x ∷ xs) ys a b = (a.0, have_both parts xs ys a.1 b)
 
 module _ (before after : List PartRow) (stay : PartsStay before after) where
   one_there : (h : Holder) → HasPart before h → HasPart after h
@@ -386,7 +371,7 @@ stopped_event_grows number act s m c sound fits =
 
 -- ---- whom an act concerns
 
-some_meeting : (a b : Meeting) → ok_meeting a ≡ ok_meeting b → a ≡ b
+pub some_meeting : (a b : Meeting) → ok_meeting a ≡ ok_meeting b → a ≡ b
 some_meeting a b e = cc
 
 module _ (c : PlayState) where

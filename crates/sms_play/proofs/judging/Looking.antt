@@ -16,12 +16,9 @@ use Rattle.sms_world_model.specs.World.{Accepted, Allocation, pair_given}
 use Rattle.sms_play.specs.growth.Growth.{Grows, HasPart, HaveParts, PartsStay}
 use Rattle.sms_play.specs.judging.Watching.{IsPart, Offers, Watches}
 use Rattle.sms_play.specs.declared.judging.watch.Watch.{Watch}
+use Rattle.sms_play.proofs.judging.Rounding.{joined as and_joined}
 
 -- ---- tests in a row
-
-and_joined : (a b c : Bool) → ((a && b) && c) ≡ (a && (b && c))
-and_joined true b c = refl
-and_joined false b c = refl
 
 and_true : (a : Bool) → (a && true) ≡ a
 and_true true = refl
@@ -39,11 +36,11 @@ pub newest_over : (gs xs ys : List Allocation) → newest_first gs (xs ++ ys) �
 newest_over gs [] ys = refl
 newest_over gs (x ∷ xs) ys = newest_over (x ∷ gs) xs ys
 
-appended : {A : Type 0} (xs ys zs : List A) → (xs ++ ys) ++ zs ≡ xs ++ (ys ++ zs)
+pub appended : {A : Type 0} (xs ys zs : List A) → (xs ++ ys) ++ zs ≡ xs ++ (ys ++ zs)
 appended [] ys zs = refl
 appended (x ∷ xs) ys zs = ap (λ z. x ∷ z) (appended xs ys zs)
 
-none_behind : {A : Type 0} (xs : List A) → xs ++ [] ≡ xs
+pub none_behind : {A : Type 0} (xs : List A) → xs ++ [] ≡ xs
 none_behind [] = refl
 none_behind (x ∷ xs) = ap (λ z. x ∷ z) (none_behind xs)
 
@@ -77,10 +74,10 @@ module _ (parts : List PartRow) (down : List Allocation) (accepted : List Accept
 one_more : (i : ℕ) → i + 1 ≡ suc i
 one_more i = omega arith
 
-none_below : (i : ℕ) → i < 0 → ⊥
+pub none_below : (i : ℕ) → i < 0 → ⊥
 none_below i l = omega (arith, l)
 
-one_less : (i n : ℕ) → suc i < suc n → i < n
+pub one_less : (i n : ℕ) → suc i < suc n → i < n
 one_less i n l = omega (arith, l)
 
 taken_next : {A : Type 0} (xs : List A) (i : ℕ) (x : A) → i < length xs → x ≡ get_or xs i x → take (suc i) xs ≡ take i xs ++ x ∷ []

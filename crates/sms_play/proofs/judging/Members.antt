@@ -23,7 +23,7 @@ pair_same a b e =
     let tpdu : a.tpdu ≡ b.tpdu = (bytes_eq-Decides a.tpdu b.tpdu).0 q.1 in
     λ j. record { handset = handset j; reference = reference j; tpdu = tpdu j }
 
-one_pair : (a : Accepted) → is_same_pair a a ≡ true
+pub one_pair : (a : Accepted) → is_same_pair a a ≡ true
 one_pair a =
     and_from (bytes_eq a.handset a.handset) ((a.reference == a.reference) && bytes_eq a.tpdu a.tpdu) ((bytes_eq-Decides a.handset a.handset).1 refl)
     (and_from (a.reference == a.reference) (bytes_eq a.tpdu a.tpdu) (eq-eqb a.reference a.reference refl) ((bytes_eq-Decides a.tpdu a.tpdu).1 refl))

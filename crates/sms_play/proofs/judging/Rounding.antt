@@ -26,7 +26,7 @@ use Rattle.sms_play.proofs.judging.Members.{all_newest, all_of_key, round_for, r
 
 -- ---- keys of rounds tell apart what keys and handsets tell apart
 
-joined : (a b c : Bool) → ((a && b) && c) ≡ (a && (b && c))
+pub joined : (a b c : Bool) → ((a && b) && c) ≡ (a && (b && c))
 joined true b c = refl
 joined false b c = refl
 

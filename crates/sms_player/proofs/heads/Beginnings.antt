@@ -33,10 +33,10 @@ drop_one xs i x low is =
 
 -- ---- numbers
 
-decimal_digit : (c : ℕ) → is_decimal c ≡ true → is_digit c ≡ true
+pub decimal_digit : (c : ℕ) → is_decimal c ≡ true → is_digit c ≡ true
 decimal_digit c h = grind (arith, nat_tests)
 
-all_digits : (text : List ℕ) → list_all is_decimal text ≡ true → AllByRecursion (λ c. is_digit c ≡ true) text
+pub all_digits : (text : List ℕ) → list_all is_decimal text ≡ true → AllByRecursion (λ c. is_digit c ≡ true) text
 all_digits [] e = tt
 all_digits (c ∷ cs) e = let p = and_parts (is_decimal c) (list_all is_decimal cs) e in (decimal_digit c p.0, all_digits cs p.1)
 
@@ -140,15 +140,15 @@ handset_is h e =
     let b = and_parts (nat_lt 0 h.slots) (nat_le h.slots 255) a.1 in
     record { number = a.0; some = ltb-true 0 h.slots b.0; few = leb-true h.slots 255 b.1 }
 
-not_both : (b : Bool) → b ≡ true → not b ≡ true → ⊥
+pub not_both : (b : Bool) → b ≡ true → not b ≡ true → ⊥
 not_both true e f = absurd cc
 not_both false e f = absurd cc
 
-or_first : (a b : Bool) → a ≡ true → (a || b) ≡ true
+pub or_first : (a b : Bool) → a ≡ true → (a || b) ≡ true
 or_first true b e = refl
 or_first false b e = absurd cc
 
-or_second : (a b : Bool) → b ≡ true → (a || b) ≡ true
+pub or_second : (a b : Bool) → b ≡ true → (a || b) ≡ true
 or_second true b e = refl
 or_second false b e = e
 

@@ -16,9 +16,7 @@ use Rattle.sms_player.proofs.playing.Outcomes.{none_behind}
 use Rattle.sms_script.specs.declared.report.Broken.{Broken}
 use Rattle.sms_script.specs.declared.report.Broken.TheVariants.{Reused, Timely}
 use Rattle.sms_script.specs.declared.event.WorldEvent.{WorldEvent}
-
-abbrev ok_play : PlayState → Result PlayState PlayFault
-ok_play c = Ok c
+use Rattle.sms_play.proofs.answers.PlayAnswers.{ok_play}
 
 abbrev decided : Option Broken → Result (Option Broken) PlayFault
 decided b = Ok b

@@ -22,7 +22,8 @@ use Rattle.sms_world.specs.headline.SeenFrames.{line_up, octets_of, sent_as}
 use Rattle.sms_world.specs.handset_runs_are_steps.RefinesLink.{RefinesLinks, WasSent}
 use Rattle.sms_world.specs.handset_runs_are_steps.Refinement.{Refines}
 use Rattle.sms_world.specs.handset_runs_are_steps.Stages.{AllMine, Moves, ReadsOne}
-use Rattle.sms_world.proofs.handset_runs_are_steps.Moving.{Begins, appended, frames_more, links_more, nothing_more, whole_both}
+use Rattle.sms_world.proofs.handset_runs_are_steps.Moving.{Begins, frames_more, links_more, whole_both}
+use Rattle.sms_play.proofs.judging.Looking.{appended, none_behind as nothing_more}
 
 -- what the link does of its own accord
 abbrev pub hears : Step → Draft → Draft

@@ -19,6 +19,7 @@ use Rattle.sms_world.specs.headline.SeenFrames.{sent_as}
 use Rattle.sms_world.specs.handset_runs_are_steps.RefinesLink.{RefinesAnswer, RefinesBegun, RefinesLinks, RefinesOpened, WasSent}
 use Rattle.sms_world.specs.handset_runs_are_steps.Refinement.{Refines}
 use Rattle.sms_world.specs.handset_runs_are_steps.Stages.{AllMine, Happens, Moves}
+use Rattle.sms_play.proofs.judging.Looking.{appended}
 
 -- ---- steps of a handset
 
@@ -65,10 +66,6 @@ pub record Ordered (m : ℕ) (event : Event) (h : List ℕ) (b : World) (new : D
 
 abbrev pub Begins : ℕ → Event → List ℕ → World → Draft → World → Type 0
 Begins m event h b new w = Ordered m event h b new w
-
-pub appended : {A : Type 0} (xs ys zs : List A) → (xs ++ ys) ++ zs ≡ xs ++ (ys ++ zs)
-appended [] ys zs = refl
-appended (x ∷ xs) ys zs = ap (λ z. x ∷ z) (appended xs ys zs)
 
 pub begins_then : (m : ℕ) (h : List ℕ) (event : Event) (b : World) (e f : Draft) (w : World)
     → Begins m event h b e w → ((v : World) → Refines h b e v → Moves (AllMine h) m h b f v) → Begins m event h b f w
@@ -126,10 +123,6 @@ frames_more h fs gs b bag e = ap (λ (z : List Sent). stacked h gs z) e ∙ sym 
 pub whole_both : (fs gs : List Outgoing) → AreWhole fs → AreWhole gs → AreWhole (fs ++ gs)
 whole_both [] gs a b = b
 whole_both (f ∷ fs) gs a b = (a.0, whole_both fs gs a.1 b)
-
-pub nothing_more : {A : Type 0} (xs : List A) → xs ++ [] ≡ xs
-nothing_more [] = refl
-nothing_more (x ∷ xs) = ap (λ z. x ∷ z) (nothing_more xs)
 
 -- ---- what links may send again stays sent
 

@@ -32,8 +32,9 @@ use Rattle.sms_world.specs.handset_runs_are_steps.Refinement.{Refines}
 use Rattle.sms_world.specs.handset_runs_are_steps.Stages.{AllMine, Happens, Moves}
 use Rattle.sms_world.proofs.handset_runs_are_steps.Concluding.{failed_law}
 use Rattle.sms_world.proofs.handset_runs_are_steps.Hearing.{again_carries, hears, hears_again}
-use Rattle.sms_world.proofs.handset_runs_are_steps.Moving.{appended, moves_then, nothing_more, stays, ticks}
+use Rattle.sms_world.proofs.handset_runs_are_steps.Moving.{moves_then, stays, ticks}
 use Rattle.sms_world.proofs.handset_runs_are_steps.Offering.{follow_law}
+use Rattle.sms_play.proofs.judging.Looking.{appended, none_behind as nothing_more}
 
 -- ---- frames that were sent are sent again
 

@@ -42,10 +42,11 @@ use Rattle.sms_world.specs.handset_runs_are_steps.RefinesOutbox.{RefinesNotices,
 use Rattle.sms_world.specs.headline.SeenWorld.{entry_seen}
 use Rattle.sms_world.specs.handset_runs_are_steps.Refinement.{Refines}
 use Rattle.sms_world.specs.handset_runs_are_steps.Stages.{Happens, Moves}
-use Rattle.sms_world.proofs.handset_runs_are_steps.Moving.{Begins, begins_then, nothing_more, writes}
+use Rattle.sms_world.proofs.handset_runs_are_steps.Moving.{Begins, begins_then, writes}
 use Rattle.sms_world.proofs.handset_runs_are_steps.Offering.{follow_law, free_up}
 use Rattle.sms_world.proofs.handset_runs_are_steps.OwnersEvents.{HappensIfDone, acts_then, both_done, done_sound}
 use Rattle.sms_world.proofs.Options.{some_is}
+use Rattle.sms_play.proofs.judging.Looking.{none_behind as nothing_more}
 
 -- ---- one more entry
 

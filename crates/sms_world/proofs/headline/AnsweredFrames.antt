@@ -7,7 +7,7 @@ use Rattle.std.proofs.lemmas.Slice.Eq.{bytes_eq-Decides}
 use Rattle.sms_base.specs.Among.{Among}
 use Rattle.sms_base.specs.declared.carried.Kind.TheVariants.{Ack, Data, Error}
 use Rattle.sms_base.specs.declared.holder.Holder.TheVariants.{Entry, Memory}
-use Rattle.sms_tpdu.specs.TpduReading.{data_up_at, submit_at, up_at}
+use Rattle.sms_tpdu.specs.TpduReading.{up_at}
 use Rattle.sms_tpdu.specs.declared.carrier.Carrier.TheVariants.{InData}
 use Rattle.sms_tpdu.specs.declared.fault.TpduFault.TheVariants.{Truncated}
 use Rattle.sms_tpdu.specs.declared.up.Up.TheVariants.{Submit as SubmitUp}
@@ -19,13 +19,14 @@ use Rattle.sms_world_model.specs.World.{Allocation, Bare, Carried, Down, EntrySt
 use Rattle.sms_world_model.specs.WorldStep.{Acknowledged, Again, Can, Control, Delete, Expire, Item, Lapse, Memory_free, Offer, Offer_memory, Offer_up, Receive, Refuse, Refused, Reject, Remove, Repeat_memory, Run, Settle, Step, Submit, Take, Take_again, Write, after, after_item, data_of, end, is_entry, memory_of, removed, replaced}
 use Rattle.sms_world_model.proofs.Runs.{bag_grows, latest_same, messages_stay, table_grows}
 use Rattle.sms_world_model.proofs.Tables.{entered_here, new_not_found}
-use Rattle.sms_world_model.proofs.Upward.{IsUpward, removed_from, up_item}
+use Rattle.sms_world_model.proofs.Upward.{IsUpward, removed_from, up_item, empty_submit}
 use Rattle.sms_world.proofs.headline.AnswersTimely.{HandsAnswers}
-use Rattle.sms_world.proofs.headline.FaithfulRuns.{HandsDown, end_parts, run_parts, stays_timely}
+use Rattle.sms_world.proofs.headline.FaithfulRuns.{HandsDown, end_parts, run_parts}
 use Rattle.sms_world.proofs.headline.UpwardRuns.{control_leaves, reads_timely}
 use Rattle.sms_world.proofs.scripts_are_runs.Growing.{in_front, in_rest}
 use Rattle.sms_world.proofs.headline.DecidedTimely.{same_frame}
 use Rattle.sms_world.proofs.headline.FreshRuns.{HandsOne}
+use Rattle.sms_world_model.proofs.Scripts.{stays_timely}
 
 -- ---- plain facts
 
@@ -69,14 +70,9 @@ refused_sent st c e =
     (λ (d : (st ≡ Failed) ⊎ (st ≡ Unsure)). ⊎_elim (λ (f : st ≡ Failed). failed_sent (sym f ∙ e)) (λ (f : st ≡ Unsure). unsure_sent (sym f ∙ e)) d)
     c
 
--- no SUBMIT is empty
-no_submit : up_at InData [] ≡ Err Truncated
-unfolding up_at data_up_at submit_at
-no_submit = refl
-
 submit_is_something : (e : OutEntry) (tpdu : List ℕ) → IsSubmitTo e.destination e.user_data tpdu → tpdu ≡ [] → ⊥
 submit_is_something e tpdu x none =
-    let bad : Ok (SubmitUp x.submit) ≡ Err Truncated = sym x.reads ∙ ap (λ (o : List ℕ). up_at InData o) none ∙ no_submit in absurd cc
+    let bad : Ok (SubmitUp x.submit) ≡ Err Truncated = sym x.reads ∙ ap (λ (o : List ℕ). up_at InData o) none ∙ empty_submit in absurd cc
 
 -- ---- steps that read nothing which matters here
 

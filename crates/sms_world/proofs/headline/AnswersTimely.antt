@@ -40,9 +40,10 @@ use Rattle.sms_world.specs.headline.OneRun.{event_of, happening_of}
 use Rattle.sms_world.proofs.scripts_are_runs.Bags.{frame_found, row_seen}
 use Rattle.sms_world.proofs.scripts_are_runs.Events.{ok_play}
 use Rattle.sms_world.proofs.scripts_are_runs.Parties.{party_found}
-use Rattle.sms_world.proofs.headline.DecidedTimely.{number_by, number_sent, numbered_there, one_number, same_frame}
+use Rattle.sms_world.proofs.headline.DecidedTimely.{number_by, numbered_there, same_frame}
 use Rattle.sms_world.proofs.headline.HeldReferences.{AllPartiesAgree}
 use Rattle.sms_world.proofs.Options.{some_is}
+use Rattle.sms_world_model.proofs.Frames.{number_sent, one_number}
 
 -- an acknowledgement that is handed over, under a reference that an entry holds, is timely
 abbrev pub HandsAnswers : World → Event → Type 0

@@ -22,8 +22,9 @@ use Rattle.sms_world.specs.scripts_are_runs.AllocationLaws.{NoneSubmits, OneSubm
 use Rattle.sms_world.proofs.scripts_are_runs.Growing.{GrownOnce, in_rest, steps_grow}
 use Rattle.sms_world.specs.scripts_are_runs.PlayRefinement.{PlayRefines}
 use Rattle.sms_world.proofs.headline.AcceptedPairs.{same_accepted}
-use Rattle.sms_world.proofs.headline.PairsReported.{newest_over, pairs_reported}
+use Rattle.sms_world.proofs.headline.PairsReported.{pairs_reported}
 use Rattle.sms_world.proofs.headline.Takers.{TakersThere}
+use Rattle.sms_play.proofs.judging.Looking.{newest_over, behind_all}
 
 -- ---- pairs that are submitted one after another
 
@@ -132,10 +133,6 @@ allocations_over : (rows : List PartRow) (xs ys : List GivenRow) → part_alloca
 allocations_over rows [] ys = refl
 allocations_over rows (r ∷ xs) ys =
     ap (λ (z : List Allocation). allocation_told rows r r.holder ++ z) (allocations_over rows xs ys) ∙ sym (appended (allocation_told rows r r.holder) (part_allocations rows xs) (part_allocations rows ys))
-
-behind_all : (xs ys : List GivenRow) → behind xs (xs ++ ys) ≡ ys
-behind_all [] ys = refl
-behind_all (x ∷ xs) ys = behind_all xs ys
 
 -- ---- submissions
 

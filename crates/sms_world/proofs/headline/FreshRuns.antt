@@ -11,7 +11,8 @@ use Rattle.sms_world_model.proofs.Faithful.{IsFaithful, faithful_run, faithful_s
 use Rattle.sms_world_model.proofs.Joins.{IsMatched, joins_step}
 use Rattle.sms_world_model.proofs.Runs.{sound_run}
 use Rattle.sms_world_model.proofs.Sound.{IsSound}
-use Rattle.sms_world.proofs.headline.FaithfulRuns.{HandsDown, control_timely, end_parts, one_faithful, run_parts, stays_timely}
+use Rattle.sms_world.proofs.headline.FaithfulRuns.{HandsDown, end_parts, one_faithful, run_parts}
+use Rattle.sms_world_model.proofs.Scripts.{control_timely, stays_timely}
 
 -- ---- steps that neither submit nor accept
 

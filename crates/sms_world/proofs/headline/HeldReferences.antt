@@ -39,7 +39,7 @@ use Rattle.sms_world.proofs.scripts_are_runs.Parties.{party_found, with_among, w
 use Rattle.sms_world.specs.entries_keep_references.ReportedEntries.{AreBelow, EntriesAgree}
 use Rattle.sms_world.proofs.entries_keep_references.EntriesAgreeing.{event_reported}
 use Rattle.sms_world.proofs.entries_keep_references.Elsewhere.{centre_elsewhere, other_elsewhere, agrees_still}
-use Rattle.sms_world.proofs.scripts_are_runs.Meetings.{ok_meeting}
+use Rattle.sms_play.proofs.growth.Growing.{some_meeting}
 
 -- ---- a course
 
@@ -55,9 +55,6 @@ IsReady p = IsSoundCore p.core × AreBelow p.core.rows.counters.notice p.core.no
 
 still_apart : (z : Party) (c : PlayState) → AreDifferent (numbers_of c.parties) → AreDifferent (numbers_of (with_party z c.parties))
 still_apart z c apart = subst (λ (ns : List (List ℕ)). AreDifferent ns) (sym (with_numbers z c.parties)) apart
-
-same_meeting : (a b : Meeting) → ok_meeting a ≡ ok_meeting b → a ≡ b
-same_meeting a b e = cc
 
 -- of whom a meeting is
 abbrev IsOfParties : PlayState → Meeting → Type 0
@@ -167,7 +164,7 @@ module _ (n : ℕ) where
 
     of_row : (d : Direction) (f : FrameRow) (m : Meeting) → handed_over n d f c ≡ Ok m → IsOfParties c m
     of_row UpRow f m q =
-        let x : Meeting = AtCentre (CentreFrame f.handset f.octets (tag_in f.carried)) in subst (λ (z : Meeting). IsOfParties c z) (same_meeting x m q) tt
+        let x : Meeting = AtCentre (CentreFrame f.handset f.octets (tag_in f.carried)) in subst (λ (z : Meeting). IsOfParties c z) (some_meeting x m q) tt
     of_row DownRow f m q = of_handset f.handset _ (party_at f.handset c.parties) m refl q
 
     of_frame : (o : Option FrameRow) (m : Meeting) → delivered n o c ≡ Ok m → IsOfParties c m
@@ -182,7 +179,7 @@ module _ (n : ℕ) where
     of_act (DeleteAct h entry) m q = of_handset h _ (party_at h c.parties) m refl q
     of_act (DiscardAct h entry) m q = of_handset h _ (party_at h c.parties) m refl q
     of_act (Deliver number) m q = of_frame (frame_at number c.bag) m q
-    of_act (TickAct Centre now) m q = let x : Meeting = AtCentre (CentreTick now) in subst (λ (z : Meeting). IsOfParties c z) (same_meeting x m q) tt
+    of_act (TickAct Centre now) m q = let x : Meeting = AtCentre (CentreTick now) in subst (λ (z : Meeting). IsOfParties c z) (some_meeting x m q) tt
     of_act (TickAct (Handset h) now) m q = of_handset h _ (party_at h c.parties) m refl q
 
     -- ---- each event

@@ -19,10 +19,9 @@ use Rattle.sms_world_model.specs.Groups.{Groups, IsEndedAt, groups, groups_of, i
 use Rattle.sms_world_model.specs.Place.{Key, Place, place_in}
 use Rattle.sms_world_model.specs.Submission.{HasPart, Submission, IsDeliverOf}
 use Rattle.sms_world_model.specs.World.{Accepted, Allocation, Joined, IsRecorded, World, empty, pair_given}
-use Rattle.sms_world_model.specs.WorldStep.{HasNotJoined}
 use Rattle.sms_world_model.proofs.Faithful.{DeliversOnce, IsDeliver, IsFaithful, one_deliver}
 use Rattle.sms_world_model.proofs.Keys.{deliver_for, for_is, report_place}
-use Rattle.sms_world_model.proofs.Places.{IsPlaced, PlacesOnce, among_of_key, group_ended, of_key_in, of_key_out, placed_empty, placed_run}
+use Rattle.sms_world_model.proofs.Places.{IsPlaced, PlacesOnce, among_of_key, group_ended, of_key_in, of_key_out, placed_empty, placed_run, at_among, NoneTwice, not_joined}
 use Rattle.sms_world_model.proofs.Rounds.{by_cases, within}
 use Rattle.sms_world_model.proofs.Sound.{IsKnown, IsSound}
 use Rattle.sms_world_model.proofs.Tables.{same_message}
@@ -176,10 +175,6 @@ joined_of_parts c w s q there = (groups_at q.number w.joined, are_joined c w s q
 
 -- ---- no part stands in two groups, while none was accepted twice
 
-abbrev NoneTwice : List Accepted → Type 0
-NoneTwice [] = Unit {0}
-NoneTwice (p ∷ ps) = ¬ Among p ps × NoneTwice ps
-
 key_once : (h : List ℕ) (k : Key) (ps : List Accepted) → DeliversOnce ps → NoneTwice (of_key h k ps)
 key_once h k [] o = tt
 key_once h k (p ∷ ps) o = ⊎_elim
@@ -209,10 +204,6 @@ groups_apart total (p ∷ ps) o =
     let more = with_new total p ps o.0 old.0 in
     by_cases GroupsApart total p (groups total ps) (λ a. old) (λ a b. ((λ e x j i k. absurd i), (more, old.1))) (λ a b. (more, old.1))
 
-at_among : (place : ℕ) (group : List Accepted) (es : List (List Accepted)) → IsEndedAt place group es → Among group es
-at_among place group [] i = i
-at_among place group (e ∷ es) i = ⊎_elim (λ (c : (place ≡ length es) × (group ≡ e)). inl c.1) (λ (j : IsEndedAt place group es). inr (at_among place group es j)) i
-
 places_apart : (es : List (List Accepted)) (a b : ℕ) (e f : List Accepted) (x : Accepted) → HaveNoneInCommon es → IsEndedAt a e es → IsEndedAt b f es → ¬ (a ≡ b) → Among x e → Among x f → ⊥
 places_apart [] a b e f x o i j n k l = i
 places_apart (y ∷ es) a b e f x o i j n k l = ⊎_elim
@@ -224,13 +215,6 @@ places_apart (y ∷ es) a b e f x o i j n k l = ⊎_elim
     (λ (d : (b ≡ length es) × (f ≡ y)). o.0 e x (at_among a e es c) (subst (λ (z : List Accepted). Among x z) d.1 l) k)
     (λ (d : IsEndedAt b f es). places_apart es a b e f x o.1 c d n k l)
     j)
-    i
-
-not_joined : (js : List Joined) (x : Joined) (h : List ℕ) (k : Key) (place : ℕ) → HasNotJoined js h k place → Among x js → x.handset ≡ h → x.key ≡ k → x.place ≡ place → ⊥
-not_joined [] x h k place n i a b c = i
-not_joined (y ∷ js) x h k place n i a b c = ⊎_elim
-    (λ (e : x ≡ y). n.0 (subst (λ (z : Joined). (z.handset ≡ h) × (z.key ≡ k) × (z.place ≡ place)) e (a, b, c)))
-    (λ (t : Among x js). not_joined js x h k place n.1 t a b c)
     i
 
 module _ (w : World) (placed : IsPlaced w) (f : IsFaithful w) where

@@ -51,10 +51,11 @@ use Rattle.sms_world.proofs.headline.Claimed.{joined_whole_is}
 use Rattle.sms_world.proofs.headline.GivenRows.{given_once}
 use Rattle.sms_world.proofs.headline.PlainDelivered.{accepted_part, all_split, c, given_to, is_told, its, of_row, on, reached, refined, told}
 use Rattle.sms_world.proofs.headline.PlainEvents.{IsTraced}
-use Rattle.sms_world.proofs.headline.SplitJoins.{carried_from, one_key_of, parts_there, split_long}
+use Rattle.sms_world.proofs.headline.SplitJoins.{carried_from, parts_there, split_long}
 use Rattle.sms_world.proofs.headline.Tables.{line_of, line_there, one_row}
 use Rattle.sms_world.proofs.headline.TimelyClaims.{parts_once}
 use Rattle.sms_world.proofs.Options.{some_is}
+use Rattle.sms_world_model.proofs.Contents.{one_key_of}
 
 -- ---- plain facts
 

@@ -52,7 +52,7 @@ use Rattle.sms_world.specs.scripts_are_runs.PlayRefinement.{PlayRefines}
 use Rattle.sms_world.proofs.headline.AnsweredFrames.{Stands, TakesIn, event_stands, none_answered, taken_there}
 use Rattle.sms_world.proofs.headline.AnswersTimely.{hands_answers}
 use Rattle.sms_world.proofs.headline.Claimed.{can_play}
-use Rattle.sms_world.proofs.headline.DecidedTimely.{hands_down, number_by, number_sent, numbered_there, one_number, same_frame}
+use Rattle.sms_world.proofs.headline.DecidedTimely.{hands_down, number_by, numbered_there, same_frame}
 use Rattle.sms_world.proofs.headline.HeadlineHolds.{of_play}
 use Rattle.sms_world.proofs.headline.HeldReferences.{AllPartiesAgree, held_reported}
 use Rattle.sms_world.proofs.headline.PlainDelivered.{of_row}
@@ -68,6 +68,7 @@ use Rattle.sms_world.proofs.scripts_are_runs.Events.{event_leads, ok_play, same_
 use Rattle.sms_world.proofs.Options.{some_is}
 use Rattle.sms_world.proofs.scripts_are_runs.Growing.{none_less}
 use Rattle.sms_world.proofs.headline.LongMessages.{as_many}
+use Rattle.sms_world_model.proofs.Frames.{number_sent, one_number}
 
 -- ---- plain facts
 

@@ -1,16 +1,13 @@
 -- A new script's course sees the empty world.
-use Rattle.std.proofs.Common.{◌≡◌, ℕ, ◌<◌, ◌≤◌, arith, List, [], ◌∷◌, length, Bool, true, false, refl, sym, subst, ⊎_elim}
-use Rattle.std.specs.List.{AllByRecursion, list_all}
-use Rattle.std.specs.Prelude.{◌&&◌, ◌||◌, nat_le, nat_lt, not}
+use Rattle.std.proofs.Common.{◌≡◌, ℕ, ◌<◌, ◌≤◌, arith, List, [], ◌∷◌, length, true, refl, sym, subst, ⊎_elim}
+use Rattle.std.specs.List.{list_all}
+use Rattle.std.specs.Prelude.{◌&&◌, nat_le, nat_lt, not}
 use Rattle.std.specs.Str.{bytes_eq}
 use Rattle.std.proofs.lemmas.Bool.{and_parts, leb-true, ltb-true}
-use Rattle.std.proofs.lemmas.Bool.Decides.{nat_tests}
 use Rattle.std.proofs.lemmas.Slice.Eq.{bytes_eq-Decides}
 use Rattle.sms_base.specs.Address.{IsAddress}
 use Rattle.sms_base.specs.Among.{Among}
 use Rattle.sms_base.specs.HandsetNumber.{is_decimal}
-use Rattle.sms_base.specs.SemiOctet.{is_digit}
-use Rattle.sms_base.specs.TimeStamp.{IsMoment}
 use Rattle.sms_centre_rows.specs.waiting.SoundAllocations.{IsNumber}
 use Rattle.sms_intake.specs.declared.submission.CentreAccount.{CentreAccount}
 use Rattle.sms_script.specs.declared.setup.AccountSetup.{AccountSetup}
@@ -35,15 +32,9 @@ use Rattle.sms_world.specs.scripts_are_runs.PlayRefinement.{OwnAllocations, Part
 use Rattle.sms_world.proofs.scripts_are_runs.CentreMeets.{can_come}
 use Rattle.sms_world.proofs.handset_runs_are_steps.Runs.{recovered_sound}
 use Rattle.sms_player.specs.heads.Heads.{party_of}
+use Rattle.sms_player.proofs.heads.Beginnings.{all_digits, not_both, or_first, or_second, moment_is}
 
 -- ---- numbers
-
-decimal_digit : (c : ℕ) → is_decimal c ≡ true → is_digit c ≡ true
-decimal_digit c h = grind (arith, nat_tests)
-
-all_digits : (text : List ℕ) → list_all is_decimal text ≡ true → AllByRecursion (λ c. is_digit c ≡ true) text
-all_digits [] e = tt
-all_digits (c ∷ cs) e = let p = and_parts (is_decimal c) (list_all is_decimal cs) e in (decimal_digit c p.0, all_digits cs p.1)
 
 pub number_is : (digits : List ℕ) → is_number digits ≡ true → IsNumber digits
 number_is digits e =
@@ -88,18 +79,6 @@ first_sound setup t = record {
   marks = tt;
   few_marks = (let l : 0 ≤ 64 = omega arith in l);
 }
-
-not_both : (b : Bool) → b ≡ true → not b ≡ true → ⊥
-not_both true e f = absurd cc
-not_both false e f = absurd cc
-
-or_first : (a b : Bool) → a ≡ true → (a || b) ≡ true
-or_first true b e = refl
-or_first false b e = absurd cc
-
-or_second : (a b : Bool) → b ≡ true → (a || b) ≡ true
-or_second true b e = refl
-or_second false b e = e
 
 module _ (s : Setup) (centre : IsNumber s.centre) where
   party_refines : (h : HandsetSetup) → is_handset h ≡ true → PartyRefines (party_of s h) empty
@@ -146,11 +125,6 @@ none_given s (h ∷ hs) p i = ⊎_elim
     i
 
 -- ---- the course
-
-moment_is : (seconds : ℕ) → is_moment seconds ≡ true → IsMoment seconds
-moment_is seconds e =
-    let p = and_parts (nat_le 946684800 seconds) (nat_le seconds 4102444799) e in
-    record { from_2000 = leb-true 946684800 seconds p.0; to_2099 = leb-true seconds 4102444799 p.1 }
 
 pub begins : BeginningLaw
 begins s e =

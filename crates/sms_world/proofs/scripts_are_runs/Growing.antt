@@ -13,7 +13,7 @@ use Rattle.sms_world_model.proofs.Faithful.{was_earlier}
 use Rattle.sms_world.specs.scripts_are_runs.AllocationLaws.{NoneSubmits, OneSubmits, Submits}
 use Rattle.sms_world.specs.headline.SeenWorld.{PartGiven, parts_given}
 use Rattle.sms_world.proofs.scripts_are_runs.Falling.{Falls, falls_append, key_of, nothing_more, parts_append}
-use Rattle.sms_world.proofs.handset_runs_are_steps.Moving.{appended}
+use Rattle.sms_play.proofs.judging.Looking.{appended}
 
 pub record Grown (m : ℕ) (old new : List Allocation) : Type 0 where
   pub more : List Allocation

@@ -1,5 +1,5 @@
 -- Whom an act of a script meets, and that the world allows it.
-use Rattle.std.proofs.Common.{◌≡◌, ℕ, List, [], refl, sym, subst, inl, inr, Option, Some, None, Result, Ok}
+use Rattle.std.proofs.Common.{◌≡◌, ℕ, List, [], refl, sym, subst, inl, inr, Option, Some, None, Ok}
 use Rattle.std.specs.Str.{chars}
 use Rattle.sms_base.specs.Among.{Among}
 use Rattle.sms_base.specs.declared.carried.Carried.{Carried}
@@ -18,7 +18,6 @@ use Rattle.sms_handset.specs.HandsetEvent.{tag_of as handset_tag}
 use Rattle.sms_handset.specs.Planning.{OfFrame}
 use Rattle.sms_handset.specs.declared.event.HandsetEvent.{HandsetEvent}
 use Rattle.sms_handset.specs.declared.event.HandsetEvent.TheVariants.{Frame as HandsetFrame, Tick as HandsetTick, Write as HandsetWrite, Delete as HandsetDelete, Discard as HandsetDiscard}
-use Rattle.sms_script.specs.declared.play_fault.PlayFault.{PlayFault}
 use Rattle.sms_play.specs.PlayState.{PlayState, Party, frame_at, party_at}
 use Rattle.sms_play.specs.Meeting.{AtCentre, AtHandset, Meeting, account_from, by_account, by_handset, delivered, handed_over, meeting_of, tag_in}
 use Rattle.sms_script.specs.Requests.{cancel_of, query_of, submit_of}
@@ -41,6 +40,7 @@ use Rattle.sms_world.specs.scripts_are_runs.Happening.{ActHandsOctets, IsGoodAct
 use Rattle.sms_world.specs.headline.OneRun.{act_moment, event_of}
 use Rattle.sms_world.proofs.scripts_are_runs.Bags.{frame_found, row_seen}
 use Rattle.sms_world.proofs.scripts_are_runs.Parties.{party_found}
+use Rattle.sms_play.proofs.growth.Growing.{ok_meeting}
 
 -- the frame that is handed over, by its number; other acts hand over none
 abbrev pub number_of : Act → ℕ
@@ -71,9 +71,6 @@ Meets act c w (AtCentre e) = MeetsCentre act c w e
 Meets act c w (AtHandset p e) = MeetsHandset act c w p e
 
 -- ---- accounts and handsets that are there
-
-abbrev pub ok_meeting : Meeting → Result Meeting PlayFault
-ok_meeting m = Ok m
 
 pub same_meeting : (x m : Meeting) → ok_meeting x ≡ ok_meeting m → x ≡ m
 same_meeting x m e = cc

@@ -14,7 +14,7 @@ use Rattle.sms_play.specs.Premises.{pairs_of}
 use Rattle.sms_world_model.specs.World.{Accepted}
 use Rattle.sms_world.specs.headline.SeenWorld.{JoinedText, row_joined, rows_joined}
 use Rattle.sms_world.specs.handset_runs_are_steps.PutInOrder.{joined_by, pair_of_last, taken_by, text_put}
-use Rattle.sms_world.proofs.handset_runs_are_steps.Moving.{appended, nothing_more}
+use Rattle.sms_play.proofs.judging.Looking.{appended, none_behind as nothing_more}
 
 -- ---- accepted
 
