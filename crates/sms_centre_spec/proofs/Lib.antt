@@ -1,4 +1,5 @@
 pub mod Answered
+pub mod BoundSessions
 mod BodiesRefused
 mod Calendars
 mod Everything
@@ -46,6 +47,7 @@ pub mod SoundSides
 pub mod SoundSteady
 pub mod SoundStores
 pub mod SubmitFits
+pub mod TextContents
 pub mod TextFields
 pub mod TpdusRead
 pub mod UnitOctets
@@ -58,6 +60,7 @@ pub mod SteadyEvents
 mod StatusReported
 mod SubmitsJudged
 pub mod TriedAgain
+pub mod Unanswered
 mod UrgentFirst
 mod WindowFull
 mod Worked

@@ -5,4 +5,3 @@ pub mod SplitEvents
 pub mod SplitParts
 pub mod SplitSteady
 pub mod SplitTexts
-pub mod TextContents

@@ -45,7 +45,7 @@ use Rattle.sms_play.specs.Playing.{play_state_of, played_on, report_of}
 use Rattle.sms_play.specs.Setups.{beginning, can_be_played}
 use Rattle.sms_play.specs.answers.AnswerLaws.{HaveNoSystemError, IsNoSystemError, NoSystemErrorLaw}
 use Rattle.sms_play.proofs.answers.CentreAnswers.{IsOtherAnswer, account_there, cancel_other, query_other, submit_other}
-use Rattle.sms_play.proofs.answers.Unanswered.{frame_unanswered, tick_unanswered}
+use Rattle.sms_centre_spec.proofs.Unanswered.{frame_unanswered, tick_unanswered}
 
 abbrev Fine : PlayState → Type 0
 Fine c = HaveNoSystemError c.answers

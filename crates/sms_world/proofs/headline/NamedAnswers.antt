@@ -22,7 +22,7 @@ use Rattle.sms_handset.specs.declared.refusal.Refusal.{Refusal}
 use Rattle.sms_handset_draft.specs.Draft.{Draft}
 use Rattle.sms_intake.specs.SmppIntake.{is_empty}
 use Rattle.sms_intake.specs.declared.submission.CentreAccount.{CentreAccount}
-use Rattle.sms_play.proofs.answers.Unanswered.{frame_unanswered, tick_unanswered}
+use Rattle.sms_centre_spec.proofs.Unanswered.{frame_unanswered, tick_unanswered}
 use Rattle.sms_play.specs.CentreSide.{answered_as, with_answer as centre_told, whole as centre_whole}
 use Rattle.sms_play.specs.PlayState.{PlayState, Party, answer, frame_at, party_at}
 use Rattle.sms_play.specs.HandsetSide.{handset_meets, happened as handset_happened, is_owners, with_answer, whole}

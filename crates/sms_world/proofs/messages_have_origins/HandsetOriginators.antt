@@ -4,12 +4,9 @@ use Rattle.std.specs.Prelude.{if◌then◌else◌, is_some, nat_le, not, ◌&&�
 use Rattle.std.specs.Option.{option_map}
 use Rattle.std.proofs.lemmas.Bool.{cond_both}
 use Rattle.sms_base.specs.Among.{Among}
-use Rattle.sms_base.specs.declared.final_state.FinalState.{FinalState}
-use Rattle.sms_base.specs.declared.final_state.FinalState.TheVariants.{Delivered}
 use Rattle.sms_base.specs.declared.holder.Holder.{Holder}
-use Rattle.sms_base.specs.declared.originator.Originator.{Originator}
-use Rattle.sms_base.specs.declared.originator.Originator.TheVariants.{Application, Handset}
-use Rattle.sms_rows.proofs.table.Tables.{among_found, among_put, found_among}
+use Rattle.sms_base.specs.declared.originator.Originator.TheVariants.{Handset}
+use Rattle.sms_rows.proofs.table.Tables.{among_found, among_put}
 use Rattle.sms_link.specs.declared.ending.Upward.{Upward}
 use Rattle.sms_link.specs.declared.ending.Upward.TheVariants.{Opened, Ended}
 use Rattle.sms_base.specs.declared.carried.Carried.{Carried}
@@ -48,30 +45,26 @@ use Rattle.sms_intake.specs.declared.submission.SinglePart.{SinglePart}
 use Rattle.sms_intake.specs.declared.submission.Submission.{Submission}
 use Rattle.sms_intake.specs.declared.submission.CentreAccount.{CentreAccount}
 use Rattle.sms_centre_rows.specs.declared.messages.message.MessageRow.{MessageRow}
-use Rattle.sms_centre_rows.specs.declared.messages.part.PartRow.{PartRow}
 use Rattle.sms_centre_rows.specs.declared.waiting.handset.HandsetRow.{HandsetRow}
 use Rattle.sms_centre_rows.specs.declared.waiting.handset_link.HandsetLink.{HandsetLink}
-use Rattle.sms_centre_rows.specs.messages.Messages.{all_done, ended, message_at, message_key}
+use Rattle.sms_centre_rows.specs.messages.Messages.{message_at, message_key}
 use Rattle.sms_centre_rows.specs.messages.SplitReferences.{next_split}
 use Rattle.sms_centre_rows.specs.waiting.Links.{line_of, turn_line}
 use Rattle.sms_centre_rows.specs.waiting.References.{handset_of}
-use Rattle.sms_centre_rows.specs.waiting.Trying.{finished}
 use Rattle.sms_centre_spec.specs.declared.event.CentreEvent.TheVariants.{Frame}
 use Rattle.sms_centre_spec.specs.declared.rows.Rows.{Rows}
 use Rattle.sms_centre_spec.specs.CentreEvent.{happened, tag_of, went_up}
-use Rattle.sms_centre_spec.specs.Draft.{Core, Draft, Store, draft_of, handsets_in, messages_in, on_links, parts_in, rows_of, with_message, with_part_at}
-use Rattle.sms_centre_spec.specs.Ends.{end, is_wished, report_to, status_given}
+use Rattle.sms_centre_spec.specs.Draft.{Core, Draft, Store, draft_of, handsets_in, messages_in, on_links, parts_in, rows_of}
 use Rattle.sms_centre_spec.specs.MessageNumbers.{next_number}
 use Rattle.sms_centre_spec.specs.Receiving.{due_now, is_duplicate, refuse, submit_accepted, submit_received, unit_received}
 use Rattle.sms_centre_spec.specs.SoundCore.{IsSoundCore}
 use Rattle.sms_centre_spec.specs.Submitting.{accept, accept_as, accept_split, accept_under, enter, give_part, give_parts, is_reference_taken, message_of, part_given, reference_for}
-use Rattle.sms_centre_spec.specs.Transfers.{complete}
 use Rattle.sms_centre_spec.proofs.AcceptedConsistent.{then_there}
-use Rattle.sms_centre_spec.proofs.KeepingSteady.{SoundSince, since_steady}
-use Rattle.sms_centre_spec.proofs.NumbersSteady.{AreOld}
+use Rattle.sms_centre_spec.proofs.KeepingSteady.{SoundSince}
+use Rattle.sms_centre_spec.proofs.NumbersSteady.{AreOld, old_still}
 use Rattle.sms_centre_spec.proofs.SoundEvents.{begins}
 use Rattle.sms_centre_spec.proofs.Stages.{IfThere}
-use Rattle.sms_centre_spec.proofs.Steady.{IsSteady, IsStill, concluded_steady, due_now_steady, message_own}
+use Rattle.sms_centre_spec.proofs.Steady.{IsStill, concluded_steady, due_now_steady}
 use Rattle.sms_world.specs.headline.SeenFrames.{frame_tpdu, unit_tpdu}
 use Rattle.sms_world.proofs.Options.{none_some}
 
@@ -148,51 +141,11 @@ module _ (Says : MessageRow → Type 0) (base : Rows) where
 
   -- ---- no other stage enters a message
 
-  status_old : (f : FinalState) (m : MessageRow) (h : HandsetRow) (o : Option ℕ) (s : Store) → AreOld base s → AreOld base (status_given f m h o s)
-  status_old f m h None s k = record { first = k.first; old = k.old }
-  status_old f m h (Some r) s k = record { first = k.first; old = k.old }
-
-  report_old : (o : Originator) (f : FinalState) (m : MessageRow) (s : Store) → AreOld base s → AreOld base (report_to o f m s)
-  report_old (Application account) f m s k = record { first = k.first; old = k.old }
-  report_old (Handset n) f m s k =
-      let h : HandsetRow = handset_of m.source.digits (handsets_in s) in status_old f m h (reference_for h s) s k
-
-  end_old : (f : FinalState) (m : MessageRow) (s : Store) → AreOld base s → message_at m.id (messages_in s) ≡ Some m → AreOld base (end f m s)
-  end_old f m s k there =
-      let w : MessageRow = ended f s.moment m in
-      let e : Store = with_message w s in
-      let still : AreOld base e = record {
-        first = k.first;
-        old = λ x among. ⊎_elim
-            (λ (q : x ≡ w).
-            let y = k.old m (found_among message_key m.id m (messages_in s) there) in
-            let own : x.id ≡ m.id = ap (λ (z : MessageRow). z.id) q in
-            let found : (z : MessageRow) × (message_at x.id base.messages ≡ Some z) = (y.0, ap (λ (n : ℕ). message_at n base.messages) own ∙ y.1) in found)
-            (λ (a : Among x (messages_in s) × ¬ (x.id ≡ m.id)). k.old x a.0)
-            (among_put message_key x w (messages_in s) among);
-      } in
-      cond_both (is_wished m.wish f) (report_to m.originator f m e) e (λ (x : Store). AreOld base x) (λ t. report_old m.originator f m e still) (λ t. still)
-
-  settled_old : (p : PartRow) (m : MessageRow) (s : Store) → AreOld base s → message_at p.id (messages_in s) ≡ Some m → AreOld base (complete m (with_part_at p (finished p.progress) s))
-  settled_old p m s k of =
-      let e : Store = with_part_at p (finished p.progress) s in
-      let far : AreOld base e = record { first = k.first; old = k.old } in
-      cond_both (all_done m.id (parts_in e)) (end Delivered m e) e (λ (x : Store). AreOld base x) (λ t. end_old Delivered m e far (message_own p.id m e of)) (λ t. far)
-
   abbrev Since : Store → Type 0
   Since s = SoundSince base s × AreOld base s
 
   still : IsStill Since
-  still =
-      let since : IsSteady (SoundSince base) = since_steady base in
-      record {
-        consistent = λ s k. since.consistent s k.0;
-        ended = λ f m s k there pending partly. (since.ended f m s k.0 there pending partly, end_old f m s k.1 there);
-        settled = λ p m s k there of pending undone. (since.settled p m s k.0 there of pending undone, settled_old p m s k.1 of);
-        part_far = λ p q s k there same. (since.part_far p q s k.0 there same, record { first = k.1.first; old = k.1.old });
-        report_far = λ r q s k there stays. (since.report_far r q s k.0 there stays, record { first = k.1.first; old = k.1.old });
-        later = λ n s k past is. (since.later n s k.0 past is, record { first = k.1.first; old = k.1.old });
-      }
+  still = old_still base
 
   -- ---- a unit of a handset
 

@@ -44,7 +44,7 @@ use Rattle.sms_world.proofs.split_messages_stay.Places.{text_cut}
 use Rattle.sms_world.proofs.split_messages_stay.SameParts.{same_amended, same_parts, split_stays}
 use Rattle.sms_world.proofs.split_messages_stay.SplitParts.{stored_of}
 use Rattle.sms_world.proofs.split_messages_stay.SplitSteady.{own_number}
-use Rattle.sms_world.proofs.split_messages_stay.TextContents.{IsText, pdu_is}
+use Rattle.sms_centre_spec.proofs.TextContents.{IsText, pdu_is}
 use Rattle.sms_world.proofs.scripts_are_runs.PartsInOrder.{end_touches}
 
 -- ---- it stays

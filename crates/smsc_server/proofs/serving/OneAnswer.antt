@@ -47,7 +47,7 @@ use Rattle.smsc_service.specs.Numbers.{is_number}
 use Rattle.smsc_service.specs.Replies.{answer_out, end_of, failed, for_seat, frame_out, frame_outs, receipt_out, receipt_outs, replies_at, replies_to, risen_by, seat_for, vacancy}
 use Rattle.smsc_service.specs.Seats.{Seats, handset_at, seat_of}
 use Rattle.smsc_service.specs.Serving.{Serving, after, after_for, gives, gives_for, outs_for, refusal_for, refusal_of, short_of, unless_refused}
-use Rattle.smsc_server.proofs.serving.Unanswered.{answered_unanswered, bound_unanswered, cancel_answered, down_unanswered, frame_unanswered, query_answered, submit_answered, tick_unanswered, unbound_unanswered, up_unanswered}
+use Rattle.sms_centre_spec.proofs.Unanswered.{answered_unanswered, bound_unanswered, cancel_answered, down_unanswered, frame_unanswered, query_answered, submit_answered, tick_unanswered, unbound_unanswered, up_unanswered}
 
 -- ---- counted among what is given to a seat
 
