@@ -14,3 +14,4 @@ pub mod SmppTimes
 pub mod Stamps
 pub mod WrittenStamps
 pub mod UtcClocks
+pub mod MarkupReadings

@@ -62,7 +62,7 @@ use Rattle.smsc_server.specs.AccountsCome.{accounts_behind}
 use Rattle.smsc_server.specs.Forgotten.{KeepsOrForgets, message_left}
 use Rattle.smsc_server.specs.RunPromises.{AreAsked, receipt_for}
 use Rattle.smsc_server.proofs.AccountsBehind.{keeps_place, run_accounts}
-use Rattle.sms_centre_spec.proofs.BoundSessions.{Becomes, Each, Sends, StaysBut, StaysSo, sends_of}
+use Rattle.sms_centre_spec.proofs.BoundSessions.{Becomes, Each, Sends, StaysSo, sends_of}
 use Rattle.smsc_server.proofs.RunKept.{IsGood, among_parts, asked_parts, between, history_more, item_good, no_answer, no_failure, no_frames, none_by_nothing, none_failed, none_taken, restart_sound, run_good, run_left}
 
 -- ---- which events bind

@@ -4,7 +4,7 @@ mod ByFate
 mod ByOctets
 mod Numbers
 mod OrdersTold
-mod RokNames
+pub mod RokNames
 mod Roomy
 mod Sittings
 mod Standing
