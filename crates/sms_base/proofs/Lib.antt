@@ -15,3 +15,5 @@ pub mod Stamps
 pub mod WrittenStamps
 pub mod UtcClocks
 pub mod MarkupReadings
+pub mod Bools
+pub mod Lists
