@@ -1,8 +1,9 @@
 -- All parts of a message are done exactly where the world has all their numbers.
-use Rattle.std.proofs.Common.{◌≡◌, ℕ, zero, suc, ◌<◌, ◌≤◌, arith, List, [], ◌∷◌, Bool, true, false, refl, sym, ◌∙◌, ap, inl, inr, ⊎_elim, Some, length, eq-eqb}
-use Rattle.std.specs.Prelude.{◌==◌, ◌&&◌, ◌||◌, not, slice_get}
+use Rattle.std.proofs.Common.{◌≡◌, ℕ, zero, suc, ◌<◌, ◌≤◌, arith, List, [], ◌∷◌, Bool, true, false, refl, sym, ◌∙◌, ap, inl, inr, ⊎_elim, length, eq-eqb}
+use Rattle.std.specs.Prelude.{◌==◌, ◌&&◌, ◌||◌, not}
 use Rattle.std.proofs.lemmas.Bool.{and_from, and_parts, cases_Bool, eqb-true}
 use Rattle.std.proofs.lemmas.Option.{slice_get_within}
+use Rattle.sms_base.proofs.Lists.{item_at}
 use Rattle.sms_base.specs.Among.{Among}
 use Rattle.sms_centre_rows.specs.messages.Messages.{all_done, is_undone}
 use Rattle.sms_centre_rows.specs.declared.messages.part.PartRow.{PartRow}
@@ -46,11 +47,6 @@ pub has_numbers : (u : Submission) (n : ℕ) (part : UserData) → HasPart u n p
 has_numbers u zero part has = absurd cc
 has_numbers u (suc n) part has = let l : n < length u.parts = slice_get_within u.parts n part has in ((let f : 0 < suc n = omega arith in f), (let g : suc n ≤ length u.parts = omega (arith, l) in g))
 
-got : {A : Type 0} (xs : List A) (i : ℕ) → i < length xs → (x : A) × (slice_get xs i ≡ Some x)
-got [] i few = absurd (let l : ⊥ = omega (arith, few) in l)
-got (x ∷ xs) zero few = (x, refl)
-got (x ∷ xs) (suc i) few = got xs i (omega (arith, few))
-
 pub numbers_have : (u : Submission) (n : ℕ) → 0 < n → n ≤ length u.parts → (part : UserData) × HasPart u n part
 numbers_have u zero some few = absurd (let l : ⊥ = omega (arith, some) in l)
-numbers_have u (suc n) some few = got u.parts n (omega (arith, few))
+numbers_have u (suc n) some few = item_at u.parts n (omega (arith, few))

@@ -1,6 +1,6 @@
 -- Frames of the links' own: CP-ACK and CP-ERROR are control, and so is what is sent again.
 use Rattle.std.proofs.Common.{◌≡◌, ℕ, ◌+◌, List, [], ◌∷◌, ◌++◌, refl, sym, ◌∙◌, ap, subst, inr, Option, Some, None, Result, Ok, Err, length}
-use Rattle.std.proofs.lemmas.List.{append-nil}
+use Rattle.std.proofs.lemmas.List.{append-nil, append_assoc}
 use Rattle.sms_base.specs.declared.carried.Carried.{Carried}
 use Rattle.sms_control.specs.ControlReading.{cp_at}
 use Rattle.sms_control.specs.LinkStep.{Step}
@@ -23,7 +23,7 @@ use Rattle.sms_world_model.specs.WorldStep.{Again, Control}
 use Rattle.sms_world.specs.centres_refine_the_world.CentreRefinement.{CentreRefines}
 use Rattle.sms_world.specs.centres_refine_the_world.FramesOut.{IsWholeDown}
 use Rattle.sms_world.specs.centres_refine_the_world.RefinesLines.{RefinesLine, WasSentDown}
-use Rattle.sms_world.proofs.centres_refine_the_world.Firing.{again_carries, appended}
+use Rattle.sms_world.proofs.centres_refine_the_world.Firing.{again_carries}
 use Rattle.sms_world.proofs.centres_refine_the_world.Offers.{lines_with, stacked_both, whole_both}
 use Rattle.sms_world.proofs.centres_refine_the_world.Staying.{line_still}
 use Rattle.sms_world.specs.centre_runs_are_steps.Stages.{AnswersInEvent, Begins}
@@ -111,7 +111,7 @@ module _ (b : World) (line : HandsetLink) (d : Draft) (w : World) (s : CentreRef
           let g : SentRow = record { handset = h; frame = of_links again (Some c) } in
           let two : CentreRefines b (sending g (sending f e)) with_both = sends_frame b h (of_links again (Some c)) (sending f e) with_bare sent.0 bare_sent in
           let fs : (d.links.frames ++ f ∷ []) ++ g ∷ [] ≡ d.links.frames ++ to_handset h (from_links line.link.under_way line.link.answered (frame ∷ again ∷ [])) =
-          appended d.links.frames (f ∷ []) (g ∷ [])
+          append_assoc d.links.frames (f ∷ []) (g ∷ [])
           ∙ ap (λ (z : Option Carried). d.links.frames ++ record { handset = h; frame = of_links frame z } ∷ g ∷ []) (sym carries)
           ∙ ap (λ (z : Option Carried). d.links.frames ++ record { handset = h; frame = of_links frame (carried_in (cp_at frame) line.link.under_way line.link.answered) } ∷ record { handset = h; frame = of_links again z } ∷ [])
           (sym (again_carries h w.bag flag again c line.link.under_way line.link.answered sent ∙ is)) in

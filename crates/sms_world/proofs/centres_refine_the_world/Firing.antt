@@ -3,6 +3,7 @@ use Rattle.std.proofs.Common.{◌≡◌, ℕ, ◌+◌, List, [], ◌∷◌, ◌+
 use Rattle.std.specs.Prelude.{if◌then◌else◌}
 use Rattle.std.specs.Option.{option_map}
 use Rattle.std.proofs.lemmas.Bool.{cond_both}
+use Rattle.std.proofs.lemmas.List.{append-nil, append_assoc}
 use Rattle.sms_base.specs.Among.{Among}
 use Rattle.sms_base.specs.declared.carried.Carried.{Carried}
 use Rattle.sms_control.proofs.ControlFrames.{cp_again}
@@ -61,14 +62,6 @@ steps_then m b e f w (xs, (kx, rx, sx)) further =
 pub steps_still : (m : ℕ) (b : World) (d : Draft) (w : World) → CentreRefines b d w → StageIsSteps m b d w
 steps_still m b d w s = ([], ((tt, tt), tt, s))
 
-pub appended : {A : Type 0} (xs ys zs : List A) → (xs ++ ys) ++ zs ≡ xs ++ (ys ++ zs)
-appended {A = A} [] ys zs = refl
-appended {A = A} (x ∷ xs) ys zs = ap (λ (l : List A). x ∷ l) (appended xs ys zs)
-
-nothing_more : {A : Type 0} (xs : List A) → xs ++ [] ≡ xs
-nothing_more {A = A} [] = refl
-nothing_more {A = A} (x ∷ xs) = ap (λ (l : List A). x ∷ l) (nothing_more xs)
-
 -- ---- frames that were sent are sent again
 
 -- each was sent, and the link knows what it carries
@@ -97,7 +90,7 @@ again_list : (m : ℕ) (h : List ℕ) (u a : Option Carried) (b : World) (fs : L
     → StageIsSteps m b (record d { links = record d.links { frames = d.links.frames ++ to_handset h (from_links u a fs) } }) w
 again_list m h u a b [] d w k s =
     steps_still m b (record d { links = record d.links { frames = d.links.frames ++ [] } }) w
-    (subst (λ (z : List SentRow). CentreRefines b (record d { links = record d.links { frames = z } }) w) (sym (nothing_more d.links.frames)) s)
+    (subst (λ (z : List SentRow). CentreRefines b (record d { links = record d.links { frames = z } }) w) (sym (append-nil d.links.frames)) s)
 again_list m h u a b (f ∷ fs) d w k s =
     let flag = k.0.0 in
     let c = k.0.1 in
@@ -114,7 +107,7 @@ again_list m h u a b (f ∷ fs) d w k s =
     } in
     let y = again_list m h u a b fs e v (all_more h w.bag new u a fs k.1) refines in
     let q : (d.links.frames ++ x ∷ []) ++ to_handset h (from_links u a fs) ≡ d.links.frames ++ to_handset h (from_links u a (f ∷ fs)) =
-    appended d.links.frames (x ∷ []) (to_handset h (from_links u a fs))
+    append_assoc d.links.frames (x ∷ []) (to_handset h (from_links u a fs))
     ∙ ap (λ (z : Option Carried). d.links.frames ++ record { handset = h; frame = of_links f z } ∷ to_handset h (from_links u a fs)) (sym (again_carries h w.bag flag f c u a sent ∙ k.0.2.1)) in
     let z : StageIsSteps m b (record d { links = record d.links { frames = (d.links.frames ++ x ∷ []) ++ to_handset h (from_links u a fs) } }) w =
     (Again (frame_down h sent.2.0 f c) ∷ y.0, (((inl tt, y.1.0.0), (tt, y.1.0.1)), (sent.2.1, y.1.1), y.1.2)) in

@@ -1,5 +1,6 @@
 -- Runs one after another, frames on top of frames, and what stays true while the bag grows.
 use Rattle.std.proofs.Common.{◌≡◌, ℕ, ◌+◌, List, [], ◌∷◌, ◌++◌, false, refl, sym, ◌∙◌, ap, subst, inl, inr, Option, Some, None, length}
+use Rattle.std.proofs.lemmas.List.{append_assoc}
 use Rattle.sms_control.specs.declared.link_state.Answer.{Answer}
 use Rattle.sms_control.specs.declared.link_state.Begun.{Begun}
 use Rattle.sms_control.specs.declared.link_state.LinkState.{LinkState}
@@ -19,7 +20,6 @@ use Rattle.sms_world.specs.headline.SeenFrames.{sent_as}
 use Rattle.sms_world.specs.handset_runs_are_steps.RefinesLink.{RefinesAnswer, RefinesBegun, RefinesLinks, RefinesOpened, WasSent}
 use Rattle.sms_world.specs.handset_runs_are_steps.Refinement.{Refines}
 use Rattle.sms_world.specs.handset_runs_are_steps.Stages.{AllMine, Happens, Moves}
-use Rattle.sms_play.proofs.judging.Looking.{appended}
 
 -- ---- steps of a handset
 
@@ -73,7 +73,7 @@ begins_then m h event b e f w x next =
     let heads : List Step = x.control ++ (x.own ++ x.follows) in
     let y : Moves (AllMine h) m h b f (end w (items m false heads)) = next (end w (items m false heads)) x.refines in
     let q : heads ++ y.0 ≡ x.control ++ (x.own ++ (x.follows ++ y.0)) =
-    appended x.control (x.own ++ x.follows) y.0 ∙ ap (λ (z : List Step). x.control ++ z) (appended x.own x.follows y.0) in
+    append_assoc x.control (x.own ++ x.follows) y.0 ∙ ap (λ (z : List Step). x.control ++ z) (append_assoc x.own x.follows y.0) in
     record {
       control = x.control;
       own = x.own;

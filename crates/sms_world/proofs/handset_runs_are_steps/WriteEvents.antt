@@ -3,6 +3,7 @@ use Rattle.std.proofs.Common.{◌≡◌, ℕ, ◌+◌, ◌<◌, ◌≤◌, arith
 use Rattle.std.specs.Prelude.{nat_le, nat_lt}
 use Rattle.std.specs.List.{AllByRecursion}
 use Rattle.std.proofs.lemmas.Bool.{cases_eq, cond_both, leb-true}
+use Rattle.std.proofs.lemmas.List.{append-nil}
 use Rattle.sms_base.specs.Address.{IsAddress, address_of}
 use Rattle.sms_base.specs.declared.address.Address.{Address}
 use Rattle.sms_base.specs.declared.address_error.AddressError.{AddressError}
@@ -46,7 +47,6 @@ use Rattle.sms_world.proofs.handset_runs_are_steps.Moving.{Begins, begins_then, 
 use Rattle.sms_world.proofs.handset_runs_are_steps.Offering.{follow_law, free_up}
 use Rattle.sms_world.proofs.handset_runs_are_steps.OwnersEvents.{HappensIfDone, acts_then, both_done, done_sound}
 use Rattle.sms_world.proofs.Options.{some_is}
-use Rattle.sms_play.proofs.judging.Looking.{none_behind as nothing_more}
 
 -- ---- one more entry
 
@@ -224,6 +224,6 @@ write_event m h text to report c w sound s =
       is_own = all_write h steps a;
       own_mine = all_own h steps a;
       is_mine = tt;
-      runs = subst (λ (x : List Step). Run w (items m false x)) (sym (nothing_more steps)) r;
-      refines = subst (λ (x : List Step). Refines h w z (end w (items m false x))) (sym (nothing_more steps)) k;
+      runs = subst (λ (x : List Step). Run w (items m false x)) (sym (append-nil steps)) r;
+      refines = subst (λ (x : List Step). Refines h w z (end w (items m false x))) (sym (append-nil steps)) k;
     }

@@ -1,5 +1,6 @@
 -- While frames come in time and rounds begin only where they may, what ends at a handset is one round.
-use Rattle.std.proofs.Common.{◌≡◌, ℕ, List, [], ◌∷◌, ◌++◌, Bool, refl, sym, ◌∙◌, subst, inl, inr, ⊎_elim}
+use Rattle.std.proofs.Common.{◌≡◌, ℕ, List, [], ◌∷◌, ◌++◌, Bool, refl, sym, ◌∙◌, subst, inl, ⊎_elim}
+use Rattle.sms_base.proofs.Lists.{among_back, among_front}
 use Rattle.sms_base.specs.Among.{Among}
 use Rattle.sms_world_model.specs.Premises.{FreshParts, SubmitsFresh, IsTimely}
 use Rattle.sms_world_model.specs.References.{Ticket}
@@ -145,14 +146,6 @@ module _ (w v : World) (m : ℕ) (b : Bool) (same : (v.down ≡ w.down) × (v.ac
 
 -- ---- an event
 
-pub in_front : (x : Step) (xs ys : List Step) → Among x xs → Among x (xs ++ ys)
-in_front x [] ys i = absurd i
-in_front x (z ∷ zs) ys i = ⊎_elim (λ (e : x ≡ z). inl e) (λ (j : Among x zs). inr (in_front x zs ys j)) i
-
-pub in_rest : (x : Step) (xs ys : List Step) → Among x ys → Among x (xs ++ ys)
-in_rest x [] ys i = i
-in_rest x (z ∷ zs) ys i = inr (in_rest x zs ys i)
-
 -- each of these begins rounds only where it may
 abbrev pub AllFreshAt : World → ℕ → List Step → Type 0
 AllFreshAt w m steps = (s : Step) → Among s steps → SubmitsFresh w m s
@@ -169,7 +162,7 @@ order_matched w m b event steps (control, own, follows, x) hands fresh sound fai
     let faithful_v : IsFaithful v = faithful_run w (items m b control) sound faithful first.0 (control_timely w m b control x.0) in
     let at_v : IsMatched v = quiet_steps w m b control (control_quiet control x.0) matched in
     let at_z : IsMatched z = own_matched w v m b (control_leaves w m b control x.0) sound_v faithful_v at_v event own x.1 (λ u t. stays_timely w m b control u x.0 t) hands second.0
-    (λ s i. fresh s (subst (λ (ss : List Step). Among s ss) (sym x.3) (in_rest s control (own ++ follows) (in_front s own follows i)))) in
+    (λ s i. fresh s (subst (λ (ss : List Step). Among s ss) (sym x.3) (among_back s control (own ++ follows) (among_front s own follows i)))) in
     let at_end : IsMatched (end z (items m b follows)) = quiet_steps z m b follows (follows_quiet event follows x.2) at_z in
     subst (λ (ss : List Step). IsMatched (end w (items m b ss))) (sym x.3)
     (subst (λ (y : World). IsMatched y) (sym (end_parts w m b control (own ++ follows) ∙ end_parts v m b own follows)) at_end)

@@ -1,6 +1,7 @@
 -- The references that a course tells were given stay told: an event puts its own behind them.
 use Rattle.std.proofs.Common.{◌≡◌, ℕ, zero, suc, List, [], ◌∷◌, ◌++◌, true, refl, ◌∙◌, ap, subst, Option, Some, None, Result, Ok, Err}
 use Rattle.std.proofs.lemmas.Bool.{cond_both}
+use Rattle.std.proofs.lemmas.List.{append_assoc}
 use Rattle.sms_base.specs.Reading.{◌>>=◌}
 use Rattle.sms_script.specs.declared.report.answers.Answered.TheVariants.{Stopped as AnsweredStopped}
 use Rattle.sms_script.specs.declared.report.rows.GivenRow.{GivenRow}
@@ -32,17 +33,13 @@ use Rattle.sms_world.proofs.scripts_are_runs.Events.{ok_play, same_play}
 abbrev ExtendsRows : List GivenRow → PlayState → Type 0
 ExtendsRows rows c = (more : List GivenRow) × (c.given ≡ rows ++ more)
 
-appended : (xs ys zs : List GivenRow) → (xs ++ ys) ++ zs ≡ xs ++ (ys ++ zs)
-appended [] ys zs = refl
-appended (x ∷ xs) ys zs = ap (λ (z : List GivenRow). x ∷ z) (appended xs ys zs)
-
 nothing : (xs : List GivenRow) → xs ≡ xs ++ []
 nothing [] = refl
 nothing (x ∷ xs) = ap (λ (z : List GivenRow). x ∷ z) (nothing xs)
 
 module _ (rows : List GivenRow) (n : ℕ) where
   more_rows : (given more : List GivenRow) → (old : List GivenRow) × (given ≡ rows ++ old) → (all : List GivenRow) × (given ++ more ≡ rows ++ all)
-  more_rows given more (old, e) = (old ++ more, ap (λ (z : List GivenRow). z ++ more) e ∙ appended rows old more)
+  more_rows given more (old, e) = (old ++ more, ap (λ (z : List GivenRow). z ++ more) e ∙ append_assoc rows old more)
 
   -- ---- the centre
 

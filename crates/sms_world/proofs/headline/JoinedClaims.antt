@@ -4,6 +4,7 @@ use Rattle.std.specs.Prelude.{if◌then◌else◌}
 use Rattle.std.specs.Str.{bytes_eq}
 use Rattle.std.proofs.lemmas.Bool.{both_ways, cases_Bool, cond-false, cond-true}
 use Rattle.std.proofs.lemmas.Slice.Eq.{bytes_eq-Decides}
+use Rattle.sms_base.proofs.Lists.{among_end}
 use Rattle.sms_base.specs.Among.{Among}
 use Rattle.sms_base.specs.declared.holder.Holder.{Holder}
 use Rattle.sms_base.specs.declared.holder.Holder.TheVariants.{Part, Report, Entry, Memory}
@@ -33,7 +34,6 @@ use Rattle.sms_world.proofs.scripts_are_runs.Agreeing.{sound_there}
 use Rattle.sms_world.specs.scripts_are_runs.PlayRefinement.{PlayRefines}
 use Rattle.sms_world.proofs.Options.{some_is}
 use Rattle.sms_world.proofs.SeenParts.{seen_of}
-use Rattle.sms_world.proofs.scripts_are_runs.Growing.{among_last}
 
 pub placed_there : (w : World) → IsReached w → IsPlaced w
 placed_there w (is, (run, at)) = subst (λ (v : World). IsPlaced v) at (placed_run empty is placed_empty run)
@@ -236,7 +236,7 @@ module _ (w : World) (placed : IsPlaced w) (f : IsFaithful w) where
 last_apart : (gs : List (List Accepted)) (g : List Accepted) → HaveNoneInCommon gs → ((h : List Accepted) (x : Accepted) → Among h gs → Among x h → Among x g → ⊥) → HaveNoneInCommon (gs ++ g ∷ [])
 last_apart [] g o n = ((λ h x i j k. absurd i), tt)
 last_apart (y ∷ gs) g o n = (
-  (λ h x i j k. ⊎_elim (λ (a : Among h gs). o.0 h x a j k) (λ (e : h ≡ g). n y x (inl refl) j (subst (λ (z : List Accepted). Among x z) e k)) (among_last h g gs i)),
+  (λ h x i j k. ⊎_elim (λ (a : Among h gs). o.0 h x a j k) (λ (e : h ≡ g). n y x (inl refl) j (subst (λ (z : List Accepted). Among x z) e k)) (among_end h g gs i)),
   last_apart gs g o.1 (λ h x i j k. n h x (inr i) j k),
 )
 
@@ -246,7 +246,7 @@ from_group h (j ∷ js) g i = ⊎_elim
     (λ (t : bytes_eq j.handset h ≡ true). ⊎_elim
     (λ (a : Among g (groups_at h js)). let x = from_group h js g a in (x.0, (inr x.1.0, x.1.1, x.1.2)))
     (λ (e : g ≡ j.group). (j, (inl refl, (bytes_eq-Decides j.handset h).0 t, e)))
-    (among_last g j.group (groups_at h js) (subst (λ (z : List (List Accepted)). Among g z) (cond-true (bytes_eq j.handset h) (groups_at h js ++ j.group ∷ []) (groups_at h js) t) i)))
+    (among_end g j.group (groups_at h js) (subst (λ (z : List (List Accepted)). Among g z) (cond-true (bytes_eq j.handset h) (groups_at h js ++ j.group ∷ []) (groups_at h js) t) i)))
     (λ (t : bytes_eq j.handset h ≡ false).
     let x = from_group h js g (subst (λ (z : List (List Accepted)). Among g z) (cond-false (bytes_eq j.handset h) (groups_at h js ++ j.group ∷ []) (groups_at h js) t) i) in
     (x.0, (inr x.1.0, x.1.1, x.1.2)))

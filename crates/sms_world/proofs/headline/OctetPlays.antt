@@ -4,6 +4,7 @@ use Rattle.std.specs.Prelude.{◌⊎◌}
 use Rattle.std.specs.Str.{bytes_eq, chars}
 use Rattle.std.proofs.lemmas.Str.{IsUtf8-from_is_utf8, scalars-chars}
 use Rattle.std.proofs.lemmas.Bool.{cond_both}
+use Rattle.sms_base.proofs.Lists.{among_end}
 use Rattle.sms_base.specs.Address.{IsAddress}
 use Rattle.sms_base.specs.Among.{Among}
 use Rattle.sms_base.specs.Reading.{◌>>=◌}
@@ -74,7 +75,6 @@ use Rattle.sms_world.proofs.scripts_are_runs.Events.{event_leads, ok_play, same_
 use Rattle.sms_world.proofs.scripts_are_runs.Parties.{party_found}
 use Rattle.sms_world.proofs.headline.SmallReferences.{data_small}
 use Rattle.sms_world.specs.headline.TypedEvents.{AreTexts, IsTextAct, IsTextEvent}
-use Rattle.sms_world.proofs.scripts_are_runs.Growing.{among_last}
 use Rattle.sms_player.specs.heads.Heads.{party_of}
 
 -- each handset keeps octets, and each frame that goes up is octets
@@ -88,7 +88,7 @@ abbrev AllUpOctets : List FrameRow → Type 0
 AllUpOctets bag = (f : FrameRow) → Among f bag → IsOctetsUp f.direction f
 
 more_rows : (row : FrameRow) (bag : List FrameRow) → IsOctetsUp row.direction row → AllUpOctets bag → AllUpOctets (bag ++ row ∷ [])
-more_rows row bag is all f i = ⊎_elim (λ (j : Among f bag). all f j) (λ (e : f ≡ row). subst (λ (z : FrameRow). IsOctetsUp z.direction z) (sym e) is) (among_last f row bag i)
+more_rows row bag is all f i = ⊎_elim (λ (j : Among f bag). all f j) (λ (e : f ≡ row). subst (λ (z : FrameRow). IsOctetsUp z.direction z) (sym e) is) (among_end f row bag i)
 
 sent_up : (h : List ℕ) (fs : List Outgoing) (bag : List FrameRow) → SentInOctets fs → AllUpOctets bag → AllUpOctets (all_sent_up h fs bag)
 sent_up h [] bag o all = all

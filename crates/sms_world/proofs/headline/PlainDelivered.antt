@@ -2,6 +2,7 @@
 use Rattle.std.proofs.Common.{◌≡◌, false, ℕ, zero, suc, ◌+◌, ◌*◌, ◌<◌, ◌≤◌, arith, List, [], ◌∷◌, ◌++◌, length, true, refl, sym, ◌∙◌, ap, subst, inl, inr, ⊎_elim, Some}
 use Rattle.std.proofs.lemmas.Bool.{cond-true}
 use Rattle.std.specs.Prelude.{◌==◌, ◌⊎◌, slice_get}
+use Rattle.sms_base.proofs.Lists.{among_parts}
 use Rattle.sms_base.specs.Among.{Among}
 use Rattle.sms_base.specs.declared.final_state.FinalState.{FinalState}
 use Rattle.sms_base.specs.declared.final_state.FinalState.TheVariants.{Delivered}
@@ -47,7 +48,7 @@ use Rattle.sms_world_model.specs.World.{Accepted, Allocation, World, pair_given}
 use Rattle.sms_world.proofs.centres_refine_the_world.ByOctets.{by_octet_is, by_octet_some}
 use Rattle.sms_world.proofs.headline.AskedWords.{as_written}
 use Rattle.sms_world.proofs.headline.Claimed.{can_play, delivered_is, reaches, run_is}
-use Rattle.sms_world.proofs.headline.PlainAccepted.{EachOwn, as_any_pair, compared_over, each_own, in_either, of_line, of_one, pairs, since_there, status_is_other}
+use Rattle.sms_world.proofs.headline.PlainAccepted.{EachOwn, as_any_pair, compared_over, each_own, of_line, of_one, pairs, since_there, status_is_other}
 use Rattle.sms_world.proofs.headline.PlainEvents.{IsTraced, traced}
 use Rattle.sms_world.proofs.headline.PlainSteps.{all_of, last_of, on_last}
 use Rattle.sms_world.proofs.headline.ReceiptLines.{from_report}
@@ -95,7 +96,7 @@ once_of_pairs x rows once = ⊎_elim
 once_left : (x : AcceptedRow) (xs ys : List AcceptedRow) → OccursOnce x xs → ¬ Among x ys → OccursOnce x (xs ++ ys)
 once_left x [] ys once none = absurd once
 once_left x (a ∷ xs) ys once none = ⊎_elim
-    (λ (k : (x ≡ a) × ¬ Among x xs). inl (k.0, λ i. ⊎_elim k.1 none (in_either x xs ys i)))
+    (λ (k : (x ≡ a) × ¬ Among x xs). inl (k.0, λ i. ⊎_elim k.1 none (among_parts x xs ys i)))
     (λ (k : ¬ (x ≡ a) × OccursOnce x xs). inr (k.0, once_left x xs ys k.1 none))
     once
 
@@ -129,7 +130,7 @@ taken_by a [] i = absurd i
 taken_by a (p ∷ ps) i = ⊎_elim
     (λ (j : Among a p.accepted). (p, (inl refl, j)))
     (λ (j : Among a (accepted_lines ps)). let k = taken_by a ps j in (k.0, (inr k.1.0, k.1.1)))
-    (in_either a p.accepted (accepted_lines ps) i)
+    (among_parts a p.accepted (accepted_lines ps) i)
 
 among_pairs : (a : AcceptedRow) (rows : List AcceptedRow) → Among a rows → Among (pair a) (pairs rows)
 among_pairs a [] i = absurd i

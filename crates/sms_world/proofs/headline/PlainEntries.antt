@@ -3,6 +3,7 @@ use Rattle.std.proofs.Common.{◌≡◌, ℕ, zero, suc, ◌+◌, ◌<◌, ◌�
 use Rattle.std.specs.Prelude.{◌⊎◌, if◌then◌else◌, slice_get}
 use Rattle.std.specs.Str.{chars}
 use Rattle.std.proofs.lemmas.Bool.{cond_both}
+use Rattle.std.proofs.lemmas.List.{append-nil}
 use Rattle.sms_base.specs.Among.{Among}
 use Rattle.sms_base.specs.Reading.{◌>>=◌}
 use Rattle.sms_base.specs.declared.carried.Carried.{Carried as Carries}
@@ -11,6 +12,7 @@ use Rattle.sms_base.specs.declared.carried.Kind.TheVariants.{Ack, Data, Error}
 use Rattle.sms_base.specs.declared.holder.Holder.{Holder}
 use Rattle.sms_base.specs.declared.holder.Holder.TheVariants.{Entry, Memory}
 use Rattle.sms_base.proofs.Addresses.{address_found}
+use Rattle.sms_base.proofs.Lists.{among_end}
 use Rattle.sms_concat.specs.UserData.{data_length, header_of}
 use Rattle.sms_concat.specs.declared.content.Part.{Part as PartOf}
 use Rattle.sms_concat.specs.declared.split_error.SplitError.{SplitError}
@@ -102,7 +104,7 @@ use Rattle.sms_world.proofs.headline.EntryWriting.{Has, body_at, same_octets, su
 use Rattle.sms_world.proofs.headline.HeadlineHolds.{of_play}
 use Rattle.sms_world.proofs.headline.PlainSteps.{IsStep, at_place, step_of}
 use Rattle.sms_world.proofs.scripts_are_runs.Events.{ok_play, same_play}
-use Rattle.sms_world.proofs.scripts_are_runs.Growing.{either_part, in_front, in_rest, among_last}
+use Rattle.sms_world.proofs.scripts_are_runs.Growing.{either_part, in_front, in_rest}
 use Rattle.sms_world.proofs.scripts_are_runs.Meetings.{Meets, meets, number_of, same_meeting}
 use Rattle.sms_world.proofs.scripts_are_runs.Parties.{number_there, party_found, with_numbers}
 use Rattle.sms_world.proofs.Options.{some_is}
@@ -162,10 +164,6 @@ module _ (f : FrameRow) (v : Frame) (line : v.line ≡ UpLine) (is_data : v.kind
 moved : (some others : List WorldEvent) (e : WorldEvent) → some ++ e ∷ others ≡ (some ++ e ∷ []) ++ others
 moved [] others e = refl
 moved (x ∷ some) others e = ap (λ (z : List WorldEvent). x ∷ z) (moved some others e)
-
-no_more : (some : List WorldEvent) → some ++ [] ≡ some
-no_more [] = refl
-no_more (x ∷ some) = ap (λ (z : List WorldEvent). x ∷ z) (no_more some)
 
 -- ---- of a frame that is handed over
 
@@ -232,7 +230,7 @@ module _ (script : Script) (after : ℕ → Report) where
   more_rows row bag is all f i = ⊎_elim
       (λ (j : Among f bag). all f j)
       (λ (e : f ≡ row). subst (λ (z : FrameRow). z.direction ≡ Up → Says (Owners z.handset) z.carried z.octets) (sym e) is)
-      (among_last f row bag i)
+      (among_end f row bag i)
 
   sent_up : (h : List ℕ) (fs : List Outgoing) (bag : List FrameRow) → AllSay (Owners h) fs → BagKnown bag → BagKnown (all_sent_up h fs bag)
   sent_up h [] bag k all = all
@@ -608,7 +606,7 @@ module _ (script : Script) (after : ℕ → Report) where
   module _ (typed : AreTyped script.events) (reports : AreReports script after) where
     all_known : (es some others : List WorldEvent) (c d : PlayState) → script.events ≡ some ++ (es ++ others) → play_state_of script.setup some ≡ ok_play c → OwnersKnown c → play_state_of script.setup (some ++ es) ≡ ok_play d → OwnersKnown d
     all_known [] some others c d parts leads k q =
-        subst (λ (z : PlayState). OwnersKnown z) (same_play c d (sym leads ∙ ap (λ (es : List WorldEvent). play_state_of script.setup es) (sym (no_more some)) ∙ q)) k
+        subst (λ (z : PlayState). OwnersKnown z) (same_play c d (sym leads ∙ ap (λ (es : List WorldEvent). play_state_of script.setup es) (sym (append-nil some)) ∙ q)) k
     all_known (e ∷ es) some others c d parts leads k q =
         let x : IsStep script after some e (es ++ others) = step_of script after typed reports some e (es ++ others) parts in
         let first : c ≡ x.first = same_play c x.first (sym leads ∙ x.leads) in

@@ -31,7 +31,7 @@ use Rattle.sms_world.proofs.headline.AnsweredSubmits.{account_met, reported_name
 use Rattle.sms_world.proofs.headline.Claimed.{can_play}
 use Rattle.sms_world.proofs.headline.HeadlineHolds.{of_play}
 use Rattle.sms_world.proofs.headline.NamedAnswers.{IsNamed, IsSubmitting, event_grows, last_or}
-use Rattle.sms_world.proofs.headline.PlainSteps.{IsStep, at_place, one_at, parted_at, step_of}
+use Rattle.sms_world.proofs.headline.PlainSteps.{IsStep, at_place, parted_at, step_of}
 use Rattle.sms_world.proofs.headline.Tables.{line_of, line_there, row_of_line}
 use Rattle.sms_world.proofs.messages_have_origins.EventsMake.{WasStoredIn}
 use Rattle.sms_world.proofs.scripts_are_runs.Events.{ok_play, same_play}
@@ -45,6 +45,7 @@ use Rattle.sms_world.specs.scripts_are_runs.PlayRefinement.{PlayRefines}
 use Rattle.sms_world_model.specs.World.{World}
 use Rattle.std.proofs.Common.{List, Some, [], ap, arith, inl, inr, length, refl, subst, suc, sym, zero, ⊎_elim, ℕ, ◌+◌, ◌++◌, ◌<◌, ◌≤◌, ◌∙◌, ◌∷◌, ◌≡◌}
 use Rattle.std.specs.Prelude.{◌⊎◌}
+use Rattle.sms_base.proofs.Lists.{item_at}
 
 -- ---- a line is a row
 
@@ -118,7 +119,7 @@ module _ (script : Script) (after : ℕ → Report) (typed : AreTyped script.eve
   pub answer_at : (k : ℕ) → k ≤ length script.events → (a : Answer) → Among a (after k).answers → IsAnswerAt script after a
   answer_at zero l a i = absurd (none_first a i)
   answer_at (suc k) l a i =
-      let e = one_at script.events k (sooner k (length script.events) l) in
+      let e = item_at script.events k (sooner k (length script.events) l) in
       let p = parted_at script.events k e.0 e.1 in
       let st : IsStep script after p.some e.0 p.others = step_of script after typed reports p.some e.0 p.others p.parts in
       let now : Among a st.next.answers =

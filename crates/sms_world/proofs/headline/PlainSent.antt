@@ -2,6 +2,8 @@
 use Rattle.std.proofs.Common.{◌≡◌, ℕ, zero, suc, ◌+◌, ◌<◌, ◌≤◌, arith, List, [], ◌∷◌, ◌++◌, length, length-append, Bool, true, false, cond, refl, sym, ◌∙◌, ap, subst, inl, inr, ⊎_elim, Option, Some, Result}
 use Rattle.std.specs.Prelude.{◌⊎◌, slice_get}
 use Rattle.std.proofs.lemmas.Bool.{cases_lt}
+use Rattle.std.proofs.lemmas.List.{append-nil}
+use Rattle.sms_base.proofs.Lists.{among_parts}
 use Rattle.sms_base.specs.Among.{Among}
 use Rattle.sms_base.specs.declared.carried.Carried.{Carried as Carries}
 use Rattle.sms_base.specs.declared.holder.Holder.TheVariants.{Entry}
@@ -76,10 +78,6 @@ moved : (some others : List WorldEvent) (e : WorldEvent) → some ++ e ∷ other
 moved [] others e = refl
 moved (x ∷ some) others e = ap (λ (z : List WorldEvent). x ∷ z) (moved some others e)
 
-no_more : (some : List WorldEvent) → some ++ [] ≡ some
-no_more [] = refl
-no_more (x ∷ some) = ap (λ (z : List WorldEvent). x ∷ z) (no_more some)
-
 next_place : (some : List WorldEvent) (e : WorldEvent) → (1 + length some) + 1 ≡ 1 + length (some ++ e ∷ [])
 next_place some e = let l : length (some ++ e ∷ []) ≡ length some + 1 = length-append some (e ∷ []) in omega (arith, l)
 
@@ -138,13 +136,6 @@ one_of h x (o ∷ os) i = ⊎_elim
     (λ (j : Among x (outbox_lines h os)). let r = one_of h x os j in (r.0, (inr r.1.0, r.1.1)))
     i
 
-either_row : (x : OutboxRow) (xs ys : List OutboxRow) → Among x (xs ++ ys) → Among x xs ⊎ Among x ys
-either_row x [] ys i = inr i
-either_row x (y ∷ xs) ys i = ⊎_elim
-    (λ (e : x ≡ y). inl (inl e))
-    (λ (j : Among x (xs ++ ys)). ⊎_elim (λ (k : Among x xs). inl (inr k)) (λ (k : Among x ys). inr k) (either_row x xs ys j))
-    i
-
 abbrev RowOf : OutboxRow → List Party → Type 0
 RowOf x ps = (q : Party) × (o : OutRow) × (Among q ps × Among o q.core.rows.outbox × (x ≡ record { handset = q.number; entry = o.number; state = entry_state o.state }))
 
@@ -153,7 +144,7 @@ row_of x [] i = absurd i
 row_of x (p ∷ ps) i = ⊎_elim
     (λ (j : Among x (outbox_lines p.number p.core.rows.outbox)). let r = one_of p.number x p.core.rows.outbox j in (p, r.0, (inl refl, r.1.0, r.1.1)))
     (λ (j : Among x (all_outbox_lines ps)). let r = row_of x ps j in (r.0, r.1, (inr r.2.0, r.2.1, r.2.2)))
-    (either_row x (outbox_lines p.number p.core.rows.outbox) (all_outbox_lines ps) i)
+    (among_parts x (outbox_lines p.number p.core.rows.outbox) (all_outbox_lines ps) i)
 
 -- no frame leaves the bag
 bag_stays : (w : World) (m : ℕ) (b : Bool) (ss : List Step) (x : Sent_frame) → Among x w.bag → Among x (end w (items m b ss)).bag
@@ -274,7 +265,7 @@ module _ (script : Script) (after : ℕ → Report) where
     all_stand : (es some others : List WorldEvent) (c d : PlayState) → script.events ≡ some ++ (es ++ others) → play_state_of script.setup some ≡ ok_play c → AllTimely (1 + length some) es c → Standing c
         → play_state_of script.setup (some ++ es) ≡ ok_play d → Standing d
     all_stand [] some others c d parts leads timely k q =
-        subst (λ (z : PlayState). Standing z) (same_play c d (sym leads ∙ ap (λ (es : List WorldEvent). play_state_of script.setup es) (sym (no_more some)) ∙ q)) k
+        subst (λ (z : PlayState). Standing z) (same_play c d (sym leads ∙ ap (λ (es : List WorldEvent). play_state_of script.setup es) (sym (append-nil some)) ∙ q)) k
     all_stand (e ∷ es) some others c d parts leads timely k q =
         let x : IsStep script after some e (es ++ others) = step_of script after typed reports some e (es ++ others) parts in
         let first : c ≡ x.first = same_play c x.first (sym leads ∙ x.leads) in
@@ -299,7 +290,7 @@ module _ (script : Script) (after : ℕ → Report) where
         let is : beginning script.setup ≡ start.0 = same_play (beginning script.setup) start.0 there.leads in
         let refines : PlayRefines (beginning script.setup) empty = begins script.setup there.can in
         let first : Standing (beginning script.setup) = (empty, (refines, (up_empty, none_answered IsTakenIn), none_tell (beginning script.setup) refines)) in
-        all_stand script.events [] [] (beginning script.setup) last (sym (no_more script.events)) (start.1.0 ∙ ap (λ (z : PlayState). ok_play z) (sym is)) timely first last_leads
+        all_stand script.events [] [] (beginning script.setup) last (sym (append-nil script.events)) (start.1.0 ∙ ap (λ (z : PlayState). ok_play z) (sym is)) timely first last_leads
 
     -- ---- a message has one event
 

@@ -18,7 +18,7 @@ use Rattle.sms_world.specs.headline.TypedEvents.{AreTyped}
 use Rattle.sms_world.specs.scripts_are_runs.Happening.{HandsOctets, IsGoodEvent}
 use Rattle.sms_world.specs.scripts_are_runs.PlayRefinement.{PlayRefines}
 use Rattle.sms_world_model.specs.World.{World}
-use Rattle.std.proofs.Common.{Err, List, Ok, Result, Some, [], ap, arith, length, refl, subst, suc, sym, zero, ℕ, ◌+◌, ◌++◌, ◌<◌, ◌∙◌, ◌∷◌, ◌≡◌}
+use Rattle.std.proofs.Common.{Err, List, Ok, Result, Some, [], ap, arith, length, refl, subst, suc, sym, zero, ℕ, ◌+◌, ◌++◌, ◌∙◌, ◌∷◌, ◌≡◌}
 use Rattle.std.proofs.lemmas.Bool.{cond-true}
 use Rattle.std.specs.Prelude.{slice_get}
 use Rattle.sms_world.proofs.scripts_are_runs.Runs.{unplayed}
@@ -42,17 +42,6 @@ parted_at (x ∷ xs) (suc n) e at =
 pub at_place : (some others : List WorldEvent) (e : WorldEvent) → slice_get (some ++ e ∷ others) (length some) ≡ Some e
 at_place [] others e = refl
 at_place (x ∷ some) others e = at_place some others e
-
-none_below : (n : ℕ) → n < 0 → ⊥
-none_below n l = omega (arith, l)
-
-one_less : (n k : ℕ) → suc n < suc k → n < k
-one_less n k l = omega (arith, l)
-
-pub one_at : (events : List WorldEvent) (n : ℕ) → n < length events → (e : WorldEvent) × (slice_get events n ≡ Some e)
-one_at [] n l = absurd (none_below n l)
-one_at (x ∷ xs) zero l = (x, refl)
-one_at (x ∷ xs) (suc n) l = one_at xs n (one_less n (length xs) l)
 
 one_longer : (some : List WorldEvent) (e : WorldEvent) → length (some ++ e ∷ []) ≡ suc (length some)
 one_longer [] e = refl

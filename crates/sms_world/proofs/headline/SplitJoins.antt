@@ -2,6 +2,7 @@
 use Rattle.std.proofs.Common.{◌≡◌, ℕ, zero, suc, ◌+◌, ◌*◌, ◌<◌, ◌≤◌, arith, inl, inr, List, [], ◌∷◌, ◌++◌, length, refl, sym, ◌∙◌, ap, subst, ⊎_elim, Option, Some, None}
 use Rattle.std.specs.Prelude.{◌==◌, slice_get}
 use Rattle.std.proofs.lemmas.Bool.{cases_eq, cond-false, cond-true, ne_eqb, eq-eqb}
+use Rattle.sms_base.proofs.Lists.{item_at}
 use Rattle.sms_base.specs.Among.{Among}
 use Rattle.sms_concat.specs.declared.content.Content.{Content}
 use Rattle.sms_concat.specs.declared.content.Part.{Part as PartOf}
@@ -20,7 +21,7 @@ use Rattle.sms_world_model.specs.Groups.{carried_by, parts_to, number_in}
 use Rattle.sms_world_model.specs.World.{Accepted, World}
 use Rattle.sms_world_model.proofs.Alike.{carried_alike, place_alike}
 use Rattle.sms_world_model.proofs.Keys.{for_is, number_placed}
-use Rattle.sms_world_model.proofs.Contents.{one_key_of, there as some_piece, piece_old, piece_new, length_new}
+use Rattle.sms_world_model.proofs.Contents.{one_key_of, piece_old, piece_new, length_new}
 use Rattle.sms_world.specs.headline.Claims.{pair_in_row, AreJoinedRounds, IsJoinedRound, IsLongMessage, JoinedWhole}
 use Rattle.sms_world.specs.scripts_are_runs.PlayRefinement.{PlayRefines}
 use Rattle.sms_world.specs.headline.SplitClaims.{IsSplitOf, IsSplitUnder, split_key, AllSaySplit, SaysSplit, SplitsJoined}
@@ -142,8 +143,8 @@ module _ (c : PlayState) (w : World) (s : PlayRefines c w) where
         let long = all.0 in
         let same : ps.0 ≡ of.pieces =
         same_pieces ps.0 of.pieces (long ∙ sym total) (λ i l.
-        let x = some_piece ps.0 i l in
-        let f = some_piece of.pieces i (omega (arith, l, long, total)) in
+        let x = item_at ps.0 i l in
+        let f = item_at of.pieces i (omega (arith, l, long, total)) in
         x.1 ∙ ap (λ (z : PartOf). Some z) (piece_is i x.0 f.0 (all.1 i (omega (arith, l, long)) ∙ x.1) f.1) ∙ sym f.1) in
         some_is is.joined.content content (sym ps.1.1 ∙ ap (λ (z : List PartOf). content_joined z) same ∙ split_joins content reference of.pieces of.split)
 

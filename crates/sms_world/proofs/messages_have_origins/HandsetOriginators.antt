@@ -3,6 +3,7 @@ use Rattle.std.proofs.Common.{◌≡◌, ℕ, ◌+◌, List, [], ◌∷◌, Opti
 use Rattle.std.specs.Prelude.{if◌then◌else◌, is_some, nat_le, not, ◌&&◌}
 use Rattle.std.specs.Option.{option_map}
 use Rattle.std.proofs.lemmas.Bool.{cond_both}
+use Rattle.std.proofs.lemmas.Option.{none-some}
 use Rattle.sms_base.specs.Among.{Among}
 use Rattle.sms_base.specs.declared.holder.Holder.{Holder}
 use Rattle.sms_base.specs.declared.originator.Originator.TheVariants.{Handset}
@@ -66,7 +67,6 @@ use Rattle.sms_centre_spec.proofs.SoundEvents.{begins}
 use Rattle.sms_centre_spec.proofs.Stages.{IfThere}
 use Rattle.sms_centre_spec.proofs.Steady.{IsStill, concluded_steady, due_now_steady}
 use Rattle.sms_world.specs.headline.SeenFrames.{frame_tpdu, unit_tpdu}
-use Rattle.sms_world.proofs.Options.{none_some}
 
 -- A SUBMIT of those octets asked for it: it has that handset's reference for originator, its address for source, and its wish.
 pub record IsAsked (tpdu : List ℕ) (m : MessageRow) : Type 0 where
@@ -200,14 +200,14 @@ module _ (side : Side) (w : Option Carried) (unit : List ℕ) where
       cond_both (has_begun t.identifier s.begun) (passes_up (acknowledgement t ∷ []) (UnitUp ToOriginator x) (record s { begun = None; last_answer = Some frame }))
       (if is_same frame s.last_answer then sends (acknowledgement t ∷ []) s else sends (rejection t ∷ []) s) (λ (z : Step). Opens z → ⊥)
       (λ b e. ended_up _ w unit e)
-      (λ b. cond_both (is_same frame s.last_answer) (sends (acknowledgement t ∷ []) s) (sends (rejection t ∷ []) s) (λ (z : Step). Opens z → ⊥) (λ c e. none_some (Opened unit) e) (λ c e. none_some (Opened unit) e))
+      (λ b. cond_both (is_same frame s.last_answer) (sends (acknowledgement t ∷ []) s) (sends (rejection t ∷ []) s) (λ (z : Step). Opens z → ⊥) (λ c e. none-some (Opened unit) e) (λ c e. none-some (Opened unit) e))
 
   opening_opens : (frame x : List ℕ) (t : Transaction) (s : LinkState) → Opens (opening_taken frame x t s) → x ≡ unit
   opening_opens frame x t s =
       let new : Step = passes_up (acknowledgement t ∷ []) (UnitUp FromOriginator x) (record s { opened = Some (record { identifier = t.identifier; opening = frame; answer = None }) }) in
       cond_both (is_same frame (opening_of s.opened)) (sends (acknowledgement t ∷ answer_frames s.opened) s) (if is_same frame s.last_opening then sends (acknowledgement t ∷ []) s else new) (λ (z : Step). Opens z → x ≡ unit)
-      (λ b e. absurd (none_some (Opened unit) e))
-      (λ b. cond_both (is_same frame s.last_opening) (sends (acknowledgement t ∷ []) s) new (λ (z : Step). Opens z → x ≡ unit) (λ c e. absurd (none_some (Opened unit) e)) (λ c e. same_unit x unit e))
+      (λ b e. absurd (none-some (Opened unit) e))
+      (λ b. cond_both (is_same frame s.last_opening) (sends (acknowledgement t ∷ []) s) new (λ (z : Step). Opens z → x ≡ unit) (λ c e. absurd (none-some (Opened unit) e)) (λ c e. same_unit x unit e))
 
   data_opens : (f : TransactionFlag) (frame x : List ℕ) (t : Transaction) (s : LinkState) → Opens (data_taken f frame x t s) → x ≡ unit
   data_opens ToOriginator frame x t s e = absurd (answer_opens frame x t s e)
@@ -215,21 +215,21 @@ module _ (side : Side) (w : Option Carried) (unit : List ℕ) where
 
   ack_opens : (f : TransactionFlag) (i : ℕ) (s : LinkState) → Opens (ack_taken f i s) → ⊥
   ack_opens ToOriginator i s =
-      cond_both (has_begun i s.begun) _ (quiet s) (λ (z : Step). Opens z → ⊥) (λ b e. none_some (Opened unit) e) (λ b e. none_some (Opened unit) e)
+      cond_both (has_begun i s.begun) _ (quiet s) (λ (z : Step). Opens z → ⊥) (λ b e. none-some (Opened unit) e) (λ b e. none-some (Opened unit) e)
   ack_opens FromOriginator i s =
-      cond_both (has_opened i s.opened && is_some (answer_of s.opened)) _ (quiet s) (λ (z : Step). Opens z → ⊥) (λ b e. none_some (Opened unit) e) (λ b e. none_some (Opened unit) e)
+      cond_both (has_opened i s.opened && is_some (answer_of s.opened)) _ (quiet s) (λ (z : Step). Opens z → ⊥) (λ b e. none-some (Opened unit) e) (λ b e. none-some (Opened unit) e)
 
   error_opens : (f : TransactionFlag) (i : ℕ) (s : LinkState) → Opens (error_taken f i s) → ⊥
   error_opens ToOriginator i s =
-      cond_both (has_begun i s.begun) (passes_up [] FailedUp (record s { begun = None })) (quiet s) (λ (z : Step). Opens z → ⊥) (λ b e. ended_up (λ x. Lost) w unit e) (λ b e. none_some (Opened unit) e)
+      cond_both (has_begun i s.begun) (passes_up [] FailedUp (record s { begun = None })) (quiet s) (λ (z : Step). Opens z → ⊥) (λ b e. ended_up (λ x. Lost) w unit e) (λ b e. none-some (Opened unit) e)
   error_opens FromOriginator i s =
-      cond_both (has_opened i s.opened) (quiet (record s { opened = None })) (quiet s) (λ (z : Step). Opens z → ⊥) (λ b e. none_some (Opened unit) e) (λ b e. none_some (Opened unit) e)
+      cond_both (has_opened i s.opened) (quiet (record s { opened = None })) (quiet s) (λ (z : Step). Opens z → ⊥) (λ b e. none-some (Opened unit) e) (λ b e. none-some (Opened unit) e)
 
   frame_opens : (frame : List ℕ) (s : LinkState) (r : Result Cp CpFault) → Opens (frame_taken frame s r) → frame_tpdu r ≡ unit_tpdu (up_at unit)
   frame_opens frame s (Ok (CpData t x)) e = ap (λ (z : List ℕ). unit_tpdu (up_at z)) (data_opens t.flag frame x t s e)
   frame_opens frame s (Ok (CpAck t)) e = absurd (ack_opens t.flag t.identifier s e)
   frame_opens frame s (Ok (CpError t cause)) e = absurd (error_opens t.flag t.identifier s e)
-  frame_opens frame s (Err fault) e = absurd (none_some (Opened unit) e)
+  frame_opens frame s (Err fault) e = absurd (none-some (Opened unit) e)
 
   step_opens : (frame : List ℕ) (s : LinkState) → Opens (take_step frame s) → frame_tpdu (cp_at frame) ≡ unit_tpdu (up_at unit)
   unfolding take_step

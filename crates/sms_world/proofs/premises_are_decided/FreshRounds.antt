@@ -1,8 +1,8 @@
 -- A part may begin a round exactly where that is decided.
 use Rattle.std.proofs.Common.{◌≡◌, ◌⊎◌, ℕ, zero, suc, ◌≤◌, arith, List, [], ◌∷◌, Bool, true, false, cond, refl, sym, ◌∙◌, ap, subst, inl, inr, ⊎_elim, Option, Some, None}
-use Rattle.std.specs.Prelude.{◌==◌, ◌&&◌, ◌||◌}
+use Rattle.std.specs.Prelude.{◌==◌, ◌&&◌}
 use Rattle.std.specs.Str.{bytes_eq}
-use Rattle.std.proofs.lemmas.Bool.{and_from, and_parts, cases_Bool, cases_eq, cond-false, cond-true, eq-eqb, eqb-true}
+use Rattle.std.proofs.lemmas.Bool.{and_from, and_parts, cases_Bool, cases_eq, cond-false, cond-true, eq-eqb, eqb-true, or_cases, or_left, or_right}
 use Rattle.std.proofs.lemmas.Slice.Eq.{bytes_eq-Decides}
 use Rattle.sms_base.specs.Among.{Among}
 use Rattle.sms_play.specs.Premises.{all_arrived, are_fresh, has_arrived, has_pair, is_same_pair, may_begin, may_begin_at, may_begin_round}
@@ -15,26 +15,21 @@ use Rattle.sms_world_model.specs.Submission.{Submission}
 use Rattle.sms_world_model.specs.World.{Accepted, Allocation, pair_given}
 use Rattle.sms_world_model.proofs.Keys.{one_key, same_key}
 use Rattle.sms_play.proofs.judging.Members.{one_pair, pair_same}
-use Rattle.sms_player.proofs.heads.Beginnings.{or_first, or_second}
 
 -- ---- pairs
-
-either_is : (a b : Bool) → (a || b) ≡ true → (a ≡ true) ⊎ (b ≡ true)
-either_is true b e = inl refl
-either_is false b e = inr e
 
 has_it : (p : Accepted) (qs : List Accepted) → has_pair p qs ≡ true → Among p qs
 has_it p [] e = absurd cc
 has_it p (q ∷ qs) e = ⊎_elim
     (λ (t : is_same_pair p q ≡ true). inl (pair_same p q t))
     (λ (t : has_pair p qs ≡ true). inr (has_it p qs t))
-    (either_is (is_same_pair p q) (has_pair p qs) e)
+    (or_cases (is_same_pair p q) (has_pair p qs) e)
 
 it_has : (p : Accepted) (qs : List Accepted) → Among p qs → has_pair p qs ≡ true
 it_has p [] i = absurd i
 it_has p (q ∷ qs) i = ⊎_elim
-    (λ (e : p ≡ q). or_first (is_same_pair p q) (has_pair p qs) (ap (λ (z : Accepted). is_same_pair p z) (sym e) ∙ one_pair p))
-    (λ (m : Among p qs). or_second (is_same_pair p q) (has_pair p qs) (it_has p qs m)) i
+    (λ (e : p ≡ q). or_left (is_same_pair p q) (has_pair p qs) (ap (λ (z : Accepted). is_same_pair p z) (sym e) ∙ one_pair p))
+    (λ (m : Among p qs). or_right (is_same_pair p q) (has_pair p qs) (it_has p qs m)) i
 
 -- ---- which parts arrived
 
@@ -48,15 +43,15 @@ arrived_is n (p ∷ ps) accepted e = ⊎_elim
     let x = and_parts (number_in p == n) (has_pair p accepted) t in
     (p, (inl refl, eqb-true (number_in p) n x.0, has_it p accepted x.1)))
     (λ (t : has_arrived n ps accepted ≡ true). let x = arrived_is n ps accepted t in (x.0, (inr x.1.0, x.1.1, x.1.2)))
-    (either_is ((number_in p == n) && has_pair p accepted) (has_arrived n ps accepted) e)
+    (or_cases ((number_in p == n) && has_pair p accepted) (has_arrived n ps accepted) e)
 
 is_arrived : (n : ℕ) (ps accepted : List Accepted) → Arrived n ps accepted → has_arrived n ps accepted ≡ true
 is_arrived n [] accepted (q, i) = absurd i.0
 is_arrived n (p ∷ ps) accepted (q, i) = ⊎_elim
     (λ (e : q ≡ p).
-    or_first ((number_in p == n) && has_pair p accepted) (has_arrived n ps accepted)
+    or_left ((number_in p == n) && has_pair p accepted) (has_arrived n ps accepted)
     (and_from (number_in p == n) (has_pair p accepted) (eq-eqb (number_in p) n (ap number_in (sym e) ∙ i.1)) (it_has p accepted (subst (λ (z : Accepted). Among z accepted) e i.2))))
-    (λ (m : Among q ps). or_second ((number_in p == n) && has_pair p accepted) (has_arrived n ps accepted) (is_arrived n ps accepted (q, (m, i.1, i.2)))) i.0
+    (λ (m : Among q ps). or_right ((number_in p == n) && has_pair p accepted) (has_arrived n ps accepted) (is_arrived n ps accepted (q, (m, i.1, i.2)))) i.0
 
 all_is : (total : ℕ) (ps accepted : List Accepted) → all_arrived total ps accepted ≡ true → AllArrived total ps accepted
 all_is zero ps accepted e n above under = absurd (omega arith)

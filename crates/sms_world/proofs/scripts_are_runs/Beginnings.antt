@@ -3,7 +3,7 @@ use Rattle.std.proofs.Common.{◌≡◌, ℕ, ◌<◌, ◌≤◌, arith, List, [
 use Rattle.std.specs.List.{list_all}
 use Rattle.std.specs.Prelude.{◌&&◌, nat_le, nat_lt, not}
 use Rattle.std.specs.Str.{bytes_eq}
-use Rattle.std.proofs.lemmas.Bool.{and_parts, leb-true, ltb-true}
+use Rattle.std.proofs.lemmas.Bool.{and_parts, leb-true, ltb-true, or_left, or_right}
 use Rattle.std.proofs.lemmas.Slice.Eq.{bytes_eq-Decides}
 use Rattle.sms_base.specs.Address.{IsAddress}
 use Rattle.sms_base.specs.Among.{Among}
@@ -32,7 +32,7 @@ use Rattle.sms_world.specs.scripts_are_runs.PlayRefinement.{OwnAllocations, Part
 use Rattle.sms_world.proofs.scripts_are_runs.CentreMeets.{can_come}
 use Rattle.sms_world.proofs.handset_runs_are_steps.Runs.{recovered_sound}
 use Rattle.sms_player.specs.heads.Heads.{party_of}
-use Rattle.sms_player.proofs.heads.Beginnings.{all_digits, not_both, or_first, or_second, moment_is}
+use Rattle.sms_player.proofs.heads.Beginnings.{all_digits, not_both, moment_is}
 
 -- ---- numbers
 
@@ -105,8 +105,8 @@ module _ (s : Setup) (centre : IsNumber s.centre) where
   number_had : (n : List ℕ) (hs : List HandsetSetup) → Among n (numbers_of (parties_of s hs)) → has_handset n hs ≡ true
   number_had n [] i = absurd i
   number_had n (h ∷ hs) i = ⊎_elim
-      (λ (q : n ≡ h.number). or_first (bytes_eq h.number n) (has_handset n hs) ((bytes_eq-Decides h.number n).1 (sym q)))
-      (λ (j : Among n (numbers_of (parties_of s hs))). or_second (bytes_eq h.number n) (has_handset n hs) (number_had n hs j))
+      (λ (q : n ≡ h.number). or_left (bytes_eq h.number n) (has_handset n hs) ((bytes_eq-Decides h.number n).1 (sym q)))
+      (λ (j : Among n (numbers_of (parties_of s hs))). or_right (bytes_eq h.number n) (has_handset n hs) (number_had n hs j))
       i
 
   numbers_apart : (hs : List HandsetSetup) → are_handsets hs ≡ true → AreDifferent (numbers_of (parties_of s hs))

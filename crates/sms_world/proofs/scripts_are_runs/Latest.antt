@@ -2,7 +2,7 @@
 use Rattle.std.proofs.Common.{◌≡◌, ℕ, List, [], ◌∷◌, ◌++◌, Bool, true, false, cond, refl, sym, ◌∙◌, ap, inl, inr, ⊎_elim, Option, Some, None}
 use Rattle.std.specs.Prelude.{◌==◌, ◌&&◌}
 use Rattle.std.specs.Str.{bytes_eq}
-use Rattle.std.proofs.lemmas.Bool.{and_from, and_parts, both_ways, cases_Bool, cond-false, cond-true, eq-eqb, eqb-true}
+use Rattle.std.proofs.lemmas.Bool.{and_from, and_parts, and_right, both_ways, cases_Bool, cond-false, cond-true, eq-eqb, eqb-true}
 use Rattle.std.proofs.lemmas.Slice.Eq.{bytes_eq-Decides}
 use Rattle.sms_base.specs.Among.{Among}
 use Rattle.sms_base.specs.declared.holder.Holder.{Holder}
@@ -255,12 +255,8 @@ abbrev pub AllUp : List GivenRow → Type 0
 AllUp [] = Unit {0}
 AllUp (g ∷ gs) = (is_same_side g.direction Down ≡ false) × IsOfHandset g.holder × AllUp gs
 
-never : (a b : Bool) → b ≡ false → (a && b) ≡ false
-never true b e = e
-never false b e = refl
-
 not_of : (h : List ℕ) (r : ℕ) (g : GivenRow) → is_same_side g.direction Down ≡ false → is_of_reference h Down r g ≡ false
-not_of h r g e = never (bytes_eq g.handset h) (is_same_side g.direction Down && (g.reference == r)) (ap (λ (z : Bool). z && (g.reference == r)) e)
+not_of h r g e = and_right (bytes_eq g.handset h) (is_same_side g.direction Down && (g.reference == r)) (ap (λ (z : Bool). z && (g.reference == r)) e)
 
 still_last : (h : List ℕ) (r : ℕ) (o : Option Holder) (gs : List GivenRow) → AllUp gs → last_holder o h Down r gs ≡ o
 still_last h r o [] all = refl

@@ -2,6 +2,8 @@
 use Rattle.std.proofs.Common.{◌≡◌, ℕ, ◌+◌, List, [], ◌∷◌, ◌++◌, true, false, refl, sym, ◌∙◌, ap, subst, inl, inr, ⊎_elim, Option, Some, None}
 use Rattle.std.specs.Prelude.{◌==◌, nat_le}
 use Rattle.std.proofs.lemmas.Bool.{cases_eq, cond_both}
+use Rattle.std.proofs.lemmas.Option.{none-some}
+use Rattle.sms_base.proofs.Lists.{among_end}
 use Rattle.sms_base.specs.Among.{Among}
 use Rattle.sms_base.specs.declared.final_state.FinalState.{FinalState}
 use Rattle.sms_base.specs.declared.final_state.FinalState.TheVariants.{Delivered}
@@ -47,8 +49,7 @@ use Rattle.sms_centre_spec.proofs.AcceptedConsistent.{then_there}
 use Rattle.sms_centre_spec.proofs.StagesConsistent.{next_is_new}
 use Rattle.sms_centre_spec.proofs.Steady.{IsSteady, message_own}
 use Rattle.sms_centre_spec.proofs.SteadyEvents.{steady_event}
-use Rattle.sms_world.proofs.scripts_are_runs.Growing.{among_last}
-use Rattle.sms_world.proofs.Options.{some_is, none_some}
+use Rattle.sms_world.proofs.Options.{some_is}
 use Rattle.sms_world.proofs.scripts_are_runs.PartsInOrder.{both_there}
 
 -- each report that came was of a message that had none, over the rows that those behind it led to
@@ -235,14 +236,14 @@ WasMade id kind news = (r : ReportRow) × (Among (Put r) news × (r.id ≡ id) �
 
 before_amend : (id n : ℕ) (p : Progress) (q : ReportRow) (news : List (Revision ReportRow)) (rs : List ReportRow) → report_of id (amended report_key report_reaching n p (rows news rs)) ≡ Some q
     → ((s : ReportRow) → report_of id (rows news rs) ≡ Some s → WasMade id s.kind news) → (o : Option ReportRow) → report_of id (rows news rs) ≡ o → WasMade id q.kind (Amend n p ∷ news)
-before_amend id n p q news rs at made None e = absurd (none_some q (sym (far_none id n p (rows news rs) e) ∙ at))
+before_amend id n p q news rs at made None e = absurd (none-some q (sym (far_none id n p (rows news rs) e) ∙ at))
 before_amend id n p q news rs at made (Some s) e =
     let y = made s e in
     let same : so_far n p s ≡ q = some_is (so_far n p s) q (sym (far_of id n p (rows news rs) s e) ∙ at) in
     (y.0, (inr y.1.0, y.1.1, y.1.2 ∙ sym (far_kind n p s) ∙ ap (λ (z : ReportRow). z.kind) same))
 
 pub new_report_put : (id : ℕ) (q : ReportRow) (news : List (Revision ReportRow)) (rs : List ReportRow) → ReportsMove news rs → report_of id rs ≡ None → report_of id (rows news rs) ≡ Some q → WasMade id q.kind news
-new_report_put id q [] rs moves none at = absurd (none_some q (sym none ∙ at))
+new_report_put id q [] rs moves none at = absurd (none-some q (sym none ∙ at))
 new_report_put id q (Put x ∷ news) rs moves none at = ⊎_elim
     (λ (e : x.id ≡ id).
     let same : x ≡ q = some_is x q (sym (new_report x (rows news rs) moves.0) ∙ ap (λ (k : ℕ). report_of k (put report_key x (rows news rs))) e ∙ at) in
@@ -273,4 +274,4 @@ committed x (y ∷ news) i = ⊎_elim
 
 pub came : (x : Revision ReportRow) (news : List (Revision ReportRow)) → Among x (oldest_first news) → Among x news
 came x [] i = absurd i
-came x (y ∷ news) i = ⊎_elim (λ (j : Among x (oldest_first news)). inr (came x news j)) (λ (e : x ≡ y). inl e) (among_last x y (oldest_first news) i)
+came x (y ∷ news) i = ⊎_elim (λ (j : Among x (oldest_first news)). inr (came x news j)) (λ (e : x ≡ y). inl e) (among_end x y (oldest_first news) i)

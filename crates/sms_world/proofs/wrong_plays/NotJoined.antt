@@ -1,5 +1,6 @@
 -- A text that was joined where nothing was accepted.
 use Rattle.std.proofs.Common.{◌≡◌, ℕ, zero, suc, List, [], ◌∷◌, refl, sym, ◌∙◌, ap, inl, Option, Some, None}
+use Rattle.std.proofs.lemmas.Option.{none-some}
 use Rattle.sms_concat.specs.declared.content.Content.{Content}
 use Rattle.sms_handset_draft.specs.Draft.{recovered as handset_recovered}
 use Rattle.sms_handset_draft.specs.FirstRows.{first_rows}
@@ -9,7 +10,6 @@ use Rattle.sms_world.specs.headline.Claims.{AreJoinedRounds, IsJoinedFrom}
 use Rattle.sms_world.specs.wrong_plays.Plays.{joined, of_handset, setup}
 use Rattle.sms_world.specs.wrong_plays.Told.{JoinedOfNoneLaw, SplitOfNoneLaw}
 use Rattle.sms_world.specs.wrong_reports.Literals.{handset, joined_row}
-use Rattle.sms_world.proofs.Options.{none_some}
 use Rattle.sms_concat.specs.declared.content.Part.{Part as PartOf}
 use Rattle.sms_world_model.specs.Place.{joined_parts, with_part}
 use Rattle.sms_world_model.specs.Groups.{joined_content, parts_to}
@@ -20,9 +20,9 @@ play = joined (joined_row ∷ [])
 
 -- of no parts nothing is joined
 nothing_joins : (total : ℕ) (content : Content) → joined_content total [] ≡ Some content → ⊥
-nothing_joins zero content e = none_some content e
-nothing_joins (suc zero) content e = none_some content e
-nothing_joins (suc (suc n)) content e = none_some content (sym (none n) ∙ e)
+nothing_joins zero content e = none-some content e
+nothing_joins (suc zero) content e = none-some content e
+nothing_joins (suc (suc n)) content e = none-some content (sym (none n) ∙ e)
   where
     no_parts : (n : ℕ) → parts_to (suc n) [] ≡ None
     no_parts zero = refl
