@@ -4,6 +4,7 @@ use Rattle.std.specs.Prelude.{⊤, nat_lt}
 use Rattle.std.proofs.lemmas.Bool.{cases_Bool, cond-false, cond-true, cond_both}
 use Rattle.std.proofs.lemmas.Option.{none-some}
 use Rattle.std.proofs.lemmas.Slice.Eq.{bytes_eq-Decides}
+use Rattle.sms_base.proofs.Lists.{among_parts}
 use Rattle.sms_base.specs.Among.{Among}
 use Rattle.smpp_pdu.specs.declared.status.CommandStatus.{CommandStatus}
 use Rattle.smpp_pdu.specs.declared.status.CommandStatus.TheVariants.{ESME_RSYSERR}
@@ -44,7 +45,7 @@ use Rattle.smsc_service.specs.declared.asking.SeatRequest.{SeatRequest}
 use Rattle.smsc_service.specs.declared.asking.SeatRequest.TheVariants.{Event, Nothing, Taken, Forget, Enrol}
 use Rattle.smsc_service.specs.declared.seat_map.LinkSeat.{LinkSeat}
 use Rattle.smsc_server.specs.FramesGiven.{GoToHandsets, IsLinked, IsOfHandset, StaysUp, frame_for}
-use Rattle.smsc_server.proofs.RunKept.{among_parts, between}
+use Rattle.smsc_server.proofs.RunKept.{between}
 
 -- ---- a frame among what is given
 

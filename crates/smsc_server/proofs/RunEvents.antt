@@ -1,8 +1,8 @@
 -- What the items of a run ask are events of a centre.
-use Rattle.std.proofs.Common.{◌≡◌, ◌<◌, ◌≤◌, ◌||◌, ◌⊎◌, arith, inl, inr, ⊎_elim, ℕ, zero, suc, Bool, true, false, true≢false, not, List, [], ◌∷◌, ◌++◌, length, Option, Some, None, Result, Ok, Err, if◌then◌else◌, refl, sym, subst}
+use Rattle.std.proofs.Common.{◌≡◌, ◌<◌, ◌≤◌, ◌||◌, ◌⊎◌, arith, inl, inr, ⊎_elim, ℕ, zero, suc, true, false, not, List, [], ◌∷◌, ◌++◌, length, Option, Some, None, Result, Ok, Err, if◌then◌else◌, refl, sym, subst}
 use Rattle.std.specs.Prelude.{nat_eq, nat_lt}
 use Rattle.std.specs.List.{AllByRecursion, list_all}
-use Rattle.std.proofs.lemmas.Bool.{and_parts, cond_both}
+use Rattle.std.proofs.lemmas.Bool.{and_parts, cond_both, not-true}
 use Rattle.sms_base.specs.Among.{Among}
 use Rattle.sms_base.specs.Reading.{AreOctets}
 use Rattle.sms_base.specs.SemiOctet.{is_digit}
@@ -37,14 +37,6 @@ AreShort links = (l : LinkSeat) → Among l links → length l.handset ≤ 20
 
 -- ---- numbers
 
-not_false : (a : Bool) → not a ≡ false → a ≡ true
-not_false true e = refl
-not_false false e = absurd (true≢false e)
-
-not_true : (a : Bool) → not a ≡ true → a ≡ false
-not_true true e = absurd (true≢false (sym e))
-not_true false e = refl
-
 some_there : (n : ℕ) → nat_eq n 0 ≡ false → 0 < n
 some_there zero e = absurd cc
 some_there (suc n) e = omega arith
@@ -66,7 +58,7 @@ number_is digits some few all = record {
 pub number_of : (number : List ℕ) → length number ≤ 20 → is_number number ≡ true → IsNumber number
 number_of number few e =
     let p = and_parts (not (nat_eq (length number) 0)) (list_all is_digit number) e in
-    number_is number (some_there (length number) (not_true (nat_eq (length number) 0) p.0)) few p.1
+    number_is number (some_there (length number) (not-true (nat_eq (length number) 0) p.0)) few p.1
 
 -- ---- requests
 

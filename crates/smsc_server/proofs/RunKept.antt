@@ -1,7 +1,8 @@
 -- A run of the centre keeps its promises.
-use Rattle.std.proofs.Common.{◌≡◌, ◌≤◌, ◌||◌, ◌⊎◌, inl, inr, ⊎_elim, ℕ, Bool, true, false, true≢false, not, List, [], ◌∷◌, ◌++◌, length, slice_get, Option, Some, None, if◌then◌else◌, refl, sym, ap, subst, ◌∙◌, bytes_eq}
-use Rattle.std.proofs.lemmas.Bool.{both_ways, cases_Bool, cond-false, cond-true, cond_both}
+use Rattle.std.proofs.Common.{◌≡◌, ◌≤◌, ◌||◌, ◌⊎◌, inl, inr, ⊎_elim, ℕ, Bool, true, false, not, List, [], ◌∷◌, ◌++◌, length, slice_get, Option, Some, None, if◌then◌else◌, refl, sym, ap, subst, ◌∙◌, bytes_eq}
+use Rattle.std.proofs.lemmas.Bool.{both_ways, cases_Bool, cond-false, cond-true, cond_both, not-false, or_parts}
 use Rattle.std.proofs.lemmas.Slice.Eq.{bytes_eq-Decides}
+use Rattle.sms_base.proofs.Lists.{among_parts}
 use Rattle.sms_centre_rows.specs.waiting.SoundAllocations.{IsNumber}
 use Rattle.sms_base.specs.Among.{Among}
 use Rattle.sms_base.specs.declared.final_state.FinalState.{FinalState}
@@ -93,22 +94,14 @@ not_among n (k ∷ ns) e there = ⊎_elim
     there)
     (cases_Bool (bytes_eq k n))
 
-or_false : (a b : Bool) → (a || b) ≡ false → (a ≡ false) × (b ≡ false)
-or_false true b e = absurd (true≢false e)
-or_false false b e = (refl, e)
-
-not_false : (a : Bool) → not a ≡ false → a ≡ true
-not_false true e = refl
-not_false false e = absurd (true≢false e)
-
 abbrev AreApart : List (List ℕ) → Type 0
 AreApart numbers = AreNumbers numbers × AreDifferent numbers
 
 number_apart : (number : List ℕ) (numbers : List (List ℕ)) → length number ≤ 20 → AreApart numbers → AreApart (with_number number numbers)
 number_apart number numbers few h =
     cond_both (not (is_number number) || is_among number numbers) numbers (numbers ++ number ∷ []) AreApart (λ t. h)
-    (λ t. let p = or_false (not (is_number number)) (is_among number numbers) t in (
-      numbers_snoc numbers number h.0 (number_of number few (not_false (is_number number) p.0)),
+    (λ t. let p = or_parts (not (is_number number)) (is_among number numbers) t in (
+      numbers_snoc numbers number h.0 (number_of number few (not-false (is_number number) p.0)),
       apart_snoc numbers number h.1 (not_among number numbers p.1),
     ))
 
@@ -229,11 +222,6 @@ history_more [] e s m h outs =
 history_more (x ∷ one) e s m h outs = (h.0, history_more one e (after s x.stimulus x.fate) m h.1 outs)
 
 -- ---- receipts
-
-pub among_parts : {A : Type 0} (x : A) (xs ys : List A) → Among x (xs ++ ys) → Among x xs ⊎ Among x ys
-among_parts x [] ys there = inr there
-among_parts x (z ∷ zs) ys (inl e) = inl (inl e)
-among_parts x (z ∷ zs) ys (inr there) = ⊎_elim (λ (h : Among x zs). inl (inr h)) (λ (h : Among x ys). inr h) (among_parts x zs ys there)
 
 module _ (seat : ℕ) (end : Final) where
   pub no_answer : (asker : ℕ) (o : Option CentreAnswer) → Among (receipt_for seat end) (answer_out asker o) → ⊥

@@ -2,6 +2,7 @@
 use Rattle.std.proofs.Common.{◌≡◌, ◌==◌, ◌+◌, ◌∙◌, ℕ, zero, suc, Bool, true, false, List, [], ◌∷◌, ◌++◌, length, map, Option, if◌then◌else◌, refl, sym, ap, subst, append_assoc, zero-add, arith}
 use Rattle.std.specs.Prelude.{⊤}
 use Rattle.std.proofs.lemmas.List.{map-append}
+use Rattle.sms_base.proofs.Lists.{no_items}
 use Rattle.sms_centre_spec.specs.declared.answer.CentreAnswer.{CentreAnswer}
 use Rattle.sms_centre_spec.specs.declared.jobs.job.Job.{Job}
 use Rattle.sms_centre_spec.specs.declared.jobs.reply.Reply.{Reply}
@@ -47,15 +48,8 @@ answers_count (Receipt end ∷ l) = answers_count l
 answers_count (Frame octets ∷ l) = answers_count l
 answers_count (Taken ∷ l) = answers_count l
 
-suc_zero : (n : ℕ) → suc n ≡ 0 → ⊥
-suc_zero n e = omega (arith, e)
-
 zero_suc : (n : ℕ) → 0 ≡ suc n → ⊥
 zero_suc n e = omega (arith, e)
-
-none_there : {A : Type 0} (l : List A) → length l ≡ 0 → l ≡ []
-none_there [] e = refl
-none_there (x ∷ l) e = absurd (suc_zero (length l) e)
 
 -- ---- one item
 
@@ -81,8 +75,8 @@ asked_at job answers false is e = refl
 answered_at : (job : Job) (answers : List CentreAnswer) (at is : Bool) → length answers ≡ one_if at is
     → map answered_in (if at then (if is then map (exchange job) answers else []) else []) ≡ answers
 answered_at job answers true true e = one_answered job answers
-answered_at job answers true false e = sym (none_there answers e)
-answered_at job answers false is e = sym (none_there answers e)
+answered_at job answers true false e = sym (no_items answers e)
+answered_at job answers false is e = sym (no_items answers e)
 
 requests_if : (job : Job) (at : Bool) → (if at then (if is_request job then job ∷ [] else []) else []) ≡ requests_among (if at then job ∷ [] else [])
 requests_if job true = refl
@@ -93,8 +87,8 @@ exchanged_at n (JobOf seat job) answers e = record {
   asked = asked_at job answers (n == seat) (is_request job) e ∙ requests_if job (n == seat);
   answered = answered_at job answers (n == seat) (is_request job) e;
 }
-exchanged_at n (Tick now) answers e = record { asked = refl; answered = sym (none_there answers e) }
-exchanged_at n (Own errand) answers e = record { asked = refl; answered = sym (none_there answers e) }
+exchanged_at n (Tick now) answers e = record { asked = refl; answered = sym (no_items answers e) }
+exchanged_at n (Own errand) answers e = record { asked = refl; answered = sym (no_items answers e) }
 
 -- ---- a part of the history
 
