@@ -1,6 +1,7 @@
 -- What is offered to one handset.
 use Rattle.std.proofs.Common.{◌≡◌, ℕ, List, [], ◌∷◌, ◌++◌, Bool, true, false, Option, Some, None, Result, Ok, Err, refl, sym, ◌∙◌, ap, subst, cond, inl, inr, ⊎_elim}
 use Rattle.std.proofs.lemmas.Bool.{cond_both}
+use Rattle.sms_base.proofs.Lists.{among_front}
 use Rattle.sms_base.specs.Among.{Among}
 use Rattle.sms_rows.specs.keep.Refusing.{with_answer, with_read}
 use Rattle.sms_rows.specs.declared.keep.refusals.Refusals.{Refusals}
@@ -63,10 +64,6 @@ pub next_among : (handset : List ℕ) (l : QueuedPart) (d : Draft) → next_for 
 next_among handset l d e = next_by (is_ready (line_of handset d.links.lines)) d.store.moment l (waiting_in handset d.store) e
 
 -- ---- what is read
-
-among_front : {A : Type 0} (x : A) (xs ys : List A) → Among x xs → Among x (xs ++ ys)
-among_front x [] ys among = absurd among
-among_front x (z ∷ xs) ys among = ⊎_elim (λ (e : x ≡ z). inl e) (λ (a : Among x xs). inr (among_front x xs ys a)) among
 
 among_last : {A : Type 0} (x : A) (xs : List A) → Among x (xs ++ x ∷ [])
 among_last x [] = inl refl

@@ -3,7 +3,7 @@ use Rattle.std.proofs.Common.{◌≡◌, ℕ, ◌≤◌, List, [], ◌∷◌, Bo
 use Rattle.std.specs.Prelude.{◌==◌, ◌||◌, is_some, not}
 use Rattle.std.specs.Str.{bytes_eq}
 use Rattle.std.specs.Option.{option_map}
-use Rattle.std.proofs.lemmas.Bool.{and_parts, cases_eq, cond-true, cond-false, cond_both, eqb-false, eqb-true, ne_eqb}
+use Rattle.std.proofs.lemmas.Bool.{and_parts, cases_eq, cond-true, cond-false, cond_both, eqb-false, eqb-true, ne_eqb, or_parts}
 use Rattle.sms_base.specs.Among.{Among}
 use Rattle.sms_base.specs.declared.originator.Originator.{Originator}
 use Rattle.sms_base.specs.declared.originator.Originator.TheVariants.{Application, Handset}
@@ -162,17 +162,13 @@ report_made_is l s is =
 
 -- ---- what it did not make stands in the store
 
-or_none : (a b : Bool) → (a || b) ≡ false → (a ≡ false) × (b ≡ false)
-or_none true b e = absurd cc
-or_none false b e = (refl, e)
-
 abbrev IsPartRow : ℕ → List ℕ → PartRow → Type 0
 IsPartRow key tpdu p = (part_key p ≡ key) × (p.tpdu ≡ tpdu)
 
 parts_unput : (key : ℕ) (tpdu : List ℕ) (news : List (Revision PartRow)) → puts_part key news ≡ false → PutsNone (IsPartRow key tpdu) news
 parts_unput key tpdu [] e = tt
 parts_unput key tpdu (Put p ∷ news) e =
-    let both = or_none (part_key p == key) (puts_part key news) e in
+    let both = or_parts (part_key p == key) (puts_part key news) e in
     (λ (is : IsPartRow key tpdu p). eqb-false (part_key p) key both.0 is.0, parts_unput key tpdu news both.1)
 parts_unput key tpdu (Amend n progress ∷ news) e = parts_unput key tpdu news e
 parts_unput key tpdu (Remove n ∷ news) e = parts_unput key tpdu news e
@@ -183,7 +179,7 @@ IsReportRow id kind r = (r.id ≡ id) × (r.kind ≡ kind)
 reports_unput : (id : ℕ) (kind : ReportKind) (news : List (Revision ReportRow)) → puts_report id news ≡ false → PutsNone (IsReportRow id kind) news
 reports_unput id kind [] e = tt
 reports_unput id kind (Put r ∷ news) e =
-    let both = or_none (r.id == id) (puts_report id news) e in
+    let both = or_parts (r.id == id) (puts_report id news) e in
     (λ (is : IsReportRow id kind r). eqb-false r.id id both.0 is.0, reports_unput id kind news both.1)
 reports_unput id kind (Amend n progress ∷ news) e = reports_unput id kind news e
 reports_unput id kind (Remove n ∷ news) e = reports_unput id kind news e
