@@ -2,6 +2,7 @@
 use Rattle.std.proofs.Common.{◌≡◌, ◌⊎◌, ℕ, ◌+◌, List, [], ◌∷◌, Bool, true, false, Option, Some, None, refl, sym, ◌∙◌, ap, subst, ⊎_elim}
 use Rattle.std.specs.Prelude.{nat_le, not}
 use Rattle.std.proofs.lemmas.Bool.{and_from, and_parts, cases_eq, cond_both}
+use Rattle.std.proofs.lemmas.Option.{same_Some}
 use Rattle.sms_base.specs.declared.final_state.FinalState.{FinalState}
 use Rattle.sms_base.specs.declared.final_state.FinalState.TheVariants.{Delivered}
 use Rattle.sms_base.specs.declared.originator.Originator.{Originator}
@@ -102,9 +103,6 @@ module _ (Q : List ReportRow → Type 0) (f : FinalState) (m : MessageRow) where
       let e : Store = with_message (ended f s.moment m) s in
       cond_both (is_wished m.wish f) (report_to m.originator f m e) e (λ (x : Store). Q (reports_in x)) (λ t. told_makes m.originator e makes) (λ t. k)
 
-one_message : (a b : MessageRow) → Some a ≡ Some b → a ≡ b
-one_message a b e = cc
-
 no_report : (m : MessageRow) (s : Store) → IsConsistent s → message_at m.id (messages_in s) ≡ Some m → is_pending m ≡ true → report_of m.id (reports_in s) ≡ None
 no_report m s k there pending = by (report_of m.id (reports_in s)) refl where
   by : (o : Option ReportRow) → report_of m.id (reports_in s) ≡ o → report_of m.id (reports_in s) ≡ None
@@ -112,7 +110,7 @@ no_report m s k there pending = by (report_of m.id (reports_in s)) refl where
   by (Some r) e =
       let at = report_found m.id r (reports_in s) e in
       let of = k.reports r at.0 in
-      let same : of.0 ≡ m = one_message of.0 m (sym of.1.0 ∙ ap (λ (i : ℕ). message_at i (messages_in s)) at.1 ∙ there) in
+      let same : of.0 ≡ m = same_Some of.0 m (sym of.1.0 ∙ ap (λ (i : ℕ). message_at i (messages_in s)) at.1 ∙ there) in
       let bad : false ≡ true = sym of.1.1 ∙ ap (λ (x : MessageRow). is_pending x) same ∙ pending in absurd cc
 
 put_stays : (base rows : List ReportRow) (r : ReportRow) → Rises report_key rows → Alone rows → r.place ≡ next_place rows → report_of r.id rows ≡ None → Stay base rows → Stay base (put report_key r rows)
@@ -133,9 +131,6 @@ end_stays base f m s k there pending stay =
 
 -- ---- a report is so far
 
-one_report : (a b : ReportRow) → Some a ≡ Some b → a ≡ b
-one_report a b e = cc
-
 open_still : (r : ReportRow) (q : Progress) → is_open_receipt r ≡ true → (q.is_done ≡ r.progress.is_done) ⊎ (is_open_status r ≡ true) → is_open_receipt (report_reaching q r) ≡ true
 open_still r q is how =
     let kind = and_parts (is_receipt r.kind) (not r.progress.is_done) is in
@@ -152,7 +147,7 @@ far_stays base rows r q keys there how k = record {
       let x = k.stays id b e is in
       ⊎_elim
       (λ (f : r.id ≡ id).
-      let same : x.0 ≡ r = one_report x.0 r (sym x.1.0 ∙ ap (λ (i : ℕ). report_of i rows) (sym f) ∙ there) in (
+      let same : x.0 ≡ r = same_Some x.0 r (sym x.1.0 ∙ ap (λ (i : ℕ). report_of i rows) (sym f) ∙ there) in (
         report_reaching q r,
         (
           ap (λ (i : ℕ). report_of i (amended report_key report_reaching (report_key r) q rows)) (sym f) ∙ amended_own r q rows there,

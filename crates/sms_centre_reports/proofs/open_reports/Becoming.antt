@@ -3,6 +3,7 @@ use Rattle.std.proofs.Common.{◌≡◌, ℕ, ◌+◌, ◌<◌, List, [], ◌∷
 use Rattle.std.specs.Option.{option_map}
 use Rattle.std.specs.Prelude.{◌==◌, if◌then◌else◌}
 use Rattle.std.proofs.lemmas.Bool.{cases_eq, cond-true, cond-false, ne_eqb}
+use Rattle.std.proofs.lemmas.Option.{same_Some}
 use Rattle.sms_base.specs.Among.{Among}
 use Rattle.sms_rows.specs.table.Table.{AllAbove, Rises, insert, put, row_at, without}
 use Rattle.sms_rows.proofs.table.Tables.{among_found, found_among, found_key, insert_behind, rises_put, row_at_put, row_at_put_other, without_behind}
@@ -111,9 +112,6 @@ keeps q x = refl
 pub placed : (r : ReportRow) (rs : List ReportRow) → Rises report_key rs → report_of r.id rs ≡ Some r → row_at report_key r.place rs ≡ Some r
 placed r rs h e = among_found report_key r rs h (report_found r.id r rs e).0
 
-same_row : (a b : ReportRow) → Some a ≡ Some b → a ≡ b
-same_row a b e = cc
-
 pub became_far : (r : ReportRow) (q : Progress) (rs : List ReportRow) → Rises report_key rs → Alone rs → report_of r.id rs ≡ Some r
     → Became rs (amended report_key report_reaching (report_key r) q rs) (report_reaching q r)
 became_far r q rs h alone e = record {
@@ -123,7 +121,7 @@ became_far r q rs h alone e = record {
   others = λ id ne. amended_other id r q rs h e ne;
   at = row_at_amended report_key report_reaching keeps r.place q rs ∙ ap (λ (o : Option ReportRow). option_map (report_reaching q) o) (placed r rs h e);
   elsewhere = λ n ne. row_at_amended_other report_key report_reaching keeps n r.place q rs ne;
-  was = λ b f. let same : r ≡ b = same_row r b (sym (placed r rs h e) ∙ f) in (ap (λ (x : ReportRow). x.id) (sym same), ap (λ (x : ReportRow). x.kind) (sym same));
+  was = λ b f. let same : r ≡ b = same_Some r b (sym (placed r rs h e) ∙ f) in (ap (λ (x : ReportRow). x.id) (sym same), ap (λ (x : ReportRow). x.kind) (sym same));
 }
 
 -- ---- a report that comes last
