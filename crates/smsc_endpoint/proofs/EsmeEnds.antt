@@ -1,5 +1,6 @@
 -- An application's session at a seat after its end.
 use Rattle.std.proofs.Common.{◌≡◌, ◌&&◌, ℕ, ◌-◌, zero, suc, Bool, true, false, cond, leb, List, [], ◌∷◌, ◌++◌, length, drop, Option, Some, None, refl, sym, ap, ◌∙◌, append-nil}
+use Rattle.sms_base.proofs.Bools.{and_false}
 use Rattle.smpp_pdu.specs.declared.status.CommandStatus.TheVariants.{ESME_RTHROTTLED}
 use Rattle.smpp_session.specs.declared.action.Action.{Action}
 use Rattle.smpp_session.specs.declared.calling.Call.{Call}
@@ -107,15 +108,11 @@ answer_mute answer e closed =
 abbrev pub StaysClosed : Type 0
 StaysClosed = (session : SessionView) (before : List Action) (calls : List Call) → session.conversation.state ≡ Closed → ((ran (session, before) calls).0.conversation.state ≡ Closed) × ((ran (session, before) calls).1 ≡ before)
 
-never : (b : Bool) → b && false ≡ false
-never true = refl
-never false = refl
-
 no_acts : (e : EsmeView) (f : SessionView × List Action) → e.session.conversation.state ≡ Closed → f.1 ≡ [] → actions_of e f ≡ []
 no_acts e f state none =
     let lost : is_bind_lost e.session.conversation.state f.1 f.0.conversation.state ≡ false =
     ap (λ (s : SessionState). is_bind_lost s f.1 f.0.conversation.state) state
-    ∙ (ap (λ (actions : List Action). is_bind_lost Closed actions f.0.conversation.state) none ∙ never (is_deaf f.0.conversation.state)) in
+    ∙ (ap (λ (actions : List Action). is_bind_lost Closed actions f.0.conversation.state) none ∙ and_false (is_deaf f.0.conversation.state)) in
     ap (λ (b : Bool). f.1 ++ lost_bind b) lost ∙ (append-nil f.1 ∙ none)
 
 taken_closed : (stays : StaysClosed) (octets : List ℕ) (e : EsmeView) → e.session.conversation.state ≡ Closed

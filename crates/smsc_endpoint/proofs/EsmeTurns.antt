@@ -4,6 +4,7 @@ use Rattle.std.proofs.lemmas.Bool.{lt-ltb}
 use Rattle.std.proofs.lemmas.List.{append_cancel_left, map-append}
 use Rattle.std.specs.List.{AllByRecursion}
 use Rattle.std.specs.Prelude.{slice_get, slice_set}
+use Rattle.sms_base.proofs.Lists.{all_append}
 use Rattle.smpp_pdu.specs.declared.header.Header.{Header}
 use Rattle.smpp_pdu.specs.declared.status.CommandStatus.TheVariants.{ESME_RTHROTTLED}
 use Rattle.smpp_session.specs.declared.account.Account.{Account}
@@ -100,10 +101,6 @@ throttled_by false x others h = tt
 all_throttled : (xs : List PendingRequest) → AllByRecursion IsThrottledAnswer (throttled_among xs)
 all_throttled [] = tt
 all_throttled (x ∷ xs) = throttled_by (was_back x) x (throttled_among xs) (all_throttled xs)
-
-all_append : {A : Type 0} (P : A → Type 0) (xs ys : List A) → AllByRecursion P xs → AllByRecursion P ys → AllByRecursion P (xs ++ ys)
-all_append P [] ys h g = g
-all_append P (x ∷ xs) ys h g = (h.0, all_append P xs ys h.1 g)
 
 -- ---- how many requests there are
 
