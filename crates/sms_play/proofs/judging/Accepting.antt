@@ -3,6 +3,7 @@ use Rattle.std.proofs.Common.{◌≡◌, ℕ, zero, suc, ◌<◌, ◌≤◌, ari
 use Rattle.std.specs.Prelude.{◌||◌, if◌then◌else◌, slice_index}
 use Rattle.std.proofs.lemmas.List.{get_or_past}
 use Rattle.std.proofs.lemmas.Bool.{cases_eq, cond-false, cond-true, eq-eqb, ne_eqb}
+use Rattle.sms_base.proofs.Bools.{or_turned}
 use Rattle.sms_play.specs.PlayState.{Party}
 use Rattle.sms_play.specs.Premises.{all_pairs, has_pair, is_same_pair, pairs_of}
 use Rattle.sms_script.specs.declared.report.rows.AcceptedRow.{AcceptedRow}
@@ -19,12 +20,6 @@ use Rattle.sms_play.proofs.judging.Looking.{dropped, none_below, one_less}
 or_joined : (a b c : Bool) → ((a || b) || c) ≡ (a || (b || c))
 or_joined true b c = refl
 or_joined false b c = refl
-
-or_turned : (a b c : Bool) → (a || (b || c)) ≡ (b || (a || c))
-or_turned true true c = refl
-or_turned true false c = refl
-or_turned false true c = refl
-or_turned false false c = refl
 
 or_behind : (r s h : Bool) → (r || (s || h)) ≡ ((r || (s || false)) || h)
 or_behind true s h = refl
