@@ -23,6 +23,7 @@ use Rattle.sms_centre_messages.specs.message_index.MessageIndex.{MessageIndexOf,
 use Rattle.sms_centre_messages.proofs.message_index.Entries.{same_key}
 use Rattle.sms_centre_messages.proofs.message_index.IndexRepresents.{next_none, next_some}
 use Rattle.std.proofs.lemmas.Option.{slice_get_within}
+use Rattle.sms_base.proofs.Bools.{same_bool}
 
 -- ---- from a number on
 
@@ -121,11 +122,6 @@ own_found m (suc n) k es l e = ⊎_elim
     let less : k < n = omega (arith, q) in
     or_right (is_own_wide m (row_at entry_key (pair_key m.id (suc n)) es)) (own_wide_to m n es) (own_found m n k es less e))
     (cases_eq k n)
-
-same_bool : (a b : Bool) → (a ≡ true → b ≡ true) → (b ≡ true → a ≡ true) → a ≡ b
-same_bool true b f g = sym (f refl)
-same_bool false true f g = g refl
-same_bool false false f g = refl
 
 -- one of those numbers is there
 record Own (m : MessageRow) (n : ℕ) (es : List PartEntry) : Type 0 where

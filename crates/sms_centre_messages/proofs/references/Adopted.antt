@@ -8,7 +8,8 @@ use Rattle.indexmap.specs.IndexMap.{IndexMap, insert_all, insert_entry, spare}
 use Rattle.indexmap.proofs.MapLemmas.{absent_before, absent_from_lookup, insert_entry-absent}
 use Rattle.sms_rows.specs.declared.table.change.Change.{Change}
 use Rattle.sms_rows.specs.declared.table.change.Change.TheVariants.{Put}
-use Rattle.std.proofs.lemmas.List.{at_drop_all, drop_more}
+use Rattle.std.proofs.lemmas.List.{at_drop_all}
+use Rattle.sms_base.proofs.Lists.{drop_item}
 use Rattle.sms_rows.specs.table.Table.{Rises, all_applied, applied, left_by, newest_of}
 use Rattle.sms_rows.proofs.table.Tables.{rises_applied, rises_put, row_at_all_applied}
 use Rattle.sms_centre_rows.proofs.waiting.Amending.{rises_amended}
@@ -108,9 +109,6 @@ less_room n p a b k less few room = record {
   pending = let l = room.pending in omega (arith, less, l);
 }
 
-next_of : {A : Type 0} (xs : List A) (i : ℕ) (x : A) → i < length xs → x ≡ get_or xs i x → drop i xs ≡ x ∷ drop (i + 1) xs
-next_of xs i x l is = drop_more xs i x l ∙ ap (λ y. y ∷ drop (i + 1) xs) (sym is)
-
 -- ---- one of changes that only take out
 
 removals_left : (i : ℕ) (cs : List (Change MessageRow)) → AreRemovals cs → AreRemovals (drop i cs)
@@ -119,7 +117,7 @@ removals_left (suc i) [] r = r
 removals_left (suc i) (c ∷ cs) r = removals_left i cs r.1
 
 pub removal_at : (cs : List (Change MessageRow)) (i : ℕ) (c : Change MessageRow) → i < length cs → c ≡ get_or cs i c → AreRemovals cs → IsRemoval c
-removal_at cs i c l is r = (subst (λ (x : List (Change MessageRow)). AreRemovals x) (next_of cs i c l is) (removals_left i cs r)).0
+removal_at cs i c l is r = (subst (λ (x : List (Change MessageRow)). AreRemovals x) (drop_item cs i c l is) (removals_left i cs r)).0
 
 part_removals_left : (i : ℕ) (rs : List (Revision PartRow)) → ArePartRemovals rs → ArePartRemovals (drop i rs)
 part_removals_left zero rs r = r
@@ -127,7 +125,7 @@ part_removals_left (suc i) [] r = r
 part_removals_left (suc i) (c ∷ rs) r = part_removals_left i rs r.1
 
 pub part_removal_at : (rs : List (Revision PartRow)) (i : ℕ) (c : Revision PartRow) → i < length rs → c ≡ get_or rs i c → ArePartRemovals rs → IsPartRemoval c
-part_removal_at rs i c l is r = (subst (λ (x : List (Revision PartRow)). ArePartRemovals x) (next_of rs i c l is) (part_removals_left i rs r)).0
+part_removal_at rs i c l is r = (subst (λ (x : List (Revision PartRow)). ArePartRemovals x) (drop_item rs i c l is) (part_removals_left i rs r)).0
 
 -- so far the changes lead from these messages to those
 pub LeadsTo : List (Change MessageRow) → ℕ → ReferenceIndexOf → List MessageRow → List PartRow → Type 0
@@ -143,7 +141,7 @@ pub leads_on : (messages : List (Change MessageRow)) (i : ℕ) (change : Change 
     → LeadsTo messages i old ms ps → LeadsTo messages (i + 1) new ms ps
 unfolding LeadsTo
 leads_on messages i change old new ms ps l is step so_far =
-    let next : drop i messages ≡ change ∷ drop (i + 1) messages = next_of messages i change l is in
+    let next : drop i messages ≡ change ∷ drop (i + 1) messages = drop_item messages i change l is in
     let moves : AreMoves (change ∷ drop (i + 1) messages) so_far.0 ps = subst (λ (cs : List (Change MessageRow)). AreMoves cs so_far.0 ps) next so_far.1.1.1.0 in (
       applied message_key change so_far.0,
       (
@@ -182,7 +180,7 @@ pub parts_on : (messages : List (Change MessageRow)) (parts : List (Revision Par
     → PartsLeadTo messages parts i old ms ps → PartsLeadTo messages parts (i + 1) new ms ps
 unfolding PartsLeadTo
 parts_on messages parts i r old new ms ps l is step so_far =
-    let next : drop i parts ≡ r ∷ drop (i + 1) parts = next_of parts i r l is in
+    let next : drop i parts ≡ r ∷ drop (i + 1) parts = drop_item parts i r l is in
     let moves : ArePartMoves messages (r ∷ drop (i + 1) parts) ms so_far.0 = subst (λ (rs : List (Revision PartRow)). ArePartMoves messages rs ms so_far.0) next so_far.1.1.1.0 in (
       revised part_key part_reaching r so_far.0,
       (
