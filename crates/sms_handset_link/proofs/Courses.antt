@@ -1,15 +1,14 @@
 -- Parts of a run, one after the other.
-use Rattle.std.proofs.Common.{◌≡◌, ◌⊎◌, inl, inr, ℕ, suc, ◌+◌, ◌-◌, ◌^◌, ◌<◌, ◌≤◌, arith, length, length-append, drop, get_or, List, [], ◌∷◌, ◌++◌, map, Option, Some, None, Result, Ok, Err, refl, sym, ap, subst, ◌∙◌, append_assoc}
+use Rattle.std.proofs.Common.{◌≡◌, ◌⊎◌, inl, inr, ℕ, ◌+◌, ◌-◌, ◌^◌, ◌<◌, ◌≤◌, arith, length, length-append, List, [], ◌∷◌, ◌++◌, map, Option, Some, None, Result, Ok, Err, refl, sym, ap, subst, ◌∙◌, append_assoc}
 use Rattle.std.proofs.lemmas.Bool.Decides.{leb_tells}
 use Rattle.std.proofs.lemmas.List.{append-nil}
-use Rattle.std.proofs.Math.Seq.{drop-cons}
 use Rattle.std.specs.Prelude.{OnOk}
 use Rattle.std.specs.Io.KnownBytes.{Appends, Consumes}
+use Rattle.sms_base.proofs.Lists.{no_items}
 use Rattle.sms_link.specs.framing.Framing.{framed, front_of, joined}
 use Rattle.sms_handset_draft.specs.Draft.{Core}
 use Rattle.sms_handset.specs.declared.event.HandsetEvent.{HandsetEvent}
 use Rattle.sms_handset.specs.declared.event.HandsetEvent.TheVariants.{Tick}
-use Rattle.sms_script.specs.declared.owner.act.OwnersAct.{OwnersAct}
 use Rattle.sms_handset_link.specs.Run.{Follows, Meets, Sends, received}
 use Rattle.sms_handset_link.specs.Turns.{AreTimed, Attended, Cut, EndsQuiet, LeavesFor, LeavesNone, Turn, events_in, frames_in, octets_in}
 
@@ -215,15 +214,11 @@ module _ (reads : ℕ → Type 0) where
 
 -- ---- a read that brought nothing
 
-no_octets : (octets : List ℕ) → length octets ≡ 0 → octets ≡ []
-no_octets [] e = refl
-no_octets (x ∷ octets) e = absurd (omega (arith, e))
-
 pub nothing_read : (before after octets : List ℕ) → after ≡ before ++ octets → after ≡ before → octets ≡ []
 nothing_read before after octets p q =
     let all : length after ≡ length before + length octets = ap (λ (l : List ℕ). length l) p ∙ length-append before octets in
     let same : length after ≡ length before = ap (λ (l : List ℕ). length l) q in
-    no_octets octets (omega (arith, all, same))
+    no_items octets (omega (arith, all, same))
 
 pub closed_leaves : (most met left : ℕ) (octets next : List ℕ) → octets ≡ [] → met + left ≡ most → (0 < left → front_of next ≡ Ok None) → LeavesFor most met octets next 0
 closed_leaves most met left octets next none all front = elim (leb_tells 1 left) [
@@ -234,10 +229,3 @@ closed_leaves most met left octets next none all front = elim (leb_tells 1 left)
 pub on_ok : {P Q E : Type 0} (r : Result (Unit {0}) E) → OnOk r P → (P → Q) → OnOk r Q
 on_ok (Ok done) p f = f p
 on_ok (Err e) p f = tt
-
--- the act at a place, and those behind it
-pub act_at : (acts : List OwnersAct) (i : ℕ) (act : OwnersAct) → i < length acts → act ≡ get_or acts i act → drop i acts ≡ act ∷ drop (i + 1) acts
-act_at acts i act within is =
-    let next : suc i ≡ i + 1 = omega arith in
-    drop-cons acts i act within
-    ∙ (ap (λ (a : OwnersAct). a ∷ drop (suc i) acts) (sym is) ∙ ap (λ (n : ℕ). act ∷ drop n acts) next)
