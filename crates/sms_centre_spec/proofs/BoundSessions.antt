@@ -1,7 +1,9 @@
 -- Which sessions a centre has behind an event, and to which of them the receipts of its messages go.
-use Rattle.std.proofs.Common.{◌≡◌, ℕ, List, [], ◌∷◌, ◌++◌, length, Bool, true, Option, Some, None, Result, Ok, Err, refl, sym, ◌∙◌, ap, subst, inl, inr, ⊎_elim}
+use Rattle.std.proofs.Common.{◌≡◌, ℕ, List, [], ◌∷◌, ◌++◌, length, Bool, true, Option, Some, None, Result, Ok, Err, refl, sym, ◌∙◌, ap, subst, ⊎_elim}
 use Rattle.std.specs.Prelude.{◌⊎◌, ◌&&◌, if◌then◌else◌, nat_lt}
 use Rattle.std.proofs.lemmas.Bool.{and_parts, cases_eq, cond_both}
+use Rattle.std.proofs.lemmas.Option.{same_Some}
+use Rattle.sms_base.proofs.Lists.{among_end}
 use Rattle.sms_base.specs.Among.{Among}
 use Rattle.sms_base.specs.declared.carried.Carried.{Carried}
 use Rattle.sms_base.specs.declared.final_state.FinalState.TheVariants.{Deleted}
@@ -100,9 +102,6 @@ pub record Sends (messages : List MessageRow) (R : ℕ → List ℕ → Bool →
   pub held : Each R bindings.sessions
   pub each : (x : Delivery) → Among x bindings.deliveries → Goes messages bindings.sessions x
 
-same_session : (a b : Session) → Some a ≡ Some b → a ≡ b
-same_session a b e = cc
-
 -- the session that is chosen
 record IsChosen (m : MessageRow) (s : Session) (ss : List Session) : Type 0 where
   among : Among s ss
@@ -114,13 +113,6 @@ chosen m s ss e =
     let f = fewest_found (receives_for m) s ss e in
     let both = and_parts s.receives (is_account s.account m.originator) f.1 in
     record { among = f.0; receives = both.0; account = both.1 }
-
-among_end : (x y : Delivery) (xs : List Delivery) → Among x (xs ++ y ∷ []) → Among x xs ⊎ (x ≡ y)
-among_end x y [] i = ⊎_elim (λ (e : x ≡ y). inr e) (λ (none : ⊥). absurd none) i
-among_end x y (z ∷ zs) i = ⊎_elim
-    (λ (e : x ≡ z). inl (inl e))
-    (λ (j : Among x (zs ++ y ∷ [])). ⊎_elim (λ (k : Among x zs). inl (inr k)) (λ (e : x ≡ y). inr e) (among_end x y zs j))
-    i
 
 module _ (messages : List MessageRow) (R : ℕ → List ℕ → Bool → Type 0) where
   sends_in : (id : ℕ) (m : MessageRow) (s : Session) (bindings : Bindings) → Sends messages R bindings → message_at id messages ≡ Some m → IsChosen m s bindings.sessions → Sends messages R (send_in id s bindings)
@@ -139,7 +131,7 @@ module _ (messages : List MessageRow) (R : ℕ → List ℕ → Bool → Type 0)
             ⊎_elim
             (λ (e : g.session.number ≡ s.number).
             let same : g.session ≡ s =
-            same_session g.session s (sym (among_found session_key g.session bindings.sessions k.keys g.bound) ∙ ap (λ (n : ℕ). row_at session_key n bindings.sessions) e ∙ among_found session_key s bindings.sessions k.keys is.among) in
+            same_Some g.session s (sym (among_found session_key g.session bindings.sessions k.keys g.bound) ∙ ap (λ (n : ℕ). row_at session_key n bindings.sessions) e ∙ among_found session_key s bindings.sessions k.keys is.among) in
             let found : Goes messages sessions x = record {
               message = g.message;
               there = g.there;

@@ -1,9 +1,10 @@
 -- The lines of a centre and its sessions stay sound over rows that stand, whatever a stage does to them.
-use Rattle.std.proofs.Common.{◌≡◌, ℕ, List, [], ◌∷◌, ◌++◌, true, false, Option, Some, None, Result, Ok, Err, refl, sym, ◌∙◌, ap, subst, inl, inr, ⊎_elim}
+use Rattle.std.proofs.Common.{◌≡◌, ℕ, List, [], ◌∷◌, true, false, Option, Some, None, Result, Ok, Err, refl, sym, ◌∙◌, ap, subst, inl, inr, ⊎_elim}
 use Rattle.std.specs.Prelude.{◌⊎◌, ◌==◌}
 use Rattle.std.specs.Str.{bytes_eq}
 use Rattle.std.proofs.lemmas.Bool.{cases_Bool, cond-false, cond-true, cond_both}
 use Rattle.std.proofs.lemmas.Slice.Eq.{bytes_eq-Decides}
+use Rattle.sms_base.proofs.Lists.{among_parts}
 use Rattle.sms_base.specs.Among.{Among}
 use Rattle.sms_base.specs.declared.carried.Carried.{Carried}
 use Rattle.sms_base.specs.declared.carried.Kind.{Kind}
@@ -128,13 +129,6 @@ to_handset_among handset x (f ∷ fs) among = ⊎_elim
     (λ (a : Among x (to_handset handset fs)).
     let r = to_handset_among handset x fs a in
     let found : (g : Outgoing) × (Among g (f ∷ fs) × (x ≡ record { handset = handset; frame = g })) = (r.0, (inr r.1.0, r.1.1)) in found)
-    among
-
-among_parts : {A : Type 0} (x : A) (xs ys : List A) → Among x (xs ++ ys) → Among x xs ⊎ Among x ys
-among_parts x [] ys among = inr among
-among_parts x (z ∷ zs) ys among = ⊎_elim
-    (λ (e : x ≡ z). inl (inl e))
-    (λ (a : Among x (zs ++ ys)). ⊎_elim (λ (b : Among x zs). inl (inr b)) (λ (b : Among x ys). inr b) (among_parts x zs ys a))
     among
 
 pub turn_sound : (rows : Rows) (line : HandsetLink) (turn : Turn) (links : Links) → SoundLinks rows links → IsLine rows (turned turn line) → AllBring rows line.handset turn.out.frames → SoundLinks rows (turn_line line turn links)

@@ -1,5 +1,6 @@
 -- The TPDUs of parts and status reports are read as what they were made of, and are short.
 use Rattle.std.proofs.Common.{◌≡◌, ℕ, ◌+◌, ◌≤◌, List, [], ◌∷◌, ◌++◌, length, length-append, Option, refl, sym, ◌∙◌, ap, subst, arith}
+use Rattle.std.proofs.lemmas.List.{append-nil}
 use Rattle.sms_alphabet.specs.declared.scheme.Coding.{Coding}
 use Rattle.sms_alphabet.specs.declared.scheme.Coding.TheVariants.{Septets, Octets, Ucs2, Compressed}
 use Rattle.sms_alphabet.specs.DataCodingScheme.{coding_of}
@@ -68,17 +69,13 @@ part_reads id submitted moment split u b p now source body tpdu =
 
 -- ---- STATUS-REPORT
 
-append_none : (xs : List ℕ) → xs ++ [] ≡ xs
-append_none [] = refl
-append_none (x ∷ xs) = ap (λ (ys : List ℕ). x ∷ ys) (append_none xs)
-
 pub status_reads : (f : FinalState) (moment n : ℕ) (m w : MessageRow) → IsMoment moment → IsMoment m.submitted → IsNumber m.handset → m.originator ≡ Handset n → w.handset ≡ m.handset → w.submitted ≡ m.submitted
     → IsStatus n w moment (status_octets (final_of f moment m)) (status_report_of (final_of f moment m))
 status_reads f moment n m w now then number from handset submitted =
     let r : StatusReportOf = status_report_of (final_of f moment m) in
     let octets : List ℕ = status_octets (final_of f moment m) in
     let read = written_down_is_read InData octets (StatusReport r)
-    (stamp_of m.submitted, stamp_of moment, number, stamp_written m.submitted then, stamp_written moment now, tt, sym (append_none octets)) in
+    (stamp_of m.submitted, stamp_of moment, number, stamp_written m.submitted then, stamp_written moment now, tt, sym (append-nil octets)) in
     let to : List ℕ = address_field (own_address m.handset) in
     let front : length to ≤ 12 = field_short (own_address m.handset) number in
     let rest : List ℕ = stamp_of m.submitted ++ (stamp_of moment ++ (r.status ∷ [])) in

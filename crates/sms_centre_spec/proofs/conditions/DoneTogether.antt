@@ -3,6 +3,7 @@ use Rattle.std.proofs.Common.{◌≡◌, ℕ, ◌+◌, ◌<◌, ◌≤◌, List,
 use Rattle.std.specs.List.{list_all}
 use Rattle.std.specs.Prelude.{◌&&◌, ◌==◌, not, nat_lt}
 use Rattle.std.proofs.lemmas.Bool.{and_from, cases_Bool, cases_eq, cases_lt, cond-true, cond-false, le-ltb, lt-ltb, ne_eqb}
+use Rattle.sms_base.proofs.Bools.{same_bool}
 use Rattle.sms_base.specs.Among.{Among}
 use Rattle.sms_rows.specs.table.Keys.{pair_key}
 use Rattle.sms_rows.specs.table.Table.{Rises, rows_before, rows_from}
@@ -11,7 +12,7 @@ use Rattle.sms_centre_rows.specs.messages.Messages.{all_done, is_undone, part_ke
 use Rattle.sms_centre_spec.proofs.DoneMarks.{not_all_done}
 use Rattle.sms_centre_spec.proofs.SteadyTimes.{above_among}
 use Rattle.sms_centre_rows.specs.conditions.MessageTest.{is_done, parts_with}
-use Rattle.sms_centre_rows.proofs.conditions.Passing.{each_from, each_to, same_test}
+use Rattle.sms_centre_rows.proofs.conditions.Passing.{each_from, each_to}
 
 -- ---- rows between two keys
 
@@ -100,6 +101,6 @@ done_of id p ps e m own = ⊎_elim
     (cases_Bool p.progress.is_done)
 
 pub done_together : (id : ℕ) (ps : List PartRow) → Rises part_key ps → ((p : PartRow) → Among p ps → p.number < 256) → list_all is_done (parts_with id ps) ≡ all_done id ps
-done_together id ps rises short = same_test (list_all is_done (parts_with id ps)) (all_done id ps)
+done_together id ps rises short = same_bool (list_all is_done (parts_with id ps)) (all_done id ps)
     (λ e. all_done_to id ps (λ p m own. each_from is_done (parts_with id ps) e p (own_among id p ps rises m (short p m) own)))
     (λ e. each_to is_done (parts_with id ps) (λ p m. let a = among_own id p ps rises short m in done_of id p ps e a.0 a.1))

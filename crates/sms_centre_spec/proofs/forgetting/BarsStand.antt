@@ -2,6 +2,7 @@
 use Rattle.std.proofs.Common.{◌≡◌, ℕ, zero, suc, ◌+◌, ◌<◌, ◌%◌, List, [], ◌∷◌, ◌++◌, length, Bool, true, false, Option, Some, None, refl, sym, ◌∙◌, ap, subst, inl, inr, ⊎_elim, arith, append-nil}
 use Rattle.std.specs.Prelude.{◌⊎◌, ◌==◌, ◌&&◌, ◌||◌, not, min, if◌then◌else◌}
 use Rattle.std.proofs.lemmas.Bool.{cases_Bool, ne_eqb}
+use Rattle.sms_base.proofs.Bools.{or_assoc, or_turned}
 use Rattle.sms_base.specs.Among.{Among}
 use Rattle.sms_base.specs.declared.address.Address.{Address}
 use Rattle.sms_rows.specs.table.Table.{Rises}
@@ -31,23 +32,13 @@ alike_then xs ys zs a b = record { long = a.long ∙ b.long; among = λ r. a.amo
 alike_cons : (n : ℕ) (xs ys : List ℕ) → Alike xs ys → Alike (n ∷ xs) (n ∷ ys)
 alike_cons n xs ys a = record { long = let l : length xs ≡ length ys = a.long in omega (arith, l); among = λ r. ap (λ (b : Bool). (n == r) || b) (a.among r) }
 
-or_turn : (a b c : Bool) → (a || (b || c)) ≡ (b || (a || c))
-or_turn true true c = refl
-or_turn true false c = refl
-or_turn false b c = refl
-
 alike_first : (m n : ℕ) (xs : List ℕ) → Alike (m ∷ n ∷ xs) (n ∷ m ∷ xs)
-alike_first m n xs = record { long = refl; among = λ r. or_turn (m == r) (n == r) (is_among r xs) }
+alike_first m n xs = record { long = refl; among = λ r. or_turned (m == r) (n == r) (is_among r xs) }
 
 alike_middle : (xs : List ℕ) (n : ℕ) (ys : List ℕ) → Alike (xs ++ n ∷ ys) (n ∷ (xs ++ ys))
 alike_middle [] n ys = alike_same (n ∷ ys)
 alike_middle (x ∷ xs) n ys =
     alike_then (x ∷ (xs ++ n ∷ ys)) (x ∷ n ∷ (xs ++ ys)) (n ∷ x ∷ (xs ++ ys)) (alike_cons x (xs ++ n ∷ ys) (n ∷ (xs ++ ys)) (alike_middle xs n ys)) (alike_first x n (xs ++ ys))
-
--- what comes behind both lists
-or_left : (a b c : Bool) → (a || (b || c)) ≡ ((a || b) || c)
-or_left true b c = refl
-or_left false b c = refl
 
 alike_behind : (ls bs cs : List ℕ) → Alike ls bs → Alike (ls ++ cs) (bs ++ cs)
 alike_behind ls bs cs a = record { long = long; among = among }
@@ -58,7 +49,7 @@ alike_behind ls bs cs a = record { long = long; among = among }
 
     either : (r : ℕ) (xs : List ℕ) → is_among r (xs ++ cs) ≡ (is_among r xs || is_among r cs)
     either r [] = refl
-    either r (x ∷ xs) = ap (λ (b : Bool). (x == r) || b) (either r xs) ∙ or_left (x == r) (is_among r xs) (is_among r cs)
+    either r (x ∷ xs) = ap (λ (b : Bool). (x == r) || b) (either r xs) ∙ or_assoc (x == r) (is_among r xs) (is_among r cs)
 
     long : length (ls ++ cs) ≡ length (bs ++ cs)
     long = lengths ls ∙ ap (λ (k : ℕ). k + length cs) a.long ∙ sym (lengths bs)

@@ -6,7 +6,7 @@ use Rattle.std.proofs.lemmas.Slice.Eq.{bytes_eq-Decides}
 use Rattle.sms_base.specs.AddressKind.{type_number}
 use Rattle.sms_base.specs.declared.address.Address.{Address}
 use Rattle.sms_centre_spec.proofs.forgetting.Splits.{above}
-use Rattle.std.proofs.lemmas.Bool.{and_from, and_parts, cases_Bool, cases_eq, cond_both, eqb-true, leb-true, ltb-true, or_parts}
+use Rattle.std.proofs.lemmas.Bool.{and_from, and_parts, cases_Bool, cases_eq, cond_both, eqb-true, leb-true, ltb-true, not-true, or_parts}
 use Rattle.sms_base.specs.Among.{Among}
 use Rattle.sms_rows.specs.table.Table.{Rises, row_at, rows_from}
 use Rattle.sms_rows.proofs.table.Tables.{among_found, found_among, found_key}
@@ -173,10 +173,6 @@ ended_some m e = of m.state refl
     of None q = let bad : false ≡ true = sym (ap is_some q) ∙ e in absurd cc
     of (Some f) q = refl
 
-untrue : (b : Bool) → not b ≡ true → b ≡ false
-untrue true t = let bad : false ≡ true = t in absurd cc
-untrue false t = refl
-
 record Tests (rows : Rows) (m : MessageRow) : Type 0 where
   ended : is_some m.state ≡ true
   reported : is_reported rows.reports (report_of m.id rows.reports) ≡ true
@@ -193,7 +189,7 @@ tests before rows m e =
     let b = and_parts (is_reported rows.reports (report_of m.id rows.reports)) _ a.1 in
     let c = and_parts (leaves_split m rows.messages) (leaves_number m rows.messages) b.1 in
     let d = and_parts (nat_lt (m.id + 1) (next_id rows.messages)) (nat_le m.submitted (last_submitted 0 rows.messages)) c.1 in
-    let o = or_parts (has_own_wide m rows.parts) (is_some m.split_reference && not (is_delivered m.state)) (untrue (bars_reference m rows.parts) z.1) in
+    let o = or_parts (has_own_wide m rows.parts) (is_some m.split_reference && not (is_delivered m.state)) (not-true (bars_reference m rows.parts) z.1) in
     record {
       ended = (and_parts (is_some m.state) (is_before before m.done) a.0).0;
       reported = b.0;

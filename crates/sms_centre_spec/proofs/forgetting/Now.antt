@@ -1,7 +1,7 @@
 -- What goes now may be forgotten: no session has one's receipt unanswered, and nothing of one is under way.
 use Rattle.std.proofs.Common.{◌≡◌, ℕ, List, [], ◌∷◌, Bool, true, false, Option, Some, None, refl, sym, ◌∙◌, ap, subst, ⊎_elim, eq-eqb}
 use Rattle.std.specs.Prelude.{◌⊎◌, ◌==◌, ◌&&◌, ◌||◌, not}
-use Rattle.std.proofs.lemmas.Bool.{and_parts, cases_Bool, or_right}
+use Rattle.std.proofs.lemmas.Bool.{and_parts, cases_Bool, not-true, or_right}
 use Rattle.sms_base.specs.Among.{Among}
 use Rattle.sms_base.specs.declared.carried.Carried.{Carried}
 use Rattle.sms_base.specs.declared.holder.Holder.{Holder}
@@ -20,10 +20,6 @@ use Rattle.sms_centre_spec.proofs.forgetting.Begins.{begins}
 use Rattle.sms_centre_spec.proofs.forgetting.Going.{going_bare, going_given, going_may, gone_from, passes}
 use Rattle.sms_centre_spec.proofs.forgetting.Kept.{not_both}
 use Rattle.sms_centre_spec.proofs.forgetting.Removed.{forget_leaves}
-
-untrue : (b : Bool) → not b ≡ true → b ≡ false
-untrue true t = let bad : false ≡ true = t in absurd cc
-untrue false t = refl
 
 unanswered_there : (id : ℕ) (s : Session) (ss : List Session) → Among s ss → is_among id s.unanswered ≡ true → is_unanswered id ss ≡ true
 unanswered_there id s [] a e = absurd a
@@ -54,8 +50,8 @@ module _ (before from most : ℕ) (c : Core) (s : IsSoundCore c) where
       let a = and_parts (goes_bare before c.rows m) (not (is_unanswered m.id c.sessions) && not (is_on_way m.id c.lines)) f.passes in
       let b = and_parts (not (is_unanswered m.id c.sessions)) (not (is_on_way m.id c.lines)) a.1 in
       record {
-        answered = ap (λ (n : ℕ). is_unanswered n c.sessions) (sym f.own) ∙ untrue (is_unanswered m.id c.sessions) b.0;
-        away = ap (λ (n : ℕ). is_on_way n c.lines) (sym f.own) ∙ untrue (is_on_way m.id c.lines) b.1;
+        answered = ap (λ (n : ℕ). is_unanswered n c.sessions) (sym f.own) ∙ not-true (is_unanswered m.id c.sessions) b.0;
+        away = ap (λ (n : ℕ). is_on_way n c.lines) (sym f.own) ∙ not-true (is_on_way m.id c.lines) b.1;
       }
 
   bare : (m : MessageRow) → may_go_now before c m ≡ true → goes_bare before c.rows m ≡ true
