@@ -2,6 +2,8 @@
 use Rattle.std.proofs.Common.{◌≡◌, ℕ, zero, suc, ◌+◌, ◌<◌, List, [], ◌∷◌, ◌++◌, refl, sym, ◌∙◌, ap, subst, ⊎_elim, Option, Some, None, Result, Ok, Err, length, arith}
 use Rattle.std.specs.Prelude.{slice_get}
 use Rattle.std.proofs.lemmas.Bool.{cases_eq}
+use Rattle.std.proofs.lemmas.Option.{same_Some}
+use Rattle.sms_base.proofs.Lists.{item_at}
 use Rattle.sms_base.specs.declared.holder.Holder.TheVariants.{Part}
 use Rattle.sms_alphabet.specs.declared.unpacking.UnpackError.{UnpackError}
 use Rattle.sms_concat.specs.Splitting.{numbered}
@@ -99,11 +101,6 @@ part_key s part p e = at (part_in s.user_data_header_indicator s.data_coding_sch
 abbrev split_key : Submission → ℕ → Key
 split_key s reference = record { source = s.source; reference = SixteenBit reference; total = length s.parts }
 
-pub there : (ps : List PartOf) (i : ℕ) → i < length ps → (p : PartOf) × (slice_get ps i ≡ Some p)
-there [] i l = absurd (omega arith)
-there (x ∷ ps) zero l = (x, refl)
-there (x ∷ ps) (suc i) l = there ps i (omega arith)
-
 placed_part : (s : Submission) (content : Content) (reference total : ℕ) (xs : List (List ℕ)) (ps : List PartOf) → ps ≡ numbered content reference total 1 xs → length s.parts ≡ total → Carry s (length s.parts) ps
     → (n : ℕ) (part : UserData) → HasPart s n part → place_submitted s part ≡ Some (record { key = split_key s reference; number = n })
 placed_part s content reference total xs ps is size all zero part has = absurd (cc)
@@ -111,7 +108,7 @@ placed_part s content reference total xs ps is size all (suc i) part has =
     let within = part_within s.parts (suc i) part has in
     let long = all.0 in
     let l : i < length ps = omega (arith, within.1, long) in
-    let p = there ps i l in
+    let p = item_at ps i l in
     let mine : part_submitted s part ≡ Some p.0 = ap (λ (o : Option UserData). carried_of s o) (sym has) ∙ all.1 i (omega (arith, within.1)) ∙ p.1 in
     let key = numbered_key content reference total 1 xs i p.0 (ap (λ (qs : List PartOf). slice_get qs i) (sym is) ∙ p.1) in
     let number : 1 + i ≡ suc i = omega arith in
@@ -132,9 +129,6 @@ split_content s content reference x =
 
 -- ---- the claim
 
-one_content : (a b : Content) → Some a ≡ Some b → a ≡ b
-one_content a b e = cc
-
 pub one_key_of : (k l : Key) (a b : ℕ) (o : Option Place) → o ≡ Some (record { key = k; number = a }) → o ≡ Some (record { key = l; number = b }) → k ≡ l
 one_key_of k l a b o x y = same (record { key = k; number = a }) (record { key = l; number = b }) (sym x ∙ y)
   where
@@ -152,4 +146,4 @@ splits_joined w sound placed whole j i s st content reference is from at x a b =
     let here = among_of_key j.handset j.key x w.accepted ((within j.key.total (of_key j.handset j.key w.accepted)).1 j.group x (group_ended w placed j i) a) in
     let key : k ≡ j.key = one_key_of k j.key b.1 (number_in x) (place_in x.tpdu) his (for_is j.handset j.key x here.1).1 in
     let joined = whole j i s st is (subst (IsSplit s) key split) at x a b in
-    one_content j.content content (sym joined.1 ∙ split_content s content reference from)
+    same_Some j.content content (sym joined.1 ∙ split_content s content reference from)
