@@ -3,6 +3,7 @@ use Rattle.std.proofs.Common.{◌≡◌, ℕ, zero, suc, ◌<◌, ◌≤◌, Lis
 use Rattle.std.specs.Option.{option_map}
 use Rattle.std.specs.Prelude.{◌==◌, ◌&&◌, not}
 use Rattle.std.proofs.lemmas.Bool.{cases_eq, ne_eqb, and_parts, and_from}
+use Rattle.sms_base.proofs.Bools.{same_bool}
 use Rattle.sms_base.specs.Among.{Among}
 use Rattle.sms_rows.specs.declared.table.change.Change.TheVariants.{Put as PutRow}
 use Rattle.sms_rows.specs.table.Keys.{pair_key}
@@ -91,11 +92,6 @@ pub found_decides : (p : PartsOf) (t : Revised PartRow) (k : ℕ) → Represents
 found_decides p t k tells = ap (λ (es : List PartEntry). row_at entry_key k es) tells.entries ∙ entry_at k (rows_of part_key part_reaching t)
 
 -- ---- what is done
-
-same_bool : (a b : Bool) → (a ≡ true → b ≡ true) → (b ≡ true → a ≡ true) → a ≡ b
-same_bool true b f g = sym (f refl)
-same_bool false true f g = g refl
-same_bool false false f g = refl
 
 -- each one is done
 done_each : (id n k : ℕ) (es : List PartEntry) → done_to id n es ≡ true → 0 < k → k ≤ n → is_done_entry (row_at entry_key (pair_key id k) es) ≡ true
