@@ -4,6 +4,7 @@ use Rattle.std.specs.Prelude.{◌&&◌, IfOk}
 use Rattle.std.specs.Option.{option_map}
 use Rattle.std.specs.List.{AllByRecursion}
 use Rattle.std.proofs.lemmas.Bool.{cond-true, cond-false}
+use Rattle.sms_base.proofs.Lists.{among_back}
 use Rattle.sms_base.specs.Among.{Among}
 use Rattle.sms_base.specs.declared.holder.Holder.{Holder}
 use Rattle.sms_control.specs.declared.cause.CpCause.TheVariants.{InvalidTransactionIdentifier}
@@ -67,12 +68,8 @@ pub record Holds (before : List Outgoing) (l : LinkOf) : Type 0 where
 
 -- ---- while more is sent
 
-among_more : (f : Outgoing) (fs before : List Outgoing) → Among f before → Among f (fs ++ before)
-among_more f [] before m = m
-among_more f (g ∷ gs) before m = inr (among_more f gs before m)
-
 sent_more : (flag : TransactionFlag) (fs before : List Outgoing) (c : Option Carried) (frame : List ℕ) → WasSent flag before c frame → WasSent flag (fs ++ before) c frame
-sent_more flag fs before c frame h = record { carried = h.carried; carries = h.carries; first = among_more (first_sending frame h.carried) fs before h.first; reads = h.reads }
+sent_more flag fs before c frame h = record { carried = h.carried; carries = h.carries; first = among_back (first_sending frame h.carried) fs before h.first; reads = h.reads }
 
 begun_more : (fs before : List Outgoing) (c : Option Carried) (b : Option Begun) → HoldsBegun before c b → HoldsBegun (fs ++ before) c b
 begun_more fs before c None h = tt
