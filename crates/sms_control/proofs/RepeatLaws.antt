@@ -1,9 +1,8 @@
 -- A frame that opened a transaction does not come up again while it is remembered.
 use Rattle.std.proofs.Common.{◌≡◌, ℕ, Bool, true, false, ◌&&◌, cond, eqb, List, [], ◌∷◌, Result, Ok, Err, Option, Some, None, refl, sym, ap, subst, ◌∙◌, is_some, is_none}
 use Rattle.std.specs.Str.{bytes_eq}
-use Rattle.std.proofs.lemmas.Bool.{eqb-true, eq-eqb}
+use Rattle.std.proofs.lemmas.Bool.{eqb-true, eq-eqb, and_parts}
 use Rattle.std.proofs.lemmas.Slice.Eq.{bytes_eq-Decides}
-use Rattle.sms_base.proofs.Steps.{both}
 use Rattle.sms_control.specs.declared.fault.CpFault.{CpFault}
 use Rattle.sms_control.specs.declared.transaction.TransactionFlag.{TransactionFlag}
 use Rattle.sms_control.specs.declared.transaction.TransactionFlag.TheVariants.{FromOriginator, ToOriginator}
@@ -134,7 +133,7 @@ fits : (frame : List ℕ) (i n : ℕ) (b : Option Begun) (o : Option Opened) (a 
     → has_opened i o && is_some (answer_of o) ≡ true → IsAcknowledged (Take frame) (state_of n b o a p)
 fits frame i n b None a p r e = absurd cc
 fits frame i n b (Some o) a p r e =
-    let t = both (eqb i o.identifier) (is_some o.answer) e in
+    let t = and_parts (eqb i o.identifier) (is_some o.answer) e in
     let same : i ≡ o.identifier = eqb-true i o.identifier t.0 in
     (o.opening, record { transaction = o; present = refl; is_answered = t.1; is_ack = r ∙ ap (λ (k : ℕ). Ok (AckUnit (in_transaction FromOriginator k))) same; opened_it = refl })
 
