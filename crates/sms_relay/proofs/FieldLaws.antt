@@ -1,9 +1,9 @@
 -- The fields of a unit: what is read stands at the front, what was written is read again, and a cut field ends too early.
 use Rattle.std.proofs.Common.{◌≡◌, ℕ, zero, suc, ◌<◌, ◌≤◌, ◌⊎◌, inl, inr, Bool, true, false, not, ◌&&◌, ◌||◌, cond, eqb, ltb, List, [], ◌∷◌, ◌++◌, length, get_or, Ok, Option, Some, None, refl, sym, ap, subst, ◌∙◌, arith, lit<}
-use Rattle.std.proofs.lemmas.Bool.{ltb-true, ltb-false, eqb-true, lt-ltb, le-ltb}
+use Rattle.std.proofs.lemmas.Bool.{ltb-true, ltb-false, eqb-true, lt-ltb, le-ltb, and_parts, not-true}
 use Rattle.std.proofs.lemmas.List.{append-nil}
 use Rattle.sms_base.specs.Reading.{◌>>=◌, only_if, octet_in, run_in, AreOctets}
-use Rattle.sms_base.proofs.Steps.{bind_ok, passes, ok_is, both, not_true, octet_takes, run_takes, run_again}
+use Rattle.sms_base.proofs.Steps.{bind_ok, passes, ok_is, octet_takes, run_takes, run_again}
 use Rattle.sms_base.proofs.Cuts.{Less, CutsShort, cuts_octet, cuts_run, cuts_pure, cuts_bind, cuts_test}
 use Rattle.sms_relay.specs.declared.cause.RpCause.{RpCause}
 use Rattle.sms_relay.specs.declared.fault.RelayFault.{RelayFault}
@@ -65,8 +65,8 @@ centre_takes xs x e =
     let n = a.0.0 in
     let b = bind_ok (only_if (not (ltb n 2) && ltb n 12) BadLength) _ x a.2 in
     let t = run_takes Truncated n a.0.1 x b.2 in
-    let h = both (not (ltb n 2)) (ltb n 12) (passes _ BadLength b.0 b.1) in
-    let low : 2 ≤ n = ltb-false n 2 (not_true (ltb n 2) h.0) in
+    let h = and_parts (not (ltb n 2)) (ltb n 12) (passes _ BadLength b.0 b.1) in
+    let low : 2 ≤ n = ltb-false n 2 (not-true (ltb n 2) h.0) in
     let high : n < 12 = ltb-true n 12 h.1 in
     let whole : xs ≡ length x.0 ∷ (x.0 ++ x.1) = rw t.1 (octet_takes Truncated xs a.0 a.1 ∙ ap (λ (l : List ℕ). n ∷ l) t.0) in
     let is : length x.0 ≡ n = t.1 in
