@@ -8,6 +8,7 @@ use Rattle.std.proofs.Math.Nat.{one-le-pow}
 use Rattle.sms_base.specs.Reading.{◌>>=◌, only_if, octet_in, run_in}
 use Rattle.sms_base.proofs.Steps.{bind_ok, passes, ok_is, run_takes}
 use Rattle.sms_base.proofs.Cuts.{Less, CutsShort, cuts_octet, cuts_run, cuts_pure, cuts_bind, cuts_test}
+use Rattle.sms_base.proofs.Lists.{no_items}
 use Rattle.sms_base.specs.TimeStamp.{scts_in}
 use Rattle.sms_base.specs.AddressKind.{is_name}
 use Rattle.sms_base.specs.Alphabet.{text_in as characters_of}
@@ -227,10 +228,6 @@ tested_by o fill count false b c d ha hb hc e = absurd cc
 abbrev TestedOrShort : List ℕ → ℕ → ℕ → Type 0
 TestedOrShort o fill count = (tested o fill count ≡ Ok tt) ⊎ (tested o fill count ≡ Err TooShort)
 
-nothing : (r : List ℕ) → length r ≡ 0 → r ≡ []
-nothing [] e = refl
-nothing (x ∷ r) e = absurd (omega arith)
-
 front_tested_by : (o r : List ℕ) (fill count : ℕ) (b : Bool) → ltb (length o) (packed_len fill count) ≡ b → fill < 7 → tested (o ++ r) fill count ≡ Ok tt → TestedOrShort o fill count
 front_tested_by o r fill count true t lt e =
     let w = tested_by (o ++ r) fill count _ _ _ _ refl refl refl e in
@@ -239,7 +236,7 @@ front_tested_by o r fill count true t lt e =
 front_tested_by o r fill count false t lt e =
     let w = tested_by (o ++ r) fill count _ _ _ _ refl refl refl e in
     let none : length r ≡ 0 = omega (arith, ltb-false _ _ t, w.len, length-append o r) in
-    let same : o ++ r ≡ o = ap (λ (l : List ℕ). o ++ l) (nothing r none) ∙ append-nil o in
+    let same : o ++ r ≡ o = ap (λ (l : List ℕ). o ++ l) (no_items r none) ∙ append-nil o in
     inl (ap (λ (l : List ℕ). tested l fill count) (sym same) ∙ e)
 
 front_tested : (o r : List ℕ) (fill count : ℕ) → fill < 7 → tested (o ++ r) fill count ≡ Ok tt → TestedOrShort o fill count

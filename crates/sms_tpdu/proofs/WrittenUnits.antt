@@ -1,8 +1,8 @@
 -- What is written is in the grammar, and a value has one written list.
-use Rattle.std.proofs.Common.{◌≡◌, ℕ, zero, suc, ◌+◌, ◌*◌, ◌/◌, ◌%◌, ◌<◌, ◌≤◌, Bool, true, false, ◌&&◌, cond, eqb, ltb, List, [], ◌∷◌, ◌++◌, length, get_or, Option, Some, None, Ok, refl, sym, ap, ◌∙◌, arith}
+use Rattle.std.proofs.Common.{◌≡◌, ℕ, zero, suc, ◌+◌, ◌*◌, ◌/◌, ◌%◌, ◌<◌, ◌≤◌, Bool, true, false, cond, eqb, ltb, List, [], ◌∷◌, ◌++◌, length, get_or, Option, Some, None, Ok, refl, sym, ap, ◌∙◌, arith}
 use Rattle.std.specs.Prelude.{Contains, is_some}
 use Rattle.std.specs.List.{AllByRecursion, list_all}
-use Rattle.std.proofs.lemmas.Bool.{ltb-true, eqb-true}
+use Rattle.std.proofs.lemmas.Bool.{ltb-true, eqb-true, and_parts}
 use Rattle.std.proofs.lemmas.List.{append-nil}
 use Rattle.std.proofs.lemmas.List.Elements.{All-from_recursion}
 use Rattle.sms_base.specs.Address.{IsAddress, has_code}
@@ -43,18 +43,13 @@ use Rattle.sms_tpdu.proofs.Carriers.{down_again, up_again}
 
 -- ---- addresses
 
-both : (a b : Bool) → a && b ≡ true → (a ≡ true) × (b ≡ true)
-both true true e = (refl, refl)
-both true false e = absurd cc
-both false b e = absurd cc
-
 abbrev Pair : Type 0
 Pair = ℕ × ℕ
 
 all_at : (test : Pair → Bool) (xs : List Pair) (k : ℕ) (x : Pair) → list_all test xs ≡ true → k < length xs → test (get_or xs k x) ≡ true
 all_at test [] k x e lt = absurd (omega arith)
-all_at test (y ∷ xs) zero x e lt = (both (test y) (list_all test xs) e).0
-all_at test (y ∷ xs) (suc k) x e lt = all_at test xs k x (both (test y) (list_all test xs) e).1 (omega arith)
+all_at test (y ∷ xs) zero x e lt = (and_parts (test y) (list_all test xs) e).0
+all_at test (y ∷ xs) (suc k) x e lt = all_at test xs k x (and_parts (test y) (list_all test xs) e).1 (omega arith)
 
 is_septet : Pair → Bool
 is_septet pair = ltb pair.0 128
