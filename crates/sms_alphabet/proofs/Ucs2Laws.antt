@@ -3,12 +3,11 @@ use Rattle.std.specs.Result.{IfOk}
 use Rattle.std.proofs.Common.{get_or, ◌≡◌, ℕ, suc, ◌+◌, ◌-◌, ◌/◌, ◌%◌, ◌<◌, ◌≤◌, Bool, true, false, cond, ltb, List, [], ◌∷◌, ◌++◌, Result, Ok, Err, refl, sym, ap, subst, ◌∙◌, arith}
 use Rattle.std.specs.Str.{all_scalars}
 use Rattle.std.specs.Char.Utf16.{is_high_surrogate, is_low_surrogate, surrogate_pair_char}
-use Rattle.std.proofs.lemmas.Bool.{ltb-true, ltb-false, lt-ltb, le-ltb}
+use Rattle.std.proofs.lemmas.Bool.{ltb-true, ltb-false, lt-ltb, le-ltb, and_parts}
 use Rattle.std.proofs.lemmas.Bool.Decides.{nat_tests}
 use Rattle.sms_base.specs.Reading.{AreOctets}
 use Rattle.sms_alphabet.specs.declared.ucs2.Ucs2Error.{Ucs2Error}
 use Rattle.sms_alphabet.specs.declared.ucs2.Ucs2Error.TheVariants.{OddLength, LoneSurrogate}
-use Rattle.sms_base.proofs.Steps.{both}
 use Rattle.sms_alphabet.specs.Ucs2Reading.{unit_in, partner_in, character_at, character_in}
 use Rattle.sms_alphabet.proofs.Ucs2Steps.{step, ucs2_step}
 use Rattle.sms_alphabet.specs.Ucs2.{octets_for, ucs2_for, behind, unit_of, ucs2_in, AnswersUcs2}
@@ -96,7 +95,7 @@ pub ucs2_is_read : (text : List ℕ) → all_scalars text ≡ true → ucs2_in (
 unfolding ucs2_in
 ucs2_is_read [] s = refl
 ucs2_is_read (c ∷ text) s =
-    let b = both (scalar c) (scalars text) s in
+    let b = and_parts (scalar c) (scalars text) s in
     read_character c (ucs2_for text) (ltb c 65536) refl b.0 ∙ ap (behind c) (ucs2_is_read text b.1)
 
 -- ---- a text that was read was written so
