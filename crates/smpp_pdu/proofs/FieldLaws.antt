@@ -1,23 +1,16 @@
 -- Each field that is read is in the grammar, and each that is in the grammar is read.
-use Rattle.std.proofs.Common.{◌≡◌, ℕ, zero, suc, ◌+◌, ◌*◌, ◌/◌, ◌%◌, ◌<◌, Bool, true, false, cond, eqb, ltb, ◌||◌, List, [], ◌∷◌, ◌++◌, length, get_or, Result, Ok, refl, sym, ap, subst, ◌∙◌, arith, inl, inr, ◌⊎◌}
+use Rattle.std.proofs.Common.{◌≡◌, ℕ, zero, suc, ◌+◌, ◌*◌, ◌/◌, ◌%◌, ◌<◌, Bool, true, false, cond, eqb, ltb, ◌||◌, List, [], ◌∷◌, ◌++◌, length, Result, Ok, refl, sym, ap, subst, ◌∙◌, arith, inl, inr, ◌⊎◌}
 use Rattle.std.specs.List.{AllByRecursion}
 use Rattle.std.proofs.lemmas.Bool.{ltb-true, eqb-true, eqb-false, lt-ltb, eq-eqb, ne_eqb, or_cases}
 use Rattle.sms_base.specs.Reading.{◌>>=◌, only_if, octet_in, AreOctets}
 use Rattle.sms_base.proofs.Steps.{bind_ok, passes, ok_is, octet_takes, run_takes, run_again}
+use Rattle.sms_base.proofs.OctetLaws.{octets_behind}
 use Rattle.smpp_pdu.specs.declared.fault.PduFault.{PduFault}
 use Rattle.smpp_pdu.specs.declared.fault.PduFault.TheVariants.{Truncated, FieldTooLong, ShortMessageTooLong}
 use Rattle.smpp_pdu.specs.Fields.{two, four, c_string, IsText, IsTimeText, counted}
 use Rattle.smpp_pdu.specs.FieldReading.{two_in, four_in, text_in, c_string_in, time_in, short_message_in}
 
 -- ---- octets
-
-pub are_octets : (xs : List ℕ) → ((i : ℕ) → get_or xs i 0 < 256) → AreOctets xs
-are_octets [] h = tt
-are_octets (o ∷ xs) h = (h 0, are_octets xs (λ i. h (suc i)))
-
-pub octets_behind : (text rest : List ℕ) → AreOctets (text ++ rest) → AreOctets rest
-octets_behind [] rest h = h
-octets_behind (o ∷ text) rest h = octets_behind text rest h.1
 
 -- what a field took of octets
 pub record Took (text xs rest : List ℕ) : Type 0 where

@@ -345,7 +345,7 @@ feed_quiet s xs e =
     let none : stream s.accounts (turn_of s, []) (s.buffered ++ xs) ≡ (turn_of s, []) = dropped s.accounts (turn_of s) (s.buffered ++ xs) (closed_deaf s.conversation.state e) in
     record { closed = ap (λ (c : StreamProgress). c.0.conversation.state) none ∙ e; nothing = ap (λ (c : StreamProgress). c.0.actions) none }
 
-answered_state : (b : Bool) (owed : List ℕ) (c : Conversation) → c.state ≡ Closed → (cond b (closed_conversation c) (record c { owed = owed })).state ≡ Closed
+pub answered_state : (b : Bool) (owed : List ℕ) (c : Conversation) → c.state ≡ Closed → (cond b (closed_conversation c) (record c { owed = owed })).state ≡ Closed
 answered_state true owed c e = refl
 answered_state false owed c e = e
 

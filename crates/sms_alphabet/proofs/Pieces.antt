@@ -112,7 +112,7 @@ found view septets (Err e) a = tt
 pub only : {X : Type 0} (view : X → List ℕ) (septets text : List ℕ) (result : Result X ReadingError) → AnswersText view result (text_read septets) → IsReading septets text → AnswersText view result (Ok text)
 only {X} view septets text result a r = subst (λ (w : Result (List ℕ) ReadingError). AnswersText view result w) (reading_again septets text r) a
 
-below : (septet : ℕ) (septets : List ℕ) → septet < 128 → AreSeptets septets → (k d : ℕ) → k < length (septet ∷ septets) → get_or (septet ∷ septets) k d < 128
+pub below : (septet : ℕ) (septets : List ℕ) → septet < 128 → AreSeptets septets → (k d : ℕ) → k < length (septet ∷ septets) → get_or (septet ∷ septets) k d < 128
 below septet septets first later zero d lt = first
 below septet septets first later (suc k) d lt = later k d (omega arith)
 

@@ -1,6 +1,7 @@
 -- Tests that are joined.
-use Rattle.std.proofs.Common.{◌≡◌, Bool, true, false, refl, sym}
+use Rattle.std.proofs.Common.{◌≡◌, ℕ, Bool, true, false, nat_eq, refl, sym, ◌∙◌, ⊎_elim, eq-eqb}
 use Rattle.std.specs.Prelude.{◌&&◌, ◌||◌}
+use Rattle.std.proofs.lemmas.Bool.{cases_eq, ne_eqb}
 
 pub and_false : (b : Bool) → (b && false) ≡ false
 and_false true = refl
@@ -36,3 +37,9 @@ pub same_bool : (a b : Bool) → (a ≡ true → b ≡ true) → (b ≡ true →
 same_bool true b f g = sym (f refl)
 same_bool false true f g = g refl
 same_bool false false f g = refl
+
+pub swapped : (a b : ℕ) → nat_eq a b ≡ nat_eq b a
+swapped a b = ⊎_elim
+    (λ (e : a ≡ b). eq-eqb a b e ∙ sym (eq-eqb b a (sym e)))
+    (λ (e : a ≡ b → ⊥). ne_eqb a b e ∙ sym (ne_eqb b a (λ q. e (sym q))))
+    (cases_eq a b)

@@ -204,15 +204,15 @@ module _ {E Y : Type 0} (f : Ends E) (k : ℕ × List ℕ → Result (Y × List 
 
 -- ---- a run of octets
 
-abbrev zeros : ℕ → List ℕ
+abbrev pub zeros : ℕ → List ℕ
 zeros zero = []
 zeros (suc n) = 0 ∷ zeros n
 
-zeros_octets : (n : ℕ) → AreOctets (zeros n)
+pub zeros_octets : (n : ℕ) → AreOctets (zeros n)
 zeros_octets zero = tt
 zeros_octets (suc n) = (omega arith, zeros_octets n)
 
-zeros_length : (n : ℕ) → length (zeros n) ≡ n
+pub zeros_length : (n : ℕ) → length (zeros n) ≡ n
 zeros_length zero = refl
 zeros_length (suc n) = ap (λ (m : ℕ). suc m) (zeros_length n)
 

@@ -17,3 +17,4 @@ pub mod UtcClocks
 pub mod MarkupReadings
 pub mod Bools
 pub mod Lists
+pub mod OctetLaws

@@ -35,3 +35,7 @@ item_at (x ∷ xs) (suc i) few = item_at xs i (omega (arith, few))
 
 pub drop_item : {A : Type 0} (xs : List A) (i : ℕ) (x : A) → i < length xs → x ≡ get_or xs i x → drop i xs ≡ x ∷ drop (i + 1) xs
 drop_item xs i x few is = drop_more xs i x few ∙ ap (λ y. y ∷ drop (i + 1) xs) (sym is)
+
+pub drop_behind : {A : Type 0} (xs ys : List A) → drop (length xs) (xs ++ ys) ≡ ys
+drop_behind [] ys = refl
+drop_behind (x ∷ xs) ys = drop_behind xs ys

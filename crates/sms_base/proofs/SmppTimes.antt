@@ -6,8 +6,8 @@ use Rattle.std.proofs.lemmas.Option.{cond_some}
 use Rattle.sms_base.specs.TimeStamp.{◌>>=◌, IsMoment, IsClock, zone_seconds, clock_in, moment_in}
 use Rattle.sms_base.specs.SmppTime.{AreNumbers, time_text, sign_of, after_length, IsSmppTime, decimal_in, pair_at, numbers_in, local_in, time_at, smpp_time_in}
 use Rattle.sms_base.specs.declared.smpp_time.SpelledTime.{SpelledTime}
-use Rattle.sms_base.proofs.ClockTests.{passes, clock_by, shown_passes, checked_seconds, tests}
-use Rattle.sms_base.proofs.Stamps.{bind_some, moment_in-is, moment_in-pos}
+use Rattle.sms_base.proofs.ClockTests.{shown_passes, checked_seconds, tests}
+use Rattle.sms_base.proofs.Stamps.{bind_some, clock_in-is, moment_in-is, moment_in-pos}
 
 -- ---- digits
 
@@ -118,12 +118,6 @@ numbers_known n t last h lt =
 
 -- ---- moments
 
-clock_shown : (year month day hour minute second : ℕ) (z : ℤ) → year < 100 → clock_in year month day hour minute second ≡ Some z → IsClock year month day hour minute second z
-unfolding clock_in
-clock_shown year month day hour minute second z lt e =
-    let s = cond_some _ _ _ e in
-    subst (λ (x : ℤ). IsClock year month day hour minute second x) s.1 (clock_by year month day hour minute second lt (passes _ _ _ _ _ _ s.0))
-
 local_is : (n : SpelledTime) (b : Bool) (m : ℕ) → local_in n b ≡ Some m → n.year < 100
     → (local : ℤ) × (n.quarters ≤ 48) × IsClock n.year n.month n.day n.hour n.minute n.second local × (pos m ≡ local -ℤ zone_seconds n.quarters b) × IsMoment m
 unfolding local_in
@@ -133,7 +127,7 @@ local_is n b m e lt = by_test (leb n.quarters 48) refl e where
   by_test true t h =
       let s = bind_some (clock_in n.year n.month n.day n.hour n.minute n.second) (λ (local : ℤ). moment_in (local -ℤ zone_seconds n.quarters b)) m h in
       let w = moment_in-is (s.0 -ℤ zone_seconds n.quarters b) m s.2 in
-      (s.0, leb-true n.quarters 48 t, clock_shown n.year n.month n.day n.hour n.minute n.second s.0 lt s.1, w.0, w.1)
+      (s.0, leb-true n.quarters 48 t, clock_in-is n.year n.month n.day n.hour n.minute n.second s.0 lt s.1, w.0, w.1)
   by_test false t h = absurd cc
 
 clock_known : (year month day hour minute second : ℕ) (local : ℤ) → IsClock year month day hour minute second local → clock_in year month day hour minute second ≡ Some local

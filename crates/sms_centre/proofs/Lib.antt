@@ -1,5 +1,5 @@
 mod ActsFirst
-mod Archived
+pub mod Archived
 mod AsDefined
 pub mod Enrolled
 mod MayGo

@@ -114,7 +114,7 @@ accept_keeps base u s k kept =
 abbrev pub SoundSince : Rows → Store → Type 0
 SoundSince base s = SoundStore s × Keeps base (rows_of s)
 
-both_there : (A B : Store → Type 0) (o : Option Store) → IfThere A o → IfThere B o → IfThere (λ (s : Store). A s × B s) o
+pub both_there : (A B : Store → Type 0) (o : Option Store) → IfThere A o → IfThere B o → IfThere (λ (s : Store). A s × B s) o
 both_there A B None a b = tt
 both_there A B (Some s) a b = (a, b)
 

@@ -156,7 +156,7 @@ pdu_fits account now m u is e =
 
 -- ---- events
 
-account_among : (place : ℕ) (a : CentreAccount) (accounts : List CentreAccount) → account_at place accounts ≡ Some a → Among a accounts
+pub account_among : (place : ℕ) (a : CentreAccount) (accounts : List CentreAccount) → account_at place accounts ≡ Some a → Among a accounts
 account_among place a [] e = absurd cc
 account_among zero a (x ∷ xs) e = let same : a ≡ x = cc in inl same
 account_among (suc place) a (x ∷ xs) e = inr (account_among place a xs e)

@@ -13,7 +13,7 @@ use Rattle.sms_centre_rows.specs.messages.SplitReferences.{is_delivered}
 use Rattle.sms_centre_rows.specs.declared.reports.report.ReportKind.{ReportKind}
 use Rattle.sms_centre_rows.specs.declared.reports.report.ReportKind.TheVariants.{Receipt, Status, Unsent}
 use Rattle.sms_centre_rows.specs.declared.reports.report.ReportRow.{ReportRow}
-use Rattle.sms_centre_rows.specs.reports.Reports.{is_status, next_place, report_key}
+use Rattle.sms_centre_rows.specs.reports.Reports.{is_status, report_key}
 use Rattle.sms_centre_rows.specs.reports.SoundReports.{FitsOriginator, IsReport, IsStatus, SoundReports}
 use Rattle.sms_centre_rows.specs.declared.waiting.handset.HandsetRow.{HandsetRow}
 use Rattle.sms_centre_rows.specs.declared.waiting.reference.ReferenceRow.{ReferenceRow}
@@ -34,21 +34,12 @@ use Rattle.sms_centre_spec.proofs.SoundStores.{IsPast, SoundStore, Times}
 use Rattle.sms_centre_spec.proofs.SplitsStayApart.{end_apart}
 use Rattle.sms_centre_spec.proofs.StagesConsistent.{CanReport, can_report, next_is_new, quiet_consistent, status_consistent}
 use Rattle.sms_centre_spec.proofs.TpdusRead.{status_reads}
+use Rattle.sms_centre_spec.proofs.Keeping.{report_of_end}
 
 -- ---- a message that has ended is reported
 
--- the report that comes next, made now
-abbrev report_row : ℕ → ReportKind → Bool → Store → ReportRow
-report_row id kind closed s = record {
-  place = next_place (reports_in s);
-  id = id;
-  kind = kind;
-  made = s.moment;
-  progress = record { is_done = closed; attempts = 0; due = s.moment };
-}
-
-report_is : (f : FinalState) (n : ℕ) (m : MessageRow) (kind : ReportKind) (closed : Bool) (s : Store) → CanReport f n m s → FitsOriginator kind m.originator (ended f n m) (report_row m.id kind closed s)
-    → IsReport (messages_in s) (report_row m.id kind closed s)
+report_is : (f : FinalState) (n : ℕ) (m : MessageRow) (kind : ReportKind) (closed : Bool) (s : Store) → CanReport f n m s → FitsOriginator kind m.originator (ended f n m) (report_of_end m.id kind closed s)
+    → IsReport (messages_in s) (report_of_end m.id kind closed s)
 report_is f n m kind closed s can fits = record {
   place = some_next_place 1 (reports_in s) (omega arith);
   message = (ended f n m, (can.there, ((f, refl), fits)));
@@ -73,9 +64,9 @@ given_times g s t now x among = ⊎_elim
     (among_put reference_key x g (references_in s) among)
 
 quiet_sound : (f : FinalState) (n : ℕ) (m : MessageRow) (kind : ReportKind) (closed : Bool) (s : Store) → SoundStore s → CanReport f n m s → is_status kind ≡ false
-    → FitsOriginator kind m.originator (ended f n m) (report_row m.id kind closed s) → SoundStore (make_report m.id kind closed s)
+    → FitsOriginator kind m.originator (ended f n m) (report_of_end m.id kind closed s) → SoundStore (make_report m.id kind closed s)
 quiet_sound f n m kind closed s k can quiet fits =
-    let r : ReportRow = report_row m.id kind closed s in
+    let r : ReportRow = report_of_end m.id kind closed s in
     record {
       consistent = quiet_consistent f n m kind closed s can quiet;
       messages = k.messages;
@@ -88,13 +79,13 @@ quiet_sound f n m kind closed s k can quiet fits =
 status_sound : (f : FinalState) (n mr : ℕ) (m : MessageRow) (o : Option ℕ) (s : Store) → SoundStore s → CanReport f n m s → HasReportAddress (Handset mr) m.source → m.originator ≡ Handset mr
     → reference_for (handset_of m.source.digits (handsets_in s)) s ≡ o → SoundStore (status_given f m (handset_of m.source.digits (handsets_in s)) o s)
 status_sound f n mr m None s k can told from next =
-    quiet_sound f n m Unsent true s k can refl (subst (λ (o : Originator). FitsOriginator Unsent o (ended f n m) (report_row m.id Unsent true s)) (sym from) refl)
+    quiet_sound f n m Unsent true s k can refl (subst (λ (o : Originator). FitsOriginator Unsent o (ended f n m) (report_of_end m.id Unsent true s)) (sym from) refl)
 status_sound f n mr m (Some reference) s k can told from next =
     let h : HandsetRow = handset_of m.source.digits (handsets_in s) in
     let w : MessageRow = ended f n m in
     let tpdu : List ℕ = status_octets (final_of f s.moment m) in
     let kind : ReportKind = Status reference tpdu in
-    let r : ReportRow = report_row m.id kind false s in
+    let r : ReportRow = report_of_end m.id kind false s in
     let among : Among w (messages_in s) = found_among message_key m.id w (messages_in s) can.there in
     let small : reference < 256 = (next_is_free h (waiting_in h.number s) (references_in s) s.moment reference next).1 in
     let reads : IsStatus mr w s.moment tpdu (status_report_of (final_of f s.moment m)) =
@@ -118,7 +109,7 @@ status_sound f n mr m (Some reference) s k can told from next =
 
 report_sound : (o : Originator) (f : FinalState) (n : ℕ) (m : MessageRow) (s : Store) → SoundStore s → CanReport f n m s → HasReportAddress o m.source → m.originator ≡ o → SoundStore (report_to o f m s)
 report_sound (Application account) f n m s k can told from =
-    quiet_sound f n m Receipt false s k can refl (subst (λ (o : Originator). FitsOriginator Receipt o (ended f n m) (report_row m.id Receipt false s)) (sym from) tt)
+    quiet_sound f n m Receipt false s k can refl (subst (λ (o : Originator). FitsOriginator Receipt o (ended f n m) (report_of_end m.id Receipt false s)) (sym from) tt)
 report_sound (Handset mr) f n m s k can told from = status_sound f n mr m (reference_for (handset_of m.source.digits (handsets_in s)) s) s k can told from refl
 
 -- ---- a message ends
@@ -135,7 +126,7 @@ pub record CanEnd (f : FinalState) (m : MessageRow) (s : Store) : Type 0 where
   pub there : message_at m.id (messages_in s) ≡ Some m
   pub pending : is_pending m ≡ true
 
-ended_sound : (f : FinalState) (m : MessageRow) (s : Store) → CanEnd f m s → SoundStore (with_message (ended f s.moment m) s)
+pub ended_sound : (f : FinalState) (m : MessageRow) (s : Store) → CanEnd f m s → SoundStore (with_message (ended f s.moment m) s)
 ended_sound f m s c =
     let w : MessageRow = ended f s.moment m in
     let can = can_report f m s c.consistent c.there c.pending in

@@ -70,7 +70,7 @@ line_of_handset number ls = own (line_at number ls) refl
 
 -- ---- a line takes its place
 
-among_with : (x line : HandsetLink) (ls : List HandsetLink) → Among x (with_line line ls) → (x ≡ line) ⊎ Among x ls
+pub among_with : (x line : HandsetLink) (ls : List HandsetLink) → Among x (with_line line ls) → (x ≡ line) ⊎ Among x ls
 among_with x line [] among = among
 among_with x line (l ∷ ls) among =
     cond_both (bytes_eq l.handset line.handset) (line ∷ ls) (l ∷ with_line line ls) (λ (ys : List HandsetLink). Among x ys → (x ≡ line) ⊎ Among x (l ∷ ls))

@@ -47,7 +47,7 @@ use Rattle.sms_centre_spec.proofs.SoundSides.{Sides}
 
 -- ---- what is next waits there
 
-next_waits : (now : ℕ) (l : QueuedPart) (ls : List QueuedPart) → next now ls ≡ Some l → Among l ls
+pub next_waits : (now : ℕ) (l : QueuedPart) (ls : List QueuedPart) → next now ls ≡ Some l → Among l ls
 next_waits now l [] e = absurd cc
 next_waits now l (x ∷ xs) e = which (if_due now x) (next now xs) (λ y q. due y q) (λ q. next_waits now l xs q) e
   where

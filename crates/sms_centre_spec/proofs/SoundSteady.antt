@@ -30,7 +30,7 @@ use Rattle.sms_centre_spec.proofs.Steady.{message_own}
 
 -- ---- how far parts and reports are
 
-rows_map : (D E : MessageRow → Type 0) (s : Store) → AreRows D (messages_in s) (parts_in s) (priorities_in s) → ((x : MessageRow) → Among x (messages_in s) → D x → E x)
+pub rows_map : (D E : MessageRow → Type 0) (s : Store) → AreRows D (messages_in s) (parts_in s) (priorities_in s) → ((x : MessageRow) → Among x (messages_in s) → D x → E x)
     → AreRows E (messages_in s) (parts_in s) (priorities_in s)
 rows_map D E s r f = record {
   message_keys = r.message_keys;

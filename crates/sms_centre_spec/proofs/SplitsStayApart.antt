@@ -4,7 +4,6 @@ use Rattle.std.specs.Prelude.{not, ◌==◌, ◌&&◌, ◌||◌}
 use Rattle.std.specs.Str.{bytes_eq}
 use Rattle.std.proofs.lemmas.Bool.{and_from, cases_Bool, cond-true, cond_both}
 use Rattle.std.proofs.lemmas.Slice.Eq.{bytes_eq-Decides}
-use Rattle.sms_base.specs.AddressKind.{type_number}
 use Rattle.sms_base.specs.Among.{Among}
 use Rattle.sms_base.specs.declared.address.Address.{Address}
 use Rattle.sms_base.specs.declared.final_state.FinalState.{FinalState}
@@ -16,6 +15,7 @@ use Rattle.sms_centre_rows.specs.messages.Messages.{ended, is_pending, message_a
 use Rattle.sms_centre_rows.specs.messages.SplitReferences.{first_free_split, held_splits, is_among, is_between, is_delivered, is_same_address, last_split, next_split, optional, own_splits, start_after, turns_for}
 use Rattle.sms_centre_spec.specs.SoundRows.{AreSplitApart}
 use Rattle.sms_centre_spec.proofs.SoundMessagesStay.{pending_undelivered}
+use Rattle.sms_centre_rows.proofs.conditions.AddressTested.{one_address}
 
 -- ---- the next reference is held by none
 
@@ -35,14 +35,9 @@ among_front r (x ∷ xs) ys e = ⊎_elim
     (λ (t : (x == r) ≡ false). ap (λ (b : Bool). b || is_among r (xs ++ ys)) t ∙ among_front r xs ys (sym (ap (λ (b : Bool). b || is_among r xs) t) ∙ e))
     (cases_Bool (x == r))
 
-same_address : (a : Address) → is_same_address a a ≡ true
-same_address a =
-    and_from (type_number a.ton == type_number a.ton) ((a.npi == a.npi) && bytes_eq a.digits a.digits) (eq-eqb (type_number a.ton) (type_number a.ton) refl)
-    (and_from (a.npi == a.npi) (bytes_eq a.digits a.digits) (eq-eqb a.npi a.npi refl) ((bytes_eq-Decides a.digits a.digits).1 refl))
-
 between : (source : Address) (handset : List ℕ) (m : MessageRow) → m.source ≡ source → m.handset ≡ handset → is_between source handset m ≡ true
 between source handset m e f =
-    and_from (is_same_address m.source source) (bytes_eq m.handset handset) (ap (λ (a : Address). is_same_address a source) e ∙ same_address source) ((bytes_eq-Decides m.handset handset).1 f)
+    and_from (is_same_address m.source source) (bytes_eq m.handset handset) (ap (λ (a : Address). is_same_address a source) e ∙ one_address source) ((bytes_eq-Decides m.handset handset).1 f)
 
 held_there : (source : Address) (handset : List ℕ) (r : ℕ) (m : MessageRow) (ms : List MessageRow) → Among m ms → m.source ≡ source → m.handset ≡ handset → m.split_reference ≡ Some r
     → is_delivered m.state ≡ false → is_among r (held_splits source handset ms) ≡ true

@@ -123,7 +123,7 @@ own_there a source None m e = absurd cc
 own_there a source (Some x) m e =
     cond_both (is_account a.name x.originator && is_from source x) (Some x) None (λ (o : Option MessageRow). o ≡ Some m → Some x ≡ Some m) (λ t f. f) (λ t f. absurd cc) e
 
-only_there : (destination : SmeAddress) (o : Option MessageRow) (m : MessageRow) → only_to destination o ≡ Some m → o ≡ Some m
+pub only_there : (destination : SmeAddress) (o : Option MessageRow) (m : MessageRow) → only_to destination o ≡ Some m → o ≡ Some m
 only_there destination None m e = absurd cc
 only_there destination (Some x) m e =
     cond_both (is_to destination x) (Some x) None (λ (o : Option MessageRow). o ≡ Some m → Some x ≡ Some m) (λ t f. f) (λ t f. absurd cc) e

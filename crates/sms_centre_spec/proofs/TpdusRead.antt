@@ -1,8 +1,6 @@
 -- The TPDUs of parts and status reports are read as what they were made of, and are short.
 use Rattle.std.proofs.Common.{◌≡◌, ℕ, ◌+◌, ◌≤◌, List, [], ◌∷◌, ◌++◌, length, length-append, Option, refl, sym, ◌∙◌, ap, subst, arith}
 use Rattle.std.proofs.lemmas.List.{append-nil}
-use Rattle.sms_alphabet.specs.declared.scheme.Coding.{Coding}
-use Rattle.sms_alphabet.specs.declared.scheme.Coding.TheVariants.{Septets, Octets, Ucs2, Compressed}
 use Rattle.sms_alphabet.specs.DataCodingScheme.{coding_of}
 use Rattle.sms_base.specs.Address.{IsAddress}
 use Rattle.sms_base.specs.declared.final_state.FinalState.{FinalState}
@@ -15,9 +13,9 @@ use Rattle.sms_tpdu.specs.declared.down.Down.TheVariants.{Deliver, StatusReport}
 use Rattle.sms_tpdu.specs.declared.status_report.StatusReport.{StatusReport as StatusReportOf}
 use Rattle.sms_tpdu.specs.AddressGrammar.{address_field}
 use Rattle.sms_tpdu.specs.TpduReading.{down_at}
-use Rattle.sms_tpdu.specs.UserDataGrammar.{greatest_length, octets_of}
 use Rattle.sms_tpdu.proofs.NameValues.{field_short}
 use Rattle.sms_tpdu.proofs.WrittenUnits.{written_down_is_read}
+use Rattle.sms_tpdu.proofs.Lengths.{few_octets}
 use Rattle.sms_centre_rows.specs.declared.messages.message.MessageRow.{MessageRow}
 use Rattle.sms_base.specs.declared.originator.Originator.{Originator}
 use Rattle.sms_base.specs.declared.originator.Originator.TheVariants.{Handset}
@@ -39,12 +37,6 @@ stamp_written : (moment : ℕ) → IsMoment moment → IsWrittenScts (stamp_of m
 stamp_written moment is = stamp_is_written moment is
 
 -- ---- DELIVER
-
-few_octets : (coding : Coding) (n : ℕ) → n ≤ greatest_length coding → octets_of coding n ≤ 140
-few_octets Septets n h = omega arith
-few_octets Octets n h = h
-few_octets Ucs2 n h = h
-few_octets Compressed n h = h
 
 pub part_reads : (id submitted moment : ℕ) (split : Option ℕ) (u : Submission) (b : SinglePart) (p : PartRow) → IsMoment moment → IsAddress u.source → IsBody u b → p.tpdu ≡ deliver_octets moment u b
     → IsDeliver (message_of id submitted split u) p (deliver_of moment u b)

@@ -15,7 +15,7 @@ mod Orders
 mod Binds
 mod Everywhere
 mod Behind
-mod Runs
+pub mod Runs
 mod Latest
 mod BarsStand
 pub mod Begins

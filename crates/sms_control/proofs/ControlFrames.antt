@@ -1,5 +1,5 @@
 -- A frame that is read is in the grammar, one that is in the grammar is read, and a front of one ends too early.
-use Rattle.std.proofs.Common.{◌≡◌, ◌≢◌, ℕ, zero, suc, ◌+◌, ◌*◌, ◌/◌, ◌%◌, ◌<◌, ◌≤◌, Bool, true, false, ◌&&◌, cond, eqb, ltb, List, [], ◌∷◌, ◌++◌, length, get_or, Result, Ok, Err, Option, Some, None, refl, sym, ap, subst, ◌∙◌, arith, inl, inr}
+use Rattle.std.proofs.Common.{◌≡◌, ◌≢◌, ℕ, zero, ◌+◌, ◌*◌, ◌/◌, ◌%◌, ◌<◌, ◌≤◌, Bool, true, false, ◌&&◌, cond, eqb, ltb, List, [], ◌∷◌, ◌++◌, length, Result, Ok, Err, Option, Some, None, refl, sym, ap, subst, ◌∙◌, arith, inl, inr}
 use Rattle.std.specs.Prelude.{IfOk}
 use Rattle.std.specs.Option.{unwrap_or}
 use Rattle.std.specs.List.{find}
@@ -9,6 +9,7 @@ use Rattle.std.proofs.lemmas.Option.{same_Some}
 use Rattle.sms_base.specs.Reading.{◌>>=◌, only_if, octet_in, run_in, end_in}
 use Rattle.sms_base.proofs.Steps.{bind_ok, passes, ok_is, octet_takes, run_takes, run_again, end_takes}
 use Rattle.sms_base.proofs.Cuts.{CutsShort, CutsWhole, cuts_bind, cuts_test, cuts_octet, cuts_run, cuts_pure, whole_bind, whole_end}
+use Rattle.sms_base.proofs.OctetLaws.{IsBytes, bytes_rest}
 use Rattle.sms_control.specs.declared.cause.CpCause.{CpCause}
 use Rattle.sms_control.specs.declared.cause.CpCause.TheVariants.{NetworkFailure, Congestion, InvalidTransactionIdentifier, SemanticallyIncorrectMessage, InvalidMandatoryInformation, MessageTypeNonExistent, MessageNotCompatible, InformationElementNonExistent, ProtocolErrorUnspecified, Other}
 use Rattle.sms_control.specs.declared.fault.CpFault.{CpFault}
@@ -22,12 +23,6 @@ use Rattle.sms_control.specs.declared.message.Cp.{Cp}
 use Rattle.sms_control.specs.declared.message.Cp.TheVariants.{DataUnit, AckUnit, ErrorUnit}
 use Rattle.sms_control.specs.ControlGrammar.{flag_value, flag_of, head_octet, head_of, type_octet, types, type_of, cause_octet, named, cause_of, IsCpCause, spelled, IsCpValue, IsCp}
 use Rattle.sms_control.specs.ControlReading.{known, head_in, type_in, unit_in, body_at, cp_at}
-
-abbrev pub IsBytes : List ℕ → Type 0
-IsBytes bytes = (i : ℕ) → get_or bytes i 0 < 256
-
-bytes_rest : (o : ℕ) (xs ys : List ℕ) → ys ≡ o ∷ xs → IsBytes ys → IsBytes xs
-bytes_rest o xs ys e h = let g : IsBytes (o ∷ xs) = subst IsBytes e h in λ i. g (suc i)
 
 bytes_first : (o : ℕ) (xs ys : List ℕ) → ys ≡ o ∷ xs → IsBytes ys → o < 256
 bytes_first o xs ys e h = let g : IsBytes (o ∷ xs) = subst IsBytes e h in g zero

@@ -11,6 +11,7 @@ use Rattle.sms_handset.specs.declared.event.HandsetEvent.{HandsetEvent}
 use Rattle.sms_handset.specs.declared.event.HandsetEvent.TheVariants.{Tick}
 use Rattle.sms_handset_link.specs.Run.{Follows, Meets, Sends, received}
 use Rattle.sms_handset_link.specs.Turns.{AreTimed, Attended, Cut, EndsQuiet, LeavesFor, LeavesNone, Turn, events_in, frames_in, octets_in}
+use Rattle.sms_link.proofs.framing.Streams.{joined_append}
 
 -- ---- known bytes
 
@@ -57,10 +58,6 @@ map_arrived : (one other : List (List ℕ)) → map received (one ++ other) ≡ 
 map_arrived [] other = refl
 map_arrived (x ∷ one) other = ap (λ (l : List HandsetEvent). received x ∷ l) (map_arrived one other)
 
-joined_join : (one other : List (List ℕ)) → joined (one ++ other) ≡ joined one ++ joined other
-joined_join [] other = refl
-joined_join (x ∷ one) other = ap (λ (l : List ℕ). framed x ++ l) (joined_join one other) ∙ sym (append_assoc (framed x) (joined one) (joined other))
-
 -- frames that were met, and more of them
 pub frames_join : (one other : List (List ℕ)) (a b c : Core) (f g h : Option (List ℕ)) → Meets (map received one) a b f g → Meets (map received other) b c g h → Meets (map received (one ++ other)) a c f h
 frames_join one other a b c f g h p q = subst (λ (l : List HandsetEvent). Meets l a c f h) (sym (map_arrived one other)) (meets_join (map received one) (map received other) a b c f g h p q)
@@ -69,7 +66,7 @@ frames_join one other a b c f g h p q = subst (λ (l : List HandsetEvent). Meets
 pub cut_join : (start middle last : List ℕ) (one other : List (List ℕ)) → start ≡ joined one ++ middle → middle ≡ joined other ++ last → start ≡ joined (one ++ other) ++ last
 cut_join start middle last one other p q =
     p ∙ (ap (λ (l : List ℕ). joined one ++ l) q
-    ∙ (sym (append_assoc (joined one) (joined other) last) ∙ ap (λ (l : List ℕ). l ++ last) (sym (joined_join one other))))
+    ∙ (sym (append_assoc (joined one) (joined other) last) ∙ ap (λ (l : List ℕ). l ++ last) (sym (joined_append one other))))
 
 pub cut_one : (middle frame last : List ℕ) → middle ≡ framed frame ++ last → middle ≡ joined (frame ∷ []) ++ last
 cut_one middle frame last e = e ∙ ap (λ (l : List ℕ). l ++ last) (sym (append-nil (framed frame)))

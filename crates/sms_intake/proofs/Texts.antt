@@ -1,5 +1,5 @@
 -- The texts of a submit_sm.
-use Rattle.std.proofs.Common.{◌≡◌, ℕ, zero, suc, ◌+◌, ◌*◌, ◌%◌, ◌<◌, true, ltb, List, [], ◌∷◌, length, flat_map, get_or, Result, Ok, Err, refl, arith}
+use Rattle.std.proofs.Common.{◌≡◌, ℕ, ◌+◌, ◌*◌, ◌%◌, true, ltb, List, [], ◌∷◌, length, flat_map, Result, Ok, Err, refl, arith}
 use Rattle.std.proofs.lemmas.Bool.{ltb-true, eq-eqb, and_parts}
 use Rattle.std.proofs.lemmas.List.{length-append}
 use Rattle.std.specs.Char.Escape.{encode_utf16}
@@ -7,7 +7,7 @@ use Rattle.sms_alphabet.specs.declared.spelling.SpellingError.{SpellingError}
 use Rattle.sms_alphabet.specs.Packing.{AreSeptets}
 use Rattle.sms_alphabet.specs.Spelling.{spelled}
 use Rattle.sms_alphabet.specs.Ucs2.{octets_for, ucs2_for, unit_octets}
-use Rattle.sms_alphabet.proofs.Pieces.{spelling_below}
+use Rattle.sms_alphabet.proofs.Pieces.{below, spelling_below}
 use Rattle.sms_alphabet.proofs.Spellings.{spelled_spells}
 use Rattle.sms_concat.specs.TextContent.{content_of_text, content_spelled}
 use Rattle.sms_concat.specs.UserData.{AreUnits}
@@ -17,10 +17,6 @@ use Rattle.sms_intake.specs.Forms.{AreOfForm, content_as}
 use Rattle.sms_intake.specs.SmppIntake.{are_whole, is_ascii}
 
 -- ---- units
-
-below : (septet : ℕ) (septets : List ℕ) → septet < 128 → AreSeptets septets → (k d : ℕ) → k < length (septet ∷ septets) → get_or (septet ∷ septets) k d < 128
-below septet septets first later zero d lt = first
-below septet septets first later (suc k) d lt = later k d (omega arith)
 
 pub ascii_septets : (octets : List ℕ) → is_ascii octets ≡ true → AreSeptets octets
 ascii_septets [] h = λ k d lt. absurd (omega arith)

@@ -5,6 +5,7 @@ use Rattle.std.proofs.lemmas.List.{append-nil}
 use Rattle.sms_base.specs.Reading.{◌>>=◌, only_if, octet_in, run_in, AreOctets}
 use Rattle.sms_base.proofs.Steps.{bind_ok, passes, ok_is, octet_takes, run_takes, run_again}
 use Rattle.sms_base.proofs.Cuts.{Less, CutsShort, cuts_octet, cuts_run, cuts_pure, cuts_bind, cuts_test}
+use Rattle.sms_base.proofs.OctetLaws.{IsBytes, bytes_rest}
 use Rattle.sms_relay.specs.declared.cause.RpCause.{RpCause}
 use Rattle.sms_relay.specs.declared.fault.RelayFault.{RelayFault}
 use Rattle.sms_relay.specs.declared.fault.RelayFault.TheVariants.{Truncated, BadLength}
@@ -15,15 +16,9 @@ use Rattle.sms_relay.proofs.CauseLaws.{cause_of-number, cause_of-is, number_of-i
 
 -- ---- octets
 
-abbrev pub IsBytes : List ℕ → Type 0
-IsBytes bytes = (i : ℕ) → get_or bytes i 0 < 256
-
-pub IsBytes-rest : (o : ℕ) (xs ys : List ℕ) → ys ≡ o ∷ xs → IsBytes ys → IsBytes xs
-IsBytes-rest o xs ys e h = let g : IsBytes (o ∷ xs) = subst IsBytes e h in λ i. g (suc i)
-
 pub IsBytes-back : (xs ys zs : List ℕ) → zs ≡ xs ++ ys → IsBytes zs → IsBytes ys
 IsBytes-back [] ys zs e h = subst IsBytes e h
-IsBytes-back (x ∷ xs) ys zs e h = IsBytes-back xs ys (xs ++ ys) refl (IsBytes-rest x (xs ++ ys) zs e h)
+IsBytes-back (x ∷ xs) ys zs e h = IsBytes-back xs ys (xs ++ ys) refl (bytes_rest x (xs ++ ys) zs e h)
 
 pub IsBytes-octets : (xs : List ℕ) → AreOctets xs → (i : ℕ) → get_or xs i 0 < 256
 IsBytes-octets [] h i = lit< tt

@@ -17,6 +17,8 @@ use Rattle.sms_base.specs.Address.{IsAddress, IsAddressText}
 use Rattle.sms_base.specs.Alphabet.{text_in}
 use Rattle.sms_base.specs.Reading.{run_in}
 use Rattle.sms_base.proofs.Steps.{run_takes, run_again}
+use Rattle.sms_base.proofs.Addresses.{type_number-of}
+use Rattle.sms_base.proofs.OctetLaws.{octets_behind}
 use Rattle.sms_alphabet.specs.Packing.{AreSeptets, value_in, digits_in as base_digits}
 use Rattle.sms_alphabet.proofs.RoundTrip.{value-below, digits_in-value, value_in-digits, length-digits, digits-below}
 use Rattle.sms_tpdu.proofs.Names.{read_name, read_some}
@@ -25,10 +27,6 @@ use Rattle.sms_tpdu.specs.AddressGrammar.{semi_octet, semi_octets, AreDigits, ty
 
 pub rest_fits : (o : ℕ) (xs ys : List ℕ) → ys ≡ o ∷ xs → AreOctets ys → (o < 256) × AreOctets xs
 rest_fits o xs ys e h = subst AreOctets e h
-
-pub suffix_fits : (xs ys : List ℕ) → AreOctets (xs ++ ys) → AreOctets ys
-suffix_fits [] ys h = h
-suffix_fits (x ∷ xs) ys h = suffix_fits xs ys h.1
 
 -- ---- semi-octets and digits
 
@@ -199,18 +197,6 @@ digits_again (d ∷ e ∷ ds) rest h =
 
 -- ---- the type of number
 
-type_back : (n : ℕ) (t : TypeOfNumber) → type_of n ≡ Some t → type_number t ≡ n
-type_back zero t e = let f : Unknown ≡ t = cc in rw (← f) refl
-type_back (suc zero) t e = let f : International ≡ t = cc in rw (← f) refl
-type_back (suc (suc zero)) t e = let f : National ≡ t = cc in rw (← f) refl
-type_back (suc (suc (suc zero))) t e = let f : NetworkSpecific ≡ t = cc in rw (← f) refl
-type_back (suc (suc (suc (suc zero)))) t e = let f : Subscriber ≡ t = cc in rw (← f) refl
-type_back (suc (suc (suc (suc (suc zero))))) t e = let f : Alphanumeric ≡ t = cc in rw (← f) refl
-type_back (suc (suc (suc (suc (suc (suc zero)))))) t e = let f : Abbreviated ≡ t = cc in rw (← f) refl
-type_back (suc (suc (suc (suc (suc (suc (suc n))))))) t e =
-    let none : type_of (suc (suc (suc (suc (suc (suc (suc n))))))) ≡ None = rw (ne_eqb (suc (suc (suc (suc (suc (suc (suc n))))))) 0 (λ x. omega arith), ne_eqb (suc (suc (suc (suc (suc (suc (suc n))))))) 1 (λ x. omega arith), ne_eqb (suc (suc (suc (suc (suc (suc (suc n))))))) 2 (λ x. omega arith), ne_eqb (suc (suc (suc (suc (suc (suc (suc n))))))) 3 (λ x. omega arith), ne_eqb (suc (suc (suc (suc (suc (suc (suc n))))))) 4 (λ x. omega arith), ne_eqb (suc (suc (suc (suc (suc (suc (suc n))))))) 5 (λ x. omega arith), ne_eqb (suc (suc (suc (suc (suc (suc (suc n))))))) 6 (λ x. omega arith)) refl in
-    absurd cc
-
 type_again : (t : TypeOfNumber) → (type_of (type_number t) ≡ Some t) × (type_number t < 7)
 type_again Unknown = (refl, omega arith)
 type_again International = (refl, omega arith)
@@ -229,7 +215,7 @@ unfolding type_of_number_in
 type_takes o t e =
     let a = bind_ok (only_if (not (ltb o 128)) BadAddress) _ t e in
     let high : 128 ≤ o = ltb-false o 128 (not-true _ (passes _ BadAddress a.0 a.1)) in
-    let n : type_number t ≡ o / 16 - 8 = type_back (o / 16 - 8) t (ok_or_is _ t a.2) in
+    let n : type_number t ≡ o / 16 - 8 = type_number-of (o / 16 - 8) t (ok_or_is _ t a.2) in
     omega (arith, n, high)
 
 pub type_again_in : (t : TypeOfNumber) (npi : ℕ) → npi < 16 → type_of_number_in (128 + 16 * type_number t + npi) ≡ Ok t
@@ -287,7 +273,7 @@ name_takes count xs x fits e =
       value_len = p.1;
       value_is = ap (value_in 256) (sym front) ∙ sym (value_in-digits n v below);
       name_is = refl;
-      rest_fits = suffix_fits b.0.0 b.0.1 (subst AreOctets p.0 fits);
+      rest_fits = octets_behind b.0.0 b.0.1 (subst AreOctets p.0 fits);
     })
 
 name_again : (count : ℕ) (septets value rest : List ℕ) → length septets ≡ name_length count → AreSeptets septets → length value ≡ octets_for count → value_in 256 value ≡ value_in 128 septets

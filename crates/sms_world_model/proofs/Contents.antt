@@ -15,6 +15,7 @@ use Rattle.sms_concat.specs.declared.content.Content.{Content}
 use Rattle.sms_concat.specs.declared.content.Part.{Part as PartOf}
 use Rattle.sms_concat.proofs.FieldLaws.{read_says}
 use Rattle.sms_concat.proofs.Joined.{split_joins}
+use Rattle.sms_concat.proofs.Numbering.{length_numbered}
 use Rattle.sms_tpdu.specs.declared.user_data.UserData.{UserData}
 use Rattle.sms_world_model.specs.Submission.{Submission, HasPart, part_at}
 use Rattle.sms_world_model.specs.Place.{Key, Place, place_of, place_submitted, place_in, part_of, part_submitted, with_part, joined_parts}
@@ -83,10 +84,6 @@ numbered_key c r total k (x ∷ xs) (suc i) p e =
     let n : k + 1 + i ≡ k + suc i = omega arith in
     numbered_key c r total (k + 1) xs i p e ∙ ap (λ m. Some (let z : ConcatKey = record { reference = SixteenBit r; total = total; number = m } in z)) n
 
-numbered_length : (c : Content) (r total k : ℕ) (xs : List (List ℕ)) → length (numbered c r total k xs) ≡ length xs
-numbered_length c r total k [] = refl
-numbered_length c r total k (x ∷ xs) = ap (λ n. suc n) (numbered_length c r total (k + 1) xs)
-
 -- ---- the key of what a part carries
 
 part_key : (s : Submission) (part : UserData) (p : PartOf) → part_submitted s part ≡ Some p → header_key s.user_data_header_indicator part.octets ≡ p.key
@@ -120,7 +117,7 @@ split_parts s content reference x =
     let cut = x.split.cut x.long in
     let xs = cut.1.0 in
     let all = carry s (length s.parts) x.pieces x.carried in
-    let size : length s.parts ≡ length xs = sym all.0 ∙ ap (λ (ps : List PartOf). length ps) cut.1.2 ∙ numbered_length content reference (length xs) 1 xs in
+    let size : length s.parts ≡ length xs = sym all.0 ∙ ap (λ (ps : List PartOf). length ps) cut.1.2 ∙ length_numbered content reference (length xs) 1 xs in
     (refl, placed_part s content reference (length xs) xs x.pieces cut.1.2 size all)
 
 pub split_content : (s : Submission) (content : Content) (reference : ℕ) → IsSplitFrom s content reference → submitted_content s ≡ Some content

@@ -3,10 +3,10 @@ use Rattle.std.proofs.Common.{◌≡◌, ℕ, ◌<◌, ◌≤◌, List, true, re
 use Rattle.std.specs.Prelude.{◌==◌, ◌&&◌}
 use Rattle.std.proofs.lemmas.Bool.{and_parts, and_from}
 use Rattle.std.proofs.lemmas.Slice.Eq.{bytes_eq-Decides}
+use Rattle.sms_base.proofs.Addresses.{type_of-number}
 use Rattle.sms_base.specs.AddressKind.{type_number, type_of}
 use Rattle.sms_base.specs.declared.address.Address.{Address}
 use Rattle.sms_base.specs.declared.type_of_number.TypeOfNumber.{TypeOfNumber}
-use Rattle.sms_base.specs.declared.type_of_number.TypeOfNumber.TheVariants.{Unknown, International, National, NetworkSpecific, Subscriber, Alphanumeric, Abbreviated}
 use Rattle.sms_concat.specs.Joining.{is_same_reference}
 use Rattle.sms_concat.specs.UserData.{part_in}
 use Rattle.sms_alphabet.specs.Concatenation.{header_key}
@@ -28,18 +28,9 @@ use Rattle.sms_world_model.specs.Groups.{number_in, is_for}
 
 -- ---- keys that are one are equal
 
-type_is : (t : TypeOfNumber) → type_of (type_number t) ≡ Some t
-type_is Unknown = refl
-type_is International = refl
-type_is National = refl
-type_is NetworkSpecific = refl
-type_is Subscriber = refl
-type_is Alphanumeric = refl
-type_is Abbreviated = refl
-
 same_type : (t u : TypeOfNumber) → type_number t ≡ type_number u → t ≡ u
 same_type t u e =
-    let both : Some t ≡ Some u = sym (type_is t) ∙ ap (λ (n : ℕ). type_of n) e ∙ type_is u in
+    let both : Some t ≡ Some u = sym (type_of-number t) ∙ ap (λ (n : ℕ). type_of n) e ∙ type_of-number u in
     let q : t ≡ u = cc in q
 
 same_address : (a b : Address) → is_same_address a b ≡ true → a ≡ b

@@ -111,7 +111,7 @@ abbrev pub NoneTwice : List Accepted → Type 0
 NoneTwice [] = Unit {0}
 NoneTwice (p ∷ ps) = ¬ Among p ps × NoneTwice ps
 
-key_once : (h : List ℕ) (k : Key) (ps : List Accepted) → DeliversOnce ps → NoneTwice (of_key h k ps)
+pub key_once : (h : List ℕ) (k : Key) (ps : List Accepted) → DeliversOnce ps → NoneTwice (of_key h k ps)
 key_once h k [] o = tt
 key_once h k (p ∷ ps) o =
     ⊎_elim

@@ -1,7 +1,7 @@
 -- What the items of a run ask are events of a centre.
-use Rattle.std.proofs.Common.{◌≡◌, ◌<◌, ◌≤◌, ◌||◌, ◌⊎◌, arith, inl, inr, ⊎_elim, ℕ, zero, suc, true, false, not, List, [], ◌∷◌, ◌++◌, length, Option, Some, None, Result, Ok, Err, if◌then◌else◌, refl, sym, subst}
+use Rattle.std.proofs.Common.{◌≡◌, ◌≤◌, ◌||◌, ◌⊎◌, inl, inr, ⊎_elim, ℕ, true, not, List, ◌++◌, length, Option, Some, None, Result, Ok, Err, if◌then◌else◌, refl, sym, subst}
 use Rattle.std.specs.Prelude.{nat_eq, nat_lt}
-use Rattle.std.specs.List.{AllByRecursion, list_all}
+use Rattle.std.specs.List.{list_all}
 use Rattle.std.proofs.lemmas.Bool.{and_parts, cond_both, not-true}
 use Rattle.sms_base.specs.Among.{Among}
 use Rattle.sms_base.specs.Reading.{AreOctets}
@@ -30,30 +30,13 @@ use Rattle.smsc_service.specs.Numbers.{is_number}
 use Rattle.smsc_service.specs.Seats.{Seats, followed, handset_of, link_key, raised, seat_of}
 use Rattle.smsc_service.specs.Serving.{followed_by}
 use Rattle.smsc_server.specs.RunPromises.{IsAsked, IsJob}
+use Rattle.smsc_service.proofs.Numbers.{number_is, some_there}
 
 -- the number of each link has at most 20 digits
 abbrev pub AreShort : List LinkSeat → Type 0
 AreShort links = (l : LinkSeat) → Among l links → length l.handset ≤ 20
 
 -- ---- numbers
-
-some_there : (n : ℕ) → nat_eq n 0 ≡ false → 0 < n
-some_there zero e = absurd cc
-some_there (suc n) e = omega arith
-
-all_digits : (text : List ℕ) → list_all is_digit text ≡ true → AllByRecursion (λ c. is_digit c ≡ true) text
-all_digits [] e = tt
-all_digits (c ∷ cs) e = let p = and_parts (is_digit c) (list_all is_digit cs) e in (p.0, all_digits cs p.1)
-
-number_is : (digits : List ℕ) → 0 < length digits → length digits ≤ 20 → list_all is_digit digits ≡ true → IsNumber digits
-number_is digits some few all = record {
-  npi = (let l : 1 < 16 = omega arith in l);
-  digits = record {
-    some = some;
-    number = λ no. record { few = few; digits = all_digits digits all };
-    name = λ yes. absurd cc;
-  };
-}
 
 pub number_of : (number : List ℕ) → length number ≤ 20 → is_number number ≡ true → IsNumber number
 number_of number few e =

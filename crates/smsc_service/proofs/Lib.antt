@@ -2,11 +2,11 @@ pub mod AccountsCome
 mod Archived
 mod ByFate
 mod ByOctets
-mod Numbers
+pub mod Numbers
 mod OrdersTold
 pub mod RokNames
 mod Roomy
-mod Sittings
+pub mod Sittings
 mod Standing
 mod Stepped
 mod Walking

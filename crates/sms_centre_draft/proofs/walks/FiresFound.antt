@@ -1,6 +1,7 @@
 -- Timers fire at the lines that are found as the walk begins, whatever comes of those that fired before.
 use Rattle.std.proofs.Common.{◌≡◌, ℕ, ◌+◌, List, [], ◌∷◌, ◌++◌, Bool, true, false, Option, Some, None, refl, sym, ◌∙◌, ap, ⊎_elim, is_none, append-nil, arith}
 use Rattle.std.specs.Prelude.{◌&&◌, filter, if◌then◌else◌}
+use Rattle.sms_base.proofs.OctetLaws.{cases_octets}
 use Rattle.sms_control.specs.DueTimers.{is_due}
 use Rattle.sms_control.specs.LinkStep.{Step, quiet}
 use Rattle.sms_control.proofs.QuietTimers.{quiet_timers}
@@ -14,7 +15,7 @@ use Rattle.sms_centre_rows.specs.waiting.Links.{Links, filled, line_at, line_of,
 use Rattle.sms_centre_rows.specs.waiting.References.{handset_at}
 use Rattle.sms_centre_rows.specs.waiting.SoundAllocations.{SoundAllocations}
 use Rattle.sms_centre_rows.proofs.waiting.LinksRepresented.{line_put_other}
-use Rattle.sms_centre_rows.proofs.waiting.Mentions.{cases_number, number_behind, number_here}
+use Rattle.sms_centre_rows.proofs.waiting.Mentions.{number_behind, number_here}
 use Rattle.sms_centre_queue.specs.declared.queues.concern.ConcernedHandset.{ConcernedHandset}
 use Rattle.sms_centre_queue.specs.declared.queues.concern.Concern.TheVariants.{Fire, FireUnmentioned}
 use Rattle.sms_centre_queue.specs.queues.LineOrder.{AreLines}
@@ -129,7 +130,7 @@ unmentioned_left (h ∷ hs) number d none = ⊎_elim
     let here = leaves h.number number d ne in
     let rest = unmentioned_left hs number (fire_there h.number d) (sym (number_behind number h hs ne) ∙ none) in
     record { line = rest.line ∙ here.line; moment = rest.moment ∙ here.moment })
-    (cases_number h.number number)
+    (cases_octets h.number number)
 
 -- ---- the handsets that were given none
 

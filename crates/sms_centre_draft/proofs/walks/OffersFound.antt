@@ -49,7 +49,7 @@ rests number d e = ap (λ (a : Links). on_links a d) (rests_on number (line_of n
 -- ---- the lines of others stay
 
 -- reading touches no line
-read_lines : (l : QueuedPart) (s : Store) (links : Links) → (read_of l s links).lines ≡ links.lines
+pub read_lines : (l : QueuedPart) (s : Store) (links : Links) → (read_of l s links).lines ≡ links.lines
 read_lines l s links = cond_both (is_made l s) links (read_for (queued_key l) links) (λ (a : Links). a.lines ≡ links.lines) (λ t. refl) (λ t. refl)
 
 queued_other : (line : HandsetLink) (all_queued : List QueuedPart) (o : Option QueuedPart) (s : Store) (links : Links) (other : List ℕ) → ¬ (line.handset ≡ other) → line_of other (offer_queued line all_queued o s links).lines ≡ line_of other links.lines

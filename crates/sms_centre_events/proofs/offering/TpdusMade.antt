@@ -37,6 +37,7 @@ use Rattle.sms_centre_spec.specs.SoundRows.{IsSound}
 use Rattle.sms_centre_spec.specs.Consistent.{IsConsistent}
 use Rattle.sms_centre_events.specs.offering.Stored.{Stores, made_tpdu}
 use Rattle.sms_centre_events.proofs.offering.Unput.{PutsNone, stood}
+use Rattle.sms_centre_reports.proofs.awaited.AsDefined.{octets_as, puts_as}
 
 -- ---- what waits is a part, or a status report
 
@@ -142,22 +143,12 @@ part_made h l s consistent among nonzero =
 
 -- ---- a status report that the event made
 
-report_puts : (id : ℕ) (news : List (Revision ReportRow)) → report_is_made id news ≡ puts_report id news
-report_puts id [] = refl
-report_puts id (Put r ∷ news) = ap (λ (b : Bool). (r.id == id) || b) (report_puts id news)
-report_puts id (Amend n progress ∷ news) = report_puts id news
-report_puts id (Remove n ∷ news) = report_puts id news
-
-same_octets : (o : Option ReportRow) → tpdu_in o ≡ report_tpdu o
-same_octets None = refl
-same_octets (Some r) = refl
-
 pub report_made_is : (l : QueuedPart) (s : Store) → (l.number == 0) ≡ true → tpdu_made l.id s.reports ≡ made_tpdu l s
 report_made_is l s is =
     let octets : tpdu_of l s ≡ tpdu_in (report_of l.id (reports_in s)) =
-    cond-true (l.number == 0) (report_tpdu (report_of l.id (reports_in s))) (part_tpdu (part_at l.id l.number (parts_in s))) is ∙ sym (same_octets (report_of l.id (reports_in s))) in
+    cond-true (l.number == 0) (report_tpdu (report_of l.id (reports_in s))) (part_tpdu (part_at l.id l.number (parts_in s))) is ∙ sym (octets_as (report_of l.id (reports_in s))) in
     let made : is_made l s ≡ report_is_made l.id s.reports.news =
-    cond-true (l.number == 0) (puts_report l.id s.reports.news) (puts_part (queued_key l) s.messages.parts.news) is ∙ sym (report_puts l.id s.reports.news) in
+    cond-true (l.number == 0) (puts_report l.id s.reports.news) (puts_part (queued_key l) s.messages.parts.news) is ∙ sym (puts_as l.id s.reports.news) in
     sym (ap (λ (b : Bool). cond b (Some (tpdu_of l s)) None) made ∙ ap (λ (t : List ℕ). cond (report_is_made l.id s.reports.news) (Some t) None) octets)
 
 -- ---- what it did not make stands in the store

@@ -33,7 +33,7 @@ use Rattle.sms_centre_spec.specs.Keeping.{Keeps}
 use Rattle.sms_centre_spec.specs.Consistent.{IsSubmission}
 use Rattle.sms_centre_spec.specs.Submitting.{accept, accept_as, accept_split, accept_under, enter, give_part, give_parts, message_of, part_given, reference_for}
 use Rattle.sms_centre_spec.specs.Transfers.{complete}
-use Rattle.sms_centre_spec.proofs.KeepingSteady.{SoundSince, since_steady}
+use Rattle.sms_centre_spec.proofs.KeepingSteady.{SoundSince, both_there, since_steady}
 use Rattle.sms_centre_spec.proofs.NextNumbers.{below_next_number}
 use Rattle.sms_centre_spec.proofs.SoundStores.{SoundStore}
 use Rattle.sms_centre_spec.proofs.Stages.{IfThere}
@@ -51,11 +51,11 @@ pub record Moving (base : Rows) (m : Messages) : Type 0 where
 
 -- ---- a message ends
 
-status_touches : (f : FinalState) (m : MessageRow) (h : HandsetRow) (o : Option ℕ) (s : Store) → (status_given f m h o s).messages ≡ s.messages
+pub status_touches : (f : FinalState) (m : MessageRow) (h : HandsetRow) (o : Option ℕ) (s : Store) → (status_given f m h o s).messages ≡ s.messages
 status_touches f m h None s = refl
 status_touches f m h (Some r) s = refl
 
-report_touches : (o : Originator) (f : FinalState) (m : MessageRow) (s : Store) → (report_to o f m s).messages ≡ s.messages
+pub report_touches : (o : Originator) (f : FinalState) (m : MessageRow) (s : Store) → (report_to o f m s).messages ≡ s.messages
 report_touches (Application account) f m s = refl
 report_touches (Handset n) f m s =
     let h : HandsetRow = handset_of m.source.digits (handsets_in s) in status_touches f m h (reference_for h s) s
@@ -214,10 +214,6 @@ accept_moves base u s sound since k fit =
 
 abbrev pub MovingSince : Rows → Store → Type 0
 MovingSince base s = SoundSince base s × Moving base s.messages
-
-both_there : (A B : Store → Type 0) (o : Option Store) → IfThere A o → IfThere B o → IfThere (λ (s : Store). A s × B s) o
-both_there A B None a b = tt
-both_there A B (Some s) a b = (a, b)
 
 pub moving_steady : (base : Rows) → SoundMessages base.messages base.parts base.priorities → IsSteady (MovingSince base)
 moving_steady base sound =

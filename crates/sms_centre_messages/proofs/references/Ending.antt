@@ -1,9 +1,8 @@
 -- A message ends, and a part comes.
-use Rattle.std.proofs.Common.{◌≡◌, ℕ, ◌+◌, ◌-◌, ◌<◌, ◌≤◌, nat_eq, List, [], ◌∷◌, Bool, true, false, Option, Some, None, is_some, is_none, true≢false, refl, sym, ◌∙◌, ap, subst, ⊎_elim, arith}
+use Rattle.std.proofs.Common.{◌≡◌, ℕ, ◌+◌, ◌-◌, ◌<◌, ◌≤◌, nat_eq, List, [], ◌∷◌, Bool, true, false, Option, Some, None, is_some, refl, sym, ◌∙◌, ap, subst, ⊎_elim, arith}
 use Rattle.std.specs.Prelude.{◌==◌, ◌&&◌, not, if◌then◌else◌}
 use Rattle.std.specs.Str.{bytes_eq}
 use Rattle.std.proofs.lemmas.Bool.{cases_eq}
-use Rattle.sms_base.specs.Among.{Among}
 use Rattle.sms_base.specs.declared.address.Address.{Address}
 use Rattle.sms_base.specs.declared.final_state.FinalState.{FinalState}
 use Rattle.sms_base.specs.declared.originator.Originator.{Originator}
@@ -21,6 +20,8 @@ use Rattle.sms_centre_messages.specs.references.ReferenceIndex.{AreFew, BarsLess
 use Rattle.sms_centre_messages.specs.references.Counts.{CountsOf, IsAdded, IsTaken, counted, one_if}
 use Rattle.sms_centre_messages.specs.references.Keys.{is_same_sender, key_of, pair_of}
 use Rattle.sms_centre_messages.proofs.references.Entering.{at_most_one, none_any, none_first, plus_none, same_both, total_few, total_same, turned_back}
+use Rattle.sms_centre_spec.proofs.forgetting.Splits.{above_among}
+use Rattle.sms_centre_spec.proofs.SoundMessagesStay.{pending_undelivered as undelivered}
 
 -- ---- totals where a row takes the place of another
 
@@ -91,13 +92,6 @@ put_after : (m x : MessageRow) (xs : List MessageRow) → x.id < m.id → put me
 put_after m x xs l =
     ap (λ (z : List MessageRow). insert message_key m z) (without_behind message_key m.id x xs (λ (e : x.id ≡ m.id). absurd (omega (arith, e, l))))
     ∙ insert_behind message_key m x (without message_key m.id xs) (omega (arith, l))
-
-above_among : (n : ℕ) (m : MessageRow) (xs : List MessageRow) → AllAbove message_key n xs → Among m xs → n < m.id
-above_among n m [] above a = elim a [ ]
-above_among n m (x ∷ xs) above a = ⊎_elim
-    (λ (e : m ≡ x). let l = above.0 in let q = ap (λ (r : MessageRow). r.id) e in omega (arith, l, q))
-    (λ (r : Among m xs). above_among n m xs above.1 r)
-    a
 
 last_stays : (source : Address) (handset : List ℕ) (state : FinalState) (moment : ℕ) (l : Option ℕ) (m : MessageRow) (ms : List MessageRow) → Rises message_key ms → message_at m.id ms ≡ Some m
     → last_split source handset l (put message_key (ended state moment m) ms) ≡ last_split source handset l ms
@@ -172,11 +166,6 @@ holds_ended m state moment old new ms ps ends h rises there open' undelivered =
           let after = ends.pending source handset reference in
           omega (arith, replaced, before, after);
     }
-
--- it is told by its row after its end too
-undelivered : (o : Option FinalState) → is_none o ≡ true → is_delivered o ≡ false
-undelivered None e = refl
-undelivered (Some state) e = absurd (true≢false (sym e))
 
 held_still : (m : MessageRow) (key : MessageEnds) → is_pending m ≡ true → holds key (still m) ≡ holds key m
 held_still m key open' = ap (λ (d : Bool). one_if (is_of key m && (not d && is_reference key.number m.split_reference))) (sym (undelivered m.state open'))

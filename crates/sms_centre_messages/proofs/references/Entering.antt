@@ -1,9 +1,9 @@
 -- A message comes behind all others.
-use Rattle.std.proofs.Common.{◌≡◌, ℕ, ◌+◌, ◌<◌, ◌≤◌, nat_eq, List, [], ◌∷◌, ◌++◌, length, Bool, true, false, Option, Some, None, is_some, refl, sym, ◌∙◌, ap, inl, inr, ⊎_elim, eq-eqb, arith}
+use Rattle.std.proofs.Common.{◌≡◌, ℕ, ◌+◌, ◌<◌, ◌≤◌, nat_eq, List, [], ◌∷◌, ◌++◌, length, Bool, true, false, Option, Some, None, is_some, refl, sym, ◌∙◌, ap, inl, inr, arith}
 use Rattle.std.specs.Prelude.{◌==◌, ◌&&◌, not, if◌then◌else◌}
 use Rattle.std.specs.Str.{bytes_eq}
-use Rattle.std.proofs.lemmas.Bool.{cases_eq, ne_eqb}
 use Rattle.std.proofs.lemmas.Slice.Eq.{bytes_eq-Decides}
+use Rattle.sms_base.proofs.Bools.{swapped}
 use Rattle.sms_base.specs.Among.{Among}
 use Rattle.sms_base.specs.declared.address.Address.{Address}
 use Rattle.sms_base.specs.declared.originator.Originator.{Originator}
@@ -180,12 +180,6 @@ other_way a b = by (bytes_eq a b) (bytes_eq b a) refl refl where
   by false true e f = ((bytes_eq-Decides a b).1 (sym ((bytes_eq-Decides b a).0 f))) ∙ sym f
   by false false e f = e ∙ sym f
 
-number_other_way : (a b : ℕ) → nat_eq a b ≡ nat_eq b a
-number_other_way a b = ⊎_elim
-    (λ (e : a ≡ b). eq-eqb a b e ∙ sym (eq-eqb b a (sym e)))
-    (λ (e : a ≡ b → ⊥). ne_eqb a b e ∙ sym (ne_eqb b a (λ q. e (sym q))))
-    (cases_eq a b)
-
 turned : (s h n : Bool) → one_if (s && (h && n)) ≡ one_if (true && (n && (s && h)))
 turned true true true = refl
 turned true true false = refl
@@ -198,7 +192,7 @@ pub turned_back : (m : MessageRow) (reference : ℕ) (source handset : List ℕ)
     → one_if (bytes_eq m.source.digits source && (bytes_eq m.handset handset && nat_eq reference n)) ≡ one_if (repeats source handset n m)
 turned_back m reference source handset n from open' =
     turned (bytes_eq m.source.digits source) (bytes_eq m.handset handset) (nat_eq reference n)
-    ∙ ap (λ (b : Bool). one_if (true && (b && (bytes_eq m.source.digits source && bytes_eq m.handset handset)))) (number_other_way reference n)
+    ∙ ap (λ (b : Bool). one_if (true && (b && (bytes_eq m.source.digits source && bytes_eq m.handset handset)))) (swapped reference n)
     ∙ ap (λ (b : Bool). one_if (true && ((n == reference) && (b && bytes_eq m.handset handset)))) (other_way m.source.digits source)
     ∙ ap (λ (b : Bool). one_if (true && ((n == reference) && (bytes_eq source m.source.digits && b)))) (other_way m.handset handset)
     ∙ ap (λ (b : Bool). one_if (b && ((n == reference) && (bytes_eq source m.source.digits && bytes_eq handset m.handset)))) (sym open')

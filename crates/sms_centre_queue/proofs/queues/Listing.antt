@@ -1,19 +1,13 @@
 -- One key comes into the index or goes, and one queue comes under its key.
-use Rattle.std.proofs.Common.{◌≡◌, ℕ, List, [], ◌∷◌, length, Bool, true, false, nat_eq, Option, Some, None, refl, sym, ◌∙◌, ap, subst, ⊎_elim, cond, is_some, eq-eqb}
+use Rattle.std.proofs.Common.{◌≡◌, ℕ, List, [], ◌∷◌, length, Bool, true, false, nat_eq, Option, Some, None, refl, sym, ◌∙◌, ap, subst, cond, is_some}
 use Rattle.std.specs.Map.{lookup}
-use Rattle.std.proofs.lemmas.Bool.{cases_eq, ne_eqb}
 use Rattle.sms_base.proofs.Lists.{no_items}
+use Rattle.sms_base.proofs.Bools.{swapped}
 use Rattle.sms_centre_queue.specs.declared.queues.placed_queue.PlacedQueue.{PlacedQueue}
 use Rattle.sms_centre_queue.specs.declared.queues.concern.ConcernedHandset.{ConcernedHandset}
 use Rattle.sms_centre_queue.specs.declared.queues.concern.Concern.TheVariants.{Offer}
 use Rattle.sms_centre_queue.specs.queues.Queues.{DeliveryQueuesDraftOf, is_listed, under}
 use Rattle.sms_centre_queue.specs.queues.Stops.{rested_at, scanned}
-
-pub swapped : (a b : ℕ) → nat_eq a b ≡ nat_eq b a
-swapped a b = ⊎_elim
-    (λ (e : a ≡ b). eq-eqb a b e ∙ sym (eq-eqb b a (sym e)))
-    (λ (e : a ≡ b → ⊥). ne_eqb a b e ∙ sym (ne_eqb b a (λ q. e (sym q))))
-    (cases_eq a b)
 
 over_cond : (b : Bool) (x y : Option (Unit {0})) → is_some (cond b x y) ≡ cond b (is_some x) (is_some y)
 over_cond true x y = refl

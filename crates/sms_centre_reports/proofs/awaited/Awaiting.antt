@@ -21,14 +21,15 @@ use Rattle.sms_centre_rows.proofs.reports.ReportRows.{amended_other}
 use Rattle.sms_centre_rows.proofs.reports.Serving.{fewest_found}
 use Rattle.sms_centre_reports.specs.open_reports.Awaited.{IsAwaited}
 use Rattle.sms_centre_reports.specs.open_reports.Entries.{account_in, account_of}
-use Rattle.sms_centre_reports.proofs.open_reports.Keeping.{alone_found}
 use Rattle.sms_centre_reports.proofs.open_reports.ReceiptsMoved.{awaited_behind, still_awaited}
 use Rattle.sms_centre_reports.specs.sessions.Answering.{bindings_answered_by, bindings_unbound_from, reports_answered_by, reports_due, reports_unbound_from, session_new}
 use Rattle.sms_centre_reports.specs.sessions.Awaited.{AreAwaited}
-use Rattle.sms_centre_reports.proofs.sessions.Ending.{is_among_so}
 use Rattle.sms_centre_rows.specs.declared.waiting.progress.Progress.{Progress}
 use Rattle.sms_centre_rows.specs.waiting.Revisions.{Revised}
 use Rattle.sms_centre_rows.specs.waiting.Trying.{due_at, finished}
+use Rattle.sms_centre_spec.proofs.forgetting.Runs.{among_so}
+use Rattle.sms_centre_spec.proofs.forgetting.Begins.{is_member}
+use Rattle.sms_centre_spec.proofs.bodies.Bodies.{alone_found}
 
 -- ---- lists of numbers
 
@@ -43,21 +44,10 @@ left_among id n (x ∷ ids) m = ⊎_elim
     (subst (λ (l : List ℕ). Among n l) (cond-false (x == id) (without_id id ids) (x ∷ without_id id ids) t) m))
     (cases_Bool (x == id))
 
-among_is : (n : ℕ) (ids : List ℕ) → Among n ids → is_among n ids ≡ true
-among_is n [] m = elim m [ ]
-among_is n (x ∷ ids) m = ⊎_elim
-    (λ (e : n ≡ x). ap (λ (b : Bool). b || is_among n ids) (eq-eqb x n (sym e)))
-    (λ (k : Among n ids). ap (λ (b : Bool). (x == n) || b) (among_is n ids k) ∙ or_true (x == n))
-    m
-  where
-    or_true : (b : Bool) → (b || true) ≡ true
-    or_true true = refl
-    or_true false = refl
-
 unanswered_is : (id : ℕ) (s : Session) (ss : List Session) → Among s ss → Among id s.unanswered → is_unanswered id ss ≡ true
 unanswered_is id s [] m k = elim m [ ]
 unanswered_is id s (x ∷ ss) m k = ⊎_elim
-    (λ (e : s ≡ x). ap (λ (b : Bool). b || is_unanswered id ss) (among_is id x.unanswered (subst (λ (y : Session). Among id y.unanswered) e k)))
+    (λ (e : s ≡ x). ap (λ (b : Bool). b || is_unanswered id ss) (is_member id x.unanswered (subst (λ (y : Session). Among id y.unanswered) e k)))
     (λ (l : Among s ss). ap (λ (b : Bool). is_among id x.unanswered || b) (unanswered_is id s ss l k) ∙ or_true (is_among id x.unanswered))
     m
   where
@@ -170,7 +160,7 @@ module _ (ms : List MessageRow) (moment : ℕ) (b : Bool) (t : Revised ReportRow
       one_changes ms (reports_of t) (reports_of (receipt_ended b moment (report_of id (reports_of t)) t)) ss s (without_id id s.unanswered)
       (λ n l. let f = left_among id n s.unanswered l in ended_other (report_of id (reports_of t)) id s.account n refl f.1 (k.each s m n f.0))
       (λ x o ne n l. (
-        ended_other (report_of id (reports_of t)) id x.account n refl (λ e. ne (k.apart x s o m id (subst (λ (i : ℕ). Among i x.unanswered) e l) (is_among_so id s.unanswered sent))) (k.each x o n l),
+        ended_other (report_of id (reports_of t)) id x.account n refl (λ e. ne (k.apart x s o m id (subst (λ (i : ℕ). Among i x.unanswered) e l) (among_so id s.unanswered sent))) (k.each x o n l),
         λ p. ne (k.apart x s o m n l (left_among id n s.unanswered p).0),
       ))
       k.apart

@@ -35,6 +35,7 @@ use Rattle.sms_centre_spec.proofs.Stages.{IfThere}
 use Rattle.sms_centre_spec.proofs.AcceptedConsistent.{then_there}
 use Rattle.sms_centre_spec.proofs.StagesConsistent.{part_far_consistent, consistent_steady}
 use Rattle.sms_centre_spec.proofs.Steady.{IsFirm, message_own, stays_closed}
+use Rattle.sms_centre_spec.proofs.KeepingSteady.{both_there}
 
 -- a receipt that is open is open still
 pub record Stay (before after : List ReportRow) : Type 0 where
@@ -79,10 +80,6 @@ accept_leaves : (Q : List ReportRow → Type 0) (u : Submission) (s : Store) →
 accept_leaves Q u s k =
     let id : ℕ = next_number (rows_of s) in
     cond_both (nat_le id 9999999999) (accept_as id u s) None (λ (o : Option Store). IfThere (λ (e : Store). Q (reports_in e)) o) (λ t. as_leaves Q id u s k) (λ t. tt)
-
-both_there : (A B : Store → Type 0) (o : Option Store) → IfThere A o → IfThere B o → IfThere (λ (s : Store). A s × B s) o
-both_there A B None a b = tt
-both_there A B (Some s) a b = (a, b)
 
 -- ---- an end makes a report at most, and none stood there
 

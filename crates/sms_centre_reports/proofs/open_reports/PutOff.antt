@@ -21,11 +21,12 @@ use Rattle.sms_centre_reports.specs.open_reports.Entries.{account_in, account_of
 use Rattle.sms_centre_reports.specs.open_reports.OpenReports.{OpenReportsOf, Represents, receipts_at}
 use Rattle.sms_centre_reports.specs.open_reports.OpenReportsDraft.{OpenReportsDraftOf, DraftRepresents}
 use Rattle.sms_centre_reports.proofs.open_reports.Amended.{amend_each, amends_end, amends_on, from_amended, from_first}
-use Rattle.sms_centre_reports.proofs.open_reports.Keeping.{alone_found, kept_where, receipt_place}
+use Rattle.sms_centre_reports.proofs.open_reports.Keeping.{kept_where, receipt_place}
 use Rattle.sms_centre_reports.proofs.open_reports.Serving.{among_preserved, first_found, first_reaches, preserved_among, preserved_of}
 use Rattle.sms_centre_rows.specs.declared.waiting.progress.Progress.{Progress}
 use Rattle.sms_centre_rows.specs.waiting.Revisions.{Revised}
 use Rattle.sms_centre_rows.specs.waiting.Trying.{due_at}
+use Rattle.sms_centre_spec.proofs.bodies.Bodies.{alone_found}
 
 -- ---- what is put off
 

@@ -7,9 +7,9 @@ use Rattle.std.proofs.lemmas.Slice.Eq.{bytes_eq-Decides}
 use Rattle.std.specs.Str.{bytes_eq}
 use Rattle.std.proofs.Common.{eq-eqb, eqb-true, Some}
 use Rattle.std.specs.Prelude.{◌==◌}
+use Rattle.sms_base.proofs.Addresses.{type_of-number}
 use Rattle.sms_base.specs.declared.address.Address.{Address}
 use Rattle.sms_base.specs.declared.type_of_number.TypeOfNumber.{TypeOfNumber}
-use Rattle.sms_base.specs.declared.type_of_number.TypeOfNumber.TheVariants.{Unknown, International, National, NetworkSpecific, Subscriber, Alphanumeric, Abbreviated}
 use Rattle.sms_base.specs.Address.{IsAddress, IsAddressText, has_code, septet_count, width_of}
 use Rattle.sms_base.specs.AddressKind.{is_name, type_number, type_of}
 use Rattle.sms_base.specs.Alphabet.{code_for}
@@ -78,18 +78,9 @@ address_tested a = (address_from a, address_to a)
 
 -- ---- addresses that are one
 
-type_is : (t : TypeOfNumber) → type_of (type_number t) ≡ Some t
-type_is Unknown = refl
-type_is International = refl
-type_is National = refl
-type_is NetworkSpecific = refl
-type_is Subscriber = refl
-type_is Alphanumeric = refl
-type_is Abbreviated = refl
-
 same_type : (t u : TypeOfNumber) → type_number t ≡ type_number u → t ≡ u
 same_type t u e =
-    let both : Some t ≡ Some u = sym (type_is t) ∙ ap (λ (n : ℕ). type_of n) e ∙ type_is u in
+    let both : Some t ≡ Some u = sym (type_of-number t) ∙ ap (λ (n : ℕ). type_of n) e ∙ type_of-number u in
     let q : t ≡ u = cc in q
 
 pub same_address : (a b : Address) → is_same_address a b ≡ true → a ≡ b
@@ -103,7 +94,7 @@ same_address a b e =
     ∙ ap (λ (n : ℕ). record b { npi = n; digits = a.digits }) npi
     ∙ ap (λ (d : List ℕ). record b { digits = d }) digits
 
-one_address : (a : Address) → is_same_address a a ≡ true
+pub one_address : (a : Address) → is_same_address a a ≡ true
 one_address a =
     and_from (type_number a.ton == type_number a.ton) ((a.npi == a.npi) && bytes_eq a.digits a.digits) (eq-eqb (type_number a.ton) (type_number a.ton) refl)
     (and_from (a.npi == a.npi) (bytes_eq a.digits a.digits) (eq-eqb a.npi a.npi refl) ((bytes_eq-Decides a.digits a.digits).1 refl))

@@ -31,7 +31,7 @@ report_alike : (h : List ℕ) (ms others : List MessageRow) (r : ReportRow) → 
 report_alike h ms others r e = ap (λ (o : Option MessageRow). if reports_to h r o then Some (report_queued r) else None) e
 
 -- the part under a key is of that message and has that number
-part_is : (ps : List PartRow) (id n : ℕ) (p : PartRow) → Numbered ps → n < 256 → part_at id n ps ≡ Some p → p.id ≡ id
+pub part_is : (ps : List PartRow) (id n : ℕ) (p : PartRow) → Numbered ps → n < 256 → part_at id n ps ≡ Some p → p.id ≡ id
 part_is ps id n p numbered small e =
     let k : pair_key p.id p.number ≡ pair_key id n = found_key part_key (pair_key id n) p ps e in
     let few = (numbered.numbers p (found_among part_key (pair_key id n) p ps e)).1 in

@@ -5,7 +5,7 @@ use Rattle.std.specs.Str.{bytes_eq}
 use Rattle.std.proofs.lemmas.Slice.Eq.{bytes_eq-Decides}
 use Rattle.sms_base.specs.AddressKind.{type_number}
 use Rattle.sms_base.specs.declared.address.Address.{Address}
-use Rattle.sms_centre_spec.proofs.forgetting.Splits.{above}
+use Rattle.sms_centre_spec.proofs.forgetting.Splits.{above_among}
 use Rattle.std.proofs.lemmas.Bool.{and_from, and_parts, cases_Bool, cases_eq, cond_both, eqb-true, leb-true, ltb-true, not-true, or_parts}
 use Rattle.sms_base.specs.Among.{Among}
 use Rattle.sms_rows.specs.table.Table.{Rises, row_at, rows_from}
@@ -136,7 +136,7 @@ given_or_later m n last (x ∷ xs) rises a e =
     ⊎_elim
     (λ (f : last_split m.source m.handset next xs ≡ next). let is : (last_split m.source m.handset next xs ≡ Some n) ⊎ LaterAmong m (x ∷ xs) = inl (f ∙ first) in is)
     (λ (s : SplitAmong m.source m.handset xs).
-    let high : m.id < s.0.id = subst (λ (y : MessageRow). y.id < s.0.id) (sym q) (above x.id s.0 xs rises.0 s.1.0) in
+    let high : m.id < s.0.id = subst (λ (y : MessageRow). y.id < s.0.id) (sym q) (above_among x.id s.0 xs rises.0 s.1.0) in
     let later : LaterAmong m (x ∷ xs) = (s.0, (inr s.1.0, (high, s.1.1))) in let is : (last_split m.source m.handset next xs ≡ Some n) ⊎ LaterAmong m (x ∷ xs) = inr later in is)
     (last_stays m.source m.handset next xs))
     (λ (b : Among m xs). ⊎_elim

@@ -43,7 +43,7 @@ report_stays goes id (r ∷ rs) s = ⊎_elim
     (cases_eq r.id id))
     (cases_Bool (goes r.id))
 
-next_amended : (n k : ℕ) (q : Progress) (rs : List ReportRow) → place_after n (amended report_key report_reaching k q rs) ≡ place_after n rs
+pub next_amended : (n k : ℕ) (q : Progress) (rs : List ReportRow) → place_after n (amended report_key report_reaching k q rs) ≡ place_after n rs
 next_amended n k q [] = refl
 next_amended n k q (r ∷ rs) =
     ap (λ (j : ℕ). place_after (j + 1) (amended report_key report_reaching k q rs)) (either (r.place == k)) ∙ next_amended (r.place + 1) k q rs

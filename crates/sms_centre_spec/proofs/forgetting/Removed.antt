@@ -32,7 +32,7 @@ use Rattle.sms_centre_spec.proofs.forgetting.Kept.{kept_among, rises_kept}
 
 -- ---- tests of numbers
 
-turn : (a b : ℕ) → (a == b) ≡ (b == a)
+pub turn : (a b : ℕ) → (a == b) ≡ (b == a)
 turn a b = ⊎_elim
     (λ (e : a ≡ b). eq-eqb a b e ∙ sym (eq-eqb b a (sym e)))
     (λ (e : a ≡ b → ⊥). ne_eqb a b e ∙ sym (ne_eqb b a (λ f. e (sym f))))

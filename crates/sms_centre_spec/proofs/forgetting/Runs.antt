@@ -14,11 +14,11 @@ use Rattle.sms_centre_spec.proofs.forgetting.Behind.{bare_behind, given_behind, 
 use Rattle.sms_centre_spec.proofs.forgetting.Ended.{report_goes}
 use Rattle.sms_centre_spec.proofs.forgetting.Everywhere.{event_same}
 
-is_there : (id : ℕ) (ns : List ℕ) → is_among id ns ≡ true → Among id ns
-is_there id [] e = let bad : false ≡ true = e in absurd cc
-is_there id (n ∷ ns) e = ⊎_elim
+pub among_so : (id : ℕ) (ns : List ℕ) → is_among id ns ≡ true → Among id ns
+among_so id [] e = let bad : false ≡ true = e in absurd cc
+among_so id (n ∷ ns) e = ⊎_elim
     (λ (t : (n == id) ≡ true). inl (sym (eqb-true n id t)))
-    (λ (t : (n == id) ≡ false). inr (is_there id ns (sym (ap (λ (b : Bool). b || is_among id ns) t) ∙ e)))
+    (λ (t : (n == id) ≡ false). inr (among_so id ns (sym (ap (λ (b : Bool). b || is_among id ns) t) ∙ e)))
     (cases_Bool (n == id))
 
 can_forget : (goes : ℕ → Bool) (large : Core) → Forgot goes (core_without goes large) large → CanForget goes large
@@ -27,7 +27,7 @@ can_forget goes large f = record {
   bare = f.bare;
   given = f.given;
   answered = λ s id a e.
-      let r = (f.left.each_session s a).unanswered id (is_there id s.unanswered e) in
+      let r = (f.left.each_session s a).unanswered id (among_so id s.unanswered e) in
       ⊎_elim
       (λ (t : goes id ≡ true). let bad : None ≡ Some r.0 = sym (report_goes goes id large.rows.reports t) ∙ r.1.0 in absurd cc)
       (λ (t : goes id ≡ false). t)

@@ -158,14 +158,14 @@ Later goes ms = (m : MessageRow) (n : ℕ) → Among m ms → goes m.id ≡ true
 behind : (m w : MessageRow) (ms : List MessageRow) → m.id < w.id → Among w (m ∷ ms) → Among w ms
 behind m w ms l among = ⊎_elim (λ (e : w ≡ m). let same : w.id ≡ m.id = ap (λ (x : MessageRow). x.id) e in absurd (omega (arith, l, same))) (λ (a : Among w ms). a) among
 
-pub above : (n : ℕ) (x : MessageRow) (ms : List MessageRow) → AllAbove message_key n ms → Among x ms → n < x.id
-above n x [] h a = absurd a
-above n x (m ∷ ms) h a = ⊎_elim (λ (e : x ≡ m). subst (λ (y : MessageRow). n < y.id) (sym e) h.0) (λ (b : Among x ms). above n x ms h.1 b) a
+pub above_among : (n : ℕ) (x : MessageRow) (ms : List MessageRow) → AllAbove message_key n ms → Among x ms → n < x.id
+above_among n x [] h a = absurd a
+above_among n x (m ∷ ms) h a = ⊎_elim (λ (e : x ≡ m). subst (λ (y : MessageRow). n < y.id) (sym e) h.0) (λ (b : Among x ms). above_among n x ms h.1 b) a
 
 later_tail : (goes : ℕ → Bool) (m : MessageRow) (ms : List MessageRow) → Rises message_key (m ∷ ms) → Later goes (m ∷ ms) → Later goes ms
 later_tail goes m ms rises later x n a g e =
     let f = later x n (inr a) g e in
-    let low : m.id < x.id = above m.id x ms rises.0 a in
+    let low : m.id < x.id = above_among m.id x ms rises.0 a in
     let high : x.id < f.0.id = f.1.1.0 in
     (f.0, (behind m f.0 ms (omega (arith, low, high)) f.1.0, f.1.1))
 

@@ -53,12 +53,12 @@ Fine c = HaveNoSystemError c.answers
 abbrev pub ok_play : PlayState → Result PlayState PlayFault
 ok_play c = Ok c
 
-same_play : (x d : PlayState) → ok_play x ≡ ok_play d → x ≡ d
+pub same_play : (x d : PlayState) → ok_play x ≡ ok_play d → x ≡ d
 same_play x d e = cc
 
 -- ---- one answer more
 
-either_part : (a : Answer) (xs : List Answer) (y : Answer) → Among a (xs ++ y ∷ []) → Among a xs ⊎ (a ≡ y)
+pub either_part : (a : Answer) (xs : List Answer) (y : Answer) → Among a (xs ++ y ∷ []) → Among a xs ⊎ (a ≡ y)
 either_part a [] y i = ⊎_elim (λ (e : a ≡ y). inr e) (λ (none : ⊥). absurd none) i
 either_part a (x ∷ xs) y i = ⊎_elim (λ (e : a ≡ x). inl (inl e)) (λ (j : Among a (xs ++ y ∷ [])). ⊎_elim (λ (k : Among a xs). inl (inr k)) (λ (e : a ≡ y). inr e) (either_part a xs y j)) i
 

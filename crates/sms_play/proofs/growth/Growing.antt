@@ -64,7 +64,7 @@ use Rattle.sms_play.specs.Meeting.{Meeting, AtCentre, AtHandset, by_account, by_
 use Rattle.sms_play.specs.PlayedEvent.{centre_restarted, handset_stored, handset_restarted, handset_restarts, stored, met, party_restarted, restart, restarted, stopped}
 use Rattle.sms_script.specs.declared.play_fault.PlayFault.{PlayFault}
 use Rattle.sms_play.specs.growth.Growth.{AcceptMore, Grows, GrowthLaw, HasPart, HaveParts, PartsStay, IsCentreEvent}
-use Rattle.sms_play.proofs.answers.PlayAnswers.{ok_play}
+use Rattle.sms_play.proofs.answers.PlayAnswers.{ok_play, same_play}
 use Rattle.sms_play.proofs.judging.Looking.{have_both}
 
 abbrev pub ok_meeting : Meeting → Result Meeting PlayFault
@@ -409,9 +409,6 @@ module _ (c : PlayState) where
 after_meeting : (r : Result Meeting PlayFault) (f : Meeting → PlayState) (d : PlayState) → (r >>= λ (m : Meeting). ok_play (f m)) ≡ ok_play d → (m : Meeting) × ((r ≡ ok_meeting m) × (f m ≡ d))
 after_meeting (Ok m) f d e = let q : f m ≡ d = cc in (m, (refl, q))
 after_meeting (Err fault) f d e = absurd cc
-
-same_play : (a b : PlayState) → ok_play a ≡ ok_play b → a ≡ b
-same_play a b e = cc
 
 party_grows : (number : ℕ) (n : List ℕ) (c d : PlayState) (o : Option Party) → party_at n c.parties ≡ o → handset_restarts number o c ≡ ok_play d → Grows c d
 party_grows number n c d None at e = absurd cc

@@ -4,6 +4,7 @@ use Rattle.std.specs.Prelude.{◌||◌, if◌then◌else◌, slice_index}
 use Rattle.std.proofs.lemmas.List.{get_or_past}
 use Rattle.std.proofs.lemmas.Bool.{cases_eq, cond-false, cond-true, eq-eqb, ne_eqb}
 use Rattle.sms_base.proofs.Bools.{or_turned}
+use Rattle.sms_base.proofs.Lists.{drop_behind}
 use Rattle.sms_play.specs.PlayState.{Party}
 use Rattle.sms_play.specs.Premises.{all_pairs, has_pair, is_same_pair, pairs_of}
 use Rattle.sms_script.specs.declared.report.rows.AcceptedRow.{AcceptedRow}
@@ -13,7 +14,7 @@ use Rattle.sms_play.specs.judging.Premises.{NoneAccepted, accepted_at}
 use Rattle.sms_play.specs.judging.Judging.{AreCounts, looked}
 use Rattle.sms_play.specs.judging.Watching.{HasAccepted, pair_accepted, pair_in}
 use Rattle.sms_play.specs.declared.judging.watch.Pair.{Pair}
-use Rattle.sms_play.proofs.judging.Looking.{dropped, none_below, one_less}
+use Rattle.sms_play.proofs.judging.Looking.{none_below, one_less}
 
 -- ---- pairs among others
 
@@ -74,7 +75,7 @@ module _ (x : Accepted) where
   pairs_on i (p ∷ ps) [] more l = absurd more
   pairs_on zero (p ∷ ps) (q ∷ qs) more l =
       let rows : List AcceptedRow = more.0.0 in
-      let new : drop (length p.accepted) q.accepted ≡ rows = ap (λ (z : List AcceptedRow). drop (length p.accepted) z) more.0.1 ∙ dropped p.accepted rows in
+      let new : drop (length p.accepted) q.accepted ≡ rows = ap (λ (z : List AcceptedRow). drop (length p.accepted) z) more.0.1 ∙ drop_behind p.accepted rows in
       let m : Bool = has_pair x (pairs_of [] rows) in
       let was : Bool = has_pair x (pairs_of [] p.accepted) in
       let rest : Bool = has_pair x (all_pairs ps) in

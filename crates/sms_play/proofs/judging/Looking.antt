@@ -4,7 +4,7 @@ use Rattle.std.specs.Prelude.{◌&&◌}
 use Rattle.std.specs.Option.{option_map}
 use Rattle.std.proofs.lemmas.List.{append-nil, append_assoc}
 use Rattle.sms_base.proofs.Bools.{and_assoc, and_true}
-use Rattle.sms_base.proofs.Lists.{drop_item}
+use Rattle.sms_base.proofs.Lists.{drop_behind, drop_item}
 use Rattle.sms_base.specs.declared.holder.Holder.{Holder}
 use Rattle.sms_base.specs.declared.holder.Holder.TheVariants.{Part, Report, Entry, Memory}
 use Rattle.sms_centre_rows.specs.declared.messages.part.PartRow.{PartRow}
@@ -216,10 +216,6 @@ pub behind_all : (xs ys : List GivenRow) → behind xs (xs ++ ys) ≡ ys
 behind_all [] ys = refl
 behind_all (x ∷ xs) ys = behind_all xs ys
 
-pub dropped : {A : Type 0} (xs ys : List A) → drop (length xs) (xs ++ ys) ≡ ys
-dropped [] ys = refl
-dropped (x ∷ xs) ys = dropped xs ys
-
 zero_at_most : (k : ℕ) → 0 ≤ k
 zero_at_most k = omega arith
 
@@ -244,7 +240,7 @@ module _ (before after : PlayState) (goes : Grows before after) (have : HavePart
   same_down = ap (λ (gs : List Allocation). newest_first [] gs) (sym (allocations_stay before.centre.rows.parts parts_after goes.parts before.given have))
 
   pub rows_are : drop (length before.given) after.given ≡ goes.more
-  rows_are = ap (λ (z : List GivenRow). drop (length before.given) z) goes.given ∙ dropped before.given goes.more
+  rows_are = ap (λ (z : List GivenRow). drop (length before.given) z) goes.given ∙ drop_behind before.given goes.more
 
   pub fresh_is : are_fresh (part_allocations parts_after goes.more) (newest_first [] (part_allocations before.centre.rows.parts before.given)) (all_pairs before.parties) ≡ is_fresh_event before after
   fresh_is =

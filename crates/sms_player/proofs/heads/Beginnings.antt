@@ -85,7 +85,7 @@ first_account a others e =
 pub account_good : (accounts : List AccountSetup) (i : ℕ) (a : AccountSetup) → i < length accounts → a ≡ get_or accounts i a → are_accounts (drop i accounts) ≡ true → (is_number a.number ≡ true) × (are_accounts (drop (i + 1) accounts) ≡ true)
 account_good accounts i a low is good = first_account a (drop (i + 1) accounts) (subst (λ (rest : List AccountSetup). are_accounts rest ≡ true) (drop_item accounts i a low is) good)
 
-accounts_are : (accounts : List AccountSetup) → are_accounts accounts ≡ true → (a : CentreAccount) → Among a (accounts_of accounts) → IsAddress a.address
+pub accounts_are : (accounts : List AccountSetup) → are_accounts accounts ≡ true → (a : CentreAccount) → Among a (accounts_of accounts) → IsAddress a.address
 accounts_are [] e a i = absurd i
 accounts_are (x ∷ xs) e a i =
     let p = first_account x xs e in

@@ -13,11 +13,11 @@ use Rattle.sms_player.specs.playing.Plays.{Represents}
 use Rattle.sms_player.specs.playing.Looked.{FollowsAll, FollowsOne}
 use Rattle.sms_player.specs.playing.Played.{PlayingOf}
 use Rattle.sms_player.specs.playing.Playing.{or_no_memory}
-use Rattle.sms_player.proofs.playing.Outcomes.{none_behind}
 use Rattle.sms_script.specs.declared.report.Broken.{Broken}
 use Rattle.sms_script.specs.declared.report.Broken.TheVariants.{Reused, Timely}
 use Rattle.sms_script.specs.declared.event.WorldEvent.{WorldEvent}
 use Rattle.sms_play.proofs.answers.PlayAnswers.{ok_play}
+use Rattle.sms_play.proofs.judging.Looking.{none_left}
 
 abbrev decided : Option Broken → Result (Option Broken) PlayFault
 decided b = Ok b
@@ -137,7 +137,7 @@ module _ (before after : Option Broken → PlayState → Type 0) (events : List 
 
 pub all_looked : (seen : Option Broken → PlayState → Type 0) (events : List WorldEvent) (c : PlayState) (broken : Option Broken) (place : ℕ) (p : PlayingOf) → Looks seen events c broken place p → length events ≤ place → FollowsAll seen p broken events c
 all_looked seen events c broken place p a l =
-    let none = none_behind events place l in (
+    let none = none_left events place l in (
       a.now,
       (
         a.found,

@@ -1,13 +1,10 @@
 -- Frames of the links' own: CP-ACK and CP-ERROR are control, and so is what is sent again.
-use Rattle.std.proofs.Common.{◌≡◌, ℕ, ◌+◌, List, [], ◌∷◌, ◌++◌, refl, sym, ◌∙◌, ap, subst, inr, Option, Some, None, Result, Ok, Err, length}
+use Rattle.std.proofs.Common.{◌≡◌, ℕ, ◌+◌, List, [], ◌∷◌, ◌++◌, refl, sym, ◌∙◌, ap, subst, inr, Option, Some, None, length}
 use Rattle.std.proofs.lemmas.List.{append-nil, append_assoc}
 use Rattle.sms_base.specs.declared.carried.Carried.{Carried}
 use Rattle.sms_control.specs.ControlReading.{cp_at}
 use Rattle.sms_control.specs.LinkStep.{Step}
-use Rattle.sms_control.specs.declared.fault.CpFault.{CpFault}
 use Rattle.sms_control.specs.declared.link_state.LinkState.{LinkState}
-use Rattle.sms_control.specs.declared.message.Cp.{Cp}
-use Rattle.sms_control.specs.declared.message.Cp.TheVariants.{DataUnit as CpData, AckUnit as CpAck, ErrorUnit as CpError}
 use Rattle.sms_control.specs.declared.out.Up.{Up}
 use Rattle.sms_control.specs.declared.transaction.TransactionFlag.{TransactionFlag}
 use Rattle.sms_link.specs.LinkTurn.{carried_by, carried_in, from_links, heard, of_links, still_under_way}
@@ -28,6 +25,7 @@ use Rattle.sms_world.proofs.centres_refine_the_world.Offers.{lines_with, stacked
 use Rattle.sms_world.proofs.centres_refine_the_world.Staying.{line_still}
 use Rattle.sms_world.specs.centre_runs_are_steps.Stages.{AnswersInEvent, Begins}
 use Rattle.sms_world.proofs.centre_runs_are_steps.Stepping.{still}
+use Rattle.sms_world.proofs.handset_runs_are_steps.Hearing.{bare_carries}
 
 -- what the links of a line do of their own accord
 abbrev pub hears : HandsetLink → Step → Draft → Draft
@@ -59,13 +57,6 @@ sends_frame b h x d w whole s =
       lines = λ y i. line_still w.bag v.bag (λ z j. inr j) y (s.lines y i);
       rows = record { table = s.rows.table; reports = s.rows.reports; holders = s.rows.holders; seconds = s.rows.seconds };
     }
-
--- what carries nothing
-pub bare_carries : (frame : List ℕ) (under_way answered : Option Carried) (r : Result Cp CpFault) → cp_at frame ≡ r → IsBare r → carried_in (cp_at frame) under_way answered ≡ None
-bare_carries frame under_way answered (Ok (CpData t unit)) e i = absurd i
-bare_carries frame under_way answered (Ok (CpAck t)) e i = ap (λ (z : Result Cp CpFault). carried_in z under_way answered) e
-bare_carries frame under_way answered (Ok (CpError t cause)) e i = ap (λ (z : Result Cp CpFault). carried_in z under_way answered) e
-bare_carries frame under_way answered (Err fault) e i = absurd i
 
 -- ---- what the links answer
 

@@ -119,7 +119,7 @@ one_longer [] x e = absurd cc
 one_longer (a ∷ xs) x e = one_longer xs x (let q : xs ≡ xs ++ x ∷ [] = cc in q)
 
 -- its answer is the number, where it is told so
-named_by : (a : CentreAnswer) (id : ℕ) → answered_as a ≡ Accepted id → a ≡ Submitted id
+pub named_by : (a : CentreAnswer) (id : ℕ) → answered_as a ≡ Accepted id → a ≡ Submitted id
 named_by (Submitted n) id e = let same : n ≡ id = cc in ap (λ (k : ℕ). Submitted k) same
 named_by (Queried n state moment) id e = absurd cc
 named_by Cancelled id e = absurd cc

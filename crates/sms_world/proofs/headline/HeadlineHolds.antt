@@ -47,7 +47,7 @@ pub nothing_more : (es : List WorldEvent) → es ≡ es ++ []
 nothing_more [] = refl
 nothing_more (e ∷ es) = ap (λ (z : List WorldEvent). e ∷ z) (nothing_more es)
 
-abbrev ok_report : Report → Result Report PlayFault
+abbrev pub ok_report : Report → Result Report PlayFault
 ok_report r = Ok r
 
 same_report : (a b : Report) → ok_report a ≡ ok_report b → a ≡ b

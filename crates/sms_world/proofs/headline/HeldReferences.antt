@@ -35,11 +35,12 @@ use Rattle.sms_play.specs.PlayedEvent.{handset_stored, handset_restarted, handse
 use Rattle.sms_world_model.specs.World.{World}
 use Rattle.sms_world.specs.scripts_are_runs.PlayRefinement.{PlayRefines}
 use Rattle.sms_world.proofs.scripts_are_runs.Events.{ok_play, same_play}
-use Rattle.sms_world.proofs.scripts_are_runs.Parties.{party_found, with_among, with_numbers}
+use Rattle.sms_world.proofs.scripts_are_runs.Parties.{party_found, with_among}
 use Rattle.sms_world.specs.entries_keep_references.ReportedEntries.{AreBelow, EntriesAgree}
 use Rattle.sms_world.proofs.entries_keep_references.EntriesAgreeing.{event_reported}
 use Rattle.sms_world.proofs.entries_keep_references.Elsewhere.{centre_elsewhere, other_elsewhere, agrees_still}
 use Rattle.sms_play.proofs.growth.Growing.{some_meeting}
+use Rattle.sms_player.proofs.playing.Placed.{numbers_preserved}
 
 -- ---- a course
 
@@ -54,7 +55,7 @@ abbrev IsReady : Party → Type 0
 IsReady p = IsSoundCore p.core × AreBelow p.core.rows.counters.notice p.core.notices
 
 still_apart : (z : Party) (c : PlayState) → AreDifferent (numbers_of c.parties) → AreDifferent (numbers_of (with_party z c.parties))
-still_apart z c apart = subst (λ (ns : List (List ℕ)). AreDifferent ns) (sym (with_numbers z c.parties)) apart
+still_apart z c apart = subst (λ (ns : List (List ℕ)). AreDifferent ns) (sym (numbers_preserved z c.parties)) apart
 
 -- of whom a meeting is
 abbrev IsOfParties : PlayState → Meeting → Type 0

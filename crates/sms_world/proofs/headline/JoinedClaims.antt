@@ -20,9 +20,9 @@ use Rattle.sms_world_model.specs.Groups.{Groups, IsEndedAt, groups, groups_of, i
 use Rattle.sms_world_model.specs.Place.{Key, Place, place_in}
 use Rattle.sms_world_model.specs.Submission.{HasPart, Submission, IsDeliverOf}
 use Rattle.sms_world_model.specs.World.{Accepted, Allocation, Joined, IsRecorded, World, empty, pair_given}
-use Rattle.sms_world_model.proofs.Faithful.{DeliversOnce, IsDeliver, IsFaithful, one_deliver}
+use Rattle.sms_world_model.proofs.Faithful.{IsDeliver, IsFaithful, one_deliver}
 use Rattle.sms_world_model.proofs.Keys.{deliver_for, for_is, report_place}
-use Rattle.sms_world_model.proofs.Places.{IsPlaced, PlacesOnce, among_of_key, group_ended, of_key_in, of_key_out, placed_empty, placed_run, at_among, NoneTwice, not_joined}
+use Rattle.sms_world_model.proofs.Places.{IsPlaced, PlacesOnce, among_of_key, group_ended, placed_empty, placed_run, at_among, NoneTwice, not_joined, key_once}
 use Rattle.sms_world_model.proofs.Rounds.{by_cases, within}
 use Rattle.sms_world_model.proofs.Sound.{IsKnown, IsSound}
 use Rattle.sms_world_model.proofs.Tables.{same_message}
@@ -174,15 +174,6 @@ pub joined_of_parts : (c : PlayState) (w : World) → PlayRefines c w → Joined
 joined_of_parts c w s q there = (groups_at q.number w.joined, are_joined c w s q there)
 
 -- ---- no part stands in two groups, while none was accepted twice
-
-key_once : (h : List ℕ) (k : Key) (ps : List Accepted) → DeliversOnce ps → NoneTwice (of_key h k ps)
-key_once h k [] o = tt
-key_once h k (p ∷ ps) o = ⊎_elim
-    (λ (t : is_for h k p ≡ true).
-    let d = deliver_for h k p t in
-    subst (λ (l : List Accepted). NoneTwice l) (sym (of_key_in h k p ps t)) ((λ i. o.0 d.0 d.1.0 (among_of_key h k p ps i).0), key_once h k ps o.1))
-    (λ (t : is_for h k p ≡ false). subst (λ (l : List Accepted). NoneTwice l) (sym (of_key_out h k p ps t)) (key_once h k ps o.1))
-    (cases_Bool (is_for h k p))
 
 -- the list has nothing in common with any of these
 abbrev IsApart : List Accepted → List (List Accepted) → Type 0

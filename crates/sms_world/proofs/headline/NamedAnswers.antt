@@ -13,7 +13,7 @@ use Rattle.sms_centre_spec.specs.Draft.{Core, Draft as CentreDraft, answer_with,
 use Rattle.sms_centre_spec.specs.Ends.{end}
 use Rattle.sms_centre_spec.specs.Requests.{account_at, cancel_by, cancelled, queried, query_by, refused, to_cancel}
 use Rattle.sms_centre_spec.specs.declared.answer.CentreAnswer.{CentreAnswer}
-use Rattle.sms_centre_spec.specs.declared.answer.CentreAnswer.TheVariants.{Cancelled, Queried, Refused, Submitted}
+use Rattle.sms_centre_spec.specs.declared.answer.CentreAnswer.TheVariants.{Cancelled, Submitted}
 use Rattle.sms_centre_spec.specs.declared.event.CentreEvent.{CentreEvent}
 use Rattle.sms_centre_spec.specs.declared.event.CentreEvent.TheVariants.{Cancel as CentreCancel, Query as CentreQuery, Submit as CentreSubmit}
 use Rattle.sms_handset.specs.FaultCodes.{refusal_code}
@@ -45,7 +45,7 @@ use Rattle.sms_script.specs.declared.report.answers.Answered.TheVariants.{Accept
 use Rattle.sms_script.specs.declared.report.rows.Direction.{Direction}
 use Rattle.sms_script.specs.declared.report.rows.Direction.TheVariants.{Down, Up}
 use Rattle.sms_script.specs.declared.report.rows.FrameRow.{FrameRow}
-use Rattle.sms_world.proofs.headline.AnsweredSubmits.{whole_answers}
+use Rattle.sms_world.proofs.headline.AnsweredSubmits.{named_by, whole_answers}
 use Rattle.sms_world.proofs.messages_have_origins.EventsMake.{WasStoredIn}
 use Rattle.sms_world.proofs.messages_have_origins.Unmoved.{Rows, whole_leaves}
 use Rattle.sms_world.proofs.scripts_are_runs.Events.{event_leads, ok_play, same_play}
@@ -62,6 +62,7 @@ use Rattle.sms_world_model.specs.World.{IsRecorded, World}
 use Rattle.std.proofs.Common.{ap, inl, inr, refl, subst, sym, ⊎_elim, ◌∙◌}
 use Rattle.std.proofs.lemmas.Bool.{cond_both}
 use Rattle.std.specs.Prelude.{Err, List, None, Ok, Option, Result, Some, [], ℕ, ◌++◌, ◌+◌, ◌∷◌, ◌≡◌, ◌⊎◌}
+use Rattle.sms_play.proofs.answers.PlayAnswers.{either_part}
 
 -- ---- what the centre answers
 
@@ -151,12 +152,6 @@ IsNamed K d x = (id : ℕ) → x ≡ Accepted id → K × WasStoredIn d id
 abbrev pub GrowsNamed : Type 0 → ℕ → PlayState → PlayState → Type 0
 GrowsNamed K n c d = (d.answers ≡ c.answers) ⊎ ((x : Answered) × ((d.answers ≡ c.answers ++ record { event = n; answered = x } ∷ []) × IsNamed K d x))
 
-numbered : (a : CentreAnswer) (id : ℕ) → answered_as a ≡ Accepted id → a ≡ Submitted id
-numbered (Submitted n) id e = let same : n ≡ id = cc in ap (λ (k : ℕ). Submitted k) same
-numbered (Queried n state moment) id e = absurd cc
-numbered Cancelled id e = absurd cc
-numbered (Refused status) id e = absurd cc
-
 centre_reported_grows : (K : Type 0) (n : ℕ) (e : CentreEvent) (c : PlayState) (o : Option CentreAnswer) → (happened e c.centre).answer ≡ o → NamesOne K e c.centre
     → GrowsNamed K n c (centre_told n o (centre_whole (happened e c.centre) c))
 centre_reported_grows K n e c None is names = inl (whole_answers (happened e c.centre) c)
@@ -168,7 +163,7 @@ centre_reported_grows K n e c (Some a) is names =
       (
         ap (λ (rest : List Answer). rest ++ record { event = n; answered = answered_as a } ∷ []) (whole_answers d c),
         λ id e_id.
-            let m = names id (is ∙ ap (λ (z : CentreAnswer). Some z) (numbered a id e_id)) in
+            let m = names id (is ∙ ap (λ (z : CentreAnswer). Some z) (named_by a id e_id)) in
             (m.0, (m.1.0, ap (λ (ms : List MessageRow). message_at id ms) (sym same) ∙ m.1.1)),
       ),
     )
@@ -240,16 +235,12 @@ event_grows n (Restart (Handset h)) c d q = handset_back n (party_at h c.parties
 abbrev pub AllNamed : PlayState → Type 0
 AllNamed c = (a : Answer) (id : ℕ) → Among a c.answers → a.answered ≡ Accepted id → WasStoredIn c id
 
-pub last_or : (a : Answer) (xs : List Answer) (y : Answer) → Among a (xs ++ y ∷ []) → Among a xs ⊎ (a ≡ y)
-last_or a [] y i = ⊎_elim (λ (e : a ≡ y). inr e) (λ none. absurd none) i
-last_or a (x ∷ xs) y i = ⊎_elim (λ (e : a ≡ x). inl (inl e)) (λ (j : Among a (xs ++ y ∷ [])). ⊎_elim (λ (k : Among a xs). inl (inr k)) (λ (e : a ≡ y). inr e) (last_or a xs y j)) i
-
 still_named : (K : Type 0) (n : ℕ) (c d : PlayState) → ((id : ℕ) → WasStoredIn c id → WasStoredIn d id) → GrowsNamed K n c d → AllNamed c → AllNamed d
 still_named K n c d stays (inl same) all a id i e = stays id (all a id (subst (λ (rest : List Answer). Among a rest) same i) e)
 still_named K n c d stays (inr (x, (more, new))) all a id i e = ⊎_elim
     (λ (j : Among a c.answers). stays id (all a id j e))
     (λ (q : a ≡ record { event = n; answered = x }). (new id (ap (λ (z : Answer). z.answered) (sym q) ∙ e)).1)
-    (last_or a c.answers (record { event = n; answered = x }) (subst (λ (rest : List Answer). Among a rest) more i))
+    (either_part a c.answers (record { event = n; answered = x }) (subst (λ (rest : List Answer). Among a rest) more i))
 
 -- a message of the one course is one of the other
 module _ (c d : PlayState) (w v : World) (s : PlayRefines c w) (t : PlayRefines d v) (stay : MessagesStay w v) where

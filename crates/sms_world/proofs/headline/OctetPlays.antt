@@ -66,7 +66,6 @@ use Rattle.sms_world.specs.headline.SeenFrames.{frame_down, line_down, sent_down
 use Rattle.sms_world.specs.frames_pass_between_sides.FramesUp.{IsBare}
 use Rattle.sms_world.specs.centres_refine_the_world.FramesOut.{IsWholeDown}
 use Rattle.sms_world.specs.scripts_are_runs.PlayRuns.{AllHandOctets, AreGood}
-use Rattle.sms_world.specs.headline.Claims.{IfPlayed}
 use Rattle.sms_world.specs.scripts_are_runs.PlayRefinement.{PlayRefines, IsWholeBy}
 use Rattle.sms_world.specs.headline.SeenWorld.{sent_by, sent_row}
 use Rattle.sms_world.specs.scripts_are_runs.Happening.{ActHandsOctets, HandsOctets, IsOctetsAt, IsOctetsUp}
@@ -74,6 +73,7 @@ use Rattle.sms_world.proofs.scripts_are_runs.Bags.{frame_found, row_seen}
 use Rattle.sms_world.proofs.scripts_are_runs.Events.{event_leads, ok_play, same_play}
 use Rattle.sms_world.proofs.scripts_are_runs.Parties.{party_found}
 use Rattle.sms_world.proofs.headline.SmallReferences.{data_small}
+use Rattle.sms_world.proofs.headline.ExactPremises.{if_played}
 use Rattle.sms_world.specs.headline.TypedEvents.{AreTexts, IsTextAct, IsTextEvent}
 use Rattle.sms_player.specs.heads.Heads.{party_of}
 
@@ -336,10 +336,6 @@ module _ (c : PlayState) (w : World) (s : PlayRefines c w) (k : PlayKeepsOctets 
   event_keeps (Restart side) d t q = side_back side d q
 
 -- ---- all of them
-
-if_played : (r : Result PlayState PlayFault) (P : PlayState → Type 0) → ((d : PlayState) → r ≡ ok_play d → P d) → IfPlayed r P
-if_played (Ok d) P f = f d refl
-if_played (Err fault) P f = tt
 
 pub all_hand : (n : ℕ) (es : List WorldEvent) (c : PlayState) (w : World) → PlayRefines c w → PlayKeepsOctets c → AreGood es → AreTexts es → AllHandOctets n es c
 all_hand n [] c w s k good texts = tt

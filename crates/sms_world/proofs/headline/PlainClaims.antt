@@ -6,11 +6,10 @@ use Rattle.sms_play.specs.Playing.{report_of}
 use Rattle.sms_play.specs.Setups.{beginning}
 use Rattle.sms_script.specs.declared.play_fault.PlayFault.{PlayFault}
 use Rattle.sms_world.proofs.headline.Claimed.{can_play, final_is, given_is, once_is, reaches, receipts_are, run_is}
-use Rattle.sms_world.proofs.headline.HeadlineHolds.{lines_stay_is, receipts_stay_is}
+use Rattle.sms_world.proofs.headline.HeadlineHolds.{lines_stay_is, ok_report, receipts_stay_is}
 use Rattle.sms_world.proofs.headline.PlainAccepted.{lines_once}
 use Rattle.sms_world.proofs.headline.PlainTables.{answers_ascend, lines_ascend}
 use Rattle.sms_world.proofs.headline.StatusFrames.{tags_listed}
-use Rattle.sms_world.proofs.headline.PlainReports.{ok_report}
 use Rattle.sms_world.specs.headline.PlainLaws.{AscendLaw, AscendingLaw, LongerLaw, NoErrorLaw, NoneTwiceLaw, ReceiptsLaw, ReferencesLaw}
 use Rattle.sms_world.specs.scripts_are_runs.PlayRefinement.{PlayRefines}
 use Rattle.std.proofs.Common.{Result, ap, refl}

@@ -63,6 +63,7 @@ use Rattle.sms_world.proofs.SeenParts.{small, seen_of}
 use Rattle.sms_world.proofs.headline.JoinedClaims.{some_part, same_number, same_id}
 use Rattle.sms_play.specs.judging.Watching.{pair_accepted as pair}
 use Rattle.sms_world.proofs.scripts_are_runs.Runs.{unplayed}
+use Rattle.sms_world.proofs.scripts_are_runs.Parties.{number_there}
 
 -- ---- once, in the order of the lines
 
@@ -104,10 +105,6 @@ once_right : (x : AcceptedRow) (xs ys : List AcceptedRow) → ¬ Among x xs → 
 once_right x [] ys none once = once
 once_right x (a ∷ xs) ys none once = inr (λ e. none (inl e), once_right x xs ys (λ i. none (inr i)) once)
 
-number_among : (q : Party) (ps : List Party) → Among q ps → Among q.number (numbers_of ps)
-number_among q [] i = absurd i
-number_among q (p ∷ ps) i = ⊎_elim (λ (e : q ≡ p). inl (ap (λ (z : Party). z.number) e)) (λ (j : Among q ps). inr (number_among q ps j)) i
-
 -- of all handsets, too
 once_over : (x : AcceptedRow) (q : Party) (ps : List Party) → Among q ps → AreDifferent (numbers_of ps) → EachOwn ps → x.handset ≡ q.number → OccursOnce x (compared_lines q.accepted)
     → OccursOnce x (compared_lines (accepted_lines ps))
@@ -120,7 +117,7 @@ once_over x q (p ∷ ps) i apart own at once =
     (λ j. apart.0 (subst (λ (n : List ℕ). Among n (numbers_of ps)) (at ∙ ap (λ (z : Party). z.number) e) (of_one x ps (λ r k. own r (inr k)) j))))
     (λ (j : Among q ps).
     once_right x (compared_lines p.accepted) (compared_lines (accepted_lines ps))
-    (λ k. apart.0 (subst (λ (n : List ℕ). Among n (numbers_of ps)) (sym at ∙ (own p (inl refl)).0 x k) (number_among q ps j)))
+    (λ k. apart.0 (subst (λ (n : List ℕ). Among n (numbers_of ps)) (sym at ∙ (own p (inl refl)).0 x k) (number_there q ps j)))
     (once_over x q ps j apart.1 (λ r k. own r (inr k)) at once))
     i)
 

@@ -30,7 +30,7 @@ use Rattle.sms_script.specs.declared.script.Script.{Script}
 use Rattle.sms_world.proofs.headline.AnsweredSubmits.{account_met, reported_named, submit_next, whole_answers}
 use Rattle.sms_world.proofs.headline.Claimed.{can_play}
 use Rattle.sms_world.proofs.headline.HeadlineHolds.{of_play}
-use Rattle.sms_world.proofs.headline.NamedAnswers.{IsNamed, IsSubmitting, event_grows, last_or}
+use Rattle.sms_world.proofs.headline.NamedAnswers.{IsNamed, IsSubmitting, event_grows}
 use Rattle.sms_world.proofs.headline.PlainSteps.{IsStep, at_place, parted_at, step_of}
 use Rattle.sms_world.proofs.headline.Tables.{line_of, line_there, row_of_line}
 use Rattle.sms_world.proofs.messages_have_origins.EventsMake.{WasStoredIn}
@@ -46,6 +46,7 @@ use Rattle.sms_world_model.specs.World.{World}
 use Rattle.std.proofs.Common.{List, Some, [], ap, arith, inl, inr, length, refl, subst, suc, sym, zero, ⊎_elim, ℕ, ◌+◌, ◌++◌, ◌<◌, ◌≤◌, ◌∙◌, ◌∷◌, ◌≡◌}
 use Rattle.std.specs.Prelude.{◌⊎◌}
 use Rattle.sms_base.proofs.Lists.{item_at}
+use Rattle.sms_play.proofs.answers.PlayAnswers.{either_part}
 
 -- ---- a line is a row
 
@@ -114,7 +115,7 @@ module _ (script : Script) (after : ℕ → Report) (typed : AreTyped script.eve
         more = more ∙ ap (λ (z : Answer). st.first.answers ++ z ∷ []) (sym q);
         names = subst (λ (y : Answered). IsNamed (IsSubmitting e) st.next y) (sym (ap (λ (z : Answer). z.answered) q)) names;
       }) in found)
-      (last_or a st.first.answers (record { event = 1 + length some; answered = x }) (subst (λ (rest : List Answer). Among a rest) more i))
+      (either_part a st.first.answers (record { event = 1 + length some; answered = x }) (subst (λ (rest : List Answer). Among a rest) more i))
 
   pub answer_at : (k : ℕ) → k ≤ length script.events → (a : Answer) → Among a (after k).answers → IsAnswerAt script after a
   answer_at zero l a i = absurd (none_first a i)

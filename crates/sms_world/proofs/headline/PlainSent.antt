@@ -1,5 +1,5 @@
 -- While frames come in time, each entry that counts as sent is a message: the event that made it handed over a frame of that entry.
-use Rattle.std.proofs.Common.{◌≡◌, ℕ, zero, suc, ◌+◌, ◌<◌, ◌≤◌, arith, List, [], ◌∷◌, ◌++◌, length, length-append, Bool, true, false, cond, refl, sym, ◌∙◌, ap, subst, inl, inr, ⊎_elim, Option, Some, Result}
+use Rattle.std.proofs.Common.{◌≡◌, ℕ, zero, suc, ◌+◌, ◌<◌, ◌≤◌, arith, List, [], ◌∷◌, ◌++◌, length, length-append, Bool, true, refl, sym, ◌∙◌, ap, subst, inl, inr, ⊎_elim, Option, Some, Result}
 use Rattle.std.specs.Prelude.{◌⊎◌, slice_get}
 use Rattle.std.proofs.lemmas.Bool.{cases_lt}
 use Rattle.std.proofs.lemmas.List.{append-nil}
@@ -38,8 +38,7 @@ use Rattle.sms_world_model.specs.References.{Ticket}
 use Rattle.sms_world_model.specs.ScriptRun.{Asked, Belongs, Cancelled, Event, Handed, Happening, Removed, Restarted, Submitted, Tick_centre, Tick_handset, Wrote, happened, is_stopped, items}
 use Rattle.sms_world_model.specs.Submission.{Submission}
 use Rattle.sms_world_model.specs.World.{Carried, Frame, IsRecorded, Sent as Sent_frame, World, empty}
-use Rattle.sms_world_model.specs.WorldStep.{Receive, Run, Step, after as after_step, after_item, end}
-use Rattle.sms_world_model.proofs.Runs.{bag_grows}
+use Rattle.sms_world_model.specs.WorldStep.{Receive, Run, Step, end}
 use Rattle.sms_world_model.proofs.Upward.{up_empty}
 use Rattle.sms_world.specs.frames_pass_between_sides.Between.{frame_up}
 use Rattle.sms_world.specs.headline.Claims.{AllTimely, IfPlayed}
@@ -61,7 +60,7 @@ use Rattle.sms_world.proofs.headline.PlainDelivered.{of_row}
 use Rattle.sms_world.proofs.headline.PlainEvents.{IsTraced}
 use Rattle.sms_world.proofs.headline.PlainNamed.{has_line, line_stored, sooner as soon}
 use Rattle.sms_world.proofs.headline.PlainStays.{each_stays_is}
-use Rattle.sms_world.proofs.headline.PlainSteps.{IsPartedAt, IsStep, at_place, last_of, parted_at, step_of}
+use Rattle.sms_world.proofs.headline.PlainSteps.{IsPartedAt, IsStep, at_place, last_of, moved, parted_at, step_of}
 use Rattle.sms_world.proofs.headline.SentClaims.{none_tell}
 use Rattle.sms_world.proofs.headline.Tables.{line_of, row_of_line}
 use Rattle.sms_world.proofs.scripts_are_runs.Bags.{row_seen}
@@ -70,13 +69,10 @@ use Rattle.sms_world.proofs.scripts_are_runs.Events.{event_leads, ok_play, same_
 use Rattle.sms_world.proofs.Options.{some_is}
 use Rattle.sms_world.proofs.scripts_are_runs.Growing.{none_less}
 use Rattle.sms_world.proofs.headline.LongMessages.{as_many}
+use Rattle.sms_world.proofs.handset_runs_are_steps.Others.{items_grow}
 use Rattle.sms_world_model.proofs.Frames.{number_sent, one_number}
 
 -- ---- plain facts
-
-moved : (some others : List WorldEvent) (e : WorldEvent) → some ++ e ∷ others ≡ (some ++ e ∷ []) ++ others
-moved [] others e = refl
-moved (x ∷ some) others e = ap (λ (z : List WorldEvent). x ∷ z) (moved some others e)
 
 next_place : (some : List WorldEvent) (e : WorldEvent) → (1 + length some) + 1 ≡ 1 + length (some ++ e ∷ [])
 next_place some e = let l : length (some ++ e ∷ []) ≡ length some + 1 = length-append some (e ∷ []) in omega (arith, l)
@@ -146,15 +142,6 @@ row_of x (p ∷ ps) i = ⊎_elim
     (λ (j : Among x (all_outbox_lines ps)). let r = row_of x ps j in (r.0, r.1, (inr r.2.0, r.2.1, r.2.2)))
     (among_parts x (outbox_lines p.number p.core.rows.outbox) (all_outbox_lines ps) i)
 
--- no frame leaves the bag
-bag_stays : (w : World) (m : ℕ) (b : Bool) (ss : List Step) (x : Sent_frame) → Among x w.bag → Among x (end w (items m b ss)).bag
-bag_stays w m b [] x i = i
-bag_stays w m b (s ∷ ss) x i = bag_stays (after_item w (record { step = s; moment = m; stopped = b })) m b ss x (now b)
-  where
-    now : (c : Bool) → Among x (cond c w.bag (after_step w m s).bag)
-    now true = i
-    now false = bag_grows w m s x i
-
 -- what a row's frame is
 by_row : (f : FrameRow) (x : Carries) (u : Frame) → f.direction ≡ UpRow → f.carried ≡ Some x → sent_row f ≡ Carried u → (f.handset ≡ u.handset) × (x.tag ≡ u.tag)
 by_row f x u up carries is =
@@ -219,7 +206,7 @@ module _ (script : Script) (after : ℕ → Report) where
               frame = λ f y among is up carries.
                   let f_there : Among f st.next.bag = subst (λ (r : Report). Among f r.bag) st.behind among in
                   let f_seen : Among (sent_row f) v.bag = subst (λ (bag : List Sent_frame). Among (sent_row f) bag) (sym next.bag) (row_seen [] st.next.bag f f_there) in
-                  let u_seen : Among (Carried u) v.bag = bag_stays w m b steps (Carried u) there in
+                  let u_seen : Among (Carried u) v.bag = items_grow w m b steps (Carried u) there in
                   let one : number_sent (sent_row f) ≡ u.number = number_by f.direction f.number f.handset f.octets f.carried ∙ is ∙ sym own in
                   let same : sent_row f ≡ Carried u = one_number v.bag (sent_row f) (Carried u) (numbered_there v next.reached) f_seen u_seen one in
                   let row = by_row f y u up carries same in

@@ -47,7 +47,7 @@ one_longer : (some : List WorldEvent) (e : WorldEvent) → length (some ++ e ∷
 one_longer [] e = refl
 one_longer (x ∷ some) e = ap (λ (k : ℕ). suc k) (one_longer some e)
 
-moved : (some others : List WorldEvent) (e : WorldEvent) → some ++ e ∷ others ≡ (some ++ e ∷ []) ++ others
+pub moved : (some others : List WorldEvent) (e : WorldEvent) → some ++ e ∷ others ≡ (some ++ e ∷ []) ++ others
 moved [] others e = refl
 moved (x ∷ some) others e = ap (λ (z : List WorldEvent). x ∷ z) (moved some others e)
 

@@ -26,7 +26,7 @@ use Rattle.sms_play.specs.HandsetSide.{handset_meets, happened, is_owners, party
 use Rattle.sms_play.specs.Meeting.{AtCentre, AtHandset, Meeting, is_answered, meeting_of}
 use Rattle.sms_play.specs.PlayedEvent.{handset_stored, handset_restarted, handset_restarts, stored, met, played, restart, restarted, stopped}
 use Rattle.sms_world.proofs.scripts_are_runs.Events.{ok_play, same_play}
-use Rattle.sms_world.proofs.scripts_are_runs.Parties.{with_numbers}
+use Rattle.sms_player.proofs.playing.Placed.{numbers_preserved}
 
 abbrev AreThose : List (List ℕ) → PlayState → Type 0
 AreThose ns c = numbers_of c.parties ≡ ns
@@ -53,11 +53,11 @@ module _ (ns : List (List ℕ)) (n : ℕ) where
   -- ---- a handset
 
   whole_those : (p : Party) (r : Result Draft Refusal) (c : PlayState) → AreThose ns c → AreThose ns (whole p r c)
-  whole_those p (Ok d) c k = with_numbers (party_after p d) c.parties ∙ k
+  whole_those p (Ok d) c k = numbers_preserved (party_after p d) c.parties ∙ k
   whole_those p (Err refusal) c k = k
 
   preserved_those : (p : Party) (r : Result Draft Refusal) (c : PlayState) → AreThose ns c → AreThose ns (handset_stored p r c)
-  preserved_those p (Ok d) c k = with_numbers (party_after p d) c.parties ∙ k
+  preserved_those p (Ok d) c k = numbers_preserved (party_after p d) c.parties ∙ k
   preserved_those p (Err refusal) c k = k
 
   reported_those : (r : Result Draft Refusal) (c : PlayState) → AreThose ns c → AreThose ns (with_answer n r c)
@@ -73,7 +73,7 @@ module _ (ns : List (List ℕ)) (n : ℕ) where
   -- ---- restarts and stops
 
   party_those : (p : Party) (c : PlayState) → AreThose ns c → AreThose ns (handset_restarted (Some p) c)
-  party_those p c k = with_numbers (record p { core = recovered p.core.rows }) c.parties ∙ k
+  party_those p c k = numbers_preserved (record p { core = recovered p.core.rows }) c.parties ∙ k
 
   restarted_those : (o : Option Party) (c : PlayState) → AreThose ns c → AreThose ns (handset_restarted o c)
   restarted_those None c k = k

@@ -134,7 +134,7 @@ accepted_leaves account n u (Some s) d its k id e =
     let same : n ≡ id = cc in subst (λ (i : ℕ). LeavesHalf (Some account) i (rows_of s)) same (leaves account n u s its k)
 
 -- the submission is of the account
-of_account : (account : CentreAccount) (now : ℕ) (m : Message) (u : Submission) → from_pdu account now m ≡ Ok u → u.originator ≡ Application account.name
+pub of_account : (account : CentreAccount) (now : ℕ) (m : Message) (u : Submission) → from_pdu account now m ≡ Ok u → u.originator ≡ Application account.name
 unfolding from_pdu
 of_account account now m u e =
     let judged = bind_ok (judged_in account now m) _ u e in

@@ -1,16 +1,11 @@
 -- A new script's course sees the empty world.
 use Rattle.std.proofs.Common.{◌≡◌, ℕ, ◌<◌, ◌≤◌, arith, List, [], ◌∷◌, length, true, refl, sym, subst, ⊎_elim}
-use Rattle.std.specs.List.{list_all}
 use Rattle.std.specs.Prelude.{◌&&◌, nat_le, nat_lt, not}
 use Rattle.std.specs.Str.{bytes_eq}
 use Rattle.std.proofs.lemmas.Bool.{and_parts, leb-true, ltb-true, or_left, or_right}
 use Rattle.std.proofs.lemmas.Slice.Eq.{bytes_eq-Decides}
-use Rattle.sms_base.specs.Address.{IsAddress}
 use Rattle.sms_base.specs.Among.{Among}
-use Rattle.sms_base.specs.HandsetNumber.{is_decimal}
 use Rattle.sms_centre_rows.specs.waiting.SoundAllocations.{IsNumber}
-use Rattle.sms_intake.specs.declared.submission.CentreAccount.{CentreAccount}
-use Rattle.sms_script.specs.declared.setup.AccountSetup.{AccountSetup}
 use Rattle.sms_script.specs.declared.setup.HandsetSetup.{HandsetSetup}
 use Rattle.sms_script.specs.declared.setup.Setup.{Setup}
 use Rattle.sms_centre_spec.specs.SoundCore.{AreDifferent}
@@ -24,7 +19,7 @@ use Rattle.sms_handset_draft.specs.FirstRows.{first_rows}
 use Rattle.sms_handset.specs.SoundRows.{IsSetup, IsSound}
 use Rattle.sms_play.specs.PlayState.{Party, numbers_of}
 use Rattle.sms_play.specs.PlayedEvent.{sessions_from}
-use Rattle.sms_play.specs.Setups.{accounts_of, are_accounts, are_handsets, centre_setup, handset_setup, has_account, has_handset, is_handset, is_moment, is_number, parties_of}
+use Rattle.sms_play.specs.Setups.{accounts_of, are_accounts, are_handsets, centre_setup, handset_setup, has_handset, is_handset, is_moment, is_number, parties_of}
 use Rattle.sms_world_model.specs.World.{empty}
 use Rattle.sms_world.proofs.handset_runs_are_steps.Restarts.{start_seen}
 use Rattle.sms_world.specs.scripts_are_runs.PlayRuns.{BeginningLaw}
@@ -32,31 +27,7 @@ use Rattle.sms_world.specs.scripts_are_runs.PlayRefinement.{OwnAllocations, Part
 use Rattle.sms_world.proofs.scripts_are_runs.CentreMeets.{can_come}
 use Rattle.sms_world.proofs.handset_runs_are_steps.Runs.{recovered_sound}
 use Rattle.sms_player.specs.heads.Heads.{party_of}
-use Rattle.sms_player.proofs.heads.Beginnings.{all_digits, not_both, moment_is}
-
--- ---- numbers
-
-pub number_is : (digits : List ℕ) → is_number digits ≡ true → IsNumber digits
-number_is digits e =
-    let a = and_parts (nat_lt 0 (length digits) && nat_le (length digits) 20) (list_all is_decimal digits) e in
-    let b = and_parts (nat_lt 0 (length digits)) (nat_le (length digits) 20) a.0 in
-    record {
-      npi = (let l : 1 < 16 = omega arith in l);
-      digits = record {
-        some = ltb-true 0 (length digits) b.0;
-        number = λ no. record { few = leb-true (length digits) 20 b.1; digits = all_digits digits a.1 };
-        name = λ yes. absurd cc;
-      };
-    }
-
--- ---- the centre's setup
-
-accounts_are : (accounts : List AccountSetup) → are_accounts accounts ≡ true → (a : CentreAccount) → Among a (accounts_of accounts) → IsAddress a.address
-accounts_are [] e a i = absurd i
-accounts_are (x ∷ xs) e a i =
-    let p = and_parts (is_number x.number && not (has_account x.name xs)) (are_accounts xs) e in
-    let n = and_parts (is_number x.number) (not (has_account x.name xs)) p.0 in
-    ⊎_elim (λ q. subst (λ (z : CentreAccount). IsAddress z.address) (sym q) (number_is x.number n.0)) (λ (j : Among a (accounts_of xs)). accounts_are xs p.1 a j) i
+use Rattle.sms_player.proofs.heads.Beginnings.{not_both, moment_is, number_is, accounts_are}
 
 -- ---- handsets
 

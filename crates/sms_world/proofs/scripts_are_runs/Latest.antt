@@ -15,6 +15,7 @@ use Rattle.sms_world.specs.headline.SeenWorld.{HoldersDiffer, IsDown, PartGiven,
 use Rattle.sms_world.proofs.scripts_are_runs.Growing.{either_part, in_front, in_rest}
 use Rattle.sms_world.proofs.scripts_are_runs.Falling.{Falls, part_from, part_to, parts_append, same_order, told_from, reported_on, told_over, told_to}
 use Rattle.sms_world.proofs.Options.{some_is}
+use Rattle.sms_world.proofs.scripts_are_runs.UpGrown.{IsOwnHolder}
 use Rattle.sms_script.specs.declared.report.rows.Direction.{Direction}
 
 abbrev pub or_else : Option Holder → Option Holder → Option Holder
@@ -244,16 +245,9 @@ agrees_more m given gs down ds tells t = record {
 
 -- ---- rows of the other side tell nothing
 
--- no part, nor status report
-abbrev pub IsOfHandset : Holder → Type 0
-IsOfHandset (Part id n) = ⊥
-IsOfHandset (Report id) = ⊥
-IsOfHandset (Entry n) = Unit {0}
-IsOfHandset (Memory n) = Unit {0}
-
 abbrev pub AllUp : List GivenRow → Type 0
 AllUp [] = Unit {0}
-AllUp (g ∷ gs) = (is_same_side g.direction Down ≡ false) × IsOfHandset g.holder × AllUp gs
+AllUp (g ∷ gs) = (is_same_side g.direction Down ≡ false) × IsOwnHolder g.holder × AllUp gs
 
 not_of : (h : List ℕ) (r : ℕ) (g : GivenRow) → is_same_side g.direction Down ≡ false → is_of_reference h Down r g ≡ false
 not_of h r g e = and_right (bytes_eq g.handset h) (is_same_side g.direction Down && (g.reference == r)) (ap (λ (z : Bool). z && (g.reference == r)) e)
@@ -263,7 +257,7 @@ still_last h r o [] all = refl
 still_last h r o (g ∷ gs) all =
     ap (λ (z : Option Holder). last_holder z h Down r gs) (cond-false (is_of_reference h Down r g) (Some g.holder) o (not_of h r g all.0)) ∙ still_last h r o gs all.2
 
-not_with : (h : Holder) (a : List ℕ) (r : ℕ) (ps : List PartGiven) → IsOfHandset h → with_part h a r ps ≡ ps
+not_with : (h : Holder) (a : List ℕ) (r : ℕ) (ps : List PartGiven) → IsOwnHolder h → with_part h a r ps ≡ ps
 not_with (Part id n) a r ps is = absurd is
 not_with (Report id) a r ps is = absurd is
 not_with (Entry n) a r ps is = refl

@@ -41,7 +41,7 @@ use Rattle.sms_centre_spec.specs.Consistent.{IsConsistent}
 use Rattle.sms_centre_spec.specs.Submitting.{accept, accept_as, accept_split, accept_under, enter, give_part, give_parts, part_given, reference_for}
 use Rattle.sms_centre_spec.specs.Transfers.{complete}
 use Rattle.sms_centre_spec.proofs.Keeping.{keeps_same}
-use Rattle.sms_centre_spec.proofs.KeepingSteady.{SoundSince, since_steady}
+use Rattle.sms_centre_spec.proofs.KeepingSteady.{SoundSince, both_there, since_steady}
 use Rattle.sms_centre_spec.proofs.PduFits.{event_gives}
 use Rattle.sms_centre_spec.proofs.SoundStores.{store_sound}
 use Rattle.sms_centre_spec.proofs.Stages.{IfThere}
@@ -50,7 +50,6 @@ use Rattle.sms_centre_spec.proofs.StagesConsistent.{next_is_new}
 use Rattle.sms_centre_spec.proofs.Steady.{IsSteady, message_own}
 use Rattle.sms_centre_spec.proofs.SteadyEvents.{steady_event}
 use Rattle.sms_world.proofs.Options.{some_is}
-use Rattle.sms_world.proofs.scripts_are_runs.PartsInOrder.{both_there}
 
 -- each report that came was of a message that had none, over the rows that those behind it led to
 abbrev pub ReportsMove : List (Revision ReportRow) → List ReportRow → Type 0

@@ -14,6 +14,7 @@ use Rattle.std.proofs.Common.{ap, inl, inr, refl, subst, sym, ⊎_elim, ◌∙�
 use Rattle.std.proofs.lemmas.Bool.{cond_both}
 use Rattle.std.specs.Prelude.{Bool, List, [], ℕ, ◌++◌, ◌∷◌, ◌≡◌, ◌⊎◌}
 use Rattle.std.proofs.lemmas.List.{append_assoc}
+use Rattle.sms_world_model.proofs.Upward.{entry_number}
 
 -- ---- one more giving
 
@@ -134,10 +135,7 @@ All P (s ∷ ss) = P s × All P ss
 abbrev pub HasEntry : List OutEntry → List ℕ → ℕ → Type 0
 HasEntry outbox h n = (e : OutEntry) × (Among e outbox × (e.handset ≡ h) × (e.number ≡ n))
 
-pub entry_number : (a b : ℕ) → Entry a ≡ Entry b → a ≡ b
-entry_number a b e = cc
-
-no_memory : (a b : ℕ) → Memory a ≡ Entry b → ⊥
+pub no_memory : (a b : ℕ) → Memory a ≡ Entry b → ⊥
 no_memory a b e = absurd cc
 
 -- without writing none is given a reference

@@ -204,7 +204,7 @@ right_round q i = ⊎_elim
 
 -- ---- no reference was given
 
-nothing_joins : (total : ℕ) (c : Content) → joined_content total [] ≡ Some c → ⊥
+pub nothing_joins : (total : ℕ) (c : Content) → joined_content total [] ≡ Some c → ⊥
 nothing_joins zero c e = none-some c e
 nothing_joins (suc zero) c e = none-some c e
 nothing_joins (suc (suc n)) c e = none-some c (sym (none n) ∙ e)

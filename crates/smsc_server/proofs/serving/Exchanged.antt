@@ -22,6 +22,7 @@ use Rattle.smsc_server.specs.serving.Connections.{Admitted, Connection, calls_of
 use Rattle.smsc_server.specs.serving.Stretches.{HaveStretches, IsLastStretch, IsStretch}
 use Rattle.smsc_server.proofs.serving.OneAnswer.{one_given, one_if, requests_of}
 use Rattle.smsc_server.proofs.serving.Stretched.{jobs_first}
+use Rattle.smsc_server.proofs.RunKept.{between}
 
 -- ---- lists
 
@@ -119,11 +120,6 @@ module _ (n : ℕ) where
 
 -- ---- the connections of a seat
 
-parted : (one other : List (Item Job Reply)) (s t : Serving) → IsHistory gives after s (one ++ other) t
-    → (m : Serving) × IsHistory gives after s one m × IsHistory gives after m other t
-parted [] other s t h = (s, refl, h)
-parted (e ∷ one) other s t h = let p = parted one other (after s e.stimulus e.fate) t h.1 in (p.0, (h.0, p.1), p.2)
-
 module _ {S : Type 0} (remaining contents : S → Option (List ℕ)) (admitted : Admitted) (n : ℕ) where
   own_exchanged : (s : Serving) (items : List (Item Job Reply)) (t : Serving) (calls : List Call) → IsHistory gives after s items t → IsStretch n calls items
       → AreExchanged n s calls items
@@ -145,7 +141,7 @@ module _ {S : Type 0} (remaining contents : S → Option (List ℕ)) (admitted :
   exchanged [] s items t h k = tt
   exchanged (c ∷ []) s items t h k = last_exchanged s items t (calls_of remaining contents admitted c) h k
   exchanged (c ∷ next ∷ cs) s items t h k =
-      let p = parted k.0 k.1 s t (subst (λ (l : List (Item Job Reply)). IsHistory gives after s l t) k.2 h) in (
+      let p = between k.0 k.1 s t (subst (λ (l : List (Item Job Reply)). IsHistory gives after s l t) k.2 h) in (
         k.0,
         k.1,
         p.0,

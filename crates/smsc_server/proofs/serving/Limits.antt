@@ -1,23 +1,21 @@
 -- How many sessions an account has once somebody is bound at a seat, or nobody, and which accounts are full.
-use Rattle.std.proofs.Common.{◌≡◌, ◌≢◌, ◌≤◌, ◌<◌, ◌+◌, ℕ, zero, suc, Bool, true, false, cond, not, eqb, List, [], ◌∷◌, length, set, replicate, Option, Some, None, inl, inr, refl, sym, ap, subst, ◌∙◌, arith}
+use Rattle.std.proofs.Common.{◌≡◌, ◌≢◌, ◌≤◌, ◌<◌, ◌+◌, ℕ, zero, suc, Bool, true, false, not, eqb, List, [], ◌∷◌, length, set, replicate, Option, Some, None, inl, inr, refl, sym, ap, subst, ◌∙◌, arith}
 use Rattle.std.proofs.lemmas.Bool.{eqb-true, ltb-true}
 use Rattle.std.proofs.lemmas.Bool.Decides.{eqb_tells}
 use Rattle.std.proofs.lemmas.List.{length-set, length-replicate}
 use Rattle.smpp_session.specs.Logins.{is_full}
 use Rattle.smsc_server.specs.serving.SessionLimits.{AreWithin, count_of, full_where, has_room, is_of, limit_of, rises}
+use Rattle.smsc_endpoint.proofs.Requests.{counted_in}
 
 abbrev one_if : Bool → ℕ
 one_if true = 1
 one_if false = 0
 
-abbrev with_one : Bool → ℕ → ℕ
-with_one b n = cond b (suc n) n
-
-with_at_most : (b : Bool) (n : ℕ) → n ≤ with_one b n
+with_at_most : (b : Bool) (n : ℕ) → n ≤ counted_in b n
 with_at_most true n = omega arith
 with_at_most false n = omega arith
 
-with_is : (b : Bool) (n : ℕ) → with_one b n ≡ n + one_if b
+with_is : (b : Bool) (n : ℕ) → counted_in b n ≡ n + one_if b
 with_is true n = omega arith
 with_is false n = omega arith
 

@@ -51,7 +51,7 @@ use Rattle.sms_centre_spec.proofs.Unanswered.{answered_unanswered, bound_unanswe
 
 -- ---- counted among what is given to a seat
 
-answers_join : (a b : List Reply) → answers_in (a ++ b) ≡ answers_in a + answers_in b
+pub answers_join : (a b : List Reply) → answers_in (a ++ b) ≡ answers_in a + answers_in b
 answers_join [] b = sym (zero-add (answers_in b))
 answers_join (Answer answer ∷ a) b = let e = answers_join a b in omega arith
 answers_join (Receipt end ∷ a) b = answers_join a b

@@ -6,8 +6,9 @@ use Rattle.sms_centre_recovery.specs.soundness.RowsOf.{rows_of}
 use Rattle.sms_rows.specs.table.Table.{put, row_at}
 use Rattle.sms_centre_rows.specs.declared.waiting.queued_part.QueuedPart.{QueuedPart}
 use Rattle.sms_centre_rows.specs.waiting.Keys.{queued_key}
-use Rattle.sms_centre_recovery.proofs.starting.QueuedWait.{handset_digits, if_ok, part_waits}
+use Rattle.sms_centre_recovery.proofs.starting.QueuedWait.{handset_digits, part_waits}
 use Rattle.sms_centre_recovery.proofs.starting.filling.put_part.Goals as goal
+use Rattle.sms_centre_queue.proofs.queues.RepresentedMoves.{if_ok}
 
 pub put-requires : goal.put-requires
 put-requires c =
