@@ -2,6 +2,7 @@ pub mod Answered
 pub mod BoundSessions
 mod BodiesRefused
 mod Calendars
+pub mod CentreAddresses
 mod Everything
 mod ExpiredUnderWay
 mod LengthsThatFit

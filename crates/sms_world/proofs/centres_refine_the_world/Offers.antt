@@ -1,5 +1,5 @@
 -- What is offered to a handset is one step: the data of what waits there.
-use Rattle.std.proofs.Common.{◌≡◌, ◌⊎◌, ℕ, suc, ◌+◌, ◌<◌, ◌≤◌, arith, List, [], ◌∷◌, ◌++◌, Bool, true, false, refl, sym, ◌∙◌, ap, subst, inl, inr, ⊎_elim, length, length-append, Option, Some, None, Result, Ok}
+use Rattle.std.proofs.Common.{◌≡◌, ◌⊎◌, ℕ, ◌+◌, ◌<◌, ◌≤◌, arith, List, [], ◌∷◌, ◌++◌, Bool, true, false, refl, sym, ◌∙◌, ap, subst, inl, inr, ⊎_elim, length, Option, Some, None, Result, Ok}
 use Rattle.std.specs.Prelude.{◌&&◌, not}
 use Rattle.std.proofs.lemmas.Bool.{and_parts, cond_both, cond-false}
 use Rattle.sms_base.specs.Among.{Among}
@@ -14,6 +14,7 @@ use Rattle.sms_control.specs.declared.message.Cp.TheVariants.{DataUnit as CpData
 use Rattle.sms_control.specs.declared.transaction.TransactionFlag.TheVariants.{FromOriginator}
 use Rattle.sms_link.specs.LinkTurn.{Turn, begun, carrying, of_kind, started as turn_started, still}
 use Rattle.sms_relay.proofs.UnitLaws.{down_again}
+use Rattle.sms_relay.proofs.UnitLengths.{down_long}
 use Rattle.sms_relay.specs.RelayGrammar.{IsCentre, data_down}
 use Rattle.sms_relay.specs.RelayReading.{down_at}
 use Rattle.sms_relay.specs.declared.fault.RelayFault.{RelayFault}
@@ -37,6 +38,7 @@ use Rattle.sms_centre_spec.specs.Sessions.{send}
 use Rattle.sms_world.proofs.frames_pass_between_sides.RunsOn.{end_both, run_both}
 use Rattle.sms_centre_rows.specs.waiting.Keys.{queued_key}
 use Rattle.sms_centre_spec.specs.Offering.{holder_of, is_made, offer_all, offer_among, offer_queued, offer_on, offer_to, read_of, tpdu_of, unit_of}
+use Rattle.sms_centre_spec.proofs.CentreAddresses.{centre_is}
 use Rattle.sms_world.proofs.frames_pass_between_sides.Linking.{begin_is, data_framed, next_below}
 use Rattle.sms_world.specs.frames_pass_between_sides.Between.{CarriesDown, IsOfKindDown}
 use Rattle.sms_world.specs.headline.SeenFrames.{frame_tpdu_down, unit_tpdu, sent_down}
@@ -49,16 +51,8 @@ use Rattle.sms_world.specs.centres_refine_the_world.FramesOut.{AreWholeDown, sta
 use Rattle.sms_world.specs.centres_refine_the_world.RefinesLines.{RefinesLine, RefinesLines}
 use Rattle.sms_world.proofs.centres_refine_the_world.QueuedParts.{IsOffered, allocation_at, queued_offered}
 use Rattle.sms_world.proofs.centres_refine_the_world.Staying.{line_still}
-use Rattle.sms_world.proofs.handset_runs_are_steps.Submitting.{centre_is}
 
 -- ---- octets
-
-down_long : (r : ℕ) (centre unit : List ℕ) → length (data_down r centre unit) ≡ 5 + length centre + length unit
-down_long r centre unit =
-    let q : length (data_down r centre unit) ≡ suc (suc (suc (length (centre ++ (0 ∷ length unit ∷ unit))))) = refl in
-    let a : length (centre ++ (0 ∷ length unit ∷ unit)) ≡ length centre + length (0 ∷ length unit ∷ unit) = length-append centre (0 ∷ length unit ∷ unit) in
-    let e : length (0 ∷ length unit ∷ unit) ≡ suc (suc (length unit)) = refl in
-    omega (arith, q, a, e)
 
 down_read : (r : ℕ) (centre unit : List ℕ) → IsCentre centre → length unit ≤ 200 → down_at (data_down r centre unit) ≡ Ok (DataUnit r centre unit)
 down_read r centre unit c u = down_again (data_down r centre unit) (DataUnit r centre unit) (c, (let l : length unit < 256 = omega (arith, u) in l), refl)

@@ -21,6 +21,7 @@ use Rattle.sms_relay.specs.RelayGrammar.{data_up, smma_up}
 use Rattle.sms_relay.specs.RelayReading.{up_at}
 use Rattle.sms_relay.proofs.UnitLaws.{up_again}
 use Rattle.sms_tpdu.specs.AddressGrammar.{relay_address}
+use Rattle.sms_centre_spec.proofs.CentreAddresses.{centre_is}
 use Rattle.sms_handset_rows.specs.declared.outbox.notice.Notice.{Notice}
 use Rattle.sms_handset_rows.specs.declared.outbox.out_entry.EntryState.{EntryState as State_of}
 use Rattle.sms_handset_rows.specs.declared.outbox.out_entry.EntryState.TheVariants.{Queued, Sending, Sent as Is_sent, Failed, Unsure}
@@ -55,7 +56,7 @@ use Rattle.sms_world.specs.handset_runs_are_steps.Stages.{AllMine, Moves}
 use Rattle.sms_world.proofs.handset_runs_are_steps.Concluding.{lost_law, notice_put, turned}
 use Rattle.sms_world.proofs.frames_pass_between_sides.Linking.{begin_is, data_framed, next_below}
 use Rattle.sms_world.proofs.handset_runs_are_steps.Moving.{frames_more, links_more, moves_then, stays, whole_both}
-use Rattle.sms_world.proofs.handset_runs_are_steps.Submitting.{centre_is, data_fits, data_read, data_some, submit_fits, submit_is}
+use Rattle.sms_world.proofs.handset_runs_are_steps.Submitting.{data_fits, data_read, data_some, submit_fits, submit_is}
 use Rattle.sms_world.proofs.handsets_send_octets.StageOctets.{fired_among}
 use Rattle.sms_world.proofs.scripts_are_runs.UpGrown.{no_memory}
 

@@ -2,7 +2,6 @@
 use Rattle.std.proofs.Common.{◌≡◌, ℕ, suc, ◌+◌, ◌*◌, ◌/◌, ◌%◌, ◌<◌, ◌≤◌, arith, List, [], ◌∷◌, ◌++◌, Bool, true, not, eqb, refl, sym, ◌∙◌, ap, subst, Result, Ok, length, length-append}
 use Rattle.std.specs.Prelude.{◌==◌}
 use Rattle.std.proofs.lemmas.Bool.{cond_both}
-use Rattle.sms_base.specs.Address.{IsAddress}
 use Rattle.sms_base.specs.declared.address.Address.{Address}
 use Rattle.sms_base.specs.Reading.{only_if, octet_in, end_in}
 use Rattle.sms_base.proofs.Steps.{bind_ok, passes, ok_is}
@@ -11,7 +10,6 @@ use Rattle.sms_relay.specs.declared.frame.Rp.TheVariants.{DataUnit}
 use Rattle.sms_relay.specs.RelayGrammar.{IsCentre, data_up}
 use Rattle.sms_relay.specs.RelayReading.{up_at}
 use Rattle.sms_relay.proofs.UnitLaws.{up_again}
-use Rattle.sms_tpdu.specs.AddressGrammar.{relay_address}
 use Rattle.sms_tpdu.specs.AddressReading.{address_in}
 use Rattle.sms_tpdu.specs.Bits.{bit}
 use Rattle.sms_tpdu.specs.declared.fault.TpduFault.{TpduFault}
@@ -21,21 +19,12 @@ use Rattle.sms_tpdu.specs.declared.user_data.UserData.{UserData}
 use Rattle.sms_tpdu.specs.declared.validity_period.ValidityPeriod.{ValidityPeriod}
 use Rattle.sms_tpdu.specs.TpduReading.{submit_at, submit_rest_in, validity_in}
 use Rattle.sms_tpdu.specs.UserDataReading.{user_data_in}
-use Rattle.sms_tpdu.proofs.NameValues.{relay_short}
 use Rattle.sms_handset_rows.specs.declared.outbox.out_entry.OutEntry.{OutEntry as OutRow}
 use Rattle.sms_handset_rows.specs.outbox.Offers.{rejecting_duplicates, submit_of}
 use Rattle.sms_handset_rows.specs.outbox.SoundOutbox.{IsSubmitted}
-use Rattle.sms_handset_rows.proofs.outbox.CentreAddresses.{relay_some}
 use Rattle.sms_handset_rows.proofs.outbox.OutboxDecided.{submit_up}
-use Rattle.std.specs.declared.alloc.AllocError.{AllocError}
 use Rattle.sms_world_model.specs.Submission.{IsSubmitTo}
 use Rattle.sms_world.specs.headline.SeenWorld.{entry_seen, user_data_in as data_in}
-
-pub centre_is : (a : Address) → IsAddress a → IsCentre (relay_address a)
-centre_is a i =
-    let r : Result (List ℕ) AllocError = Ok (relay_address a) in
-    let few : length (relay_address a) < 12 = relay_short r a i refl in
-    (relay_some a i, omega (arith, few))
 
 -- RP-DATA fits a frame
 pub data_fits : (r : ℕ) (centre unit : List ℕ) → length centre ≤ 11 → length unit ≤ 200 → length (data_up r centre unit) ≤ 248

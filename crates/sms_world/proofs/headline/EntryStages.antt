@@ -52,6 +52,7 @@ use Rattle.sms_tpdu.specs.declared.down.Down.{Down}
 use Rattle.sms_tpdu.specs.declared.down.Down.TheVariants.{Deliver, StatusReport, SubmitReport}
 use Rattle.sms_tpdu.specs.declared.fault.TpduFault.{TpduFault}
 use Rattle.sms_tpdu.specs.declared.status_report.StatusReport.{StatusReport as StatusReportOf}
+use Rattle.sms_centre_spec.proofs.CentreAddresses.{centre_is}
 use Rattle.sms_handset_rows.specs.inbox.Doubles.{is_double}
 use Rattle.sms_handset_rows.specs.inbox.Groups.{all_numbers, alone, group_of, is_among, is_open_part, joined_content, key_of, mark_of, members, part_entry, part_numbers, first_number}
 use Rattle.sms_handset_rows.specs.inbox.Keys.{entry_key, last_key}
@@ -90,7 +91,7 @@ use Rattle.sms_play.specs.HandsetSide.{happened}
 use Rattle.sms_world.specs.headline.SeenFrames.{frame_tpdu, unit_tpdu}
 use Rattle.sms_world.proofs.frames_pass_between_sides.Linking.{begin_is, data_framed, next_below}
 use Rattle.sms_world.proofs.handset_runs_are_steps.Offering.{smma_sends}
-use Rattle.sms_world.proofs.handset_runs_are_steps.Submitting.{centre_is, data_fits, data_read, data_some, submit_fits}
+use Rattle.sms_world.proofs.handset_runs_are_steps.Submitting.{data_fits, data_read, data_some, submit_fits}
 use Rattle.sms_world.proofs.headline.EntryFrames.{AllSay, Brings, HolderSays, LinkSays, TurnSays, both_say, fired_says, quiet_frames, reply_next, taken_says}
 use Rattle.sms_world.proofs.Options.{some_is}
 

@@ -1,5 +1,5 @@
 -- A new script's course sees the empty world.
-use Rattle.std.proofs.Common.{◌≡◌, ℕ, ◌<◌, ◌≤◌, arith, List, [], ◌∷◌, length, true, refl, sym, subst, ⊎_elim}
+use Rattle.std.proofs.Common.{◌≡◌, ℕ, arith, List, [], ◌∷◌, length, true, refl, sym, subst, ⊎_elim}
 use Rattle.std.specs.Prelude.{◌&&◌, nat_le, nat_lt, not}
 use Rattle.std.specs.Str.{bytes_eq}
 use Rattle.std.proofs.lemmas.Bool.{and_parts, leb-true, ltb-true, or_left, or_right}
@@ -14,9 +14,9 @@ use Rattle.sms_centre_spec.specs.declared.setup.Setup.{Setup as CentreSetup}
 use Rattle.sms_centre_rows.specs.reports.Receipts.{Session}
 use Rattle.sms_world.specs.centre_runs_are_steps.Run.{CanRestart}
 use Rattle.sms_world.proofs.centre_runs_are_steps.Runs.{first_run_is_steps}
-use Rattle.sms_handset_draft.specs.declared.setup.Setup.{Setup as OwnSetup}
 use Rattle.sms_handset_draft.specs.FirstRows.{first_rows}
-use Rattle.sms_handset.specs.SoundRows.{IsSetup, IsSound}
+use Rattle.sms_handset.specs.SoundRows.{IsSetup}
+use Rattle.sms_handset.proofs.SoundBeginnings.{first_sound}
 use Rattle.sms_play.specs.PlayState.{Party, numbers_of}
 use Rattle.sms_play.specs.PlayedEvent.{sessions_from}
 use Rattle.sms_play.specs.Setups.{accounts_of, are_accounts, are_handsets, centre_setup, handset_setup, has_handset, is_handset, is_moment, is_number, parties_of}
@@ -30,26 +30,6 @@ use Rattle.sms_player.specs.heads.Heads.{party_of}
 use Rattle.sms_player.proofs.heads.Beginnings.{not_both, moment_is, number_is, accounts_are}
 
 -- ---- handsets
-
-first_sound : (setup : OwnSetup) → IsSetup setup → IsSound (first_rows setup)
-first_sound setup t = record {
-  setup = t;
-  entry_keys = tt;
-  last_keys = tt;
-  out_keys = tt;
-  mark_keys = tt;
-  counted = (let l : 0 < 1 = omega arith in l);
-  few_stored = (let l : 0 ≤ 255 = omega arith in l);
-  entries = tt;
-  groups = tt;
-  last = tt;
-  outbox = tt;
-  few_entries = (let l : 0 ≤ 20 = omega arith in l);
-  message_references = tt;
-  references = tt;
-  marks = tt;
-  few_marks = (let l : 0 ≤ 64 = omega arith in l);
-}
 
 module _ (s : Setup) (centre : IsNumber s.centre) where
   party_refines : (h : HandsetSetup) → is_handset h ≡ true → PartyRefines (party_of s h) empty
