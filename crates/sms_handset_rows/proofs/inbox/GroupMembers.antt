@@ -4,9 +4,8 @@ use Rattle.std.specs.Prelude.{◌==◌, ◌&&◌, nat_lt}
 use Rattle.std.proofs.lemmas.Bool.{and_parts, and_from, cases_Bool, false_from_ne_true, cond-true, cond-false, cases_eq, cond_both}
 use Rattle.std.proofs.lemmas.Slice.Eq.{bytes_eq-Decides}
 use Rattle.std.specs.List.{AllByRecursion}
-use Rattle.sms_base.proofs.Addresses.{type_of-number}
-use Rattle.sms_base.specs.AddressKind.{type_number, type_of}
-use Rattle.sms_base.specs.declared.type_of_number.TypeOfNumber.{TypeOfNumber}
+use Rattle.sms_base.proofs.Addresses.{same_parts}
+use Rattle.sms_base.specs.AddressKind.{type_number}
 use Rattle.sms_base.specs.declared.address.Address.{Address}
 use Rattle.sms_base.specs.Among.{Among}
 use Rattle.sms_rows.specs.table.Table.{without, insert, put, Rises, row_at}
@@ -23,21 +22,11 @@ use Rattle.sms_concat.proofs.References.{one_reference, same_reference}
 
 -- ---- groups that are one are equal
 
-same_type : (t u : TypeOfNumber) → type_number t ≡ type_number u → t ≡ u
-same_type t u e =
-    let both : Some t ≡ Some u = sym (type_of-number t) ∙ ap (λ (n : ℕ). type_of n) e ∙ type_of-number u in
-    let q : t ≡ u = cc in q
-
 pub same_address : (a b : Address) → is_same_address a b ≡ true → a ≡ b
 same_address a b e =
     let p = and_parts ((type_number a.ton == type_number b.ton) && (a.npi == b.npi)) (bytes_eq a.digits b.digits) e in
     let q = and_parts (type_number a.ton == type_number b.ton) (a.npi == b.npi) p.0 in
-    let ton : a.ton ≡ b.ton = same_type a.ton b.ton (eqb-true (type_number a.ton) (type_number b.ton) q.0) in
-    let npi : a.npi ≡ b.npi = eqb-true a.npi b.npi q.1 in
-    let digits : a.digits ≡ b.digits = (bytes_eq-Decides a.digits b.digits).0 p.1 in
-    ap (λ (t : TypeOfNumber). record a { ton = t }) ton
-    ∙ ap (λ (n : ℕ). record b { npi = n; digits = a.digits }) npi
-    ∙ ap (λ (d : List ℕ). record b { digits = d }) digits
+    same_parts a b (eqb-true (type_number a.ton) (type_number b.ton) q.0) (eqb-true a.npi b.npi q.1) ((bytes_eq-Decides a.digits b.digits).0 p.1)
 
 pub same_group : (a b : Group) → is_same_group a b ≡ true → a ≡ b
 same_group a b e =
