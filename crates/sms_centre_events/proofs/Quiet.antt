@@ -10,6 +10,7 @@ use Rattle.sms_centre_rows.specs.declared.reports.report.ReportRow.{ReportRow}
 use Rattle.sms_centre_rows.specs.reports.Receipts.{all_tried, is_account, is_put_off, receipt_ended, receipt_tried, receipts_due}
 use Rattle.sms_centre_rows.specs.reports.Reports.{amend_report, is_open_receipt, is_receipt, report_key, report_of, report_reaching, reports_of}
 use Rattle.sms_centre_rows.proofs.reports.ReportRows.{amended_other, amended_own}
+use Rattle.sms_centre_rows.proofs.reports.Kinds.{no_status}
 use Rattle.sms_centre_rows.specs.declared.waiting.progress.Progress.{Progress}
 use Rattle.sms_centre_rows.specs.waiting.Revisions.{Revised, amended}
 use Rattle.sms_centre_rows.specs.waiting.Trying.{due_at}
@@ -20,7 +21,6 @@ use Rattle.sms_centre_spec.proofs.Steady.{report_own}
 use Rattle.sms_centre_spec.proofs.SteadyTimes.{ReportsInStore, all_tried_steady, far_leaves}
 use Rattle.sms_centre_draft.specs.CentreDraft.{all_waiting}
 use Rattle.sms_centre_draft.proofs.MovesWaiting.{quiet_far_waits}
-use Rattle.sms_centre_reports.proofs.open_reports.Keeping.{no_status}
 
 -- ---- receipts of a session that ends go again
 

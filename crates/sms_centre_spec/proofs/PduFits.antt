@@ -41,13 +41,13 @@ use Rattle.sms_centre_spec.specs.SoundCore.{HasNumber, IsEvent, IsSoundCore}
 use Rattle.sms_centre_spec.specs.Consistent.{IsBody, IsSubmission}
 use Rattle.sms_centre_spec.specs.Submitted.{AccountGives, EventGives}
 use Rattle.sms_centre_spec.proofs.SmppFits.{FitsText, content_fits, key_header, single_fits, whole_fits}
-use Rattle.sms_centre_spec.proofs.SoundLinks.{line_of_handset}
 use Rattle.sms_centre_spec.proofs.SubmitFits.{frame_fits, named_number}
 use Rattle.sms_centre_spec.proofs.TextFields.{IsHeader}
 use Rattle.sms_base.specs.HandsetNumber.{names_handset}
 use Rattle.sms_intake.specs.declared.smpp_front.Front.{Front}
 use Rattle.sms_intake.specs.SmppIntake.{address_in, address_or_none, are_whole, content_at, due_in, has_sar_lengths, has_too_much, limit_in, from_pdu, handset_named, has_header, header_read, header_size, headed_text, is_ascii, is_empty, plain_text, sar_key, single_behind, source_in, text_in, text_of, whole_of, front_in, judged_in, submission_for}
 use Rattle.sms_intake.specs.PartBodies.{bodies_under}
+use Rattle.sms_centre_rows.proofs.waiting.LinksRepresented.{line_of_handset}
 
 -- ---- what it says
 

@@ -61,13 +61,6 @@ none_line number x (l ∷ ls) none among own = ⊎_elim
     among)
     (cases_Bool (bytes_eq l.handset number))
 
-pub line_of_handset : (number : List ℕ) (ls : List HandsetLink) → (line_of number ls).handset ≡ number
-line_of_handset number ls = own (line_at number ls) refl
-  where
-    own : (o : Option HandsetLink) → line_at number ls ≡ o → (or_new_line number o).handset ≡ number
-    own None e = refl
-    own (Some l) e = (line_found number l ls e).1
-
 -- ---- a line takes its place
 
 pub among_with : (x line : HandsetLink) (ls : List HandsetLink) → Among x (with_line line ls) → (x ≡ line) ⊎ Among x ls

@@ -18,7 +18,6 @@ use Rattle.sms_centre_spec.specs.declared.plan_error.PlanError.{PlanError}
 use Rattle.sms_centre_spec.specs.declared.plan_error.PlanError.TheVariants.{NoBody, NoMemory}
 use Rattle.sms_centre_spec.specs.Draft.{Draft, Store, on_links, waiting_in}
 use Rattle.sms_centre_spec.specs.Offering.{holder_of, is_made, offer_queued, read_of, tpdu_of}
-use Rattle.sms_centre_spec.proofs.SoundLinks.{line_of_handset}
 use Rattle.sms_centre_spec.proofs.SoundOffers.{next_waits}
 use Rattle.sms_centre_draft.specs.walks.Stepping.{offer_at}
 use Rattle.sms_centre_events.specs.offering.Refusing.{SucceedsOrRefuses, NoneRefused, UnlessMemory}
@@ -27,6 +26,7 @@ use Rattle.sms_centre_draft.specs.CentreDraft.{Represents, CentreDraftOf, all_wa
 use Rattle.sms_centre_draft.proofs.RepresentedMoves.{aired_represented}
 use Rattle.sms_centre_draft.proofs.walks.OffersFound.{read_lines}
 use Rattle.sms_centre_events.specs.offering.Stored.{made_tpdu}
+use Rattle.sms_centre_rows.proofs.waiting.LinksRepresented.{line_of_handset}
 
 -- ---- the next one is offered
 

@@ -1,5 +1,5 @@
 -- A link that is put keeps its place in the order of arrival, or is behind all others. No other changes its place.
-use Rattle.std.proofs.Common.{◌≡◌, ℕ, ◌+◌, ◌<◌, List, [], ◌∷◌, length, true, false, Option, None, refl, sym, ◌∙◌, ap, subst, inl, inr, ⊎_elim, cond, arith, bytes_eq}
+use Rattle.std.proofs.Common.{◌≡◌, ℕ, ◌+◌, ◌<◌, List, [], ◌∷◌, length, true, false, None, refl, sym, ◌∙◌, ap, subst, inl, inr, ⊎_elim, cond, arith, bytes_eq}
 use Rattle.std.specs.Prelude.{◌==◌}
 use Rattle.std.proofs.lemmas.Bool.{cases_Bool, cond-true, cond-false, ne_eqb}
 use Rattle.std.proofs.lemmas.Slice.Eq.{bytes_eq-Decides}
@@ -7,8 +7,8 @@ use Rattle.sms_base.proofs.OctetLaws.{cases_octets, differ}
 use Rattle.sms_base.specs.Among.{Among}
 use Rattle.sms_rows.specs.table.Keys.{AllDigits}
 use Rattle.sms_centre_rows.specs.declared.waiting.handset_link.HandsetLink.{HandsetLink}
-use Rattle.sms_centre_rows.specs.waiting.Links.{line_at, line_of, or_new_line, with_line}
-use Rattle.sms_centre_rows.proofs.waiting.LinksRepresented.{line_behind, line_here, put_at_other}
+use Rattle.sms_centre_rows.specs.waiting.Links.{line_at, with_line}
+use Rattle.sms_centre_rows.proofs.waiting.LinksRepresented.{put_at_other}
 use Rattle.sms_centre_queue.specs.queues.LineOrder.{AreLines, link_place_from}
 use Rattle.sms_centre_queue.specs.queues.Queues.{lines_now}
 
@@ -114,12 +114,3 @@ apart_put line (l ∷ ls) a = ⊎_elim
     let none : line_at l.handset (with_line line ls) ≡ None = put_at_other l.handset line ls (λ q. e (sym q)) ∙ a.0 in
     subst AreLines (sym (put_behind line l ls e)) (none, apart_put line ls a.1))
     (cases_octets l.handset line.handset)
-
--- ---- a line is that of its handset
-
-pub line_handset : (number : List ℕ) (ls : List HandsetLink) → (line_of number ls).handset ≡ number
-line_handset number [] = refl
-line_handset number (l ∷ ls) = ⊎_elim
-    (λ (e : l.handset ≡ number). ap (λ (o : Option HandsetLink). (or_new_line number o).handset) (line_here number l ls e) ∙ e)
-    (λ (e : l.handset ≡ number → ⊥). ap (λ (o : Option HandsetLink). (or_new_line number o).handset) (line_behind number l ls e) ∙ line_handset number ls)
-    (cases_octets l.handset number)

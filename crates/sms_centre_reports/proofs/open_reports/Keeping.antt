@@ -21,6 +21,7 @@ use Rattle.sms_centre_reports.specs.open_reports.Entries.{account_in, entry_key,
 use Rattle.sms_centre_reports.specs.open_reports.OpenReports.{AccountOf, IsWithReceipt, OpenReportsOf, Represents, receipts_at}
 use Rattle.sms_centre_rows.specs.waiting.Trying.{later}
 use Rattle.sms_centre_spec.proofs.bodies.Bodies.{alone_found}
+use Rattle.sms_centre_rows.proofs.reports.Kinds.{no_status}
 
 -- ---- what is kept of a row
 
@@ -43,11 +44,6 @@ open_under r = ⊎_elim
     (λ (t : is_open r ≡ true). subst (λ (o : Option ReportEntry). IsUnder entry_key r.id o) (sym (cond-true (is_open r) (Some (report_entry r)) None t)) (let e : r.id ≡ r.id = refl in e))
     (λ (t : is_open r ≡ false). subst (λ (o : Option ReportEntry). IsUnder entry_key r.id o) (sym (cond-false (is_open r) (Some (report_entry r)) None t)) tt)
     (cases_Bool (is_open r))
-
-pub no_status : (k : ReportKind) → is_receipt k ≡ true → is_status k ≡ false
-no_status Receipt e = refl
-no_status (Status reference tpdu) e = absurd cc
-no_status Unsent e = absurd cc
 
 pub no_receipt : (k : ReportKind) → is_status k ≡ true → is_receipt k ≡ false
 no_receipt Receipt e = absurd cc

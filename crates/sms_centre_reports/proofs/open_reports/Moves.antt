@@ -23,7 +23,7 @@ use Rattle.sms_centre_reports.specs.open_reports.OpenReportsDraft.{OpenReportsDr
 use Rattle.sms_centre_reports.specs.open_reports.Updates.{entry_reaching, keeping, keeping_of, keeping_receipt, keeping_status, receipt_of, status_of, unless_done, with_receipt}
 use Rattle.sms_centre_reports.proofs.open_reports.Becoming.{became_added, became_far, became_made, next_added, next_made, nothing_there}
 use Rattle.sms_centre_reports.proofs.open_reports.Noting.{noted_far, noted_put, stay_far, stay_put}
-use Rattle.sms_centre_reports.proofs.open_reports.Keeping.{preserved_receipt, preserved_closed, preserved_status, no_receipt, no_status}
+use Rattle.sms_centre_reports.proofs.open_reports.Keeping.{preserved_receipt, preserved_closed, preserved_status, no_receipt}
 use Rattle.sms_centre_rows.specs.declared.waiting.progress.Progress.{Progress}
 use Rattle.sms_centre_rows.specs.declared.waiting.revision.Revision.{Revision}
 use Rattle.sms_centre_rows.specs.declared.waiting.revision.Revision.TheVariants.{Put, Amend}
@@ -31,6 +31,7 @@ use Rattle.sms_centre_rows.specs.waiting.Revisions.{Revised, amended}
 use Rattle.sms_centre_rows.specs.waiting.Trying.{later}
 use Rattle.sms_centre_spec.proofs.NextNumbers.{below_next_place}
 use Rattle.sms_centre_spec.proofs.forgetting.Moves.{next_amended}
+use Rattle.sms_centre_rows.proofs.reports.Kinds.{no_status}
 
 -- ---- accounts
 

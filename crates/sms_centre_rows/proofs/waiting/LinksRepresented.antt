@@ -41,3 +41,10 @@ line_put line ls = ap (λ (o : Option HandsetLink). or_new_line line.handset o) 
 
 pub line_put_other : (number : List ℕ) (line : HandsetLink) (ls : List HandsetLink) → ¬ (line.handset ≡ number) → line_of number (with_line line ls) ≡ line_of number ls
 line_put_other number line ls ne = ap (λ (o : Option HandsetLink). or_new_line number o) (put_at_other number line ls ne)
+
+pub line_of_handset : (number : List ℕ) (ls : List HandsetLink) → (line_of number ls).handset ≡ number
+line_of_handset number [] = refl
+line_of_handset number (l ∷ ls) = ⊎_elim
+    (λ (e : l.handset ≡ number). ap (λ (o : Option HandsetLink). (or_new_line number o).handset) (line_here number l ls e) ∙ e)
+    (λ (e : l.handset ≡ number → ⊥). ap (λ (o : Option HandsetLink). (or_new_line number o).handset) (line_behind number l ls e) ∙ line_of_handset number ls)
+    (cases_octets l.handset number)

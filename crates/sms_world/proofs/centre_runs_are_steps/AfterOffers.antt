@@ -10,7 +10,7 @@ use Rattle.sms_link.specs.LinkTurn.{LinkOf, Turn, begun, of_kind, started as tur
 use Rattle.sms_base.specs.declared.carried.Kind.TheVariants.{Data}
 use Rattle.sms_base.specs.declared.holder.Holder.{Holder}
 use Rattle.sms_centre_rows.proofs.waiting.Mentions.{number_found}
-use Rattle.sms_centre_rows.proofs.waiting.LinksRepresented.{line_put, line_put_other}
+use Rattle.sms_centre_rows.proofs.waiting.LinksRepresented.{line_of_handset, line_put, line_put_other}
 use Rattle.sms_centre_rows.specs.waiting.Links.{Links, is_ready, line_at, line_of, or_new_line, turn_line, turned}
 use Rattle.sms_centre_rows.specs.waiting.References.{handset_at}
 use Rattle.sms_centre_rows.specs.waiting.SoundWaiting.{SoundWaiting}
@@ -20,7 +20,6 @@ use Rattle.sms_centre_rows.specs.declared.waiting.handset_link.HandsetLink.{Hand
 use Rattle.sms_centre_rows.specs.declared.waiting.queued_part.QueuedPart.{QueuedPart}
 use Rattle.sms_centre_rows.specs.declared.waiting.reference.ReferenceRow.{ReferenceRow}
 use Rattle.sms_centre_spec.proofs.EventLaws.{keeps_apart}
-use Rattle.sms_centre_spec.proofs.SoundLinks.{line_of_handset}
 use Rattle.sms_centre_spec.specs.CentreEvent.{aged, at_moment, fired, follow, frame_taken, happened, lines_awaited, lower, raise, raised, tag_of}
 use Rattle.sms_centre_spec.specs.Draft.{Core, Draft, Store, core_of, draft_of, handsets_in, references_in, waiting_in}
 use Rattle.sms_centre_spec.specs.Held.{SoundHeld}

@@ -1,5 +1,5 @@
 -- Events that change nothing that waits offer nothing.
-use Rattle.std.proofs.Common.{◌≡◌, ℕ, List, [], ◌∷◌, Bool, true, false, refl, sym, ◌∙◌, ap, inl, inr, Option, Some, None}
+use Rattle.std.proofs.Common.{◌≡◌, ℕ, List, [], ◌∷◌, Bool, false, refl, sym, ◌∙◌, ap, inl, inr, Option, Some, None}
 use Rattle.std.specs.Prelude.{◌==◌, ◌&&◌, not, if◌then◌else◌}
 use Rattle.std.proofs.lemmas.Bool.{cond_both, cond-false, eqb-true}
 use Rattle.std.specs.Str.{bytes_eq}
@@ -11,12 +11,12 @@ use Rattle.sms_centre_rows.specs.messages.OpenParts.{parts_waiting}
 use Rattle.sms_centre_rows.specs.messages.SplitReferences.{is_among}
 use Rattle.sms_centre_rows.specs.declared.messages.message.MessageRow.{MessageRow}
 use Rattle.sms_centre_rows.specs.reports.Receipts.{Session, answered_in, receipt_ended, receipt_tried, session_key}
-use Rattle.sms_centre_rows.specs.reports.Reports.{is_receipt, is_status, report_key, report_of, report_reaching}
+use Rattle.sms_centre_rows.specs.reports.Reports.{is_status, report_key, report_of, report_reaching}
 use Rattle.sms_centre_rows.specs.reports.Waiting.{report_queued, reports_to, with_reports as with_queued}
-use Rattle.sms_centre_rows.specs.declared.reports.report.ReportKind.{ReportKind}
-use Rattle.sms_centre_rows.specs.declared.reports.report.ReportKind.TheVariants.{Receipt, Status, Unsent}
 use Rattle.sms_centre_rows.specs.declared.reports.report.ReportRow.{ReportRow}
 use Rattle.sms_centre_rows.proofs.reports.AllWaiting.{report_found}
+use Rattle.sms_centre_rows.proofs.waiting.LinksRepresented.{line_of_handset}
+use Rattle.sms_centre_rows.proofs.reports.Kinds.{no_status}
 use Rattle.sms_rows.specs.table.Table.{Rises, put, row_at}
 use Rattle.sms_rows.proofs.table.Tables.{among_found, found_among}
 use Rattle.sms_centre_rows.specs.waiting.Keys.{queued_key}
@@ -28,7 +28,6 @@ use Rattle.sms_centre_rows.specs.declared.waiting.handset.HandsetRow.{HandsetRow
 use Rattle.sms_centre_rows.specs.declared.waiting.handset_link.HandsetLink.{HandsetLink}
 use Rattle.sms_centre_rows.specs.declared.waiting.queued_part.QueuedPart.{QueuedPart}
 use Rattle.sms_centre_rows.specs.declared.waiting.progress.Progress.{Progress}
-use Rattle.sms_centre_spec.proofs.SoundLinks.{line_of_handset}
 use Rattle.sms_centre_spec.proofs.forgetting.Runs.{among_so}
 use Rattle.sms_centre_spec.specs.CentreEvent.{follow}
 use Rattle.sms_centre_spec.specs.Draft.{Core, Draft, Store, draft_of, handsets_in, messages_in, priorities_in, parts_in, reports_in, waiting_in, with_reports}
@@ -101,11 +100,6 @@ waits_alike handset ms key q (r ∷ rs) all_queued f =
     ∙ sym (cond-false (reports_to handset r (message_at r.id ms)) (put queued_key (report_queued r) ls) ls (never_waits handset r (message_at r.id ms) plain)))
     (λ t. refl) in
     head (with_queued handset ms (amended report_key report_reaching key q rs) all_queued) ∙ ap (λ (ls : List QueuedPart). more r ls) rest
-
-pub no_status : (k : ReportKind) → is_receipt k ≡ true → is_status k ≡ false
-no_status Receipt e = refl
-no_status (Status reference tpdu) e = absurd cc
-no_status Unsent e = absurd cc
 
 -- what was sent in a session is a receipt
 pub receipt_there : (c : Core) (session : Session) (number : ℕ) → IsSoundCore c → row_at session_key number c.sessions ≡ Some session → (n : ℕ) → Among n session.unanswered
