@@ -75,7 +75,7 @@ pub part_last : {E X : Type 0} (f : Ends E) (r : Reads E X) → IsPart f r → I
 part_last f r h = (alone r h.0, h.1, h.2)
 
 -- what is read, read with more behind it
-longer : {E X : Type 0} (r : Reads E X) (xs : List ℕ) (x : X) (rest ys : List ℕ) → TakesFront r → r xs ≡ Ok (x, rest) → r (xs ++ ys) ≡ Ok (x, rest ++ ys)
+pub longer : {E X : Type 0} (r : Reads E X) (xs : List ℕ) (x : X) (rest ys : List ℕ) → TakesFront r → r xs ≡ Ok (x, rest) → r (xs ++ ys) ≡ Ok (x, rest ++ ys)
 longer r xs x rest ys h e =
     let f = h xs (x, rest) e in
     ap r (ap (λ (l : List ℕ). l ++ ys) f.1 ∙ append_assoc f.0 rest ys) ∙ f.2 (rest ++ ys)

@@ -86,7 +86,7 @@ answered_represented session id b d w bindings reports represents awaited is tel
 -- ---- all of a session that ends
 
 -- a receipt stands there for each
-AreReceipts : List ℕ → List ReportRow → Type 0
+unfoldable pub AreReceipts : List ℕ → List ReportRow → Type 0
 AreReceipts ids rows = (id : ℕ) → Among id ids → (r : ReportRow) × ((report_of id rows ≡ Some r) × (is_receipt r.kind ≡ true))
 
 receipts_stay : (r : ReportRow) (q : Progress) (ids : List ℕ) (t : Revised ReportRow) → Rises report_key (reports_of t) → report_of r.id (reports_of t) ≡ Some r → is_receipt r.kind ≡ true → AreReceipts ids (reports_of t)
@@ -97,7 +97,7 @@ receipts_stay r q ids t rises there receipt each id among = ⊎_elim
     (λ (ne : ¬ (r.id ≡ id)). let x = each id among in (x.0, (amended_other id r q (reports_of t) rises there ne ∙ x.1.0, x.1.1)))
     (cases_eq r.id id)
 
-tried_waits : (n : ℕ) (ids : List ℕ) (t : Revised ReportRow) (s : Store) → IsConsistent (with_reports t s) → AreReceipts ids (reports_of t)
+pub tried_waits : (n : ℕ) (ids : List ℕ) (t : Revised ReportRow) (s : Store) → IsConsistent (with_reports t s) → AreReceipts ids (reports_of t)
     → (h : List ℕ) → all_waiting (with_reports (all_tried n ids t) s) h ≡ all_waiting (with_reports t s) h
 unfolding AreReceipts
 tried_waits n [] t s k each h = refl

@@ -13,7 +13,7 @@ use Rattle.sms_tpdu.specs.declared.fault.TpduFault.TheVariants.{Truncated}
 use Rattle.sms_tpdu.specs.declared.up.Up.TheVariants.{Submit as SubmitUp}
 use Rattle.sms_world_model.specs.Premises.{IsTimely, ReadsTimely, allocations}
 use Rattle.sms_world_model.specs.References.{Ticket}
-use Rattle.sms_world_model.specs.ScriptRun.{After, AllControl, AllMayFollow, AllWrite, Asked, Before, Belongs, Cancelled, Event, Follows, Handed, IsExpiry, IsInOrder, IsOwn, MayFollow, Reads, Removed, Restarted, Submitted, Tick_centre, Tick_handset, Went, Whole, Wrote, is_stopped, items}
+use Rattle.sms_world_model.specs.ScriptRun.{After, AllControl, AllMayFollow, AllWrite, Asked, Before, Belongs, Cancelled, Event, Follows, Handed, IsExpiry, IsInOrder, IsOwn, Reads, Removed, Restarted, Submitted, Tick_centre, Tick_handset, Went, Whole, Wrote, is_stopped, items}
 use Rattle.sms_world_model.specs.Submission.{IsSubmitTo, Submission}
 use Rattle.sms_world_model.specs.World.{Allocation, Bare, Carried, Down, EntryState, Frame, IsLatest, IsRecorded, Line, OutEntry, Pending, Queued, Sending, Sent, Sent_up, State, Unsure, Up, World, answer, is_same_handset, next_number}
 use Rattle.sms_world_model.specs.WorldStep.{Acknowledged, Again, Can, Control, Delete, Expire, Item, Lapse, Memory_free, Offer, Offer_memory, Offer_up, Receive, Refuse, Refused, Reject, Remove, Repeat_memory, Run, Settle, Step, Submit, Take, Take_again, Write, after, after_item, data_of, end, is_entry, memory_of, removed, replaced}
@@ -28,6 +28,7 @@ use Rattle.sms_world.proofs.headline.DecidedTimely.{same_frame}
 use Rattle.sms_world.proofs.headline.FreshRuns.{HandsOne}
 use Rattle.sms_world.proofs.scripts_are_runs.UpGrown.{no_memory}
 use Rattle.sms_world_model.proofs.Scripts.{stays_timely}
+use Rattle.sms_world_model.proofs.Followers.{said_of_followers}
 
 -- ---- plain facts
 
@@ -86,20 +87,9 @@ expiry_calm : (s : Step) → IsExpiry s → IsCalm s
 expiry_calm (Expire id) f = tt
 expiry_calm _ f = absurd f
 
-may_calm : (event : Event) (s : Step) → MayFollow event s → IsCalm s
-may_calm Tick_centre s f = ⊎_elim (λ (x : Follows s). follows_calm s x) (λ (x : IsExpiry s). expiry_calm s x) f
-may_calm Submitted s f = follows_calm s f
-may_calm Cancelled s f = follows_calm s f
-may_calm Asked s f = follows_calm s f
-may_calm (Handed n) s f = follows_calm s f
-may_calm Tick_handset s f = follows_calm s f
-may_calm Wrote s f = follows_calm s f
-may_calm Removed s f = follows_calm s f
-may_calm Restarted s f = follows_calm s f
-
 all_may_calm : (event : Event) (ss : List Step) → AllMayFollow event ss → AllCalm ss
 all_may_calm event [] f = tt
-all_may_calm event (s ∷ ss) f = (may_calm event s f.0, all_may_calm event ss f.1)
+all_may_calm event (s ∷ ss) f = (said_of_followers IsCalm follows_calm expiry_calm event s f.0, all_may_calm event ss f.1)
 
 control_calm : (ss : List Step) → AllControl ss → AllCalm ss
 control_calm [] c = tt

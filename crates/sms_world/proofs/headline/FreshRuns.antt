@@ -5,7 +5,7 @@ use Rattle.sms_base.specs.Among.{Among}
 use Rattle.sms_world_model.specs.Premises.{FreshParts, SubmitsFresh, IsTimely}
 use Rattle.sms_world_model.specs.References.{Ticket}
 use Rattle.sms_world_model.specs.WorldStep.{Run, after_item, end, Can, Delete, Receive, Remove, Status, Step, Submit, Take, after}
-use Rattle.sms_world_model.specs.ScriptRun.{After, AllControl, AllMayFollow, AllWrite, Asked, Before, Belongs, Cancelled, Event, Follows, Handed, Happening, IsControl, IsExpiry, IsInOrder, IsOwn, IsPlayed, MayFollow, Reads, Removed, Restarted, Submitted, Tick_centre, Tick_handset, Went, Whole, Wrote, items}
+use Rattle.sms_world_model.specs.ScriptRun.{After, AllControl, AllMayFollow, AllWrite, Asked, Before, Belongs, Cancelled, Event, Follows, Handed, Happening, IsControl, IsExpiry, IsInOrder, IsOwn, IsPlayed, Reads, Removed, Restarted, Submitted, Tick_centre, Tick_handset, Went, Whole, Wrote, items}
 use Rattle.sms_world_model.specs.Submission.{Submission}
 use Rattle.sms_world_model.specs.World.{Accepted, Carried, Frame, Allocation, OutEntry, World}
 use Rattle.sms_world_model.proofs.Faithful.{IsFaithful, faithful_run, faithful_step}
@@ -14,6 +14,7 @@ use Rattle.sms_world_model.proofs.Runs.{sound_run}
 use Rattle.sms_world_model.proofs.Sound.{IsSound}
 use Rattle.sms_world.proofs.headline.FaithfulRuns.{HandsDown, end_parts, one_faithful, run_parts}
 use Rattle.sms_world_model.proofs.Scripts.{control_timely, stays_timely}
+use Rattle.sms_world_model.proofs.Followers.{said_of_followers}
 
 -- ---- steps that neither submit nor accept
 
@@ -63,20 +64,9 @@ expiry_quiet (Receive u x ts) f = absurd f
 expiry_quiet (Take u) f = absurd f
 expiry_quiet _ f = tt
 
-may_follow_quiet : (event : Event) (s : Step) → MayFollow event s → IsQuiet s
-may_follow_quiet Tick_centre s f = ⊎_elim (λ (x : Follows s). follow_quiet s x) (λ (x : IsExpiry s). expiry_quiet s x) f
-may_follow_quiet Submitted s f = follow_quiet s f
-may_follow_quiet Cancelled s f = follow_quiet s f
-may_follow_quiet Asked s f = follow_quiet s f
-may_follow_quiet (Handed n) s f = follow_quiet s f
-may_follow_quiet Tick_handset s f = follow_quiet s f
-may_follow_quiet Wrote s f = follow_quiet s f
-may_follow_quiet Removed s f = follow_quiet s f
-may_follow_quiet Restarted s f = follow_quiet s f
-
 pub follows_quiet : (event : Event) (ss : List Step) → AllMayFollow event ss → AllQuiet ss
 follows_quiet event [] f = tt
-follows_quiet event (s ∷ ss) f = (may_follow_quiet event s f.0, follows_quiet event ss f.1)
+follows_quiet event (s ∷ ss) f = (said_of_followers IsQuiet follow_quiet expiry_quiet event s f.0, follows_quiet event ss f.1)
 
 pub writes_quiet : (ss : List Step) → AllWrite ss → AllQuiet ss
 writes_quiet [] a = tt
