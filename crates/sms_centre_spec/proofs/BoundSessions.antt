@@ -12,7 +12,7 @@ use Rattle.sms_rows.specs.table.Table.{Rises, put, row_at}
 use Rattle.sms_rows.proofs.table.Tables.{among_found, among_put, among_without, found_among, found_key, rises_put, rises_without, row_at_put, row_at_put_other}
 use Rattle.sms_link.specs.declared.ending.Upward.{Upward}
 use Rattle.sms_link.specs.declared.ending.Upward.TheVariants.{Ended, Opened}
-use Rattle.sms_link.specs.LinkTurn.{fired as fired_link, taken}
+use Rattle.sms_link.specs.LinkTurn.{taken}
 use Rattle.sms_relay.specs.RelayReading.{up_at}
 use Rattle.sms_relay.specs.declared.fault.RelayFault.{RelayFault}
 use Rattle.sms_relay.specs.declared.frame.Rp.{Rp}
@@ -33,16 +33,14 @@ use Rattle.sms_intake.specs.declared.submission.Submission.{Submission}
 use Rattle.sms_centre_rows.specs.declared.messages.message.MessageRow.{MessageRow}
 use Rattle.sms_centre_rows.specs.declared.reports.delivery.Delivery.{Delivery}
 use Rattle.sms_centre_rows.specs.declared.reports.report.ReportRow.{ReportRow}
-use Rattle.sms_centre_rows.specs.declared.waiting.handset.HandsetRow.{HandsetRow}
 use Rattle.sms_centre_rows.specs.declared.waiting.handset_link.HandsetLink.{HandsetLink}
 use Rattle.sms_centre_rows.specs.messages.Messages.{is_pending, message_at}
 use Rattle.sms_centre_rows.specs.messages.SplitReferences.{is_among}
 use Rattle.sms_centre_rows.specs.reports.Receipts.{Bindings, Session, is_account, receives_for, send as send_one, send_all, send_in, send_to, session_for, session_key, waits, window, answered_in, without_id}
-use Rattle.sms_centre_rows.specs.waiting.Links.{line_at, line_of, lowered, put_line, turn_line}
-use Rattle.sms_centre_rows.specs.waiting.References.{handset_at}
+use Rattle.sms_centre_rows.specs.waiting.Links.{line_of, lowered, put_line, turn_line}
 use Rattle.sms_centre_rows.proofs.reports.Serving.{fewest_found}
-use Rattle.sms_centre_spec.specs.CentreEvent.{aged, at_moment, fire_at, fire_line, fire_mentioned, fire_others, fired, follow, frame_taken, happened, is_mentioned, lost, lower, raise, raise_all, raised, tag_of, timed_out, went_up}
-use Rattle.sms_centre_spec.specs.Draft.{Core, Draft, Store, answer_with, draft_of, handsets_in, in_store, messages_in, on_links, reports_in, rows_of}
+use Rattle.sms_centre_spec.specs.CentreEvent.{aged, at_moment, fired, follow, frame_taken, happened, lost, lower, raise, raised, tag_of, went_up}
+use Rattle.sms_centre_spec.specs.Draft.{Core, Draft, Store, answer_with, draft_of, in_store, messages_in, on_links, reports_in, rows_of}
 use Rattle.sms_centre_spec.specs.Ends.{end}
 use Rattle.sms_centre_spec.specs.MessageNumbers.{next_number}
 use Rattle.sms_centre_spec.specs.Numbers.{id_in}
@@ -58,6 +56,7 @@ use Rattle.sms_centre_spec.specs.Submitting.{accept, is_reference_taken}
 use Rattle.sms_centre_spec.specs.declared.answer.CentreAnswer.TheVariants.{Cancelled}
 use Rattle.sms_centre_spec.specs.declared.event.CentreEvent.{CentreEvent}
 use Rattle.sms_centre_spec.specs.declared.event.CentreEvent.TheVariants.{Submit, Query, Cancel, Bound, Unbound, DeliverAnswered, Frame, LinkUp, LinkDown, Ordered, Tick}
+use Rattle.sms_centre_spec.proofs.Ticking.{fired_says, raised_says}
 
 -- said of each session: of its number, of the name of its account, and of whether it receives
 abbrev pub Each : (ℕ → List ℕ → Bool → Type 0) → List Session → Type 0
@@ -222,45 +221,10 @@ module _ (R : ℕ → List ℕ → Bool → Type 0) where
   lower_waits h d k =
       let l : HandsetLink = line_of h d.links.lines in lost_waits l.handset l.link.under_way (on_links (put_line (lowered l) d.links) d) k
 
-  timed_out_waits : (h : List ℕ) (u : Option Upward) (d : Draft) → Waits d → Waits (timed_out h u d)
-  timed_out_waits h None d k = k
-  timed_out_waits h (Some (Opened unit)) d k = k
-  timed_out_waits h (Some (Ended transfer ending)) d k = k
-
-  fire_line_waits : (l : HandsetLink) (d : Draft) → Waits d → Waits (fire_line l d)
-  fire_line_waits l d k =
-      timed_out_waits l.handset (fired_link d.store.moment l.link).out.up (on_links (turn_line l (fired_link d.store.moment l.link) d.links) d) k
-
-  fire_at_waits : (o : Option HandsetLink) (d : Draft) → Waits d → Waits (fire_at o d)
-  fire_at_waits None d k = k
-  fire_at_waits (Some l) d k = fire_line_waits l d k
-
-  fire_mentioned_waits : (hs : List HandsetRow) (d : Draft) → Waits d → Waits (fire_mentioned hs d)
-  fire_mentioned_waits [] d k = k
-  fire_mentioned_waits (h ∷ hs) d k =
-      let o : Option HandsetLink = line_at h.number d.links.lines in fire_mentioned_waits hs (fire_at o d) (fire_at_waits o d k)
-
-  fire_others_waits : (hs : List HandsetRow) (ls : List HandsetLink) (d : Draft) → Waits d → Waits (fire_others hs ls d)
-  fire_others_waits hs [] d k = k
-  fire_others_waits hs (l ∷ ls) d k =
-      let o : Option HandsetLink = line_at l.handset d.links.lines in
-      fire_others_waits hs ls (if is_mentioned (handset_at l.handset hs) then d else fire_at o d)
-      (cond_both (is_mentioned (handset_at l.handset hs)) d (fire_at o d) (λ (e : Draft). Waits e) (λ t. k) (λ t. fire_at_waits o d k))
-
-  fired_waits : (d : Draft) → Waits d → Waits (fired d)
-  fired_waits d k =
-      let hs : List HandsetRow = handsets_in d.store in
-      let e : Draft = fire_mentioned hs d in
-      fire_others_waits hs d.links.lines e (fire_mentioned_waits hs d k)
-
-  raise_all_waits : (ls : List HandsetLink) (d : Draft) → Waits d → Waits (raise_all ls d)
-  raise_all_waits [] d k = k
-  raise_all_waits (l ∷ ls) d k =
-      raise_all_waits ls (if l.is_awaited then raise l.handset d else d) (cond_both l.is_awaited (raise l.handset d) d (λ (e : Draft). Waits e) (λ t. k) (λ t. k))
-
   ticked_waits : (now : ℕ) (d : Draft) → Waits d → Waits (raised (fired (aged (at_moment now d))))
   ticked_waits now d k =
-      let e : Draft = fired (aged (at_moment now d)) in raise_all_waits e.links.lines e (fired_waits (aged (at_moment now d)) k)
+      let a : Draft = aged (at_moment now d) in
+      raised_says Waits (λ h e kept. kept) (fired a) (fired_says Waits (λ h t ending e kept. kept) (λ links e kept. kept) a k)
 
   answered_by_waits : (id : ℕ) (b : Bool) (n : ℕ) (o : Option Session) (d : Draft) → row_at session_key n d.bindings.sessions ≡ o → Waits d → Waits (answered_by id b o d)
   answered_by_waits id b n None d at k = k

@@ -50,6 +50,7 @@ pub mod SoundStores
 pub mod SubmitFits
 pub mod TextContents
 pub mod TextFields
+pub mod Ticking
 pub mod TpdusRead
 pub mod UnitOctets
 pub mod Stages

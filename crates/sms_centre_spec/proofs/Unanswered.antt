@@ -1,5 +1,5 @@
 -- What asks nothing of the centre is answered nothing, and each request is answered.
-use Rattle.std.proofs.Common.{◌≡◌, ℕ, List, [], ◌∷◌, Bool, true, false, Option, Some, None, Result, Ok, Err, refl, ◌∙◌}
+use Rattle.std.proofs.Common.{◌≡◌, ℕ, List, Bool, true, false, Option, Some, None, Result, Ok, Err, refl, ◌∙◌}
 use Rattle.std.specs.Prelude.{if◌then◌else◌}
 use Rattle.std.specs.Option.{is_some}
 use Rattle.std.proofs.lemmas.Bool.{cond_both}
@@ -13,7 +13,7 @@ use Rattle.smpp_pdu.specs.declared.status.CommandStatus.{CommandStatus}
 use Rattle.smpp_pdu.specs.declared.status.CommandStatus.TheVariants.{ESME_RCANCELFAIL, ESME_RSUBMITFAIL}
 use Rattle.sms_link.specs.declared.ending.Upward.{Upward}
 use Rattle.sms_link.specs.declared.ending.Upward.TheVariants.{Opened, Ended}
-use Rattle.sms_link.specs.LinkTurn.{fired as fired_link, taken}
+use Rattle.sms_link.specs.LinkTurn.{taken}
 use Rattle.sms_relay.specs.declared.fault.RelayFault.{RelayFault}
 use Rattle.sms_relay.specs.declared.frame.Rp.{Rp}
 use Rattle.sms_relay.specs.declared.frame.Rp.TheVariants.{DataUnit, AckUnit, ErrorUnit, Smma}
@@ -21,13 +21,11 @@ use Rattle.sms_relay.specs.RelayReading.{up_at}
 use Rattle.sms_tpdu.specs.declared.carrier.Carrier.TheVariants.{InData}
 use Rattle.sms_tpdu.specs.TpduReading.{up_at as tpdu_up_at}
 use Rattle.sms_centre_rows.specs.declared.messages.message.MessageRow.{MessageRow}
-use Rattle.sms_centre_rows.specs.declared.waiting.handset.HandsetRow.{HandsetRow}
 use Rattle.sms_centre_rows.specs.declared.waiting.handset_link.HandsetLink.{HandsetLink}
 use Rattle.sms_centre_rows.specs.messages.Messages.{is_pending}
 use Rattle.sms_centre_rows.specs.messages.SplitReferences.{is_among}
 use Rattle.sms_centre_rows.specs.reports.Receipts.{Session, answered_in, session_key}
-use Rattle.sms_centre_rows.specs.waiting.Links.{line_at, line_of, lowered, put_line, turn_line}
-use Rattle.sms_centre_rows.specs.waiting.References.{handset_at}
+use Rattle.sms_centre_rows.specs.waiting.Links.{line_of, lowered, put_line, turn_line}
 use Rattle.sms_intake.specs.HandsetIntake.{from_read}
 use Rattle.sms_intake.specs.SmppIntake.{from_pdu, is_empty, source_in}
 use Rattle.sms_intake.specs.declared.refusal.SubmitRefusal.{SubmitRefusal}
@@ -36,8 +34,8 @@ use Rattle.sms_intake.specs.declared.submission.CentreAccount.{CentreAccount}
 use Rattle.sms_intake.specs.declared.submission.Submission.{Submission}
 use Rattle.sms_centre_spec.specs.declared.answer.CentreAnswer.TheVariants.{Cancelled}
 use Rattle.sms_centre_spec.specs.declared.event.CentreEvent.TheVariants.{Submit, Query, Cancel, Bound, Unbound, DeliverAnswered, Frame, LinkUp, LinkDown, Tick}
-use Rattle.sms_centre_spec.specs.CentreEvent.{aged, at_moment, fire_at, fire_mentioned, fire_others, fired, happened, is_mentioned, lost, raise, raise_all, tag_of, timed_out, went_up}
-use Rattle.sms_centre_spec.specs.Draft.{Core, Draft, Store, answer_with, draft_of, handsets_in, in_store, messages_in, on_links, rows_of}
+use Rattle.sms_centre_spec.specs.CentreEvent.{aged, at_moment, fired, happened, lost, tag_of, went_up}
+use Rattle.sms_centre_spec.specs.Draft.{Core, Draft, Store, answer_with, draft_of, in_store, messages_in, on_links, rows_of}
 use Rattle.sms_centre_spec.specs.Ends.{end}
 use Rattle.sms_centre_spec.specs.MessageNumbers.{next_number}
 use Rattle.sms_centre_spec.specs.Numbers.{id_in}
@@ -46,6 +44,7 @@ use Rattle.sms_centre_spec.specs.Requests.{accepted, account_at, cancel_by, canc
 use Rattle.sms_centre_spec.specs.Sessions.{answered_by, bound_as, receipt_answered, unbind, unbound_from}
 use Rattle.sms_centre_spec.specs.Shares.{unless_too_much}
 use Rattle.sms_centre_spec.specs.Submitting.{accept, is_reference_taken}
+use Rattle.sms_centre_spec.proofs.Ticking.{fired_says, raised_says}
 use Rattle.sms_base.specs.declared.carried.Carried.{Carried}
 
 -- the stage has answered nothing more
@@ -83,40 +82,13 @@ frame_unanswered handset octets tag c =
 
 -- ---- a tick
 
-timed_leaves : (h : List ℕ) (o : Option Upward) (d : Draft) → Leaves (timed_out h o d) d
-timed_leaves h None d = refl
-timed_leaves h (Some (Opened unit)) d = refl
-timed_leaves h (Some (Ended transfer ending)) d = refl
-
-fire_leaves : (o : Option HandsetLink) (d : Draft) → Leaves (fire_at o d) d
-fire_leaves None d = refl
-fire_leaves (Some l) d = timed_leaves l.handset (fired_link d.store.moment l.link).out.up (on_links (turn_line l (fired_link d.store.moment l.link) d.links) d)
-
-mentioned_leaves : (hs : List HandsetRow) (d : Draft) → Leaves (fire_mentioned hs d) d
-mentioned_leaves [] d = refl
-mentioned_leaves (h ∷ hs) d =
-    let e : Draft = fire_at (line_at h.number d.links.lines) d in mentioned_leaves hs e ∙ fire_leaves (line_at h.number d.links.lines) d
-
-others_leave : (hs : List HandsetRow) (ls : List HandsetLink) (d : Draft) → Leaves (fire_others hs ls d) d
-others_leave hs [] d = refl
-others_leave hs (l ∷ ls) d =
-    let o : Option HandsetLink = line_at l.handset d.links.lines in
-    let e : Draft = if is_mentioned (handset_at l.handset hs) then d else fire_at o d in
-    others_leave hs ls e ∙ cond_both (is_mentioned (handset_at l.handset hs)) d (fire_at o d) (λ (x : Draft). Leaves x d) (λ t. refl) (λ t. fire_leaves o d)
-
-raise_leaves : (ls : List HandsetLink) (d : Draft) → Leaves (raise_all ls d) d
-raise_leaves [] d = refl
-raise_leaves (l ∷ ls) d =
-    let e : Draft = if l.is_awaited then raise l.handset d else d in
-    raise_leaves ls e ∙ cond_both l.is_awaited (raise l.handset d) d (λ (x : Draft). Leaves x d) (λ t. refl) (λ t. refl)
+abbrev IsUnanswered : Draft → Type 0
+IsUnanswered d = d.answer ≡ None
 
 pub tick_unanswered : (now : ℕ) (c : Core) → (happened (Tick now) c).answer ≡ None
 tick_unanswered now c =
     let a : Draft = aged (at_moment now (draft_of c)) in
-    let hs : List HandsetRow = handsets_in a.store in
-    let b : Draft = fire_mentioned hs a in
-    let e : Draft = fired a in
-    raise_leaves e.links.lines e ∙ others_leave hs a.links.lines b ∙ mentioned_leaves hs a
+    raised_says IsUnanswered (λ h d none. none) (fired a) (fired_says IsUnanswered (λ h t e d none. none) (λ links d none. none) a refl)
 
 -- ---- a session binds, ends, or answers a receipt
 
