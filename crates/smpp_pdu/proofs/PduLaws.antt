@@ -41,24 +41,7 @@ command_of_is n c e = eqb-true (command_number c) n (found_holds (λ (x : Comman
 pub command_of-number : (c : CommandId) → command_of (command_number c) ≡ Some c
 unfolding command_of
 command_of-number BindReceiverId = refl
-command_of-number BindTransmitterId = refl
-command_of-number QuerySmId = refl
-command_of-number SubmitSmId = refl
-command_of-number DeliverSmId = refl
-command_of-number UnbindId = refl
-command_of-number CancelSmId = refl
-command_of-number BindTransceiverId = refl
-command_of-number EnquireLinkId = refl
-command_of-number GenericNackId = refl
-command_of-number BindReceiverRespId = refl
-command_of-number BindTransmitterRespId = refl
-command_of-number QuerySmRespId = refl
-command_of-number SubmitSmRespId = refl
-command_of-number DeliverSmRespId = refl
-command_of-number UnbindRespId = refl
-command_of-number CancelSmRespId = refl
-command_of-number BindTransceiverRespId = refl
-command_of-number EnquireLinkRespId = refl
+command_of-number _ = refl
 
 -- ---- bodies
 

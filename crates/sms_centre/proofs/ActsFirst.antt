@@ -1,7 +1,7 @@
 -- An event acts, then receipts and offers follow; and what follows rests on what the event left.
 use Rattle.std.proofs.Common.{◌≡◌, ℕ, List, Option, refl, sym, ◌∙◌, subst, ap}
 use Rattle.sms_centre_spec.specs.declared.event.CentreEvent.{CentreEvent}
-use Rattle.sms_centre_spec.specs.declared.event.CentreEvent.TheVariants.{Submit, Query, Cancel, Bound, Unbound, DeliverAnswered, Frame, LinkUp, LinkDown, Ordered, Tick}
+use Rattle.sms_centre_spec.specs.declared.event.CentreEvent.TheVariants.{Submit}
 use Rattle.sms_centre_spec.specs.declared.rows.Rows.{Rows}
 use Rattle.sms_centre_spec.specs.declared.setup.Setup.{Setup}
 use Rattle.sms_centre_spec.specs.CentreEvent.{follow, happened}
@@ -18,16 +18,7 @@ use Rattle.sms_centre.specs.Stored.{StoresRows}
 
 pub acts_then_follows : (event : CentreEvent) (c : Core) → happened event c ≡ follow (acted event c)
 acts_then_follows (Submit account message) c = refl
-acts_then_follows (Query account wanted) c = refl
-acts_then_follows (Cancel account wanted) c = refl
-acts_then_follows (Bound session account receives) c = refl
-acts_then_follows (Unbound session) c = refl
-acts_then_follows (DeliverAnswered session id is_accepted) c = refl
-acts_then_follows (Frame handset octets tag) c = refl
-acts_then_follows (LinkUp handset) c = refl
-acts_then_follows (LinkDown handset) c = refl
-acts_then_follows (Ordered order id) c = refl
-acts_then_follows (Tick now) c = refl
+acts_then_follows _ c = refl
 
 -- receipts and offers change no rows
 pub stores_alike : (event : CentreEvent) (c : Core) → (happened event c).store ≡ (acted event c).store

@@ -11,7 +11,7 @@ use Rattle.sms_base.proofs.Steps.{bind_ok, passes, ok_is, octet_takes, run_takes
 use Rattle.sms_base.proofs.Cuts.{CutsShort, CutsWhole, cuts_bind, cuts_test, cuts_octet, cuts_run, cuts_pure, whole_bind, whole_end}
 use Rattle.sms_base.proofs.OctetLaws.{IsBytes, bytes_rest}
 use Rattle.sms_control.specs.declared.cause.CpCause.{CpCause}
-use Rattle.sms_control.specs.declared.cause.CpCause.TheVariants.{NetworkFailure, Congestion, InvalidTransactionIdentifier, SemanticallyIncorrectMessage, InvalidMandatoryInformation, MessageTypeNonExistent, MessageNotCompatible, InformationElementNonExistent, ProtocolErrorUnspecified, Other}
+use Rattle.sms_control.specs.declared.cause.CpCause.TheVariants.{Other}
 use Rattle.sms_control.specs.declared.fault.CpFault.{CpFault}
 use Rattle.sms_control.specs.declared.fault.CpFault.TheVariants.{Truncated, Trailing, BadLength}
 use Rattle.sms_control.specs.declared.message_type.MessageType.{MessageType}
@@ -162,15 +162,7 @@ stood_for octet cause e = tt
 cause_is : (cause : CpCause) → IsCpCause cause → cause_of (cause_octet cause) ≡ cause
 unfolding cause_of
 cause_is (Other octet) h = h
-cause_is NetworkFailure h = refl
-cause_is Congestion h = refl
-cause_is InvalidTransactionIdentifier h = refl
-cause_is SemanticallyIncorrectMessage h = refl
-cause_is InvalidMandatoryInformation h = refl
-cause_is MessageTypeNonExistent h = refl
-cause_is MessageNotCompatible h = refl
-cause_is InformationElementNonExistent h = refl
-cause_is ProtocolErrorUnspecified h = refl
+cause_is _ h = refl
 
 -- ---- the unit
 

@@ -18,7 +18,7 @@ use Rattle.sms_script.specs.declared.event.StopPoint.TheVariants.{Before, After}
 use Rattle.sms_script.specs.declared.fault.LineFault.{LineFault}
 use Rattle.sms_script.specs.declared.fault.LineFault.TheVariants.{BadLine}
 use Rattle.sms_script.specs.declared.keyword.Keyword.{Keyword}
-use Rattle.sms_script.specs.declared.keyword.Keyword.TheVariants.{Start, Centre as CentreWord, Account, Handset as HandsetWord, Submit, Urgent, Query, Cancel, Write, Delete, Discard, Deliver, Tick, Restart, Stopped}
+use Rattle.sms_script.specs.declared.keyword.Keyword.TheVariants.{Start}
 
 -- ---- words
 
@@ -141,35 +141,9 @@ keyword_takes word k e = sym (same_octets (keyword_text k) word (found_passes (�
 pub keyword_again : (k : Keyword) → keyword_of (keyword_text k) ≡ Some k
 unfolding keyword_of
 keyword_again Start = refl
-keyword_again CentreWord = refl
-keyword_again Account = refl
-keyword_again HandsetWord = refl
-keyword_again Submit = refl
-keyword_again Urgent = refl
-keyword_again Query = refl
-keyword_again Cancel = refl
-keyword_again Write = refl
-keyword_again Delete = refl
-keyword_again Discard = refl
-keyword_again Deliver = refl
-keyword_again Tick = refl
-keyword_again Restart = refl
-keyword_again Stopped = refl
+keyword_again _ = refl
 
 -- a keyword is a word
 pub keyword_good : (k : Keyword) → is_word (keyword_text k) ≡ true
 keyword_good Start = refl
-keyword_good CentreWord = refl
-keyword_good Account = refl
-keyword_good HandsetWord = refl
-keyword_good Submit = refl
-keyword_good Urgent = refl
-keyword_good Query = refl
-keyword_good Cancel = refl
-keyword_good Write = refl
-keyword_good Delete = refl
-keyword_good Discard = refl
-keyword_good Deliver = refl
-keyword_good Tick = refl
-keyword_good Restart = refl
-keyword_good Stopped = refl
+keyword_good _ = refl

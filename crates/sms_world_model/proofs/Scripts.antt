@@ -52,14 +52,7 @@ expiry_timely w _ x = absurd x
 
 may_timely : (w : World) (event : Event) (s : Step) → MayFollow event s → ReadsTimely w s
 may_timely w Tick_centre s f = ⊎_elim (λ (x : Follows s). follow_timely w s x) (λ (x : IsExpiry s). expiry_timely w s x) f
-may_timely w Submitted s f = follow_timely w s f
-may_timely w Cancelled s f = follow_timely w s f
-may_timely w Asked s f = follow_timely w s f
-may_timely w (Handed n) s f = follow_timely w s f
-may_timely w Tick_handset s f = follow_timely w s f
-may_timely w Wrote s f = follow_timely w s f
-may_timely w Removed s f = follow_timely w s f
-may_timely w Restarted s f = follow_timely w s f
+may_timely w _ s f = follow_timely w s f
 
 read_timely : (w : World) (v : Frame) (s : Step) → Reads v s → IsTimely w v → ReadsTimely w s
 read_timely w v (Take u) r t = subst (λ (x : Frame). IsTimely w x) (sym r) t

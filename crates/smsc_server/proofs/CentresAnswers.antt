@@ -548,16 +548,7 @@ module _ (put : List (Option Job)) (taken : List Reply) (awaited : ℕ) (count :
   count_then (PutOwn job) due o m e = let never : Asks ≡ Serves = sym m.1 ∙ e in absurd cc
   count_then (Dropped reply) due o m e = absurd m.0
   count_then (Refused reply) due o m e = absurd (fails o m.1 e)
-  count_then (Timed now went) due o m e = count_still
-  count_then (Told full) due o m e = count_still
-  count_then (Took octets went) due o m e = count_still
-  count_then (GaveUp went) due o m e = count_still
-  count_then (AskedLink went) due o m e = count_still
-  count_then (AskedToLeave asked went) due o m e = count_still
-  count_then (Noted said) due o m e = count_still
-  count_then (Sent octets) due o m e = count_still
-  count_then (PutBack job again went) due o m e = count_still
-  count_then (Left last) due o m e = count_still
+  count_then _ due o m e = count_still
 
 module _ (accounts : List Account) (t : EsmeTurns) (puts : List Job) (awaited : ℕ) (answers : List CentreAnswer) (h : Along accounts t puts awaited answers) where
   abbrev Then : Call → Type 0

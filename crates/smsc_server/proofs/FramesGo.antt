@@ -172,16 +172,7 @@ found handset n (l ∷ links) e = ⊎_elim
 -- the job brings the link of that handset up
 rises : (stimulus : Stimulus Job) (handset : List ℕ) → is_that (risen_by stimulus) handset ≡ true → stimulus ≡ JobOf (asker stimulus) (LinkUp handset)
 rises (JobOf seat (LinkUp other)) handset e = ap (λ (h : List ℕ). JobOf seat (LinkUp h)) ((bytes_eq-Decides other handset).0 e)
-rises (JobOf seat (Bound account receives)) handset e = absurd (true≢false (sym e))
-rises (JobOf seat Unbound) handset e = absurd (true≢false (sym e))
-rises (JobOf seat (Submit account pdu)) handset e = absurd (true≢false (sym e))
-rises (JobOf seat (Query account pdu)) handset e = absurd (true≢false (sym e))
-rises (JobOf seat (Cancel account pdu)) handset e = absurd (true≢false (sym e))
-rises (JobOf seat (DeliverAnswered id is_accepted)) handset e = absurd (true≢false (sym e))
-rises (JobOf seat LinkDown) handset e = absurd (true≢false (sym e))
-rises (JobOf seat (Frame octets)) handset e = absurd (true≢false (sym e))
-rises (Tick now) handset e = absurd (true≢false (sym e))
-rises (Own errand) handset e = absurd (true≢false (sym e))
+rises _ handset e = absurd (true≢false (sym e))
 
 abbrev pub IsNamed : Stimulus Job → List LinkSeat → List ℕ → ℕ → Type 0
 IsNamed stimulus links handset n = (stimulus ≡ JobOf n (LinkUp handset)) ⊎ IsAt handset n links

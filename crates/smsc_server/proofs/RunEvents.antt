@@ -19,7 +19,7 @@ use Rattle.sms_rows.specs.table.Table.{row_at}
 use Rattle.sms_rows.proofs.table.Tables.{among_put, among_without, found_among}
 use Rattle.smpp_pdu.specs.PduReading.{pdu_at}
 use Rattle.smpp_pdu.specs.declared.body.Body.{Body}
-use Rattle.smpp_pdu.specs.declared.body.Body.TheVariants.{BindReceiver, BindTransmitter, BindTransceiver, SubmitSm, DeliverSm, QuerySm, CancelSm, Unbind, EnquireLink, GenericNack, BindReceiverResp, BindTransmitterResp, BindTransceiverResp, SubmitSmResp, DeliverSmResp, QuerySmResp, CancelSmResp, UnbindResp, EnquireLinkResp}
+use Rattle.smpp_pdu.specs.declared.body.Body.TheVariants.{BindReceiver}
 use Rattle.smpp_pdu.specs.declared.fault.PduFault.{PduFault}
 use Rattle.smpp_pdu.specs.declared.pdu.Pdu.{Pdu}
 use Rattle.smsc_service.specs.declared.asking.SeatRequest.{SeatRequest}
@@ -47,66 +47,15 @@ number_of number few e =
 
 submission_is : (account : ℕ) (body : Body) → IfEvent IsEvent (submission account body)
 submission_is account (BindReceiver x) = tt
-submission_is account (BindTransmitter x) = tt
-submission_is account (BindTransceiver x) = tt
-submission_is account (SubmitSm x) = tt
-submission_is account (DeliverSm x) = tt
-submission_is account (QuerySm x) = tt
-submission_is account (CancelSm x) = tt
-submission_is account Unbind = tt
-submission_is account EnquireLink = tt
-submission_is account GenericNack = tt
-submission_is account (BindReceiverResp x) = tt
-submission_is account (BindTransmitterResp x) = tt
-submission_is account (BindTransceiverResp x) = tt
-submission_is account (SubmitSmResp x) = tt
-submission_is account (DeliverSmResp x) = tt
-submission_is account (QuerySmResp x) = tt
-submission_is account CancelSmResp = tt
-submission_is account UnbindResp = tt
-submission_is account EnquireLinkResp = tt
+submission_is account _ = tt
 
 question_is : (account : ℕ) (body : Body) → IfEvent IsEvent (question account body)
 question_is account (BindReceiver x) = tt
-question_is account (BindTransmitter x) = tt
-question_is account (BindTransceiver x) = tt
-question_is account (SubmitSm x) = tt
-question_is account (DeliverSm x) = tt
-question_is account (QuerySm x) = tt
-question_is account (CancelSm x) = tt
-question_is account Unbind = tt
-question_is account EnquireLink = tt
-question_is account GenericNack = tt
-question_is account (BindReceiverResp x) = tt
-question_is account (BindTransmitterResp x) = tt
-question_is account (BindTransceiverResp x) = tt
-question_is account (SubmitSmResp x) = tt
-question_is account (DeliverSmResp x) = tt
-question_is account (QuerySmResp x) = tt
-question_is account CancelSmResp = tt
-question_is account UnbindResp = tt
-question_is account EnquireLinkResp = tt
+question_is account _ = tt
 
 withdrawal_is : (account : ℕ) (body : Body) → IfEvent IsEvent (withdrawal account body)
 withdrawal_is account (BindReceiver x) = tt
-withdrawal_is account (BindTransmitter x) = tt
-withdrawal_is account (BindTransceiver x) = tt
-withdrawal_is account (SubmitSm x) = tt
-withdrawal_is account (DeliverSm x) = tt
-withdrawal_is account (QuerySm x) = tt
-withdrawal_is account (CancelSm x) = tt
-withdrawal_is account Unbind = tt
-withdrawal_is account EnquireLink = tt
-withdrawal_is account GenericNack = tt
-withdrawal_is account (BindReceiverResp x) = tt
-withdrawal_is account (BindTransmitterResp x) = tt
-withdrawal_is account (BindTransceiverResp x) = tt
-withdrawal_is account (SubmitSmResp x) = tt
-withdrawal_is account (DeliverSmResp x) = tt
-withdrawal_is account (QuerySmResp x) = tt
-withdrawal_is account CancelSmResp = tt
-withdrawal_is account UnbindResp = tt
-withdrawal_is account EnquireLinkResp = tt
+withdrawal_is account _ = tt
 
 read_is : (ask : Body → SeatRequest) → ((body : Body) → IfEvent IsEvent (ask body)) → (r : Result Pdu PduFault) → IfEvent IsEvent (read_as ask r)
 read_is ask h (Ok pdu) = h pdu.body

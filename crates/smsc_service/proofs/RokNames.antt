@@ -5,7 +5,7 @@ use Rattle.std.proofs.lemmas.Bool.{cond_both}
 use Rattle.sms_base.proofs.Lists.{among_parts}
 use Rattle.smpp_pdu.specs.PduReading.{pdu_at}
 use Rattle.smpp_pdu.specs.declared.body.Body.{Body}
-use Rattle.smpp_pdu.specs.declared.body.Body.TheVariants.{BindReceiver, BindTransmitter, BindTransceiver, SubmitSm, DeliverSm, QuerySm, CancelSm, Unbind, EnquireLink, GenericNack, BindReceiverResp, BindTransmitterResp, BindTransceiverResp, SubmitSmResp, DeliverSmResp, QuerySmResp, CancelSmResp, UnbindResp, EnquireLinkResp}
+use Rattle.smpp_pdu.specs.declared.body.Body.TheVariants.{BindReceiver, BindTransmitter, BindTransceiver, SubmitSm}
 use Rattle.smpp_pdu.specs.declared.fault.PduFault.{PduFault}
 use Rattle.smpp_pdu.specs.declared.message.Message.{Message}
 use Rattle.smpp_pdu.specs.declared.pdu.Pdu.{Pdu}
@@ -94,21 +94,7 @@ body_asks account (BindReceiver x) = tt
 body_asks account (BindTransmitter x) = tt
 body_asks account (BindTransceiver x) = tt
 body_asks account (SubmitSm message) = (account, (message, refl))
-body_asks account (DeliverSm x) = tt
-body_asks account (QuerySm x) = tt
-body_asks account (CancelSm x) = tt
-body_asks account Unbind = tt
-body_asks account EnquireLink = tt
-body_asks account GenericNack = tt
-body_asks account (BindReceiverResp x) = tt
-body_asks account (BindTransmitterResp x) = tt
-body_asks account (BindTransceiverResp x) = tt
-body_asks account (SubmitSmResp x) = tt
-body_asks account (DeliverSmResp x) = tt
-body_asks account (QuerySmResp x) = tt
-body_asks account CancelSmResp = tt
-body_asks account UnbindResp = tt
-body_asks account EnquireLinkResp = tt
+body_asks account _ = tt
 
 read_asks : (account : ℕ) (r : Result Pdu PduFault) → IsSubmission (read_as (submission account) r)
 read_asks account (Ok pdu) = body_asks account pdu.body

@@ -37,7 +37,7 @@ use Rattle.sms_tpdu.specs.TpduGrammar.{IsSubmit, IsWrittenDeliver, IsWrittenSubm
 use Rattle.sms_tpdu.specs.declared.deliver.Deliver.{Deliver}
 use Rattle.sms_tpdu.specs.declared.carrier.Carrier.TheVariants.{InData}
 use Rattle.sms_tpdu.specs.declared.fault.TpduFault.{TpduFault}
-use Rattle.sms_tpdu.specs.declared.fault.TpduFault.TheVariants.{Truncated, TrailingOctets, BadAddress, BadTime, UserDataTooLong, UnsupportedType, UnsupportedValidity, SpareBits, BadHeader}
+use Rattle.sms_tpdu.specs.declared.fault.TpduFault.TheVariants.{Truncated}
 use Rattle.sms_tpdu.specs.declared.submit.Submit.{Submit as SubmitOf}
 use Rattle.sms_tpdu.specs.declared.up.Up.{Up}
 use Rattle.sms_tpdu.specs.declared.up.Up.TheVariants.{Submit, DeliverReport}
@@ -109,14 +109,7 @@ IsAlike refusal own = (told_cause refusal ≡ cause_of own) × (cause_octet (fai
 
 fault_alike : (fault : TpduFault) → IsAlike (unread fault) (refusal_of fault)
 fault_alike Truncated = (refl, refl)
-fault_alike TrailingOctets = (refl, refl)
-fault_alike BadAddress = (refl, refl)
-fault_alike BadTime = (refl, refl)
-fault_alike UserDataTooLong = (refl, refl)
-fault_alike UnsupportedType = (refl, refl)
-fault_alike UnsupportedValidity = (refl, refl)
-fault_alike SpareBits = (refl, refl)
-fault_alike BadHeader = (refl, refl)
+fault_alike _ = (refl, refl)
 
 -- ---- each unit
 

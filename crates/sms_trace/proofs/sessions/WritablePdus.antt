@@ -7,7 +7,7 @@ use Rattle.smpp_pdu.specs.BodyGrammar.{IsCancelValue, IsMessageValue, IsQueryRes
 use Rattle.smpp_pdu.specs.Fields.{IsText, IsTimeText}
 use Rattle.smpp_pdu.specs.Writing.{IfThere, IsBodyValue, IsMessageRespValue, IsWritable, written_body, written_message, written_tlvs}
 use Rattle.smpp_pdu.specs.declared.body.Body.{Body}
-use Rattle.smpp_pdu.specs.declared.body.Body.TheVariants.{BindReceiver, BindTransmitter, BindTransceiver, SubmitSm, DeliverSm, QuerySm, CancelSm, Unbind, EnquireLink, GenericNack, BindReceiverResp, BindTransmitterResp, BindTransceiverResp, SubmitSmResp, DeliverSmResp, QuerySmResp, CancelSmResp, UnbindResp, EnquireLinkResp}
+use Rattle.smpp_pdu.specs.declared.body.Body.TheVariants.{SubmitSm, DeliverSm, QuerySm, CancelSm, SubmitSmResp, DeliverSmResp, QuerySmResp, CancelSmResp}
 use Rattle.smpp_pdu.specs.declared.cancel.CancelSm.{CancelSm as CancelSmOf}
 use Rattle.smpp_pdu.specs.declared.message.Message.{Message}
 use Rattle.smpp_pdu.specs.declared.message.MessageResp.{MessageResp}
@@ -112,17 +112,7 @@ is_small (SubmitSmResp body) v = (v, resp_has_room body v)
 is_small (DeliverSmResp body) v = (v, delivered_has_room body v)
 is_small (QuerySmResp body) v = (v, queried_has_room body v)
 is_small CancelSmResp v = (tt, omega arith)
-is_small (BindReceiver body) v = absurd v
-is_small (BindTransmitter body) v = absurd v
-is_small (BindTransceiver body) v = absurd v
-is_small Unbind v = absurd v
-is_small EnquireLink v = absurd v
-is_small GenericNack v = absurd v
-is_small (BindReceiverResp body) v = absurd v
-is_small (BindTransmitterResp body) v = absurd v
-is_small (BindTransceiverResp body) v = absurd v
-is_small UnbindResp v = absurd v
-is_small EnquireLinkResp v = absurd v
+is_small _ v = absurd v
 
 pub is_writable : (pdu : Pdu) → CanBeWritten pdu.body → IsWritable pdu
 is_writable pdu v =

@@ -32,10 +32,10 @@ use Rattle.sms_play.specs.Meeting.{AtCentre, Meeting, account_from, by_account}
 use Rattle.sms_script.specs.Requests.{submit_of}
 use Rattle.sms_play.specs.PlayedEvent.{met, played}
 use Rattle.sms_rows.proofs.table.Tables.{found_among, found_key, row_at_put, row_at_put_other}
-use Rattle.sms_script.specs.declared.event.Act.TheVariants.{Cancel, Delete, Deliver, Discard, Query, Submit, Tick, Write}
+use Rattle.sms_script.specs.declared.event.Act.TheVariants.{Submit}
 use Rattle.sms_script.specs.declared.event.Submission.{Submission as ScriptSubmission}
 use Rattle.sms_script.specs.declared.event.WorldEvent.{WorldEvent}
-use Rattle.sms_script.specs.declared.event.WorldEvent.TheVariants.{Restart, Stopped, Whole}
+use Rattle.sms_script.specs.declared.event.WorldEvent.TheVariants.{Whole}
 use Rattle.sms_script.specs.declared.report.answers.Answer.{Answer}
 use Rattle.sms_script.specs.declared.report.answers.Answered.TheVariants.{Accepted}
 use Rattle.sms_world.proofs.headline.FaithfulRuns.{end_parts, run_parts}
@@ -315,12 +315,4 @@ module _ (n : ℕ) (x : ScriptSubmission) (c d : PlayState) (w : World) (s : Pla
 pub submits_as : (n : ℕ) (e : WorldEvent) (c d : PlayState) (w : World) → PlayRefines c w → (steps : List Step) → played n e c ≡ ok_play d → Belongs w (happening_of e c.centre.moment) (happening_of e c.centre.moment).went steps
     → Run w (happened_in (happening_of e c.centre.moment) steps) → PlayRefines d (end w (happened_in (happening_of e c.centre.moment) steps)) → SubmitsAsAnswered n e c steps d
 submits_as n (Whole (Submit x)) c d w s steps is belongs run t = λ id. (to_steps n x c d w s steps is belongs run t id, from_steps n x c d w s steps is belongs run t id)
-submits_as n (Whole (Query name id)) c d w s steps is belongs run t = tt
-submits_as n (Whole (Cancel name id)) c d w s steps is belongs run t = tt
-submits_as n (Whole (Write handset to report text)) c d w s steps is belongs run t = tt
-submits_as n (Whole (Delete handset entry)) c d w s steps is belongs run t = tt
-submits_as n (Whole (Discard handset entry)) c d w s steps is belongs run t = tt
-submits_as n (Whole (Deliver number)) c d w s steps is belongs run t = tt
-submits_as n (Whole (Tick side now)) c d w s steps is belongs run t = tt
-submits_as n (Stopped stop act) c d w s steps is belongs run t = tt
-submits_as n (Restart side) c d w s steps is belongs run t = tt
+submits_as n _ c d w s steps is belongs run t = tt

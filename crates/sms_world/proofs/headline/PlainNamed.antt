@@ -17,10 +17,10 @@ use Rattle.sms_play.specs.Playing.{play_state_of, report_of}
 use Rattle.sms_play.specs.Setups.{beginning}
 use Rattle.sms_rows.proofs.table.Tables.{among_found, found_among, found_key}
 use Rattle.sms_script.specs.Requests.{submit_of}
-use Rattle.sms_script.specs.declared.event.Act.TheVariants.{Cancel, Delete, Deliver, Discard, Query, Submit, Tick, Write}
+use Rattle.sms_script.specs.declared.event.Act.TheVariants.{Submit}
 use Rattle.sms_script.specs.declared.event.Submission.{Submission as ScriptSubmission}
 use Rattle.sms_script.specs.declared.event.WorldEvent.{WorldEvent}
-use Rattle.sms_script.specs.declared.event.WorldEvent.TheVariants.{Restart, Stopped, Whole}
+use Rattle.sms_script.specs.declared.event.WorldEvent.TheVariants.{Whole}
 use Rattle.sms_script.specs.declared.report.Report.{Report}
 use Rattle.sms_script.specs.declared.report.answers.Answer.{Answer}
 use Rattle.sms_script.specs.declared.report.answers.Answered.{Answered}
@@ -153,15 +153,7 @@ answered_next n x c d w s is id answered =
 
 pub submitting : (e : WorldEvent) → IsSubmitting e → (x : ScriptSubmission) × (e ≡ Whole (Submit x))
 submitting (Whole (Submit x)) is = (x, refl)
-submitting (Whole (Query name id)) is = absurd is
-submitting (Whole (Cancel name id)) is = absurd is
-submitting (Whole (Write handset to report text)) is = absurd is
-submitting (Whole (Delete handset entry)) is = absurd is
-submitting (Whole (Discard handset entry)) is = absurd is
-submitting (Whole (Deliver number)) is = absurd is
-submitting (Whole (Tick side now)) is = absurd is
-submitting (Stopped stop act) is = absurd is
-submitting (Restart side) is = absurd is
+submitting _ is = absurd is
 
 pub named_is : NamedLaw
 named_is script after typed reports a id i e =

@@ -35,7 +35,7 @@ use Rattle.sms_play.specs.Playing.{all_outbox_lines, entry_state, outbox_lines, 
 use Rattle.sms_play.specs.Premises.{is_timely_event}
 use Rattle.sms_play.specs.Setups.{beginning}
 use Rattle.sms_world_model.specs.References.{Ticket}
-use Rattle.sms_world_model.specs.ScriptRun.{Asked, Belongs, Cancelled, Event, Handed, Happening, Removed, Restarted, Submitted, Tick_centre, Tick_handset, Wrote, happened, is_stopped, items}
+use Rattle.sms_world_model.specs.ScriptRun.{Belongs, Event, Handed, Happening, happened, is_stopped, items}
 use Rattle.sms_world_model.specs.Submission.{Submission}
 use Rattle.sms_world_model.specs.World.{Carried, Frame, IsRecorded, Sent as Sent_frame, World, empty}
 use Rattle.sms_world_model.specs.WorldStep.{Receive, Run, Step, end}
@@ -170,14 +170,7 @@ module _ (script : Script) (after : ℕ → Report) where
 
   nothing_takes : (w : World) (event : Event) (ss : List Step) → ss ≡ [] → TakesIn IsTakenIn w event ss
   nothing_takes w (Handed n) ss e = λ u s t there own i. absurd (subst (λ (z : List Step). Among (Receive u s t) z) e i)
-  nothing_takes w Submitted ss e = tt
-  nothing_takes w Cancelled ss e = tt
-  nothing_takes w Asked ss e = tt
-  nothing_takes w Tick_centre ss e = tt
-  nothing_takes w Tick_handset ss e = tt
-  nothing_takes w Wrote ss e = tt
-  nothing_takes w Removed ss e = tt
-  nothing_takes w Restarted ss e = tt
+  nothing_takes w _ ss e = tt
 
   module _ (typed : AreTyped script.events) (reports : AreReports script after) where
     module _ (some : List WorldEvent) (e : WorldEvent) (others : List WorldEvent) (parts : script.events ≡ some ++ e ∷ others) where
