@@ -4,6 +4,7 @@ use Rattle.std.proofs.lemmas.List.{take_more}
 use Rattle.sms_base.specs.Among.{Among}
 use Rattle.sms_rows.specs.table.Table.{AllAbove, Rises, put, row_at}
 use Rattle.sms_rows.proofs.table.Tables.{row_behind}
+use Rattle.sms_rows.proofs.table.Places.{above_at}
 use Rattle.sms_centre_rows.specs.declared.messages.message.MessageRow.{MessageRow}
 use Rattle.sms_centre_rows.specs.declared.messages.part.PartRow.{PartRow}
 use Rattle.sms_centre_rows.specs.messages.Messages.{message_at, message_key, part_key}
@@ -14,17 +15,12 @@ use Rattle.sms_centre_messages.proofs.references.Behind.{put_last}
 use Rattle.sms_centre_messages.proofs.references.Ending.{total_new}
 
 module _ {A : Type 0} (key : A → ℕ) where
-  above_at : (n i : ℕ) (xs : List A) (d : A) → AllAbove key n xs → i < length xs → n < key (get_or xs i d)
-  above_at n i [] d above l = absurd (omega (arith, l))
-  above_at n zero (x ∷ xs) d above l = above.0
-  above_at n (suc i) (x ∷ xs) d above l = above_at n i xs d above.1 (omega (arith, l))
-
   -- those before a row have lower keys
   pub before_lower : (i : ℕ) (xs : List A) (d other : A) → Rises key xs → i < length xs → Among other (take i xs) → key other < key (get_or xs i d)
   before_lower i [] d other rises l a = absurd (omega (arith, l))
   before_lower zero (x ∷ xs) d other rises l a = elim a [ ]
   before_lower (suc i) (x ∷ xs) d other rises l a = ⊎_elim
-      (λ (e : other ≡ x). subst (λ (y : A). key y < key (get_or xs i d)) (sym e) (above_at (key x) i xs d rises.0 (omega (arith, l))))
+      (λ (e : other ≡ x). subst (λ (y : A). key y < key (get_or xs i d)) (sym e) (above_at key (key x) i xs d rises.0 (omega (arith, l))))
       (λ (r : Among other (take i xs)). before_lower i xs d other rises.1 (omega (arith, l)) r)
       a
 
