@@ -1,15 +1,6 @@
 -- The claims of messages that the centre split, of every script.
-use Rattle.std.proofs.Common.{◌≡◌, ℕ, ◌+◌, List, length, sym, ◌∙◌, subst, Some, Result, Ok, Err}
+use Rattle.std.proofs.Common.{◌≡◌, ℕ, ◌+◌, List, length, sym, ◌∙◌, subst, Result, Ok, Err}
 use Rattle.sms_base.specs.Reading.{◌>>=◌}
-use Rattle.sms_concat.specs.declared.content.Content.{Content}
-use Rattle.sms_centre_rows.specs.declared.messages.message.MessageRow.{MessageRow}
-use Rattle.sms_centre_rows.specs.declared.messages.part.PartRow.{PartRow}
-use Rattle.sms_centre_rows.specs.messages.Messages.{message_at, message_key}
-use Rattle.sms_rows.proofs.table.Tables.{found_key}
-use Rattle.sms_centre_spec.specs.CentreEvent.{happened}
-use Rattle.sms_centre_spec.specs.Draft.{Core, messages_in, parts_in}
-use Rattle.sms_centre_spec.specs.SoundCore.{IsEvent, IsSoundCore}
-use Rattle.sms_centre_spec.specs.declared.event.CentreEvent.{CentreEvent}
 use Rattle.sms_script.specs.declared.event.WorldEvent.{WorldEvent}
 use Rattle.sms_script.specs.declared.script.Script.{Script}
 use Rattle.sms_script.specs.declared.setup.Setup.{Setup}
@@ -25,9 +16,10 @@ use Rattle.sms_world.specs.scripts_are_runs.PlayRefinement.{PlayRefines}
 use Rattle.sms_world.proofs.scripts_are_runs.Beginnings.{begins}
 use Rattle.sms_world.proofs.scripts_are_runs.Events.{ok_play, same_play}
 use Rattle.sms_world.proofs.scripts_are_runs.Runs.{run_leads}
-use Rattle.sms_world.specs.headline.SplitClaims.{IsSplitOf, AllSplitUnder}
+use Rattle.sms_world.specs.headline.SplitClaims.{AllSplitUnder}
 use Rattle.sms_world.proofs.split_messages_stay.SplitEvents.{splits_hold}
-use Rattle.sms_world.proofs.split_messages_stay.SplitTexts.{stays_split}
+use Rattle.sms_world.proofs.split_messages_stay.SplitTexts.{IsSplitAs, split_lasts}
+use Rattle.sms_world.proofs.split_messages_stay.KeptMessages.{IsSaid, said_on}
 use Rattle.sms_world.specs.headline.HeadlineLaws.{IsScript, LeadsOn, SplitJoinedLaw, SplitLongLaw, SplitStaysLaw}
 use Rattle.sms_world.proofs.headline.Claimed.{can_play, matches, script_hands}
 use Rattle.sms_world.proofs.headline.FreshClaims.{joined_whole}
@@ -74,21 +66,10 @@ split_long_is script some others c d is on m reference i e =
 
 -- ---- it stays
 
--- the message of that number is that content, split
-abbrev pub HasText : ℕ → Content → ℕ → List MessageRow → List PartRow → Type 0
-HasText id content reference messages parts = (x : MessageRow) × ((message_at id messages ≡ Some x) × IsSplitOf x content reference parts)
-
-pub text_kept : (id : ℕ) (content : Content) (reference : ℕ) (event : CentreEvent) (c : Core) → IsSoundCore c → IsEvent event → HasText id content reference c.rows.messages c.rows.parts
-    → HasText id content reference (messages_in (happened event c).store) (parts_in (happened event c).store)
-text_kept id content reference event c sound is (x, (at, k)) =
-    let own : x.id ≡ id = found_key message_key id x c.rows.messages at in
-    subst (λ (n : ℕ). HasText n content reference (messages_in (happened event c).store) (parts_in (happened event c).store)) own
-    (stays_split event c x content reference sound is (subst (λ (n : ℕ). message_at n c.rows.messages ≡ Some x) (sym own) at) k)
-
 pub split_stays_is : SplitStaysLaw
 split_stays_is script some others c d is on m content reference at k =
     let b = between script some others c d is on in
-    all_preserved (HasText m.id content reference) (text_kept m.id content reference) (1 + length some) others c d b.first_world b.first_refines (m, (at, k)) b.goods b.octets b.leads
+    all_preserved (IsSaid m.id (IsSplitAs content reference)) (said_on m.id (IsSplitAs content reference) (split_lasts content reference)) (1 + length some) others c d b.first_world b.first_refines (m, (at, k)) b.goods b.octets b.leads
 
 -- ---- it becomes so
 

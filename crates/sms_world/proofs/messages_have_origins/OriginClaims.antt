@@ -43,10 +43,11 @@ use Rattle.sms_world.proofs.headline.SplitClaimed.{between, first_of}
 use Rattle.sms_world.proofs.headline.SplitPlays.{all_preserved}
 use Rattle.sms_world.specs.headline.Origins.{IsSubmitted, IsFrom, MakesMessage}
 use Rattle.sms_world.proofs.submissions_stay.NewMessages.{made_is}
-use Rattle.sms_world.proofs.submissions_stay.StaysSubmitted.{HasSubmitted}
+use Rattle.sms_world.proofs.submissions_stay.StaysSubmitted.{submitted_lasts}
+use Rattle.sms_world.proofs.split_messages_stay.KeptMessages.{IsSaid, said_on}
 use Rattle.sms_world.specs.messages_have_origins.OriginLaws.{OriginLaw, SubmitLaw}
 use Rattle.sms_world.specs.headline.SplitClaims.{Submits}
-use Rattle.sms_world.proofs.messages_have_origins.EventsMake.{WasStoredIn, SubmitLeads, event_makes, stopped_leads, submitted_preserved, whole_leads}
+use Rattle.sms_world.proofs.messages_have_origins.EventsMake.{WasStoredIn, SubmitLeads, event_makes, stopped_leads, whole_leads}
 use Rattle.sms_world.proofs.messages_have_origins.SubmittedMoments.{made_then}
 use Rattle.sms_world.proofs.messages_have_origins.Unmoved.{Rows, rows_in, rows_of}
 
@@ -183,8 +184,8 @@ submit_is script some others e s c d place account u is on submits named its rea
     let event : CentreEvent = CentreSubmit place (submit_of s) in
     let rows : rows_of f.next ≡ rows_in (happened event c.centre).store = k.rows ∙ ap (λ (p : ℕ). rows_in (happened (CentreSubmit p (submit_of s)) c.centre).store) one in
     let own : m.id ≡ next_number c.centre.rows = found_key message_key (next_number c.centre.rows) m (messages_in (happened event c.centre).store) there in
-    let made : HasSubmitted m.id u (messages_in (happened event c.centre).store) (parts_in (happened event c.centre).store) =
+    let made : IsSaid m.id (IsSubmitted u) (messages_in (happened event c.centre).store) (parts_in (happened event c.centre).store) =
     (m, (ap (λ (i : ℕ). message_at i (messages_in (happened event c.centre).store)) own ∙ there, new_one place c.centre s account u m b.first_refines.sound its reads there)) in
     let l = event_leads n e c f.next b.first_world b.first_refines b.goods.0 b.octets.0 f.is in
-    all_preserved (HasSubmitted m.id u) (submitted_preserved m.id u) (n + 1) others f.next d (end b.first_world (happened_in (happening_of e c.centre.moment) l.0)) l.1.2
-    (subst (λ (r : Rows). HasSubmitted m.id u r.0 r.1) (sym rows) made) b.goods.1 f.octets f.leads
+    all_preserved (IsSaid m.id (IsSubmitted u)) (said_on m.id (IsSubmitted u) (submitted_lasts u)) (n + 1) others f.next d (end b.first_world (happened_in (happening_of e c.centre.moment) l.0)) l.1.2
+    (subst (λ (r : Rows). IsSaid m.id (IsSubmitted u) r.0 r.1) (sym rows) made) b.goods.1 f.octets f.leads
