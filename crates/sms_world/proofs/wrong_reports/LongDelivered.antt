@@ -23,9 +23,8 @@ use Rattle.sms_world.specs.headline.PlainScript.{IsAskedBy}
 use Rattle.sms_world.specs.headline.PlainWords.{numbered}
 use Rattle.sms_world.specs.wrong_reports.Literals.{both, both_parts, given, handset, line, long_accepted, long_asked, long_data, long_events, name, second_given, setup, source, zeros}
 use Rattle.sms_world.specs.wrong_reports.Tried.{TrueSplitLaw}
-use Rattle.sms_world.proofs.wrong_reports.RightReports.{asked_of}
+use Rattle.sms_world.proofs.wrong_reports.RightReports.{asked_of, submitted}
 use Rattle.sms_script.specs.Requests.{submit_of}
-use Rattle.sms_world_model.specs.WorldStep.{submitted}
 
 abbrev content : Content
 content = record { coding = Octets; dcs = 4; units = zeros 141 }

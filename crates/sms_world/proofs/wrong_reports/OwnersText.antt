@@ -31,8 +31,7 @@ use Rattle.sms_world.specs.wrong_reports.Literals.{handset, hello, of_writer, ow
 use Rattle.sms_world.specs.wrong_reports.Tried.{OtherEntryLaw, OwnerLaw, TrueOwnerLaw, TrueSentLaw}
 use Rattle.sms_world.proofs.wrong_reports.Read.{content, part}
 use Rattle.sms_world.proofs.Options.{some_is}
-use Rattle.sms_world.proofs.wrong_reports.RightReports.{none_before}
-use Rattle.sms_world_model.specs.WorldStep.{submitted}
+use Rattle.sms_world.proofs.wrong_reports.RightReports.{none_before, submitted}
 use Rattle.sms_world.proofs.wrong_reports.Apart.{the_one}
 
 abbrev u : Submission
