@@ -1,5 +1,5 @@
 -- A fact of the centre's rows that each of its events keeps is kept along a course.
-use Rattle.std.proofs.Common.{◌≡◌, ℕ, zero, suc, ◌+◌, List, [], ◌∷◌, ◌++◌, true, refl, subst, Option, Some, None, Result, Ok, Err}
+use Rattle.std.proofs.Common.{◌≡◌, ℕ, zero, suc, List, [], ◌∷◌, ◌++◌, true, refl, subst, Option, Some, None, Result, Ok, Err}
 use Rattle.std.proofs.lemmas.Bool.{cond_both}
 use Rattle.sms_base.specs.Reading.{◌>>=◌}
 use Rattle.sms_centre_rows.specs.declared.messages.message.MessageRow.{MessageRow}
@@ -31,16 +31,13 @@ use Rattle.sms_play.specs.HandsetSide.{handset_meets, happened, is_owners, with_
 use Rattle.sms_play.specs.Meeting.{AtCentre, AtHandset, Meeting, is_answered, meeting_of}
 use Rattle.sms_play.specs.PlayedEvent.{handset_stored, handset_restarted, handset_restarts, stored, met, played, restart, restarted, stopped}
 use Rattle.sms_play.specs.Playing.{played_on}
-use Rattle.sms_world_model.specs.WorldStep.{end}
-use Rattle.sms_world_model.specs.ScriptRun.{happened as happened_in}
 use Rattle.sms_world_model.specs.World.{World}
 use Rattle.sms_world.specs.scripts_are_runs.PlayRuns.{AllHandOctets, AreGood}
-use Rattle.sms_world.specs.headline.Claims.{IfPlayed}
 use Rattle.sms_world.specs.scripts_are_runs.PlayRefinement.{PlayRefines}
 use Rattle.sms_world.specs.scripts_are_runs.Happening.{HandsOctets, IsGoodEvent}
-use Rattle.sms_world.specs.headline.OneRun.{happening_of}
-use Rattle.sms_world.proofs.scripts_are_runs.Events.{event_leads, ok_play, same_play}
+use Rattle.sms_world.proofs.scripts_are_runs.Events.{ok_play, same_play}
 use Rattle.sms_world.proofs.scripts_are_runs.Meetings.{Meets, meets}
+use Rattle.sms_world.proofs.scripts_are_runs.Courses.{KeptByEvents, NothingAsked, kept_along}
 
 module _ (Q : Rows → Type 0) (keeps : (event : CentreEvent) (c : Core) → IsSoundCore c → IsEvent event → Q c.rows → Q (rows_of (centre_happened event c).store)) where
   abbrev Has : PlayState → Type 0
@@ -131,17 +128,14 @@ module _ (Q : Rows → Type 0) (keeps : (event : CentreEvent) (c : Core) → IsS
       event_preserved (Stopped stop act) d good octets q = then_preserved (meeting_of n act c) (λ m. stopped n act stop m c) d (λ m e. stopped_preserved act stop m (meets c w s n act good octets m e)) q
       event_preserved (Restart side) d good octets q = side_back side d q
 
-  then_all : (n : ℕ) (e : WorldEvent) (c d : PlayState) (w : World) (more : PlayState → Result PlayState PlayFault) (Octets : PlayState → Type 0) → ((x : PlayState) (v : World) → PlayRefines x v → Has x → Octets x → more x ≡ ok_play d → Has d)
-      → PlayRefines c w → Has c → IsGoodEvent e → HandsOctets e c → (r : Result PlayState PlayFault) → played n e c ≡ r → IfPlayed r Octets → (r >>= λ (x : PlayState). more x) ≡ ok_play d → Has d
-  then_all n e c d w more Octets go s k good octets (Ok x) is later q =
-      let l = event_leads n e c x w s good octets is in
-      go x (end w (happened_in (happening_of e c.centre.moment) l.0)) l.1.2 (event_preserved n c w s k e x good octets is) later q
-  then_all n e c d w more Octets go s k good octets (Err fault) is later q = absurd cc
+  abbrev HasRows : PlayState → World → Type 0
+  HasRows c w = Has c
+
+  rows_kept : KeptByEvents NothingAsked HasRows
+  rows_kept = record { keeps = λ n e es c d w s good octets asked q l k. event_preserved n c w s k e d good octets q; rest = λ n e es c d asked q. tt }
 
   pub rows_preserved : (n : ℕ) (es : List WorldEvent) (c d : PlayState) (w : World) → PlayRefines c w → Has c → AreGood es → AllHandOctets n es c → played_on n es c ≡ ok_play d → Has d
-  rows_preserved n [] c d w s k good octets q = subst (λ (z : PlayState). Has z) (same_play c d q) k
-  rows_preserved n (e ∷ es) c d w s k good octets q =
-      then_all n e c d w (λ x. played_on (n + 1) es x) (λ x. AllHandOctets (n + 1) es x) (λ x v t h o p. rows_preserved (n + 1) es x d v t h good.1 o p) s k good.0 octets.0 (played n e c) refl octets.1 q
+  rows_preserved n es c d w s k good octets q = (kept_along NothingAsked HasRows rows_kept n es c d w s good octets tt k q).1.1
 
 -- of the messages and their parts alone
 module _ (P : List MessageRow → List PartRow → Type 0)
