@@ -226,8 +226,8 @@ module _ (P : Draft → Type 0) (A : ℕ → Type 0) (U : List ℕ → Result Rp
   ends_group g es None d h = frees es d h
   ends_group g es (Some c) d h = k.entry_put (joined_entry g es c) (drop_all es d) (drops es d h)
 
-  pub completes : (g : Group) (es : List Entry) (d : Draft) → P d → P (completed g es d)
-  completes g es d h =
+  pub complete_keeps : (g : Group) (es : List Entry) (d : Draft) → P d → P (completed g es d)
+  complete_keeps g es d h =
       cond_both (all_numbers g.total (part_numbers es)) (ended g es (joined_content g es) d) d (λ (z : Draft). P z) (λ t. ends_group g es (joined_content g es) d h) (λ t. h)
 
   stores_single : (tpdu : List ℕ) (d : Draft) → P d → P (store_single tpdu d)
@@ -236,10 +236,10 @@ module _ (P : Draft → Type 0) (A : ℕ → Type 0) (U : List ℕ → Result Rp
   stores_part : (g : Group) (n : ℕ) (tpdu : List ℕ) (es : List Entry) (d : Draft) → P d → P (store_part g n tpdu es d)
   stores_part g n tpdu es d h =
       let e : Entry = part_entry d.rows.counters.entry g n tpdu in
-      completes g (es ++ e ∷ []) (put_entry e (count_entry d)) (k.entry_put e (count_entry d) (k.entry_counted d h))
+      complete_keeps g (es ++ e ∷ []) (put_entry e (count_entry d)) (k.entry_put e (count_entry d) (k.entry_counted d h))
 
-  pub marks : (n : ℕ) (m : DiscardedGroup) (d : Draft) → P d → P (marked n m d)
-  marks n m d h =
+  pub mark_keeps : (n : ℕ) (m : DiscardedGroup) (d : Draft) → P d → P (marked n m d)
+  mark_keeps n m d h =
       cond_both (all_numbers m.group.total (m.seen ++ n ∷ [])) (remove_mark m.number d) (put_mark (record m { seen = m.seen ++ n ∷ [] }) d) (λ (z : Draft). P z)
       (λ t. k.mark_removed m.number d h) (λ t. k.mark_put (record m { seen = m.seen ++ n ∷ [] }) d h)
 
@@ -268,7 +268,7 @@ module _ (P : Draft → Type 0) (A : ℕ → Type 0) (U : List ℕ → Result Rp
     part : (g : Group) (n : ℕ) (m : Option DiscardedGroup) (d : Draft) → P d → P (part_received r tag tpdu g n m d)
     part g n None d h = member g n (members g d.rows.entries) d h
     part g n (Some m) d h =
-        cond_both (is_among n m.seen) (single_received r tag tpdu d) (accept r tag tpdu (marked n m d)) (λ (z : Draft). P z) (λ t. single d h) (λ t. accepts (marked n m d) (marks n m d h))
+        cond_both (is_among n m.seen) (single_received r tag tpdu d) (accept r tag tpdu (marked n m d)) (λ (z : Draft). P z) (λ t. single d h) (λ t. accepts (marked n m d) (mark_keeps n m d h))
 
     deliver : (m : DeliverOf) (c : Option ConcatKey) (d : Draft) → P d → P (deliver_received r tag tpdu m c d)
     deliver m None d h = single d h
