@@ -57,7 +57,7 @@ use Rattle.sms_world.proofs.handset_runs_are_steps.Concluding.{lost_law, notice_
 use Rattle.sms_world.proofs.frames_pass_between_sides.Linking.{begin_is, data_framed, next_below}
 use Rattle.sms_world.proofs.handset_runs_are_steps.Moving.{frames_more, links_more, moves_then, stays, whole_both}
 use Rattle.sms_world.proofs.handset_runs_are_steps.Submitting.{data_fits, data_read, data_some, submit_fits, submit_is}
-use Rattle.sms_world.proofs.handsets_send_octets.StageOctets.{fired_among}
+use Rattle.sms_world.proofs.HandsetStages.{fired_among}
 use Rattle.sms_world.proofs.scripts_are_runs.UpGrown.{no_memory}
 
 -- ---- a transaction begins

@@ -29,7 +29,6 @@ use Rattle.sms_play.specs.HandsetSide.{handset_meets, happened as handset_happen
 use Rattle.sms_play.specs.Meeting.{AtCentre, AtHandset, Meeting, account_from, by_account, by_handset, delivered, handed_over, is_answered, meeting_of, tag_in}
 use Rattle.sms_script.specs.Requests.{cancel_of, query_of, submit_of}
 use Rattle.sms_play.specs.PlayedEvent.{handset_stored, handset_restarted, handset_restarts, stored, met, played, restarted, stopped}
-use Rattle.sms_play.specs.Playing.{played_on}
 use Rattle.sms_script.specs.declared.play_fault.PlayFault.{PlayFault}
 use Rattle.sms_rows.proofs.table.Tables.{found_key}
 use Rattle.sms_script.specs.declared.event.Act.{Act}
@@ -48,21 +47,20 @@ use Rattle.sms_script.specs.declared.report.rows.FrameRow.{FrameRow}
 use Rattle.sms_world.proofs.headline.AnsweredSubmits.{named_by, whole_answers}
 use Rattle.sms_world.proofs.messages_have_origins.EventsMake.{WasStoredIn}
 use Rattle.sms_world.proofs.messages_have_origins.Unmoved.{Rows, whole_leaves}
-use Rattle.sms_world.proofs.scripts_are_runs.Events.{event_leads, ok_play, same_play}
-use Rattle.sms_world.specs.scripts_are_runs.PlayRuns.{AllHandOctets, AreGood}
-use Rattle.sms_world.specs.headline.Claims.{IfPlayed}
+use Rattle.sms_world.proofs.scripts_are_runs.Events.{ok_play, same_play}
 use Rattle.sms_world.specs.scripts_are_runs.PlayRefinement.{PlayRefines}
 use Rattle.sms_world.specs.scripts_are_runs.Happening.{HandsOctets, IsGoodEvent}
-use Rattle.sms_world.specs.headline.OneRun.{happening_of}
+use Rattle.sms_world.specs.headline.OneRun.{happening_of, world_after}
 use Rattle.sms_world_model.proofs.Runs.{messages_stay}
 use Rattle.sms_world_model.specs.Agreement.{MessagesStay}
-use Rattle.sms_world_model.specs.WorldStep.{end as end_of}
-use Rattle.sms_world_model.specs.ScriptRun.{Happening, happened as happened_in}
+use Rattle.sms_world_model.specs.ScriptRun.{happened as happened_in}
 use Rattle.sms_world_model.specs.World.{IsRecorded, World}
 use Rattle.std.proofs.Common.{ap, inl, inr, refl, subst, sym, ⊎_elim, ◌∙◌}
 use Rattle.std.proofs.lemmas.Bool.{cond_both}
-use Rattle.std.specs.Prelude.{Err, List, None, Ok, Option, Result, Some, [], ℕ, ◌++◌, ◌+◌, ◌∷◌, ◌≡◌, ◌⊎◌}
+use Rattle.std.specs.Prelude.{Err, List, None, Ok, Option, Result, Some, [], ℕ, ◌++◌, ◌∷◌, ◌≡◌, ◌⊎◌}
 use Rattle.sms_play.proofs.answers.PlayAnswers.{either_part}
+use Rattle.sms_world.proofs.scripts_are_runs.Courses.{KeptByEvents, NothingAsked}
+use Rattle.sms_world.specs.scripts_are_runs.PlayRuns.{LeadsTo}
 
 -- ---- what the centre answers
 
@@ -252,19 +250,16 @@ module _ (c d : PlayState) (w v : World) (s : PlayRefines c w) (t : PlayRefines 
       let later = stay id x.0 x.1 here in
       t.centre.rows.table.only id x.0 later.0 later.1
 
-then_named : (n : ℕ) (e : WorldEvent) (es : List WorldEvent) (c d : PlayState) (w : World)
-    → ((x : PlayState) (v : World) → PlayRefines x v → AllNamed x → AllHandOctets (n + 1) es x → played_on (n + 1) es x ≡ ok_play d → AllNamed d)
-    → PlayRefines c w → AllNamed c → IsGoodEvent e → HandsOctets e c → (r : Result PlayState PlayFault) → played n e c ≡ r → IfPlayed r (λ x. AllHandOctets (n + 1) es x)
-    → (r >>= λ (x : PlayState). played_on (n + 1) es x) ≡ ok_play d → AllNamed d
-then_named n e es c d w go s all good octets (Ok x) is later q =
-    let l = event_leads n e c x w s good octets is in
-    let h : Happening = happening_of e c.centre.moment in
-    let v : World = end_of w (happened_in h l.0) in
-    let stay : MessagesStay w v = messages_stay w (happened_in h l.0) l.1.1 in
-    go x v l.1.2 (still_named (IsSubmitting e) n c x (stored_on c x w v s l.1.2 stay) (event_grows n e c x is) all) later q
-then_named n e es c d w go s all good octets (Err fault) is later q = absurd cc
+-- what each event keeps, whatever is asked
+abbrev pub HasNamed : PlayState → World → Type 0
+HasNamed c w = AllNamed c
 
-pub all_named : (n : ℕ) (es : List WorldEvent) (c d : PlayState) (w : World) → PlayRefines c w → AllNamed c → AreGood es → AllHandOctets n es c → played_on n es c ≡ ok_play d → AllNamed d
-all_named n [] c d w s all good octets q = subst (λ (z : PlayState). AllNamed z) (same_play c d q) all
-all_named n (e ∷ es) c d w s all good octets q =
-    then_named n e es c d w (λ x v t k o p. all_named (n + 1) es x d v t k good.1 o p) s all good.0 octets.0 (played n e c) refl octets.1 q
+event_named : (n : ℕ) (e : WorldEvent) (es : List WorldEvent) (c d : PlayState) (w : World) → PlayRefines c w → IsGoodEvent e → HandsOctets e c → NothingAsked n (e ∷ es) c → played n e c ≡ ok_play d → (l : LeadsTo e c w d) → HasNamed c w
+    → HasNamed d (world_after w e c l.0)
+event_named n e es c d w s good octets asked q l all =
+    let v : World = world_after w e c l.0 in
+    let stay : MessagesStay w v = messages_stay w (happened_in (happening_of e c.centre.moment) l.0) l.1.1 in
+    still_named (IsSubmitting e) n c d (stored_on c d w v s l.1.2 stay) (event_grows n e c d q) all
+
+pub named_kept : KeptByEvents NothingAsked HasNamed
+named_kept = record { keeps = event_named; rest = λ n e es c d asked q. tt }

@@ -47,15 +47,17 @@ use Rattle.sms_world_model.specs.Groups.{OccursOnce as PairOnce}
 use Rattle.sms_world_model.specs.World.{Accepted, Allocation, World, pair_given}
 use Rattle.sms_world.proofs.centres_refine_the_world.ByOctets.{by_octet_is, by_octet_some}
 use Rattle.sms_world.proofs.headline.AskedWords.{as_written}
-use Rattle.sms_world.proofs.headline.Claimed.{can_play, delivered_is, reaches, run_is}
+use Rattle.sms_world.proofs.headline.Claimed.{delivered_is, reaches, run_is}
+use Rattle.sms_world.proofs.headline.ScriptCourses.{can_play}
 use Rattle.sms_world.proofs.headline.PlainAccepted.{EachOwn, as_any_pair, compared_over, each_own, of_line, of_one, pairs, since_there, status_is_other}
 use Rattle.sms_world.proofs.headline.PlainEvents.{IsTraced, traced}
 use Rattle.sms_world.proofs.headline.PlainSteps.{all_of, last_of, on_last}
 use Rattle.sms_world.proofs.headline.ReceiptLines.{from_report}
-use Rattle.sms_world.proofs.headline.SplitClaimed.{between}
+use Rattle.sms_world.proofs.headline.SplitClaimed.{all_split as split_under}
+use Rattle.sms_world.proofs.headline.ScriptCourses.{course_of}
 use Rattle.sms_world.proofs.headline.SplitPlays.{all_preserved}
 use Rattle.sms_world.proofs.headline.Tables.{line_of, line_there, row_of_line, state_final}
-use Rattle.sms_world.proofs.headline.TimelyClaims.{Reaches, among_own}
+use Rattle.sms_world.proofs.headline.TimelyClaims.{IsTrusted, among_own}
 use Rattle.sms_world.proofs.scripts_are_runs.Agreeing.{sound_there}
 use Rattle.sms_world.proofs.submissions_stay.WrittenParts.{AllWritten, writings_hold}
 use Rattle.sms_world.proofs.Options.{some_is}
@@ -190,21 +192,21 @@ module _ (script : Script) (after : ℕ → Report) (typed : AreTyped script.eve
   -- ---- each part is written as the centre writes
 
   pub all_split : AllSplitUnder c.centre.rows.messages c.centre.rows.parts
-  all_split = (between script script.events [] c c its on).split_under
+  all_split = split_under script script.events [] c c its on
 
   written : AllWritten c.centre.rows.messages c.centre.rows.parts
   written =
       let there = can_play script.setup script.events c on.here in
       let first : LeadsOn script [] (beginning script.setup) c = record { here = cond-true (can_be_played script.setup) (played_on 1 [] (beginning script.setup)) unplayed there.can; there = on.here } in
-      let b = between script [] script.events (beginning script.setup) c (record { typed = typed; events = refl }) first in
-      all_preserved AllWritten writings_hold 1 script.events (beginning script.setup) c b.first_world b.first_refines (λ m p i. absurd i) b.goods b.octets b.leads
+      let b = course_of script [] script.events (beginning script.setup) c (record { typed = typed; events = refl }) first in
+      all_preserved AllWritten writings_hold 1 script.events (beginning script.setup) c b.world b.refines (λ m p i. absurd i) b.then_good b.then_octets b.then_leads
 
   module _ (timely : AllTimely 1 script.events (beginning script.setup)) where
-    abbrev pub reached : Reaches c
+    abbrev pub reached : (v : World) × (PlayRefines c v × IsTrusted c v)
     reached = reaches script script.events [] c c its on timely
 
     own : EachOwn c.parties
-    own = each_own c reached.0 reached.1.0 reached.1.1
+    own = each_own c reached.0 reached.1.0 reached.1.1.faithful
 
     -- ---- what counts as delivered
 

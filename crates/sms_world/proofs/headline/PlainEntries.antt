@@ -96,7 +96,7 @@ use Rattle.sms_world.specs.scripts_are_runs.PlayRefinement.{PlayRefines}
 use Rattle.sms_world.proofs.entries_keep_references.EntriesAgreeing.{Ends, event_ends}
 use Rattle.sms_world.proofs.handset_runs_are_steps.Hearing.{again_carries}
 use Rattle.sms_world.proofs.handset_runs_are_steps.Submitting.{submit_rejects}
-use Rattle.sms_world.proofs.headline.Claimed.{can_play}
+use Rattle.sms_world.proofs.headline.ScriptCourses.{can_play}
 use Rattle.sms_world.proofs.headline.DecidedTimely.{row_from, same_frame}
 use Rattle.sms_world.proofs.headline.EntryFrames.{AllSay, AnswerSays, BegunSays, Brings, HolderSays, LinkSays, OpenedSays, Says}
 use Rattle.sms_world.proofs.headline.EntryStages.{EventBrings, IfDoneAt, WritesKnown, event_says}

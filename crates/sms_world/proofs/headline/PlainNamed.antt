@@ -28,7 +28,7 @@ use Rattle.sms_script.specs.declared.report.answers.Answered.TheVariants.{Accept
 use Rattle.sms_centre_rows.specs.declared.report_lines.ReportedMessage.{ReportedMessage}
 use Rattle.sms_script.specs.declared.script.Script.{Script}
 use Rattle.sms_world.proofs.headline.AnsweredSubmits.{account_met, reported_named, submit_next, whole_answers}
-use Rattle.sms_world.proofs.headline.Claimed.{can_play}
+use Rattle.sms_world.proofs.headline.ScriptCourses.{can_play}
 use Rattle.sms_world.proofs.headline.HeadlineHolds.{of_play}
 use Rattle.sms_world.proofs.headline.NamedAnswers.{IsNamed, IsSubmitting, event_grows}
 use Rattle.sms_world.proofs.headline.PlainSteps.{IsStep, at_place, parted_at, step_of}

@@ -8,7 +8,7 @@ use Rattle.sms_script.specs.declared.play_fault.PlayFault.{PlayFault}
 use Rattle.sms_script.specs.declared.report.Report.{Report}
 use Rattle.sms_script.specs.declared.script.Script.{Script}
 use Rattle.sms_script.specs.declared.setup.Setup.{Setup}
-use Rattle.sms_world.proofs.headline.Claimed.{can_play, script_hands}
+use Rattle.sms_world.proofs.headline.ScriptCourses.{can_play, script_hands}
 use Rattle.sms_world.proofs.headline.HeadlineHolds.{nothing_more, of_play, ok_report}
 use Rattle.sms_world.proofs.headline.Parting.{parted}
 use Rattle.sms_world.proofs.scripts_are_runs.Events.{ok_play}

@@ -8,9 +8,10 @@ use Rattle.sms_script.specs.declared.event.WorldEvent.{WorldEvent}
 use Rattle.sms_script.specs.declared.play_fault.PlayFault.{PlayFault}
 use Rattle.sms_script.specs.declared.report.Report.{Report}
 use Rattle.sms_script.specs.declared.script.Script.{Script}
-use Rattle.sms_world.proofs.headline.Claimed.{can_play}
+use Rattle.sms_world.proofs.headline.ScriptCourses.{can_play}
 use Rattle.sms_world.proofs.headline.HeadlineHolds.{nothing_more, of_play}
-use Rattle.sms_world.proofs.headline.SplitClaimed.{between, first_of}
+use Rattle.sms_world.proofs.headline.ScriptCourses.{course_of}
+use Rattle.sms_world.proofs.scripts_are_runs.Courses.{first_of}
 use Rattle.sms_world.proofs.scripts_are_runs.Events.{ok_play, same_play}
 use Rattle.sms_world.specs.headline.HeadlineLaws.{IsScript, LeadsOn}
 use Rattle.sms_world.specs.headline.PlainLaws.{AreReports}
@@ -124,8 +125,8 @@ module _ (script : Script) (after : ℕ → Report) (typed : AreTyped script.eve
         let c : PlayState = first_part.0 in
         let d : PlayState = with_one.0 in
         let on_there : LeadsOn script some c last_of.0 = record { here = first_part.1.0; there = last_of.1.0 } in
-        let b = between script some (e ∷ others) c last_of.0 is_script on_there in
-        let f = first_of (1 + length some) e c last_of.0 others (played (1 + length some) e c) refl b.octets.1 b.leads in
+        let b = course_of script some (e ∷ others) c last_of.0 is_script on_there in
+        let f = first_of (1 + length some) e c last_of.0 others (played (1 + length some) e c) refl b.then_octets.1 b.then_leads in
         let here = can_play script.setup some c first_part.1.0 in
         let on = one_on 1 some e (beginning script.setup) c f.next here.leads f.is in
         let same : f.next ≡ d = same_play f.next d (sym (cond-true (can_be_played script.setup) (played_on 1 (some ++ e ∷ []) (beginning script.setup)) unplayed here.can ∙ on) ∙ with_one.1.0) in
@@ -140,8 +141,8 @@ module _ (script : Script) (after : ℕ → Report) (typed : AreTyped script.eve
           then = with_one.1.0;
           at_end = last_of.1.0;
           is = f.is ∙ ap (λ (z : PlayState). ok_play z) same;
-          sees = b.first_world;
-          refines = b.first_refines;
-          good = b.goods.0;
-          octets = b.octets.0;
+          sees = b.world;
+          refines = b.refines;
+          good = b.then_good.0;
+          octets = b.then_octets.0;
         }

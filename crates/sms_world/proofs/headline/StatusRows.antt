@@ -47,11 +47,10 @@ use Rattle.sms_centre_spec.proofs.PduFits.{event_gives}
 use Rattle.sms_centre_spec.proofs.SoundAccepted.{sound_steady}
 use Rattle.sms_centre_spec.proofs.SoundStores.{SoundStore, store_sound}
 use Rattle.sms_centre_spec.proofs.Stages.{IfThere}
-use Rattle.sms_centre_spec.proofs.Steady.{IsSteady}
+use Rattle.sms_centre_spec.proofs.Steady.{IsSteady, message_own}
 use Rattle.sms_centre_spec.proofs.SteadyEvents.{steady_event}
 use Rattle.sms_centre_spec.proofs.TpdusRead.{status_reads}
 use Rattle.sms_world.proofs.split_messages_stay.MadeParts.{Accepts, IsAccepted, accept_leads}
-use Rattle.sms_world.proofs.split_messages_stay.SplitSteady.{own_number}
 use Rattle.sms_world.proofs.centres_refine_the_world.Ending.{row_made}
 
 -- Its message is a handset's and has ended, and the octets read as the STATUS-REPORT of that end.
@@ -258,7 +257,7 @@ status_steady =
       );
       settled = λ p m s k there of pending undone. (
         c.settled p m s k.0 there of pending undone,
-        settled_holds p m s k.0 k.1 (own_number (messages_in s) p.id m of) pending,
+        settled_holds p m s k.0 k.1 (message_own p.id m s of) pending,
       );
       part_far = λ p q s k there same. (c.part_far p q s k.0 there same, k.1);
       report_far = λ r q s k there stays. (c.report_far r q s k.0 there stays, far_holds r q s k.1);
