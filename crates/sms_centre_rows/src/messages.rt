@@ -7,6 +7,7 @@
 //! once a message is forgotten.
 
 mod bar;
+mod claim;
 pub mod laws;
 mod message;
 mod newest;
@@ -15,6 +16,7 @@ mod parts;
 mod priority;
 
 pub use bar::BarRow;
+pub use claim::Claim;
 pub use message::{MessageRow, is_delivered};
 pub use newest::newest_change;
 pub use part::PartRow;

@@ -1,22 +1,15 @@
 -- What is kept of a message that lays claim to a reference (3GPP TS 23.040 9.2.3.24.8) once the message itself is forgotten. A handset may
 -- hold some of its parts for good, so the reference stays barred.
 use Rattle.std.specs.Prelude.{ℕ, ◌+◌, ◌==◌, ◌&&◌, List, [], ◌∷◌, ◌++◌, Bool, true, false, if◌then◌else◌, Option, Some, None}
-use Rattle.sms_base.specs.declared.address.Address.{Address}
 use Rattle.sms_rows.specs.table.Since.{Since, put_in, rows_of}
 use Rattle.sms_rows.specs.table.Table.{put}
 use Rattle.sms_centre_rows.specs.declared.messages.bar.BarRow.{BarRow}
+pub use Rattle.sms_centre_rows.specs.declared.messages.claim.Claim.{Claim}
 use Rattle.sms_centre_rows.specs.declared.messages.message.MessageRow.{MessageRow}
 use Rattle.sms_centre_rows.specs.declared.messages.part.PartRow.{PartRow}
 use Rattle.sms_centre_rows.specs.messages.SplitReferences.{is_among, is_delivered, own_bars, unless_split, wide_in}
 
 -- ---- what a message lays claim to
-
-pub record Claim : Type 0 where
-  pub source : Address
-  pub handset : List ℕ
-  pub reference : ℕ
-  -- a header had it that came with the submission; else the centre gave it
-  pub is_own : Bool
 
 -- to the reference that the centre gave, where not all of it was delivered
 abbrev pub claims_of_split : MessageRow → Option ℕ → List Claim

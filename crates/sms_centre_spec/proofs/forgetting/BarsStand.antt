@@ -100,12 +100,12 @@ at_end : (x : BarRow) (bs : List BarRow) → ((y : BarRow) → Among y bs → y.
 at_end x [] f = refl
 at_end x (b ∷ bs) f = insert_behind bar_key x b bs (let l = f b (inl refl) in omega (arith, l)) ∙ ap (λ (l : List BarRow). b ∷ l) (at_end x bs (λ y a. f y (inr a)))
 
-put_behind : (c : Claim) (bs : List BarRow) → Rises bar_key bs → put bar_key (bar_of c (next_bar bs)) bs ≡ bs ++ bar_of c (next_bar bs) ∷ []
+pub put_behind : (c : Claim) (bs : List BarRow) → Rises bar_key bs → put bar_key (bar_of c (next_bar bs)) bs ≡ bs ++ bar_of c (next_bar bs) ∷ []
 put_behind c bs rises =
     let x : BarRow = bar_of c (next_bar bs) in
     ap (λ (l : List BarRow). insert bar_key x l) (none_out (next_bar bs) bs (λ y a. below_next 1 y bs rises a)) ∙ at_end x bs (λ y a. below_next 1 y bs rises a)
 
-one_rises : (c : Claim) (bs : List BarRow) → Rises bar_key bs → Rises bar_key (with_bar c bs)
+pub one_rises : (c : Claim) (bs : List BarRow) → Rises bar_key bs → Rises bar_key (with_bar c bs)
 one_rises c bs rises = of (is_barred c bs)
   where
     of : (t : Bool) → Rises bar_key (if t then bs else put bar_key (bar_of c (next_bar bs)) bs)
