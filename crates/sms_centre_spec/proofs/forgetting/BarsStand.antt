@@ -159,12 +159,11 @@ references_append test (x ∷ xs) ys = ap (λ (l : List ℕ). if test x then x.r
     out false = refl
 
 -- claims as bars of no place
-unfoldable as_bars : List Claim → List BarRow
+abbrev as_bars : List Claim → List BarRow
 as_bars [] = []
 as_bars (c ∷ cs) = bar_of c 0 ∷ as_bars cs
 
 as_append : (cs ds : List Claim) → as_bars (cs ++ ds) ≡ as_bars cs ++ as_bars ds
-unfolding as_bars
 as_append [] ds = refl
 as_append (c ∷ cs) ds = ap (λ (l : List BarRow). bar_of c 0 ∷ l) (as_append cs ds)
 
@@ -204,7 +203,6 @@ module _ (test : BarRow → Bool) (alike : (c : Claim) (n : ℕ) → test (bar_o
       was t false e f = let bad : false ≡ true = f in absurd cc
 
   one_claim : (r : ℕ) (c : Claim) (cs : List Claim) → among_claims test r (c ∷ cs) ≡ (is_among r (one_of (test (bar_of c 0)) c.reference) || among_claims test r cs)
-  unfolding as_bars
   one_claim r c cs = of (test (bar_of c 0))
     where
       few : List ℕ
@@ -216,7 +214,6 @@ module _ (test : BarRow → Bool) (alike : (c : Claim) (n : ℕ) → test (bar_o
 
   all_stand : (r : ℕ) (cs : List Claim) (bs : List BarRow) → Rises bar_key bs
       → is_among r (references_in test (with_bars cs bs)) ≡ (is_among r (references_in test bs) || among_claims test r cs)
-  unfolding as_bars
   all_stand r [] bs rises = sym (or_false (is_among r (references_in test bs)))
   all_stand r (c ∷ cs) bs rises =
       let b : Bool = is_among r (references_in test bs) in
@@ -269,7 +266,6 @@ module _ (source : Address) (h : List ℕ) where
 
   -- no claim of a part
   parts_apart : (r : ℕ) (m : MessageRow) (ps : List PartRow) → among_claims (is_held_bar source h) r (claims_of_parts m ps) ≡ false
-  unfolding as_bars
   parts_apart r m [] = refl
   parts_apart r m (p ∷ ps) =
       let one : List Claim = if p.id == m.id then claims_of_header m (unless_split m.split_reference (wide_in p.key)) else [] in
@@ -289,7 +285,6 @@ module _ (source : Address) (h : List ℕ) where
   -- as many as the message holds
   split_claims : (r : ℕ) (m : MessageRow) (o : Option ℕ)
       → among_claims (is_held_bar source h) r (claims_of_split m o) ≡ is_among r (if is_between source h m && not (is_delivered m.state) then optional o [] else [])
-  unfolding as_bars
   split_claims r m None = of (is_between source h m && not (is_delivered m.state))
     where
       of : (b : Bool) → false ≡ is_among r (if b then [] else [])
@@ -321,7 +316,6 @@ module _ (source : Address) (h : List ℕ) where
 
   held_stand : (goes : ℕ → Bool) (r : ℕ) (ms : List MessageRow) (ps : List PartRow)
       → (is_among r (held_splits source h (kept message_key goes ms)) || among_claims (is_held_bar source h) r (claims_left goes ms ps)) ≡ is_among r (held_splits source h ms)
-  unfolding as_bars
   held_stand goes r [] ps = refl
   held_stand goes r (m ∷ ms) ps =
       let t : Bool = is_between source h m && not (is_delivered m.state) in
@@ -367,26 +361,28 @@ module _ (source : Address) (h : List ℕ) where
 
   own_first : (r : ℕ) (o : Option ℕ) (ns : List ℕ) → is_among r (optional o ns) ≡ true → (o ≡ Some r) ⊎ (is_among r ns ≡ true)
   own_first r None ns e = inr e
-  own_first r (Some n) ns e = ⊎_elim
-      (λ (t : (n == r) ≡ true). inl (ap (λ (k : ℕ). Some k) (eqb-true n r t)))
-      (λ (t : is_among r ns ≡ true). inr t)
-      (either_of (n == r) (is_among r ns) e)
+  own_first r (Some n) ns e = by (n == r) refl
+    where
+      by : (b : Bool) → (n == r) ≡ b → (Some n ≡ Some r) ⊎ (is_among r ns ≡ true)
+      by true t = inl (ap (λ (k : ℕ). Some k) (eqb-true n r t))
+      by false t = inr (sym (ap (λ (b : Bool). b || is_among r ns) t) ∙ e)
 
   wide_here : (r : ℕ) (p : PartRow) (o : Option MessageRow) → own_wide source h p o ≡ Some r
       → (m : MessageRow) × ((o ≡ Some m) × ((is_between source h m ≡ true) × (unless_split m.split_reference (wide_in p.key) ≡ Some r)))
   wide_here r p None e = let bad : None ≡ Some r = e in absurd cc
-  wide_here r p (Some m) e = ⊎_elim
-      (λ (t : is_between source h m ≡ true). (m, (refl, (t, sym (cond-true (is_between source h m) (unless_split m.split_reference (wide_in p.key)) None t) ∙ e))))
-      (λ (t : is_between source h m ≡ false).
-      let bad : None ≡ Some r = sym (cond-false (is_between source h m) (unless_split m.split_reference (wide_in p.key)) None t) ∙ e in absurd cc)
-      (cases_Bool (is_between source h m))
+  wide_here r p (Some m) e = by (is_between source h m) refl
+    where
+      by : (b : Bool) → is_between source h m ≡ b
+          → (x : MessageRow) × ((Some m ≡ Some x) × ((is_between source h x ≡ true) × (unless_split x.split_reference (wide_in p.key) ≡ Some r)))
+      by true t = (m, (refl, (t, sym (ap (λ (b : Bool). if b then unless_split m.split_reference (wide_in p.key) else None) t) ∙ e)))
+      by false t = let bad : None ≡ Some r = sym (ap (λ (b : Bool). if b then unless_split m.split_reference (wide_in p.key) else None) t) ∙ e in absurd cc
 
   owns_of : (r : ℕ) (ms : List MessageRow) (ps : List PartRow) → among_own r ms ps ≡ true → Owns r ms ps
   owns_of r ms [] e = let bad : false ≡ true = e in absurd cc
   owns_of r ms (p ∷ ps) e = ⊎_elim
       (λ (f : own_wide source h p (message_at p.id ms) ≡ Some r).
       let w = wide_here r p (message_at p.id ms) f in
-      record { part = p; row = w.0; among = inl refl; of = w.1.0; between = w.1.1.0; wide = w.1.1.1 })
+      let is : Owns r ms (p ∷ ps) = record { part = p; row = w.0; among = inl refl; of = w.1.0; between = w.1.1.0; wide = w.1.1.1 } in is)
       (λ (f : among_own r ms ps ≡ true). owns_behind r ms p ps (owns_of r ms ps f))
       (own_first r (own_wide source h p (message_at p.id ms)) (own_splits source h ms ps) e)
 
@@ -423,7 +419,6 @@ module _ (source : Address) (h : List ℕ) where
 
   -- a claim of a header
   header_of : (r : ℕ) (m : MessageRow) (o : Option ℕ) → among_claims (is_own_bar source h) r (claims_of_header m o) ≡ true → (is_between source h m ≡ true) × (o ≡ Some r)
-  unfolding as_bars
   header_of r m None e = let bad : false ≡ true = e in absurd cc
   header_of r m (Some n) e = of (is_between source h m) refl
     where
@@ -434,11 +429,9 @@ module _ (source : Address) (h : List ℕ) where
       of false t = let bad : false ≡ true = sym (ap (λ (x : Bool). is_among r (one_of (x && true) n)) t) ∙ e in absurd cc
 
   header_is : (r : ℕ) (m : MessageRow) → is_between source h m ≡ true → among_claims (is_own_bar source h) r (claims_of_header m (Some r)) ≡ true
-  unfolding as_bars
   header_is r m t = ap (λ (x : Bool). is_among r (one_of (x && true) r)) t ∙ or_left (r == r) false (eq-eqb r r refl)
 
   lays_of : (r : ℕ) (m : MessageRow) (ps : List PartRow) → among_claims (is_own_bar source h) r (claims_of_parts m ps) ≡ true → Lays r m ps
-  unfolding as_bars
   lays_of r m [] e = let bad : false ≡ true = e in absurd cc
   lays_of r m (p ∷ ps) e =
       let o : Option ℕ = unless_split m.split_reference (wide_in p.key) in
@@ -473,7 +466,6 @@ module _ (source : Address) (h : List ℕ) where
 
   -- no claim of a split is one of a header
   split_apart : (r : ℕ) (m : MessageRow) (o : Option ℕ) → among_claims (is_own_bar source h) r (claims_of_split m o) ≡ false
-  unfolding as_bars
   split_apart r m None = refl
   split_apart r m (Some n) = by (is_delivered m.state)
     where
@@ -494,7 +486,6 @@ module _ (source : Address) (h : List ℕ) where
     lays : Lays r row ps
 
   leaves_of : (goes : ℕ → Bool) (r : ℕ) (ms : List MessageRow) (ps : List PartRow) → among_claims (is_own_bar source h) r (claims_left goes ms ps) ≡ true → Leaves goes r ms ps
-  unfolding as_bars
   leaves_of goes r [] ps e = let bad : false ≡ true = e in absurd cc
   leaves_of goes r (m ∷ ms) ps e = ⊎_elim
       (λ (f : among_claims (is_own_bar source h) r (if goes m.id then claims_of m ps else []) ≡ true). here (goes m.id) refl f)

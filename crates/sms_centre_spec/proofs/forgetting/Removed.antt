@@ -361,7 +361,7 @@ by_message : (test : MessageRow → Bool) (most : ℕ) (ms : List MessageRow) (p
     → claims_by (going test most ms) ms ps ≡ claims_left (λ (n : ℕ). is_among n (going test most ms)) ms ps
 by_message test zero ms ps rises = sym (none_left ms ps)
 by_message test (suc most) [] ps rises = refl
-by_message test (suc most) (m ∷ ms) ps rises = of (test m)
+by_message test (suc most) (m ∷ ms) ps rises = of (by_message test most ms ps rises.1) (test m)
   where
     ids : List ℕ
     ids = going test most ms
@@ -369,34 +369,39 @@ by_message test (suc most) (m ∷ ms) ps rises = of (test m)
     high : AreFrom (suc m.id) ids
     high = going_above test most m.id ms rises.0
 
-    of : (b : Bool) → claims_by (if b then m.id ∷ ids else ids) (m ∷ ms) ps ≡ claims_left (λ (n : ℕ). is_among n (if b then m.id ∷ ids else ids)) (m ∷ ms) ps
-    of true =
+    of : claims_by ids ms ps ≡ claims_left (λ (n : ℕ). is_among n ids) ms ps → (b : Bool)
+        → claims_by (if b then m.id ∷ ids else ids) (m ∷ ms) ps ≡ claims_left (λ (n : ℕ). is_among n (if b then m.id ∷ ids else ids)) (m ∷ ms) ps
+    of rest true =
         ap (λ (o : Option MessageRow). claims_at o ps ++ claims_by ids (m ∷ ms) ps) (row_here message_key m.id m ms refl)
-        ∙ ap (λ (l : List Claim). claims_of m ps ++ l) (claims_behind m ms ps ids high ∙ by_message test most ms ps rises.1
+        ∙ ap (λ (l : List Claim). claims_of m ps ++ l) (claims_behind m ms ps ids high ∙ rest
         ∙ left_same (λ (n : ℕ). is_among n ids) (λ (n : ℕ). is_among n (m.id ∷ ids)) ms ps (λ x a.
         let low : m.id < x.id = above m.id x ms rises.0 a in
         sym (ap (λ (b : Bool). b || is_among x.id ids) (ne_eqb m.id x.id (λ e. absurd (omega (arith, low, e)))))))
         ∙ ap (λ (b : Bool). (if b || is_among m.id ids then claims_of m ps else []) ++ claims_left (λ (n : ℕ). is_among n (m.id ∷ ids)) ms ps) (sym (eq-eqb m.id m.id refl))
-    of false =
-        claims_behind m ms ps ids high ∙ by_message test most ms ps rises.1
+    of rest false =
+        claims_behind m ms ps ids high ∙ rest
         ∙ ap (λ (b : Bool). (if b then claims_of m ps else []) ++ claims_left (λ (n : ℕ). is_among n ids) ms ps) (sym (lower_out m ids high))
 
 from_that : (test : MessageRow → Bool) (from most : ℕ) (ms : List MessageRow) (ps : List PartRow) → Rises message_key ms
     → claims_by (going_from test from most ms) ms ps ≡ claims_left (λ (n : ℕ). is_among n (going_from test from most ms)) ms ps
 from_that test from most [] ps rises = by_message test most [] ps rises
-from_that test from most (m ∷ ms) ps rises = of (nat_lt m.id from) refl
+from_that test from most (m ∷ ms) ps rises = of (from_that test from most ms ps rises.1) (nat_lt m.id from)
   where
-    of : (b : Bool) → nat_lt m.id from ≡ b
+    ids : List ℕ
+    ids = going_from test from most ms
+
+    high : AreFrom (suc m.id) ids
+    high id t =
+        let g = gone_from test from most ms id t in
+        let low : m.id < g.row.id = above m.id g.row ms rises.0 g.among in
+        let own : g.row.id ≡ id = g.own in omega (arith, low, own)
+
+    of : claims_by ids ms ps ≡ claims_left (λ (n : ℕ). is_among n ids) ms ps → (b : Bool)
         → claims_by (going test most (if b then rows_from message_key from ms else m ∷ ms)) (m ∷ ms) ps
         ≡ claims_left (λ (n : ℕ). is_among n (going test most (if b then rows_from message_key from ms else m ∷ ms))) (m ∷ ms) ps
-    of false e = by_message test most (m ∷ ms) ps rises
-    of true e =
-        let ids : List ℕ = going_from test from most ms in
-        let high : AreFrom (suc m.id) ids = λ id t.
-            let g = gone_from test from most ms id t in
-            let low : m.id < g.row.id = above m.id g.row ms rises.0 g.among in
-            let own : g.row.id ≡ id = g.own in omega (arith, low, own) in
-        claims_behind m ms ps ids high ∙ from_that test from most ms ps rises.1
+    of rest false = by_message test most (m ∷ ms) ps rises
+    of rest true =
+        claims_behind m ms ps ids high ∙ rest
         ∙ ap (λ (b : Bool). (if b then claims_of m ps else []) ++ claims_left (λ (n : ℕ). is_among n ids) ms ps) (sym (lower_out m ids high))
 
 pub forget_leaves : (before from most : ℕ) (c : Core) → IsSound c.rows → core_of (forget before from most c) ≡ core_without (is_going_now before from most c) c
