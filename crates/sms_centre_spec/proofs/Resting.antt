@@ -1,5 +1,5 @@
 -- Through every event the changes lead from the rows as they were to the rows as they stand.
-use Rattle.std.proofs.Common.{◌≡◌, refl, sym, ◌∙◌, ap}
+use Rattle.std.proofs.Common.{◌≡◌, [], refl, sym, ◌∙◌, ap}
 use Rattle.sms_rows.proofs.table.SinceLaws.{commits}
 use Rattle.sms_centre_rows.specs.messages.Bars.{bar_key}
 use Rattle.sms_centre_rows.specs.messages.Messages.{message_key, part_key, part_reaching, priority_key}
@@ -43,6 +43,22 @@ consistent_closed base = record {
 
 pub happened_consistent : (event : CentreEvent) (c : Core) → RestsOn c.rows (happened event c).store
 happened_consistent event c = happened_keeps (RestsOn c.rows) (consistent_closed c.rows) event c refl
+
+-- no event puts a bar
+bars_closed : Closed (λ (s : Store). s.bars.news ≡ [])
+bars_closed = record {
+  message = λ m s k. k;
+  part = λ p s k. k;
+  progress = λ p q s k. k;
+  priority = λ p s k. k;
+  given = λ h r s k. k;
+  report = λ r s k. k;
+  report_progress = λ r q s k. k;
+  moment = λ n s k. k;
+}
+
+pub happened_bars : (event : CentreEvent) (c : Core) → (happened event c).store.bars.news ≡ []
+happened_bars event c = happened_keeps (λ (s : Store). s.bars.news ≡ []) bars_closed event c refl
 
 -- what is committed leads to the rows as they stand
 pub store_commits : (s : Store) → rows_after (changes_in s) (base_of s) ≡ rows_of s

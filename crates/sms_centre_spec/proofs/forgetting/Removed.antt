@@ -382,7 +382,7 @@ by_message test (suc most) (m ∷ ms) ps rises = of (by_message test most ms ps 
         claims_behind m ms ps ids high ∙ rest
         ∙ ap (λ (b : Bool). (if b then claims_of m ps else []) ++ claims_left (λ (n : ℕ). is_among n ids) ms ps) (sym (lower_out m ids high))
 
-from_that : (test : MessageRow → Bool) (from most : ℕ) (ms : List MessageRow) (ps : List PartRow) → Rises message_key ms
+pub from_that : (test : MessageRow → Bool) (from most : ℕ) (ms : List MessageRow) (ps : List PartRow) → Rises message_key ms
     → claims_by (going_from test from most ms) ms ps ≡ claims_left (λ (n : ℕ). is_among n (going_from test from most ms)) ms ps
 from_that test from most [] ps rises = by_message test most [] ps rises
 from_that test from most (m ∷ ms) ps rises = of (from_that test from most ms ps rises.1) (nat_lt m.id from)
