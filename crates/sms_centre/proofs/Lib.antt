@@ -1,6 +1,7 @@
 mod ActsFirst
 mod Archived
 mod AsDefined
+mod Barred
 mod MayGo
 mod Forgotten
 mod Promises
