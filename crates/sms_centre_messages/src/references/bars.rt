@@ -43,9 +43,10 @@ impl ReferenceIndex {
         let key = MessageEnds::of(&bar.source, &bar.handset, bar.reference);
         if bar.is_own {
             self.own_bars.set(key, 1)?;
-        } else {
-            self.held_bars.set(key, 1)?;
+            self.last_bar = bar.place;
+            return Ok(());
         }
+        self.held_bars.set(key, 1)?;
         self.last_bar = bar.place;
         Ok(())
     }

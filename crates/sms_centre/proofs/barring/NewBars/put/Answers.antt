@@ -1,7 +1,7 @@
 use Rattle.std.proofs.Common.{◌∷◌, ◌++◌, [], ◌∙◌, ap}
 use Rattle.sms_rows.specs.declared.table.change.Change.TheVariants.{Put}
 use Rattle.sms_centre_rows.specs.declared.messages.bar.BarRow.{BarRow}
-use Rattle.sms_centre.proofs.Barred.{added_one}
+use Rattle.sms_centre_messages.proofs.references.Answering.{added_one}
 use Rattle.sms_centre.proofs.barring.NewBars.put.Goals as goal
 
 pub returns : goal.returns
