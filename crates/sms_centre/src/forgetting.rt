@@ -10,7 +10,7 @@ ghost use Rattle.sms_centre_reports.specs.report_log.ReportLog.{Represents as Lo
 ghost use Rattle.sms_centre_spec.specs.Draft.{Core, Draft, changes_in, draft_of};
 ghost use Rattle.sms_centre_spec.specs.forgetting.Forget.{bars_put, claims_by, forget as forget_of, going_now, is_carried as is_carried_of, is_held_for as is_held_for_of};
 ghost use Rattle.sms_centre_spec.specs.forgetting.Forget.{is_on_way as is_on_way_of, may_go_now as may_go_now_of, next_from as next_from_of};
-ghost use Rattle.sms_centre_spec.specs.forgetting.Forgetting.{is_before, is_reported as is_reported_of};
+ghost use Rattle.sms_centre_spec.specs.forgetting.Forgetting.{is_reported as is_reported_of};
 ghost use Rattle.sms_centre_spec.specs.forgetting.Forgetting.{may_go as may_go_of};
 ghost use Rattle.sms_centre_draft.specs.CentreDraft.{Represents as DraftRepresents};
 ghost use Rattle.sms_centre_draft.specs.Forgetting.{ArePlaced};
@@ -28,25 +28,13 @@ use crate::plan::Plan;
 use crate::state::CentreState;
 use sms_base::{Carried, Digits, Holder, Listed, MessageId, Moment};
 use sms_centre_draft::{CentreDraft, are_digits};
+use sms_centre_messages::message_index::has_ended;
 use sms_centre_reports::report_log::{MessageReport, ReportLog};
 use sms_centre_rows::messages::{BarRow, MessageRow as Message};
 use sms_rows::table::{Change, Table};
 use std::alloc::{AllocError, Global};
 
 // ---- what is asked of a message
-
-// It has a final state, from before that moment.
-fn has_ended(message: &Message, before: Moment) -> bool
-    ensures { result ≡ (is_some message.now.state && is_before before message.now.done) }
-{
-    if message.state.is_none() {
-        return false;
-    }
-    match message.done {
-        Some(done) => done.seconds() < before.seconds(),
-        None => false,
-    }
-}
 
 // Its report is closed, and a later one gives the next place; or it has none.
 fn is_reported(state: &CentreState, id: MessageId) -> bool

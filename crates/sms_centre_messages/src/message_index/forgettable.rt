@@ -1,5 +1,5 @@
 //! What is asked of a message before it is forgotten.
-ghost use Rattle.std.specs.Prelude.{◌≡◌, ◌++◌, ◌&&◌, List, drop, nat_le, nat_lt, slice_get, IfOk, OnOk};
+ghost use Rattle.std.specs.Prelude.{◌≡◌, ◌++◌, ◌&&◌, List, drop, is_some, nat_le, nat_lt, slice_get, IfOk, OnOk};
 ghost use Rattle.sms_rows.specs.table.Keys.{pair_key};
 ghost use Rattle.sms_rows.specs.table.Table.{rows_between, rows_from};
 ghost use Rattle.sms_centre_rows.specs.messages.Bars.{claims_of, claims_of_header, claims_of_split};
@@ -9,7 +9,7 @@ ghost use Rattle.sms_centre_rows.specs.messages.SplitReferences.{unless_split, w
 ghost use Rattle.sms_centre_rows.specs.declared.messages.message.MessageRow.{MessageRow as MessageRowOf};
 ghost use Rattle.sms_centre_rows.specs.declared.messages.part.PartRow.{PartRow as PartRowOf};
 ghost use Rattle.sms_centre_spec.specs.forgetting.Forget.{next_from};
-ghost use Rattle.sms_centre_spec.specs.forgetting.Forgetting.{leaves_number};
+ghost use Rattle.sms_centre_spec.specs.forgetting.Forgetting.{is_before as is_before_of, leaves_number};
 ghost use Rattle.sms_centre_messages.specs.message_index.Entries.{message_entry_key};
 ghost use Rattle.sms_centre_messages.specs.message_index.Forgettable.{claims_of_entries, count_parts};
 ghost use Rattle.sms_centre_messages.specs.message_index.MessageIndex.{Represents};
@@ -17,7 +17,7 @@ ghost use Rattle.sms_centre_messages.specs.message_index.MessageIndex.{Represent
 use crate::message_index::index::MessageIndex;
 use crate::message_index::message_entry::MessageEntry;
 use crate::references::own_reference;
-use sms_base::MessageId;
+use sms_base::{MessageId, Moment};
 use sms_centre_rows::messages::{Claim, MessageRow, PartEntry, is_delivered};
 use sms_concat::ConcatKey;
 use sms_rows::table::Key;
@@ -173,4 +173,20 @@ fn is_before(message: &MessageRow, last: &MessageEntry) -> bool
 {
     message.id.number() < last.id.number()
         && message.submitted.seconds() <= last.submitted.seconds()
+}
+
+/// Whether the message has a final state, from before that moment.
+pub fn has_ended(message: &MessageRow, before: Moment) -> bool
+    ensures { result ≡ (is_some message.now.state && is_before_of before message.now.done) }
+{
+    message.state.is_some() && was_before(message.done, before)
+}
+
+fn was_before(done: Option<Moment>, before: Moment) -> bool
+    ensures { result ≡ is_before_of before done }
+{
+    match done {
+        Some(done) => done.seconds() < before.seconds(),
+        None => false,
+    }
 }
