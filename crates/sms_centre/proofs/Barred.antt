@@ -8,7 +8,8 @@ use Rattle.sms_rows.specs.declared.table.change.Change.TheVariants.{Put, Remove}
 use Rattle.sms_rows.specs.table.Since.{Since, oldest_first as changes_of, put_in, untouched}
 use Rattle.sms_rows.specs.table.Table.{Rises}
 use Rattle.sms_centre_rows.specs.declared.messages.bar.BarRow.{BarRow}
-use Rattle.sms_centre_rows.specs.messages.Bars.{Claim, bar_key, bar_of, bars_of, is_barred, next_bar, place_behind, put_bar, put_bars, with_bar}
+use Rattle.sms_centre_rows.specs.declared.messages.claim.Claim.{Claim}
+use Rattle.sms_centre_rows.specs.messages.Bars.{bar_key, bar_of, bars_of, is_barred, next_bar, place_behind, put_bar, put_bars, with_bar}
 use Rattle.sms_centre_rows.specs.messages.SplitReferences.{is_among, is_own_bar, own_bars, references_in}
 use Rattle.sms_centre_spec.specs.forgetting.Forget.{bars_put}
 use Rattle.sms_centre_spec.proofs.forgetting.BarsStand.{one_rises, put_behind}

@@ -14,7 +14,7 @@ use Rattle.sms_centre_rows.specs.declared.messages.bar.BarRow.{BarRow}
 use Rattle.sms_centre_rows.specs.declared.messages.message.MessageRow.{MessageRow}
 use Rattle.sms_centre_rows.specs.declared.messages.part.PartRow.{PartRow}
 use Rattle.sms_centre_rows.specs.declared.waiting.revision.Revision.{Revision}
-use Rattle.sms_centre_rows.specs.messages.Bars.{Claim}
+use Rattle.sms_centre_rows.specs.declared.messages.claim.Claim.{Claim}
 use Rattle.sms_centre_rows.specs.messages.Messages.{Messages, message_key, part_at, parts_of}
 use Rattle.sms_centre_rows.specs.reports.Receipts.{Session}
 use Rattle.sms_centre_rows.specs.waiting.Revisions.{oldest_first as revisions_of}

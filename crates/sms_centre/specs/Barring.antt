@@ -5,7 +5,8 @@ use Rattle.sms_rows.specs.declared.table.change.Change.TheVariants.{Put, Remove}
 use Rattle.sms_rows.specs.table.Since.{Since, oldest_first as changes_of, untouched}
 use Rattle.sms_rows.specs.table.Table.{Rises}
 use Rattle.sms_centre_rows.specs.declared.messages.bar.BarRow.{BarRow}
-use Rattle.sms_centre_rows.specs.messages.Bars.{Claim, bar_key, bar_of, bars_of, next_bar, put_bars}
+use Rattle.sms_centre_rows.specs.declared.messages.claim.Claim.{Claim}
+use Rattle.sms_centre_rows.specs.messages.Bars.{bar_key, bar_of, bars_of, next_bar, put_bars}
 use Rattle.sms_centre_rows.specs.messages.SplitReferences.{is_own_bar}
 use Rattle.sms_centre.specs.declared.barring.NewBars.{NewBars}
 

@@ -1,7 +1,8 @@
 //! The bars that stand for the messages that a centre forgets.
 ghost use Rattle.std.specs.Prelude.{◌≡◌, ◌&&◌, ◌∷◌, [], ◌++◌, List, IfOk, OnOk};
 ghost use Rattle.std.specs.List.{list_any};
-ghost use Rattle.sms_centre_rows.specs.messages.Bars.{Claim as ClaimOf, bar_of as bar_of_claim, claims_of, is_barred};
+ghost use Rattle.sms_centre_rows.specs.declared.messages.claim.Claim.{Claim as ClaimOf};
+ghost use Rattle.sms_centre_rows.specs.messages.Bars.{bar_of as bar_of_claim, claims_of, is_barred};
 ghost use Rattle.sms_centre_rows.specs.messages.Messages.{message_at};
 ghost use Rattle.sms_centre_spec.specs.Draft.{Core};
 ghost use Rattle.sms_centre_spec.specs.forgetting.Forget.{bars_put, claims_at, claims_by};

@@ -13,7 +13,8 @@ use Rattle.sms_rows.proofs.table.Tables.{found_among, found_key, rises_put}
 use Rattle.sms_centre_rows.specs.declared.messages.bar.BarRow.{BarRow}
 use Rattle.sms_centre_rows.specs.declared.messages.message.MessageRow.{MessageRow}
 use Rattle.sms_centre_rows.specs.declared.messages.part.PartRow.{PartRow}
-use Rattle.sms_centre_rows.specs.messages.Bars.{Claim, bar_key, bar_of, bars_of, claims_of, claims_of_header, claims_of_parts, claims_of_split, is_barred, next_bar, put_bar, put_bars, with_bar, with_bars}
+use Rattle.sms_centre_rows.specs.declared.messages.claim.Claim.{Claim}
+use Rattle.sms_centre_rows.specs.messages.Bars.{bar_key, bar_of, bars_of, claims_of, claims_of_header, claims_of_parts, claims_of_split, is_barred, next_bar, put_bar, put_bars, with_bar, with_bars}
 use Rattle.sms_centre_rows.specs.messages.Messages.{is_pending, message_at, message_key}
 use Rattle.sms_centre_rows.specs.messages.SplitReferences.{is_among, is_delivered, own_bars, unless_split, wide_in}
 use Rattle.sms_centre_spec.specs.declared.rows.Rows.{Rows}

@@ -4,7 +4,7 @@ use Rattle.std.specs.Prelude.{ℕ, ◌+◌, ◌==◌, ◌&&◌, List, [], ◌∷
 use Rattle.sms_rows.specs.table.Since.{Since, put_in, rows_of}
 use Rattle.sms_rows.specs.table.Table.{put}
 use Rattle.sms_centre_rows.specs.declared.messages.bar.BarRow.{BarRow}
-pub use Rattle.sms_centre_rows.specs.declared.messages.claim.Claim.{Claim}
+use Rattle.sms_centre_rows.specs.declared.messages.claim.Claim.{Claim}
 use Rattle.sms_centre_rows.specs.declared.messages.message.MessageRow.{MessageRow}
 use Rattle.sms_centre_rows.specs.declared.messages.part.PartRow.{PartRow}
 use Rattle.sms_centre_rows.specs.messages.SplitReferences.{is_among, is_delivered, own_bars, unless_split, wide_in}

@@ -13,7 +13,8 @@ use Rattle.sms_rows.proofs.table.Tables.{among_found, found_among, found_key, in
 use Rattle.sms_centre_rows.specs.declared.messages.bar.BarRow.{BarRow}
 use Rattle.sms_centre_rows.specs.declared.messages.message.MessageRow.{MessageRow}
 use Rattle.sms_centre_rows.specs.declared.messages.part.PartRow.{PartRow}
-use Rattle.sms_centre_rows.specs.messages.Bars.{Claim, bar_key, bar_of, bars_of, claims_of, claims_of_header, claims_of_parts, claims_of_split, is_barred, next_bar, place_behind, put_bar, put_bars, with_bar, with_bars}
+use Rattle.sms_centre_rows.specs.declared.messages.claim.Claim.{Claim}
+use Rattle.sms_centre_rows.specs.messages.Bars.{bar_key, bar_of, bars_of, claims_of, claims_of_header, claims_of_parts, claims_of_split, is_barred, next_bar, place_behind, put_bar, put_bars, with_bar, with_bars}
 use Rattle.sms_centre_rows.specs.messages.Messages.{message_at, message_key}
 use Rattle.sms_centre_rows.specs.messages.SplitReferences.{all_references, first_free_split, held_bars, held_references, held_splits, is_among, is_bar_between, is_between, is_delivered, is_held_bar, is_own_bar, is_same_address, is_taken, last_split, next_among, next_split, optional, own_bars, own_references, own_splits, own_wide, references_in, start_after, unless_split, wide_in}
 use Rattle.sms_centre_spec.specs.declared.rows.Rows.{Rows}

@@ -7,7 +7,8 @@ use Rattle.sms_rows.specs.table.Table.{insert, put, without}
 use Rattle.sms_rows.proofs.table.Tables.{insert_behind, insert_here, without_behind, without_here}
 use Rattle.sms_centre_rows.specs.declared.messages.message.MessageRow.{MessageRow}
 use Rattle.sms_centre_rows.specs.declared.messages.part.PartRow.{PartRow}
-use Rattle.sms_centre_rows.specs.messages.Bars.{Claim, claims_of, claims_of_header, claims_of_parts, claims_of_split}
+use Rattle.sms_centre_rows.specs.declared.messages.claim.Claim.{Claim}
+use Rattle.sms_centre_rows.specs.messages.Bars.{claims_of, claims_of_header, claims_of_parts, claims_of_split}
 use Rattle.sms_centre_rows.specs.messages.Messages.{message_key, part_key, part_reaching}
 use Rattle.sms_centre_rows.specs.messages.SplitReferences.{unless_split, wide_in}
 use Rattle.sms_centre_rows.specs.declared.waiting.progress.Progress.{Progress}

@@ -12,7 +12,8 @@ use Rattle.sms_centre_rows.specs.declared.messages.bar.BarRow.{BarRow}
 use Rattle.sms_centre_rows.specs.declared.messages.message.MessageRow.{MessageRow}
 use Rattle.sms_centre_rows.specs.declared.messages.part.PartRow.{PartRow}
 use Rattle.sms_centre_rows.specs.declared.messages.priority.PriorityRow.{PriorityRow}
-use Rattle.sms_centre_rows.specs.messages.Bars.{Claim, bars_of, claims_of, put_bars, with_bars}
+use Rattle.sms_centre_rows.specs.declared.messages.claim.Claim.{Claim}
+use Rattle.sms_centre_rows.specs.messages.Bars.{bars_of, claims_of, put_bars, with_bars}
 use Rattle.sms_centre_rows.specs.messages.Messages.{Messages, message_at, message_key, part_at, part_key, part_reaching, priority_key}
 use Rattle.sms_centre_rows.specs.messages.SplitReferences.{is_among}
 use Rattle.sms_centre_rows.specs.declared.reports.report.ReportRow.{ReportRow}

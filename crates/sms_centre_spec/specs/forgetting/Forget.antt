@@ -10,7 +10,8 @@ use Rattle.sms_rows.specs.table.Table.{rows_from}
 use Rattle.sms_centre_rows.specs.declared.messages.bar.BarRow.{BarRow}
 use Rattle.sms_centre_rows.specs.declared.messages.message.MessageRow.{MessageRow}
 use Rattle.sms_centre_rows.specs.declared.messages.part.PartRow.{PartRow}
-use Rattle.sms_centre_rows.specs.messages.Bars.{Claim, claims_of, put_bars}
+use Rattle.sms_centre_rows.specs.declared.messages.claim.Claim.{Claim}
+use Rattle.sms_centre_rows.specs.messages.Bars.{claims_of, put_bars}
 use Rattle.sms_centre_rows.specs.messages.Messages.{Messages, message_at, message_key, part_at, part_key, parts_of}
 use Rattle.sms_centre_rows.specs.messages.SplitReferences.{is_among}
 use Rattle.sms_centre_rows.specs.declared.reports.report.ReportRow.{ReportRow}

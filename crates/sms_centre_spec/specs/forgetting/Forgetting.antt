@@ -8,7 +8,8 @@ use Rattle.sms_rows.specs.table.Table.{rows_from}
 use Rattle.sms_centre_rows.specs.declared.messages.bar.BarRow.{BarRow}
 use Rattle.sms_centre_rows.specs.declared.messages.message.MessageRow.{MessageRow}
 use Rattle.sms_centre_rows.specs.declared.messages.part.PartRow.{PartRow}
-use Rattle.sms_centre_rows.specs.messages.Bars.{Claim, claims_of, with_bars}
+use Rattle.sms_centre_rows.specs.declared.messages.claim.Claim.{Claim}
+use Rattle.sms_centre_rows.specs.messages.Bars.{claims_of, with_bars}
 use Rattle.sms_centre_rows.specs.messages.Messages.{is_pending, message_at, message_key, next_id, priority_key}
 use Rattle.sms_centre_rows.specs.messages.SplitReferences.{held_references, is_among, is_between, last_split, next_split}
 use Rattle.sms_centre_rows.specs.declared.reports.report.ReportRow.{ReportRow}

@@ -3,7 +3,8 @@ use Rattle.std.specs.Prelude.{◌&&◌, ◌||◌}
 use Rattle.std.specs.List.{list_any}
 use Rattle.sms_rows.specs.declared.table.change.Change.{Change}
 use Rattle.sms_centre_rows.specs.declared.messages.bar.BarRow.{BarRow}
-use Rattle.sms_centre_rows.specs.messages.Bars.{Claim, is_barred}
+use Rattle.sms_centre_rows.specs.declared.messages.claim.Claim.{Claim}
+use Rattle.sms_centre_rows.specs.messages.Bars.{is_barred}
 use Rattle.sms_centre_rows.specs.messages.SplitReferences.{is_among, own_bars}
 use Rattle.sms_centre.specs.Barring.{puts_for, puts_of}
 use Rattle.sms_centre.specs.state.CentreState.{CentreStateOf, Represents as StateRepresents}

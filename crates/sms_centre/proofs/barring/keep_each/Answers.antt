@@ -1,7 +1,7 @@
 use Rattle.std.proofs.Common.{◌≡◌, ◌+◌, List, ◌∷◌, drop, sym, ◌∙◌, ap, subst, arith}
 use Rattle.std.proofs.lemmas.List.{drop_more}
 use Rattle.std.proofs.Math.ListN.{drop_of_length-le}
-use Rattle.sms_centre_rows.specs.messages.Bars.{Claim}
+use Rattle.sms_centre_rows.specs.declared.messages.claim.Claim.{Claim}
 use Rattle.sms_centre.specs.Barring.{ArePut}
 use Rattle.sms_centre.proofs.barring.keep_each.Goals as goal
 

@@ -2,7 +2,8 @@ use Rattle.std.proofs.Common.{List, ◌++◌, sym, ◌∙◌, ap, append_assoc}
 use Rattle.sms_rows.specs.table.Keys.{pair_key}
 use Rattle.sms_rows.specs.table.Table.{rows_between}
 use Rattle.sms_centre_rows.specs.declared.messages.parts.PartEntry.{PartEntry}
-use Rattle.sms_centre_rows.specs.messages.Bars.{Claim, claims_of_parts, claims_of_split}
+use Rattle.sms_centre_rows.specs.declared.messages.claim.Claim.{Claim}
+use Rattle.sms_centre_rows.specs.messages.Bars.{claims_of_parts, claims_of_split}
 use Rattle.sms_centre_rows.specs.messages.PartEntries.{entry_key}
 use Rattle.sms_centre_messages.specs.message_index.Forgettable.{claims_of_entries}
 use Rattle.sms_centre_messages.proofs.message_index.Claiming.{claims_between}

@@ -1,6 +1,6 @@
 use Rattle.std.proofs.Common.{◌≡◌, ℕ, nat_lt, Bool, sym, ◌∙◌, ap}
 use Rattle.std.specs.Prelude.{◌&&◌}
-use Rattle.sms_centre_rows.specs.messages.Bars.{Claim}
+use Rattle.sms_centre_rows.specs.declared.messages.claim.Claim.{Claim}
 use Rattle.sms_centre_rows.specs.messages.SplitReferences.{is_among, own_bars}
 use Rattle.sms_centre_messages.specs.declared.references.message_ends.MessageEnds.{MessageEnds}
 use Rattle.sms_centre_messages.specs.references.ReferenceIndex.{ReferenceIndexOf}
