@@ -97,7 +97,8 @@ pub fn raise<S: Alter>(alloc: Global, conn: &mut Connection<S>) -> Result<(), Ke
     }
 }
 
-/// Makes a store of version 2 one of version 3, in one transaction: there are no bars, and all other rows stay. A failure changes nothing, and a stop inside the call leaves the store as it was, or as it is then.
+/// Makes a store of version 2 one of version 3, in one transaction: there are no bars, and all other rows stay. A failure
+/// changes nothing, and a stop inside the call leaves the store as it was, or as it is then.
 pub fn raise_second<S: Alter>(alloc: Global, conn: &mut Connection<S>) -> Result<(), KeepError>
     ensures mode { conn.old.in_transaction ≡ false → conn.new.in_transaction ≡ false }
     ensures ok { HasCleanDisk (state S.Store conn.new) → OnOk result (Committed MigratesSecond (state S.Store conn.old) (state S.Store conn.new)) }
