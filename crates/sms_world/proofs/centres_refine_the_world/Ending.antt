@@ -510,6 +510,7 @@ can_end f m s k there pending partly =
       told = partly ∙ sym (pending_undelivered m.state pending) ∙ rows.told m (found_among message_key m.id m (messages_in s) there);
       reports = k.reports;
       splits = k.splits;
+      bars = k.bars;
       setup = k.setup;
       times = k.times;
       there = there;
@@ -527,6 +528,7 @@ ended_sound f m s c =
           (ended_rows (λ y. ¬ (y.id ≡ m.id) → StatesItsParts ps y) (StatesItsParts ps) (messages_in s) ps (priorities_in s) m f s.moment c.rows c.there c.told (λ y among ne told. told ne));
       reports = end_reports (messages_in s) (reports_in s) m f s.moment c.reports c.there c.pending;
       splits = end_apart (messages_in s) m f s.moment c.splits c.there c.pending;
+      bars = c.bars;
       setup = c.setup;
       times = record {
         now = c.times.now;
