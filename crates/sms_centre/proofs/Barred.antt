@@ -101,10 +101,10 @@ kept_on bars claims left c b stands p =
 pub put_on : (bars : List BarRow) (claims left : List Claim) (c : Claim) (b new : NewBars) → is_barred c (bars ++ puts_of b.changes.items) ≡ false → ArePut bars claims (c ∷ left) b → IsPut c b new
     → ArePut bars claims left new
 put_on bars claims left c b new free p i =
-    let open : is_barred c (bars_of p.at) ≡ false = ap (λ (l : List BarRow). is_barred c l) p.rows ∙ free in
+    let clear : is_barred c (bars_of p.at) ≡ false = ap (λ (l : List BarRow). is_barred c l) p.rows ∙ free in
     let x : BarRow = bar_of c (next_bar (bars_of p.at)) in
     let y : BarRow = bar_of c i.place in
-    let same : put_bar c p.at ≡ put_in x p.at = cond-false (is_barred c (bars_of p.at)) p.at (put_in x p.at) open in
+    let same : put_bar c p.at ≡ put_in x p.at = cond-false (is_barred c (bars_of p.at)) p.at (put_in x p.at) clear in
     let is : y ≡ x = ap (λ (n : ℕ). bar_of c n) (p.next i.place i.was) in
     let behind : bars_of (put_in x p.at) ≡ bars_of p.at ++ x ∷ [] = put_behind c (bars_of p.at) p.rises in
     let rises : Rises bar_key (with_bar c (bars_of p.at)) = one_rises c (bars_of p.at) p.rises in
@@ -117,7 +117,7 @@ put_on bars claims left c b new free p i =
           ∙ ap (λ (z : BarRow). bars ++ (puts_of b.changes.items ++ z ∷ [])) (sym is)
           ∙ ap (λ (l : List BarRow). bars ++ l) (sym (puts_more b.changes.items y))
           ∙ ap (λ (l : List (Change BarRow)). bars ++ puts_of l) (sym i.changes);
-      rises = subst (λ (l : List BarRow). Rises bar_key l) (cond-false (is_barred c (bars_of p.at)) (bars_of p.at) (bars_of (put_in x p.at)) open) rises;
+      rises = subst (λ (l : List BarRow). Rises bar_key l) (cond-false (is_barred c (bars_of p.at)) (bars_of p.at) (bars_of (put_in x p.at)) clear) rises;
       next = λ n e.
           i.next n e ∙ ap (λ (k : ℕ). k + 1) (p.next i.place i.was) ∙ sym (ap (λ (l : List BarRow). next_bar l) behind ∙ behind_last 1 (bars_of p.at) x);
     }

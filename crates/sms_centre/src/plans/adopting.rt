@@ -76,12 +76,7 @@ impl EventOutcome {
             priorities,
             bars,
         } = changes;
-        reference_index.adopt(
-            claimed,
-            put.as_slice(),
-            parts.as_slice(),
-            bars.as_slice(),
-        );
+        reference_index.adopt(claimed, put.as_slice(), parts.as_slice(), bars.as_slice());
         messages.adopt(reserve, put);
         queues.adopt(settled);
         *moment = now;

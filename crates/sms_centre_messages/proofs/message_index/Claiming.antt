@@ -149,8 +149,8 @@ claims_between m ps few =
     let first : List PartRow = rows_from part_key (pair_key m.id 0) ps in
     let numbered : AreNumbered ps = λ p a. (few.numbers p a).1 in
     let its : AreIts m (rows_between part_key (pair_key m.id 0) (pair_key m.id 255) ps) = λ p a.
-        let b = before_below (pair_key m.id 255) p first a in
-        between m p (from_above (pair_key m.id 0) p ps few.keys b.1) b.0 (numbered_from (pair_key m.id 0) ps numbered p b.1) in
+    let b = before_below (pair_key m.id 255) p first a in
+    between m p (from_above (pair_key m.id 0) p ps few.keys b.1) b.0 (numbered_from (pair_key m.id 0) ps numbered p b.1) in
     ap (λ (l : List PartEntry). claims_of_entries m l) (between_alike (pair_key m.id 0) (pair_key m.id 255) ps)
     ∙ sym (its_entries m (rows_between part_key (pair_key m.id 0) (pair_key m.id 255) ps) its)
     ∙ to_last m first (rises_from (pair_key m.id 0) ps few.keys) (numbered_from (pair_key m.id 0) ps numbered)

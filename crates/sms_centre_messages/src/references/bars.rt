@@ -21,9 +21,7 @@ impl ReferenceIndex {
         if !claim.is_own {
             return false;
         }
-        self.own_bars
-            .of(&MessageEnds::of(&claim.source, &claim.handset, claim.reference))
-            > 0
+        self.own_bars.of(&MessageEnds::of(&claim.source, &claim.handset, claim.reference)) > 0
     }
 
     /// The place of the next bar. None past 64 bits.

@@ -19,8 +19,11 @@ loop-change-preserved c =
       (
         λ bs ms ps h rises moves. leads_on c.args.messages.now c.loop-change.change-index c.change-item.result c.loop-change.self c.apply.new.self bs ms ps (omega (arith, c.loop-change-test.true)) c.change-item.is
             (λ rows others. c.apply.ensures.holds bs rows others) (c.loop-change.invariant.1.0 bs ms ps h rises moves),
-        (λ removals. c.apply.ensures.kept (removal_at c.args.messages.now c.loop-change.change-index c.change-item.result (omega (arith, c.loop-change-test.true)) c.change-item.is removals)
-            ∙ c.loop-change.invariant.1.1.0 removals, bars_then c.args.self.now c.loop-change.self c.apply.new.self c.loop-change.invariant.1.1.1 c.apply.ensures.bars),
+        (
+          λ removals. c.apply.ensures.kept (removal_at c.args.messages.now c.loop-change.change-index c.change-item.result (omega (arith, c.loop-change-test.true)) c.change-item.is removals)
+              ∙ c.loop-change.invariant.1.1.0 removals,
+          bars_then c.args.self.now c.loop-change.self c.apply.new.self c.loop-change.invariant.1.1.1 c.apply.ensures.bars,
+        ),
       ),
     )
 

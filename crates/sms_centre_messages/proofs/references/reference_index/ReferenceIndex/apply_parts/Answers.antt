@@ -19,8 +19,11 @@ loop-revision-preserved c =
       (
         λ bs base ms ps is h rises moves. parts_on c.args.messages.now c.args.parts.now c.loop-revision.revision-index c.revision-item.result c.loop-revision.self c.apply_part.new.self bs ms ps (omega (arith, c.loop-revision-test.true)) c.revision-item.is
             (λ others k r m. c.apply_part.ensures.holds bs base ms others is k r m) (c.loop-revision.invariant.1.0 bs base ms ps is h rises moves),
-        (λ removals. c.apply_part.ensures.kept (part_removal_at c.args.parts.now c.loop-revision.revision-index c.revision-item.result (omega (arith, c.loop-revision-test.true)) c.revision-item.is removals)
-            ∙ c.loop-revision.invariant.1.1.0 removals, bars_then c.args.self.now c.loop-revision.self c.apply_part.new.self c.loop-revision.invariant.1.1.1 c.apply_part.ensures.bars),
+        (
+          λ removals. c.apply_part.ensures.kept (part_removal_at c.args.parts.now c.loop-revision.revision-index c.revision-item.result (omega (arith, c.loop-revision-test.true)) c.revision-item.is removals)
+              ∙ c.loop-revision.invariant.1.1.0 removals,
+          bars_then c.args.self.now c.loop-revision.self c.apply_part.new.self c.loop-revision.invariant.1.1.1 c.apply_part.ensures.bars,
+        ),
       ),
     )
 
