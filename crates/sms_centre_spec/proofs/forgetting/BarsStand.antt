@@ -2,7 +2,7 @@
 use Rattle.std.proofs.Common.{◌≡◌, ℕ, zero, suc, ◌+◌, ◌<◌, ◌%◌, List, [], ◌∷◌, ◌++◌, Bool, true, false, Option, Some, None, refl, sym, ◌∙◌, ap, subst, inl, inr, ⊎_elim, arith, eq-eqb}
 use Rattle.std.specs.Prelude.{◌⊎◌, ◌==◌, ◌&&◌, ◌||◌, not, if◌then◌else◌}
 use Rattle.std.specs.Str.{bytes_eq}
-use Rattle.std.proofs.lemmas.Bool.{and_from, and_left, and_parts, and_right, cases_Bool, cond-true, cond-false, eqb-true, or_left, or_right}
+use Rattle.std.proofs.lemmas.Bool.{and_parts, and_right, cases_Bool, cond-true, cond-false, eqb-true, or_left, or_right}
 use Rattle.std.proofs.lemmas.Slice.Eq.{bytes_eq-Decides}
 use Rattle.sms_base.specs.AddressKind.{type_number}
 use Rattle.sms_base.specs.Among.{Among}
@@ -17,8 +17,7 @@ use Rattle.sms_centre_rows.specs.declared.messages.claim.Claim.{Claim}
 use Rattle.sms_centre_rows.specs.messages.Bars.{bar_key, bar_of, bars_of, claims_of, claims_of_header, claims_of_parts, claims_of_split, is_barred, next_bar, place_behind, put_bar, put_bars, with_bar, with_bars}
 use Rattle.sms_centre_rows.specs.messages.Messages.{message_at, message_key}
 use Rattle.sms_centre_rows.specs.messages.SplitReferences.{all_references, first_free_split, held_bars, held_references, held_splits, is_among, is_bar_between, is_between, is_delivered, is_held_bar, is_own_bar, is_same_address, is_taken, last_split, next_among, next_split, optional, own_bars, own_references, own_splits, own_wide, references_in, start_after, unless_split, wide_in}
-use Rattle.sms_centre_spec.specs.declared.rows.Rows.{Rows}
-use Rattle.sms_centre_spec.specs.forgetting.Forgetting.{IsLaterSplit, bars_beside, claims_left, kept, part_id, rows_without}
+use Rattle.sms_centre_spec.specs.forgetting.Forgetting.{IsLaterSplit, claims_left, kept, part_id}
 use Rattle.sms_centre_spec.proofs.forgetting.Kept.{among_kept, kept_among, kept_gone, kept_here}
 use Rattle.sms_centre_spec.proofs.forgetting.Looks.{message_stays}
 use Rattle.sms_centre_spec.proofs.forgetting.Splits.{last_same}

@@ -2,21 +2,19 @@
 use Rattle.std.proofs.Common.{◌≡◌, ℕ, ◌+◌, ◌<◌, List, [], ◌∷◌, ◌++◌, Bool, true, false, Option, Some, None, refl, sym, ◌∙◌, ap, subst, inl, inr, ⊎_elim, arith, eq-eqb}
 use Rattle.std.specs.Prelude.{◌⊎◌, ◌==◌, ◌&&◌, not, is_some, if◌then◌else◌}
 use Rattle.std.specs.Str.{bytes_eq}
-use Rattle.std.proofs.lemmas.Bool.{and_from, and_parts, and_right, cases_Bool, cond-true, cond-false, eqb-true}
+use Rattle.std.proofs.lemmas.Bool.{and_from, and_parts, cases_Bool, cond-true, cond-false, eqb-true}
 use Rattle.std.proofs.lemmas.Slice.Eq.{bytes_eq-Decides}
 use Rattle.sms_base.specs.Among.{Among}
 use Rattle.sms_base.specs.AddressKind.{type_number}
 use Rattle.sms_base.specs.declared.address.Address.{Address}
 use Rattle.sms_rows.specs.table.Table.{AllAbove, Rises}
 use Rattle.sms_centre_rows.specs.declared.messages.message.MessageRow.{MessageRow}
-use Rattle.sms_centre_rows.specs.declared.messages.part.PartRow.{PartRow}
-use Rattle.sms_centre_rows.specs.messages.Messages.{id_after, message_at, message_key}
-use Rattle.sms_centre_rows.specs.messages.SplitReferences.{held_splits, is_between, is_delivered, is_same_address, last_split, next_among, next_split, optional, or_later, own_splits, own_wide, unless_split, wide_in}
+use Rattle.sms_centre_rows.specs.messages.Messages.{id_after, message_key}
+use Rattle.sms_centre_rows.specs.messages.SplitReferences.{is_between, is_same_address, last_split, or_later}
 use Rattle.sms_centre_rows.specs.declared.reports.report.ReportRow.{ReportRow}
 use Rattle.sms_centre_rows.specs.reports.Reports.{place_after}
-use Rattle.sms_centre_spec.specs.forgetting.Forgetting.{IsLaterSplit, kept, part_id, report_id}
+use Rattle.sms_centre_spec.specs.forgetting.Forgetting.{IsLaterSplit, kept, report_id}
 use Rattle.sms_centre_spec.proofs.forgetting.Kept.{kept_gone, kept_here}
-use Rattle.sms_centre_spec.proofs.forgetting.Looks.{message_stays}
 
 -- ---- numbers
 

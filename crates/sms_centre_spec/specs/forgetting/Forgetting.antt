@@ -10,7 +10,7 @@ use Rattle.sms_centre_rows.specs.declared.messages.message.MessageRow.{MessageRo
 use Rattle.sms_centre_rows.specs.declared.messages.part.PartRow.{PartRow}
 use Rattle.sms_centre_rows.specs.declared.messages.claim.Claim.{Claim}
 use Rattle.sms_centre_rows.specs.messages.Bars.{claims_of, with_bars}
-use Rattle.sms_centre_rows.specs.messages.Messages.{is_pending, message_at, message_key, next_id, priority_key}
+use Rattle.sms_centre_rows.specs.messages.Messages.{is_pending, message_key, next_id, priority_key}
 use Rattle.sms_centre_rows.specs.messages.SplitReferences.{held_references, is_among, is_between, last_split, next_split}
 use Rattle.sms_centre_rows.specs.declared.reports.report.ReportRow.{ReportRow}
 use Rattle.sms_centre_rows.specs.reports.Reports.{next_place, report_of}
