@@ -245,6 +245,21 @@ barred_first k = record {
   pending = λ key. refl;
 }
 
+-- so is a change that puts none
+pub barred_none : (n : ℕ) (k : ReferenceIndexOf) → Barred (RemoveRow n ∷ []) k k
+barred_none n k = record {
+  held = λ key. refl;
+  own = λ key. refl;
+  held_bars = λ key. or_none (nat_lt 0 (counted key k.held_bars));
+  own_bars = λ key. or_none (nat_lt 0 (counted key k.own_bars));
+  last_bar = refl;
+  last = λ key. refl;
+  pending = λ key. refl;
+}
+
+pub room_less : (n : ℕ) (k : ReferenceIndexOf) → HasBarRoom (n + 1) k → HasBarRoom n k
+room_less n k room = less_bars (n + 1) n k (omega arith) room
+
 pub any_then : {A : Type 0} (test : A → Bool) (xs ys : List A) → any test (xs ++ ys) ≡ (any test xs || any test ys)
 any_then test [] ys = refl
 any_then test (x ∷ xs) ys = ap (λ (b : Bool). test x || b) (any_then test xs ys) ∙ sym (or_rest (test x) (any test xs) (any test ys))

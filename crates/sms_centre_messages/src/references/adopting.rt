@@ -57,8 +57,9 @@ impl ReferenceIndex {
         ensures barred { Barred (change.now ∷ []) self.old self.new }
         ensures room { (n : ℕ) → HasBarRoom (n + 1) self.old → HasBarRoom n self.new }
     {
-        if let Change::Put(bar) = change {
-            self.put_bar(bar);
+        match change {
+            Change::Put(bar) => self.put_bar(bar),
+            Change::Remove(_) => (),
         }
     }
 
