@@ -155,7 +155,7 @@ impl ReferenceIndex {
 }
 
 // How many references are tried at most.
-#[tactic(auto, unfolding(Rattle.sms_centre_rows.specs.messages.SplitReferences.all_references))]
+#[tactic(auto, unfolding(sms_centre_rows::specs::messages::SplitReferences::all_references))]
 fn turns() -> u32
     ensures { result ≡ all_references }
 {
