@@ -1,6 +1,6 @@
 -- Bars that are put one by one.
 use Rattle.std.proofs.Common.{◌≡◌, ℕ, zero, suc, ◌+◌, List, [], ◌∷◌, ◌++◌, append-nil, append_assoc, Bool, true, false, Option, Some, Result, Ok, Err, OnOk, refl, sym, ◌∙◌, ap, subst}
-use Rattle.std.specs.Prelude.{◌==◌, ◌&&◌, ◌||◌, if◌then◌else◌}
+use Rattle.std.specs.Prelude.{◌==◌, ◌&&◌, ◌||◌, MatchOption, if◌then◌else◌}
 use Rattle.std.specs.List.{list_any}
 use Rattle.std.proofs.lemmas.Bool.{cond-false, cond-true}
 use Rattle.sms_rows.specs.declared.table.change.Change.{Change}
@@ -19,6 +19,11 @@ use Rattle.sms_centre.specs.declared.barring.NewBars.{NewBars}
 pub on_ok_turned : {A E P Q : Type 0} (r : Result A E) → (P → Q) → OnOk r P → OnOk r Q
 on_ok_turned (Ok a) f h = f h
 on_ok_turned (Err e) f h = tt
+
+-- one more than a number, if it is a number still
+pub added_one : (N : Type 0) (o : Option ℕ) (m n : ℕ) → MatchOption o N (λ (x : ℕ). x ≡ m + 1) → o ≡ Some n → n ≡ m + 1
+added_one N None m n h e = absurd cc
+added_one N (Some x) m n h e = let same : x ≡ n = cc in sym same ∙ h
 
 -- ---- whether a bar stands
 

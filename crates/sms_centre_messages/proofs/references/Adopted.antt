@@ -2,7 +2,7 @@
 use Rattle.std.proofs.Common.{◌≡◌, ℕ, zero, suc, ◌+◌, ◌≤◌, List, [], ◌∷◌, ◌++◌, ◌<◌, length, get_or, drop, take, Bool, true, false, Option, Some, append-nil, append_assoc, refl, sym, ◌∙◌, ap, subst, arith}
 use Rattle.std.specs.Map.{keys_of}
 use Rattle.std.specs.List.{IsDistinct}
-use Rattle.std.specs.Prelude.{◌==◌, ◌&&◌, ◌||◌, not, nat_lt, if◌then◌else◌}
+use Rattle.std.specs.Prelude.{◌==◌, ◌&&◌, ◌||◌, nat_lt, if◌then◌else◌}
 use Rattle.std.specs.Cmp.{decided, IsEquivalence}
 use Rattle.indexmap.specs.IndexMap.{IndexMap, insert_all, insert_entry, spare}
 use Rattle.indexmap.proofs.MapLemmas.{absent_before, absent_from_lookup, insert_entry-absent}
@@ -21,8 +21,8 @@ use Rattle.sms_centre_rows.specs.messages.Messages.{message_at, message_key, par
 use Rattle.sms_centre_rows.specs.declared.waiting.progress.Progress.{Progress}
 use Rattle.sms_centre_rows.specs.waiting.Revisions.{all_revised, amended, revised}
 use Rattle.sms_centre_messages.specs.declared.references.message_ends.MessageEnds.{MessageEnds}
-use Rattle.sms_centre_messages.specs.references.ReferenceIndex.{Barred, ReferenceIndexOf, Represents, SameBars, any, is_at, is_held_at, is_own_at, is_put, last_place, submitted_with, total}
-use Rattle.sms_centre_messages.specs.references.Counts.{CountsOf, IsSet, counted}
+use Rattle.sms_centre_messages.specs.references.ReferenceIndex.{Barred, ReferenceIndexOf, Represents, SameBars, any, is_held_at, is_own_at, is_put, last_place, submitted_with, total}
+use Rattle.sms_centre_messages.specs.references.Counts.{CountsOf, counted}
 use Rattle.sms_centre_messages.specs.references.Keys.{is_same, key_of, pair_of}
 use Rattle.sms_centre_messages.specs.references.Moves.{AreMoves, ArePartMoves, ArePartRemovals, AreRemovals, FitsTheReferences, HasBarRoom, HasRoomFor, IsMove, IsPartMove, IsPartRemoval, IsRemoval, ReferenceIndexReserveOf, TakesInReferences}
 use Rattle.sms_centre_messages.proofs.references.Written.{same_key, same_here}
@@ -314,61 +314,3 @@ holds_barred old new bs ms ps barred h = record {
   last = λ source handset. barred.last (key_of source handset 0) ∙ h.last source handset;
   pending = λ source handset reference. barred.pending (pair_of source handset reference) ∙ h.pending source handset reference;
 }
-
--- ---- one bar is put
-
-above_zero : (b : Bool) (n : ℕ) → nat_lt 0 (if b then 1 else n) ≡ (nat_lt 0 n || (b || false))
-above_zero true n = sym (or_yes (nat_lt 0 n)) where
-  or_yes : (a : Bool) → (a || true) ≡ true
-  or_yes true = refl
-  or_yes false = refl
-above_zero false n = or_none (nat_lt 0 n)
-
--- the bar stands under its key
-pub set_bars : (key : MessageEnds) (old new : CountsOf) → IsSet key 1 old new → (other : MessageEnds) → nat_lt 0 (counted other new) ≡ (nat_lt 0 (counted other old) || (is_same key other || false))
-set_bars key old new set other = ap (λ (n : ℕ). nat_lt 0 n) (set other) ∙ above_zero (is_same key other) (counted other old)
-
-this_one : (x t : Bool) → t ≡ true → x ≡ (x && t)
-this_one true true e = refl
-this_one true false e = absurd cc
-this_one false t e = refl
-
-no_other : (a x t : Bool) → t ≡ false → a ≡ (a || ((x && t) || false))
-no_other true x t e = refl
-no_other false true true e = absurd cc
-no_other false true false e = refl
-no_other false false t e = refl
-
-pub barred_own : (b : BarRow) (old : ReferenceIndexOf) (n : CountsOf) (key : MessageEnds) → key ≡ key_of b.source b.handset b.reference → b.is_own ≡ true → IsSet key 1 old.own_bars n
-    → Barred (Put b ∷ []) old (record old { own_bars = n; last_bar = b.place })
-barred_own b old n key is own set = record {
-  held = λ q. refl;
-  own = λ q. refl;
-  held_bars = λ q. no_other (nat_lt 0 (counted q old.held_bars)) (is_at q b) (not b.is_own) (ap not own);
-  own_bars = λ q.
-      set_bars key old.own_bars n set q
-      ∙ ap (λ (x : Bool). nat_lt 0 (counted q old.own_bars) || (x || false)) (ap (λ (k : MessageEnds). is_same k q) is ∙ this_one (is_at q b) b.is_own own);
-  last_bar = refl;
-  last = λ q. refl;
-  pending = λ q. refl;
-}
-
-pub barred_held : (b : BarRow) (old : ReferenceIndexOf) (n : CountsOf) (key : MessageEnds) → key ≡ key_of b.source b.handset b.reference → b.is_own ≡ false → IsSet key 1 old.held_bars n
-    → Barred (Put b ∷ []) old (record old { held_bars = n; last_bar = b.place })
-barred_held b old n key is own set = record {
-  held = λ q. refl;
-  own = λ q. refl;
-  held_bars = λ q.
-      set_bars key old.held_bars n set q
-      ∙ ap (λ (x : Bool). nat_lt 0 (counted q old.held_bars) || (x || false)) (ap (λ (k : MessageEnds). is_same k q) is ∙ this_one (is_at q b) (not b.is_own) (ap not own));
-  own_bars = λ q. no_other (nat_lt 0 (counted q old.own_bars)) (is_at q b) b.is_own own;
-  last_bar = refl;
-  last = λ q. refl;
-  pending = λ q. refl;
-}
-
-pub room_own : (n place : ℕ) (old : ReferenceIndexOf) (m : CountsOf) → old.own_bars.room ≤ m.room + 1 → HasBarRoom (n + 1) old → HasBarRoom n (record old { own_bars = m; last_bar = place })
-room_own n place old m l r = record { held = let h = r.held in omega (arith, h); own = let h = r.own in omega (arith, h, l) }
-
-pub room_held : (n place : ℕ) (old : ReferenceIndexOf) (m : CountsOf) → old.held_bars.room ≤ m.room + 1 → HasBarRoom (n + 1) old → HasBarRoom n (record old { held_bars = m; last_bar = place })
-room_held n place old m l r = record { held = let h = r.held in omega (arith, h, l); own = let h = r.own in omega (arith, h) }

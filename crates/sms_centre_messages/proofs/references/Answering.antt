@@ -1,6 +1,6 @@
 -- What the counts answer is what all rows answer.
-use Rattle.std.proofs.Common.{◌≡◌, ℕ, zero, suc, ◌+◌, ◌%◌, ◌<◌, nat_lt, List, [], ◌∷◌, ◌++◌, length, Bool, true, false, Option, Some, None, refl, sym, ◌∙◌, ap, arith}
-use Rattle.std.specs.Prelude.{◌||◌, ◌==◌, MatchOption}
+use Rattle.std.proofs.Common.{◌≡◌, ℕ, zero, suc, ◌+◌, ◌%◌, ◌<◌, nat_lt, List, [], ◌∷◌, ◌++◌, Bool, true, false, Option, Some, None, refl, sym, ◌∙◌, ap, arith}
+use Rattle.std.specs.Prelude.{◌||◌, ◌==◌}
 use Rattle.sms_base.specs.declared.address.Address.{Address}
 use Rattle.sms_centre_rows.specs.declared.messages.bar.BarRow.{BarRow}
 use Rattle.sms_centre_rows.specs.declared.messages.message.MessageRow.{MessageRow}
@@ -23,11 +23,6 @@ holds_nothing k held own last pending held_bars own_bars none = record {
   last = λ source handset. last (key_of source handset 0);
   pending = λ source handset reference. pending (pair_of source handset reference);
 }
-
--- one more than a number, if it is a number still
-pub added_one : {N : Type 0} (o : Option ℕ) (m n : ℕ) → MatchOption o N (λ (x : ℕ). x ≡ m + 1) → o ≡ Some n → n ≡ m + 1
-added_one None m n h e = absurd cc
-added_one (Some x) m n h e = let same : x ≡ n = cc in sym same ∙ h
 
 pub among_append : (n : ℕ) (xs ys : List ℕ) → is_among n (xs ++ ys) ≡ (is_among n xs || is_among n ys)
 among_append n [] ys = refl

@@ -15,4 +15,4 @@ loop-part-preserved c =
 
 pub returns : goal.returns
 returns c =
-    c.loop-part.invariant ∙ ap (λ (l : List PartEntry). c.args.claims.now.items ++ claims_of_entries c.args.message.now l) (take_all c.args.parts.now c.loop-part.part-index (omega (arith, c.loop-part-test.false)))
+    c.loop-part.invariant ∙ ap (λ (l : List PartEntry). c.args.claims.now.items ++ claims_of_entries c.args.message.now l) (take_all c.loop-part.part-index c.args.parts.now (omega (arith, c.loop-part-test.false)))

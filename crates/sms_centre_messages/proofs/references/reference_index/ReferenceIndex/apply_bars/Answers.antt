@@ -23,5 +23,5 @@ loop-change-preserved c =
 
 pub returns : goal.returns
 returns c =
-    subst (λ (cs : List (Change BarRow)). Barred cs c.args.self.now c.loop-change.self) (take_all c.args.bars.now c.loop-change.change-index (omega (arith, c.loop-change-test.false)))
+    subst (λ (cs : List (Change BarRow)). Barred cs c.args.self.now c.loop-change.self) (take_all c.loop-change.change-index c.args.bars.now (omega (arith, c.loop-change-test.false)))
     c.loop-change.invariant.1

@@ -7,7 +7,7 @@ use Rattle.sms_centre_messages.specs.references.ReferenceIndex.{ReferenceIndexOf
 use Rattle.sms_centre_messages.specs.references.Counts.{counted}
 use Rattle.sms_centre_messages.specs.references.Keys.{key_of}
 use Rattle.sms_centre_messages.proofs.references.Tallies.{own_told}
-use Rattle.sms_centre_messages.proofs.references.bars.ReferenceIndex.is_stood_for.Goals as goal
+use Rattle.sms_centre_messages.proofs.references.reference_index.ReferenceIndex.is_stood_for.Goals as goal
 
 pub returns-then-not-claim : goal.returns-then-not-claim
 returns-then-not-claim c = λ bs ms ps h.
