@@ -2,6 +2,7 @@ pub mod Kept
 pub mod Looks
 pub mod Splits
 pub mod BarsStand
+mod Once
 mod Sound
 mod Going
 mod Claims

@@ -3,17 +3,18 @@
 //! No event of `CentreEvent` forgets: a centre plans it by a call of its own. These laws say what it takes out, and that nobody
 //! can tell but who asks for what went. A reference to which a message lays claim stays barred: it is kept as a `BarRow`, in the
 //! commit in which the message goes.
-ghost use Rattle.std.specs.Prelude.{◌≡◌, ◌≤◌, ℕ, List, [], map, Bool, Option, None, false, true, length};
+ghost use Rattle.std.specs.Prelude.{◌≡◌, ◌<◌, ◌≤◌, ℕ, List, [], map, Bool, Option, None, false, true, length};
 ghost use Rattle.sms_base.specs.Among.{Among};
 ghost use Rattle.sms_base.specs.declared.address.Address.{Address};
 ghost use Rattle.sms_rows.specs.declared.table.change.Change.TheVariants.{Remove};
 ghost use Rattle.sms_rows.specs.table.Table.{Rises};
+ghost use Rattle.sms_centre_rows.specs.declared.messages.bar.BarRow.{BarRow};
 ghost use Rattle.sms_centre_rows.specs.declared.messages.message.MessageRow.{MessageRow};
 ghost use Rattle.sms_centre_rows.specs.declared.messages.part.PartRow.{PartRow};
 ghost use Rattle.sms_centre_rows.specs.declared.messages.priority.PriorityRow.{PriorityRow};
 ghost use Rattle.sms_centre_rows.specs.declared.waiting.handset.HandsetRow.{HandsetRow};
 ghost use Rattle.sms_centre_rows.specs.messages.Messages.{message_at};
-ghost use Rattle.sms_centre_rows.specs.messages.SplitReferences.{is_taken};
+ghost use Rattle.sms_centre_rows.specs.messages.SplitReferences.{is_taken, own_bars};
 ghost use Rattle.sms_centre_rows.specs.reports.Receipts.{Bindings, Session, send_all, session_key};
 ghost use Rattle.sms_centre_rows.specs.reports.Reports.{next_place, report_of};
 ghost use Rattle.sms_centre_rows.specs.waiting.SoundAllocations.{IsNumber};
@@ -27,7 +28,7 @@ ghost use Rattle.sms_centre_spec.specs.Submitting.{reference_for};
 ghost use Rattle.sms_centre_spec.specs.declared.event.CentreEvent.{CentreEvent};
 ghost use Rattle.sms_centre_spec.specs.declared.rows.Rows.{Rows};
 ghost use Rattle.sms_centre_spec.specs.forgetting.Forget.{bars_put, claims_by, forget, going_now, is_going_now, may_go_now};
-ghost use Rattle.sms_centre_spec.specs.forgetting.Forgetting.{AreNoLater, MayGo, going_from, held_in, is_going, last_submitted, may_go, next_split_in, rows_without};
+ghost use Rattle.sms_centre_spec.specs.forgetting.Forgetting.{AreNoLater, AreOnce, MayGo, going_from, held_in, is_going, last_submitted, may_go, next_split_in, rows_without};
 ghost use Rattle.sms_centre_spec.specs.forgetting.Forgot.{AreAway, AsksOther, CanForget, Forgot, InStep, Same, core_without};
 
 /// Sound rows are sound without the messages that may go.
@@ -57,6 +58,15 @@ pub fn what_is_next_is_unchanged()
         → next_split_in source handset (rows_without goes rows) ≡ next_split_in source handset rows }
     ensures taken { (goes : ℕ → Bool) (rows : Rows) (source : Address) (handset : List ℕ) (own : Option ℕ) → IsSound rows
         → is_taken own (held_in source handset (rows_without goes rows)) ≡ is_taken own (held_in source handset rows) }
+{}
+
+/// Of the headers of a source and a handset each reference leaves one bar, however many messages go. So as many stay as there
+/// are references, 65,536 at most.
+pub fn headers_leave_a_reference_once()
+    ensures once { (goes : ℕ → Bool) (rows : Rows) (source : Address) (handset : List ℕ) → IsSound rows → AreOnce (own_bars source handset rows.bars)
+        → AreOnce (own_bars source handset (rows_without goes rows).bars) }
+    ensures few { (rows : Rows) (source : Address) (handset : List ℕ) → ((b : BarRow) → Among b rows.bars → b.reference < 65536)
+        → AreOnce (own_bars source handset rows.bars) → length (own_bars source handset rows.bars) ≤ 65536 }
 {}
 
 /// What is forgotten are messages that may go, of numbers from that one on, and no more than so many.

@@ -29,7 +29,7 @@ both_ways true b f g = sym (f refl)
 both_ways false true f g = g refl
 both_ways false false f g = refl
 
-either_of : (a b : Bool) → (a || b) ≡ true → (a ≡ true) ⊎ (b ≡ true)
+pub either_of : (a b : Bool) → (a || b) ≡ true → (a ≡ true) ⊎ (b ≡ true)
 either_of true b e = inl refl
 either_of false b e = inr e
 
@@ -55,7 +55,7 @@ or_behind false true false = refl
 or_behind false false true = refl
 or_behind false false false = refl
 
-among_append : (r : ℕ) (xs ys : List ℕ) → is_among r (xs ++ ys) ≡ (is_among r xs || is_among r ys)
+pub among_append : (r : ℕ) (xs ys : List ℕ) → is_among r (xs ++ ys) ≡ (is_among r xs || is_among r ys)
 among_append r [] ys = refl
 among_append r (x ∷ xs) ys = ap (λ (b : Bool). (x == r) || b) (among_append r xs ys) ∙ or_assoc (x == r) (is_among r xs) (is_among r ys)
 
@@ -144,7 +144,7 @@ puts_base (c ∷ cs) t = puts_base cs (put_bar c t) ∙ put_base c t
 
 -- ---- the references of bars that pass a test
 
-references_append : (test : BarRow → Bool) (xs ys : List BarRow) → references_in test (xs ++ ys) ≡ references_in test xs ++ references_in test ys
+pub references_append : (test : BarRow → Bool) (xs ys : List BarRow) → references_in test (xs ++ ys) ≡ references_in test xs ++ references_in test ys
 references_append test [] ys = refl
 references_append test (x ∷ xs) ys = ap (λ (l : List ℕ). if test x then x.reference ∷ l else l) (references_append test xs ys) ∙ out (test x)
   where
@@ -248,7 +248,7 @@ module _ (source : Address) (h : List ℕ) where
       let not_own : not c.is_own ≡ true = (and_parts (is_bar_between source h (bar_of c 0)) (not c.is_own) e).1 in
       let bad : false ≡ true = sym (ap not own) ∙ not_own in absurd cc
 
-  same_pair : (c : Claim) (bs : List BarRow) → is_same_address c.source source ≡ true → bytes_eq c.handset h ≡ true → own_bars source h bs ≡ own_bars c.source c.handset bs
+  pub same_pair : (c : Claim) (bs : List BarRow) → is_same_address c.source source ≡ true → bytes_eq c.handset h ≡ true → own_bars source h bs ≡ own_bars c.source c.handset bs
   same_pair c [] e f = refl
   same_pair c (b ∷ bs) e f =
       let t : is_own_bar source h b ≡ is_own_bar c.source c.handset b =

@@ -138,3 +138,9 @@ held_in source handset rows = held_references source handset rows.bars rows.mess
 
 abbrev pub next_split_in : Address → List ℕ → Rows → Option ℕ
 next_split_in source handset rows = next_split source handset rows.bars rows.messages rows.parts
+
+-- ---- no reference is there twice
+
+abbrev pub AreOnce : List ℕ → Type 0
+AreOnce [] = Unit {0}
+AreOnce (n ∷ ns) = (is_among n ns ≡ false) × AreOnce ns

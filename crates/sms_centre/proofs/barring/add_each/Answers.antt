@@ -1,6 +1,5 @@
 use Rattle.std.proofs.Common.{◌≡◌, ℕ, ◌+◌, List, ◌∷◌, ◌++◌, append-nil, append_assoc, drop, refl, sym, ◌∙◌, ap, arith}
-use Rattle.std.proofs.lemmas.List.{drop_more}
-use Rattle.std.proofs.Math.ListN.{drop_of_length-le}
+use Rattle.std.proofs.lemmas.List.{drop_all, drop_more}
 use Rattle.sms_centre_rows.specs.declared.messages.message.MessageRow.{MessageRow}
 use Rattle.sms_centre_rows.specs.declared.messages.part.PartRow.{PartRow}
 use Rattle.sms_centre_rows.specs.declared.messages.claim.Claim.{Claim}
@@ -29,5 +28,5 @@ returns c = λ core stands.
     let ms : List MessageRow = core.rows.messages in
     let ps : List PartRow = core.rows.parts in
     sym (append-nil c.loop-id.claims.items)
-    ∙ ap (λ (l : List ℕ). c.loop-id.claims.items ++ claims_by l ms ps) (sym (drop_of_length-le c.args.ids.now (omega (arith, c.loop-id-test.false))))
+    ∙ ap (λ (l : List ℕ). c.loop-id.claims.items ++ claims_by l ms ps) (sym (drop_all c.loop-id.id-index c.args.ids.now (omega (arith, c.loop-id-test.false))))
     ∙ c.loop-id.invariant core stands

@@ -1,6 +1,5 @@
 use Rattle.std.proofs.Common.{◌≡◌, ◌+◌, List, ◌∷◌, drop, sym, ◌∙◌, ap, subst, arith}
-use Rattle.std.proofs.lemmas.List.{drop_more}
-use Rattle.std.proofs.Math.ListN.{drop_of_length-le}
+use Rattle.std.proofs.lemmas.List.{drop_all, drop_more}
 use Rattle.sms_centre_rows.specs.declared.messages.claim.Claim.{Claim}
 use Rattle.sms_centre.specs.Barring.{ArePut}
 use Rattle.sms_centre.proofs.barring.keep_each.Goals as goal
@@ -20,4 +19,4 @@ loop-claim-preserved c = λ core stands put.
 pub returns : goal.returns
 returns c = λ core stands put.
     subst (λ (l : List Claim). ArePut core.rows.bars c.args.claims.now l c.loop-claim.bars)
-    (drop_of_length-le c.args.claims.now (omega (arith, c.loop-claim-test.false))) (c.loop-claim.invariant core stands put)
+    (drop_all c.loop-claim.claim-index c.args.claims.now (omega (arith, c.loop-claim-test.false))) (c.loop-claim.invariant core stands put)
