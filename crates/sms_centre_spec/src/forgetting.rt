@@ -28,7 +28,7 @@ ghost use Rattle.sms_centre_spec.specs.Submitting.{reference_for};
 ghost use Rattle.sms_centre_spec.specs.declared.event.CentreEvent.{CentreEvent};
 ghost use Rattle.sms_centre_spec.specs.declared.rows.Rows.{Rows};
 ghost use Rattle.sms_centre_spec.specs.forgetting.Forget.{bars_put, claims_by, forget, going_now, is_going_now, may_go_now};
-ghost use Rattle.sms_centre_spec.specs.forgetting.Forgetting.{AreNoLater, AreOnce, MayGo, going_from, held_in, is_going, last_submitted, may_go, next_split_in, rows_without};
+ghost use Rattle.sms_centre_spec.specs.forgetting.Forgetting.{AreNoLater, MayGo, NoneTwice, going_from, held_in, is_going, last_submitted, may_go, next_split_in, rows_without};
 ghost use Rattle.sms_centre_spec.specs.forgetting.Forgot.{AreAway, AsksOther, CanForget, Forgot, InStep, Same, core_without};
 
 /// Sound rows are sound without the messages that may go.
@@ -63,10 +63,10 @@ pub fn what_is_next_is_unchanged()
 /// Of the headers of a source and a handset each reference leaves one bar, however many messages go. So as many stay as there
 /// are references, 65,536 at most.
 pub fn headers_leave_a_reference_once()
-    ensures once { (goes : ℕ → Bool) (rows : Rows) (source : Address) (handset : List ℕ) → IsSound rows → AreOnce (own_bars source handset rows.bars)
-        → AreOnce (own_bars source handset (rows_without goes rows).bars) }
+    ensures once { (goes : ℕ → Bool) (rows : Rows) (source : Address) (handset : List ℕ) → IsSound rows → NoneTwice (own_bars source handset rows.bars)
+        → NoneTwice (own_bars source handset (rows_without goes rows).bars) }
     ensures few { (rows : Rows) (source : Address) (handset : List ℕ) → ((b : BarRow) → Among b rows.bars → b.reference < 65536)
-        → AreOnce (own_bars source handset rows.bars) → length (own_bars source handset rows.bars) ≤ 65536 }
+        → NoneTwice (own_bars source handset rows.bars) → length (own_bars source handset rows.bars) ≤ 65536 }
 {}
 
 /// What is forgotten are messages that may go, of numbers from that one on, and no more than so many.

@@ -10,7 +10,7 @@ use Rattle.sms_centre_rows.specs.declared.messages.bar.BarRow.{BarRow}
 use Rattle.sms_centre_rows.specs.declared.messages.claim.Claim.{Claim}
 use Rattle.sms_centre_rows.specs.messages.Bars.{bar_key, bar_of, is_barred, next_bar, with_bar, with_bars}
 use Rattle.sms_centre_rows.specs.messages.SplitReferences.{is_among, is_bar_between, is_own_bar, is_same_address, own_bars, references_in}
-use Rattle.sms_centre_spec.specs.forgetting.Forgetting.{AreOnce}
+use Rattle.sms_centre_spec.specs.forgetting.Forgetting.{NoneTwice}
 use Rattle.sms_centre_spec.proofs.forgetting.BarsStand.{among_append, either_of, one_rises, put_behind, references_append, same_pair}
 
 -- ---- one more
@@ -19,7 +19,7 @@ not_among : (n : ℕ) (ns : List ℕ) (r : ℕ) → is_among n ns ≡ false → 
 not_among n ns r e ne =
     among_append n ns (r ∷ []) ∙ ap (λ (b : Bool). b || ((r == n) || false)) e ∙ ap (λ (b : Bool). b || false) (ne_eqb r n ne)
 
-once_more : (ns : List ℕ) (r : ℕ) → AreOnce ns → is_among r ns ≡ false → AreOnce (ns ++ r ∷ [])
+once_more : (ns : List ℕ) (r : ℕ) → NoneTwice ns → is_among r ns ≡ false → NoneTwice (ns ++ r ∷ [])
 once_more [] r once free = (refl, tt)
 once_more (n ∷ ns) r once free =
     let parts = or_parts (n == r) (is_among r ns) free in (
@@ -39,22 +39,22 @@ module _ (source : Address) (h : List ℕ) where
       ap (λ (l : List ℕ). is_among c.reference l) (same_pair source h c bs pair.0 pair.1)
       ∙ sym (ap (λ (b : Bool). b && is_among c.reference (own_bars c.source c.handset bs)) claimed.1) ∙ free
 
-  one_once : (c : Claim) (bs : List BarRow) → Rises bar_key bs → AreOnce (own bs) → AreOnce (own (with_bar c bs))
+  one_once : (c : Claim) (bs : List BarRow) → Rises bar_key bs → NoneTwice (own bs) → NoneTwice (own (with_bar c bs))
   one_once c bs rises once = ⊎_elim
-      (λ (t : is_barred c bs ≡ true). subst (λ (l : List BarRow). AreOnce (own l)) (sym (cond-true (is_barred c bs) bs (put bar_key x bs) t)) once)
+      (λ (t : is_barred c bs ≡ true). subst (λ (l : List BarRow). NoneTwice (own l)) (sym (cond-true (is_barred c bs) bs (put bar_key x bs) t)) once)
       (λ (t : is_barred c bs ≡ false).
-      subst (λ (l : List BarRow). AreOnce (own l)) (sym (cond-false (is_barred c bs) bs (put bar_key x bs) t ∙ put_behind c bs rises))
-      (subst (λ (l : List ℕ). AreOnce l) (sym (references_append (is_own_bar source h) bs (x ∷ []))) (behind t (is_own_bar source h (bar_of c 0)) refl)))
+      subst (λ (l : List BarRow). NoneTwice (own l)) (sym (cond-false (is_barred c bs) bs (put bar_key x bs) t ∙ put_behind c bs rises))
+      (subst (λ (l : List ℕ). NoneTwice l) (sym (references_append (is_own_bar source h) bs (x ∷ []))) (behind t (is_own_bar source h (bar_of c 0)) refl)))
       (cases_Bool (is_barred c bs))
     where
       x : BarRow
       x = bar_of c (next_bar bs)
 
-      behind : is_barred c bs ≡ false → (b : Bool) → is_own_bar source h (bar_of c 0) ≡ b → AreOnce (own bs ++ (if b then c.reference ∷ [] else []))
+      behind : is_barred c bs ≡ false → (b : Bool) → is_own_bar source h (bar_of c 0) ≡ b → NoneTwice (own bs ++ (if b then c.reference ∷ [] else []))
       behind free true e = once_more (own bs) c.reference once (free_here c bs e free)
-      behind free false e = subst (λ (l : List ℕ). AreOnce l) (sym (append-nil (own bs))) once
+      behind free false e = subst (λ (l : List ℕ). NoneTwice l) (sym (append-nil (own bs))) once
 
-  pub all_once : (cs : List Claim) (bs : List BarRow) → Rises bar_key bs → AreOnce (own_bars source h bs) → AreOnce (own_bars source h (with_bars cs bs))
+  pub all_once : (cs : List Claim) (bs : List BarRow) → Rises bar_key bs → NoneTwice (own_bars source h bs) → NoneTwice (own_bars source h (with_bars cs bs))
   all_once [] bs rises once = once
   all_once (c ∷ cs) bs rises once = all_once cs (with_bar c bs) (one_rises c bs rises) (one_once c bs rises once)
 
@@ -96,17 +96,17 @@ none_from k n ns e = ⊎_elim
     (λ (t : is_among n (without k ns) ≡ false). t)
     (cases_Bool (is_among n (without k ns)))
 
-without_once : (k : ℕ) (ns : List ℕ) → AreOnce ns → AreOnce (without k ns) × (is_among k (without k ns) ≡ false)
+without_once : (k : ℕ) (ns : List ℕ) → NoneTwice ns → NoneTwice (without k ns) × (is_among k (without k ns) ≡ false)
 unfolding without
 without_once k [] once = (tt, refl)
 without_once k (n ∷ ns) once = by (n == k) refl (without_once k ns once.1)
   where
-    by : (b : Bool) → (n == k) ≡ b → AreOnce (without k ns) × (is_among k (without k ns) ≡ false)
-        → AreOnce (if b then ns else n ∷ without k ns) × (is_among k (if b then ns else n ∷ without k ns) ≡ false)
+    by : (b : Bool) → (n == k) ≡ b → NoneTwice (without k ns) × (is_among k (without k ns) ≡ false)
+        → NoneTwice (if b then ns else n ∷ without k ns) × (is_among k (if b then ns else n ∷ without k ns) ≡ false)
     by true t rest = (once.1, subst (λ (m : ℕ). is_among m ns ≡ false) (eqb-true n k t) once.0)
     by false t rest = ((none_from k n ns once.0, rest.0), ap (λ (b : Bool). b || is_among k (without k ns)) t ∙ rest.1)
 
-at_most : (k : ℕ) (ns : List ℕ) → AreOnce ns → ((n : ℕ) → is_among n ns ≡ true → n < k) → length ns ≤ k
+at_most : (k : ℕ) (ns : List ℕ) → NoneTwice ns → ((n : ℕ) → is_among n ns ≡ true → n < k) → length ns ≤ k
 at_most zero [] once small = omega arith
 at_most zero (n ∷ ns) once small = let l = small n (ap (λ (b : Bool). b || is_among n ns) (eq-eqb n n refl)) in absurd (omega (arith, l))
 at_most (suc k) ns once small = ⊎_elim
@@ -143,5 +143,5 @@ references_small test k (b ∷ bs) f n e = by (test b) e
         (either_of (b.reference == n) (is_among n (references_in test bs)) q)
     by false q = rest q
 
-pub few_bars : (source : Address) (h : List ℕ) (k : ℕ) (bs : List BarRow) → ((b : BarRow) → Among b bs → b.reference < k) → AreOnce (own_bars source h bs) → length (own_bars source h bs) ≤ k
+pub few_bars : (source : Address) (h : List ℕ) (k : ℕ) (bs : List BarRow) → ((b : BarRow) → Among b bs → b.reference < k) → NoneTwice (own_bars source h bs) → length (own_bars source h bs) ≤ k
 few_bars source h k bs small once = at_most k (own_bars source h bs) once (references_small (is_own_bar source h) k bs small)

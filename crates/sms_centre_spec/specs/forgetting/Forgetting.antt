@@ -141,6 +141,6 @@ next_split_in source handset rows = next_split source handset rows.bars rows.mes
 
 -- ---- no reference is there twice
 
-abbrev pub AreOnce : List ℕ → Type 0
-AreOnce [] = Unit {0}
-AreOnce (n ∷ ns) = (is_among n ns ≡ false) × AreOnce ns
+abbrev pub NoneTwice : List ℕ → Type 0
+NoneTwice [] = Unit {0}
+NoneTwice (n ∷ ns) = (is_among n ns ≡ false) × NoneTwice ns
