@@ -28,22 +28,20 @@ WaitingIsTested rows b =
 abbrev pub IsTestOf : Bool → Type 0 → Type 0
 IsTestOf b P = (b ≡ true → P) × (P → b ≡ true)
 
-pub alone_from : (rows : Rows) (setup times told messages bars one both two out : Bool) → IsTestOf setup (IsSetup rows.setup) → IsTestOf times (AreTimes rows.messages rows.references rows.reports)
+pub alone_from : (rows : Rows) (setup times told messages one two out : Bool) → IsTestOf setup (IsSetup rows.setup) → IsTestOf times (AreTimes rows.messages rows.references rows.reports)
     → IsTestOf told ((m : MessageRow) → Among m rows.messages → HasReportAddress m.originator m.source) → IsTestOf messages (SoundMessages rows.messages rows.parts rows.priorities)
-    → IsTestOf bars (Rises bar_key rows.bars) → one ≡ setup && times → both ≡ told && messages → two ≡ both && bars → out ≡ one && two → out ≡ true → IsSoundAlone rows
-alone_from rows setup times told messages bars one both two out s t d m r a b e o x =
+    → Rises bar_key rows.bars → one ≡ setup && times → two ≡ told && messages → out ≡ one && two → out ≡ true → IsSoundAlone rows
+alone_from rows setup times told messages one two out s t d m r a b o x =
     let top = and_parts one two (sym o ∙ x) in
     let x1 = and_parts setup times (sym a ∙ top.0) in
-    let x2 = and_parts both bars (sym e ∙ top.1) in
-    let x3 = and_parts told messages (sym b ∙ x2.0) in
-    record { setup = s.0 x1.0; times = t.0 x1.1; report_addresses = d.0 x3.0; sound = m.0 x3.1; bars = r.0 x2.1 }
+    let x2 = and_parts told messages (sym b ∙ top.1) in
+    record { setup = s.0 x1.0; times = t.0 x1.1; report_addresses = d.0 x2.0; sound = m.0 x2.1; bars = r }
 
-pub alone_to : (rows : Rows) (setup times told messages bars one both two out : Bool) → IsTestOf setup (IsSetup rows.setup) → IsTestOf times (AreTimes rows.messages rows.references rows.reports)
+pub alone_to : (rows : Rows) (setup times told messages one two out : Bool) → IsTestOf setup (IsSetup rows.setup) → IsTestOf times (AreTimes rows.messages rows.references rows.reports)
     → IsTestOf told ((m : MessageRow) → Among m rows.messages → HasReportAddress m.originator m.source) → IsTestOf messages (SoundMessages rows.messages rows.parts rows.priorities)
-    → IsTestOf bars (Rises bar_key rows.bars) → one ≡ setup && times → both ≡ told && messages → two ≡ both && bars → out ≡ one && two → IsSound rows → out ≡ true
-alone_to rows setup times told messages bars one both two out s t d m r a b e o sound =
-    o ∙ and_from one two (a ∙ and_from setup times (s.1 sound.setup) (t.1 sound.times))
-    (e ∙ and_from both bars (b ∙ and_from told messages (d.1 sound.report_addresses) (m.1 sound.messages)) (r.1 sound.bars))
+    → one ≡ setup && times → two ≡ told && messages → out ≡ one && two → IsSound rows → out ≡ true
+alone_to rows setup times told messages one two out s t d m a b o sound =
+    o ∙ and_from one two (a ∙ and_from setup times (s.1 sound.setup) (t.1 sound.times)) (b ∙ and_from told messages (d.1 sound.report_addresses) (m.1 sound.messages))
 
 pub beside_decides : (rows : Rows) (allocations reports splits waiting three four out : Bool)
     → IsTestOf allocations (SoundAllocations rows.handsets rows.references) → IsTestOf reports (SoundReports rows.messages rows.reports) → IsTestOf splits (AreSplitApart rows.messages) → WaitingIsTested rows waiting

@@ -9,10 +9,8 @@ returns c =
     let b = c.times_are_sound-times in
     let d = c.report_addresses_are_sound-addresses in
     let e = c.messages_are_sound-messages in
-    let f = c.rises-bars in
     record {
-      alone = alone_from rows a.result b.result d.result e.result f.result c.both.result c.both-2.result c.both-3.result c.both-4.result a.ensures b.ensures d.ensures e.ensures f.ensures
-          c.both.ensures c.both-2.ensures c.both-3.ensures c.both-4.ensures;
-      only = alone_to rows a.result b.result d.result e.result f.result c.both.result c.both-2.result c.both-3.result c.both-4.result a.ensures b.ensures d.ensures e.ensures f.ensures
-          c.both.ensures c.both-2.ensures c.both-3.ensures c.both-4.ensures;
+      alone = alone_from rows a.result b.result d.result e.result c.both.result c.both-2.result c.both-3.result a.ensures b.ensures d.ensures e.ensures c.as_slice-_bars.ensures.order
+          c.both.ensures c.both-2.ensures c.both-3.ensures;
+      only = alone_to rows a.result b.result d.result e.result c.both.result c.both-2.result c.both-3.result a.ensures b.ensures d.ensures e.ensures c.both.ensures c.both-2.ensures c.both-3.ensures;
     }
