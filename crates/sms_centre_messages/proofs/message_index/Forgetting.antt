@@ -1,8 +1,8 @@
 -- What is asked of a message before it is forgotten is so of its row.
-use Rattle.std.proofs.Common.{◌≡◌, ℕ, zero, suc, ◌+◌, ◌<◌, ◌≤◌, List, [], ◌∷◌, map, length, drop, length-drop, Bool, true, false, Option, Some, None, refl, sym, ◌∙◌, ap, inl, inr, ⊎_elim, eq-eqb, arith}
+use Rattle.std.proofs.Common.{◌≡◌, ℕ, zero, suc, ◌+◌, ◌<◌, ◌≤◌, List, [], ◌∷◌, length, drop, length-drop, Bool, true, false, Some, None, refl, sym, ◌∙◌, ap, ⊎_elim, eq-eqb, arith}
 use Rattle.std.specs.List.{slice_get}
-use Rattle.std.specs.Prelude.{◌==◌, ◌&&◌, ◌||◌, ◌-◌, is_some, nat_le, nat_lt, if◌then◌else◌}
-use Rattle.std.proofs.lemmas.Bool.{and_from, and_parts, cases_Bool, cases_eq, eqb-true, le-ltb, ltb-false, ltb-true, or_left, or_right}
+use Rattle.std.specs.Prelude.{◌==◌, ◌&&◌, ◌||◌, ◌-◌, nat_le, nat_lt, if◌then◌else◌}
+use Rattle.std.proofs.lemmas.Bool.{eqb-true, le-ltb, ltb-false, ltb-true}
 use Rattle.sms_rows.specs.table.Table.{rows_from}
 use Rattle.sms_centre_rows.specs.declared.messages.message.MessageRow.{MessageRow}
 use Rattle.sms_centre_rows.specs.declared.messages.part.PartRow.{PartRow}

@@ -9,12 +9,11 @@ use Rattle.sms_base.specs.declared.originator.Originator.{Originator}
 use Rattle.sms_base.specs.declared.originator.Originator.TheVariants.{Application, Handset}
 use Rattle.sms_rows.specs.declared.table.change.Change.{Change}
 use Rattle.sms_rows.specs.table.Keys.{pair_key}
-use Rattle.sms_rows.specs.table.Table.{Rises, put, row_at}
+use Rattle.sms_rows.specs.table.Table.{Rises, row_at}
 use Rattle.sms_rows.proofs.table.Tables.{among_put, found_among, found_key, rises_put}
 use Rattle.sms_centre_rows.specs.declared.messages.message.MessageRow.{MessageRow}
 use Rattle.sms_centre_rows.specs.declared.messages.part.PartRow.{PartRow}
-use Rattle.sms_centre_rows.specs.declared.messages.priority.PriorityRow.{PriorityRow}
-use Rattle.sms_centre_rows.specs.messages.Messages.{Messages, all_done, amend_part, ended, is_pending, message_at, message_key, messages_of, part_key, parts_of, put_message, put_part}
+use Rattle.sms_centre_rows.specs.messages.Messages.{Messages, all_done, ended, is_pending, message_at, message_key, part_key, put_message}
 use Rattle.sms_centre_rows.specs.messages.SoundMessages.{SoundMessages}
 use Rattle.sms_centre_rows.specs.messages.SplitReferences.{next_split}
 use Rattle.sms_centre_rows.specs.declared.waiting.handset.HandsetRow.{HandsetRow}
@@ -35,7 +34,6 @@ use Rattle.sms_centre_spec.specs.Submitting.{accept, accept_as, accept_split, ac
 use Rattle.sms_centre_spec.specs.Transfers.{complete}
 use Rattle.sms_centre_spec.proofs.KeepingSteady.{SoundSince, since_steady}
 use Rattle.sms_centre_spec.proofs.NextNumbers.{below_next_number}
-use Rattle.sms_centre_spec.proofs.SoundStores.{SoundStore}
 use Rattle.sms_centre_spec.proofs.Stages.{IfThere}
 use Rattle.sms_centre_spec.proofs.AcceptedConsistent.{then_there}
 use Rattle.sms_centre_spec.proofs.Steady.{IsSteady, message_own}

@@ -1,4 +1,4 @@
-use Rattle.std.proofs.Common.{List, ◌++◌, sym, ◌∙◌, ap, append_assoc}
+use Rattle.std.proofs.Common.{List, ◌++◌, ◌∙◌, ap, append_assoc}
 use Rattle.sms_rows.specs.table.Keys.{pair_key}
 use Rattle.sms_rows.specs.table.Table.{rows_between}
 use Rattle.sms_centre_rows.specs.declared.messages.parts.PartEntry.{PartEntry}

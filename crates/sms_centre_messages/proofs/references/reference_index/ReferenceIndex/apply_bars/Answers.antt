@@ -1,4 +1,4 @@
-use Rattle.std.proofs.Common.{◌-◌, ◌+◌, List, length, sym, subst, arith}
+use Rattle.std.proofs.Common.{◌-◌, ◌+◌, List, length, subst, arith}
 use Rattle.std.proofs.lemmas.List.{take_all}
 use Rattle.sms_rows.specs.declared.table.change.Change.{Change}
 use Rattle.sms_centre_rows.specs.declared.messages.bar.BarRow.{BarRow}

@@ -1,4 +1,4 @@
-use Rattle.std.proofs.Common.{◌≡◌, ℕ, ◌+◌, Option, Some, None, sym, ◌∙◌, ap}
+use Rattle.std.proofs.Common.{◌≡◌, ℕ, ◌+◌, Option, None, sym, ◌∙◌, ap}
 use Rattle.std.specs.Prelude.{◌==◌, not}
 use Rattle.sms_centre_rows.specs.messages.SplitReferences.{last_split}
 use Rattle.sms_centre_spec.specs.forgetting.Forgetting.{is_split_on}
