@@ -76,7 +76,7 @@ shorter k (n ∷ ns) e = by (n == k) refl (shorter k ns)
 still_among : (k n : ℕ) (ns : List ℕ) → is_among n (without k ns) ≡ true → is_among n ns ≡ true
 unfolding without
 still_among k n [] e = e
-still_among k n (m ∷ ms) e = by (m == k) e
+still_among k n (m ∷ ms) e = by (m == k) e (still_among k n ms)
   where
     or_right : (a : Bool) → (a || true) ≡ true
     or_right true = refl
@@ -86,9 +86,9 @@ still_among k n (m ∷ ms) e = by (m == k) e
     or_either true b c f e = refl
     or_either false b c f e = f e
 
-    by : (b : Bool) → is_among n (if b then ms else m ∷ without k ms) ≡ true → ((m == n) || is_among n ms) ≡ true
-    by true t = ap (λ (b : Bool). (m == n) || b) t ∙ or_right (m == n)
-    by false t = or_either (m == n) (is_among n (without k ms)) (is_among n ms) (still_among k n ms) t
+    by : (b : Bool) → is_among n (if b then ms else m ∷ without k ms) ≡ true → (is_among n (without k ms) ≡ true → is_among n ms ≡ true) → ((m == n) || is_among n ms) ≡ true
+    by true t rest = ap (λ (b : Bool). (m == n) || b) t ∙ or_right (m == n)
+    by false t rest = or_either (m == n) (is_among n (without k ms)) (is_among n ms) rest t
 
 none_from : (k n : ℕ) (ns : List ℕ) → is_among n ns ≡ false → is_among n (without k ns) ≡ false
 none_from k n ns e = ⊎_elim
@@ -131,17 +131,14 @@ at_most (suc k) ns once small = ⊎_elim
 
 references_small : (test : BarRow → Bool) (k : ℕ) (bs : List BarRow) → ((b : BarRow) → Among b bs → b.reference < k) → (n : ℕ) → is_among n (references_in test bs) ≡ true → n < k
 references_small test k [] f n e = let bad : false ≡ true = e in absurd cc
-references_small test k (b ∷ bs) f n e = by (test b) e
+references_small test k (b ∷ bs) f n e = by (test b) e (references_small test k bs (λ x a. f x (inr a)) n)
   where
-    rest : is_among n (references_in test bs) ≡ true → n < k
-    rest = references_small test k bs (λ x a. f x (inr a)) n
-
-    by : (t : Bool) → is_among n (if t then b.reference ∷ references_in test bs else references_in test bs) ≡ true → n < k
-    by true q = ⊎_elim
+    by : (t : Bool) → is_among n (if t then b.reference ∷ references_in test bs else references_in test bs) ≡ true → (is_among n (references_in test bs) ≡ true → n < k) → n < k
+    by true q rest = ⊎_elim
         (λ (here : (b.reference == n) ≡ true). subst (λ (m : ℕ). m < k) (eqb-true b.reference n here) (f b (inl refl)))
         (λ (behind : is_among n (references_in test bs) ≡ true). rest behind)
         (either_of (b.reference == n) (is_among n (references_in test bs)) q)
-    by false q = rest q
+    by false q rest = rest q
 
 pub few_bars : (source : Address) (h : List ℕ) (k : ℕ) (bs : List BarRow) → ((b : BarRow) → Among b bs → b.reference < k) → NoneTwice (own_bars source h bs) → length (own_bars source h bs) ≤ k
 few_bars source h k bs small once = at_most k (own_bars source h bs) once (references_small (is_own_bar source h) k bs small)
