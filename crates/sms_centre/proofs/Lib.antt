@@ -1,6 +1,7 @@
 mod ActsFirst
 pub mod Archived
 mod AsDefined
+mod Barred
 pub mod Enrolled
 mod MayGo
 mod Forgotten

@@ -23,7 +23,7 @@ use Rattle.sms_centre_spec.specs.declared.event.CentreEvent.{CentreEvent}
 use Rattle.sms_centre_spec.specs.declared.rows.Rows.{Rows}
 use Rattle.sms_centre_spec.specs.CentreEvent.{happened}
 use Rattle.sms_centre_spec.specs.Consistent.{IsSubmission}
-use Rattle.sms_centre_spec.specs.Draft.{Core, Store, core_of, draft_of, handsets_in, messages_in, parts_in, rows_of, with_message, with_part_at}
+use Rattle.sms_centre_spec.specs.Draft.{Core, Store, bars_in, core_of, draft_of, handsets_in, messages_in, parts_in, rows_of, with_message, with_part_at}
 use Rattle.sms_centre_spec.specs.Ends.{end, is_wished, report_to, status_given}
 use Rattle.sms_centre_spec.specs.MessageNumbers.{WasGiven, next_number}
 use Rattle.sms_centre_spec.specs.SoundCore.{IsEvent, IsSoundCore}
@@ -107,7 +107,7 @@ module _ (base : Rows) (rises : Rises message_key base.messages) where
   accept_numbered u s since are =
       let id : ℕ = next_number (rows_of s) in
       let is : id ≡ next_number base = same_next s since are in
-      let split : Option ℕ = next_split u.source u.handset (messages_in s) (parts_in s) in
+      let split : Option ℕ = next_split u.source u.handset (bars_in s) (messages_in s) (parts_in s) in
       cond_both (nat_le id 9999999999) (accept_as id u s) None (λ (o : Option Store). IfThere (AreNumbered base) o)
       (λ t. cond_both (is_long u.text) (accept_split id split u s) (accept_under id None (bodies_under 0 u.text) u s) (λ (o : Option Store). IfThere (AreNumbered base) o)
       (λ e. split_numbered id split u s are is) (λ e. under_numbered id None (bodies_under 0 u.text) u s are is))

@@ -118,4 +118,5 @@ first_sound setup is = record {
   reports = record { keys = tt; each = λ r a. absurd a; once = λ r s a b e. absurd a };
   waiting = λ number. record { keys = tt; small = λ l a. absurd a; given = λ l a. absurd a; apart = λ l k a b e. absurd a };
   splits = λ m n r a b e f g h i j. absurd a;
+  bars = tt;
 }

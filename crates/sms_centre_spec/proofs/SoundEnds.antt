@@ -3,11 +3,12 @@ use Rattle.std.proofs.Common.{◌≡◌, ℕ, ◌<◌, List, Bool, true, false, 
 use Rattle.std.proofs.lemmas.Bool.{cond_both}
 use Rattle.sms_base.specs.Among.{Among}
 use Rattle.sms_base.specs.declared.final_state.FinalState.{FinalState}
-use Rattle.sms_rows.specs.table.Table.{put}
+use Rattle.sms_rows.specs.table.Table.{Rises, put}
 use Rattle.sms_rows.proofs.table.Tables.{among_put, found_among}
 use Rattle.sms_centre_rows.specs.declared.messages.message.MessageRow.{MessageRow}
 use Rattle.sms_base.specs.declared.originator.Originator.{Originator}
 use Rattle.sms_base.specs.declared.originator.Originator.TheVariants.{Application, Handset}
+use Rattle.sms_centre_rows.specs.messages.Bars.{bar_key}
 use Rattle.sms_centre_rows.specs.messages.Messages.{all_done, ended, is_pending, message_at, message_key}
 use Rattle.sms_centre_rows.specs.messages.SplitReferences.{is_delivered}
 use Rattle.sms_centre_rows.specs.declared.reports.report.ReportKind.{ReportKind}
@@ -21,7 +22,7 @@ use Rattle.sms_centre_rows.specs.waiting.Keys.{reference_key}
 use Rattle.sms_centre_rows.specs.waiting.References.{given_row, handset_of}
 use Rattle.sms_centre_rows.proofs.waiting.WaitingSound.{next_is_free}
 use Rattle.sms_centre_spec.specs.Finals.{final_of}
-use Rattle.sms_centre_spec.specs.Draft.{Store, handsets_in, messages_in, parts_in, priorities_in, references_in, reports_in, waiting_in, with_message}
+use Rattle.sms_centre_spec.specs.Draft.{Store, bars_in, handsets_in, messages_in, parts_in, priorities_in, references_in, reports_in, waiting_in, with_message}
 use Rattle.sms_centre_spec.specs.Ends.{end, is_wished, make_report, report_to, status_given}
 use Rattle.sms_receipt.specs.StatusReports.{status_octets, status_report_of}
 use Rattle.sms_centre_spec.specs.SoundRows.{AreSplitApart, HasReportAddress, IsSetup}
@@ -72,6 +73,7 @@ quiet_sound f n m kind closed s k can quiet fits =
       messages = k.messages;
       reports = new_reports (messages_in s) (reports_in s) r k.reports (next_is_new r (reports_in s) k.reports.keys can.none refl) (report_is f n m kind closed s can fits);
       splits = k.splits;
+      bars = k.bars;
       setup = k.setup;
       times = record { now = k.times.now; start = k.times.start; submitted = k.times.submitted; given = k.times.given; made = made_times r s k.times refl };
     }
@@ -97,6 +99,7 @@ status_sound f n mr m (Some reference) s k can told from next =
       reports = new_reports (messages_in s) (reports_in s) r k.reports (next_is_new r (reports_in s) k.reports.keys can.none refl)
           (report_is f n m kind false s can (subst (λ (o : Originator). FitsOriginator kind o w r) (sym from) fits));
       splits = k.splits;
+      bars = k.bars;
       setup = k.setup;
       times = record {
         now = k.times.now;
@@ -121,6 +124,7 @@ pub record CanEnd (f : FinalState) (m : MessageRow) (s : Store) : Type 0 where
   pub told : is_delivered (Some f) ≡ all_done m.id (parts_in s)
   pub reports : SoundReports (messages_in s) (reports_in s)
   pub splits : AreSplitApart (messages_in s)
+  pub bars : Rises bar_key (bars_in s)
   pub setup : IsSetup s.setup
   pub times : Times s
   pub there : message_at m.id (messages_in s) ≡ Some m
@@ -137,6 +141,7 @@ ended_sound f m s c =
           (ended_rows (λ x. ¬ (x.id ≡ m.id) → StatesItsParts ps x) (StatesItsParts ps) (messages_in s) ps (priorities_in s) m f s.moment c.rows c.there c.told (λ x among ne told. told ne));
       reports = end_reports (messages_in s) (reports_in s) m f s.moment c.reports c.there c.pending;
       splits = end_apart (messages_in s) m f s.moment c.splits c.there c.pending;
+      bars = c.bars;
       setup = c.setup;
       times = record {
         now = c.times.now;

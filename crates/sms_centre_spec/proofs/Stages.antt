@@ -67,7 +67,7 @@ use Rattle.sms_centre_spec.specs.declared.order.Order.TheVariants.{Retry, Delete
 use Rattle.sms_centre_spec.specs.Orders.{ordered, parts_among, retried}
 use Rattle.sms_centre_spec.specs.Sessions.{answered_by, bind, bound_as, due_for, unbind, unbound_from}
 use Rattle.sms_centre_spec.specs.CentreEvent.{aged, at_moment, drop_all, expire_all, expired, fired, frame_taken, happened, lost, lower, raise, raised, report_limit, tag_of, went_up}
-use Rattle.sms_centre_spec.specs.Draft.{Core, Draft, Store, draft_of, handsets_in, messages_in, on_links, parts_in, reports_in, rows_of, waiting_in, with_given, with_message, with_part, with_part_at, with_priority, with_report_at, with_reports}
+use Rattle.sms_centre_spec.specs.Draft.{Core, Draft, Store, bars_in, draft_of, handsets_in, messages_in, on_links, parts_in, reports_in, rows_of, waiting_in, with_given, with_message, with_part, with_part_at, with_priority, with_report_at, with_reports}
 use Rattle.sms_centre_spec.specs.MessageNumbers.{next_number}
 use Rattle.sms_centre_spec.proofs.Ticking.{fired_says, raised_says}
 
@@ -199,7 +199,7 @@ module _ (P : Store → Type 0) (c : Closed P) where
 
   accept_as_keeps : (id : ℕ) (u : Submission) (s : Store) → P s → IfThere P (accept_as id u s)
   accept_as_keeps id u s k =
-      let split : Option ℕ = next_split u.source u.handset (messages_in s) (parts_in s) in
+      let split : Option ℕ = next_split u.source u.handset (bars_in s) (messages_in s) (parts_in s) in
       cond_both (is_long u.text) (accept_split id split u s) (accept_under id None (bodies_under 0 u.text) u s) (λ o. IfThere P o)
       (λ t. accept_split_keeps id split u s k) (λ t. accept_under_keeps id None (bodies_under 0 u.text) u s k)
 

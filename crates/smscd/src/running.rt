@@ -446,7 +446,7 @@ fn say_store<R: Wait + Copy>(
     } = *summary;
     let newest = text_of(alloc, newest)?;
     let text = format!(in alloc;
-        "event=store version=2 state={word} open={open} messages={all} greatest_id={greatest} newest={newest} log_octets={log_octets} log_frames={taken} log_cut={cut} last_run={last_run} first_id={first}"
+        "event=store version=3 state={word} open={open} messages={all} greatest_id={greatest} newest={newest} log_octets={log_octets} log_frames={taken} log_cut={cut} last_run={last_run} first_id={first}"
     )?;
     log.put(level, text.as_str());
     Ok(())

@@ -56,6 +56,7 @@ fn changes_of(alloc: Global, revision: Revision<PartRow>) -> Result<Changes, Fai
         handsets: Listed::new(alloc),
         reports: Listed::new(alloc),
         priorities: Listed::new(alloc),
+        bars: Listed::new(alloc),
     })
 }
 

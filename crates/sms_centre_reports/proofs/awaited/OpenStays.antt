@@ -26,7 +26,7 @@ use Rattle.sms_intake.specs.declared.submission.SinglePart.{SinglePart}
 use Rattle.sms_intake.specs.declared.submission.Submission.{Submission}
 use Rattle.sms_intake.specs.PartBodies.{bodies_under, is_long}
 use Rattle.sms_centre_reports.proofs.open_reports.Becoming.{became_made}
-use Rattle.sms_centre_spec.specs.Draft.{Store, handsets_in, messages_in, parts_in, reports_in, rows_of, with_message, with_part_at}
+use Rattle.sms_centre_spec.specs.Draft.{Store, bars_in, handsets_in, messages_in, parts_in, reports_in, rows_of, with_message, with_part_at}
 use Rattle.sms_centre_spec.specs.MessageNumbers.{next_number}
 use Rattle.sms_centre_spec.specs.Ends.{end, is_wished, report_to, status_given}
 use Rattle.sms_centre_spec.specs.Consistent.{IsConsistent, IsSubmission}
@@ -72,7 +72,7 @@ module _ (Q : List ReportRow → Type 0) (id : ℕ) (u : Submission) where
 
   as_leaves : (s : Store) → Leaves s → IfThere Leaves (accept_as id u s)
   as_leaves s k =
-      let split : Option ℕ = next_split u.source u.handset (messages_in s) (parts_in s) in
+      let split : Option ℕ = next_split u.source u.handset (bars_in s) (messages_in s) (parts_in s) in
       cond_both (is_long u.text) (accept_split id split u s) (accept_under id None (bodies_under 0 u.text) u s) (λ (o : Option Store). IfThere Leaves o)
       (λ e. split_leaves split s k) (λ e. under_leaves None (bodies_under 0 u.text) s k)
 

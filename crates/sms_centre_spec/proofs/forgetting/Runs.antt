@@ -10,7 +10,7 @@ use Rattle.sms_centre_spec.specs.Draft.{Core, Draft}
 use Rattle.sms_centre_spec.specs.SoundCore.{IsEvent}
 use Rattle.sms_centre_spec.proofs.EventLaws.{stays_sound}
 use Rattle.sms_centre_spec.specs.forgetting.Forgot.{AsksOther, CanForget, Forgot, InStep, core_without}
-use Rattle.sms_centre_spec.proofs.forgetting.Behind.{bare_behind, given_behind, may_behind}
+use Rattle.sms_centre_spec.proofs.forgetting.Behind.{given_behind, may_behind}
 use Rattle.sms_centre_spec.proofs.forgetting.Ended.{report_goes}
 use Rattle.sms_centre_spec.proofs.forgetting.Everywhere.{event_same}
 
@@ -24,7 +24,6 @@ among_so id (n ∷ ns) e = ⊎_elim
 can_forget : (goes : ℕ → Bool) (large : Core) → Forgot goes (core_without goes large) large → CanForget goes large
 can_forget goes large f = record {
   may = f.may;
-  bare = f.bare;
   given = f.given;
   answered = λ s id a e.
       let r = (f.left.each_session s a).unanswered id (among_so id s.unanswered e) in
@@ -48,7 +47,6 @@ step_of goes event large f is other =
         sound = stays_sound event large f.sound is;
         left = stays_sound event (core_without goes large) f.left is;
         may = may_behind goes event large f.sound is can other;
-        bare = bare_behind goes event large f.sound is can other;
         given = given_behind goes event large f.sound is can other;
       };
     }

@@ -243,6 +243,7 @@ module _ (s : Store) (w : World) (sound : SoundStore s) (refines : StoreRefines 
         told = sym all;
         reports = sound.reports;
         splits = sound.splits;
+        bars = sound.bars;
         setup = sound.setup;
         times = record { now = sound.times.now; start = sound.times.start; submitted = sound.times.submitted; given = sound.times.given; made = sound.times.made };
         there = there;

@@ -497,6 +497,7 @@ can_end f m s k there pending partly =
       told = partly ∙ sym (pending_undelivered m.state pending) ∙ rows.told m (found_among message_key m.id m (messages_in s) there);
       reports = k.reports;
       splits = k.splits;
+      bars = k.bars;
       setup = k.setup;
       times = k.times;
       there = there;

@@ -32,7 +32,7 @@ use Rattle.sms_centre_rows.specs.waiting.Revisions.{Revised}
 use Rattle.sms_centre_rows.specs.waiting.SoundAllocations.{IsNumber}
 use Rattle.sms_centre_rows.specs.waiting.Trying.{finished}
 use Rattle.sms_centre_spec.specs.CentreEvent.{happened}
-use Rattle.sms_centre_spec.specs.Draft.{Core, Store, handsets_in, messages_in, parts_in, reports_in, rows_of, with_given, with_message, with_part_at, with_report_at}
+use Rattle.sms_centre_spec.specs.Draft.{Core, Store, bars_in, handsets_in, messages_in, parts_in, reports_in, rows_of, with_given, with_message, with_part_at, with_report_at}
 use Rattle.sms_centre_spec.specs.Ends.{end, is_wished, make_report, report_to, status_given}
 use Rattle.sms_centre_spec.specs.Finals.{final_of}
 use Rattle.sms_centre_spec.specs.MessageNumbers.{next_number}
@@ -210,7 +210,7 @@ module _ (t : Revised ReportRow) where
   accept_left : (u : Submission) (s : Store) → Left s → IfThere Left (accept u s)
   accept_left u s k =
       let id : ℕ = next_number (rows_of s) in
-      let split : Option ℕ = next_split u.source u.handset (messages_in s) (parts_in s) in
+      let split : Option ℕ = next_split u.source u.handset (bars_in s) (messages_in s) (parts_in s) in
       cond_both (nat_le id 9999999999) (accept_as id u s) None (λ o. IfThere Left o)
       (λ t. cond_both (is_long u.text) (accept_split id split u s) (accept_under id None (bodies_under 0 u.text) u s) (λ o. IfThere Left o)
       (λ long. split_left id split u s k)

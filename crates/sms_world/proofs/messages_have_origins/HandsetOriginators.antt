@@ -55,7 +55,7 @@ use Rattle.sms_centre_rows.specs.waiting.References.{handset_of}
 use Rattle.sms_centre_spec.specs.declared.event.CentreEvent.TheVariants.{Frame}
 use Rattle.sms_centre_spec.specs.declared.rows.Rows.{Rows}
 use Rattle.sms_centre_spec.specs.CentreEvent.{happened, tag_of, went_up}
-use Rattle.sms_centre_spec.specs.Draft.{Core, Draft, Store, draft_of, handsets_in, messages_in, on_links, parts_in, rows_of}
+use Rattle.sms_centre_spec.specs.Draft.{Core, Draft, Store, bars_in, draft_of, handsets_in, messages_in, on_links, parts_in, rows_of}
 use Rattle.sms_centre_spec.specs.MessageNumbers.{next_number}
 use Rattle.sms_centre_spec.specs.Receiving.{due_now, is_duplicate, refuse, submit_accepted, submit_received, unit_received}
 use Rattle.sms_centre_spec.specs.SoundCore.{IsSoundCore}
@@ -133,7 +133,7 @@ module _ (Says : MessageRow → Type 0) (base : Rows) where
   accept_new : (u : Submission) (s : Store) → AreOld base s → IsFor Says u → IfThere (AreNew Says base) (accept u s)
   accept_new u s are up =
       let id : ℕ = next_number (rows_of s) in
-      let split : Option ℕ = next_split u.source u.handset (messages_in s) (parts_in s) in
+      let split : Option ℕ = next_split u.source u.handset (bars_in s) (messages_in s) (parts_in s) in
       cond_both (nat_le id 9999999999) (accept_as id u s) None (λ (o : Option Store). IfThere (AreNew Says base) o)
       (λ t. cond_both (is_long u.text) (accept_split id split u s) (accept_under id None (bodies_under 0 u.text) u s) (λ (o : Option Store). IfThere (AreNew Says base) o)
       (λ e. split_new id split u s are up) (λ e. under_new id None (bodies_under 0 u.text) u s are up))

@@ -41,7 +41,7 @@ use Rattle.sms_intake.specs.HandsetIntake.{from_read}
 use Rattle.sms_intake.specs.PartBodies.{bodies_under, is_long}
 use Rattle.sms_intake.specs.SmppIntake.{from_pdu, is_empty, source_in}
 use Rattle.sms_centre_spec.specs.CentreEvent.{at_moment, aged, drop_all, expire_all, expired, fired, frame_taken, happened, lost, lower, raise, raised, report_limit, tag_of, went_up}
-use Rattle.sms_centre_spec.specs.Draft.{Core, Draft, Store, draft_of, handsets_in, messages_in, on_links, parts_in, reports_in, rows_of, waiting_in}
+use Rattle.sms_centre_spec.specs.Draft.{Core, Draft, Store, bars_in, draft_of, handsets_in, messages_in, on_links, parts_in, reports_in, rows_of, waiting_in}
 use Rattle.sms_centre_spec.specs.MessageNumbers.{next_number}
 use Rattle.sms_centre_spec.specs.Ends.{end}
 use Rattle.sms_centre_spec.specs.Numbers.{id_in}
@@ -88,7 +88,7 @@ module _ (k : ℕ) where
   accept_stays : (u : Submission) (s : Store) → At s → IfThere At (accept u s)
   accept_stays u s e =
       let id : ℕ = next_number (rows_of s) in
-      let split : Option ℕ = next_split u.source u.handset (messages_in s) (parts_in s) in
+      let split : Option ℕ = next_split u.source u.handset (bars_in s) (messages_in s) (parts_in s) in
       cond_both (nat_le id 9999999999) (accept_as id u s) None (λ o. IfThere At o)
       (λ t. cond_both (is_long u.text) (accept_split id split u s) (accept_under id None (bodies_under 0 u.text) u s) (λ o. IfThere At o)
       (λ q. split_stays id split u s e) (λ q. under_stays id None (bodies_under 0 u.text) u s e))

@@ -82,6 +82,7 @@ fn no_changes(alloc: Global) -> Changes {
         handsets: Listed::new(alloc),
         reports: Listed::new(alloc),
         priorities: Listed::new(alloc),
+        bars: Listed::new(alloc),
     }
 }
 
