@@ -112,7 +112,7 @@ fn count_named(accounts: &[TableAccount<'_>], name: &str) -> usize {
 fn may_stand(known: &[KnownAccount], of_words: usize, now: &TableAccount<'_>) -> bool {
     match place_of(known, now.name) {
         Some(place) if place < of_words => false,
-        Some(place) => is_same(&known[place], now),
+        Some(place) => known.get(place).is_some_and(|before| is_same(before, now)),
         None => true,
     }
 }
