@@ -59,11 +59,7 @@ fn rank_messages<S: Alter>(tx: &mut Transaction<'_, S>) -> Result<(), Error>
 }
 
 // The store said that version.
-fn rename<S: Alter>(
-    alloc: Global,
-    tx: &mut Transaction<'_, S>,
-    version: u64,
-) -> Result<(), Error>
+fn rename<S: Alter>(alloc: Global, tx: &mut Transaction<'_, S>, version: u64) -> Result<(), Error>
     ensures same_reference { tx.new.conn.ghost_name ≡ tx.old.conn.ghost_name }
     ensures done { MakesStep S.Store tx.old.conn.now tx.new.conn.now (Leads (Renames version)) result }
     ensures uncommitted { Keeps S.Store tx.old.conn.now tx.new.conn.now }

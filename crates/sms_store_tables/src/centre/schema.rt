@@ -172,6 +172,15 @@ fn are_first_tables(
     is_reference(reference) && is_handset(handset) && is_report(report)
 }
 
+// Those of versions 2 and 3.
+fn are_last_tables(priority: &Table, bar: &Table) -> bool
+    ensures priority { IsTrue result → priority.now ≡ defined 12 priority_plan }
+    ensures bar { IsTrue result → bar.now ≡ defined 15 bar_plan }
+    ensures always { priority.now ≡ defined 12 priority_plan → bar.now ≡ defined 15 bar_plan → IsTrue result }
+{
+    is_priority(priority) && is_bar(bar)
+}
+
 fn are_first_indexes(meta: &Index, message: &Index, part: &Index) -> bool
     ensures meta { IsTrue result → meta.now ≡ key_index 0 meta_plan }
     ensures message { IsTrue result → message.now ≡ key_index 2 message_plan }
@@ -301,7 +310,7 @@ fn are_tables(tables: &[Table]) -> bool
     if !are_first_tables(meta, message, part, reference, handset, report) {
         return false;
     }
-    is_priority(priority) && is_bar(bar)
+    are_last_tables(priority, bar)
 }
 
 fn are_indexes(indexes: &[Index]) -> bool
