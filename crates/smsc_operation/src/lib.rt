@@ -13,6 +13,7 @@
 //! - `gone`: how many messages a run has forgotten
 //! - `lines`: the lines of the log
 //! - `link_secrets`: the secrets of links, from their file
+//! - `loaded_keep`: a store that is read once as a run starts
 //! - `logging`: the log, which a thread of its own writes
 //! - `looking`: a look at a store, which changes nothing
 //! - `moments`: moments of this machine's clock, and their text
@@ -35,6 +36,7 @@ pub mod feed;
 pub mod gone;
 pub mod lines;
 pub mod link_secrets;
+pub mod loaded_keep;
 pub mod logging;
 pub mod looking;
 pub mod moments;

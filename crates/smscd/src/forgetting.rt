@@ -1,4 +1,4 @@
-//! What a run forgets as it starts, and as it goes on.
+//! What a run forgets as it goes on.
 use crate::watchers::Watchers;
 use sms_base::Moment;
 use sms_centre_rows::messages::MessageRow;
@@ -24,91 +24,7 @@ const DAY: u64 = 86_400;
 // So many seconds lie between two lines of the log that say how many messages went.
 const MINUTE: u64 = 60;
 
-// What ended before that moment is not kept, if the words say how long it is. The moment is counted from the newest one of the rows where
-// the clock is ahead of it: a clock that is wrong takes nothing.
-fn before_of(run: &ServerRun<'_>, start: Moment, newest: Moment) -> Option<Moment> {
-    let now = start.seconds().min(newest.seconds());
-    let kept = DAY * u64::from(run.keep?);
-    Moment::from_seconds(now.saturating_sub(kept)).ok()
-}
-
-fn say_forgotten<R: Wait + Copy>(
-    alloc: Global,
-    log: &Log<R>,
-    before: Moment,
-    count: u64,
-) -> Result<(), AllocError> {
-    let before = text_of(alloc, before)?;
-    let text = format!(in alloc; "event=forgotten before={before} messages={count}")?;
-    log.put("info", text.as_str());
-    Ok(())
-}
-
-fn forget_before<R: Wait + Copy, K: CentreStore>(
-    host: &HostRuntime,
-    log: &Log<R>,
-    run: &ServerRun<'_>,
-    keep: &mut K,
-    rows: Rows,
-    before: Moment,
-) -> Result<Option<MessageFigures>, RunFault> {
-    let Ok(mut archive) = RunArchive::open(host, run.archive) else {
-        drop(rows);
-        log.put("warn", "event=not_forgotten reason=archive");
-        return Ok(Some(NO_MESSAGES));
-    };
-    let done = forget_ended(host.alloc(), rows, keep, &mut archive, before);
-    let (count, taken) = (archive.count, archive.taken);
-    drop(archive);
-    match done {
-        Ok(()) => {
-            say_forgotten(host.alloc(), log, before, count)?;
-            Ok(Some(taken))
-        }
-        // Of what the archive took last, some may not have gone.
-        Err(ForgetError::NotArchived) => {
-            log.put("warn", "event=not_forgotten reason=archive");
-            Ok(None)
-        }
-        Err(ForgetError::BadRows) => Err(RunFault::BadRows),
-        Err(ForgetError::NoMemory) => Err(RunFault::NoMemory),
-        Err(ForgetError::Store(error)) => Err(RunFault::from(error)),
-    }
-}
-
-// Rows of a store that its last run left in order were not judged as it was opened.
-fn judge_unread(host: &HostRuntime, found: &FoundStore, rows: Rows) -> Result<(), RunFault> {
-    if found.begun.is_of_order() {
-        judge_rows(host.alloc(), rows)
-    } else {
-        drop(rows);
-        Ok(())
-    }
-}
-
-/// Forgets the messages that ended before the days that the words keep, of these rows of the keep. Each goes to the archive first, if
-/// there is one. Where the archive can't be written nothing more goes, and the log says so. Gives how many went in each state, where
-/// that is known. Rows on which no centre starts are refused.
-pub fn forget_old<R: Wait + Copy, K: CentreStore>(
-    host: &HostRuntime,
-    log: &Log<R>,
-    run: &ServerRun<'_>,
-    keep: &mut K,
-    rows: Rows,
-    found: &FoundStore,
-    start: Moment,
-    newest: Moment,
-) -> Result<Option<MessageFigures>, RunFault> {
-    match before_of(run, start, newest) {
-        Some(before) => forget_before(host, log, run, keep, rows, before),
-        None => {
-            judge_unread(host, found, rows)?;
-            Ok(Some(NO_MESSAGES))
-        }
-    }
-}
-
-/// The archive of a run that goes on. Where it can't be written nothing goes, and the log says so once. It says once a minute at most how
+/// The archive of a run. Where it can't be written nothing goes, and the log says so once. It says once a minute at most how
 /// many messages went.
 #[derive(Drop)]
 pub struct LoggedArchive<R: Wait> {
