@@ -11,9 +11,11 @@
 //! - `archive`: the file to which a run writes what it forgets
 //! - `feed`: what the threads of a run give to the thread of its status page
 //! - `gone`: how many messages a run has forgotten
+//! - `ledger`: a file of lines that grows at its end
 //! - `lines`: the lines of the log
 //! - `link_secrets`: the secrets of links, from their file
 //! - `loaded_keep`: a store that is read once as a run starts
+//! - `logged_archive`: the archive of a run, of which the log says how many messages went
 //! - `logging`: the log, which a thread of its own writes
 //! - `looking`: a look at a store, which changes nothing
 //! - `moments`: moments of this machine's clock, and their text
@@ -34,9 +36,11 @@ pub mod account_names;
 pub mod archive;
 pub mod feed;
 pub mod gone;
+pub mod ledger;
 pub mod lines;
 pub mod link_secrets;
 pub mod loaded_keep;
+pub mod logged_archive;
 pub mod logging;
 pub mod looking;
 pub mod moments;

@@ -4,7 +4,7 @@ ghost use Rattle.smsc_operation.specs.Loading.{read_in};
 
 use crate::account_book::book_of;
 use crate::control::Control;
-use crate::forgetting::{LoggedArchive, forgetting_of};
+use crate::forgetting::{FileArchive, forgetting_of};
 use crate::ports::{listen, ports_of};
 use crate::reloading::Reloader;
 use crate::setup::{KnownAccount, MOST_ACCOUNTS, RunAccounts, setup_of};
@@ -551,7 +551,7 @@ fn serve_open<R: Threads + Wait + Clock + Copy + Send + Sync + 'static, K: Centr
     given: &Given<Watchers<R>>,
     keep: K,
     accounts: Vec<CentreAccount>,
-    forgetting: Forgetting<LoggedArchive<R>>,
+    forgetting: Forgetting<FileArchive<R>>,
     ports: Ports<TcpListener>,
     clock: &RunClock<R>,
 ) -> Result<K, ServeFault> {
