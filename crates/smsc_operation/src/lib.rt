@@ -1,9 +1,10 @@
 //! What the operator of a centre sees of it and keeps of it: its log, its archive, its store's files, and why a run ended early.
 //!
-//! `open_store` judges the two files of a store and opens the database in them; `leave_after` leaves them whole. `Log` writes a run's lines in a thread
-//! of its own, `Access` a line for each message that ends, `RunArchive` a line for each that a run forgets. A look, a copy, and what is stuck change
-//! nothing. What is written and read here has few clauses: tests run by hand try it (docs/WRONG-BODIES.md). The crate stands on the centre and the
-//! store, and on no server. So it is proved beside the server.
+//! `open_store` judges the two files of a store and opens the database in them; `leave_after` leaves them whole. `LoadedKeep` reads a store once as a
+//! run starts. `Log` writes a run's lines in a thread of its own, `Access` a line for each message that ends, `RunArchive` a line for each that a run
+//! forgets. A look, a copy, and what is stuck change nothing. What a keep has that was read, and which lines an archive keeps, has clauses. Else few of
+//! what is written and read here have any: tests run by hand try it (docs/WRONG-BODIES.md). The crate stands on the centre and the store, and on no
+//! server. So it is proved beside the server.
 //!
 //! - `access`: the access log
 //! - `account_file`: the accounts that a file spells

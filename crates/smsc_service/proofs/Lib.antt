@@ -9,5 +9,4 @@ mod Roomy
 mod Sittings
 mod Standing
 mod Stepped
-mod Walking
 mod RepliesOfPlans

@@ -1,6 +1,5 @@
 pub mod Accounts
 pub mod Asking
-pub mod Forgetting
 pub mod InMachine
 pub mod InSeated
 pub mod InService
