@@ -39,17 +39,24 @@ said_by line = record {
 unfoldable pub number_text : ℕ → List ℕ
 number_text id = codes "{\"id\":" ++ decimal id
 
+unfoldable pub account_text : List ℕ → List ℕ
+account_text name = codes ",\"account\":" ++ string name
+
+unfoldable pub reference_text : ℕ → List ℕ
+reference_text reference = codes ",\"message_reference\":" ++ decimal reference
+
 -- an application by the name of its account, or a handset by its TP-MR (3GPP TS 23.040 9.2.3.6)
 abbrev pub originator_text : Originator → List ℕ
-originator_text (Application account) = codes ",\"account\":" ++ string account
-originator_text (Handset reference) = codes ",\"message_reference\":" ++ decimal reference
+originator_text (Application account) = account_text account
+originator_text (Handset reference) = reference_text reference
 
 unfoldable pub parties_text : List ℕ → List ℕ → List ℕ
 parties_text source destination = codes ",\"source\":" ++ (string source ++ (codes ",\"destination\":" ++ string destination))
 
 unfoldable pub course_text : ℕ → ℕ → ℕ → List ℕ
 course_text submitted ended parts =
-    codes ",\"submitted\":\"" ++ (moment_text submitted ++ (codes "\",\"ended\":\"" ++ (moment_text ended ++ (codes "\",\"parts\":" ++ decimal parts))))
+    codes ",\"submitted\":\"" ++ (moment_text submitted ++ (codes "\",\"ended\":\"" ++ (moment_text ended ++ (codes "\",\"parts\":" ++ (decimal parts
+    ++ codes ",\"state\":\"")))))
 
 -- when a report was wanted (SMPP v3.4 5.2.17, 3GPP TS 23.040 9.2.3.5)
 abbrev pub wish_word : Wish → List ℕ
@@ -58,7 +65,7 @@ wish_word Always = codes "always"
 wish_word OnFailure = codes "on_failure"
 
 unfoldable pub end_text : FinalState → Wish → List ℕ
-end_text state wish = codes ",\"state\":\"" ++ (end_word state ++ (codes "\",\"receipt\":\"" ++ (wish_word wish ++ codes "\"}\n")))
+end_text state wish = end_word state ++ (codes "\",\"receipt\":\"" ++ (wish_word wish ++ codes "\"}\n"))
 
 unfoldable pub archive_text : Forgotten → List ℕ
 archive_text m =

@@ -1,6 +1,7 @@
 //! The line of a message that is forgotten.
 ghost use Rattle.std.specs.Prelude.{◌≡◌, ◌++◌, IfOk, OnOk};
-ghost use Rattle.smsc_status.specs.Archive.{archive_text, course_text, end_text, number_text, originator_text, parties_text, said_by, wish_word as wish_word_of};
+ghost use Rattle.smsc_status.specs.Archive.{account_text, archive_text, course_text, end_text, number_text, originator_text, parties_text, reference_text, said_by};
+ghost use Rattle.smsc_status.specs.Archive.{wish_word as wish_word_of};
 
 use crate::access::end_word;
 use crate::pieces::{Piece, put_pieces};
@@ -45,18 +46,28 @@ fn put_number(out: &mut Octets, id: MessageId) -> Result<(), AllocError>
     put_decimal(out, id.number())
 }
 
+#[tactic(auto, unfolding(crate::specs::Archive::account_text))]
+fn put_account(out: &mut Octets, name: &[u8]) -> Result<(), AllocError>
+    ensures { OnOk result (out.new ≡ out.old ++ account_text name.now) }
+{
+    out.append(b",\"account\":")?;
+    put_string(out, name)
+}
+
+#[tactic(auto, unfolding(crate::specs::Archive::reference_text))]
+fn put_reference(out: &mut Octets, reference: u8) -> Result<(), AllocError>
+    ensures { OnOk result (out.new ≡ out.old ++ reference_text reference) }
+{
+    out.append(b",\"message_reference\":")?;
+    put_decimal(out, reference as u64)
+}
+
 fn put_originator(out: &mut Octets, originator: &Originator) -> Result<(), AllocError>
     ensures { OnOk result (out.new ≡ out.old ++ originator_text originator.now) }
 {
     match originator {
-        Originator::Application { account } => {
-            out.append(b",\"account\":")?;
-            put_string(out, account.as_slice())
-        }
-        Originator::Handset { message_reference } => {
-            out.append(b",\"message_reference\":")?;
-            put_decimal(out, *message_reference as u64)
-        }
+        Originator::Application { account } => put_account(out, account.as_slice()),
+        Originator::Handset { message_reference } => put_reference(out, *message_reference),
     }
 }
 
@@ -88,6 +99,7 @@ fn put_course(
             Piece::Moment(ended),
             Piece::Text(b"\",\"parts\":"),
             Piece::Number(parts),
+            Piece::Text(b",\"state\":\""),
         ],
     )
 }
@@ -99,7 +111,6 @@ fn put_end(out: &mut Octets, state: FinalState, wish: Wish) -> Result<(), AllocE
     put_pieces(
         out,
         &[
-            Piece::Text(b",\"state\":\""),
             Piece::Text(end_word(state)),
             Piece::Text(b"\",\"receipt\":\""),
             Piece::Text(wish_word(wish)),
