@@ -7,6 +7,7 @@ mod OrdersTold
 mod RokNames
 mod Roomy
 mod Sittings
+mod Spared
 mod Standing
 mod Stepped
 mod RepliesOfPlans

@@ -8,6 +8,7 @@ pub mod Outcomes
 pub mod Room
 pub mod Seats
 pub mod ShownLinks
+pub mod Sparing
 pub mod Serving
 pub mod BoundSession
 pub mod Causes

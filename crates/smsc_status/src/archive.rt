@@ -46,7 +46,6 @@ fn put_number(out: &mut Octets, id: MessageId) -> Result<(), AllocError>
     put_decimal(out, id.number())
 }
 
-#[tactic(auto, unfolding(crate::specs::Archive::account_text))]
 fn put_account(out: &mut Octets, name: &[u8]) -> Result<(), AllocError>
     ensures { OnOk result (out.new ≡ out.old ++ account_text name.now) }
 {
@@ -54,7 +53,6 @@ fn put_account(out: &mut Octets, name: &[u8]) -> Result<(), AllocError>
     put_string(out, name)
 }
 
-#[tactic(auto, unfolding(crate::specs::Archive::reference_text))]
 fn put_reference(out: &mut Octets, reference: u8) -> Result<(), AllocError>
     ensures { OnOk result (out.new ≡ out.old ++ reference_text reference) }
 {
