@@ -90,11 +90,6 @@ impl RunArchive<LineFile> {
 }
 
 impl<F: Ledger + Drop> RunArchive<F> {
-    /// An archive whose lines go to the ledger, if there is one.
-    pub fn over(alloc: Global, ledger: Option<F>) -> RunArchive<F> {
-        RunArchive { alloc, ledger }
-    }
-
     fn put(
         &mut self,
         message: &MessageRow,
