@@ -114,6 +114,7 @@ impl<F: Ledger + Drop> Archive for RunArchive<F> {
 
     ghost keeps = { λ archive message parts. IsSoOfLine (HasLine F.keeps archive.ledger) message parts };
 
+    #[tactic(auto, using(crate::proofs::Archived::so_now, crate::proofs::Archived::so_still))]
     fn take(&mut self, message: &MessageRow, parts: usize) -> Result<(), NotArchived> {
         match (message.done, message.state) {
             (Some(ended), Some(state)) => self.put(message, parts, ended, state),
@@ -121,6 +122,7 @@ impl<F: Ledger + Drop> Archive for RunArchive<F> {
         }
     }
 
+    #[tactic(auto, using(crate::proofs::Archived::so_still))]
     fn sync(&mut self) -> Result<(), NotArchived> {
         sync_in(&mut self.ledger)
     }
