@@ -183,6 +183,21 @@ fn judge_tables(alloc: Global, tables: &RowTables) -> Result<(), RunFault>
     }
 }
 
+// Moved apart where no value is dropped.
+fn rows_in(tables: RowTables) -> Rows
+    ensures { result ≡ rows_of tables }
+{
+    Rows {
+        messages: Listed::from_vec(tables.messages.into_vec()),
+        parts: Listed::from_vec(tables.parts.into_vec()),
+        references: Listed::from_vec(tables.references.into_vec()),
+        handsets: Listed::from_vec(tables.handsets.into_vec()),
+        reports: Listed::from_vec(tables.reports.into_vec()),
+        priorities: Listed::from_vec(tables.priorities.into_vec()),
+        setup: tables.setup,
+    }
+}
+
 /// The rows, where a centre starts on them.
 pub(crate) fn judged(alloc: Global, rows: Rows) -> Result<Rows, RunFault>
     ensures same { IfOk result (λ judged. judged ≡ rows) }
@@ -193,7 +208,7 @@ pub(crate) fn judged(alloc: Global, rows: Rows) -> Result<Rows, RunFault>
         return Err(RunFault::BadRows);
     };
     match judge_tables(alloc, &tables) {
-        Ok(()) => Ok(tables.into_rows()),
+        Ok(()) => Ok(rows_in(tables)),
         Err(fault) => {
             drop(tables);
             Err(fault)

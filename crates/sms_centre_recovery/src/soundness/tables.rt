@@ -3,7 +3,6 @@ ghost use Rattle.std.specs.Prelude.{◌≡◌, ◌↔◌, true, IfNone, IfOk, On
 ghost use Rattle.sms_centre_spec.specs.SoundRows.{IsSetup, IsSound};
 ghost use Rattle.sms_centre_recovery.specs.soundness.RowsOf.{KeysRise, IsSoundAlone, rows_of};
 
-use sms_base::Listed;
 use sms_centre_rows::messages::{MessageRow, PartRow, PriorityRow};
 use sms_centre_rows::reports::ReportRow;
 use sms_centre_rows::waiting::{HandsetRow, ReferenceRow};
@@ -69,21 +68,6 @@ impl RowTables {
             return None;
         }
         Some(tables_of(rows))
-    }
-
-    /// The tables as rows.
-    pub fn into_rows(self) -> Rows
-        ensures { result ≡ rows_of self }
-    {
-        Rows {
-            messages: Listed::from_vec(self.messages.into_vec()),
-            parts: Listed::from_vec(self.parts.into_vec()),
-            references: Listed::from_vec(self.references.into_vec()),
-            handsets: Listed::from_vec(self.handsets.into_vec()),
-            reports: Listed::from_vec(self.reports.into_vec()),
-            priorities: Listed::from_vec(self.priorities.into_vec()),
-            setup: self.setup,
-        }
     }
 
     fn has_setup(&self) -> bool
