@@ -455,7 +455,7 @@ fn say_store<R: Wait + Copy>(
     Ok(())
 }
 
-// Logs what was read of the store, and gives it. What its last run left in order is judged now: nothing else was judged as it was opened.
+// Logs what was read of the store, and gives it. Rows that the last run left in order were not judged as the store was opened, and are now.
 fn look_at<R: Wait + Copy, K: CentreStore + Drop>(
     host: &HostRuntime,
     watchers: &Watchers<R>,
