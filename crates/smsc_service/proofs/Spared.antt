@@ -1,5 +1,5 @@
 -- What a service asks of its centre by itself.
-use Rattle.std.proofs.Common.{ℕ, Option, absurd}
+use Rattle.std.proofs.Common.{ℕ, Option}
 use Rattle.sms_keeper.specs.declared.machine.Errand.{Errand}
 use Rattle.sms_keeper.specs.declared.machine.Errand.TheVariants.{Forget, Retry, Delete, Enrol}
 use Rattle.smsc_service.specs.Sparing.{IsOrder, Spares}
