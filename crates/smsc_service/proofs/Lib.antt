@@ -7,7 +7,7 @@ mod OrdersTold
 pub mod RokNames
 mod Roomy
 pub mod Sittings
+mod Spared
 mod Standing
 mod Stepped
-mod Walking
 mod RepliesOfPlans

@@ -31,7 +31,8 @@ pub struct AccessLine<'a> {
     pub commit_micros: u64,
 }
 
-fn end_word(state: FinalState) -> &'static [u8]
+/// The word of a receipt for an end (SMPP v3.4 appendix B).
+pub(crate) fn end_word(state: FinalState) -> &'static [u8]
     ensures { result.now ≡ final_word state }
 {
     state.word().as_bytes()
