@@ -1,50 +1,43 @@
 //! Moments, addresses, identities and lists: worked values, and each call at its greatest size.
 use crate::examples::LEAP_DAY;
-use crate::rows::holds;
-use sms_base::{Address, Listed, MessageId, Moment, MomentError, Octets, TypeOfNumber};
-use std::alloc::Global;
+use crate::rows::{are, holds};
+use sms_base::{Address, Listed, MessageId, Moment, Octets, TypeOfNumber};
+use std::alloc::{AllocError, Global};
 use std::test::Fail;
 
 const LEAP_DAY_STAMP: [u8; 7] = [0x42, 0x20, 0x92, 0x32, 0x95, 0x85, 0x00];
 
-fn stamp_of(seconds: u64) -> Option<[u8; 7]> {
-    match Moment::from_seconds(seconds) {
-        Ok(moment) => Some(moment.to_scts()),
-        Err(_) => None,
-    }
-}
-
-fn seconds_of(stamp: [u8; 7]) -> Option<u64> {
+// The seconds of a time stamp, or the code of its fault.
+fn stamp_seconds(stamp: [u8; 7]) -> Result<u64, &'static str> {
     match Moment::from_scts(stamp) {
-        Ok(moment) => Some(moment.seconds()),
-        Err(_) => None,
+        Ok(moment) => Ok(moment.seconds()),
+        Err(fault) => Err(fault.code()),
     }
 }
 
-// Leap day at UTC, one quarter hour ahead of it, and one behind it.
-const STAMPS: &[([u8; 7], u64)] = &[
-    (LEAP_DAY_STAMP, LEAP_DAY),
-    ([0x42, 0x20, 0x92, 0x32, 0x95, 0x85, 0x10], LEAP_DAY - 900),
-    ([0x42, 0x20, 0x92, 0x32, 0x95, 0x85, 0x18], LEAP_DAY + 900),
+// Leap day at UTC, one quarter hour ahead of it, and one behind it. February has no 30th.
+const STAMPS: &[([u8; 7], Result<u64, &str>)] = &[
+    (LEAP_DAY_STAMP, Ok(LEAP_DAY)),
+    (
+        [0x42, 0x20, 0x92, 0x32, 0x95, 0x85, 0x10],
+        Ok(LEAP_DAY - 900),
+    ),
+    (
+        [0x42, 0x20, 0x92, 0x32, 0x95, 0x85, 0x18],
+        Ok(LEAP_DAY + 900),
+    ),
+    ([0x42, 0x20, 0x03, 0x32, 0x95, 0x85, 0x00], Err("M1")),
 ];
 
-// The code of a moment's fault, if there is no such time.
-fn moment_code(stamp: [u8; 7]) -> &'static str {
-    match Moment::from_scts(stamp) {
-        Err(MomentError::BadTime) => MomentError::BadTime.code(),
-        Ok(_) => "none",
-    }
-}
-
-// The seconds of a time of SMPP on leap day, or the code of its fault.
-fn smpp_seconds(text: &[u8]) -> Result<Result<u64, &'static str>, Fail> {
-    let now = Moment::from_seconds(LEAP_DAY)?;
+// The seconds of a time of SMPP, or the code of its fault.
+fn smpp_seconds(text: &[u8], now: Moment) -> Result<u64, &'static str> {
     match Moment::from_smpp(text, now) {
-        Ok(moment) => Ok(Ok(moment.seconds())),
-        Err(fault) => Ok(Err(fault.code())),
+        Ok(moment) => Ok(moment.seconds()),
+        Err(fault) => Err(fault.code()),
     }
 }
 
+// On leap day. Times of SMPP are dates or lengths.
 const SMPP_TIMES: &[(&[u8], Result<u64, &str>)] = &[
     (b"240229235958000+", Ok(LEAP_DAY)),
     (b"240301005958004+", Ok(LEAP_DAY)),
@@ -53,43 +46,39 @@ const SMPP_TIMES: &[(&[u8], Result<u64, &str>)] = &[
     (b"240229235958049+", Err("M2")),
 ];
 
-#[test]
-fn moments_are_written_and_read() -> Result<(), Fail> {
-    // Time stamps are written and read.
-    for (stamp, seconds) in STAMPS {
-        holds(seconds_of(*stamp) == Some(*seconds), "a time stamp")?;
-    }
-    holds(stamp_of(LEAP_DAY) == Some(LEAP_DAY_STAMP), "a leap day")?;
-    // February has no 30th.
-    {
-        let code = moment_code([0x42, 0x20, 0x03, 0x32, 0x95, 0x85, 0x00]);
-        holds(code == "M1", code)?;
-    }
-    // Times of SMPP are dates or lengths.
-    for (text, seconds) in SMPP_TIMES {
-        holds(smpp_seconds(text)? == *seconds, "a time of SMPP")?;
-    }
-    Ok(())
-}
-
-fn address_code(ton: u8, npi: u8, text: &str) -> &'static str {
+// The type of an address and how many characters it has, or why there is none.
+fn address_of(ton: u8, npi: u8, text: &str) -> Result<(TypeOfNumber, usize), &'static str> {
     match Address::new(ton, npi, text) {
-        Ok(_) => "none",
-        Err(fault) => fault.code(),
+        Ok(address) => Ok((address.ton, address.digits.len())),
+        Err(fault) => Err(fault.code()),
     }
 }
 
-// Why there is no such address; the first two are the longest number and the longest name.
-const ADDRESSES: &[(u8, u8, &str, &str)] = &[
-    (1, 1, "0123456789*#abc01234", "none"),
-    (5, 0, "Hello World", "none"),
-    (1, 1, "", "A1"),
-    (1, 1, "123456789012345678901", "A2"),
-    (5, 0, "€€€€€€", "A2"),
-    (1, 1, "12x", "A3"),
-    (5, 0, "ж", "A4"),
-    (7, 1, "", "A5"),
-    (1, 16, "", "A5"),
+type AddressRow = (
+    u8,
+    u8,
+    &'static str,
+    Result<(TypeOfNumber, usize), &'static str>,
+);
+
+// The first two are the longest number and the longest name.
+const ADDRESSES: &[AddressRow] = &[
+    (
+        1,
+        1,
+        "0123456789*#abc01234",
+        Ok((TypeOfNumber::International, 20)),
+    ),
+    (5, 0, "Hello World", Ok((TypeOfNumber::Alphanumeric, 11))),
+    (1, 1, "447700900123", Ok((TypeOfNumber::International, 12))),
+    (5, 0, "Bank €10", Ok((TypeOfNumber::Alphanumeric, 8))),
+    (1, 1, "", Err("A1")),
+    (1, 1, "123456789012345678901", Err("A2")),
+    (5, 0, "€€€€€€", Err("A2")),
+    (1, 1, "12x", Err("A3")),
+    (5, 0, "ж", Err("A4")),
+    (7, 1, "", Err("A5")),
+    (1, 16, "", Err("A5")),
 ];
 
 fn identity_digits(number: u64) -> Option<[u8; 10]> {
@@ -114,25 +103,18 @@ const IDENTITIES: &[(&[u8], Option<u64>)] = &[
 ];
 
 #[test]
-fn addresses_and_identities_are_read() -> Result<(), Fail> {
-    // Numbers and names are addresses.
-    for (ton, npi, text, code) in ADDRESSES {
-        holds(address_code(*ton, *npi, text) == *code, text)?;
+fn moments_addresses_and_identities_are_read() -> Result<(), Fail> {
+    let now = Moment::from_seconds(LEAP_DAY)?;
+    holds(now.to_scts() == LEAP_DAY_STAMP, "a leap day")?;
+    for (stamp, seconds) in STAMPS {
+        holds(stamp_seconds(*stamp) == *seconds, "a time stamp")?;
     }
-    // A number has a type and digits.
-    {
-        let number = Address::new(1, 1, "447700900123")?;
-        holds(
-            number.ton == TypeOfNumber::International && number.digits.len() == 12,
-            "a number",
-        )?;
+    for (text, seconds) in SMPP_TIMES {
+        holds(smpp_seconds(text, now) == *seconds, "a time of SMPP")?;
     }
-    // A name has characters.
-    {
-        let name = Address::new(5, 0, "Bank €10")?;
-        holds(name.digits.len() == 8, "a name")?;
+    for (ton, npi, text, address) in ADDRESSES {
+        holds(address_of(*ton, *npi, text) == *address, text)?;
     }
-    // An identity is written with ten digits.
     for (text, number) in IDENTITIES {
         holds(identity_number(text) == *number, "an identity")?;
     }
@@ -142,42 +124,39 @@ fn addresses_and_identities_are_read() -> Result<(), Fail> {
     )
 }
 
-// A list that grows to that length, octet by octet.
-fn grown(alloc: Global, length: usize) -> Result<Octets, Fail> {
-    let mut octets = Octets::with_capacity(alloc, 1)?;
-    for _ in 0..length {
+// Grows octet by octet, and then by a copy of itself.
+fn grow(octets: &mut Octets, alloc: Global) -> Result<(), AllocError> {
+    for _ in 0..65_536 {
         octets.push(0x61)?;
     }
-    Ok(octets)
+    let copy = Octets::copy_of(alloc, octets.as_slice())?;
+    octets.append(copy.as_slice())
 }
 
-// A copy of the octets, and the octets again behind it.
-fn doubled(alloc: Global, octets: &[u8]) -> Result<Octets, Fail> {
-    let mut copy = Octets::copy_of(alloc, octets)?;
-    copy.append(octets)?;
-    Ok(copy)
+fn are_doubled(octets: &[u8]) -> bool {
+    let (front, back) = octets.split_at(octets.len().min(65_536));
+    front.len() == 65_536 && are(front, back)
 }
 
-fn are_doubled(twice: &[u8], octets: &[u8]) -> bool {
-    twice.len() / 2 == octets.len() && twice.starts_with(octets) && twice.ends_with(octets)
+fn octets_grow(alloc: Global) -> bool {
+    match Octets::with_capacity(alloc, 1) {
+        Ok(mut octets) => grow(&mut octets, alloc).is_ok() && are_doubled(octets.as_slice()),
+        Err(_) => false,
+    }
 }
 
-#[test]
-fn octets_grow(rt: HostRuntime) -> Result<(), Fail> {
-    let octets = grown(rt.alloc(), 65_536)?;
-    let twice = doubled(rt.alloc(), octets.as_slice())?;
-    holds(octets.len() == 65_536, "octets")?;
-    holds(
-        are_doubled(twice.as_slice(), octets.as_slice()),
-        "their copy",
-    )
+fn list_grows(alloc: Global) -> bool {
+    let mut items = Listed::new(alloc);
+    for item in 0..1_000_u32 {
+        if items.push(item).is_err() {
+            return false;
+        }
+    }
+    items.len() == 1_000
 }
 
 #[test]
 fn lists_grow(rt: HostRuntime) -> Result<(), Fail> {
-    let mut items = Listed::new(rt.alloc());
-    for item in 0..1_000_u32 {
-        items.push(item)?;
-    }
-    holds(items.len() == 1_000, "a list")
+    holds(octets_grow(rt.alloc()), "octets")?;
+    holds(list_grows(rt.alloc()), "a list")
 }

@@ -1,7 +1,7 @@
 //! Tables, over rows of a number and a letter.
 use crate::rows::holds;
 use sms_rows::table::{Change, Key, Row, Table, TableDraft, adopt, rises};
-use std::alloc::Global;
+use std::alloc::{AllocError, Global};
 use std::test::Fail;
 
 #[derive(Drop)]
@@ -18,70 +18,11 @@ impl Row for Entry {
     }
 }
 
-// A table of these rows, put one after the other.
-fn table_of(alloc: Global, rows: &[(u32, u8)]) -> Result<Table<Entry>, Fail> {
-    let mut table = Table::new(alloc);
-    for (number, text) in rows {
-        table.put(Entry {
-            number: *number,
-            text: *text,
-        })?;
-    }
-    Ok(table)
-}
-
 fn text_of(row: Option<&Entry>) -> Option<u8> {
     match row {
         Some(row) => Some(row.text),
         None => None,
     }
-}
-
-fn text_at(table: &Table<Entry>, number: u64) -> Option<u8> {
-    text_of(table.find(Key::of(number)))
-}
-
-fn is_in_order(table: &Table<Entry>, rows: usize) -> bool {
-    table.as_slice().len() == rows && rises(table.as_slice())
-}
-
-fn table_that_grows(alloc: Global) -> Result<Table<Entry>, Fail> {
-    let mut table = Table::new(alloc);
-    for number in 0..2_000_u32 {
-        table.put(Entry {
-            number: 2_000 - number,
-            text: 0,
-        })?;
-    }
-    Ok(table)
-}
-
-// Row 9 is put, and row 4 removed.
-fn some_changes(alloc: Global) -> Result<Vec<Change<Entry>>, Fail> {
-    let mut changes = Vec::new(alloc);
-    changes.push(Change::Put(Entry { number: 9, text: 1 }))?;
-    changes.push(Change::Remove(Key::of(4)))?;
-    Ok(changes)
-}
-
-fn text_after(table: &Table<Entry>, changes: &[Change<Entry>], number: u64) -> Option<u8> {
-    text_of(table.find_after(changes, Key::of(number)))
-}
-
-// The changes are carried out over memory that was taken before.
-fn apply(table: &mut Table<Entry>, alloc: Global, changes: Vec<Change<Entry>>) -> Result<(), Fail> {
-    let spare = table.make_reserve(alloc, changes.len())?;
-    table.use_reserve(spare);
-    table.apply_all(changes);
-    Ok(())
-}
-
-// Whether the row is found while the changes wait, which are carried out then.
-fn changes(table: &mut Table<Entry>, alloc: Global) -> Result<bool, Fail> {
-    let changes = some_changes(alloc)?;
-    let is_found = text_after(table, changes.as_slice(), 9) == Some(1);
-    apply(table, alloc, changes)?;
-    Ok(is_found)
 }
 
 fn removed(table: &mut Table<Entry>, number: u64) -> Option<u8> {
@@ -91,44 +32,57 @@ fn removed(table: &mut Table<Entry>, number: u64) -> Option<u8> {
     }
 }
 
-// A row that is to be put is found, and one that was put is removed.
-fn changes_and_removes(table: &mut Table<Entry>, alloc: Global) -> Result<bool, Fail> {
-    Ok(changes(table, alloc)? && removed(table, 9) == Some(1))
+fn put(table: &mut Table<Entry>, number: u32, text: u8) -> bool {
+    table.put(Entry { number, text }).is_ok()
 }
 
-#[test]
-fn changes_need_no_memory(rt: HostRuntime) -> Result<(), Fail> {
-    let mut table = Table::new(rt.alloc());
-    holds(changes_and_removes(&mut table, rt.alloc())?, "a row")
-}
-
-fn are_numbered(rows: &[Entry], first: u32, second: u32) -> bool {
-    match rows {
-        [one, other] => one.number == first && other.number == second,
-        _ => false,
+fn grows(table: &mut Table<Entry>) -> bool {
+    for number in 0..2_000_u32 {
+        if !put(table, 2_000 - number, 0) {
+            return false;
+        }
     }
+    true
 }
 
-fn are_found(alloc: Global) -> Result<bool, Fail> {
-    let table = table_of(alloc, &[(7, 1), (3, 2), (7, 3)])?;
-    Ok(is_in_order(&table, 2) && text_at(&table, 7) == Some(3) && text_at(&table, 4) == None)
+fn are_numbered(rows: &[Entry], numbers: &[u32]) -> bool {
+    if rows.len() != numbers.len() {
+        return false;
+    }
+    for (row, number) in rows.iter().zip(numbers) {
+        if row.number != *number {
+            return false;
+        }
+    }
+    true
 }
 
-fn grows(alloc: Global) -> Result<bool, Fail> {
-    let table = table_that_grows(alloc)?;
-    Ok(is_in_order(&table, 2_000))
+// Row 9 is put, and row 4 removed.
+fn some_changes(alloc: Global) -> Result<Vec<Change<Entry>>, AllocError> {
+    let mut changes = Vec::new(alloc);
+    changes.push(Change::Put(Entry { number: 9, text: 1 }))?;
+    changes.push(Change::Remove(Key::of(4)))?;
+    Ok(changes)
 }
 
-fn stand_together(alloc: Global) -> Result<bool, Fail> {
-    let table = table_of(alloc, &[(9, 0), (3, 0), (7, 0), (5, 0)])?;
-    Ok(are_numbered(table.rows_between(Key::of(4), Key::of(9)), 5, 7))
+// The changes are carried out over memory that was taken before.
+fn apply(
+    table: &mut Table<Entry>,
+    alloc: Global,
+    changes: Vec<Change<Entry>>,
+) -> Result<(), AllocError> {
+    let spare = table.make_reserve(alloc, changes.len())?;
+    table.use_reserve(spare);
+    table.apply_all(changes);
+    Ok(())
 }
 
-#[test]
-fn rows_are_put_and_found(rt: HostRuntime) -> Result<(), Fail> {
-    holds(are_found(rt.alloc())?, "two rows, the later of a key")?;
-    holds(grows(rt.alloc())?, "many rows")?;
-    holds(stand_together(rt.alloc())?, "rows between")
+// Whether the row is found while the changes wait, which are carried out then.
+fn changes(table: &mut Table<Entry>, alloc: Global) -> Result<bool, AllocError> {
+    let changes = some_changes(alloc)?;
+    let is_found = text_of(table.find_after(changes.as_slice(), Key::of(9))) == Some(1);
+    apply(table, alloc, changes)?;
+    Ok(is_found)
 }
 
 fn is_seen(pending: &TableDraft<'_, Entry>) -> bool {
@@ -136,7 +90,7 @@ fn is_seen(pending: &TableDraft<'_, Entry>) -> bool {
 }
 
 // Row 4 is put and row 3 removed, in the middle of an event; the changes are adopted.
-fn settle_and_adopt(table: &mut Table<Entry>, alloc: Global) -> Result<bool, Fail> {
+fn settles(table: &mut Table<Entry>, alloc: Global) -> Result<bool, AllocError> {
     let mut pending = TableDraft::of(alloc, table);
     pending.put(Entry { number: 4, text: 2 })?;
     pending.remove(Key::of(3))?;
@@ -147,14 +101,92 @@ fn settle_and_adopt(table: &mut Table<Entry>, alloc: Global) -> Result<bool, Fai
     Ok(is_seen && are_two)
 }
 
-fn waits(table: &mut Table<Entry>, alloc: Global) -> Result<(), Fail> {
-    holds(settle_and_adopt(table, alloc)?, "rows as they are to be")?;
-    holds(table.as_slice().len() == 1, "one row")?;
-    holds(text_at(table, 4) == Some(2), "the row that was put")
+// A step of a course of a table.
+#[derive(Clone, Copy)]
+enum Step {
+    Puts(u32, u8),
+    // The row of that number has that text, if it is there.
+    Finds(u64, Option<u8>),
+    Removes(u64, Option<u8>),
+    // So many rows, in order.
+    Has(usize),
+    // The rows from the first number on, before the second.
+    Between(u64, u64, &'static [u32]),
+    // Two thousand rows, the last first.
+    Grows,
+    // Row 9 is put and row 4 removed, without memory.
+    Changes,
+    // Row 4 is put and row 3 removed, by a draft.
+    Settles,
+}
+
+fn goes(table: &mut Table<Entry>, alloc: Global, step: &Step) -> bool {
+    match step {
+        Step::Puts(number, text) => put(table, *number, *text),
+        Step::Finds(number, text) => text_of(table.find(Key::of(*number))) == *text,
+        Step::Removes(number, text) => removed(table, *number) == *text,
+        Step::Has(count) => table.as_slice().len() == *count && rises(table.as_slice()),
+        Step::Between(from, to, numbers) => {
+            are_numbered(table.rows_between(Key::of(*from), Key::of(*to)), numbers)
+        }
+        Step::Grows => grows(table),
+        Step::Changes => changes(table, alloc) == Ok(true),
+        Step::Settles => settles(table, alloc) == Ok(true),
+    }
+}
+
+const COURSES: &[(&str, &[Step])] = &[
+    (
+        "rows are put and found, the later of a key",
+        &[
+            Step::Puts(7, 1),
+            Step::Puts(3, 2),
+            Step::Puts(7, 3),
+            Step::Has(2),
+            Step::Finds(7, Some(3)),
+            Step::Finds(4, None),
+        ],
+    ),
+    ("many rows", &[Step::Grows, Step::Has(2_000)]),
+    (
+        "rows between",
+        &[
+            Step::Puts(9, 0),
+            Step::Puts(3, 0),
+            Step::Puts(7, 0),
+            Step::Puts(5, 0),
+            Step::Between(4, 9, &[5, 7]),
+        ],
+    ),
+    (
+        "changes need no memory",
+        &[Step::Changes, Step::Removes(9, Some(1))],
+    ),
+    (
+        "changes wait until they are adopted",
+        &[
+            Step::Puts(3, 1),
+            Step::Settles,
+            Step::Has(1),
+            Step::Finds(4, Some(2)),
+        ],
+    ),
+];
+
+fn go(alloc: Global, steps: &[Step]) -> bool {
+    let mut table = Table::new(alloc);
+    for step in steps {
+        if !goes(&mut table, alloc, step) {
+            return false;
+        }
+    }
+    true
 }
 
 #[test]
-fn changes_wait_until_they_are_adopted(rt: HostRuntime) -> Result<(), Fail> {
-    let mut table = table_of(rt.alloc(), &[(3, 1)])?;
-    waits(&mut table, rt.alloc())
+fn tables_go_their_courses(rt: HostRuntime) -> Result<(), Fail> {
+    for (name, steps) in COURSES {
+        holds(go(rt.alloc(), steps), name)?;
+    }
+    Ok(())
 }

@@ -1,11 +1,11 @@
 //! Frames of the control layer: worked, with a fault, and at their greatest size.
-use crate::rows::{are, are_parts, holds, is_code};
+use crate::rows::{are_parts, holds, is_written};
 use sms_base::{OctetView, Octets};
 use sms_control::{
     Cp, CpCause, CpFault, LinkError, MessageType, Transaction, TransactionFlag,
     TransactionIdentifier,
 };
-use std::alloc::Global;
+use std::alloc::{AllocError, Global};
 use std::test::Fail;
 
 // A unit for a handset, as a frame of the first transaction.
@@ -15,15 +15,17 @@ const FRAME: [u8; 39] = [
     0x00, 0x05, 0xE8, 0x32, 0x9B, 0xFD, 0x06,
 ];
 
-fn code(octets: &[u8]) -> &'static str {
+// What a frame is, or the code of its fault.
+fn word(octets: &[u8]) -> &'static str {
     match Cp::read(octets) {
+        Ok(Cp::DataUnit { .. }) => "CP-DATA",
         Ok(_) => "none",
         Err(fault) => fault.code(),
     }
 }
 
-const CODES: &[(&[u8], &str)] = &[
-    (&FRAME, "none"),
+const WORDS: &[(&[u8], &str)] = &[
+    (&FRAME, "CP-DATA"),
     (&[0x09, 0x01, 0x00, 0x00], "P4"),
     (&[0x09, 0x01, 0xF9], "P4"),
     (&[0x08], "P3"),
@@ -36,22 +38,11 @@ const CODES: &[(&[u8], &str)] = &[
     (&[0x89, 0x10], "P1"),
 ];
 
-// A cut of a frame is truncated, and nothing else.
-#[test]
-fn faults_are_named() -> Result<(), Fail> {
-    for (octets, wanted) in CODES {
-        holds(code(octets) == *wanted, wanted)?;
+fn is_written_alike(alloc: Global, octets: &[u8]) -> bool {
+    match Cp::read(octets) {
+        Ok(cp) => is_written(cp.write(alloc), &[octets]),
+        Err(_) => false,
     }
-    for len in 0..39 {
-        holds(code(&FRAME[..len]) == "P1", "a front")?;
-    }
-    holds(CpFault::Truncated.code() == "P1", "a code")
-}
-
-fn is_written_alike(alloc: Global, octets: &[u8]) -> Result<bool, Fail> {
-    let cp = Cp::read(octets)?;
-    let written = cp.write(alloc)?;
-    Ok(are(written.as_slice(), octets))
 }
 
 const FRAMES: &[&[u8]] = &[
@@ -64,44 +55,44 @@ const FRAMES: &[&[u8]] = &[
 // The longest unit that a frame carries.
 const LONGEST: &[u8] = &[0x5A; 248];
 
-// CP-DATA of the longest unit, in the last transaction of the other side's.
-fn longest(alloc: Global) -> Result<Octets, Fail> {
-    let Some(last) = TransactionIdentifier::new(6) else {
-        return Err(Fail::new("no identifier 6"));
+// Whether the octets are CP-DATA of the longest unit, in the last transaction of the other side's.
+fn is_longest(octets: Result<Octets, AllocError>) -> bool {
+    match octets {
+        Ok(octets) => {
+            are_parts(octets.as_slice(), &[&[0xE9, 0x01, 0xF8], LONGEST])
+                && word(octets.as_slice()) == "CP-DATA"
+        }
+        Err(_) => false,
+    }
+}
+
+fn longest_is_written(alloc: Global) -> bool {
+    let Some(identifier) = TransactionIdentifier::new(6) else {
+        return false;
     };
     let data = Cp::DataUnit {
         transaction: Transaction {
             flag: TransactionFlag::ToOriginator,
-            identifier: last,
+            identifier,
         },
         unit: OctetView::of(LONGEST),
     };
-    Ok(data.write(alloc)?)
+    is_longest(data.write(alloc))
 }
 
-fn is_data(octets: &[u8]) -> bool {
-    match Cp::read(octets) {
-        Ok(Cp::DataUnit { .. }) => true,
-        _ => false,
-    }
-}
-
+// A cut of a frame is truncated, and nothing else.
 #[test]
-fn frames_are_written_as_they_were_read(rt: HostRuntime) -> Result<(), Fail> {
-    // Frames are written.
-    for octets in FRAMES {
-        holds(is_written_alike(rt.alloc(), octets)?, "a frame")?;
+fn frames_are_read_and_written(rt: HostRuntime) -> Result<(), Fail> {
+    for (octets, wanted) in WORDS {
+        holds(word(octets) == *wanted, wanted)?;
     }
-    // The greatest frame is written.
-    let written = longest(rt.alloc())?;
-    holds(
-        are_parts(written.as_slice(), &[&[0xE9, 0x01, 0xF8], LONGEST]),
-        "a frame",
-    )?;
-    holds(
-        written.len() == 251 && is_data(written.as_slice()),
-        "CP-DATA",
-    )
+    for len in 0..39 {
+        holds(word(&FRAME[..len]) == "P1", "a front")?;
+    }
+    for octets in FRAMES {
+        holds(is_written_alike(rt.alloc(), octets), "a frame")?;
+    }
+    holds(longest_is_written(rt.alloc()), "the longest frame")
 }
 
 // The number of the identifier after that one.
@@ -124,35 +115,45 @@ const NEXT: &[(u8, Option<u8>)] = &[(0, Some(1)), (6, Some(0)), (7, None)];
 
 const BACK: &[(u8, Option<u8>)] = &[(0x09, Some(0x89)), (0xE9, Some(0x69)), (0xF9, None)];
 
+const CAUSES: &[(u8, CpCause, &str)] = &[
+    (81, CpCause::InvalidTransactionIdentifier, "cause 81"),
+    (18, CpCause::Other(18), "cause 18"),
+    (111, CpCause::ProtocolErrorUnspecified, "cause 111"),
+];
+
+const TYPES: &[(u8, Option<MessageType>, &str)] = &[
+    (0x10, Some(MessageType::Error), "CP-ERROR"),
+    (0x04, Some(MessageType::Ack), "CP-ACK"),
+    (0x02, None, "no type"),
+];
+
+const REFUSALS: &[(LinkError, Option<&str>, &str)] = &[
+    (LinkError::Busy, Some("L1"), "busy"),
+    (LinkError::NothingToAnswer, Some("L2"), "nothing to answer"),
+    (LinkError::NoMemory, None, "no memory"),
+];
+
 #[test]
 fn causes_types_and_transactions_have_their_octets() -> Result<(), Fail> {
-    // Causes have their octets.
-    holds(
-        CpCause::of(81) == CpCause::InvalidTransactionIdentifier,
-        "81",
-    )?;
-    holds(CpCause::of(18) == CpCause::Other(18), "18")?;
-    holds(CpCause::ProtocolErrorUnspecified.octet() == 111, "111")?;
-    // Message types have their octets.
-    holds(
-        MessageType::of(0x10) == Some(MessageType::Error),
-        "CP-ERROR",
-    )?;
-    holds(MessageType::of(0x02).is_none(), "no type")?;
+    for (octet, cause, name) in CAUSES {
+        holds(
+            CpCause::of(*octet) == *cause && cause.octet() == *octet,
+            name,
+        )?;
+    }
+    for (octet, kind, name) in TYPES {
+        holds(MessageType::of(*octet) == *kind, name)?;
+    }
     holds(MessageType::Ack.octet() == 0x04, "CP-ACK")?;
-    // Refusals have codes.
-    holds(is_code(LinkError::Busy.code(), "L1"), "busy")?;
-    holds(
-        is_code(LinkError::NothingToAnswer.code(), "L2"),
-        "nothing to answer",
-    )?;
-    holds(LinkError::NoMemory.code().is_none(), "no memory")?;
-    // Identifiers go around.
+    for (refusal, code, name) in REFUSALS {
+        holds(refusal.code() == *code, name)?;
+    }
+    holds(CpFault::Truncated.code() == "P1", "a code")?;
+    // Identifiers go around, and flags are turned.
     for (number, next) in NEXT {
         holds(number_after(*number) == *next, "an identifier")?;
     }
     holds(TransactionIdentifier::first().number() == 0, "the first")?;
-    // Flags are turned.
     for (octet, back) in BACK {
         holds(octet_back(*octet) == *back, "a transaction")?;
     }

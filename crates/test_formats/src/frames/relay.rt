@@ -3,7 +3,7 @@ use crate::examples::{DELIVER, SMMA, SUBMIT};
 use crate::rows::{are, holds, is_written};
 use sms_base::{OctetView, Octets};
 use sms_relay::{RelayFault, Rp, RpCause, read_down, read_up, write_down, write_up};
-use std::alloc::Global;
+use std::alloc::{AllocError, Global};
 use std::test::Fail;
 
 const CENTRE: &[u8] = b"\x91\x44\x77\x00\x09\x00\x00";
@@ -83,6 +83,13 @@ const UNITS: &[(&[u8], &str)] = &[
     (b"\x04\x01\x01\x80", "J4"),
 ];
 
+// The codes of causes.
+const CAUSES: &[(u8, RpCause, &str)] = &[
+    (97, RpCause::MessageTypeNonExistent, "cause 97"),
+    (11, RpCause::Reserved(11), "cause 11"),
+    (42, RpCause::Congestion, "cause 42"),
+];
+
 // A cut of RP-DATA is truncated, and nothing else.
 #[test]
 fn units_are_read() -> Result<(), Fail> {
@@ -94,58 +101,13 @@ fn units_are_read() -> Result<(), Fail> {
     }
     holds(word_down(b"\x03\x05") == "RP-ACK", "RP-ACK of a centre")?;
     holds(RelayFault::Truncated.code() == "J1", "a code")?;
-    holds(RpCause::of(97) == RpCause::MessageTypeNonExistent, "97")?;
-    holds(RpCause::of(11) == RpCause::Reserved(11), "11")?;
-    holds(RpCause::Congestion.number() == 42, "42")
-}
-
-fn data_down(alloc: Global) -> Result<Octets, Fail> {
-    let data = Rp::DataUnit {
-        reference: 0,
-        centre: OctetView::of(CENTRE),
-        unit: OctetView::of(DELIVER),
-    };
-    Ok(write_down(alloc, &data)?)
-}
-
-fn ack_down(alloc: Global) -> Result<Octets, Fail> {
-    let ack = Rp::AckUnit {
-        reference: 3,
-        unit: Some(OctetView::of(REPORT)),
-    };
-    Ok(write_down(alloc, &ack)?)
-}
-
-fn error_down(alloc: Global) -> Result<Octets, Fail> {
-    let error = Rp::ErrorUnit {
-        reference: 3,
-        cause: RpCause::ShortMessageTransferRejected,
-        unit: Some(OctetView::of(REFUSAL)),
-    };
-    Ok(write_down(alloc, &error)?)
-}
-
-fn smma_up(alloc: Global) -> Result<Octets, Fail> {
-    Ok(write_up(alloc, &Rp::Smma { reference: 5 })?)
-}
-
-fn data_up(alloc: Global) -> Result<Octets, Fail> {
-    let data = Rp::DataUnit {
-        reference: 3,
-        centre: OctetView::of(CENTRE),
-        unit: OctetView::of(SUBMIT),
-    };
-    Ok(write_up(alloc, &data)?)
-}
-
-#[test]
-fn units_are_written(rt: HostRuntime) -> Result<(), Fail> {
-    let alloc = rt.alloc();
-    is_written(data_down(alloc)?, &[DATA_DOWN], "RP-DATA of a centre")?;
-    is_written(ack_down(alloc)?, &[ACK_DOWN], "RP-ACK of a centre")?;
-    is_written(error_down(alloc)?, &[ERROR_DOWN], "RP-ERROR of a centre")?;
-    is_written(smma_up(alloc)?, &[SMMA], "RP-SMMA")?;
-    is_written(data_up(alloc)?, &[DATA_UP], "RP-DATA of a handset")
+    for (number, cause, name) in CAUSES {
+        holds(
+            RpCause::of(*number) == *cause && cause.number() == *number,
+            name,
+        )?;
+    }
+    Ok(())
 }
 
 // The longest address of a centre: a type octet and 20 digits.
@@ -156,77 +118,156 @@ const LONGEST_CENTRE: [u8; 11] = [
 // The longest TPDU that a unit has room for.
 const LONGEST: [u8; 255] = [0x5A; 255];
 
-fn longest_data_up(alloc: Global) -> Result<Octets, Fail> {
-    let data = Rp::DataUnit {
-        reference: 255,
-        centre: OctetView::of(&LONGEST_CENTRE),
-        unit: OctetView::of(&LONGEST),
-    };
-    Ok(write_up(alloc, &data)?)
+// A unit of a centre. The longest have the longest parts that a unit has room for.
+#[derive(Clone, Copy)]
+enum Down {
+    Data,
+    Ack,
+    Error,
+    LongestData,
+    LongestError,
 }
 
-fn longest_data_down(alloc: Global) -> Result<Octets, Fail> {
-    let data = Rp::DataUnit {
-        reference: 255,
-        centre: OctetView::of(&LONGEST_CENTRE),
-        unit: OctetView::of(&LONGEST),
-    };
-    Ok(write_down(alloc, &data)?)
+fn written_down(alloc: Global, unit: Down) -> Result<Octets, AllocError> {
+    match unit {
+        Down::Data => write_down(
+            alloc,
+            &Rp::DataUnit {
+                reference: 0,
+                centre: OctetView::of(CENTRE),
+                unit: OctetView::of(DELIVER),
+            },
+        ),
+        Down::Ack => write_down(
+            alloc,
+            &Rp::AckUnit {
+                reference: 3,
+                unit: Some(OctetView::of(REPORT)),
+            },
+        ),
+        Down::Error => write_down(
+            alloc,
+            &Rp::ErrorUnit {
+                reference: 3,
+                cause: RpCause::ShortMessageTransferRejected,
+                unit: Some(OctetView::of(REFUSAL)),
+            },
+        ),
+        Down::LongestData => write_down(
+            alloc,
+            &Rp::DataUnit {
+                reference: 255,
+                centre: OctetView::of(&LONGEST_CENTRE),
+                unit: OctetView::of(&LONGEST),
+            },
+        ),
+        Down::LongestError => write_down(
+            alloc,
+            &Rp::ErrorUnit {
+                reference: 255,
+                cause: RpCause::Interworking,
+                unit: Some(OctetView::of(&LONGEST)),
+            },
+        ),
+    }
 }
 
-fn longest_ack_up(alloc: Global) -> Result<Octets, Fail> {
-    let ack = Rp::AckUnit {
-        reference: 255,
-        unit: Some(OctetView::of(&LONGEST)),
-    };
-    Ok(write_up(alloc, &ack)?)
-}
-
-fn longest_error_down(alloc: Global) -> Result<Octets, Fail> {
-    let error = Rp::ErrorUnit {
-        reference: 255,
-        cause: RpCause::Interworking,
-        unit: Some(OctetView::of(&LONGEST)),
-    };
-    Ok(write_down(alloc, &error)?)
-}
-
-#[test]
-fn the_greatest_units_are_written(rt: HostRuntime) -> Result<(), Fail> {
-    let alloc = rt.alloc();
-    is_written(
-        longest_data_up(alloc)?,
-        &[
-            &[0x00, 0xFF, 0x00, 0x0B],
-            &LONGEST_CENTRE,
-            &[0xFF],
-            &LONGEST,
-        ],
-        "RP-DATA of a handset",
-    )?;
-    is_written(
-        longest_data_down(alloc)?,
+const DOWN: &[(Down, &[&[u8]], &str)] = &[
+    (Down::Data, &[DATA_DOWN], "RP-DATA of a centre"),
+    (Down::Ack, &[ACK_DOWN], "RP-ACK of a centre"),
+    (Down::Error, &[ERROR_DOWN], "RP-ERROR of a centre"),
+    (
+        Down::LongestData,
         &[
             &[0x01, 0xFF, 0x0B],
             &LONGEST_CENTRE,
             &[0x00, 0xFF],
             &LONGEST,
         ],
-        "RP-DATA of a centre",
-    )?;
-    is_written(
-        longest_ack_up(alloc)?,
-        &[&[0x02, 0xFF, 0x41, 0xFF], &LONGEST],
-        "RP-ACK",
-    )?;
-    is_written(
-        longest_error_down(alloc)?,
+        "the longest RP-DATA of a centre",
+    ),
+    (
+        Down::LongestError,
         &[&[0x05, 0xFF, 0x01, 0x7F, 0x41, 0xFF], &LONGEST],
-        "RP-ERROR",
-    )?;
-    let error = longest_error_down(alloc)?;
+        "the longest RP-ERROR",
+    ),
+];
+
+// A unit of a handset.
+#[derive(Clone, Copy)]
+enum Up {
+    Smma,
+    Data,
+    LongestData,
+    LongestAck,
+}
+
+fn written_up(alloc: Global, unit: Up) -> Result<Octets, AllocError> {
+    match unit {
+        Up::Smma => write_up(alloc, &Rp::Smma { reference: 5 }),
+        Up::Data => write_up(
+            alloc,
+            &Rp::DataUnit {
+                reference: 3,
+                centre: OctetView::of(CENTRE),
+                unit: OctetView::of(SUBMIT),
+            },
+        ),
+        Up::LongestData => write_up(
+            alloc,
+            &Rp::DataUnit {
+                reference: 255,
+                centre: OctetView::of(&LONGEST_CENTRE),
+                unit: OctetView::of(&LONGEST),
+            },
+        ),
+        Up::LongestAck => write_up(
+            alloc,
+            &Rp::AckUnit {
+                reference: 255,
+                unit: Some(OctetView::of(&LONGEST)),
+            },
+        ),
+    }
+}
+
+const UP: &[(Up, &[&[u8]], &str)] = &[
+    (Up::Smma, &[SMMA], "RP-SMMA"),
+    (Up::Data, &[DATA_UP], "RP-DATA of a handset"),
+    (
+        Up::LongestData,
+        &[
+            &[0x00, 0xFF, 0x00, 0x0B],
+            &LONGEST_CENTRE,
+            &[0xFF],
+            &LONGEST,
+        ],
+        "the longest RP-DATA of a handset",
+    ),
+    (
+        Up::LongestAck,
+        &[&[0x02, 0xFF, 0x41, 0xFF], &LONGEST],
+        "the longest RP-ACK",
+    ),
+];
+
+fn longest_error_is_read(alloc: Global) -> bool {
+    match written_down(alloc, Down::LongestError) {
+        Ok(octets) => word_down(octets.as_slice()) == "RP-ERROR",
+        Err(_) => false,
+    }
+}
+
+#[test]
+fn units_are_written(rt: HostRuntime) -> Result<(), Fail> {
+    for (unit, parts, name) in DOWN {
+        holds(is_written(written_down(rt.alloc(), *unit), parts), name)?;
+    }
+    for (unit, parts, name) in UP {
+        holds(is_written(written_up(rt.alloc(), *unit), parts), name)?;
+    }
     holds(
-        word_down(error.as_slice()) == "RP-ERROR",
-        "RP-ERROR that is read",
+        longest_error_is_read(rt.alloc()),
+        "the longest RP-ERROR is read",
     )
 }

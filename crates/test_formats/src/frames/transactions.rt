@@ -1,8 +1,8 @@
-//! Transactions of one end of a link, over frames from outside: rows of calls, with the frames that each sends and what
-//! it passes up.
+//! Transactions of the two ends of a link: rows of calls, with the frames that each sends and what it passes up.
 use crate::examples::SMMA;
-use crate::rows::{are, are_parts, holds};
-use sms_base::Moment;
+use crate::rows::{are, are_parts, failed_at, holds, joined};
+use sms_base::lending::put;
+use sms_base::{Listed, Moment};
 use sms_control::{LinkError, Links, Out, Up};
 use std::alloc::Global;
 use std::test::Fail;
@@ -12,218 +12,41 @@ const T0: u64 = 1_709_251_198;
 
 const ACK: &[u8] = b"\x03\x05";
 
-const FAILED: &[u8] = b"failed";
+// The longest unit.
+const LONGEST: &[u8] = &[0x5A; 248];
 
-const NOTHING: &[u8] = b"";
+// The end of the link where a call is made.
+#[derive(Clone, Copy)]
+enum End {
+    Near,
+    Far,
+}
+
+// Octets, in parts that stand one behind another.
+type Parts = &'static [&'static [u8]];
 
 // A call, at so many seconds.
 #[derive(Clone, Copy)]
 enum Call {
     Begin(u64, &'static [u8]),
     Reply(u64, &'static [u8]),
-    Take(&'static [u8]),
+    Take(Parts),
     Fire(u64),
+    // A copy of the end takes its place.
+    Copy,
 }
 
-type Row = (Call, &'static [&'static [u8]], &'static [u8]);
-
-fn at(seconds: u64) -> Result<Moment, Fail> {
-    Ok(Moment::from_seconds(T0)?.plus(seconds))
-}
-
-fn called(links: &mut Links, call: &Call) -> Result<Out, Fail> {
-    match call {
-        Call::Begin(seconds, unit) if !unit.is_empty() && unit.len() <= 248 => Ok(links.begin(
-            at(*seconds)?,
-            unit,
-        )?),
-        Call::Reply(seconds, unit) if !unit.is_empty() && unit.len() <= 248 => Ok(links.reply(
-            at(*seconds)?,
-            unit,
-        )?),
-        Call::Take(frame) => Ok(links.take(frame)?),
-        Call::Fire(seconds) => Ok(links.fire(at(*seconds)?)?),
-        Call::Begin(_, _) | Call::Reply(_, _) => Err(Fail::new("no unit")),
-    }
-}
-
-// What went up: the octets of a unit, a word for a failure, or nothing.
-fn up(out: &Out) -> &[u8] {
-    match &out.up {
-        Some(Up::Unit { unit, .. }) => unit.as_slice(),
-        Some(Up::Failed) => FAILED,
-        None => NOTHING,
-    }
-}
-
-// Whether these frames, and no others, are sent.
-fn sends(out: &Out, frames: &[&[u8]]) -> bool {
-    if out.frames.len() != frames.len() {
-        return false;
-    }
-    for (sent, frame) in out.frames.as_slice().iter().zip(frames) {
-        if !are(sent.as_slice(), frame) {
-            return false;
-        }
-    }
-    true
-}
-
-fn goes(links: &mut Links, row: &Row) -> Result<bool, Fail> {
-    let (call, frames, told) = row;
-    let out = called(links, call)?;
-    Ok(sends(&out, frames) && are(up(&out), told))
-}
-
-// Each row goes so, after those before it.
-fn all_go(links: &mut Links, rows: &[Row]) -> Result<(), Fail> {
-    for (index, row) in rows.iter().enumerate() {
-        if !goes(links, row)? {
-            return Err(Fail::new(index));
-        }
-    }
-    Ok(())
-}
-
-const REPEATED: &[Row] = &[
-    (Call::Begin(0, SMMA), &[b"\x09\x01\x02\x06\x05"], NOTHING),
-    (Call::Fire(9), &[], NOTHING),
-    (Call::Fire(10), &[b"\x09\x01\x02\x06\x05"], NOTHING),
-    (Call::Fire(20), &[b"\x09\x01\x02\x06\x05"], NOTHING),
-    (Call::Fire(30), &[], FAILED),
-    (Call::Begin(30, SMMA), &[b"\x19\x01\x02\x06\x05"], NOTHING),
-];
-
-// After a jump of the clock nothing is repeated.
-const JUMPED: &[Row] = &[
-    (Call::Begin(0, SMMA), &[b"\x09\x01\x02\x06\x05"], NOTHING),
-    (Call::Fire(40), &[], FAILED),
-];
-
-// An answer is taken once, remembered while the next one is awaited, and none of another identifier is taken.
-const ANSWERED: &[Row] = &[
-    (Call::Begin(0, SMMA), &[b"\x09\x01\x02\x06\x05"], NOTHING),
-    (Call::Take(b"\x89\x04"), &[], NOTHING),
-    (Call::Take(b"\x89\x01\x02\x03\x05"), &[b"\x09\x04"], ACK),
-    (Call::Take(b"\x89\x01\x02\x03\x05"), &[b"\x09\x04"], NOTHING),
-    (
-        Call::Take(b"\x89\x01\x02\x03\x06"),
-        &[b"\x09\x10\x51"],
-        NOTHING,
-    ),
-    (Call::Begin(0, SMMA), &[b"\x19\x01\x02\x06\x05"], NOTHING),
-    (Call::Take(b"\x89\x01\x02\x03\x05"), &[b"\x09\x04"], NOTHING),
-    (Call::Take(b"\x99\x10\x51"), &[], FAILED),
-];
-
-const OPENED: &[Row] = &[
-    (Call::Take(b"\x09\x01\x02\x06\x05"), &[b"\x89\x04"], SMMA),
-    (Call::Reply(0, ACK), &[b"\x89\x01\x02\x03\x05"], NOTHING),
-    (
-        Call::Take(b"\x09\x01\x02\x06\x05"),
-        &[b"\x89\x04", b"\x89\x01\x02\x03\x05"],
-        NOTHING,
-    ),
-    (Call::Take(b"\x09\x04"), &[], NOTHING),
-    (Call::Take(b"\x09\x01\x02\x06\x05"), &[b"\x89\x04"], NOTHING),
-];
-
-// What is refused where the rows have gone, if anything is.
+// What a call tells: nothing, a unit that goes up, or a failure; or the code of its refusal.
 #[derive(Clone, Copy)]
-enum Refused {
-    Begin,
-    Reply,
+enum Told {
     Nothing,
+    Unit(&'static [u8]),
+    Failed,
+    Refused(&'static str),
 }
 
-fn is_refused(links: &mut Links, refused: Refused) -> Result<bool, Fail> {
-    match refused {
-        Refused::Begin => Ok(matches!(links.begin(at(30)?, SMMA), Err(LinkError::Busy))),
-        Refused::Reply => Ok(matches!(links.reply(at(0)?, ACK), Err(LinkError::NothingToAnswer))),
-        Refused::Nothing => Ok(true),
-    }
-}
-
-const COURSES: &[Course] = &[
-    (
-        "a begun transaction is repeated and fails",
-        REPEATED,
-        Refused::Begin,
-        true,
-    ),
-    (
-        "a jump of the clock repeats nothing",
-        JUMPED,
-        Refused::Nothing,
-        false,
-    ),
-    ("an answer is taken once", ANSWERED, Refused::Nothing, false),
-    ("an opening is taken once", OPENED, Refused::Reply, false),
-];
-
-// Rows of a course, what is refused then, and whether a transaction is under way then.
-type Course = (&'static str, &'static [Row], Refused, bool);
-
-fn go(links: &mut Links, course: &Course) -> Result<(), Fail> {
-    let (name, rows, refused, is_busy) = course;
-    all_go(links, rows)?;
-    holds(is_refused(links, *refused)?, name)?;
-    holds(links.is_busy() == *is_busy && !links.awaits_reply(), name)
-}
-
-fn plays(alloc: Global, course: &Course) -> Result<(), Fail> {
-    let mut links = Links::new(alloc);
-    go(&mut links, course)
-}
-
-#[test]
-fn transactions_go_their_courses(rt: HostRuntime) -> Result<(), Fail> {
-    for course in COURSES {
-        plays(rt.alloc(), course)?;
-    }
-    Ok(())
-}
-
-// The longest unit.
-const LONGEST: &[u8] = &[0x5A; 248];
-
-// Whether one frame is sent: the octets, the length 248 and the longest unit.
-fn sends_longest(out: &Out, first: &[u8]) -> bool {
-    match out.frames.as_slice() {
-        [frame] => are_parts(frame.as_slice(), &[first, &[0xF8], LONGEST]),
-        _ => false,
-    }
-}
-
-// The other end takes the frame that was sent, and the longest unit goes up.
-fn passed(out: &Out, links: &mut Links) -> Result<bool, Fail> {
-    match out.frames.as_slice() {
-        [frame] => Ok(are(up(&links.take(frame.as_slice())?), LONGEST)),
-        _ => Ok(false),
-    }
-}
-
-// The call sends the longest unit behind these octets.
-fn calls_longest(links: &mut Links, call: &Call, first: &[u8]) -> Result<bool, Fail> {
-    let out = called(links, call)?;
-    Ok(sends_longest(&out, first))
-}
-
-// At that time it is sent again, and comes to the other end.
-fn comes_again(
-    links: &mut Links,
-    seconds: u64,
-    first: &[u8],
-    other: &mut Links,
-) -> Result<bool, Fail> {
-    let again = called(links, &Call::Fire(seconds))?;
-    Ok(sends_longest(&again, first) && passed(&again, other)?)
-}
-
-fn copy_comes_again(links: &Links, other: &mut Links) -> Result<bool, Fail> {
-    let mut copy = links.copy()?;
-    comes_again(&mut copy, 20, &[0x89, 0x01], other)
-}
+// A call at an end, the frames that it sends, and what it tells.
+type Row = (End, Call, &'static [Parts], Told);
 
 // Two ends of a link.
 #[derive(Drop)]
@@ -232,31 +55,222 @@ struct Ends {
     far: Links,
 }
 
+fn takes(links: &mut Links, alloc: Global, frame: Parts) -> Result<Out, LinkError> {
+    let octets = joined(alloc, frame)?;
+    Ok(links.take(octets.as_slice())?)
+}
+
+// A copy stands where the end stood.
+fn copies(links: &mut Links, alloc: Global) -> Result<Out, LinkError> {
+    let copy = links.copy()?;
+    put(links, copy);
+    Ok(Out {
+        frames: Listed::new(alloc),
+        up: None,
+    })
+}
+
+// A unit has 1 to 248 octets.
+fn called(links: &mut Links, alloc: Global, start: Moment, call: &Call) -> Result<Out, LinkError> {
+    match call {
+        Call::Begin(seconds, unit) if !unit.is_empty() && unit.len() <= 248 => {
+            links.begin(start.plus(*seconds), unit)
+        }
+        Call::Reply(seconds, unit) if !unit.is_empty() && unit.len() <= 248 => {
+            links.reply(start.plus(*seconds), unit)
+        }
+        Call::Begin(_, _) | Call::Reply(_, _) => Err(LinkError::NoMemory),
+        Call::Take(frame) => takes(links, alloc, frame),
+        Call::Fire(seconds) => Ok(links.fire(start.plus(*seconds))?),
+        Call::Copy => copies(links, alloc),
+    }
+}
+
+fn tells(up: &Option<Up>, told: &Told) -> bool {
+    match (up, told) {
+        (None, Told::Nothing) => true,
+        (Some(Up::Failed), Told::Failed) => true,
+        (Some(Up::Unit { unit, .. }), Told::Unit(wanted)) => are(unit.as_slice(), wanted),
+        _ => false,
+    }
+}
+
+fn is_refused(refusal: LinkError, told: &Told) -> bool {
+    match told {
+        Told::Refused(code) => refusal.code() == Some(*code),
+        _ => false,
+    }
+}
+
+// Whether these frames, and no others, are sent.
+fn sends(out: &Out, frames: &[Parts]) -> bool {
+    if out.frames.len() != frames.len() {
+        return false;
+    }
+    for (sent, frame) in out.frames.as_slice().iter().zip(frames) {
+        if !are_parts(sent.as_slice(), frame) {
+            return false;
+        }
+    }
+    true
+}
+
+fn goes(ends: &mut Ends, alloc: Global, start: Moment, row: &Row) -> bool {
+    let (end, call, frames, told) = row;
+    let links = match end {
+        End::Near => &mut ends.near,
+        End::Far => &mut ends.far,
+    };
+    match called(links, alloc, start, call) {
+        Ok(out) => sends(&out, frames) && tells(&out.up, told),
+        Err(refusal) => frames.is_empty() && is_refused(refusal, told),
+    }
+}
+
+// SMMA of the first transaction and of the second, and the answer of the first.
+const BEGUN: Parts = &[b"\x09\x01\x02\x06\x05"];
+
+const BEGUN_AGAIN: Parts = &[b"\x19\x01\x02\x06\x05"];
+
+const ANSWER: Parts = &[b"\x89\x01\x02\x03\x05"];
+
+// CP-ACK of the first transaction, of each end.
+const NEAR_ACK: Parts = &[b"\x09\x04"];
+
+const FAR_ACK: Parts = &[b"\x89\x04"];
+
+const REPEATED: &[Row] = &[
+    (End::Near, Call::Begin(0, SMMA), &[BEGUN], Told::Nothing),
+    (End::Near, Call::Fire(9), &[], Told::Nothing),
+    (End::Near, Call::Fire(10), &[BEGUN], Told::Nothing),
+    (End::Near, Call::Fire(20), &[BEGUN], Told::Nothing),
+    (End::Near, Call::Fire(30), &[], Told::Failed),
+    (
+        End::Near,
+        Call::Begin(30, SMMA),
+        &[BEGUN_AGAIN],
+        Told::Nothing,
+    ),
+    (End::Near, Call::Begin(30, SMMA), &[], Told::Refused("L1")),
+];
+
+// After a jump of the clock nothing is repeated.
+const JUMPED: &[Row] = &[
+    (End::Near, Call::Begin(0, SMMA), &[BEGUN], Told::Nothing),
+    (End::Near, Call::Fire(40), &[], Told::Failed),
+];
+
+// An answer is taken once, remembered while the next one is awaited, and none of another identifier is taken.
+const ANSWERED: &[Row] = &[
+    (End::Near, Call::Begin(0, SMMA), &[BEGUN], Told::Nothing),
+    (End::Near, Call::Take(FAR_ACK), &[], Told::Nothing),
+    (End::Near, Call::Take(ANSWER), &[NEAR_ACK], Told::Unit(ACK)),
+    (End::Near, Call::Take(ANSWER), &[NEAR_ACK], Told::Nothing),
+    (
+        End::Near,
+        Call::Take(&[b"\x89\x01\x02\x03\x06"]),
+        &[&[b"\x09\x10\x51"]],
+        Told::Nothing,
+    ),
+    (
+        End::Near,
+        Call::Begin(0, SMMA),
+        &[BEGUN_AGAIN],
+        Told::Nothing,
+    ),
+    (End::Near, Call::Take(ANSWER), &[NEAR_ACK], Told::Nothing),
+    (End::Near, Call::Take(&[b"\x99\x10\x51"]), &[], Told::Failed),
+];
+
+const OPENED: &[Row] = &[
+    (End::Far, Call::Take(BEGUN), &[FAR_ACK], Told::Unit(SMMA)),
+    (End::Far, Call::Reply(0, ACK), &[ANSWER], Told::Nothing),
+    (
+        End::Far,
+        Call::Take(BEGUN),
+        &[FAR_ACK, ANSWER],
+        Told::Nothing,
+    ),
+    (End::Far, Call::Take(NEAR_ACK), &[], Told::Nothing),
+    (End::Far, Call::Take(BEGUN), &[FAR_ACK], Told::Nothing),
+    (End::Far, Call::Reply(0, ACK), &[], Told::Refused("L2")),
+];
+
+// CP-DATA of the longest unit.
+const LONG_BEGUN: Parts = &[b"\x09\x01\xF8", LONGEST];
+
+const LONG_ANSWER: Parts = &[b"\x89\x01\xF8", LONGEST];
+
 // The longest unit is sent, lost, and sent again; so is the longest answer, by a copy of the end that gave it.
-fn goes_both_ways(ends: &mut Ends) -> Result<(), Fail> {
+const LONG: &[Row] = &[
+    (
+        End::Near,
+        Call::Begin(0, LONGEST),
+        &[LONG_BEGUN],
+        Told::Nothing,
+    ),
+    (End::Near, Call::Fire(10), &[LONG_BEGUN], Told::Nothing),
+    (
+        End::Far,
+        Call::Take(LONG_BEGUN),
+        &[FAR_ACK],
+        Told::Unit(LONGEST),
+    ),
+    (
+        End::Far,
+        Call::Reply(10, LONGEST),
+        &[LONG_ANSWER],
+        Told::Nothing,
+    ),
+    (End::Far, Call::Copy, &[], Told::Nothing),
+    (End::Far, Call::Fire(20), &[LONG_ANSWER], Told::Nothing),
+    (
+        End::Near,
+        Call::Take(LONG_ANSWER),
+        &[NEAR_ACK],
+        Told::Unit(LONGEST),
+    ),
+];
+
+// Rows of a course, and whether the near end has a transaction under way then.
+type Course = (&'static str, &'static [Row], bool);
+
+const COURSES: &[Course] = &[
+    ("a begun transaction is repeated and fails", REPEATED, true),
+    ("a jump of the clock repeats nothing", JUMPED, false),
+    ("an answer is taken once", ANSWERED, false),
+    ("an opening is taken once", OPENED, false),
+    ("the longest unit goes both ways", LONG, false),
+];
+
+// Neither end has a reply to give then.
+fn go(ends: &mut Ends, alloc: Global, start: Moment, course: &Course) -> Result<(), Fail> {
+    let (name, rows, is_busy) = course;
+    for (at, row) in rows.iter().enumerate() {
+        if !goes(ends, alloc, start, row) {
+            return Err(failed_at(name, at));
+        }
+    }
+    let is_busy_so = ends.near.is_busy() == *is_busy && !ends.far.is_busy();
     holds(
-        calls_longest(&mut ends.near, &Call::Begin(0, LONGEST), &[0x09, 0x01])?,
-        "a unit",
-    )?;
-    holds(
-        comes_again(&mut ends.near, 10, &[0x09, 0x01], &mut ends.far)?,
-        "the unit again",
-    )?;
-    holds(
-        calls_longest(&mut ends.far, &Call::Reply(10, LONGEST), &[0x89, 0x01])?,
-        "an answer",
-    )?;
-    holds(
-        copy_comes_again(&ends.far, &mut ends.near)?,
-        "the answer again",
+        is_busy_so && !ends.near.awaits_reply() && !ends.far.awaits_reply(),
+        name,
     )
 }
 
-#[test]
-fn the_longest_unit_goes_both_ways(rt: HostRuntime) -> Result<(), Fail> {
+fn plays(alloc: Global, start: Moment, course: &Course) -> Result<(), Fail> {
     let mut ends = Ends {
-        near: Links::new(rt.alloc()),
-        far: Links::new(rt.alloc()),
+        near: Links::new(alloc),
+        far: Links::new(alloc),
     };
-    goes_both_ways(&mut ends)
+    go(&mut ends, alloc, start, course)
+}
+
+#[test]
+fn transactions_go_their_courses(rt: HostRuntime) -> Result<(), Fail> {
+    let start = Moment::from_seconds(T0)?;
+    for course in COURSES {
+        plays(rt.alloc(), start, course)?;
+    }
+    Ok(())
 }

@@ -5,48 +5,139 @@ use crate::pdus::exchanges::{
 use crate::pdus::vectors;
 use crate::rows::{are, holds, is_written};
 use smpp_pdu::{
-    BindResp, Body, CommandId, CommandStatus, Header, Message, MessageResp, Pdu, PduFault, TlvTag,
-    Tlvs,
+    Bind, BindResp, Body, CommandId, CommandStatus, Header, Message, MessageResp, Pdu, PduFault,
+    TlvTag, Tlvs,
 };
 use sms_base::{OctetView, Octets};
-use std::alloc::Global;
+use std::alloc::{AllocError, Global};
 use std::test::Fail;
 
 fn is(octets: &OctetView<'_>, wanted: &[u8]) -> bool {
     are(octets.as_slice(), wanted)
 }
 
-// Whether the octets are a PDU of that command and sequence number.
-fn is_command(octets: &[u8], command: CommandId, number: u32) -> bool {
+// Whether the octets are a PDU of that command, sequence number and status.
+fn is_command(octets: &[u8], command: CommandId, number: u32, status: CommandStatus) -> bool {
     match Pdu::read(octets) {
-        Ok(pdu) => pdu.body.command() == command && pdu.sequence_number == number,
+        Ok(pdu) => {
+            pdu.body.command() == command
+                && pdu.sequence_number == number
+                && CommandStatus::of(pdu.command_status) == Some(status)
+        }
         Err(_) => false,
     }
 }
 
-const COMMANDS: &[(&[u8], CommandId, u32)] = &[
-    (&vectors::BIND_RECEIVER, CommandId::BindReceiver, 1),
-    (&vectors::BIND_TRANSMITTER, CommandId::BindTransmitter, 2),
-    (&vectors::BIND_TRANSCEIVER, CommandId::BindTransceiver, 3),
-    (&vectors::SUBMIT_SM, CommandId::SubmitSm, 4),
-    (&vectors::DELIVER_SM, CommandId::DeliverSm, 7),
-    (&vectors::QUERY_SM, CommandId::QuerySm, 8),
-    (&vectors::CANCEL_SM, CommandId::CancelSm, 9),
-    (&vectors::ENQUIRE_LINK, CommandId::EnquireLink, 10),
-    (&vectors::UNBIND, CommandId::Unbind, 11),
+const COMMANDS: &[(&[u8], CommandId, u32, CommandStatus)] = &[
+    (
+        &vectors::BIND_RECEIVER,
+        CommandId::BindReceiver,
+        1,
+        CommandStatus::ESME_ROK,
+    ),
+    (
+        &vectors::BIND_TRANSMITTER,
+        CommandId::BindTransmitter,
+        2,
+        CommandStatus::ESME_ROK,
+    ),
+    (
+        &vectors::BIND_TRANSCEIVER,
+        CommandId::BindTransceiver,
+        3,
+        CommandStatus::ESME_ROK,
+    ),
+    (
+        &vectors::SUBMIT_SM,
+        CommandId::SubmitSm,
+        4,
+        CommandStatus::ESME_ROK,
+    ),
+    (
+        &vectors::DELIVER_SM,
+        CommandId::DeliverSm,
+        7,
+        CommandStatus::ESME_ROK,
+    ),
+    (
+        &vectors::QUERY_SM,
+        CommandId::QuerySm,
+        8,
+        CommandStatus::ESME_ROK,
+    ),
+    (
+        &vectors::CANCEL_SM,
+        CommandId::CancelSm,
+        9,
+        CommandStatus::ESME_ROK,
+    ),
+    (
+        &vectors::ENQUIRE_LINK,
+        CommandId::EnquireLink,
+        10,
+        CommandStatus::ESME_ROK,
+    ),
+    (
+        &vectors::UNBIND,
+        CommandId::Unbind,
+        11,
+        CommandStatus::ESME_ROK,
+    ),
     (
         &vectors::BIND_TRANSCEIVER_RESP,
         CommandId::BindTransceiverResp,
         3,
+        CommandStatus::ESME_ROK,
     ),
-    (&vectors::SUBMIT_SM_RESP, CommandId::SubmitSmResp, 4),
-    (&vectors::DELIVER_SM_RESP, CommandId::DeliverSmResp, 7),
-    (&vectors::QUERY_SM_RESP, CommandId::QuerySmResp, 8),
-    (&vectors::CANCEL_SM_RESP, CommandId::CancelSmResp, 9),
-    (&vectors::ENQUIRE_LINK_RESP, CommandId::EnquireLinkResp, 10),
-    (&vectors::UNBIND_RESP, CommandId::UnbindResp, 11),
-    (&vectors::GENERIC_NACK, CommandId::GenericNack, 12),
-    (&ENQUIRE, CommandId::EnquireLink, 1),
+    (
+        &vectors::BIND_TRANSCEIVER_RESP_REFUSED,
+        CommandId::BindTransceiverResp,
+        3,
+        CommandStatus::ESME_RINVPASWD,
+    ),
+    (
+        &vectors::SUBMIT_SM_RESP,
+        CommandId::SubmitSmResp,
+        4,
+        CommandStatus::ESME_ROK,
+    ),
+    (
+        &vectors::DELIVER_SM_RESP,
+        CommandId::DeliverSmResp,
+        7,
+        CommandStatus::ESME_ROK,
+    ),
+    (
+        &vectors::QUERY_SM_RESP,
+        CommandId::QuerySmResp,
+        8,
+        CommandStatus::ESME_ROK,
+    ),
+    (
+        &vectors::CANCEL_SM_RESP,
+        CommandId::CancelSmResp,
+        9,
+        CommandStatus::ESME_RCANCELFAIL,
+    ),
+    (
+        &vectors::ENQUIRE_LINK_RESP,
+        CommandId::EnquireLinkResp,
+        10,
+        CommandStatus::ESME_ROK,
+    ),
+    (
+        &vectors::UNBIND_RESP,
+        CommandId::UnbindResp,
+        11,
+        CommandStatus::ESME_ROK,
+    ),
+    (
+        &vectors::GENERIC_NACK,
+        CommandId::GenericNack,
+        12,
+        CommandStatus::ESME_RINVCMDID,
+    ),
+    (&ENQUIRE, CommandId::EnquireLink, 1, CommandStatus::ESME_ROK),
 ];
 
 fn has_bad_length(octets: &[u8]) -> bool {
@@ -68,54 +159,11 @@ fn is_short_header(header: Option<Header>) -> bool {
     }
 }
 
-fn status_of(octets: &[u8]) -> Option<CommandStatus> {
-    match Pdu::read(octets) {
-        Ok(pdu) => CommandStatus::of(pdu.command_status),
-        Err(_) => None,
-    }
-}
-
-#[test]
-fn headers_and_commands_are_read() -> Result<(), Fail> {
-    for (octets, command, number) in COMMANDS {
-        holds(is_command(octets, *command, *number), "a command")?;
-    }
-    holds(has_bad_length(&SHORT_LENGTH), "a length of 15")?;
-    holds(is_short_header(Header::read(&SHORT_LENGTH)), "its header")?;
-    let status = status_of(&vectors::BIND_TRANSCEIVER_RESP_REFUSED);
-    holds(status == Some(CommandStatus::ESME_RINVPASWD), "a status")
-}
-
-// Whether the octets are a bind of app1 with the password secret, by version 3.4, and have this type and range.
-fn is_bind(octets: &[u8], system_type: &[u8], address_range: &[u8]) -> bool {
-    match Pdu::read(octets) {
-        Ok(
-            Pdu {
-                body: Body::BindReceiver(bind) | Body::BindTransceiver(bind),
-                ..
-            },
-        ) => {
-            is(&bind.system_id, b"app1")
-                && is(&bind.password, b"secret")
-                && is(&bind.system_type, system_type)
-                && bind.interface_version == 0x34
-                && is(&bind.address_range, address_range)
-        }
-        _ => false,
-    }
-}
-
-// A message that was submitted or delivered.
-fn message_of(octets: &[u8]) -> Result<Message<'_>, Fail> {
-    match Pdu::read(octets)?.body {
-        Body::SubmitSm(message) | Body::DeliverSm(message) => Ok(message),
-        _ => Err(Fail::new("no message")),
-    }
-}
-
-// What a message is.
+// What a PDU is.
 #[derive(Clone, Copy)]
 enum Which {
+    /// A bind of app1 with the password secret, by version 3.4, of this type and range.
+    Bind(&'static [u8], &'static [u8]),
     /// `hello`, whose end is to be told.
     Hello,
     /// `hello`, kept for a day.
@@ -125,6 +173,16 @@ enum Which {
     /// A payload with a reference number.
     Payload,
     Receipt,
+    /// An answer, or a question after the message 0000000001, as was written.
+    AsWritten,
+}
+
+fn is_bind(bind: &Bind<'_>, system_type: &[u8], address_range: &[u8]) -> bool {
+    is(&bind.system_id, b"app1")
+        && is(&bind.password, b"secret")
+        && is(&bind.system_type, system_type)
+        && bind.interface_version == 0x34
+        && is(&bind.address_range, address_range)
 }
 
 // Whether a parameter is there with these octets.
@@ -167,41 +225,12 @@ fn is_message(message: &Message<'_>, which: Which) -> bool {
                 && has(&message.tlvs.receipted_message_id, b"0000000001\0")
                 && has(&message.tlvs.message_state, &[2])
         }
+        Which::Bind(_, _) | Which::AsWritten => false,
     }
 }
 
-const MESSAGES: &[(&[u8], Which, &str)] = &[
-    (&SUBMIT, Which::Hello, "a submit_sm"),
-    (
-        &vectors::SUBMIT_SM,
-        Which::HelloForADay,
-        "a submit_sm of another",
-    ),
-    (&vectors::SUBMIT_SM_UDHI, Which::Part, "a part"),
-    (&vectors::SUBMIT_SM_PAYLOAD, Which::Payload, "a payload"),
-    (&vectors::DELIVER_SM, Which::Receipt, "a receipt"),
-];
-
-#[test]
-fn binds_and_messages_are_read() -> Result<(), Fail> {
-    holds(is_bind(&BIND, b"", b""), "a bind")?;
-    holds(
-        is_bind(&vectors::BIND_RECEIVER, b"VMA", b"4477009"),
-        "a bind of another",
-    )?;
-    for (octets, which, name) in MESSAGES {
-        let message = message_of(octets)?;
-        holds(is_message(&message, *which), name)?;
-    }
-    holds(TlvTag::MessageState.number() == 0x0427, "a tag")
-}
-
-// Whether the octets are an answer, or ask of the message 0000000001, as was written.
-fn is_as_written(octets: &[u8]) -> bool {
-    let Ok(pdu) = Pdu::read(octets) else {
-        return false;
-    };
-    match &pdu.body {
+fn is_as_written(body: &Body<'_>) -> bool {
+    match body {
         Body::BindTransceiverResp(Some(answer)) => is(&answer.system_id, b"smsc"),
         Body::SubmitSmResp(Some(answer)) => is(&answer.message_id, b"0000000001"),
         Body::DeliverSmResp(Some(answer)) => answer.message_id.as_slice().is_empty(),
@@ -214,67 +243,126 @@ fn is_as_written(octets: &[u8]) -> bool {
     }
 }
 
-const OTHERS: &[(&[u8], &str)] = &[
-    (&vectors::BIND_TRANSCEIVER_RESP, "a bind_transceiver_resp"),
-    (&vectors::SUBMIT_SM_RESP, "a submit_sm_resp"),
-    (&vectors::DELIVER_SM_RESP, "a deliver_sm_resp"),
-    (&vectors::QUERY_SM_RESP, "a query_sm_resp"),
-    (&vectors::QUERY_SM, "a query_sm"),
-    (&vectors::CANCEL_SM, "a cancel_sm"),
+fn is_body(body: &Body<'_>, which: Which) -> bool {
+    match (which, body) {
+        (
+            Which::Bind(system_type, address_range),
+            Body::BindReceiver(bind) | Body::BindTransceiver(bind),
+        ) => is_bind(bind, system_type, address_range),
+        (Which::AsWritten, _) => is_as_written(body),
+        (_, Body::SubmitSm(message) | Body::DeliverSm(message)) => is_message(message, which),
+        _ => false,
+    }
+}
+
+fn is_pdu(octets: &[u8], which: Which) -> bool {
+    match Pdu::read(octets) {
+        Ok(pdu) => is_body(&pdu.body, which),
+        Err(_) => false,
+    }
+}
+
+const PDUS: &[(&[u8], Which, &str)] = &[
+    (&BIND, Which::Bind(b"", b""), "a bind"),
+    (
+        &vectors::BIND_RECEIVER,
+        Which::Bind(b"VMA", b"4477009"),
+        "a bind of another",
+    ),
+    (&SUBMIT, Which::Hello, "a submit_sm"),
+    (
+        &vectors::SUBMIT_SM,
+        Which::HelloForADay,
+        "a submit_sm of another",
+    ),
+    (&vectors::SUBMIT_SM_UDHI, Which::Part, "a part"),
+    (&vectors::SUBMIT_SM_PAYLOAD, Which::Payload, "a payload"),
+    (&vectors::DELIVER_SM, Which::Receipt, "a receipt"),
+    (
+        &vectors::BIND_TRANSCEIVER_RESP,
+        Which::AsWritten,
+        "a bind_transceiver_resp",
+    ),
+    (
+        &vectors::SUBMIT_SM_RESP,
+        Which::AsWritten,
+        "a submit_sm_resp",
+    ),
+    (
+        &vectors::DELIVER_SM_RESP,
+        Which::AsWritten,
+        "a deliver_sm_resp",
+    ),
+    (&vectors::QUERY_SM_RESP, Which::AsWritten, "a query_sm_resp"),
+    (&vectors::QUERY_SM, Which::AsWritten, "a query_sm"),
+    (&vectors::CANCEL_SM, Which::AsWritten, "a cancel_sm"),
 ];
 
 #[test]
-fn answers_and_queries_are_read() -> Result<(), Fail> {
-    for (octets, name) in OTHERS {
-        holds(is_as_written(octets), name)?;
+fn pdus_are_read() -> Result<(), Fail> {
+    for (octets, command, number, status) in COMMANDS {
+        holds(is_command(octets, *command, *number, *status), "a command")?;
     }
-    Ok(())
+    for (octets, which, name) in PDUS {
+        holds(is_pdu(octets, *which), name)?;
+    }
+    holds(has_bad_length(&SHORT_LENGTH), "a length of 15")?;
+    holds(is_short_header(Header::read(&SHORT_LENGTH)), "its header")?;
+    holds(TlvTag::MessageState.number() == 0x0427, "a tag")
 }
 
-fn enquire_link_resp(alloc: Global) -> Result<Octets, Fail> {
-    let pdu = Pdu {
-        command_status: CommandStatus::ESME_ROK.number(),
-        sequence_number: 1,
-        body: Body::EnquireLinkResp,
-    };
-    Ok(pdu.write(alloc)?)
+// An answer that is written.
+#[derive(Clone, Copy)]
+enum Answer {
+    EnquireLink,
+    Bind,
+    Submit,
 }
 
-fn bind_resp(alloc: Global) -> Result<Octets, Fail> {
-    let pdu = Pdu {
-        command_status: 0,
-        sequence_number: 1,
-        body: Body::BindTransceiverResp(Some(BindResp {
-            system_id: OctetView::of(b"smsc"),
-            tlvs: Tlvs::none(),
-        })),
-    };
-    Ok(pdu.write(alloc)?)
+fn written(alloc: Global, answer: Answer) -> Result<Octets, AllocError> {
+    match answer {
+        Answer::EnquireLink => {
+            let pdu = Pdu {
+                command_status: CommandStatus::ESME_ROK.number(),
+                sequence_number: 1,
+                body: Body::EnquireLinkResp,
+            };
+            pdu.write(alloc)
+        }
+        Answer::Bind => {
+            let pdu = Pdu {
+                command_status: 0,
+                sequence_number: 1,
+                body: Body::BindTransceiverResp(Some(BindResp {
+                    system_id: OctetView::of(b"smsc"),
+                    tlvs: Tlvs::none(),
+                })),
+            };
+            pdu.write(alloc)
+        }
+        Answer::Submit => {
+            let pdu = Pdu {
+                command_status: 0,
+                sequence_number: 2,
+                body: Body::SubmitSmResp(Some(MessageResp {
+                    message_id: OctetView::of(b"0000000001"),
+                })),
+            };
+            pdu.write(alloc)
+        }
+    }
 }
 
-fn submit_resp(alloc: Global) -> Result<Octets, Fail> {
-    let pdu = Pdu {
-        command_status: 0,
-        sequence_number: 2,
-        body: Body::SubmitSmResp(Some(MessageResp {
-            message_id: OctetView::of(b"0000000001"),
-        })),
-    };
-    Ok(pdu.write(alloc)?)
-}
+const ANSWERS: &[(Answer, &[u8], &str)] = &[
+    (Answer::EnquireLink, &ENQUIRE_ANSWER, "an enquire_link_resp"),
+    (Answer::Bind, &BIND_ANSWER, "a bind_transceiver_resp"),
+    (Answer::Submit, &SUBMIT_ANSWER, "a submit_sm_resp"),
+];
 
 #[test]
 fn answers_are_written(rt: HostRuntime) -> Result<(), Fail> {
-    let alloc = rt.alloc();
-    is_written(
-        enquire_link_resp(alloc)?,
-        &[&ENQUIRE_ANSWER],
-        "an enquire_link_resp",
-    )?;
-    is_written(
-        bind_resp(alloc)?,
-        &[&BIND_ANSWER],
-        "a bind_transceiver_resp",
-    )?;
-    is_written(submit_resp(alloc)?, &[&SUBMIT_ANSWER], "a submit_sm_resp")
+    for (answer, octets, name) in ANSWERS {
+        holds(is_written(written(rt.alloc(), *answer), &[*octets]), name)?;
+    }
+    Ok(())
 }

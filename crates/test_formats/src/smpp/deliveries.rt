@@ -1,14 +1,12 @@
 //! Each deliver_sm that is sent, and its answer.
-use crate::rows::{holds, is_code};
 use crate::smpp::exchanges::{
     BIND, BIND_ANSWER, BIND_RECEIVER, BIND_TRANSMITTER, DELIVERED_4, RECEIVER_ANSWER,
     SUBMIT_HEADER, SUBMIT_NOT_BOUND, TRANSMITTER_ANSWER,
 };
-use crate::smpp::sessions::{Course, Given, Step, plays};
+use crate::smpp::sessions::{Course, Given, Step};
 use smpp_session::DeliverFault;
-use std::test::Fail;
 
-const COURSES: &[Course] = &[
+pub(crate) const DELIVERIES: &[Course] = &[
     // The deliver_sm of number 4 is accepted, and there is room for one more.
     (
         "ten are delivered",
@@ -46,11 +44,3 @@ const COURSES: &[Course] = &[
         ],
     ),
 ];
-
-#[test]
-fn messages_are_delivered_to_receivers_alone(rt: HostRuntime) -> Result<(), Fail> {
-    for course in COURSES {
-        plays(rt.alloc(), course)?;
-    }
-    holds(is_code(DeliverFault::NotBound.code(), "N2"), "its code")
-}

@@ -4,16 +4,15 @@ use crate::smpp::exchanges::{
     LENGTH_REFUSED, OWN_UNBIND, SHORT_LENGTH, SUBMIT, SUBMIT_AND_UNBIND_ANSWERS, SUBMIT_ANSWER,
     SUBMIT_REFUSED, UNBIND, UNBIND_ANSWER, UNBIND_REFUSED,
 };
-use crate::smpp::sessions::{Course, Given, Step, plays};
+use crate::smpp::sessions::{Course, Given, Reply, Step};
 use smpp_pdu::CommandStatus;
 use smpp_session::SessionState;
-use std::test::Fail;
 
 const BINDS: Step = Step::Feeds(&BIND, Given::Bind(&BIND_ANSWER));
 
 const SUBMITS: Step = Step::Feeds(&SUBMIT, Given::Request(0));
 
-const COURSES: &[Course] = &[
+pub(crate) const ENDS: &[Course] = &[
     (
         "an unbind is answered at once where nothing is owed",
         &[
@@ -38,7 +37,7 @@ const COURSES: &[Course] = &[
             ),
             Step::Feeds(&UNBIND, Given::Answer(&UNBIND_REFUSED)),
             Step::Feeds(&LEFT, Given::Nothing),
-            Step::Answers(&SUBMIT_AND_UNBIND_ANSWERS),
+            Step::Answers(Reply::Submitted, Some(&SUBMIT_AND_UNBIND_ANSWERS)),
             Step::Is(SessionState::Closed),
         ],
     ),
@@ -49,9 +48,9 @@ const COURSES: &[Course] = &[
             SUBMITS,
             SUBMITS,
             Step::Feeds(&UNBIND, Given::Unbound),
-            Step::Answers(&SUBMIT_ANSWER),
+            Step::Answers(Reply::Submitted, Some(&SUBMIT_ANSWER)),
             Step::Is(SessionState::Finishing),
-            Step::Answers(&SUBMIT_AND_UNBIND_ANSWERS),
+            Step::Answers(Reply::Submitted, Some(&SUBMIT_AND_UNBIND_ANSWERS)),
             Step::Is(SessionState::Closed),
         ],
     ),
@@ -76,7 +75,7 @@ const COURSES: &[Course] = &[
             Step::Unbinds(&OWN_UNBIND),
             Step::Feeds(&LEFT, Given::Unbound),
             Step::Is(SessionState::Finishing),
-            Step::Answers(&SUBMIT_ANSWER),
+            Step::Answers(Reply::Submitted, Some(&SUBMIT_ANSWER)),
             Step::Is(SessionState::Closed),
         ],
     ),
@@ -87,7 +86,7 @@ const COURSES: &[Course] = &[
             SUBMITS,
             Step::Unbinds(&OWN_UNBIND),
             Step::Feeds(&UNBIND, Given::Unbound),
-            Step::Answers(&SUBMIT_AND_UNBIND_ANSWERS),
+            Step::Answers(Reply::Submitted, Some(&SUBMIT_AND_UNBIND_ANSWERS)),
             Step::Is(SessionState::Closed),
         ],
     ),
@@ -99,7 +98,7 @@ const COURSES: &[Course] = &[
             Step::Feeds(&SHORT_LENGTH, Given::Answer(&LENGTH_REFUSED)),
             Step::Is(SessionState::Broken),
             Step::Feeds(&ENQUIRE, Given::Nothing),
-            Step::Answers(&SUBMIT_ANSWER),
+            Step::Answers(Reply::Submitted, Some(&SUBMIT_ANSWER)),
             Step::Is(SessionState::Closed),
         ],
     ),
@@ -116,11 +115,3 @@ const COURSES: &[Course] = &[
         ],
     ),
 ];
-
-#[test]
-fn sessions_end_behind_their_answers(rt: HostRuntime) -> Result<(), Fail> {
-    for course in COURSES {
-        plays(rt.alloc(), course)?;
-    }
-    Ok(())
-}

@@ -9,7 +9,7 @@ use crate::smpp::sessions::{Given, feeds, is_bound, is_given, session};
 use smpp_pdu::{Body, Message, Pdu, SmeAddress, Tlvs};
 use smpp_session::Session;
 use sms_base::{OctetView, Octets};
-use std::alloc::Global;
+use std::alloc::{AllocError, Global};
 use std::test::Fail;
 
 // The octets of a payload that makes a message of 65,536 octets, header and all, where its other fields are empty.
@@ -81,13 +81,13 @@ fn submit<'a>(payload: &'a [u8]) -> Pdu<'a>
     }
 }
 
-// So many octets.
-fn octets_of(alloc: Global, count: usize) -> Result<Octets, Fail> {
-    let mut octets = Octets::new(alloc);
+// The octets, so many times.
+fn repeated(alloc: Global, octets: &[u8], count: usize) -> Result<Octets, AllocError> {
+    let mut all = Octets::new(alloc);
     for _ in 0..count {
-        octets.push(0x61)?;
+        all.append(octets)?;
     }
-    Ok(octets)
+    Ok(all)
 }
 
 // The longest payload that a message has room for.
@@ -121,85 +121,109 @@ fn payload_len(octets: &[u8]) -> usize {
     }
 }
 
-// The longest submit_sm.
-fn longest_submit(alloc: Global) -> Result<Octets, Fail> {
-    let payload = octets_of(alloc, GREATEST_PAYLOAD)?;
-    Ok(submit(longest(&payload)).write(alloc)?)
+fn longest_submit(alloc: Global) -> Result<Octets, AllocError> {
+    let payload = repeated(alloc, b"a", GREATEST_PAYLOAD)?;
+    submit(longest(&payload)).write(alloc)
 }
 
-#[test]
-fn longest_pdu_is_written_and_read(rt: HostRuntime) -> Result<(), Fail> {
-    let written = longest_submit(rt.alloc())?;
-    holds(written.len() == 65_536, "a submit_sm")?;
-    holds(
-        payload_len(written.as_slice()) == GREATEST_PAYLOAD,
-        "its payload",
-    )
-}
-
-fn are_silent(session: &mut Session, octets: &[u8]) -> Result<(), Fail> {
+fn are_silent(session: &mut Session, octets: &[u8]) -> bool {
     for octet in octets {
-        holds(feeds(session, &[*octet], &Given::Nothing)?, "no action")?;
+        if !feeds(session, &[*octet], &Given::Nothing) {
+            return false;
+        }
     }
-    Ok(())
-}
-
-// The octets come one by one, and with the last of them all are passed up.
-fn passes_up(session: &mut Session, octets: &[u8]) -> Result<(), Fail> {
-    holds(is_bound(session)?, "a bind")?;
-    let (front, last) = octets.split_at(octets.len().saturating_sub(1));
-    are_silent(session, front)?;
-    holds(gives_request(session, last, octets)?, "a submit_sm")
+    true
 }
 
 // The last octets give a submit_sm of all these.
-fn gives_request(session: &mut Session, last: &[u8], all: &[u8]) -> Result<bool, Fail> {
-    let given = session.feed(last)?;
-    Ok(is_given(&given.actions, all, &Given::Request(0)))
-}
-
-#[test]
-fn longest_pdu_is_passed_up_octet_by_octet(rt: HostRuntime) -> Result<(), Fail> {
-    let written = longest_submit(rt.alloc())?;
-    let mut session = session(rt.alloc())?;
-    passes_up(&mut session, written.as_slice())
-}
-
-// So many PDUs in a piece.
-fn many(alloc: Global, count: usize) -> Result<Octets, Fail> {
-    let mut stream = Octets::new(alloc);
-    for _ in 0..count {
-        stream.append(&SUBMIT_HEADER)?;
+fn gives_request(session: &mut Session, last: &[u8], all: &[u8]) -> bool {
+    match session.feed(last) {
+        Ok(given) => is_given(&given.actions, all, &Given::Request(0)),
+        Err(_) => false,
     }
-    Ok(stream)
 }
 
-fn answers_many(session: &mut Session, octets: &[u8]) -> Result<(), Fail> {
-    let given = session.feed(octets)?;
-    holds(given.actions.as_slice().len() == 5_000, "their answers")
+// The octets come one by one, and with the last of them all are passed up.
+fn passes_up(session: &mut Session, octets: &[u8]) -> bool {
+    let (front, last) = octets.split_at(octets.len().saturating_sub(1));
+    is_bound(session) && are_silent(session, front) && gives_request(session, last, octets)
 }
+
+fn answers_many(session: &mut Session, octets: &[u8]) -> bool {
+    match session.feed(octets) {
+        Ok(given) => given.actions.as_slice().len() == 5_000,
+        Err(_) => false,
+    }
+}
+
+fn delivers_longest(session: &mut Session, payload: &Octets) -> bool {
+    if !is_bound(session) {
+        return false;
+    }
+    match session.deliver(message(longest(payload))) {
+        Ok(sent) => sent.octets.len() == 65_536,
+        Err(_) => false,
+    }
+}
+
+// What is done at its greatest size.
+#[derive(Clone, Copy)]
+enum Case {
+    // The longest submit_sm is written and read.
+    Read,
+    // It is passed up, octet by octet.
+    PassedUp,
+    // Five thousand PDUs come in one piece.
+    Many,
+    // The longest message is delivered.
+    Delivered,
+}
+
+// The octets of a case.
+fn octets_of(alloc: Global, case: Case) -> Result<Octets, AllocError> {
+    match case {
+        Case::Read | Case::PassedUp => longest_submit(alloc),
+        Case::Many => repeated(alloc, &SUBMIT_HEADER, 5_000),
+        Case::Delivered => repeated(alloc, b"a", GREATEST_PAYLOAD),
+    }
+}
+
+fn goes(session: &mut Session, octets: &Octets, case: Case) -> bool {
+    match case {
+        Case::Read => {
+            octets.len() == 65_536 && payload_len(octets.as_slice()) == GREATEST_PAYLOAD
+        }
+        Case::PassedUp => passes_up(session, octets.as_slice()),
+        Case::Many => answers_many(session, octets.as_slice()),
+        Case::Delivered => delivers_longest(session, octets),
+    }
+}
+
+fn goes_in_session(alloc: Global, octets: &Octets, case: Case) -> bool {
+    match session(alloc) {
+        Ok(mut session) => goes(&mut session, octets, case),
+        Err(_) => false,
+    }
+}
+
+fn plays(alloc: Global, case: Case) -> bool {
+    match octets_of(alloc, case) {
+        Ok(octets) => goes_in_session(alloc, &octets, case),
+        Err(_) => false,
+    }
+}
+
+const CASES: &[(Case, &str)] = &[
+    (Case::Read, "the longest submit_sm"),
+    (Case::PassedUp, "the longest submit_sm, octet by octet"),
+    (Case::Many, "many PDUs in one piece"),
+    (Case::Delivered, "the longest message"),
+];
 
 #[test]
-fn many_pdus_come_in_one_piece(rt: HostRuntime) -> Result<(), Fail> {
-    let stream = many(rt.alloc(), 5_000)?;
-    let mut session = session(rt.alloc())?;
-    answers_many(&mut session, stream.as_slice())
-}
-
-// The octets of the longest message that is delivered.
-fn delivered_len(session: &mut Session, payload: &Octets) -> Result<usize, Fail> {
-    let sent = session.deliver(message(longest(payload)))?;
-    Ok(sent.octets.len())
-}
-
-fn delivers_longest(session: &mut Session, payload: &Octets) -> Result<(), Fail> {
-    holds(is_bound(session)?, "a bind")?;
-    holds(delivered_len(session, payload)? == 65_536, "a deliver_sm")
-}
-
-#[test]
-fn longest_message_is_delivered(rt: HostRuntime) -> Result<(), Fail> {
-    let payload = octets_of(rt.alloc(), GREATEST_PAYLOAD)?;
-    let mut session = session(rt.alloc())?;
-    delivers_longest(&mut session, &payload)
+fn calls_go_at_their_greatest_size(rt: HostRuntime) -> Result<(), Fail> {
+    for (case, name) in CASES {
+        holds(plays(rt.alloc(), *case), name)?;
+    }
+    Ok(())
 }

@@ -1,13 +1,11 @@
 //! Binds of an account of whose password a digest is kept.
-use crate::rows::holds;
 use crate::smpp::exchanges::{BIND, BIND_ANSWER};
-use crate::smpp::sessions::{Given, WRONG_BIND, WRONG_PASSWORD, feeds};
+use crate::smpp::sessions::{Course, Given, Step, WRONG_BIND, WRONG_PASSWORD};
 use smpp_pdu::CommandStatus;
 use smpp_session::{Account, Accounts, Password, Session};
 use sms_base::Octets;
-use std::alloc::Global;
+use std::alloc::{AllocError, Global};
 use std::sync::Arc;
-use std::test::Fail;
 
 // SHA-256 of `grainsecret`, by Python's hashlib.
 const DIGEST: [u8; 32] = [
@@ -16,7 +14,7 @@ const DIGEST: [u8; 32] = [
 ];
 
 // A session where app1 may bind, whose password is secret.
-fn salted(alloc: Global) -> Result<Session, Fail> {
+pub(crate) fn salted(alloc: Global) -> Result<Session, AllocError> {
     let name = Octets::copy_of(alloc, b"app1")?;
     let salt = Octets::copy_of(alloc, b"grain")?;
     let password = Password::Salted {
@@ -27,16 +25,13 @@ fn salted(alloc: Global) -> Result<Session, Fail> {
     Ok(Session::new(alloc, Arc::new(alloc, Accounts::from_vec(accounts))?))
 }
 
-#[test]
-fn a_salted_password_binds_and_no_other(rt: HostRuntime) -> Result<(), Fail> {
-    let mut session = salted(rt.alloc())?;
-    let refused = Given::BindRefused(&WRONG_PASSWORD, CommandStatus::ESME_RINVPASWD, b"app1");
-    holds(
-        feeds(&mut session, &WRONG_BIND, &refused)?,
-        "another password is refused",
-    )?;
-    holds(
-        feeds(&mut session, &BIND, &Given::Bind(&BIND_ANSWER))?,
-        "the password binds",
-    )
-}
+pub(crate) const SALTED: Course = (
+    "a salted password binds and no other",
+    &[
+        Step::Feeds(
+            &WRONG_BIND,
+            Given::BindRefused(&WRONG_PASSWORD, CommandStatus::ESME_RINVPASWD, b"app1"),
+        ),
+        Step::Feeds(&BIND, Given::Bind(&BIND_ANSWER)),
+    ],
+);

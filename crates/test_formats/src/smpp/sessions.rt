@@ -5,37 +5,40 @@ ghost use Rattle.smpp_pdu.specs.BodyGrammar.{IsQueryRespValue};
 ghost use Rattle.smpp_pdu.specs.Writing.{IsMessageRespValue};
 ghost use Rattle.smpp_session.specs.Calls.{IsCall};
 
-use crate::rows::{are, holds};
+use crate::rows::{are, failed_at, holds};
+use crate::smpp::deliveries::DELIVERIES;
+use crate::smpp::ends::ENDS;
 use crate::smpp::exchanges::{
     ALREADY_BOUND, BIND, BIND_ANSWER, ENQUIRE, ENQUIRE_ANSWER, LENGTH_REFUSED, LONG_LENGTH,
     LONG_LENGTH_REFUSED, NET_SMPP, QUERY_SM_RESP, SHORT_LENGTH, SUBMIT, SUBMIT_ANSWER,
     SUBMIT_CUT_SHORT, SUBMIT_HEADER, SUBMIT_NOT_BOUND,
 };
 use crate::smpp::limits::message;
+use crate::smpp::passwords::{SALTED, salted};
 use smpp_pdu::{CommandStatus, MessageResp, QuerySmResp};
 use smpp_session::{
     Account, Accounts, Action, Actions, Answer, Call, DeliverFault, FullAccounts, Password,
     Request, Session, SessionState, run,
 };
 use sms_base::{OctetView, Octets};
-use std::alloc::Global;
+use std::alloc::{AllocError, Global};
 use std::sync::Arc;
 use std::test::Fail;
 use std::thread;
 
-pub(crate) fn account(alloc: Global) -> Result<Account, Fail> {
+pub(crate) fn account(alloc: Global) -> Result<Account, AllocError> {
     let name = Octets::copy_of(alloc, b"app1")?;
     let password = Password::Plain(Octets::copy_of(alloc, b"secret")?);
     Ok(Account { name, password })
 }
 
 // One account, app1 with the password secret.
-pub(crate) fn accounts(alloc: Global) -> Result<Arc<Accounts, Global>, Fail> {
+pub(crate) fn accounts(alloc: Global) -> Result<Arc<Accounts, Global>, AllocError> {
     let accounts = vec![in alloc; account(alloc)?]?;
-    Ok(Arc::new(alloc, Accounts::from_vec(accounts))?)
+    Arc::new(alloc, Accounts::from_vec(accounts))
 }
 
-pub(crate) fn session(alloc: Global) -> Result<Session, Fail> {
+pub(crate) fn session(alloc: Global) -> Result<Session, AllocError> {
     let accounts = accounts(alloc)?;
     Ok(Session::new(alloc, accounts))
 }
@@ -94,14 +97,29 @@ fn is_refusal(action: &Action, wanted: CommandStatus, name: &[u8]) -> bool {
 }
 
 /// Whether the octets give that.
-pub(crate) fn feeds(session: &mut Session, octets: &[u8], given: &Given) -> Result<bool, Fail> {
-    let actual = session.feed(octets)?;
-    Ok(is_given(&actual.actions, octets, given))
+pub(crate) fn feeds(session: &mut Session, octets: &[u8], given: &Given) -> bool {
+    match session.feed(octets) {
+        Ok(actual) => is_given(&actual.actions, octets, given),
+        Err(_) => false,
+    }
 }
 
 /// A bind of app1.
-pub(crate) fn is_bound(session: &mut Session) -> Result<bool, Fail> {
+pub(crate) fn is_bound(session: &mut Session) -> bool {
     feeds(session, &BIND, &Given::Bind(&BIND_ANSWER))
+}
+
+/// What the centre answers.
+#[derive(Clone, Copy)]
+pub(crate) enum Reply {
+    /// The submit_sm of number 2.
+    Submitted,
+    /// The query_sm of number 8.
+    Queried,
+    /// The submit_sm of number 7 is refused, since nothing is bound.
+    NotBound,
+    /// A cancel_sm of number 2.
+    Cancelled,
 }
 
 /// A step of a course of a session.
@@ -110,6 +128,16 @@ pub(crate) enum Step {
     /// The account at place 0 is full, or not.
     IsFull(bool),
     Feeds(&'static [u8], Given),
+    /// An enquire_link that is cut behind so many octets gives nothing, and then its answer.
+    FeedsCut(usize),
+    /// The submit_sm with that priority_flag is passed up with that priority.
+    Submits(u8, u8),
+    /// The octets close the session, and whether a lost bind is told.
+    ClosesBy(&'static [u8], bool),
+    /// The session is closed, and whether that tells of a lost bind.
+    Closes(bool),
+    /// What Net::SMPP writes, in pieces of so many octets, gives actions of these letters.
+    InPieces(usize, &'static [u8]),
     /// Whether it is bound.
     IsBound(bool),
     /// A deliver_sm goes out under that number.
@@ -118,17 +146,80 @@ pub(crate) enum Step {
     Refuses(DeliverFault),
     /// A deliver_sm with a parameter of three octets has so many.
     DeliversSoMany(usize),
-    /// The submit_sm of number 2 is answered by these octets.
-    Answers(&'static [u8]),
+    /// The answer is these octets, if any.
+    Answers(Reply, Option<&'static [u8]>),
     /// The centre sends this unbind.
     Unbinds(&'static [u8]),
     /// The session is in that state.
     Is(SessionState),
 }
 
-fn delivers(session: &mut Session, number: u32) -> Result<bool, Fail> {
-    let sent = session.deliver(message(&[]))?;
-    Ok(sent.sequence_number == number)
+// An enquire_link in two pieces is answered with the second.
+fn feeds_cut(session: &mut Session, cut: usize) -> bool {
+    let (front, rest) = ENQUIRE.split_at(cut.min(16));
+    feeds(session, front, &Given::Nothing) && feeds(session, rest, &Given::Answer(&ENQUIRE_ANSWER))
+}
+
+// The priority_flag stands behind the header, an empty service_type, an empty source, a destination of 12 digits,
+// esm_class and protocol_id.
+fn submits(session: &mut Session, flag: u8, priority: u8) -> bool {
+    let mut submit = SUBMIT;
+    submit[37] = flag;
+    feeds(session, &submit, &Given::Request(priority))
+}
+
+fn closes_by(session: &mut Session, octets: &[u8], bind_lost: bool) -> bool {
+    match session.feed(octets) {
+        Ok(given) => given.bind_lost == bind_lost && session.state() == SessionState::Closed,
+        Err(_) => false,
+    }
+}
+
+// A letter for the kind of an action.
+fn letter(action: &Action) -> u8 {
+    match action {
+        Action::Send(_) => b's',
+        Action::Bound(_, _) => b'B',
+        Action::Submit(_, _) => b'S',
+        Action::Query(_) => b'Q',
+        Action::Cancel(_) => b'C',
+        Action::DeliverAnswered(_, _) => b'D',
+        Action::BindRefused(_, _) => b'R',
+        Action::Unbound => b'U',
+    }
+}
+
+// The letters behind those of what the piece gives, where it gives the first of them.
+fn letters_left<'a>(session: &mut Session, piece: &[u8], letters: &'a [u8]) -> Option<&'a [u8]> {
+    let Ok(given) = session.feed(piece) else {
+        return None;
+    };
+    let mut rest = letters;
+    for action in given.actions.as_slice() {
+        match rest {
+            [first, others @ ..] if *first == letter(action) => rest = others,
+            _ => return None,
+        }
+    }
+    Some(rest)
+}
+
+fn comes_in_pieces(session: &mut Session, piece: usize, letters: &[u8]) -> bool {
+    let mut rest = letters;
+    for front in NET_SMPP.chunks(piece.max(1)) {
+        match letters_left(session, front, rest) {
+            Some(left) => rest = left,
+            None => return false,
+        }
+    }
+    rest.is_empty()
+}
+
+fn delivers(session: &mut Session, number: u32) -> bool {
+    match session.deliver(message(&[])) {
+        Ok(sent) => sent.sequence_number == number,
+        Err(_) => false,
+    }
 }
 
 fn refuses(session: &mut Session, fault: DeliverFault) -> bool {
@@ -138,19 +229,57 @@ fn refuses(session: &mut Session, fault: DeliverFault) -> bool {
     }
 }
 
-fn delivers_so_many(session: &mut Session, count: usize) -> Result<bool, Fail> {
-    let sent = session.deliver(message(b"abc"))?;
-    Ok(sent.octets.as_slice().len() == count)
+fn delivers_so_many(session: &mut Session, count: usize) -> bool {
+    match session.deliver(message(b"abc")) {
+        Ok(sent) => sent.octets.as_slice().len() == count,
+        Err(_) => false,
+    }
 }
 
-fn answers_so(session: &mut Session, wanted: &[u8]) -> Result<bool, Fail> {
-    let answer = session.answer(2, Answer::Submitted(message_id()))?;
-    Ok(is(answer, wanted))
+fn message_id() -> MessageResp<'static>
+    ensures { IsMessageRespValue result }
+{
+    MessageResp {
+        message_id: OctetView::of(b"0000000001"),
+    }
 }
 
-fn unbinds(session: &mut Session, wanted: &[u8]) -> Result<bool, Fail> {
-    let unbind = session.unbind()?;
-    Ok(is(unbind, wanted))
+fn state_of_message() -> QuerySmResp<'static>
+    ensures { IsQueryRespValue result }
+{
+    QuerySmResp {
+        message_id: OctetView::of(b"0000000001"),
+        final_date: OctetView::of(b"240229235958000+"),
+        message_state: 2,
+        error_code: 0,
+    }
+}
+
+// Whether these octets go out, if any.
+fn is(sent: Result<Option<Octets>, AllocError>, wanted: Option<&[u8]>) -> bool {
+    match sent {
+        Ok(Some(octets)) => match wanted {
+            Some(wanted) => are(octets.as_slice(), wanted),
+            None => false,
+        },
+        Ok(None) => wanted.is_none(),
+        Err(_) => false,
+    }
+}
+
+fn answers(session: &mut Session, reply: Reply, wanted: Option<&[u8]>) -> bool {
+    match reply {
+        Reply::Submitted => is(session.answer(2, Answer::Submitted(message_id())), wanted),
+        Reply::Queried => is(
+            session.answer(8, Answer::Queried(state_of_message())),
+            wanted,
+        ),
+        Reply::NotBound => {
+            let not_bound = Answer::Refused(Request::Submit, CommandStatus::ESME_RINVBNDSTS);
+            is(session.answer(7, not_bound), wanted)
+        }
+        Reply::Cancelled => is(session.answer(2, Answer::Cancelled), wanted),
+    }
 }
 
 fn is_told(session: &mut Session, is_full: bool) -> bool {
@@ -162,17 +291,22 @@ fn is_told(session: &mut Session, is_full: bool) -> bool {
     full.contains(0) == is_full && !full.contains(1) && !full.contains(32)
 }
 
-fn goes(session: &mut Session, step: &Step) -> Result<bool, Fail> {
+fn goes(session: &mut Session, step: &Step) -> bool {
     match step {
-        Step::IsFull(is_full) => Ok(is_told(session, *is_full)),
-        Step::DeliversSoMany(count) => delivers_so_many(session, *count),
-        Step::Answers(wanted) => answers_so(session, wanted),
-        Step::Unbinds(wanted) => unbinds(session, wanted),
-        Step::Is(state) => Ok(session.state() == *state),
+        Step::IsFull(is_full) => is_told(session, *is_full),
         Step::Feeds(octets, given) => feeds(session, octets, given),
-        Step::IsBound(is_so) => Ok(session.state().is_bound() == *is_so),
+        Step::FeedsCut(cut) => feeds_cut(session, *cut),
+        Step::Submits(flag, priority) => submits(session, *flag, *priority),
+        Step::ClosesBy(octets, bind_lost) => closes_by(session, octets, *bind_lost),
+        Step::Closes(bind_lost) => session.close() == *bind_lost,
+        Step::InPieces(piece, letters) => comes_in_pieces(session, *piece, letters),
+        Step::IsBound(is_so) => session.state().is_bound() == *is_so,
         Step::Delivers(number) => delivers(session, *number),
-        Step::Refuses(fault) => Ok(refuses(session, *fault)),
+        Step::Refuses(fault) => refuses(session, *fault),
+        Step::DeliversSoMany(count) => delivers_so_many(session, *count),
+        Step::Answers(reply, wanted) => answers(session, *reply, *wanted),
+        Step::Unbinds(wanted) => is(session.unbind(), Some(wanted)),
+        Step::Is(state) => session.state() == *state,
     }
 }
 
@@ -182,39 +316,19 @@ pub(crate) type Course = (&'static str, &'static [Step]);
 fn go(session: &mut Session, course: &Course) -> Result<(), Fail> {
     let (name, steps) = course;
     for (at, step) in steps.iter().enumerate() {
-        if !goes(session, step)? {
-            return Err(Fail::new(format_args!("{name}: step {at}")));
+        if !goes(session, step) {
+            return Err(failed_at(name, at));
         }
     }
     Ok(())
 }
 
-/// Each step of the course goes so, in a new session.
-pub(crate) fn plays(alloc: Global, course: &Course) -> Result<(), Fail> {
-    let mut session = session(alloc)?;
-    go(&mut session, course)
-}
-
-// An enquire_link in two pieces is answered with the second.
-fn answers_in_pieces(session: &mut Session, cut: usize) -> Result<bool, Fail> {
-    let (front, rest) = ENQUIRE.split_at(cut.min(16));
-    Ok(
-        feeds(session, front, &Given::Nothing)?
-            && feeds(session, rest, &Given::Answer(&ENQUIRE_ANSWER))?,
-    )
-}
-
-fn is_answered_in_pieces(alloc: Global, cut: usize) -> Result<bool, Fail> {
-    let mut session = session(alloc)?;
-    answers_in_pieces(&mut session, cut)
-}
-
-#[test]
-fn enquire_cut_after_each_octet(rt: HostRuntime) -> Result<(), Fail> {
-    for cut in 0..16 {
-        holds(is_answered_in_pieces(rt.alloc(), cut)?, "two pieces")?;
+// Each step of the course goes so in the session, which is new.
+fn plays(session: Result<Session, AllocError>, course: &Course) -> Result<(), Fail> {
+    match session {
+        Ok(mut session) => go(&mut session, course),
+        Err(_) => Err(Fail::new("no session")),
     }
-    Ok(())
 }
 
 // A bind_transceiver without a body is cut short (2), and the session is still open.
@@ -268,9 +382,17 @@ const BIND_FAILED: [u8; 16] = [
     0x00, 0x00, 0x00, 0x10, 0x80, 0x00, 0x00, 0x09, 0x00, 0x00, 0x00, 0x0D, 0x00, 0x00, 0x00, 0x01,
 ];
 
+// A bind and a bad length in one piece.
+const BIND_AND_SHORT_LENGTH: [u8; 49] = [
+    0x00, 0x00, 0x00, 0x21, 0x00, 0x00, 0x00, 0x09, 0x00, 0x00, 0x00, 0x00, 0x00, 0x00, 0x00, 0x01,
+    0x61, 0x70, 0x70, 0x31, 0x00, 0x73, 0x65, 0x63, 0x72, 0x65, 0x74, 0x00, 0x00, 0x34, 0x00, 0x00,
+    0x00, 0x00, 0x00, 0x00, 0x0F, 0x00, 0x00, 0x00, 0x15, 0x00, 0x00, 0x00, 0x00, 0x00, 0x00, 0x00,
+    0x02,
+];
+
 const BINDS: Step = Step::Feeds(&BIND, Given::Bind(&BIND_ANSWER));
 
-const COURSES: &[Course] = &[
+const EXCHANGES: &[Course] = &[
     // A length is refused, and an enquire_link behind it is not answered.
     (
         "a short length closes",
@@ -333,193 +455,116 @@ const COURSES: &[Course] = &[
             Step::IsBound(true),
         ],
     ),
+    (
+        "an enquire_link is cut after each octet",
+        &[
+            Step::FeedsCut(0),
+            Step::FeedsCut(1),
+            Step::FeedsCut(2),
+            Step::FeedsCut(3),
+            Step::FeedsCut(4),
+            Step::FeedsCut(5),
+            Step::FeedsCut(6),
+            Step::FeedsCut(7),
+            Step::FeedsCut(8),
+            Step::FeedsCut(9),
+            Step::FeedsCut(10),
+            Step::FeedsCut(11),
+            Step::FeedsCut(12),
+            Step::FeedsCut(13),
+            Step::FeedsCut(14),
+            Step::FeedsCut(15),
+        ],
+    ),
+    (
+        "priorities are passed up",
+        &[
+            BINDS,
+            Step::Submits(0, 0),
+            Step::Submits(1, 1),
+            Step::Submits(2, 2),
+            Step::Submits(3, 3),
+            Step::Submits(4, 3),
+            Step::Submits(255, 3),
+        ],
+    ),
+    // No answer goes out of a closed session.
+    (
+        "requests are answered",
+        &[
+            Step::Answers(Reply::Submitted, Some(&SUBMIT_ANSWER)),
+            Step::Answers(Reply::Queried, Some(&QUERY_SM_RESP)),
+            Step::Answers(Reply::NotBound, Some(&SUBMIT_NOT_BOUND)),
+            Step::Closes(false),
+            Step::Answers(Reply::Cancelled, None),
+        ],
+    ),
 ];
+
+const CLOSINGS: &[Course] = &[
+    (
+        "a short length where nothing is bound",
+        &[Step::ClosesBy(&SHORT_LENGTH, false)],
+    ),
+    (
+        "a short length behind a bind, in one piece",
+        &[Step::ClosesBy(&BIND_AND_SHORT_LENGTH, true)],
+    ),
+    (
+        "a long length behind a bind",
+        &[BINDS, Step::ClosesBy(&LONG_LENGTH, true)],
+    ),
+    (
+        "a lost bind is told once",
+        &[
+            Step::ClosesBy(&BIND_AND_SHORT_LENGTH, true),
+            Step::ClosesBy(&SHORT_LENGTH, false),
+        ],
+    ),
+    (
+        "a closing tells once of a lost bind",
+        &[BINDS, Step::Closes(true), Step::Closes(false)],
+    ),
+    (
+        "a closing tells of no bind",
+        &[
+            Step::Feeds(&ENQUIRE, Given::Answer(&ENQUIRE_ANSWER)),
+            Step::Closes(false),
+            Step::Closes(false),
+        ],
+    ),
+];
+
+// A bind and its answer, a submit_sm, a query_sm, a cancel_sm, the answer to an enquire_link, and the end of the bind.
+const LETTERS: &[u8] = b"sBSQCsU";
+
+const PIECES: &[Course] = &[
+    ("pieces of 1", &[Step::InPieces(1, LETTERS)]),
+    ("pieces of 2", &[Step::InPieces(2, LETTERS)]),
+    ("pieces of 3", &[Step::InPieces(3, LETTERS)]),
+    ("pieces of 7", &[Step::InPieces(7, LETTERS)]),
+    ("pieces of 16", &[Step::InPieces(16, LETTERS)]),
+    ("pieces of 33", &[Step::InPieces(33, LETTERS)]),
+    ("pieces of 34", &[Step::InPieces(34, LETTERS)]),
+    ("pieces of 100", &[Step::InPieces(100, LETTERS)]),
+    ("pieces of 243", &[Step::InPieces(243, LETTERS)]),
+];
+
+const COURSES: &[&[Course]] = &[EXCHANGES, CLOSINGS, PIECES, ENDS, DELIVERIES];
 
 #[test]
 fn sessions_go_their_courses(rt: HostRuntime) -> Result<(), Fail> {
-    for course in COURSES {
-        plays(rt.alloc(), course)?;
+    for courses in COURSES {
+        for course in *courses {
+            plays(session(rt.alloc()), course)?;
+        }
     }
-    Ok(())
-}
-
-// A bind and a bad length in one piece.
-const BIND_AND_SHORT_LENGTH: [u8; 49] = [
-    0x00, 0x00, 0x00, 0x21, 0x00, 0x00, 0x00, 0x09, 0x00, 0x00, 0x00, 0x00, 0x00, 0x00, 0x00, 0x01,
-    0x61, 0x70, 0x70, 0x31, 0x00, 0x73, 0x65, 0x63, 0x72, 0x65, 0x74, 0x00, 0x00, 0x34, 0x00, 0x00,
-    0x00, 0x00, 0x00, 0x00, 0x0F, 0x00, 0x00, 0x00, 0x15, 0x00, 0x00, 0x00, 0x00, 0x00, 0x00, 0x00,
-    0x02,
-];
-
-// Whether octets behind others close the session, and it tells so of a lost bind.
-fn closes_behind(
-    session: &mut Session,
-    before: &[u8],
-    octets: &[u8],
-    bind_lost: bool,
-) -> Result<bool, Fail> {
-    drop(session.feed(before)?);
-    let given = session.feed(octets)?;
-    Ok(session.state() == SessionState::Closed && given.bind_lost == bind_lost)
-}
-
-fn closes(alloc: Global, before: &[u8], octets: &[u8], bind_lost: bool) -> Result<bool, Fail> {
-    let mut session = session(alloc)?;
-    closes_behind(&mut session, before, octets, bind_lost)
-}
-
-const CLOSINGS: &[(&[u8], &[u8], bool)] = &[
-    (b"", &SHORT_LENGTH, false),
-    (b"", &BIND_AND_SHORT_LENGTH, true),
-    (&BIND, &LONG_LENGTH, true),
-    (&BIND_AND_SHORT_LENGTH, &SHORT_LENGTH, false),
-];
-
-// Whether the closing of a session tells so of a lost bind, and a second closing of none.
-fn closes_once(alloc: Global, before: &[u8], bind_lost: bool) -> Result<bool, Fail> {
-    let mut session = session(alloc)?;
-    let _ = session.feed(before)?;
-    Ok(session.close() == bind_lost && !session.close())
-}
-
-#[test]
-fn a_closing_tells_of_a_lost_bind(rt: HostRuntime) -> Result<(), Fail> {
-    for (before, octets, bind_lost) in CLOSINGS {
-        holds(closes(rt.alloc(), before, octets, *bind_lost)?, "a closing")?;
-    }
-    holds(closes_once(rt.alloc(), &BIND, true)?, "a bind")?;
-    holds(closes_once(rt.alloc(), &ENQUIRE, false)?, "no bind")
-}
-
-// The submit_sm with that priority_flag, which stands behind the header, an empty service_type, an empty source, a
-// destination of 12 digits, esm_class and protocol_id.
-fn submit_of_priority(flag: u8) -> [u8; 50] {
-    let mut submit = SUBMIT;
-    submit[37] = flag;
-    submit
-}
-
-const PRIORITIES: &[(u8, u8)] = &[(0, 0), (1, 1), (2, 2), (3, 3), (4, 3), (255, 3)];
-
-fn passes_all_up(session: &mut Session) -> Result<(), Fail> {
-    holds(is_bound(session)?, "a bind")?;
-    for (flag, priority) in PRIORITIES {
-        let submit = submit_of_priority(*flag);
-        holds(
-            feeds(session, &submit, &Given::Request(*priority))?,
-            "a priority",
-        )?;
-    }
-    Ok(())
-}
-
-#[test]
-fn passes_priorities_up(rt: HostRuntime) -> Result<(), Fail> {
-    let mut session = session(rt.alloc())?;
-    passes_all_up(&mut session)
-}
-
-fn message_id() -> MessageResp<'static>
-    ensures { IsMessageRespValue result }
-{
-    MessageResp {
-        message_id: OctetView::of(b"0000000001"),
-    }
-}
-
-fn state_of_message() -> QuerySmResp<'static>
-    ensures { IsQueryRespValue result }
-{
-    QuerySmResp {
-        message_id: OctetView::of(b"0000000001"),
-        final_date: OctetView::of(b"240229235958000+"),
-        message_state: 2,
-        error_code: 0,
-    }
-}
-
-// An answer of these octets.
-fn is(answer: Option<Octets>, wanted: &[u8]) -> bool {
-    match answer {
-        Some(octets) => are(octets.as_slice(), wanted),
-        None => false,
-    }
-}
-
-fn answers_all(session: &mut Session) -> Result<(), Fail> {
-    let submitted = session.answer(2, Answer::Submitted(message_id()))?;
-    holds(is(submitted, &SUBMIT_ANSWER), "a submit_sm_resp")?;
-    let queried = session.answer(8, Answer::Queried(state_of_message()))?;
-    holds(is(queried, &QUERY_SM_RESP), "a query_sm_resp")?;
-    let not_bound = Answer::Refused(Request::Submit, CommandStatus::ESME_RINVBNDSTS);
-    let refused = session.answer(7, not_bound)?;
-    holds(is(refused, &SUBMIT_NOT_BOUND), "a refusal")?;
-    session.close();
-    holds(session.answer(2, Answer::Cancelled)?.is_none(), "no answer")
-}
-
-#[test]
-fn answers(rt: HostRuntime) -> Result<(), Fail> {
-    let mut session = session(rt.alloc())?;
-    answers_all(&mut session)
-}
-
-// A letter for the kind of an action.
-fn letter(action: &Action) -> u8 {
-    match action {
-        Action::Send(_) => b's',
-        Action::Bound(_, _) => b'B',
-        Action::Submit(_, _) => b'S',
-        Action::Query(_) => b'Q',
-        Action::Cancel(_) => b'C',
-        Action::DeliverAnswered(_, _) => b'D',
-        Action::BindRefused(_, _) => b'R',
-        Action::Unbound => b'U',
-    }
-}
-
-// Puts the letters of what the octets give behind the others.
-fn tell_piece(session: &mut Session, letters: &mut Octets, piece: &[u8]) -> Result<(), Fail> {
-    let given = session.feed(piece)?;
-    for action in given.actions.as_slice() {
-        letters.push(letter(action))?;
-    }
-    Ok(())
-}
-
-fn tell_pieces(
-    session: &mut Session,
-    letters: &mut Octets,
-    octets: &[u8],
-    piece: usize,
-) -> Result<(), Fail> {
-    for front in octets.chunks(piece.max(1)) {
-        tell_piece(session, letters, front)?;
-    }
-    Ok(())
-}
-
-// The letters of all actions that the octets give in pieces of so many.
-fn letters_in_pieces(alloc: Global, octets: &[u8], piece: usize) -> Result<Octets, Fail> {
-    let mut session = session(alloc)?;
-    let mut letters = Octets::new(alloc);
-    tell_pieces(&mut session, &mut letters, octets, piece)?;
-    Ok(letters)
-}
-
-const PIECES: &[usize] = &[1, 2, 3, 7, 16, 33, 34, 100, 243];
-
-#[test]
-fn reads_net_smpp_in_pieces(rt: HostRuntime) -> Result<(), Fail> {
-    for piece in PIECES {
-        let letters = letters_in_pieces(rt.alloc(), &NET_SMPP, *piece)?;
-        holds(are(letters.as_slice(), b"sBSQCsU"), "pieces")?;
-    }
-    Ok(())
+    plays(salted(rt.alloc()), &SALTED)?;
+    holds(DeliverFault::NotBound.code() == Some("N2"), "a code")
 }
 
 // A bind, the end of the connection, and an enquire_link that comes too late.
-fn calls(alloc: Global) -> Result<Vec<Call<'static>>, Fail>
+fn calls(alloc: Global) -> Result<Vec<Call<'static>>, AllocError>
     ensures { IfOk result (λ calls. AllByRecursion IsCall calls.items) }
 {
     let mut calls = Vec::new(alloc);
@@ -529,27 +574,28 @@ fn calls(alloc: Global) -> Result<Vec<Call<'static>>, Fail>
     Ok(calls)
 }
 
-#[test]
-fn runs_calls(rt: HostRuntime) -> Result<(), Fail> {
-    let actions = run(rt.alloc(), accounts(rt.alloc())?, calls(rt.alloc())?)?;
-    holds(
-        is_given(&actions, &BIND, &Given::Bind(&BIND_ANSWER)),
-        "a bind, and no more",
-    )
+fn ran(alloc: Global) -> Result<Actions, AllocError> {
+    run(alloc, accounts(alloc)?, calls(alloc)?)
+}
+
+// A bind, and no more.
+fn runs(alloc: Global) -> bool {
+    match ran(alloc) {
+        Ok(actions) => is_given(&actions, &BIND, &Given::Bind(&BIND_ANSWER)),
+        Err(_) => false,
+    }
 }
 
 // Whether a session of these accounts binds.
 fn binds(alloc: Global, accounts: Arc<Accounts, Global>) -> bool {
     let mut session = Session::new(alloc, accounts);
-    match session.feed(&BIND) {
-        Ok(given) => is_given(&given.actions, &BIND, &Given::Bind(&BIND_ANSWER)),
-        Err(_) => false,
-    }
+    is_bound(&mut session)
 }
 
 #[test]
 fn sessions_on_threads_share_accounts(rt: HostRuntime) -> Result<(), Fail> {
     let alloc = rt.alloc();
+    holds(runs(alloc), "calls are run")?;
     let here = accounts(alloc)?;
     let there = Arc::try_clone(&here)?;
     let Ok(thread) = thread::spawn(&rt, move || binds(alloc, there)) else {

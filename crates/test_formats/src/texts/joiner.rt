@@ -1,10 +1,11 @@
 //! Parts that are joined one after the other.
-use crate::rows::{are, holds, is_code};
+use crate::rows::{are, failed_at};
+use crate::texts::concat::letters;
 use sms_alphabet::Coding;
 use sms_base::Octets;
 use sms_concat::joiner::{AddError, Joiner};
 use sms_concat::{ConcatKey, ConcatReference, Content, Part, join, split};
-use std::alloc::Global;
+use std::alloc::{AllocError, Global};
 use std::test::Fail;
 
 fn key(total: u8, number: u8) -> ConcatKey {
@@ -16,9 +17,8 @@ fn key(total: u8, number: u8) -> ConcatKey {
 }
 
 // A part of one septet, its number.
-fn part(alloc: Global, total: u8, number: u8) -> Result<Part, Fail> {
-    let mut units = Octets::new(alloc);
-    units.push(number)?;
+fn part(alloc: Global, total: u8, number: u8) -> Result<Part, AllocError> {
+    let units = Octets::copy_of(alloc, &[number])?;
     Ok(Part {
         content: Content {
             coding: Coding::Octets,
@@ -29,31 +29,116 @@ fn part(alloc: Global, total: u8, number: u8) -> Result<Part, Fail> {
     })
 }
 
+fn takes(joiner: &mut Joiner, alloc: Global, total: u8, number: u8) -> bool {
+    match part(alloc, total, number) {
+        Ok(part) => joiner.add(part).is_ok(),
+        Err(_) => false,
+    }
+}
+
 // How many of the parts with these numbers are taken.
-fn taken(joiner: &mut Joiner, alloc: Global, total: u8, numbers: &[u8]) -> Result<usize, Fail> {
+fn taken(joiner: &mut Joiner, alloc: Global, total: u8, numbers: &[u8]) -> usize {
     let before = joiner.parts().len();
     for number in numbers {
-        match joiner.add(part(alloc, total, *number)?) {
-            Ok(()) | Err(AddError::NoPlace(_)) => {}
+        let _is_taken = takes(joiner, alloc, total, *number);
+    }
+    joiner.parts().len().saturating_sub(before)
+}
+
+fn takes_most(joiner: &mut Joiner, alloc: Global) -> bool {
+    for number in 0..255_u8 {
+        if !takes(joiner, alloc, 255, 255 - number) {
+            return false;
         }
     }
-    Ok(joiner.parts().len().saturating_sub(before))
+    true
+}
+
+fn takes_other(joiner: &mut Joiner, alloc: Global) -> bool {
+    match part(alloc, 2, 2) {
+        Ok(mut other) => {
+            other.content.dcs = 0x08;
+            joiner.add(other).is_ok()
+        }
+        Err(_) => false,
+    }
+}
+
+fn is_handed_back(added: Result<(), AddError>, number: u8) -> bool {
+    match added {
+        Ok(()) => false,
+        Err(refusal) => {
+            refusal.code() == "C3" && refusal.into_part().key == Some(key(3, number))
+        }
+    }
+}
+
+fn hands_back(joiner: &mut Joiner, alloc: Global, number: u8) -> bool {
+    match part(alloc, 3, number) {
+        Ok(part) => is_handed_back(joiner.add(part), number),
+        Err(_) => false,
+    }
+}
+
+fn parts_of_text(alloc: Global, length: usize) -> Option<Vec<Part>> {
+    let content = letters(alloc, Coding::Septets, 0, length).ok()?;
+    let parts = split(alloc, &content, 0x0102).ok()?;
+    Some(parts.into_vec())
+}
+
+fn takes_all(joiner: &mut Joiner, parts: Vec<Part>) -> bool {
+    for part in parts {
+        if joiner.add(part).is_err() {
+            return false;
+        }
+    }
+    true
+}
+
+fn takes_text(joiner: &mut Joiner, alloc: Global, length: usize) -> bool {
+    match parts_of_text(alloc, length) {
+        Some(parts) => takes_all(joiner, parts),
+        None => false,
+    }
 }
 
 // Whether the joiner joins to these units, or to nothing.
-fn joins(alloc: Global, joiner: &Joiner, units: Option<&[u8]>) -> Result<bool, Fail> {
-    match (joiner.finish(alloc)?, units) {
-        (Some(content), Some(units)) => Ok(are(content.units.as_slice(), units)),
-        (None, None) => Ok(true),
-        _ => Ok(false),
+fn joins(joiner: &Joiner, alloc: Global, units: Option<&[u8]>) -> bool {
+    match joiner.finish(alloc) {
+        Ok(Some(content)) => match units {
+            Some(units) => are(content.units.as_slice(), units),
+            None => false,
+        },
+        Ok(None) => units.is_none(),
+        Err(_) => false,
     }
 }
 
-// How many units the joiner joins to.
-fn joined_len(alloc: Global, joiner: &Joiner) -> Result<usize, Fail> {
-    match joiner.finish(alloc)? {
-        Some(content) => Ok(content.units.len()),
-        None => Ok(0),
+// How many units a content has that was joined.
+fn len_of(content: Result<Option<Content>, AllocError>) -> usize {
+    match content {
+        Ok(Some(content)) => content.units.len(),
+        _ => 0,
+    }
+}
+
+fn copy_joins_to(joiner: &Joiner, alloc: Global, len: usize) -> bool {
+    match joiner.copy(alloc) {
+        Ok(copy) => len_of(copy.finish(alloc)) == len,
+        Err(_) => false,
+    }
+}
+
+fn joins_to(joiner: &Joiner, alloc: Global, len: usize) -> bool {
+    len_of(joiner.finish(alloc)) == len
+        && len_of(join(alloc, joiner.parts())) == len
+        && copy_joins_to(joiner, alloc, len)
+}
+
+fn is_copied(joiner: &mut Joiner, alloc: Global) -> bool {
+    match joiner.copy(alloc) {
+        Ok(copy) => taken(joiner, alloc, 3, &[1]) == 1 && copy.parts().is_empty(),
+        Err(_) => false,
     }
 }
 
@@ -70,6 +155,12 @@ enum Step {
     TakesOther,
     // A copy stays without parts while the joiner takes the first of three.
     IsCopied,
+    // The most parts that a key can have, the last first.
+    TakesMost,
+    // The parts of a text of so many letters.
+    TakesText(usize),
+    // It joins to so many units, a copy of it too, and its parts at once.
+    JoinsTo(usize),
 }
 
 // A joiner for a key of so many parts: its steps.
@@ -97,50 +188,45 @@ const COURSES: &[(&str, u8, &[Step])] = &[
         ],
     ),
     ("a copy stays as it is", 3, &[Step::IsCopied]),
+    (
+        "the most parts that a key can have join",
+        255,
+        &[Step::TakesMost, Step::JoinsTo(255)],
+    ),
+    (
+        "the longest parts join",
+        20,
+        &[Step::TakesText(3_040), Step::JoinsTo(3_040)],
+    ),
 ];
 
-fn hands_back(joiner: &mut Joiner, part: Part, number: u8) -> bool {
-    match joiner.add(part) {
-        Ok(()) => false,
-        Err(refusal) => {
-            is_code(Some(refusal.code()), "C3") && refusal.into_part().key == Some(key(3, number))
-        }
-    }
-}
-
-fn takes_other(joiner: &mut Joiner, alloc: Global) -> Result<bool, Fail> {
-    let mut other = part(alloc, 2, 2)?;
-    other.content.dcs = 0x08;
-    Ok(joiner.add(other).is_ok())
-}
-
-fn is_copied(joiner: &mut Joiner, alloc: Global) -> Result<bool, Fail> {
-    let copy = joiner.copy(alloc)?;
-    Ok(taken(joiner, alloc, 3, &[1])? == 1 && copy.parts().is_empty())
-}
-
-fn goes(joiner: &mut Joiner, alloc: Global, step: &Step) -> Result<bool, Fail> {
+fn goes(joiner: &mut Joiner, alloc: Global, step: &Step) -> bool {
     match step {
-        Step::Takes(total, numbers, count) => Ok(taken(joiner, alloc, *total, numbers)? == *count),
-        Step::Has(is_full, units) => {
-            Ok(joiner.is_full() == *is_full && joins(alloc, joiner, *units)?)
-        }
-        Step::HandsBack(number) => Ok(hands_back(joiner, part(alloc, 3, *number)?, *number)),
+        Step::Takes(total, numbers, count) => taken(joiner, alloc, *total, numbers) == *count,
+        Step::Has(is_full, units) => joiner.is_full() == *is_full && joins(joiner, alloc, *units),
+        Step::HandsBack(number) => hands_back(joiner, alloc, *number),
         Step::TakesOther => takes_other(joiner, alloc),
         Step::IsCopied => is_copied(joiner, alloc),
+        Step::TakesMost => takes_most(joiner, alloc),
+        Step::TakesText(length) => takes_text(joiner, alloc, *length),
+        Step::JoinsTo(len) => joins_to(joiner, alloc, *len),
     }
 }
 
 fn go(joiner: &mut Joiner, alloc: Global, name: &str, steps: &[Step]) -> Result<(), Fail> {
-    for step in steps {
-        holds(goes(joiner, alloc, step)?, name)?;
+    for (at, step) in steps.iter().enumerate() {
+        if !goes(joiner, alloc, step) {
+            return Err(failed_at(name, at));
+        }
     }
     Ok(())
 }
 
 fn plays(alloc: Global, name: &str, total: u8, steps: &[Step]) -> Result<(), Fail> {
-    let mut joiner = Joiner::new(alloc, key(total, 1))?;
-    go(&mut joiner, alloc, name, steps)
+    match Joiner::new(alloc, key(total, 1)) {
+        Ok(mut joiner) => go(&mut joiner, alloc, name, steps),
+        Err(_) => Err(Fail::new("no joiner")),
+    }
 }
 
 #[test]
@@ -149,69 +235,4 @@ fn joiners_go_their_courses(rt: HostRuntime) -> Result<(), Fail> {
         plays(rt.alloc(), name, *total, steps)?;
     }
     Ok(())
-}
-
-// The most parts that a key can have, the last first.
-fn takes_most(joiner: &mut Joiner, alloc: Global) -> Result<(), Fail> {
-    for number in 0..255_u8 {
-        holds(taken(joiner, alloc, 255, &[255 - number])? == 1, "a part")?;
-    }
-    Ok(())
-}
-
-fn copy_joins(joiner: &Joiner, alloc: Global, len: usize) -> Result<bool, Fail> {
-    let copy = joiner.copy(alloc)?;
-    Ok(joined_len(alloc, &copy)? == len)
-}
-
-fn most_parts_join(joiner: &mut Joiner, alloc: Global) -> Result<(), Fail> {
-    takes_most(joiner, alloc)?;
-    holds(copy_joins(joiner, alloc, 255)?, "255 parts")
-}
-
-#[test]
-fn the_most_parts_join(rt: HostRuntime) -> Result<(), Fail> {
-    let mut joiner = Joiner::new(rt.alloc(), key(255, 255))?;
-    most_parts_join(&mut joiner, rt.alloc())
-}
-
-fn take_all(joiner: &mut Joiner, parts: Vec<Part>) -> Result<(), Fail> {
-    for part in parts {
-        holds(joiner.add(part).is_ok(), "a part")?;
-    }
-    Ok(())
-}
-
-// How many units the joiner's parts join to by `join`.
-fn len_by_join(alloc: Global, joiner: &Joiner) -> Result<usize, Fail> {
-    match join(alloc, joiner.parts())? {
-        Some(content) => Ok(content.units.len()),
-        None => Ok(0),
-    }
-}
-
-fn parts_of_text(alloc: Global, length: u16) -> Result<Vec<Part>, Fail> {
-    let mut units = Octets::new(alloc);
-    for _ in 0..length {
-        units.push(0x61)?;
-    }
-    let content = Content {
-        coding: Coding::Septets,
-        dcs: 0,
-        units,
-    };
-    let parts = split(alloc, &content, 0x0102)?;
-    Ok(parts.into_vec())
-}
-
-fn longest_parts_join(joiner: &mut Joiner, alloc: Global) -> Result<(), Fail> {
-    take_all(joiner, parts_of_text(alloc, 3_040)?)?;
-    holds(joined_len(alloc, joiner)? == 3_040, "a message")?;
-    holds(len_by_join(alloc, joiner)? == 3_040, "the same at once")
-}
-
-#[test]
-fn the_longest_parts_join(rt: HostRuntime) -> Result<(), Fail> {
-    let mut joiner = Joiner::new(rt.alloc(), key(20, 1))?;
-    longest_parts_join(&mut joiner, rt.alloc())
 }
