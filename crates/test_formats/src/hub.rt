@@ -6,13 +6,18 @@
 
 #[cfg(test)]
 mod clocks;
-pub mod counter;
-pub mod gates;
+#[cfg(test)]
+mod counter;
+#[cfg(test)]
+mod gates;
 #[cfg(test)]
 mod outs;
+pub mod reply;
 #[cfg(test)]
 mod runs;
 #[cfg(test)]
 mod seats;
+#[cfg(test)]
+mod terms;
 #[cfg(test)]
 mod told;

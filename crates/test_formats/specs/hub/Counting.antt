@@ -5,8 +5,8 @@ use Rattle.sms_keeper.specs.declared.machine.Stimulus.TheVariants.{Job, Tick, Ow
 use Rattle.sms_keeper.specs.declared.machine.Fate.{Fate}
 use Rattle.sms_keeper.specs.declared.machine.Fate.TheVariants.{Done, NoMemory, Refused}
 use Rattle.sms_keeper.specs.declared.outs.Out.{Out}
-use Rattle.test_formats.specs.declared.hub.counter.Reply.{Reply}
-use Rattle.test_formats.specs.declared.hub.counter.Reply.TheVariants.{Sum, Failed}
+use Rattle.test_formats.specs.declared.hub.reply.Reply.{Reply}
+use Rattle.test_formats.specs.declared.hub.reply.Reply.TheVariants.{Sum, Failed}
 
 abbrev pub sum_after : ℕ → Stimulus ℕ → Fate → ℕ
 sum_after s (Job k j) Done = (s + j) % 2 ^ 64

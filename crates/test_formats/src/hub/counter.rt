@@ -1,17 +1,9 @@
 //! A machine that adds up the jobs.
 ghost use Rattle.std.specs.Prelude.{◌≡◌, ◌==◌, if◌then◌else◌, [], ◌∷◌};
 
+use crate::hub::reply::Reply;
 use sms_base::{MessageId, Moment};
 use sms_hub::{Broken, Clock, Errand, Fate, Gate, Machine, Out, Outs, Step, Stimulus, Unsettled};
-
-/// What the machine answers.
-#[derive(Clone, Copy, PartialEq, Eq)]
-pub enum Reply {
-    /// The sum so far.
-    Sum(u64),
-    /// The job was not done.
-    Failed,
-}
 
 /// Adds up the jobs and answers each but 0 with the sum so far. Refuses one job, or the commit of the group that has it, by
 /// its place from 1, and forgets its sum then.
@@ -42,21 +34,6 @@ impl Counter {
             refuses,
             refuses_commit: 0,
             opens,
-            opened: 0,
-            broken: false,
-            errands: 0,
-        }
-    }
-
-    /// A counter that refuses the commit of the group with the job of that place.
-    pub fn uncommitted(place: u64) -> Counter {
-        Counter {
-            sum: 0,
-            kept: 0,
-            jobs: 0,
-            refuses: 0,
-            refuses_commit: place,
-            opens: true,
             opened: 0,
             broken: false,
             errands: 0,

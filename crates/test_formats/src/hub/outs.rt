@@ -1,5 +1,5 @@
 //! Outs and the codes of faults.
-use crate::hub::counter::Reply;
+use crate::hub::reply::Reply;
 use crate::rows::holds;
 use sms_hub::{HubFault, Out, Outs};
 use std::alloc::Global;
@@ -26,9 +26,11 @@ fn are_two(outs: &Outs<Reply>) -> bool {
     outs.len() == 2 && is_from(outs, 0, 3) && is_from(outs, 1, 4) && outs.get(2).is_none()
 }
 
-fn reads_two(alloc: Global) -> Result<bool, Fail> {
-    let outs = Outs::from_vec(vec![in alloc; FIRST, SECOND]?);
-    Ok(are_two(&outs))
+fn reads_two(alloc: Global) -> bool {
+    match vec![in alloc; FIRST, SECOND] {
+        Ok(outs) => are_two(&Outs::from_vec(outs)),
+        Err(_) => false,
+    }
 }
 
 fn reads_none() -> bool {
@@ -36,9 +38,11 @@ fn reads_none() -> bool {
     none.is_empty() && none.get(0).is_none()
 }
 
-fn is_told(alloc: Global, fault: HubFault, code: &str, text: &str) -> Result<bool, Fail> {
-    let told = format!(in alloc; "{fault}")?;
-    Ok(fault.code() == code && told.as_str() == text)
+fn is_told(alloc: Global, fault: HubFault, code: &str, text: &str) -> bool {
+    match format!(in alloc; "{fault}") {
+        Ok(told) => fault.code() == code && told.as_str() == text,
+        Err(_) => false,
+    }
 }
 
 const FAULTS: &[(HubFault, &str, &str)] = &[
@@ -58,10 +62,10 @@ const FAULTS: &[(HubFault, &str, &str)] = &[
 
 #[test]
 fn outs_are_read_and_faults_are_told(rt: HostRuntime) -> Result<(), Fail> {
-    holds(reads_two(rt.alloc())?, "two outs")?;
+    holds(reads_two(rt.alloc()), "two outs")?;
     holds(reads_none(), "no outs")?;
     for (fault, code, text) in FAULTS {
-        holds(is_told(rt.alloc(), *fault, code, text)?, code)?;
+        holds(is_told(rt.alloc(), *fault, code, text), code)?;
     }
     Ok(())
 }

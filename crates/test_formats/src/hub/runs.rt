@@ -1,32 +1,40 @@
 //! Runs of lists of jobs, each in a thread of its own.
-use crate::hub::counter::{Counter, Open, Reply, Still};
+use crate::examples::LEAP_DAY;
+use crate::hub::counter::{Counter, Open, Still};
+use crate::hub::reply::Reply;
 use crate::hub::told::Told;
 use crate::rows::holds;
 use sms_base::Moment;
 use sms_hub::{HubFault, many_sessions, two_sessions};
-use std::alloc::Global;
+use std::alloc::{AllocError, Global};
 use std::sync::Wait;
 use std::test::Fail;
 use std::thread::Threads;
 
 fn failed_in(answers: &[Reply]) -> usize {
-    answers
-        .iter()
-        .filter(|reply| **reply == Reply::Failed)
-        .count()
+    let mut failed = 0usize;
+    for answer in answers {
+        if *answer == Reply::Failed {
+            failed = failed.wrapping_add(1);
+        }
+    }
+    failed
 }
 
-// The answers of two lists of jobs, which add up to 36, on a machine that refuses one of them, or none.
+// The answers of two lists, or why there are none.
+type Answers = Result<(Vec<Reply>, Vec<Reply>), HubFault>;
+
+// Two lists of jobs, which add up to 36, on a machine that refuses one of them, or none.
 fn end_of_two<R: Threads + Wait + Copy + Send + 'static>(
     rt: R,
     alloc: Global,
     machine: &mut Counter,
+    clock: &Still,
     told: &mut Told,
-) -> Result<Result<(Vec<Reply>, Vec<Reply>), HubFault>, Fail> {
-    let clock = Still(Moment::from_seconds(1_709_251_198)?);
+) -> Answers {
     let a = vec![in alloc; 1u32, 2, 3]?;
     let b = vec![in alloc; 10u32, 20]?;
-    Ok(two_sessions(rt, alloc, 1, machine, &Open, &clock, told, a, b))
+    two_sessions(rt, alloc, 1, machine, &Open, clock, told, a, b)
 }
 
 // Each of the five jobs is answered. All of them are in the sum, or the group of one was refused: then each job of that group is
@@ -57,11 +65,7 @@ fn are_answered(machine: &Counter, told: &Told) -> bool {
 }
 
 // A machine that can't be opened again ends the run. The jobs are answered first, also those that no group took.
-fn is_two(
-    run: &Result<(Vec<Reply>, Vec<Reply>), HubFault>,
-    machine: &Counter,
-    told: &Told,
-) -> bool {
+fn is_two(run: &Answers, machine: &Counter, told: &Told) -> bool {
     match run {
         Ok(run) => machine.opens && are_run(run, machine, told),
         Err(fault) => {
@@ -73,13 +77,14 @@ fn is_two(
 fn runs_two<R: Threads + Wait + Copy + Send + 'static>(
     rt: R,
     alloc: Global,
+    clock: &Still,
     refuses: u64,
     opens: bool,
-) -> Result<bool, Fail> {
+) -> bool {
     let mut machine = Counter::new(refuses, opens);
     let mut told = Told::new(alloc);
-    let run = end_of_two(rt, alloc, &mut machine, &mut told)?;
-    Ok(is_two(&run, &machine, &told))
+    let run = end_of_two(rt, alloc, &mut machine, clock, &mut told);
+    is_two(&run, &machine, &told)
 }
 
 // Which of five jobs the machine refuses, and whether it can be opened again then.
@@ -95,21 +100,23 @@ const MACHINES: &[(u64, bool, &str)] = &[
     (5, false, "a machine that fails at its last job"),
 ];
 
-#[test]
-fn two_lists_are_run(rt: HostRuntime) -> Result<(), Fail> {
-    for (refuses, opens, name) in MACHINES {
-        holds(runs_two(rt, rt.alloc(), *refuses, *opens)?, name)?;
-    }
-    Ok(())
-}
-
-fn lists(alloc: Global, count: u32) -> Result<Vec<Vec<u32>>, Fail> {
+// So many lists of two jobs each, 1 and 2, 3 and 4, ..
+fn lists(alloc: Global, count: u32) -> Result<Vec<Vec<u32>>, AllocError> {
     let mut lists = Vec::new(alloc);
     for number in 0..count {
         let first = number.wrapping_mul(2).wrapping_add(1);
         lists.push(vec![in alloc; first, first.wrapping_add(1)]?)?;
     }
     Ok(lists)
+}
+
+fn are_pairs(lists: &[Vec<Reply>]) -> bool {
+    for answers in lists {
+        if answers.len() != 2 {
+            return false;
+        }
+    }
+    true
 }
 
 // Thirty-two lists are run, and no other number of them here.
@@ -120,32 +127,38 @@ fn are_many(run: &Result<Vec<Vec<Reply>>, HubFault>, told: &Told, count: u32, su
                 && sum == 2080
                 && all.len() == 32
                 && told.jobs == 64
-                && all.iter().all(|answers| answers.len() == 2)
+                && are_pairs(all.as_slice())
         }
         Err(fault) => count != 32 && *fault == HubFault::TooManySessions,
     }
 }
 
-// Lists of two jobs each, 1 and 2, 3 and 4, .., through one slot.
+// The lists go through one slot.
 fn runs_many<R: Threads + Wait + Copy + Send + 'static>(
     rt: R,
     alloc: Global,
+    clock: &Still,
     count: u32,
-) -> Result<bool, Fail> {
-    let clock = Still(Moment::from_seconds(1_709_251_198)?);
-    let lists = lists(alloc, count)?;
+) -> bool {
+    let Ok(lists) = lists(alloc, count) else {
+        return false;
+    };
     let mut machine = Counter::new(0, true);
     let mut told = Told::new(alloc);
-    let run = many_sessions(rt, alloc, 1, &mut machine, &Open, &clock, &mut told, lists);
-    Ok(are_many(&run, &told, count, machine.sum))
+    let run = many_sessions(rt, alloc, 1, &mut machine, &Open, clock, &mut told, lists);
+    are_many(&run, &told, count, machine.sum)
 }
 
 const COUNTS: &[(u32, &str)] = &[(32, "32 lists"), (0, "no list"), (33, "33 lists")];
 
 #[test]
-fn thirty_two_lists_are_run_and_no_more(rt: HostRuntime) -> Result<(), Fail> {
+fn lists_are_run(rt: HostRuntime) -> Result<(), Fail> {
+    let clock = Still(Moment::from_seconds(LEAP_DAY)?);
+    for (refuses, opens, name) in MACHINES {
+        holds(runs_two(rt, rt.alloc(), &clock, *refuses, *opens), name)?;
+    }
     for (count, name) in COUNTS {
-        holds(runs_many(rt, rt.alloc(), *count)?, name)?;
+        holds(runs_many(rt, rt.alloc(), &clock, *count), name)?;
     }
     Ok(())
 }

@@ -1,7 +1,7 @@
 use Rattle.std.proofs.Common.{◌≡◌, false}
 use Rattle.sms_seats.specs.Jobs.{has_end}
 use Rattle.sms_seats.specs.Seats.{put_by}
-use Rattle.test_formats.proofs.hub.seats.put_one.Given as goal
+use Rattle.test_formats.proofs.hub.terms.puts.Given as goal
 
 abbrev pub invariant-loop : goal.invariant-loop
 invariant-loop g l = has_end (put_by l.seat) ≡ false

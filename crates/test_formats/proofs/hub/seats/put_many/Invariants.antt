@@ -1,7 +1,0 @@
-use Rattle.std.proofs.Common.{◌≡◌, false}
-use Rattle.sms_seats.specs.Jobs.{has_end}
-use Rattle.sms_seats.specs.Seats.{put_by}
-use Rattle.test_formats.proofs.hub.seats.put_many.Given as goal
-
-abbrev pub invariant-loop : goal.invariant-loop
-invariant-loop g l = has_end (put_by l.seat) ≡ false
