@@ -1,11 +1,12 @@
 //! A centre that has no message yet, who may bind, and what applications ask of it.
 use crate::clock_and_gate::Still;
+use crate::rows::made;
 use smpp_session::{Account, Accounts, Password};
 use sms_base::{Address, Listed, Moment, Octets};
 use sms_store_memory::centre::MemoryKeep;
 use smsc_server::AccountBook;
 use smsc_service::{CentreAccount, Setup};
-use std::alloc::Global;
+use std::alloc::{AllocError, Global};
 use std::sync::Arc;
 use std::test::Fail;
 
@@ -40,31 +41,28 @@ pub(crate) const ENQUIRE: &[u8] = &[
 
 /// A clock that always shows the start.
 pub(crate) fn clock() -> Result<Still, Fail> {
-    Ok(Still(Moment::from_seconds(START)?))
+    match Moment::from_seconds(START) {
+        Ok(start) => Ok(Still(start)),
+        Err(_) => Err(Fail::new("a moment")),
+    }
 }
 
-fn account(alloc: Global) -> Result<CentreAccount, Fail> {
-    let address = Address::new(1, 1, "447700900001")?;
-    let name = Octets::copy_of(alloc, b"app1")?;
-    Ok(CentreAccount {
+fn account(alloc: Global) -> Option<CentreAccount> {
+    let address = Address::new(1, 1, "447700900001").ok()?;
+    let name = Octets::copy_of(alloc, b"app1").ok()?;
+    Some(CentreAccount {
         name,
         address,
         sources: Listed::new(alloc),
     })
 }
 
-fn accounts(alloc: Global) -> Result<Listed<CentreAccount>, Fail> {
-    let accounts = vec![in alloc; account(alloc)?]?;
-    Ok(Listed::from_vec(accounts))
-}
-
-fn setup(alloc: Global) -> Result<Setup, Fail> {
-    let centre = Address::new(1, 1, "447700900999")?;
-    let start = Moment::from_seconds(START)?;
-    let accounts = accounts(alloc)?;
-    Ok(Setup {
-        centre,
-        start,
+fn setup(alloc: Global) -> Option<Setup> {
+    let mut accounts = Listed::new(alloc);
+    accounts.push(account(alloc)?).ok()?;
+    Some(Setup {
+        centre: Address::new(1, 1, "447700900999").ok()?,
+        start: Moment::from_seconds(START).ok()?,
         first: 1,
         accounts,
     })
@@ -72,24 +70,35 @@ fn setup(alloc: Global) -> Result<Setup, Fail> {
 
 /// A store of a centre that has no message yet.
 pub(crate) fn keep(alloc: Global) -> Result<MemoryKeep, Fail> {
-    Ok(MemoryKeep::new(alloc, setup(alloc)?))
+    match setup(alloc) {
+        Some(setup) => Ok(MemoryKeep::new(alloc, setup)),
+        None => Err(Fail::new("a store")),
+    }
 }
 
-fn login(alloc: Global) -> Result<Account, Fail> {
+fn login(alloc: Global) -> Result<Account, AllocError> {
     let name = Octets::copy_of(alloc, b"app1")?;
     let password = Password::Plain(Octets::copy_of(alloc, b"secret")?);
     Ok(Account { name, password })
 }
 
+fn shared_logins(alloc: Global) -> Result<Arc<Accounts>, AllocError> {
+    let logins = vec![in alloc; login(alloc)?]?;
+    Arc::new(alloc, Accounts::from_vec(logins))
+}
+
 /// What may bind: app1 with the password secret.
 pub(crate) fn logins(alloc: Global) -> Result<Arc<Accounts>, Fail> {
+    made(shared_logins(alloc).ok(), "logins")
+}
+
+fn shared_book(alloc: Global) -> Result<Arc<AccountBook>, AllocError> {
     let logins = vec![in alloc; login(alloc)?]?;
-    Ok(Arc::new(alloc, Accounts::from_vec(logins))?)
+    let book = AccountBook::new(alloc, logins, false)?;
+    Arc::new(alloc, book)
 }
 
 /// What may bind in a run, where no other list takes its place.
 pub(crate) fn book(alloc: Global) -> Result<Arc<AccountBook>, Fail> {
-    let logins = vec![in alloc; login(alloc)?]?;
-    let book = AccountBook::new(alloc, logins, false)?;
-    Ok(Arc::new(alloc, book)?)
+    made(shared_book(alloc).ok(), "a book of accounts")
 }

@@ -157,7 +157,7 @@ fn follow_each_other<R: Threads + Wait + Sync>(
 fn comes_after<R: Threads + Wait + Sync>(rt: &R, alloc: Global, writes: u32) -> Result<(), Fail> {
     let table = Table::new(alloc, Sitter::Application)?;
     let mut counter = Counter::new(alloc);
-    put(&mut counter.receipt, Some(end()?));
+    put(&mut counter.receipt, end());
     let mut leaving = Script::well(&REQUESTS, ANSWERS);
     leaving.writes = writes;
     let mut next = Recorder {
