@@ -32,8 +32,8 @@ fn end_of_two<R: Threads + Wait + Copy + Send + 'static>(
     clock: &Still,
     told: &mut Told,
 ) -> Answers {
-    let a = vec![in alloc; 1u32, 2, 3]?;
-    let b = vec![in alloc; 10u32, 20]?;
+    let a = Vec::from_slice(alloc, &[1u32, 2, 3])?;
+    let b = Vec::from_slice(alloc, &[10u32, 20])?;
     two_sessions(rt, alloc, 1, machine, &Open, clock, told, a, b)
 }
 

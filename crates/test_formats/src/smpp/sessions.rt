@@ -35,7 +35,7 @@ pub(crate) fn account(alloc: Global) -> Result<Account, AllocError> {
 // One account, app1 with the password secret.
 pub(crate) fn accounts(alloc: Global) -> Result<Arc<Accounts, Global>, AllocError> {
     let accounts = vec![in alloc; account(alloc)?]?;
-    Arc::new(alloc, Accounts::from_vec(accounts))
+    Ok(Arc::new(alloc, Accounts::from_vec(accounts))?)
 }
 
 pub(crate) fn session(alloc: Global) -> Result<Session, AllocError> {

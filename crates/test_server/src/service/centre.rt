@@ -84,7 +84,7 @@ fn login(alloc: Global) -> Result<Account, AllocError> {
 
 fn shared_logins(alloc: Global) -> Result<Arc<Accounts>, AllocError> {
     let logins = vec![in alloc; login(alloc)?]?;
-    Arc::new(alloc, Accounts::from_vec(logins))
+    Ok(Arc::new(alloc, Accounts::from_vec(logins))?)
 }
 
 /// What may bind: app1 with the password secret.
@@ -95,7 +95,7 @@ pub(crate) fn logins(alloc: Global) -> Result<Arc<Accounts>, Fail> {
 fn shared_book(alloc: Global) -> Result<Arc<AccountBook>, AllocError> {
     let logins = vec![in alloc; login(alloc)?]?;
     let book = AccountBook::new(alloc, logins, false)?;
-    Arc::new(alloc, book)
+    Ok(Arc::new(alloc, book)?)
 }
 
 /// What may bind in a run, where no other list takes its place.
