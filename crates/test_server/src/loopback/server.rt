@@ -68,20 +68,20 @@ fn is_over(ended: &Result<(), ServeFault>, came: Result<(), Fail>) -> Result<(),
     holds(ended.is_ok(), "the run ends with its connections")
 }
 
-// A run for so many connections of who may bind so. Each account may have so many sessions at once as the limits say.
-fn given_with(
+fn given_with<T: Drop>(
     alloc: Global,
     accounts: Arc<AccountBook>,
+    observer: T,
     sessions: u32,
-    limits: Vec<u8>,
-) -> Result<Given<Silent>, AllocError> {
+    limits: &[u8],
+) -> Result<Given<T>, AllocError> {
     let orders = Orders::new(alloc)?;
     let orders = Arc::new(alloc, orders)?;
-    let allowances = Allowances::new(alloc, limits.as_slice(), &[])?;
+    let allowances = Allowances::new(alloc, limits, &[])?;
     Ok(Given {
         accounts,
         access: Arc::new(alloc, LinkAccess::Anyone)?,
-        observer: Arc::new(alloc, Silent)?,
+        observer: Arc::new(alloc, observer)?,
         orders,
         links: None,
         sessions: Some(sessions),
@@ -89,11 +89,16 @@ fn given_with(
     })
 }
 
-// A run for so many connections: app1 may bind with the password secret.
-fn given(alloc: Global, sessions: u32, limits: Vec<u8>) -> Result<Given<Silent>, Fail> {
+/// A run for so many connections: app1 may bind with the password secret. It may have so many sessions at once as the limits say.
+pub(crate) fn given<T: Drop>(
+    alloc: Global,
+    observer: T,
+    sessions: u32,
+    limits: &[u8],
+) -> Result<Given<T>, Fail> {
     let accounts = book(alloc)?;
     made(
-        given_with(alloc, accounts, sessions, limits).ok(),
+        given_with(alloc, accounts, observer, sessions, limits).ok(),
         "what a run is given",
     )
 }
@@ -142,7 +147,7 @@ pub(crate) fn serves_within<
     requires { C.IsAlwaysCallable come }
 {
     let clock = clock()?;
-    let run = given(alloc, sessions, limits)?;
+    let run = given(alloc, Silent, sessions, limits.as_slice())?;
     match loopback_pair(rt, alloc, store, gate, &clock, &run, come) {
         Ok((ended, came)) => is_over(&ended, came),
         Err(_) => Err(Fail::new("the run begins")),
