@@ -42,7 +42,7 @@ enum Wanted {
 
 // A term: the jobs of both seats, how often the clock shows a moment, the errands that the machine has, and the place of the
 // job with whose group it refuses the commit; how the term ends, what is told, and the answers of the first seat.
-struct Term {
+struct Row {
     name: &'static str,
     first: &'static [u32],
     second: &'static [u32],
@@ -54,10 +54,10 @@ struct Term {
     answers: &'static [Reply],
 }
 
-const TERMS: &[Term] = &[
+const TERMS: &[Row] = &[
     // The keeper looks at the clock before each job and each end mark, and once more where nothing waits. The clock shows a
     // later moment at every second look, so that a tick precedes each of them.
-    Term {
+    Row {
         name: "a tick precedes a job where the clock moved",
         first: &[1],
         second: &[2],
@@ -76,7 +76,7 @@ const TERMS: &[Term] = &[
         ]),
         answers: &[Reply::Sum(1)],
     },
-    Term {
+    Row {
         name: "an errand precedes the jobs that wait",
         first: &[1],
         second: &[2],
@@ -94,7 +94,7 @@ const TERMS: &[Term] = &[
         answers: &[Reply::Sum(1)],
     },
     // Three jobs in one group, whose commit is refused with the second of them.
-    Term {
+    Row {
         name: "each item of a refused group is refused",
         first: &[1, 2, 3],
         second: &[],
@@ -106,7 +106,7 @@ const TERMS: &[Term] = &[
         answers: &[Reply::Failed, Reply::Failed, Reply::Failed],
     },
     // What waits is one group, with the tick before it, and 64 items are the most. An end mark is no item, but has a place.
-    Term {
+    Row {
         name: "0 jobs",
         first: &[0; 0],
         second: &[],
@@ -117,7 +117,7 @@ const TERMS: &[Term] = &[
         told: Wanted::Groups(0, &[1]),
         answers: &[],
     },
-    Term {
+    Row {
         name: "1 jobs",
         first: &[0; 1],
         second: &[],
@@ -128,7 +128,7 @@ const TERMS: &[Term] = &[
         told: Wanted::Groups(1, &[2]),
         answers: &[],
     },
-    Term {
+    Row {
         name: "61 jobs",
         first: &[0; 61],
         second: &[],
@@ -139,7 +139,7 @@ const TERMS: &[Term] = &[
         told: Wanted::Groups(61, &[62]),
         answers: &[],
     },
-    Term {
+    Row {
         name: "63 jobs",
         first: &[0; 63],
         second: &[],
@@ -150,7 +150,7 @@ const TERMS: &[Term] = &[
         told: Wanted::Groups(63, &[64]),
         answers: &[],
     },
-    Term {
+    Row {
         name: "64 jobs",
         first: &[0; 64],
         second: &[],
@@ -161,7 +161,7 @@ const TERMS: &[Term] = &[
         told: Wanted::Groups(64, &[64, 1]),
         answers: &[],
     },
-    Term {
+    Row {
         name: "200 jobs",
         first: &[0; 200],
         second: &[],
@@ -206,7 +206,7 @@ fn is_told(told: &Told, wanted: &Wanted) -> bool {
 }
 
 // What a machine keeps whose group was refused is nothing.
-fn keeps(machine: &Counter, row: &Term) -> bool {
+fn keeps(machine: &Counter, row: &Row) -> bool {
     row.refuses_commit == 0 || machine.kept == 0
 }
 
@@ -215,7 +215,7 @@ fn ends<R: Wait>(
     alloc: Global,
     keeper: &mut Keeper<u32, Reply>,
     clock: &Moving,
-    row: &Term,
+    row: &Row,
 ) -> bool {
     let mut machine = Counter::new(0, true);
     machine.errands = row.errands;
@@ -233,7 +233,7 @@ fn goes<R: Wait>(
     a: &mut Seat<u32, Reply>,
     b: &mut Seat<u32, Reply>,
     start: Moment,
-    row: &Term,
+    row: &Row,
 ) -> bool
     requires { (put_by a.old ≡ []) × (put_by b.old ≡ []) }
 {
@@ -245,7 +245,7 @@ fn goes<R: Wait>(
     first && second && closed && ended && takes(rt, a, row.answers)
 }
 
-fn plays<R: Wait>(rt: &R, alloc: Global, start: Moment, row: &Term) -> bool {
+fn plays<R: Wait>(rt: &R, alloc: Global, start: Moment, row: &Row) -> bool {
     match Hub::new::<u32, Reply>(alloc, 256) {
         Ok((mut keeper, mut a, mut b)) => {
             goes(rt, alloc, &mut keeper, &mut a, &mut b, start, row)

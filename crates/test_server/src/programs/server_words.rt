@@ -472,7 +472,7 @@ fn is_whole(words: &ServerWords<'_>) -> bool {
 
 // What words ask for.
 #[derive(Clone, Copy)]
-enum Asked {
+enum Meaning {
     // What was written, without four options.
     Written,
     // What was written, with four options more.
@@ -499,32 +499,32 @@ fn is_by_handset(words: &ServerWords<'_>, wanted: bool) -> bool {
     }
 }
 
-fn is_asked(words: &ServerWords<'_>, asked: Asked) -> bool {
+fn is_asked(words: &ServerWords<'_>, asked: Meaning) -> bool {
     match asked {
-        Asked::Written => is_written(words),
-        Asked::Whole => is_whole(words),
-        Asked::Ends => is_of_ends(words),
-        Asked::ByHandset => is_by_handset(words, true),
-        Asked::Messages => is_by_handset(words, false),
+        Meaning::Written => is_written(words),
+        Meaning::Whole => is_whole(words),
+        Meaning::Ends => is_of_ends(words),
+        Meaning::ByHandset => is_by_handset(words, true),
+        Meaning::Messages => is_by_handset(words, false),
     }
 }
 
-fn ask(alloc: Global, words: &[&str], asked: Asked) -> bool {
+fn ask(alloc: Global, words: &[&str], asked: Meaning) -> bool {
     match server_words(alloc, words) {
         Ok(words) => is_asked(&words, asked),
         Err(_) => false,
     }
 }
 
-const ASKED: &[(&[&str], Asked, &str)] = &[
-    (WORDS, Asked::Written, "five options and an account"),
-    (WHOLE, Asked::Whole, "four more options"),
+const ASKED: &[(&[&str], Meaning, &str)] = &[
+    (WORDS, Meaning::Written, "five options and an account"),
+    (WHOLE, Meaning::Whole, "four more options"),
     (
         &[
             "smscd", "--store", "c", "--smpp", "1", "--links", "2", "--centre", "1", "--log",
             "access",
         ],
-        Asked::Ends,
+        Meaning::Ends,
         "the log's word",
     ),
     (
@@ -537,12 +537,12 @@ const ASKED: &[(&[&str], Asked, &str)] = &[
             "--to",
             "447700900456",
         ],
-        Asked::ByHandset,
+        Meaning::ByHandset,
         "by handset",
     ),
     (
         &["smscd", "show", "--store", "c"],
-        Asked::Messages,
+        Meaning::Messages,
         "messages",
     ),
 ];
