@@ -285,7 +285,10 @@ fn is_content(alloc: Global, data_coding: u8, octets: &[u8], wanted: &ContentOf)
             Ok((dcs, units)) => content.dcs == *dcs && are(content.units.as_slice(), units),
             Err(_) => false,
         },
-        Err(SmppError::Refused(status)) => *wanted == Err(status),
+        Err(SmppError::Refused(status)) => match wanted {
+            Ok(_) => false,
+            Err(wanted) => status == *wanted,
+        },
         Err(SmppError::NoMemory) => false,
     }
 }

@@ -224,8 +224,8 @@ fn what_waits_is_offered_in_turn(rt: HostRuntime) -> Result<(), Fail> {
         plays(rt.alloc(), start, name, steps)?;
     }
     for (attempts, seconds) in WAITS {
-        let again = retry_after(*attempts, start);
-        holds(again == start.plus(*seconds), "the next attempt")?;
+        let again = retry_after(*attempts, start).seconds();
+        holds(again.saturating_sub(START) == *seconds, "the next attempt")?;
     }
     Ok(())
 }
