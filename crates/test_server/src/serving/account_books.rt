@@ -28,13 +28,13 @@ fn book(alloc: Global, is_renewed: bool) -> Result<AccountBook, AllocError> {
 }
 
 // The lists that come in place of app1 and app2, one after the other, and whether each does.
-const LISTS: &[(&[&str], bool)] = &[
-    (&["app1", "app2"], true),
-    (&["app1", "app2", "app3"], true),
-    (&["app1"], false),
-    (&["app2", "app1"], false),
-    (&["app1", "app3", "app2"], false),
-    (&[], false),
+const LISTS: &[(&[&str], bool, &str)] = &[
+    (&["app1", "app2"], true, "the same names"),
+    (&["app1", "app2", "app3"], true, "one name more"),
+    (&["app1"], false, "one name less"),
+    (&["app2", "app1"], false, "another order"),
+    (&["app1", "app3", "app2"], false, "a name between"),
+    (&[], false, "no name"),
 ];
 
 // Whether the list comes in place of the book's.
@@ -45,10 +45,10 @@ fn comes<R: Wait>(rt: &R, alloc: Global, book: &AccountBook, names: &[&str]) -> 
 
 fn are_renewed<R: Wait>(rt: &R, alloc: Global, is_renewed: bool) -> Result<(), Fail> {
     let book = made(book(alloc, is_renewed).ok(), "a book of accounts")?;
-    for (names, takes) in LISTS {
+    for (names, takes, name) in LISTS {
         holds(
             comes(rt, alloc, &book, names) == Some(is_renewed && *takes),
-            "a list in place of another",
+            name,
         )?;
     }
     Ok(())
