@@ -92,7 +92,7 @@ fn long_line(alloc: Global, count: usize) -> Result<Vec<u8>, AllocError> {
 }
 
 // Whether such a line is judged so.
-fn is_judged(alloc: Global, count: usize, wanted: u64) -> bool {
+fn is_judged(alloc: Global, count: usize, wanted: i64) -> bool {
     match long_line(alloc, count) {
         Ok(line) => judged(alloc, line.as_slice()) == wanted,
         Err(_) => false,
