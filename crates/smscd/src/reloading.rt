@@ -135,8 +135,20 @@ fn is_new(known: &[KnownAccount], account: &TableAccount<'_>) -> bool {
     place_of(known, account.name).is_none()
 }
 
-fn count_new(known: &[KnownAccount], now: &[TableAccount<'_>]) -> usize {
-    now.iter().filter(|account| is_new(known, account)).count()
+// The number of the first account for which a run has no place, from 1.
+fn first_beyond(known: &[KnownAccount], now: &[TableAccount<'_>]) -> Option<usize> {
+    let mut number = 0usize;
+    let mut places = known.len();
+    for account in now {
+        number = number.saturating_add(1);
+        if is_new(known, account) {
+            places = places.saturating_add(1);
+        }
+        if places > MOST_ACCOUNTS {
+            return Some(number);
+        }
+    }
+    None
 }
 
 // The accounts that the run does not know, the last one first.
@@ -258,6 +270,20 @@ fn name_of(alloc: Global, account: &CentreAccount) -> Result<String, AllocError>
     Ok(name)
 }
 
+fn no_place_text(alloc: Global, path: &str, line: usize) -> Result<String, AllocError> {
+    Ok(format!(in alloc;
+        "smscd: line {line} of {path}: a run has 32 accounts at most, with those that have gone\n"
+    )?)
+}
+
+// That the account at this line has no place.
+fn no_place(alloc: Global, path: &str, line: usize) -> RunFault {
+    match no_place_text(alloc, path, line) {
+        Ok(text) => RunFault::NotDone(text),
+        Err(_) => RunFault::NoMemory,
+    }
+}
+
 // That the centre has not taken an account.
 fn not_taken(alloc: Global) -> RunFault {
     let mut text = String::new(alloc);
@@ -346,10 +372,14 @@ impl Reloader {
         if let Some(number) = first_other(known, self.of_words, now) {
             return Err(RunFault::OtherAccount(line_at(self.path.as_str(), file, number)));
         }
-        if known.len().saturating_add(count_new(known, now)) > MOST_ACCOUNTS {
-            return Err(RunFault::Accounts);
+        match first_beyond(known, now) {
+            Some(number) => Err(no_place(
+                self.host.alloc(),
+                self.path.as_str(),
+                line_at(self.path.as_str(), file, number),
+            )),
+            None => Ok(()),
         }
-        Ok(())
     }
 
     // Keeps what is to come and to be taken over by these of the file.
