@@ -49,9 +49,10 @@ fn comma_before(place: usize) -> &'static [u8]
 }
 
 /// What may be an element of an array.
-trait Element {
+pub(crate) trait Element {
     ghost text: { Self → List ℕ };
 
+    /// Puts its text behind what is there.
     fn put(&self, out: &mut Octets) -> Result<(), AllocError>
         ensures { OnOk result (out.new ≡ out.old ++ text self.now) };
 }

@@ -84,9 +84,10 @@ fn put_labelled<'a>(
 }
 
 /// What is written one behind another.
-trait Written {
+pub(crate) trait Written {
     ghost text: { Self → List ℕ };
 
+    /// Puts its text behind what is there.
     fn put(&self, out: &mut Octets) -> Result<(), AllocError>
         ensures { OnOk result (out.new ≡ out.old ++ text self.now) };
 }

@@ -88,9 +88,10 @@ fn put_heading(out: &mut Octets, view: &StatusView<'_>) -> Result<(), AllocError
 // ---- rows
 
 /// What is written one behind another: rows of a table, tiles.
-trait Row {
+pub(crate) trait Row {
     ghost text: { Self → List ℕ };
 
+    /// Puts its text behind what is there.
     fn put(&self, out: &mut Octets) -> Result<(), AllocError>
         ensures { OnOk result (out.new ≡ out.old ++ text self.now) };
 }

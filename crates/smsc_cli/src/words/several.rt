@@ -6,6 +6,7 @@ ghost use Rattle.smsc_cli.specs.words.Several.{HasRoom, IsNew};
 pub(crate) trait Named {
     ghost name: { Self → List ℕ };
 
+    /// Whether that is its name.
     fn has_name(&self, text: &str) -> bool
         ensures { (result ≡ true) ↔ name self.now ≡ text.now };
 }
