@@ -25,7 +25,6 @@ use Rattle.sms_alphabet.specs.declared.header_error.HeaderError.{HeaderError}
 use Rattle.sms_alphabet.specs.HeaderGrammar.{header_at}
 use Rattle.sms_concat.specs.declared.split_error.SplitError.{SplitError}
 use Rattle.sms_concat.specs.Splitting.{split_of}
-use Rattle.sms_control.specs.LinkStep.{is_busy}
 use Rattle.sms_control.specs.Timers.{later as later_moment}
 use Rattle.sms_relay.specs.declared.fault.RelayFault.{RelayFault}
 use Rattle.sms_relay.specs.declared.frame.Rp.{Rp}
@@ -54,9 +53,7 @@ use Rattle.sms_handset_rows.specs.declared.inbox.entry.Message.{Message}
 use Rattle.sms_handset_rows.specs.declared.inbox.entry.Message.TheVariants.{Single, Part, Joined}
 use Rattle.sms_handset_rows.specs.declared.outbox.out_entry.OutEntry.{OutEntry}
 use Rattle.sms_handset_rows.specs.outbox.Reports.{reported}
-use Rattle.sms_handset_rows.specs.outbox.Settling.{is_sending, lost}
-use Rattle.sms_handset_rows.specs.outbox.Offers.{first_due, first_fired}
-use Rattle.sms_handset_rows.specs.outbox.References.{held_references, next_free, is_unfinished}
+use Rattle.sms_handset_rows.specs.outbox.References.{is_unfinished}
 use Rattle.sms_handset_rows.specs.declared.outbox.notice.Notice.{Notice}
 use Rattle.sms_handset_rows.specs.outbox.Keys.{notice_key, out_key}
 use Rattle.sms_concat.specs.TextContent.{content_of_text}
@@ -64,13 +61,14 @@ use Rattle.sms_handset.specs.Accepted.{Contains, IsPut, StoresAccepted, IsOfDisc
 use Rattle.sms_handset_draft.specs.Draft.{Draft, put_entry, remove_entry, put_mark, remove_mark, put_out, Core, draft_of, link_of, with_turn, remove_out, put_counters}
 use Rattle.sms_handset_draft.specs.Storing.{free_all, drop_all, ended, count_entry, keep, store_part, store_single, completed, marked}
 use Rattle.sms_handset_draft.specs.Receiving.{accept, no_room, single_received, new_part_received, member_received, part_received, deliver_received, note, tpdu_received, acknowledge, data_received, unit_received}
-use Rattle.sms_handset_draft.specs.MemoryAvailable.{has_room, first_notice, notice_failed, put_notice, remove_notice, notice_ended, notice_concluded, freed, want_notice}
-use Rattle.sms_handset_draft.specs.Outbox.{lapse_rows, lapse, offer_entry, is_notice_next, offer_message, offer_wanted, offer_after, follow, offer, entry_concluded, holder_concluded, transfer_ended}
+use Rattle.sms_handset_draft.specs.MemoryAvailable.{has_room, notice_failed, put_notice, remove_notice, notice_ended, notice_concluded, freed, want_notice}
+use Rattle.sms_handset_draft.specs.Outbox.{lapse_rows, lapse, follow, entry_concluded, holder_concluded, transfer_ended}
 use Rattle.sms_handset_draft.specs.FramesAndTicks.{went_up, frame_heard, timed_out, at_moment, timers_fired}
 use Rattle.sms_handset.specs.HandsetEvent.{frame_received, ticked, acted, wrote, deleted, discarded}
 use Rattle.sms_handset.specs.declared.refusal.Refusal.{Refusal}
 use Rattle.sms_handset.specs.OwnersActs.{write_part, write_parts, count_split, fits_outbox, write_to, written, write_split, delete_out, delete_in, discard_group, discard_members, discard_in, discard_at, write, delete, discard}
 use Rattle.sms_handset.specs.declared.refusal.Refusal.TheVariants.{OutboxFull, StillOpen, NoEntry, TooManyDiscarded}
+use Rattle.sms_handset.proofs.KeptByStages.{KeptByOffers, lapse_keeps, offer_keeps, AnyEntry, lapses_each}
 
 -- ---- lists
 
@@ -339,48 +337,34 @@ pub record Untouched (d z : Draft) : Type 0 where
 pub kept : (d : Draft) → Untouched d d
 kept d = record { entries = refl; changed = refl; last = refl; number = refl }
 
-kept_then : (d e z : Draft) → Untouched d e → Untouched e z → Untouched d z
-kept_then d e z a b = record { entries = b.entries ∙ a.entries; changed = b.changed ∙ a.changed; last = b.last ∙ a.last; number = b.number ∙ a.number }
-
 preserved_law : (marks : List DiscardedGroup) (d z : Draft) → Untouched d z → Law marks d → Law marks z
 preserved_law marks d z k h l a m f =
     ⊎_elim (λ (x : IsOfDiscarded marks m). inl x)
     (λ (x : Stored d l.tpdu m). inr (x.0, ((subst (λ (cs : List (Change Entry)). Among (Put x.0) cs) (sym k.changed) x.1.0.0, subst (λ (es : List Entry). Among x.0 es) (sym k.entries) x.1.0.1), x.1.1)))
     (h l (subst (λ (cs : List (Change LastAccepted)). Among (Put l) cs) k.last a) m f)
 
-lapse_rows_preserved : (os : List OutEntry) (d : Draft) → Untouched d (lapse_rows os d)
-lapse_rows_preserved [] d = kept d
-lapse_rows_preserved (o ∷ os) d =
-    let e : Draft = cond (is_sending o.state) (put_out (lost o) d) d in
-    kept_then d e (lapse_rows os e)
-    (cond_both (is_sending o.state) (put_out (lost o) d) d (λ (z : Draft). Untouched d z) (λ t. record { entries = refl; changed = refl; last = refl; number = refl }) (λ t. kept d))
-    (lapse_rows_preserved os e)
+-- an entry of the outbox, a link and RP-SMMA are none of these
+still_untouched : (d y z : Draft) → Untouched d y → Untouched y z → Untouched d z
+still_untouched d y z a b = record { entries = b.entries ∙ a.entries; changed = b.changed ∙ a.changed; last = b.last ∙ a.last; number = b.number ∙ a.number }
 
-lapse_preserved : (d : Draft) → Untouched d (lapse d)
-lapse_preserved d =
-    cond_both d.is_recovered (lapse_rows d.rows.outbox (record d { is_recovered = false })) d (λ (z : Draft). Untouched d z)
-    (λ t. let k = lapse_rows_preserved d.rows.outbox (record d { is_recovered = false }) in record { entries = k.entries; changed = k.changed; last = k.last; number = k.number })
-    (λ t. kept d)
+out_untouched : (d : Draft) (o : OutEntry) (z : Draft) → AnyEntry o → Untouched d z → Untouched d (put_out o z)
+out_untouched d o z known k = still_untouched d z (put_out o z) k (record { entries = refl; changed = refl; last = refl; number = refl })
 
-offer_entry_preserved : (o : Option OutEntry) (d : Draft) → Untouched d (offer_entry o d)
-offer_entry_preserved None d = kept d
-offer_entry_preserved (Some o) d = record { entries = refl; changed = refl; last = refl; number = refl }
+lapsed_untouched : (d z : Draft) → Untouched d z → Untouched d (lapse_rows z.rows.outbox (record z { is_recovered = false }))
+lapsed_untouched d z k =
+    lapses_each (Untouched d) AnyEntry (λ o known. tt) (out_untouched d) z.rows.outbox (record z { is_recovered = false }) (λ o i. tt)
+    (record { entries = k.entries; changed = k.changed; last = k.last; number = k.number })
 
-offer_wanted_preserved : (d : Draft) → Untouched d (offer_wanted d)
-offer_wanted_preserved d =
-    cond_both (is_notice_next d)
-    (first_notice d.rows.counters.notice (next_free d.rows.counters.reference (held_references d.notices d.rows.outbox)) d) (offer_message d) (λ (z : Draft). Untouched d z)
-    (λ t. record { entries = refl; changed = refl; last = refl; number = refl }) (λ t. offer_entry_preserved (first_due d.moment d.rows.outbox) d)
-
-offer_after_preserved : (n : Option Notice) (d : Draft) → Untouched d (offer_after n d)
-offer_after_preserved None d = offer_wanted_preserved d
-offer_after_preserved (Some n) d = record { entries = refl; changed = refl; last = refl; number = refl }
+offers_untouched : (d : Draft) → KeptByOffers (Untouched d) (Untouched d)
+offers_untouched d = record {
+  nothing = λ z k. k;
+  entry = λ o z due idle k. record { entries = k.entries; changed = k.changed; last = k.last; number = k.number };
+  notice_again = λ n z i idle k. record { entries = k.entries; changed = k.changed; last = k.last; number = k.number };
+  notice_first = λ z idle k. record { entries = k.entries; changed = k.changed; last = k.last; number = k.number };
+}
 
 pub follow_preserved : (d : Draft) → Untouched d (follow d)
-follow_preserved d =
-    let e : Draft = lapse d in
-    kept_then d e (offer e) (lapse_preserved d)
-    (cond_both (is_busy e.links) e (offer_after (first_fired e.moment e.notices) e) (λ (z : Draft). Untouched e z) (λ t. kept e) (λ t. offer_after_preserved (first_fired e.moment e.notices) e))
+follow_preserved d = offer_keeps (Untouched d) (Untouched d) (offers_untouched d) (lapse d) (lapse_keeps (Untouched d) (lapsed_untouched d) d (kept d))
 
 -- ---- a frame
 

@@ -3,6 +3,7 @@ pub mod IndexStages
 pub mod GroupStages
 pub mod Judging
 pub mod JudgedTexts
+pub mod KeptByRows
 pub mod KeptByStages
 pub mod PlansStore
 pub mod Resting

@@ -68,7 +68,7 @@ use Rattle.sms_link.proofs.Known.{begin_is}
 use Rattle.sms_play.specs.PlayState.{Party}
 use Rattle.sms_control.specs.declared.message.Cp.TheVariants.{DataUnit as CpData}
 use Rattle.sms_control.specs.ControlGrammar.{spelled}
-use Rattle.sms_world.proofs.HandsetStages.{AnyReference, AnyUnit, IfDone, IsKnownFirst, IsKnownUp, IsSameEntry, KeptByMoves, KeptByOffers, KeptByWriting, delete_keeps, discard_keeps, frame_keeps, lapse_keeps, lost_same, offer_keeps, settled_same, timers_keep, write_keeps}
+use Rattle.sms_handset.proofs.KeptByStages.{AnyReference, AnyUnit, IfDone, IsKnownFirst, IsKnownUp, IsSameEntry, KeptByMoves, KeptByOffers, KeptByWriting, delete_keeps, discard_keeps, frame_keeps, lapse_keeps, lost_same, offer_keeps, settled_same, timers_keep, write_keeps}
 
 -- ---- plain facts of rows
 

@@ -56,7 +56,7 @@ use Rattle.sms_world.proofs.handset_runs_are_steps.Concluding.{lost_law, notice_
 use Rattle.sms_world.proofs.frames_pass_between_sides.Linking.{begin_is, data_framed, next_below}
 use Rattle.sms_world.proofs.handset_runs_are_steps.Moving.{frames_more, links_more, moves_then, stays, whole_both}
 use Rattle.sms_world.proofs.handset_runs_are_steps.Submitting.{centre_is, data_fits, data_read, data_some, submit_fits, submit_is}
-use Rattle.sms_world.proofs.HandsetStages.{fired_among}
+use Rattle.sms_handset.proofs.KeptByStages.{fired_among}
 
 -- ---- a transaction begins
 
