@@ -41,7 +41,7 @@ use Rattle.sms_handset_rows.specs.declared.outbox.out_entry.OutEntry.{OutEntry}
 use Rattle.sms_handset_rows.proofs.outbox.SoundWriting.{IsWritable, split_is_writable, written_fits}
 use Rattle.sms_handset_draft.specs.Draft.{Draft, begin, link_of, put_counters, put_out, remove_out, reply, with_turn}
 use Rattle.sms_handset_draft.specs.MemoryAvailable.{first_notice, put_notice, remove_notice, send_notice}
-use Rattle.sms_handset_draft.specs.Outbox.{follow, lapse, offer_entry}
+use Rattle.sms_handset_draft.specs.Outbox.{follow, lapse, offer_entry, lapse_rows}
 use Rattle.sms_handset_draft.specs.Receiving.{acknowledge, refuse, reject}
 use Rattle.sms_relay.specs.Rejecting.{fault_cause}
 use Rattle.sms_handset.specs.OwnersActs.{count_split, delete, discard, write, write_part}

@@ -46,7 +46,7 @@ use Rattle.sms_handset_rows.proofs.outbox.SoundWriting.{IsWritable, split_is_wri
 use Rattle.sms_handset_draft.specs.Draft.{Core, Draft, begin, draft_of, link_of, put_counters, put_out, remove_out, reply, with_turn}
 use Rattle.sms_handset_draft.specs.FramesAndTicks.{at_moment, frame_heard, timers_fired}
 use Rattle.sms_handset_draft.specs.MemoryAvailable.{first_notice, put_notice, send_notice}
-use Rattle.sms_handset_draft.specs.Outbox.{follow, lapse, offer_entry}
+use Rattle.sms_handset_draft.specs.Outbox.{follow, lapse, offer_entry, lapse_rows}
 use Rattle.sms_handset_draft.specs.Receiving.{acknowledge, refuse, reject}
 use Rattle.sms_relay.specs.Rejecting.{fault_cause}
 use Rattle.sms_handset.specs.HandsetEvent.{tag_of}
