@@ -145,13 +145,20 @@ abbrev pub IfDone : (Draft → Type 0) → Result Draft Refusal → Type 0
 IfDone P (Ok d) = P d
 IfDone P (Err refusal) = Unit {0}
 
--- The fact P is kept by each move. An answer goes under a reference that has A, to a unit of which U is known. S is known of a transfer
--- that ended: its reference, and what it was for.
+-- The fact P is kept where a transfer ends. S is known of it: its reference, and what it was for.
+pub record KeptByEnds (P : Draft → Type 0) (S : ℕ → Holder → Draft → Type 0) : Type 0 where
+  pub entry_settled : (v : Ending) (reference n : ℕ) (o : OutEntry) (d : Draft) → S reference (EntryHolder n) d → row_at out_key n d.rows.outbox ≡ Some o → P d → P (put_out (settled d.moment (verdict_of v) o) d)
+  pub notice_put : (n : Notice) (is_second : Bool) (due : Option ℕ) (d : Draft) → Among n d.notices → P d → P (put_notice (record n { is_second = is_second; due = due }) d)
+  pub notice_removed : (n : ℕ) (d : Draft) → P d → P (remove_notice n d)
+
+-- It is kept by each move. An answer goes under a reference that has A, to a unit of which U is known.
 pub record KeptByMoves (P : Draft → Type 0) (A : ℕ → Type 0) (U : List ℕ → Result Rp RelayFault → Type 0) (S : ℕ → Holder → Draft → Type 0) : Type 0 where
+  -- a transfer ends
+  pub ends : KeptByEnds P S
   -- the inbox
   pub entry_put : (e : Entry) (d : Draft) → P d → P (put_entry e d)
   pub entry_removed : (n : ℕ) (d : Draft) → P d → P (remove_entry n d)
-  pub last_put : (l : LastAccepted) (d : Draft) → P d → P (put_last l d)
+  pub last_put : (l : LastAccepted) (d : Draft) → A l.reference → P d → P (put_last l d)
   pub mark_put : (m : DiscardedGroup) (d : Draft) → P d → P (put_mark m d)
   pub mark_removed : (n : ℕ) (d : Draft) → P d → P (remove_mark n d)
   pub entry_counted : (d : Draft) → P d → P (count_entry d)
@@ -163,13 +170,48 @@ pub record KeptByMoves (P : Draft → Type 0) (A : ℕ → Type 0) (U : List ℕ
   pub full : (reference : ℕ) (tag : Holder) (d : Draft) → A reference → P d → P (refuse reference tag MemoryCapacityExceeded 211 d)
   pub unreadable : (reference : ℕ) (tag : Holder) (d : Draft) → A reference → P d → P (refuse reference tag InvalidMandatoryInformation 255 d)
   pub rejected : (reference : ℕ) (tag : Holder) (fault : RelayFault) (d : Draft) → A reference → P d → P (reject reference tag (fault_cause fault) d)
-  -- the outbox
+  -- a STATUS-REPORT
   pub status_noted : (o : OutEntry) (status : ℕ) (d : Draft) → Among o d.rows.outbox → P d → P (put_out (record o { status = Some status }) d)
-  pub entry_settled : (v : Ending) (reference n : ℕ) (o : OutEntry) (d : Draft) → S reference (EntryHolder n) d → row_at out_key n d.rows.outbox ≡ Some o → P d → P (put_out (settled d.moment (verdict_of v) o) d)
   -- RP-SMMA
   pub notice_wanted : (d : Draft) → P d → P (want_notice d)
-  pub notice_put : (n : Notice) (is_second : Bool) (due : Option ℕ) (d : Draft) → Among n d.notices → P d → P (put_notice (record n { is_second = is_second; due = due }) d)
-  pub notice_removed : (n : ℕ) (d : Draft) → P d → P (remove_notice n d)
+
+-- ---- a transfer ends
+
+module _ (P : Draft → Type 0) (S : ℕ → Holder → Draft → Type 0) (k : KeptByEnds P S) where
+  notice_fails : (n : Notice) (d : Draft) → Among n d.notices → P d → P (notice_failed n d)
+  notice_fails n d i h =
+      cond_both n.is_second (remove_notice n.number d) (put_notice (record n { is_second = true; due = Some (later d.moment tram) }) d) (λ (z : Draft). P z)
+      (λ t. k.notice_removed n.number d h) (λ t. k.notice_put n true (Some (later d.moment tram)) d i h)
+
+  notice_ends : (v : Ending) (n : Notice) (d : Draft) → Among n d.notices → P d → P (notice_ended v n d)
+  notice_ends AcknowledgedEnd n d i h = k.notice_removed n.number d h
+  notice_ends (RefusedEnd cause tpdu) n d i h = notice_fails n d i h
+  notice_ends WrongEnd n d i h = notice_fails n d i h
+  notice_ends LostEnd n d i h = notice_fails n d i h
+
+  notice_concludes : (v : Ending) (n : ℕ) (o : Option Notice) (d : Draft) → row_at notice_key n d.notices ≡ o → P d → P (notice_concluded v o d)
+  notice_concludes v n None d e h = h
+  notice_concludes v n (Some x) d e h = notice_ends v x d (found_among notice_key n x d.notices e) h
+
+  entry_concludes : (v : Ending) (r n : ℕ) (o : Option OutEntry) (d : Draft) → S r (EntryHolder n) d → row_at out_key n d.rows.outbox ≡ o → P d → P (entry_concluded v o d)
+  entry_concludes v r n None d s e h = h
+  entry_concludes v r n (Some o) d s e h = k.entry_settled v r n o d s e h
+
+  pub holder_keeps : (v : Ending) (r : ℕ) (x : Holder) (d : Draft) → S r x d → P d → P (holder_concluded v x d)
+  holder_keeps v r (PartHolder id number) d s h = h
+  holder_keeps v r (Report id) d s h = h
+  holder_keeps v r (EntryHolder n) d s h = entry_concludes v r n (row_at out_key n d.rows.outbox) d s refl h
+  holder_keeps v r (Memory n) d s h = notice_concludes v n (row_at notice_key n d.notices) d refl h
+
+  times_out : (up : Option Upward) (d : Draft) → IsKnownUp AnyUnit S up d → P d → P (timed_out up d)
+  times_out None d s h = h
+  times_out (Some (Opened unit)) d s h = h
+  times_out (Some (Ended transfer ending)) d s h = holder_keeps ending transfer.reference transfer.tag d s h
+
+  pub timers_keep : (turn : Turn) (d : Draft) → IsKnownUp AnyUnit S turn.out.up (with_turn turn d) → P (with_turn turn d) → P (timers_fired turn d)
+  timers_keep turn d s h = times_out turn.out.up (with_turn turn d) s h
+
+-- ---- each move
 
 module _ (P : Draft → Type 0) (A : ℕ → Type 0) (U : List ℕ → Result Rp RelayFault → Type 0) (S : ℕ → Holder → Draft → Type 0) (k : KeptByMoves P A U S) where
   -- ---- groups
@@ -186,7 +228,7 @@ module _ (P : Draft → Type 0) (A : ℕ → Type 0) (U : List ℕ → Result Rp
   ends_group g es None d h = frees es d h
   ends_group g es (Some c) d h = k.entry_put (joined_entry g es c) (drop_all es d) (drops es d h)
 
-  completes : (g : Group) (es : List Entry) (d : Draft) → P d → P (completed g es d)
+  pub completes : (g : Group) (es : List Entry) (d : Draft) → P d → P (completed g es d)
   completes g es d h =
       cond_both (all_numbers g.total (part_numbers es)) (ended g es (joined_content g es) d) d (λ (z : Draft). P z) (λ t. ends_group g es (joined_content g es) d h) (λ t. h)
 
@@ -198,7 +240,7 @@ module _ (P : Draft → Type 0) (A : ℕ → Type 0) (U : List ℕ → Result Rp
       let e : Entry = part_entry d.rows.counters.entry g n tpdu in
       completes g (es ++ e ∷ []) (put_entry e (count_entry d)) (k.entry_put e (count_entry d) (k.entry_counted d h))
 
-  marks : (n : ℕ) (m : DiscardedGroup) (d : Draft) → P d → P (marked n m d)
+  pub marks : (n : ℕ) (m : DiscardedGroup) (d : Draft) → P d → P (marked n m d)
   marks n m d h =
       cond_both (all_numbers m.group.total (m.seen ++ n ∷ [])) (remove_mark m.number d) (put_mark (record m { seen = m.seen ++ n ∷ [] }) d) (λ (z : Draft). P z)
       (λ t. k.mark_removed m.number d h) (λ t. k.mark_put (record m { seen = m.seen ++ n ∷ [] }) d h)
@@ -207,7 +249,7 @@ module _ (P : Draft → Type 0) (A : ℕ → Type 0) (U : List ℕ → Result Rp
 
   module _ (r : ℕ) (tag : Holder) (tpdu : List ℕ) (a : A r) where
     accepts : (d : Draft) → P d → P (accept r tag tpdu d)
-    accepts d h = k.acknowledged r tag (put_last (record { reference = r; tpdu = tpdu }) d) a (k.last_put (record { reference = r; tpdu = tpdu }) d h)
+    accepts d h = k.acknowledged r tag (put_last (record { reference = r; tpdu = tpdu }) d) a (k.last_put (record { reference = r; tpdu = tpdu }) d a h)
 
     refuses : (d : Draft) → P d → P (no_room r tag d)
     refuses d h = k.full r tag (flag d) a (k.memory_flagged true d h)
@@ -256,50 +298,15 @@ module _ (P : Draft → Type 0) (A : ℕ → Type 0) (U : List ℕ → Result Rp
   unit_arrives tag unit (Ok (Smma r)) d a h = h
   unit_arrives tag unit (Err fault) d a h = k.rejected (reference_octet unit) tag fault d (k.fault_answered unit fault a) h
 
-  -- ---- a transfer ends
-
-  notice_fails : (n : Notice) (d : Draft) → Among n d.notices → P d → P (notice_failed n d)
-  notice_fails n d i h =
-      cond_both n.is_second (remove_notice n.number d) (put_notice (record n { is_second = true; due = Some (later d.moment tram) }) d) (λ (z : Draft). P z)
-      (λ t. k.notice_removed n.number d h) (λ t. k.notice_put n true (Some (later d.moment tram)) d i h)
-
-  notice_ends : (v : Ending) (n : Notice) (d : Draft) → Among n d.notices → P d → P (notice_ended v n d)
-  notice_ends AcknowledgedEnd n d i h = k.notice_removed n.number d h
-  notice_ends (RefusedEnd cause tpdu) n d i h = notice_fails n d i h
-  notice_ends WrongEnd n d i h = notice_fails n d i h
-  notice_ends LostEnd n d i h = notice_fails n d i h
-
-  notice_concludes : (v : Ending) (n : ℕ) (o : Option Notice) (d : Draft) → row_at notice_key n d.notices ≡ o → P d → P (notice_concluded v o d)
-  notice_concludes v n None d e h = h
-  notice_concludes v n (Some x) d e h = notice_ends v x d (found_among notice_key n x d.notices e) h
-
-  entry_concludes : (v : Ending) (r n : ℕ) (o : Option OutEntry) (d : Draft) → S r (EntryHolder n) d → row_at out_key n d.rows.outbox ≡ o → P d → P (entry_concluded v o d)
-  entry_concludes v r n None d s e h = h
-  entry_concludes v r n (Some o) d s e h = k.entry_settled v r n o d s e h
-
-  holder_concludes : (v : Ending) (r : ℕ) (x : Holder) (d : Draft) → S r x d → P d → P (holder_concluded v x d)
-  holder_concludes v r (PartHolder id number) d s h = h
-  holder_concludes v r (Report id) d s h = h
-  holder_concludes v r (EntryHolder n) d s h = entry_concludes v r n (row_at out_key n d.rows.outbox) d s refl h
-  holder_concludes v r (Memory n) d s h = notice_concludes v n (row_at notice_key n d.notices) d refl h
-
-  -- ---- a frame, and a tick
+  -- ---- a frame
 
   goes_up : (tag : Holder) (up : Option Upward) (d : Draft) → IsKnownUp U S up d → P d → P (went_up tag up d)
   goes_up tag None d s h = h
   goes_up tag (Some (Opened unit)) d s h = unit_arrives tag unit (unit_at unit) d s h
-  goes_up tag (Some (Ended transfer ending)) d s h = holder_concludes ending transfer.reference transfer.tag d s h
+  goes_up tag (Some (Ended transfer ending)) d s h = holder_keeps P S k.ends ending transfer.reference transfer.tag d s h
 
   pub frame_keeps : (tag : Holder) (turn : Turn) (d : Draft) → IsKnownUp U S turn.out.up (with_turn turn d) → P (with_turn turn d) → P (frame_heard tag turn d)
   frame_keeps tag turn d s h = goes_up tag turn.out.up (with_turn turn d) s h
-
-  times_out : (up : Option Upward) (d : Draft) → IsKnownUp U S up d → P d → P (timed_out up d)
-  times_out None d s h = h
-  times_out (Some (Opened unit)) d s h = h
-  times_out (Some (Ended transfer ending)) d s h = holder_concludes ending transfer.reference transfer.tag d s h
-
-  pub timers_keep : (turn : Turn) (d : Draft) → IsKnownUp U S turn.out.up (with_turn turn d) → P (with_turn turn d) → P (timers_fired turn d)
-  timers_keep turn d s h = times_out turn.out.up (with_turn turn d) s h
 
   -- ---- what is deleted and discarded
 
@@ -361,7 +368,7 @@ pub record KeptByOffers (P Q : Draft → Type 0) : Type 0 where
   pub nothing : (d : Draft) → P d → Q d
   pub entry : (o : OutEntry) (d : Draft) → IsDue d.rows.outbox o → is_busy d.links ≡ false → P d → Q (offer_entry (Some o) d)
   pub notice_again : (n : Notice) (d : Draft) → Among n d.notices → is_busy d.links ≡ false → P d → Q (send_notice n d)
-  pub notice_first : (d : Draft) → is_busy d.links ≡ false → P d → Q (first_notice d.rows.counters.notice (next_free d.rows.counters.reference (held_references d.notices d.rows.outbox)) d)
+  pub notice_first : (d : Draft) → is_notice_next d ≡ true → is_busy d.links ≡ false → P d → Q (first_notice d.rows.counters.notice (next_free d.rows.counters.reference (held_references d.notices d.rows.outbox)) d)
 
 module _ (P Q : Draft → Type 0) (k : KeptByOffers P Q) where
   offers_entry : (o : Option OutEntry) (d : Draft) → first_due d.moment d.rows.outbox ≡ o → is_busy d.links ≡ false → P d → Q (offer_entry o d)
@@ -372,7 +379,7 @@ module _ (P Q : Draft → Type 0) (k : KeptByOffers P Q) where
   offers_wanted d idle h =
       let r : ℕ = next_free d.rows.counters.reference (held_references d.notices d.rows.outbox) in
       cond_both (is_notice_next d) (first_notice d.rows.counters.notice r d) (offer_message d) (λ (z : Draft). Q z)
-      (λ t. k.notice_first d idle h) (λ t. offers_entry (first_due d.moment d.rows.outbox) d refl idle h)
+      (λ t. k.notice_first d t idle h) (λ t. offers_entry (first_due d.moment d.rows.outbox) d refl idle h)
 
   offers_after : (n : Option Notice) (d : Draft) → first_fired d.moment d.notices ≡ n → is_busy d.links ≡ false → P d → Q (offer_after n d)
   offers_after None d e idle h = offers_wanted d idle h

@@ -68,7 +68,7 @@ use Rattle.sms_link.proofs.Known.{begin_is}
 use Rattle.sms_play.specs.PlayState.{Party}
 use Rattle.sms_control.specs.declared.message.Cp.TheVariants.{DataUnit as CpData}
 use Rattle.sms_control.specs.ControlGrammar.{spelled}
-use Rattle.sms_handset.proofs.KeptByStages.{AnyReference, AnyUnit, IfDone, IsKnownFirst, IsKnownUp, IsSameEntry, KeptByMoves, KeptByOffers, KeptByWriting, delete_keeps, discard_keeps, frame_keeps, lapse_keeps, lost_same, offer_keeps, settled_same, timers_keep, write_keeps}
+use Rattle.sms_handset.proofs.KeptByStages.{AnyReference, AnyUnit, IfDone, IsKnownFirst, IsKnownUp, IsSameEntry, KeptByEnds, KeptByMoves, KeptByOffers, KeptByWriting, delete_keeps, discard_keeps, frame_keeps, lapse_keeps, lost_same, offer_keeps, settled_same, timers_keep, write_keeps}
 
 -- ---- plain facts of rows
 
@@ -370,11 +370,19 @@ module _ (h : List ℕ) (given : List GivenRow) (base : List OutEntry) (next fir
       (out_put (Waits first) o (lost o) d (there o (inl refl)) (lost_same o) (λ u. is_open o.state (is_sending_state o.state t)) (λ q. absurd (not_both o.state q.0 (is_sending_state o.state t))) s))
       (λ t. lapses os d r.1 (λ x i. there x (inr i)) s)
 
+  ends_kept : KeptByEnds AgreesAt IsSentIn
+  ends_kept = record {
+    entry_settled = settles;
+    notice_put = λ n is_second due d i s. notice_put (record n { is_second = is_second; due = due }) d (s.below n i) s;
+    notice_removed = notice_removed;
+  }
+
   agrees_kept : KeptByMoves AgreesAt AnyReference AnyUnit IsSentIn
   agrees_kept = record {
+    ends = ends_kept;
     entry_put = λ e d s. s;
     entry_removed = λ n d s. s;
-    last_put = λ l d s. s;
+    last_put = λ l d a s. s;
     mark_put = λ m d s. s;
     mark_removed = λ n d s. s;
     entry_counted = λ d s. s;
@@ -386,10 +394,7 @@ module _ (h : List ℕ) (given : List GivenRow) (base : List OutEntry) (next fir
     unreadable = λ reference tag d a s. refuses reference tag InvalidMandatoryInformation 255 d s;
     rejected = λ reference tag fault d a s. rejects reference tag (fault_cause fault) d s;
     status_noted = λ o status d i s. out_put (Waits first) o (record o { status = Some status }) d (among_found out_key o d.rows.outbox s.order i) (refl, refl, refl) (λ u. u) (λ q. q) s;
-    entry_settled = settles;
     notice_wanted = λ d s. s;
-    notice_put = λ n is_second due d i s. notice_put (record n { is_second = is_second; due = due }) d (s.below n i) s;
-    notice_removed = notice_removed;
   }
 
   -- what is passed up of a transfer is of one that was under way
@@ -531,7 +536,7 @@ module _ (h : List ℕ) (given : List GivenRow) (base : List OutEntry) (next fir
     nothing = λ d s. ends d (opens d s.1);
     entry = λ o d i idle s. offers_entry o d i s.1;
     notice_again = λ n d i idle s. sends_again n d (s.1.below n i) s.1;
-    notice_first = λ d idle s. sends_first (next_free d.rows.counters.reference (held_references d.notices d.rows.outbox)) d idle (free_next d s.0) s.1;
+    notice_first = λ d next idle s. sends_first (next_free d.rows.counters.reference (held_references d.notices d.rows.outbox)) d idle (free_next d s.0) s.1;
   }
 
   follows : (d : Draft) → SoundAt d → AgreesAt d → Ends (follow d)
@@ -677,7 +682,7 @@ module _ (h : List ℕ) (given : List GivenRow) (base : List OutEntry) (next fir
         let turn : Turn = fired d.moment (link_of d) in
         let step : Step = fire_step d.moment c.links in
         follows (timers_fired turn d) (timed_out_sound step.out.up c.under_way (with_turn turn d) refl (sound_from c sound))
-        (timers_keep AgreesAt AnyReference AnyUnit IsSentIn agrees_kept turn d (sent_up step.out.up c.under_way (with_turn turn d) sound.under_way)
+        (timers_keep AgreesAt IsSentIn ends_kept turn d (sent_up step.out.up c.under_way (with_turn turn d) sound.under_way)
         (turned turn d (copies_reported h d.moment next c.under_way c.answered step.out.frames) (start d.moment)))
 
     writing : Writes (draft_of c)

@@ -45,7 +45,7 @@ ticks now c k =
     let d : Draft = at_moment now (draft_of c) in
     let turn : Turn = fired d.moment (link_of d) in
     let t = fired_fits d.moment (link_of d) k.link in
-    follows (timers_fired turn d) (fires turn d t.up (turn_fits turn d t (k, tt)))
+    follows (timers_fired turn d) (fires turn d (turn_fits turn d t (k, tt)))
 
 acts : (r : Result Draft Refusal) → IfDoneOctets r → IfDoneOctets (acted r)
 acts r s = acted_keeps OctetsAt OctetsAt follows r s

@@ -50,7 +50,7 @@ use Rattle.sms_world.specs.handsets_send_octets.Arriving.{IsAnsweredInOctet}
 use Rattle.sms_world.specs.handsets_send_octets.Keeping.{EntryInOctets, KeepsOctets, SentInOctets}
 use Rattle.sms_world.proofs.handsets_send_octets.LinkOctets.{TurnFits, UnitFits, UpwardFits, begun_fits, both_sent, replied_fits}
 use Rattle.sms_world.proofs.handsets_send_octets.WrittenOctets.{PartInOctets, relay_fits, submit_fits, text_fits}
-use Rattle.sms_handset.proofs.KeptByStages.{AnyTransfer, IfDone, IsKnownUp, IsSameEntry, KeptByMoves, KeptByOffers, KeptByWriting, delete_keeps, discard_keeps, frame_keeps, lapse_keeps, lapses_each, lost_same, offer_keeps, settled_same, timers_keep, write_keeps}
+use Rattle.sms_handset.proofs.KeptByStages.{AnyTransfer, IfDone, IsKnownUp, IsSameEntry, KeptByEnds, KeptByMoves, KeptByOffers, KeptByWriting, any_up, delete_keeps, discard_keeps, frame_keeps, lapse_keeps, lapses_each, lost_same, offer_keeps, settled_same, timers_keep, write_keeps}
 use Rattle.sms_handset.proofs.SoundTransfers.{IsDue}
 use Rattle.sms_handset_draft.specs.FramesAndTicks.{frame_heard, timers_fired}
 
@@ -206,11 +206,21 @@ lost_fits o e = same_fits o (lost o) (lost_same o) e
 
 -- ---- the moves of a frame, of a tick, and of what is deleted or discarded
 
+ends_kept : KeptByEnds OctetsAt AnyTransfer
+ends_kept = record {
+  entry_settled = λ v reference n o d t e s.
+      let x : OutEntry = settled d.moment (verdict_of v) o in
+      out_put x d (same_fits o x (settled_same d.moment (verdict_of v) o) (s.0.outbox o (found_among out_key n o d.rows.outbox e))) s;
+  notice_put = λ n is_second due d i s. notice_put (record n { is_second = is_second; due = due }) d (s.0.notices n i) s;
+  notice_removed = notice_removed;
+}
+
 octets_kept : KeptByMoves OctetsAt IsOctet IsAnsweredInOctet AnyTransfer
 octets_kept = record {
+  ends = ends_kept;
   entry_put = λ e d s. s;
   entry_removed = λ n d s. s;
-  last_put = λ l d s. s;
+  last_put = λ l d a s. s;
   mark_put = λ m d s. s;
   mark_removed = λ n d s. s;
   entry_counted = λ d s. s;
@@ -222,12 +232,7 @@ octets_kept = record {
   unreadable = unreadable;
   rejected = λ reference tag fault d r s. rejects reference tag (fault_cause fault) d r (cause_small fault) s;
   status_noted = λ o status d i s. out_put (record o { status = Some status }) d (same_fits o (record o { status = Some status }) (refl, refl, refl) (s.0.outbox o i)) s;
-  entry_settled = λ v reference n o d t e s.
-      let x : OutEntry = settled d.moment (verdict_of v) o in
-      out_put x d (same_fits o x (settled_same d.moment (verdict_of v) o) (s.0.outbox o (found_among out_key n o d.rows.outbox e))) s;
   notice_wanted = λ d s. s;
-  notice_put = λ n is_second due d i s. notice_put (record n { is_second = is_second; due = due }) d (s.0.notices n i) s;
-  notice_removed = notice_removed;
 }
 
 up_known : (up : Option Upward) (d : Draft) → UpwardFits up → IsKnownUp IsAnsweredInOctet AnyTransfer up d
@@ -238,8 +243,8 @@ up_known (Some (Ended transfer ending)) d u = tt
 pub heard : (tag : Holder) (turn : Turn) (d : Draft) → UpwardFits turn.out.up → OctetsAt (with_turn turn d) → OctetsAt (frame_heard tag turn d)
 heard tag turn d u s = frame_keeps OctetsAt IsOctet IsAnsweredInOctet AnyTransfer octets_kept tag turn d (up_known turn.out.up (with_turn turn d) u) s
 
-pub fires : (turn : Turn) (d : Draft) → UpwardFits turn.out.up → OctetsAt (with_turn turn d) → OctetsAt (timers_fired turn d)
-fires turn d u s = timers_keep OctetsAt IsOctet IsAnsweredInOctet AnyTransfer octets_kept turn d (up_known turn.out.up (with_turn turn d) u) s
+pub fires : (turn : Turn) (d : Draft) → OctetsAt (with_turn turn d) → OctetsAt (timers_fired turn d)
+fires turn d s = timers_keep OctetsAt AnyTransfer ends_kept turn d (any_up turn.out.up (with_turn turn d)) s
 
 pub deletes : (n : ℕ) (d : Draft) → OctetsAt d → IfDoneOctets (delete n d)
 deletes n d s = delete_keeps OctetsAt IsOctet IsAnsweredInOctet AnyTransfer octets_kept n d (out_removed n d s) s
@@ -313,7 +318,7 @@ offers_kept = record {
   nothing = λ d s. s;
   entry = offers_entry;
   notice_again = λ n d i idle s. sends_notice n d (s.0.notices n i) s;
-  notice_first = λ d idle s.
+  notice_first = λ d next idle s.
       let r : ℕ = next_free d.rows.counters.reference (held_references d.notices d.rows.outbox) in
       sends_first d.rows.counters.notice r d (free_small 256 d.rows.counters.reference (held_references d.notices d.rows.outbox) s.0.reference) s;
 }

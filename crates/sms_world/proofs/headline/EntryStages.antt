@@ -61,7 +61,7 @@ use Rattle.sms_world.proofs.handset_runs_are_steps.Offering.{smma_sends}
 use Rattle.sms_world.proofs.handset_runs_are_steps.Submitting.{centre_is, data_fits, data_read, data_some, submit_fits}
 use Rattle.sms_world.proofs.headline.EntryFrames.{AllSay, Brings, HolderSays, LinkSays, TurnSays, both_say, fired_says, quiet_frames, reply_next, taken_says}
 use Rattle.sms_world.proofs.Options.{some_is}
-use Rattle.sms_handset.proofs.KeptByStages.{AnyReference, AnyTransfer, AnyUnit, IfDone, IsSameEntry, KeptByMoves, KeptByOffers, KeptByWriting, acted_keeps, any_up, delete_keeps, discard_keeps, frame_keeps, lapse_keeps, lapses_each, lost_same, offer_keeps, settled_same, timers_keep, write_keeps}
+use Rattle.sms_handset.proofs.KeptByStages.{AnyReference, AnyTransfer, AnyUnit, IfDone, IsSameEntry, KeptByEnds, KeptByMoves, KeptByOffers, KeptByWriting, acted_keeps, any_up, delete_keeps, discard_keeps, frame_keeps, lapse_keeps, lapses_each, lost_same, offer_keeps, settled_same, timers_keep, write_keeps}
 use Rattle.sms_handset.proofs.SoundTransfers.{IsDue}
 
 further : (k i : ℕ) → k + suc i ≡ k + 1 + i
@@ -168,11 +168,21 @@ module _ (Known : ℕ → List ℕ → Type 0) (again : (n : ℕ) (t : List ℕ)
   rejects : (reference : ℕ) (tag : Holder) (cause : RpCause) (d : Draft) → At d → At (reject reference tag cause d)
   rejects reference tag cause d s = replies Error reference tag (error_up reference cause None) d (λ k. absurd cc) s
 
+  ends_kept : KeptByEnds At AnyTransfer
+  ends_kept = record {
+    entry_settled = λ v reference n o d t e s.
+        let x : OutEntry = settled d.moment (verdict_of v) o in
+        out_put x d (same_known o x (settled_same d.moment (verdict_of v) o) (s.0.outbox o (found_among out_key n o d.rows.outbox e))) s;
+    notice_put = λ n is_second due d i s. s;
+    notice_removed = λ n d s. s;
+  }
+
   says_kept : KeptByMoves At AnyReference AnyUnit AnyTransfer
   says_kept = record {
+    ends = ends_kept;
     entry_put = λ e d s. s;
     entry_removed = λ n d s. s;
-    last_put = λ l d s. s;
+    last_put = λ l d a s. s;
     mark_put = λ m d s. s;
     mark_removed = λ n d s. s;
     entry_counted = λ d s. s;
@@ -184,12 +194,7 @@ module _ (Known : ℕ → List ℕ → Type 0) (again : (n : ℕ) (t : List ℕ)
     unreadable = λ reference tag d a s. refuses reference tag InvalidMandatoryInformation 255 d s;
     rejected = λ reference tag fault d a s. rejects reference tag (fault_cause fault) d s;
     status_noted = λ o status d i s. out_put (record o { status = Some status }) d (same_known o (record o { status = Some status }) (refl, refl, refl) (s.0.outbox o i)) s;
-    entry_settled = λ v reference n o d t e s.
-        let x : OutEntry = settled d.moment (verdict_of v) o in
-        out_put x d (same_known o x (settled_same d.moment (verdict_of v) o) (s.0.outbox o (found_among out_key n o d.rows.outbox e))) s;
     notice_wanted = λ d s. s;
-    notice_put = λ n is_second due d i s. s;
-    notice_removed = λ n d s. s;
   }
 
   -- ---- what follows
@@ -220,7 +225,7 @@ module _ (Known : ℕ → List ℕ → Type 0) (again : (n : ℕ) (t : List ℕ)
     nothing = λ d s. s;
     entry = offers_entry;
     notice_again = λ n d i idle s. sends_notice n d s;
-    notice_first = λ d idle s. sends_first d.rows.counters.notice (next_free d.rows.counters.reference (held_references d.notices d.rows.outbox)) d s;
+    notice_first = λ d next idle s. sends_first d.rows.counters.notice (next_free d.rows.counters.reference (held_references d.notices d.rows.outbox)) d s;
   }
 
   lapsed : (d : Draft) → At d → At (lapse_rows d.rows.outbox (record d { is_recovered = false }))
@@ -304,7 +309,7 @@ module _ (Known : ℕ → List ℕ → Type 0) (again : (n : ℕ) (t : List ℕ)
       let d : Draft = at_moment now (draft_of c) in
       let turn : Turn = fired d.moment (link_of d) in
       follows (timers_fired turn d)
-      (timers_keep At AnyReference AnyUnit AnyTransfer says_kept turn d (any_up turn.out.up (with_turn turn d)) (turns turn d (fired_says Known d.moment (link_of d) l) (k, tt)))
+      (timers_keep At AnyTransfer ends_kept turn d (any_up turn.out.up (with_turn turn d)) (turns turn d (fired_says Known d.moment (link_of d) l) (k, tt)))
   event_says (Write text to report) c k l b = acted_keeps At At follows (write text to report (draft_of c)) (writes text to report (draft_of c) b (k, tt))
   event_says (Delete entry) c k l b =
       acted_keeps At At follows (delete entry (draft_of c)) (delete_keeps At AnyReference AnyUnit AnyTransfer says_kept entry (draft_of c) (out_removed entry (draft_of c) (k, tt)) (k, tt))

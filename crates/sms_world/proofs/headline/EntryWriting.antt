@@ -71,7 +71,7 @@ module _ (n : ℕ) where
     nothing = λ d k. k;
     entry = λ o d due idle k. put_has n (record o { state = Sending; tries = min (o.tries + 1) 255; due = None }) d.rows.outbox k;
     notice_again = λ x d i idle k. k;
-    notice_first = λ d idle k. k;
+    notice_first = λ d next idle k. k;
   }
 
   follow_has : (d : Draft) → HasIn d → HasIn (follow d)
