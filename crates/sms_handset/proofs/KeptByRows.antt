@@ -20,7 +20,7 @@ use Rattle.sms_handset_draft.specs.Outbox.{follow, lapse, lapse_rows}
 use Rattle.sms_handset.specs.HandsetEvent.{deleted, discarded, frame_received, ticked, wrote}
 use Rattle.sms_handset.specs.OwnersActs.{count_split, delete, discard, write}
 use Rattle.sms_handset.specs.declared.refusal.Refusal.{Refusal}
-use Rattle.sms_handset.proofs.KeptByStages.{AnyEntry, AnyReference, AnyTransfer, AnyUnit, IfDone, KeptByMoves, KeptByOffers, KeptByWriting, acted_keeps, any_up, delete_keeps as deleting_keeps, discard_keeps as discarding_keeps}
+use Rattle.sms_handset.proofs.KeptByStages.{AnyEntry, AnyReference, AnyTransfer, AnyUnit, IfDone, KeptByEnds, KeptByMoves, KeptByOffers, KeptByWriting, acted_keeps, any_up, delete_keeps as deleting_keeps, discard_keeps as discarding_keeps}
 use Rattle.sms_handset.proofs.KeptByStages.{frame_keeps as hearing_keeps, lapse_keeps, lapses_each, offer_keeps, timers_keep, write_keeps as writing_keeps}
 
 -- What is said of a draft by its rows, its changes and its moment. All else in it may change.
@@ -46,11 +46,19 @@ module _ (P : Rows → Changes → ℕ → Type 0) (moves : KeptByRowMoves P) wh
   At d = Holds P d
 
   -- links, frames and RP-SMMA are no rows
+  ends_keep : KeptByEnds At AnyTransfer
+  ends_keep = record {
+    entry_settled = λ v reference n o d s e h. moves.out_put (settled d.moment (verdict_of v) o) d h;
+    notice_put = λ n is_second due d i h. h;
+    notice_removed = λ n d h. h;
+  }
+
   moves_keep : KeptByMoves At AnyReference AnyUnit AnyTransfer
   moves_keep = record {
+    ends = ends_keep;
     entry_put = moves.entry_put;
     entry_removed = moves.entry_removed;
-    last_put = moves.last_put;
+    last_put = λ l d a h. moves.last_put l d h;
     mark_put = moves.mark_put;
     mark_removed = moves.mark_removed;
     entry_counted = λ d h. moves.counters_put (record d.rows.counters { entry = d.rows.counters.entry + 1 }) d h;
@@ -62,10 +70,7 @@ module _ (P : Rows → Changes → ℕ → Type 0) (moves : KeptByRowMoves P) wh
     unreadable = λ reference tag d a h. h;
     rejected = λ reference tag fault d a h. h;
     status_noted = λ o status d i h. moves.out_put (record o { status = Some status }) d h;
-    entry_settled = λ v reference n o d s e h. moves.out_put (settled d.moment (verdict_of v) o) d h;
     notice_wanted = λ d h. h;
-    notice_put = λ n is_second due d i h. h;
-    notice_removed = λ n d h. h;
   }
 
   lapsed : (d : Draft) → At d → At (lapse_rows d.rows.outbox (record d { is_recovered = false }))
@@ -76,7 +81,7 @@ module _ (P : Rows → Changes → ℕ → Type 0) (moves : KeptByRowMoves P) wh
     nothing = λ d h. h;
     entry = λ o d due idle h. moves.out_put _ d h;
     notice_again = λ n d i idle h. h;
-    notice_first = λ d idle h.
+    notice_first = λ d next idle h.
         let r : ℕ = next_free d.rows.counters.reference (held_references d.notices d.rows.outbox) in
         moves.counters_put (record d.rows.counters { notice = d.rows.counters.notice + 1; reference = (r + 1) % 256 }) d h;
   }
@@ -106,7 +111,7 @@ module _ (P : Rows → Changes → ℕ → Type 0) (moves : KeptByRowMoves P) wh
   tick_keeps now c h =
       let d : Draft = at_moment now (draft_of c) in
       let turn : Turn = fired d.moment (link_of d) in
-      follows (timers_fired turn d) (timers_keep At AnyReference AnyUnit AnyTransfer moves_keep turn d (any_up turn.out.up (with_turn turn d)) h)
+      follows (timers_fired turn d) (timers_keep At AnyTransfer ends_keep turn d (any_up turn.out.up (with_turn turn d)) h)
 
   pub write_keeps : (text to : List ℕ) (report : Bool) (c : Core) → Holds P (draft_of c) → HoldsIfDone P (wrote text to report c)
   write_keeps text to report c h =

@@ -1,14 +1,14 @@
 -- What each move of a handset's draft keeps, each stage of an event keeps, and so each event. A move may assume what its stage makes it with.
-use Rattle.std.proofs.Common.{◌≡◌, ℕ, List, [], ◌∷◌, ◌++◌, length, Bool, true, false, cond, refl, sym, ◌∙◌, inl, inr, ⊎_elim, Option, Some, None, Result, Ok, Err}
+use Rattle.std.proofs.Common.{◌≡◌, ℕ, List, [], ◌∷◌, ◌++◌, length, Bool, true, false, cond, refl, inl, inr, Option, Some, None, Result, Ok, Err}
 use Rattle.std.specs.Prelude.{◌||◌, ◌==◌, nat_le, nat_lt}
-use Rattle.std.proofs.lemmas.Bool.{cases_Bool, cond-false, cond-true, cond_both}
+use Rattle.std.proofs.lemmas.Bool.{cond_both}
 use Rattle.sms_base.specs.Address.{address_of}
 use Rattle.sms_base.specs.Among.{Among}
 use Rattle.sms_base.specs.declared.address.Address.{Address}
 use Rattle.sms_base.specs.declared.address_error.AddressError.{AddressError}
 use Rattle.sms_base.specs.declared.holder.Holder.{Holder}
 use Rattle.sms_base.specs.declared.holder.Holder.TheVariants.{Part as PartHolder, Report, Entry as EntryHolder, Memory}
-use Rattle.sms_rows.specs.table.Table.{latest, row_at}
+use Rattle.sms_rows.specs.table.Table.{row_at}
 use Rattle.sms_rows.proofs.table.Tables.{found_among}
 use Rattle.sms_alphabet.specs.declared.concat_key.ConcatKey.{ConcatKey}
 use Rattle.sms_concat.specs.Splitting.{split_of}
@@ -48,9 +48,9 @@ use Rattle.sms_handset_rows.specs.declared.inbox.entry.Message.TheVariants.{Join
 use Rattle.sms_handset_rows.specs.declared.inbox.last_accepted.LastAccepted.{LastAccepted}
 use Rattle.sms_handset_rows.specs.outbox.Answers.{verdict_of}
 use Rattle.sms_handset_rows.specs.outbox.Keys.{notice_key, out_key}
-use Rattle.sms_handset_rows.specs.outbox.Offers.{first_due, first_fired, is_fired}
+use Rattle.sms_handset_rows.specs.outbox.Offers.{first_due, first_fired}
 use Rattle.sms_handset_rows.specs.outbox.References.{held_references, is_unfinished, next_free}
-use Rattle.sms_handset_rows.specs.outbox.Reports.{is_reported, reported}
+use Rattle.sms_handset_rows.specs.outbox.Reports.{reported}
 use Rattle.sms_handset_rows.specs.outbox.Settling.{is_sending, lost, most_tries, put_back, retry_delay, settled}
 use Rattle.sms_handset_rows.specs.declared.outbox.answers.TransferEnd.{TransferEnd}
 use Rattle.sms_handset_rows.specs.declared.outbox.answers.TransferEnd.TheVariants.{Acknowledged, Duplicate, Lost, Refused, Temporary}
@@ -67,12 +67,9 @@ use Rattle.sms_handset.specs.HandsetEvent.{acted}
 use Rattle.sms_handset.specs.OwnersActs.{count_split, delete, delete_in, delete_out, discard, discard_at, discard_group, discard_in, discard_members, fits_outbox, write, write_part, write_parts, write_split, write_to, written}
 use Rattle.sms_handset.specs.declared.refusal.Refusal.{Refusal}
 use Rattle.sms_handset.specs.declared.refusal.Refusal.TheVariants.{NoEntry, OutboxFull, StillOpen, TooManyDiscarded}
-use Rattle.sms_handset.proofs.SoundTransfers.{IsDue, first_due_is}
+use Rattle.sms_handset.proofs.DueRows.{IsDue, first_due_is, fired_among, reported_among}
 
 -- ---- rows
-
-some_is : (a b : OutEntry) → Some a ≡ Some b → a ≡ b
-some_is a b e = cc
 
 -- the entry, but for how it stands
 abbrev pub IsSameEntry : OutEntry → OutEntry → Type 0
@@ -94,26 +91,6 @@ settled_same moment Temporary o = put_back_same moment o
 settled_same moment Duplicate o = (refl, refl, refl)
 settled_same moment Refused o = (refl, refl, refl)
 settled_same moment Lost o = lost_same o
-
-latest_one : (a b : Option OutEntry) (x : OutEntry) (P : Type 0) → latest a b ≡ Some x → (a ≡ Some x → P) → (b ≡ Some x → P) → P
-latest_one a None x P e f g = f e
-latest_one a (Some o) x P e f g = g e
-
-reported_among : (r : StatusReportOf) (os : List OutEntry) (x : OutEntry) → reported r os ≡ Some x → Among x os
-reported_among r [] x e = absurd cc
-reported_among r (o ∷ os) x e =
-    latest_one (cond (is_reported r o) (Some o) None) (reported r os) x (Among x (o ∷ os)) e
-    (cond_both (is_reported r o) (Some o) None (λ (z : Option OutEntry). z ≡ Some x → Among x (o ∷ os)) (λ t q. inl (sym (some_is o x q))) (λ t q. absurd cc))
-    (λ q. inr (reported_among r os x q))
-
-pub fired_among : (moment : ℕ) (ns : List Notice) (n : Notice) → first_fired moment ns ≡ Some n → Among n ns
-fired_among moment [] n e = absurd cc
-fired_among moment (x ∷ xs) n e = ⊎_elim
-    (λ (t : is_fired moment x.due ≡ true).
-    let both : Some n ≡ Some x = sym e ∙ cond-true (is_fired moment x.due) (Some x) (first_fired moment xs) t in
-    let q : n ≡ x = cc in inl q)
-    (λ (t : is_fired moment x.due ≡ false). inr (fired_among moment xs n (sym (cond-false (is_fired moment x.due) (Some x) (first_fired moment xs) t) ∙ e)))
-    (cases_Bool (is_fired moment x.due))
 
 -- ---- what a stage makes its moves with
 
@@ -228,8 +205,8 @@ module _ (P : Draft → Type 0) (A : ℕ → Type 0) (U : List ℕ → Result Rp
   ends_group g es None d h = frees es d h
   ends_group g es (Some c) d h = k.entry_put (joined_entry g es c) (drop_all es d) (drops es d h)
 
-  pub completes : (g : Group) (es : List Entry) (d : Draft) → P d → P (completed g es d)
-  completes g es d h =
+  pub complete_keeps : (g : Group) (es : List Entry) (d : Draft) → P d → P (completed g es d)
+  complete_keeps g es d h =
       cond_both (all_numbers g.total (part_numbers es)) (ended g es (joined_content g es) d) d (λ (z : Draft). P z) (λ t. ends_group g es (joined_content g es) d h) (λ t. h)
 
   stores_single : (tpdu : List ℕ) (d : Draft) → P d → P (store_single tpdu d)
@@ -238,10 +215,10 @@ module _ (P : Draft → Type 0) (A : ℕ → Type 0) (U : List ℕ → Result Rp
   stores_part : (g : Group) (n : ℕ) (tpdu : List ℕ) (es : List Entry) (d : Draft) → P d → P (store_part g n tpdu es d)
   stores_part g n tpdu es d h =
       let e : Entry = part_entry d.rows.counters.entry g n tpdu in
-      completes g (es ++ e ∷ []) (put_entry e (count_entry d)) (k.entry_put e (count_entry d) (k.entry_counted d h))
+      complete_keeps g (es ++ e ∷ []) (put_entry e (count_entry d)) (k.entry_put e (count_entry d) (k.entry_counted d h))
 
-  pub marks : (n : ℕ) (m : DiscardedGroup) (d : Draft) → P d → P (marked n m d)
-  marks n m d h =
+  pub mark_keeps : (n : ℕ) (m : DiscardedGroup) (d : Draft) → P d → P (marked n m d)
+  mark_keeps n m d h =
       cond_both (all_numbers m.group.total (m.seen ++ n ∷ [])) (remove_mark m.number d) (put_mark (record m { seen = m.seen ++ n ∷ [] }) d) (λ (z : Draft). P z)
       (λ t. k.mark_removed m.number d h) (λ t. k.mark_put (record m { seen = m.seen ++ n ∷ [] }) d h)
 
@@ -270,7 +247,7 @@ module _ (P : Draft → Type 0) (A : ℕ → Type 0) (U : List ℕ → Result Rp
     part : (g : Group) (n : ℕ) (m : Option DiscardedGroup) (d : Draft) → P d → P (part_received r tag tpdu g n m d)
     part g n None d h = member g n (members g d.rows.entries) d h
     part g n (Some m) d h =
-        cond_both (is_among n m.seen) (single_received r tag tpdu d) (accept r tag tpdu (marked n m d)) (λ (z : Draft). P z) (λ t. single d h) (λ t. accepts (marked n m d) (marks n m d h))
+        cond_both (is_among n m.seen) (single_received r tag tpdu d) (accept r tag tpdu (marked n m d)) (λ (z : Draft). P z) (λ t. single d h) (λ t. accepts (marked n m d) (mark_keeps n m d h))
 
     deliver : (m : DeliverOf) (c : Option ConcatKey) (d : Draft) → P d → P (deliver_received r tag tpdu m c d)
     deliver m None d h = single d h

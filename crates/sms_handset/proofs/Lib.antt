@@ -1,4 +1,5 @@
 pub mod Accepting
+pub mod DueRows
 pub mod IndexStages
 pub mod GroupStages
 pub mod Judging
