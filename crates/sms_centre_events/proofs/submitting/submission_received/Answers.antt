@@ -4,7 +4,8 @@ use Rattle.smpp_pdu.specs.declared.status.CommandStatus.TheVariants.{ESME_RSUBMI
 use Rattle.sms_centre_spec.specs.Draft.{bars_in, messages_in, parts_in, rows_of}
 use Rattle.sms_centre_spec.specs.MessageNumbers.{next_number}
 use Rattle.sms_centre_spec.specs.Shares.{unless_too_much}
-use Rattle.sms_centre_spec.specs.Submitting.{accept, accepted, is_reference_taken, refused}
+use Rattle.sms_centre_spec.specs.Requests.{accepted, refused}
+use Rattle.sms_centre_spec.specs.Submitting.{accept, is_reference_taken}
 use Rattle.sms_centre_events.specs.SubmitOutcomes.{LeadsTo}
 use Rattle.sms_centre_events.proofs.submitting.submission_received.Goals as goal
 
