@@ -1,5 +1,6 @@
 -- What each event leaves: the centre's setup, which handsets there are, and the frames that were sent.
 use Rattle.std.proofs.Common.{◌≡◌, ℕ, zero, suc, ◌+◌, List, [], ◌∷◌, ◌++◌, length, true, refl, ◌∙◌, Option, Some, None}
+use Rattle.sms_base.proofs.Lists.{among_front}
 use Rattle.sms_base.specs.Among.{Among}
 use Rattle.sms_link.specs.declared.outgoing.Outgoing.{Outgoing}
 use Rattle.sms_centre_rows.specs.declared.reports.delivery.Delivery.{Delivery}
@@ -22,9 +23,8 @@ use Rattle.sms_world_model.specs.World.{World}
 use Rattle.sms_world.specs.scripts_are_runs.Happening.{HandsOctets, IsGoodEvent}
 use Rattle.sms_world.specs.scripts_are_runs.PlayRefinement.{PlayRefines}
 use Rattle.sms_world.proofs.messages_have_origins.SetupStays.{setup_stays}
-use Rattle.sms_world.proofs.scripts_are_runs.Events.{ok_play}
-use Rattle.sms_world.proofs.scripts_are_runs.Growing.{in_front}
 use Rattle.sms_world.proofs.scripts_are_runs.PlayedParts.{KeptByParts, MeetsIn, event_keeps, met_well}
+use Rattle.sms_play.proofs.answers.PlayAnswers.{ok_play}
 
 pub record Leaves (c d : PlayState) : Type 0 where
   pub setup : d.centre.rows.setup ≡ c.centre.rows.setup
@@ -40,13 +40,13 @@ sent_up : (h : List ℕ) (fs : List Outgoing) (bag : List FrameRow) (f : FrameRo
 sent_up h [] bag f i = i
 sent_up h (x ∷ fs) bag f i =
     let row : FrameRow = record { number = length bag + 1; direction = Up; handset = h; carried = x.carried; octets = x.octets } in
-    sent_up h fs (bag ++ row ∷ []) f (in_front f bag (row ∷ []) i)
+    sent_up h fs (bag ++ row ∷ []) f (among_front f bag (row ∷ []) i)
 
 sent_down : (fs : List SentDown) (bag : List FrameRow) (f : FrameRow) → Among f bag → Among f (all_sent_down fs bag)
 sent_down [] bag f i = i
 sent_down (x ∷ fs) bag f i =
     let row : FrameRow = record { number = length bag + 1; direction = Down; handset = x.handset; carried = x.frame.carried; octets = x.frame.octets } in
-    sent_down fs (bag ++ row ∷ []) f (in_front f bag (row ∷ []) i)
+    sent_down fs (bag ++ row ∷ []) f (among_front f bag (row ∷ []) i)
 
 -- ---- the centre
 
