@@ -245,7 +245,7 @@ module _ (script : Script) (after : ℕ → Report) (typed : AreTyped script.eve
   all_have (e ∷ es) some others c d parts leads k q =
       let x : IsStep script after some e (es ++ others) = step_of script after typed reports some e (es ++ others) parts in
       let first : c ≡ x.first = same_play c x.first (sym leads ∙ x.leads) in
-      let l : Leaves x.first x.next = event_leaves (1 + length some) x.first x.sees x.refines e x.next x.good x.octets x.is in
+      let l : Leaves x.first x.next = event_leaves (1 + length some) x.first e x.next x.is in
       all_have es (some ++ e ∷ []) others x.next d (parts ∙ moved some (es ++ others) e) x.then (l.setup ∙ subst (λ (z : PlayState). HasSetup z) first k) (ap (λ (z : List WorldEvent). play_state_of script.setup z) (sym (moved some es e)) ∙ q)
 
   has_setup : (some others : List WorldEvent) (c : PlayState) → script.events ≡ some ++ others → play_state_of script.setup some ≡ ok_play c → HasSetup c
@@ -364,7 +364,7 @@ module _ (script : Script) (after : ℕ → Report) (typed : AreTyped script.eve
         } in
         let o : Origin = record { submission = u; parts = w.body ∷ []; given_at = w.given_at } in
         let source : m.source ≡ own_address k.frame.handset = k.address ∙ ap (λ (h : List ℕ). own_address h) k.source in
-        let leaves : Leaves st.first st.next = event_leaves (1 + length some) st.first st.sees st.refines e st.next st.good st.octets st.is in
+        let leaves : Leaves st.first st.next = event_leaves (1 + length some) st.first e st.next st.is in
         let there : Among k.frame (after at).bag = subst (λ (r : Report). Among k.frame r.bag) (sym st.behind) (leaves.bag k.frame k.there) in
         let deliver : IsDeliverFor u w.body (compared k.part.tpdu) = record {
           deliver = k.carries.deliver;

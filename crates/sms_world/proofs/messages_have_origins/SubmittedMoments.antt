@@ -18,7 +18,7 @@ use Rattle.sms_centre_rows.specs.messages.Messages.{Messages, all_done, ended, m
 use Rattle.sms_centre_rows.specs.messages.SplitReferences.{next_split}
 use Rattle.sms_centre_rows.specs.waiting.References.{handset_of}
 use Rattle.sms_centre_rows.specs.waiting.Trying.{finished}
-use Rattle.sms_centre_draft.proofs.walks.MomentStays.{end_moment}
+use Rattle.sms_centre_spec.proofs.MomentStays.{end_moment}
 use Rattle.sms_centre_spec.specs.CentreEvent.{happened}
 use Rattle.sms_centre_spec.specs.Draft.{Core, Store, bars_in, core_of, draft_of, handsets_in, messages_in, parts_in, rows_of, with_part_at}
 use Rattle.sms_centre_spec.specs.Ends.{end}
