@@ -11,7 +11,7 @@ use Rattle.sms_centre_rows.specs.declared.reports.report.ReportRow.{ReportRow}
 use Rattle.sms_centre_rows.specs.reports.Receipts.{Bindings, Session, all_tried, answered_in, receipt_ended, receipt_tried, session_key}
 use Rattle.sms_centre_rows.specs.reports.Reports.{amend_report, is_receipt, report_key, report_of, report_reaching, reports_of}
 use Rattle.sms_centre_rows.proofs.reports.ReportRows.{amended_other, amended_own}
-use Rattle.sms_centre_rows.proofs.reports.Kinds.{no_status}
+use Rattle.sms_centre_rows.proofs.reports.ReportKinds.{no_status}
 use Rattle.sms_centre_rows.specs.waiting.Revisions.{Revised, amended}
 use Rattle.sms_centre_reports.specs.open_reports.OpenReportsDraft.{OpenReportsDraftOf as ReportsOf, DraftRepresents}
 use Rattle.sms_centre_reports.specs.sessions.Answering.{bindings_answered, bindings_answered_by, bindings_unbound, bindings_unbound_from, reports_answered, reports_answered_by, reports_unbound, reports_unbound_from}

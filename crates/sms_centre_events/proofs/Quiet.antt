@@ -8,7 +8,7 @@ use Rattle.sms_centre_rows.specs.messages.Messages.{message_at}
 use Rattle.sms_centre_rows.specs.declared.reports.report.ReportRow.{ReportRow}
 use Rattle.sms_centre_rows.specs.reports.Receipts.{is_account, is_put_off, receipts_due}
 use Rattle.sms_centre_rows.specs.reports.Reports.{amend_report, is_open_receipt, is_receipt, report_key, report_of, reports_of}
-use Rattle.sms_centre_rows.proofs.reports.Kinds.{no_status}
+use Rattle.sms_centre_rows.proofs.reports.ReportKinds.{no_status}
 use Rattle.sms_centre_rows.specs.waiting.Revisions.{Revised}
 use Rattle.sms_centre_rows.specs.waiting.Trying.{due_at}
 use Rattle.sms_centre_spec.specs.Draft.{Store, with_reports}

@@ -16,7 +16,7 @@ use Rattle.sms_centre_rows.specs.reports.Reports.{is_open_receipt, is_open_statu
 use Rattle.sms_centre_rows.specs.reports.Waiting.{Alone}
 use Rattle.sms_centre_rows.proofs.reports.AllWaiting.{report_found}
 use Rattle.sms_centre_rows.proofs.reports.ReportRows.{amended_other, amended_own}
-use Rattle.sms_centre_rows.proofs.reports.Kinds.{no_status}
+use Rattle.sms_centre_rows.proofs.reports.ReportKinds.{no_status}
 use Rattle.sms_centre_rows.specs.declared.waiting.handset.HandsetRow.{HandsetRow}
 use Rattle.sms_centre_rows.specs.declared.waiting.progress.Progress.{Progress}
 use Rattle.sms_centre_rows.specs.waiting.References.{handset_of}

@@ -21,7 +21,7 @@ use Rattle.sms_centre_reports.specs.open_reports.Entries.{account_in, entry_key,
 use Rattle.sms_centre_reports.specs.open_reports.OpenReports.{AccountOf, IsWithReceipt, OpenReportsOf, Represents, receipts_at}
 use Rattle.sms_centre_rows.specs.waiting.Trying.{later}
 use Rattle.sms_centre_spec.proofs.bodies.Bodies.{alone_found}
-use Rattle.sms_centre_rows.proofs.reports.Kinds.{no_status}
+use Rattle.sms_centre_rows.proofs.reports.ReportKinds.{no_status}
 
 -- ---- what is kept of a row
 

@@ -31,7 +31,7 @@ use Rattle.sms_centre_rows.specs.waiting.Revisions.{Revised, amended}
 use Rattle.sms_centre_rows.specs.waiting.Trying.{later}
 use Rattle.sms_centre_spec.proofs.NextNumbers.{below_next_place}
 use Rattle.sms_centre_spec.proofs.forgetting.Moves.{next_amended}
-use Rattle.sms_centre_rows.proofs.reports.Kinds.{no_status}
+use Rattle.sms_centre_rows.proofs.reports.ReportKinds.{no_status}
 
 -- ---- accounts
 

@@ -17,7 +17,7 @@ use Rattle.sms_centre_rows.specs.reports.Waiting.{report_queued, reports_to, wit
 use Rattle.sms_centre_rows.specs.declared.reports.report.ReportRow.{ReportRow}
 use Rattle.sms_centre_rows.proofs.reports.AllWaiting.{report_found}
 use Rattle.sms_centre_rows.proofs.waiting.LinksRepresented.{line_of_handset}
-use Rattle.sms_centre_rows.proofs.reports.Kinds.{no_status}
+use Rattle.sms_centre_rows.proofs.reports.ReportKinds.{no_status}
 use Rattle.sms_rows.specs.table.Table.{Rises, put, row_at}
 use Rattle.sms_rows.proofs.table.Tables.{among_found, found_among}
 use Rattle.sms_centre_rows.specs.waiting.Keys.{queued_key}
