@@ -33,12 +33,12 @@ unfolding
     Rattle.sms_centre_rows.specs.messages.SplitReferences.first_free_split
     Rattle.sms_relay.specs.Cause.cause_of Rattle.sms_relay.specs.MessageType.type_of
     Rattle.sms_relay.specs.RelayReading.ack_in Rattle.sms_relay.specs.RelayReading.cause_in
-    Rattle.sms_relay.specs.RelayReading.centre_in Rattle.sms_relay.specs.RelayReading.data_down_in
-    Rattle.sms_relay.specs.RelayReading.data_up_in Rattle.sms_relay.specs.RelayReading.down_at
-    Rattle.sms_relay.specs.RelayReading.down_in Rattle.sms_relay.specs.RelayReading.error_in
+    Rattle.sms_relay.specs.RelayReading.centre_in Rattle.sms_relay.specs.RelayReading.addresses_in
+    Rattle.sms_relay.specs.RelayReading.data_in Rattle.sms_relay.specs.RelayReading.down_at
+    Rattle.sms_relay.specs.RelayReading.unit_at Rattle.sms_relay.specs.RelayReading.error_in
     Rattle.sms_relay.specs.RelayReading.nobody_in Rattle.sms_relay.specs.RelayReading.smma_in
     Rattle.sms_relay.specs.RelayReading.tpdu_in Rattle.sms_relay.specs.RelayReading.up_at
-    Rattle.sms_relay.specs.RelayReading.up_in Rattle.sms_relay.specs.RelayReading.user_data_in
+    Rattle.sms_relay.specs.RelayReading.unit_in Rattle.sms_relay.specs.RelayReading.user_data_in
     Rattle.sms_tpdu.specs.AddressReading.address_in Rattle.sms_tpdu.specs.AddressReading.characters_in
     Rattle.sms_tpdu.specs.AddressReading.digits_in Rattle.sms_tpdu.specs.AddressReading.last_digit_in
     Rattle.sms_tpdu.specs.AddressReading.name_in Rattle.sms_tpdu.specs.AddressReading.two_digits_in

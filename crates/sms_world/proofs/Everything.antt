@@ -65,16 +65,16 @@ unfolding
     Rattle.sms_relay.specs.RelayReading.ack_in
     Rattle.sms_relay.specs.RelayReading.cause_in
     Rattle.sms_relay.specs.RelayReading.centre_in
-    Rattle.sms_relay.specs.RelayReading.data_down_in
-    Rattle.sms_relay.specs.RelayReading.data_up_in
+    Rattle.sms_relay.specs.RelayReading.addresses_in
+    Rattle.sms_relay.specs.RelayReading.data_in
     Rattle.sms_relay.specs.RelayReading.down_at
-    Rattle.sms_relay.specs.RelayReading.down_in
+    Rattle.sms_relay.specs.RelayReading.unit_at
     Rattle.sms_relay.specs.RelayReading.error_in
     Rattle.sms_relay.specs.RelayReading.nobody_in
     Rattle.sms_relay.specs.RelayReading.smma_in
     Rattle.sms_relay.specs.RelayReading.tpdu_in
     Rattle.sms_relay.specs.RelayReading.up_at
-    Rattle.sms_relay.specs.RelayReading.up_in
+    Rattle.sms_relay.specs.RelayReading.unit_in
     Rattle.sms_relay.specs.RelayReading.user_data_in
     Rattle.sms_script.specs.report.ReportText.id_text
     Rattle.sms_script.specs.report.ReportText.report_text

@@ -86,7 +86,7 @@ fn rejecting_duplicates(alloc: Global, tpdu: &[u8]) -> Result<Octets, AllocError
 }
 
 /// The RP-DATA with the SUBMIT of an entry, 1 to 248 octets.
-#[tactic(auto, using(crate::proofs::outbox::CentreAddresses::relay_some))]
+#[tactic(auto, using(sms_tpdu::proofs::RelayAddresses::relay_some))]
 pub fn data_unit(alloc: Global, centre: &Address, entry: &OutEntry) -> Result<Octets, AllocError>
     requires { IsAddress centre.now }
     ensures value { IfOk result (λ unit. unit ≡ data_up entry.now.reference (relay_address centre.now) (submit_octets entry.now)) }
