@@ -3,6 +3,7 @@ use Rattle.std.proofs.Common.{◌≡◌, ℕ, ◌+◌, List, [], ◌∷◌, ◌+
 use Rattle.std.specs.Prelude.{◌==◌, ◌&&◌, ◌||◌, MatchOption, if◌then◌else◌}
 use Rattle.std.specs.List.{list_any}
 use Rattle.std.proofs.lemmas.Bool.{cond-false, cond-true}
+use Rattle.sms_base.proofs.Bools.{or_assoc}
 use Rattle.sms_rows.specs.declared.table.change.Change.{Change}
 use Rattle.sms_rows.specs.declared.table.change.Change.TheVariants.{Put, Remove}
 use Rattle.sms_rows.specs.table.Since.{Since, oldest_first as changes_of, put_in, untouched}
@@ -27,10 +28,6 @@ added_one N (Some x) m n h e = let same : x ≡ n = cc in sym same ∙ h
 
 -- ---- whether a bar stands
 
-or_more : (a b c : Bool) → (a || (b || c)) ≡ ((a || b) || c)
-or_more true b c = refl
-or_more false b c = refl
-
 and_either : (a b c : Bool) → (a && (b || c)) ≡ ((a && b) || (a && c))
 and_either true b c = refl
 and_either false b c = refl
@@ -48,7 +45,7 @@ among_both test r (b ∷ bs) cs = of (test b) (among_both test r bs cs)
 
     of : (t : Bool) → is_among r rest ≡ (is_among r few || is_among r (references_in test cs))
         → is_among r (if t then b.reference ∷ rest else rest) ≡ (is_among r (if t then b.reference ∷ few else few) || is_among r (references_in test cs))
-    of true e = ap (λ (x : Bool). (b.reference == r) || x) e ∙ or_more (b.reference == r) (is_among r few) (is_among r (references_in test cs))
+    of true e = ap (λ (x : Bool). (b.reference == r) || x) e ∙ or_assoc (b.reference == r) (is_among r few) (is_among r (references_in test cs))
     of false e = e
 
 pub barred_both : (c : Claim) (bs cs : List BarRow) → is_barred c (bs ++ cs) ≡ (is_barred c bs || (c.is_own && is_among c.reference (own_bars c.source c.handset cs)))

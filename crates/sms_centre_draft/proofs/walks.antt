@@ -1,6 +1,5 @@
 pub mod Acting
 pub mod LinesStay
-pub mod MomentStays
 pub mod OffersFound
 pub mod FiresFound
 pub mod RaisesFound

@@ -53,6 +53,7 @@ pub mod TextFields
 pub mod Ticking
 pub mod TpdusRead
 pub mod UnitOctets
+pub mod MomentStays
 pub mod Stages
 pub mod AcceptedConsistent
 pub mod StagesConsistent

@@ -11,7 +11,7 @@ use Rattle.sms_centre_spec.specs.declared.rows.Rows.{Rows}
 use Rattle.sms_centre_spec.specs.Draft.{Core, Draft, Store, changes_in, core_of, rows_after, rows_of}
 use Rattle.sms_centre_spec.specs.CentreEvent.{happened}
 use Rattle.sms_centre_spec.specs.Planning.{adopted, outcome_of}
-use Rattle.sms_centre_spec.proofs.Stages.{Closed, happened_keeps}
+use Rattle.sms_centre_spec.proofs.Stages.{Closed, at_start, happened_keeps}
 
 -- the rows on which the store stands
 abbrev pub base_of : Store → Rows
@@ -38,14 +38,16 @@ consistent_closed base = record {
   given = λ h r s k. k;
   report = λ r s k. k;
   report_progress = λ r q s k. k;
-  moment = λ n s k. k;
 }
 
 pub happened_consistent : (event : CentreEvent) (c : Core) → RestsOn c.rows (happened event c).store
-happened_consistent event c = happened_keeps (RestsOn c.rows) (consistent_closed c.rows) event c refl
+happened_consistent event c = happened_keeps (RestsOn c.rows) (consistent_closed c.rows) event c (at_start (RestsOn c.rows) (λ n s k. k) event c refl)
 
 -- no event puts a bar
-bars_closed : Closed (λ (s : Store). s.bars.news ≡ [])
+abbrev NoBars : Store → Type 0
+NoBars s = s.bars.news ≡ []
+
+bars_closed : Closed NoBars
 bars_closed = record {
   message = λ m s k. k;
   part = λ p s k. k;
@@ -54,11 +56,10 @@ bars_closed = record {
   given = λ h r s k. k;
   report = λ r s k. k;
   report_progress = λ r q s k. k;
-  moment = λ n s k. k;
 }
 
 pub happened_bars : (event : CentreEvent) (c : Core) → (happened event c).store.bars.news ≡ []
-happened_bars event c = happened_keeps (λ (s : Store). s.bars.news ≡ []) bars_closed event c refl
+happened_bars event c = happened_keeps NoBars bars_closed event c (at_start NoBars (λ n s k. k) event c refl)
 
 -- what is committed leads to the rows as they stand
 pub store_commits : (s : Store) → rows_after (changes_in s) (base_of s) ≡ rows_of s

@@ -80,7 +80,25 @@ pub record Closed (P : Store → Type 0) : Type 0 where
   pub given : (h : HandsetRow) (reference : ℕ) (s : Store) → P s → P (with_given h reference s)
   pub report : (r : ReportRow) (s : Store) → P s → P (with_reports (put_report r s.reports) s)
   pub report_progress : (r : ReportRow) (q : Progress) (s : Store) → P s → P (with_report_at r q s)
-  pub moment : (n : ℕ) (s : Store) → P s → P (record s { moment = n })
+
+-- the fact, as the event begins: a tick moves the moment first
+abbrev pub AtStart : (Store → Type 0) → CentreEvent → Core → Type 0
+AtStart P (Tick now) c = P (at_moment now (draft_of c)).store
+AtStart P _ c = P (draft_of c).store
+
+-- where it says nothing of the moment
+pub at_start : (P : Store → Type 0) → ((n : ℕ) (s : Store) → P s → P (record s { moment = n })) → (event : CentreEvent) (c : Core) → P (draft_of c).store → AtStart P event c
+at_start P moves (Submit account m) c k = k
+at_start P moves (Query account q) c k = k
+at_start P moves (Cancel account q) c k = k
+at_start P moves (Bound session account receives) c k = k
+at_start P moves (Unbound session) c k = k
+at_start P moves (DeliverAnswered session id b) c k = k
+at_start P moves (Frame handset octets tag) c k = k
+at_start P moves (LinkUp handset) c k = k
+at_start P moves (LinkDown handset) c k = k
+at_start P moves (Ordered order id) c k = k
+at_start P moves (Tick now) c k = moves _ (draft_of c).store k
 
 -- the fact, if there is a store
 abbrev pub IfThere : (Store → Type 0) → Option Store → Type 0
@@ -268,11 +286,10 @@ module _ (P : Store → Type 0) (c : Closed P) where
   aged_keeps : (d : Draft) → P d.store → P (aged d).store
   aged_keeps d k = drop_all_keeps (reports_in (expired d.store)) (expired d.store) (expire_all_keeps (messages_in d.store) d.store k)
 
-  pub ticked_keeps : (now : ℕ) (d : Draft) → P d.store → P (raised (fired (aged (at_moment now d)))).store
-  ticked_keeps now d k =
-      let a : Draft = aged (at_moment now d) in
-      raised_says (λ (e : Draft). P e.store) raise_keeps (fired a)
-      (fired_says (λ (e : Draft). P e.store) conclude_keeps (λ links e kept. kept) a (aged_keeps (at_moment now d) (c.moment _ d.store k)))
+  ticked_keeps : (d : Draft) → P d.store → P (raised (fired (aged d))).store
+  ticked_keeps d k =
+      raised_says (λ (e : Draft). P e.store) raise_keeps (fired (aged d))
+      (fired_says (λ (e : Draft). P e.store) conclude_keeps (λ links e kept. kept) (aged d) (aged_keeps d k))
 
   -- ---- sessions
 
@@ -364,7 +381,7 @@ module _ (P : Store → Type 0) (c : Closed P) where
 
   -- ---- every event
 
-  pub happened_keeps : (event : CentreEvent) (core : Core) → P (draft_of core).store → P (happened event core).store
+  pub happened_keeps : (event : CentreEvent) (core : Core) → AtStart P event core → P (happened event core).store
   happened_keeps (Submit account m) core k = submit_by_keeps (account_at account core.rows.setup.accounts) m (draft_of core) k
   happened_keeps (Query account q) core k = query_by_keeps (account_at account core.rows.setup.accounts) q (draft_of core) k
   happened_keeps (Cancel account q) core k = cancel_by_keeps (account_at account core.rows.setup.accounts) q (draft_of core) k
@@ -375,4 +392,4 @@ module _ (P : Store → Type 0) (c : Closed P) where
   happened_keeps (LinkUp handset) core k = raise_keeps handset (draft_of core) k
   happened_keeps (LinkDown handset) core k = lower_keeps handset (draft_of core) k
   happened_keeps (Ordered order id) core k = ordered_keeps order id (draft_of core) k
-  happened_keeps (Tick now) core k = ticked_keeps now (draft_of core) k
+  happened_keeps (Tick now) core k = ticked_keeps (at_moment now (draft_of core)) k

@@ -1,6 +1,7 @@
 -- What is due, what fired, and what a report is of are rows of their list.
 use Rattle.std.proofs.Common.{◌≡◌, ℕ, List, [], ◌∷◌, cond, true, false, refl, sym, ap, ◌∙◌, inl, inr, ⊎_elim, Option, Some, None}
 use Rattle.std.proofs.lemmas.Bool.{and_parts, cases_Bool, cond-false, cond-true, cond_both}
+use Rattle.std.proofs.lemmas.Option.{same_Some}
 use Rattle.sms_base.specs.Among.{Among}
 use Rattle.sms_rows.specs.table.Table.{latest}
 use Rattle.sms_tpdu.specs.declared.status_report.StatusReport.{StatusReport as StatusReportOf}
@@ -50,9 +51,6 @@ fired_among moment (x ∷ xs) n e = ⊎_elim
 
 -- ---- the entry that a report is of
 
-some_is : (a b : OutEntry) → Some a ≡ Some b → a ≡ b
-some_is a b e = cc
-
 latest_one : (a b : Option OutEntry) (x : OutEntry) (P : Type 0) → latest a b ≡ Some x → (a ≡ Some x → P) → (b ≡ Some x → P) → P
 latest_one a None x P e f g = f e
 latest_one a (Some o) x P e f g = g e
@@ -61,5 +59,5 @@ pub reported_among : (r : StatusReportOf) (os : List OutEntry) (x : OutEntry) �
 reported_among r [] x e = absurd cc
 reported_among r (o ∷ os) x e =
     latest_one (cond (is_reported r o) (Some o) None) (reported r os) x (Among x (o ∷ os)) e
-    (cond_both (is_reported r o) (Some o) None (λ (z : Option OutEntry). z ≡ Some x → Among x (o ∷ os)) (λ t q. inl (sym (some_is o x q))) (λ t q. absurd cc))
+    (cond_both (is_reported r o) (Some o) None (λ (z : Option OutEntry). z ≡ Some x → Among x (o ∷ os)) (λ t q. inl (sym (same_Some o x q))) (λ t q. absurd cc))
     (λ q. inr (reported_among r os x q))

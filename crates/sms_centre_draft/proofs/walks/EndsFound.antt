@@ -13,7 +13,7 @@ use Rattle.sms_centre_spec.specs.Draft.{Store, messages_in}
 use Rattle.sms_centre_spec.specs.Ends.{end}
 use Rattle.sms_centre_spec.proofs.SteadyTimes.{MessagesInStore, above_among, end_leaves, end_messages}
 use Rattle.sms_centre_draft.specs.walks.Expiring.{CoversOver, expire_at, expire_found, expire_numbers, is_over}
-use Rattle.sms_centre_draft.proofs.walks.MomentStays.{end_moment}
+use Rattle.sms_centre_spec.proofs.MomentStays.{end_moment}
 use Rattle.sms_centre_draft.proofs.walks.NumbersWalked.{EndsAlone, InOrder, go, in_order, walks_alike}
 
 -- whether the message of that number ends

@@ -31,7 +31,7 @@ use Rattle.sms_centre_spec.proofs.SoundLinks.{line_found}
 use Rattle.sms_centre_draft.specs.walks.Stepping.{fire_on, stops_in}
 use Rattle.sms_centre_draft.proofs.walks.Acting.{walk_acting}
 use Rattle.sms_centre_draft.proofs.walks.LinesStay.{put_same}
-use Rattle.sms_centre_draft.proofs.walks.MomentStays.{conclude_moment}
+use Rattle.sms_centre_spec.proofs.MomentStays.{conclude_moment}
 
 -- the timers of the handset's line fire, where it has one
 abbrev fire_there : List ℕ → Draft → Draft

@@ -224,7 +224,7 @@ parts_last messages parts i k bs ms ps l so_far =
 
 -- ---- bars, one after the other
 
-or_rest : (a b c : Bool) → ((a || b) || c) ≡ (a || (b || c))
+pub or_rest : (a b c : Bool) → ((a || b) || c) ≡ (a || (b || c))
 or_rest true b c = refl
 or_rest false b c = refl
 

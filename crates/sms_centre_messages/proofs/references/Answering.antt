@@ -7,6 +7,7 @@ use Rattle.sms_centre_rows.specs.declared.messages.message.MessageRow.{MessageRo
 use Rattle.sms_centre_rows.specs.declared.messages.part.PartRow.{PartRow}
 use Rattle.sms_centre_rows.specs.messages.SplitReferences.{first_free_split, held_bars, held_references, held_splits, is_among, last_split, own_bars, own_references, own_splits, start_after}
 use Rattle.std.proofs.lemmas.Bool.{cond-true, cond-false}
+use Rattle.sms_base.proofs.Bools.{or_false, or_true}
 use Rattle.sms_centre_messages.specs.references.ReferenceIndex.{ReferenceIndexOf, Represents, any, has_pending, is_held_at, is_own_at, last_code}
 use Rattle.sms_centre_messages.specs.references.Counts.{counted}
 use Rattle.sms_centre_messages.specs.references.Keys.{key_of, pair_of}
@@ -30,14 +31,6 @@ among_append n (x ∷ xs) ys = ap (λ (b : Bool). (x == n) || b) (among_append n
   along : (a b c : Bool) → (a || (b || c)) ≡ ((a || b) || c)
   along true b c = refl
   along false b c = refl
-
-or_true : (b : Bool) → (b || true) ≡ true
-or_true true = refl
-or_true false = refl
-
-or_false : (b : Bool) → (b || false) ≡ b
-or_false true = refl
-or_false false = refl
 
 module _ (k : ReferenceIndexOf) (bs : List BarRow) (ms : List MessageRow) (ps : List PartRow) (h : Represents k bs ms ps) where
   -- a bar stands, or what messages lay claim to decides

@@ -29,7 +29,7 @@ use Rattle.sms_centre_messages.specs.declared.references.message_ends.MessageEnd
 use Rattle.sms_centre_messages.specs.references.Counts.{one_if}
 use Rattle.sms_centre_messages.specs.references.Keys.{is_same, is_same_sender, key_of, pair_of}
 use Rattle.sms_centre_messages.specs.references.ReferenceIndex.{Barred, ReferenceIndexOf, Represents, any, holds, is_at, is_from_handset, is_held_at, is_of, is_own_at, is_put, is_reference, last_code, last_place, repeats, submitted_with, total, wide_of}
-use Rattle.sms_centre_messages.proofs.references.Adopted.{any_then, last_then}
+use Rattle.sms_centre_messages.proofs.references.Adopted.{any_then, last_then, or_rest}
 use Rattle.sms_centre_messages.proofs.references.Recovering.{place_end}
 use Rattle.sms_centre_messages.proofs.references.Tallies.{own_told}
 use Rattle.sms_centre_messages.proofs.references.Written.{same_key}
@@ -68,10 +68,6 @@ claimed test c = test (bar_of c 0)
 false_parts : {A : Type 0} (test : A → Bool) (xs ys : List A) → any test (xs ++ ys) ≡ false → (any test xs ≡ false) × (any test ys ≡ false)
 false_parts test xs ys e = or_parts (any test xs) (any test ys) (sym (any_then test xs ys) ∙ e)
 
-or_more : (a b c : Bool) → ((a || b) || c) ≡ (a || (b || c))
-or_more true b c = refl
-or_more false b c = refl
-
 or_nothing : (a : Bool) → a ≡ (a || false)
 or_nothing true = refl
 or_nothing false = refl
@@ -97,7 +93,7 @@ module _ (test : BarRow → Bool) (alike : (c : Claim) (n : ℕ) → test (bar_o
   pub all_any : (cs : List Claim) (bs : List BarRow) → Rises bar_key bs → any test (with_bars cs bs) ≡ (any test bs || any (claimed test) cs)
   all_any [] bs rises = or_nothing (any test bs)
   all_any (c ∷ cs) bs rises =
-      all_any cs (with_bar c bs) (one_rises c bs rises) ∙ ap (λ (b : Bool). b || any (claimed test) cs) (one_any c bs rises) ∙ or_more (any test bs) (claimed test c) (any (claimed test) cs)
+      all_any cs (with_bar c bs) (one_rises c bs rises) ∙ ap (λ (b : Bool). b || any (claimed test) cs) (one_any c bs rises) ∙ or_rest (any test bs) (claimed test c) (any (claimed test) cs)
 
   -- what was put since, and what was there
   pub put_any : (cs : List Claim) (t : Since BarRow) → Rises bar_key (bars_of t) → any test (bars_of t) ≡ (any test t.base || any (is_put test) t.news)

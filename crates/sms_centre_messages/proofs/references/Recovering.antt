@@ -17,6 +17,7 @@ use Rattle.sms_centre_messages.specs.references.Counts.{one_if}
 use Rattle.sms_centre_messages.specs.references.Keys.{key_of, pair_of}
 use Rattle.sms_centre_messages.proofs.references.Behind.{put_last}
 use Rattle.sms_centre_messages.proofs.references.Ending.{total_new}
+use Rattle.sms_centre_messages.proofs.references.Adopted.{any_then}
 
 module _ {A : Type 0} (key : A → ℕ) where
   -- those before a row have lower keys
@@ -95,18 +96,6 @@ holds_unfound p k ms ps h rises none new = record {
 
 -- ---- bars
 
-or_end : (a b c : Bool) → ((a || b) || c) ≡ (a || (b || c))
-or_end true b c = refl
-or_end false b c = refl
-
-or_none : (a : Bool) → (a || false) ≡ a
-or_none true = refl
-or_none false = refl
-
-any_append : {A : Type 0} (test : A → Bool) (xs ys : List A) → any test (xs ++ ys) ≡ (any test xs || any test ys)
-any_append test [] ys = refl
-any_append test (x ∷ xs) ys = ap (λ (b : Bool). test x || b) (any_append test xs ys) ∙ sym (or_end (test x) (any test xs) (any test ys))
-
 -- one behind others is next
 pub place_end : (n : ℕ) (bs : List BarRow) (b : BarRow) → place_behind n (bs ++ b ∷ []) ≡ b.place + 1
 place_end n [] b = refl
@@ -119,10 +108,10 @@ false_left false b e = refl
 -- one bar more stands
 pub barred_more : (b : BarRow) (old new : ReferenceIndexOf) (bs : List BarRow) (ms : List MessageRow) (ps : List PartRow) → Barred (Put b ∷ []) old new → Represents old bs ms ps → Represents new (bs ++ b ∷ []) ms ps
 barred_more b old new bs ms ps barred h = record {
-  held = λ key free. barred.held key ∙ h.held key (false_left (any (is_held_at key) bs) (is_held_at key b || false) (sym (any_append (is_held_at key) bs (b ∷ [])) ∙ free));
-  own = λ key free. barred.own key ∙ h.own key (false_left (any (is_own_at key) bs) (is_own_at key b || false) (sym (any_append (is_own_at key) bs (b ∷ [])) ∙ free));
-  held_bars = λ key. barred.held_bars key ∙ ap (λ (c : Bool). c || (is_held_at key b || false)) (h.held_bars key) ∙ sym (any_append (is_held_at key) bs (b ∷ []));
-  own_bars = λ key. barred.own_bars key ∙ ap (λ (c : Bool). c || (is_own_at key b || false)) (h.own_bars key) ∙ sym (any_append (is_own_at key) bs (b ∷ []));
+  held = λ key free. barred.held key ∙ h.held key (false_left (any (is_held_at key) bs) (is_held_at key b || false) (sym (any_then (is_held_at key) bs (b ∷ [])) ∙ free));
+  own = λ key free. barred.own key ∙ h.own key (false_left (any (is_own_at key) bs) (is_own_at key b || false) (sym (any_then (is_own_at key) bs (b ∷ [])) ∙ free));
+  held_bars = λ key. barred.held_bars key ∙ ap (λ (c : Bool). c || (is_held_at key b || false)) (h.held_bars key) ∙ sym (any_then (is_held_at key) bs (b ∷ []));
+  own_bars = λ key. barred.own_bars key ∙ ap (λ (c : Bool). c || (is_own_at key b || false)) (h.own_bars key) ∙ sym (any_then (is_own_at key) bs (b ∷ []));
   next = ap (λ (n : ℕ). n + 1) barred.last_bar ∙ sym (place_end 1 bs b);
   last = λ source handset. barred.last (key_of source handset 0) ∙ h.last source handset;
   pending = λ source handset reference. barred.pending (pair_of source handset reference) ∙ h.pending source handset reference;

@@ -2,6 +2,7 @@
 use Rattle.std.proofs.Common.{◌≡◌, ℕ, ◌+◌, nat_lt, List, [], ◌∷◌, ◌++◌, Bool, true, false, Option, Some, None, lt-ltb, refl, sym, ◌∙◌, ap, arith}
 use Rattle.std.specs.Prelude.{◌==◌, ◌&&◌, ◌||◌, not, if◌then◌else◌}
 use Rattle.std.specs.Str.{bytes_eq}
+use Rattle.sms_base.proofs.Bools.{and_false, and_true}
 use Rattle.sms_base.specs.declared.address.Address.{Address}
 use Rattle.sms_centre_rows.specs.declared.messages.bar.BarRow.{BarRow}
 use Rattle.sms_centre_rows.specs.declared.messages.message.MessageRow.{MessageRow}
@@ -69,17 +70,9 @@ pending_counted source handset n (m ∷ ms) =
 
 -- ---- bars
 
-and_one : (b : Bool) → (b && true) ≡ b
-and_one true = refl
-and_one false = refl
-
-and_none : (b : Bool) → (b && false) ≡ false
-and_none true = refl
-and_none false = refl
-
 bar_told : (a b t r c : Bool) (n x : ℕ) (rest : List ℕ) → (x == n) ≡ r → is_among n rest ≡ c → is_among n (if (a && b) && t then x ∷ rest else rest) ≡ (((a && (b && r)) && t) || c)
-bar_told true true true r c n x rest e f = ap (λ (q : Bool). q || is_among n rest) e ∙ ap (λ (q : Bool). r || q) f ∙ ap (λ (q : Bool). q || c) (sym (and_one r))
-bar_told true true false r c n x rest e f = f ∙ ap (λ (q : Bool). q || c) (sym (and_none r))
+bar_told true true true r c n x rest e f = ap (λ (q : Bool). q || is_among n rest) e ∙ ap (λ (q : Bool). r || q) f ∙ ap (λ (q : Bool). q || c) (sym (and_true r))
+bar_told true true false r c n x rest e f = f ∙ ap (λ (q : Bool). q || c) (sym (and_false r))
 bar_told true false t r c n x rest e f = f
 bar_told false b t r c n x rest e f = f
 

@@ -2,8 +2,9 @@
 use Rattle.std.proofs.Common.{◌≡◌, ℕ, zero, suc, ◌+◌, ◌<◌, ◌%◌, List, [], ◌∷◌, ◌++◌, Bool, true, false, Option, Some, None, refl, sym, ◌∙◌, ap, subst, inl, inr, ⊎_elim, arith, eq-eqb}
 use Rattle.std.specs.Prelude.{◌⊎◌, ◌==◌, ◌&&◌, ◌||◌, not, if◌then◌else◌}
 use Rattle.std.specs.Str.{bytes_eq}
-use Rattle.std.proofs.lemmas.Bool.{and_parts, and_right, cases_Bool, cond-true, cond-false, eqb-true, or_left, or_right}
+use Rattle.std.proofs.lemmas.Bool.{and_parts, and_right, cases_Bool, cond-true, cond-false, eqb-true, or_left, or_right, or_cases}
 use Rattle.std.proofs.lemmas.Slice.Eq.{bytes_eq-Decides}
+use Rattle.sms_base.proofs.Bools.{or_assoc, or_false, same_bool}
 use Rattle.sms_base.specs.AddressKind.{type_number}
 use Rattle.sms_base.specs.Among.{Among}
 use Rattle.sms_base.specs.declared.address.Address.{Address}
@@ -23,23 +24,6 @@ use Rattle.sms_centre_spec.proofs.forgetting.Looks.{message_stays}
 use Rattle.sms_centre_spec.proofs.forgetting.Splits.{last_same}
 
 -- ---- tests
-
-both_ways : (a b : Bool) → (a ≡ true → b ≡ true) → (b ≡ true → a ≡ true) → a ≡ b
-both_ways true b f g = sym (f refl)
-both_ways false true f g = g refl
-both_ways false false f g = refl
-
-pub either_of : (a b : Bool) → (a || b) ≡ true → (a ≡ true) ⊎ (b ≡ true)
-either_of true b e = inl refl
-either_of false b e = inr e
-
-or_assoc : (a b c : Bool) → (a || (b || c)) ≡ ((a || b) || c)
-or_assoc true b c = refl
-or_assoc false b c = refl
-
-or_false : (a : Bool) → (a || false) ≡ a
-or_false true = refl
-or_false false = refl
 
 -- where what stands behind was there before
 or_there : (a b : Bool) → (b ≡ true → a ≡ true) → a ≡ (a || b)
@@ -438,7 +422,7 @@ module _ (source : Address) (h : List ℕ) where
       ⊎_elim
       (λ (f : among_claims (is_own_bar source h) r (if p.id == m.id then claims_of_header m o else []) ≡ true). here o refl (p.id == m.id) refl f)
       (λ (f : among_claims (is_own_bar source h) r (claims_of_parts m ps) ≡ true). lays_behind r m p ps (lays_of r m ps f))
-      (either_of (among_claims (is_own_bar source h) r (if p.id == m.id then claims_of_header m o else [])) (among_claims (is_own_bar source h) r (claims_of_parts m ps))
+      (or_cases (among_claims (is_own_bar source h) r (if p.id == m.id then claims_of_header m o else [])) (among_claims (is_own_bar source h) r (claims_of_parts m ps))
       (sym (claims_append (is_own_bar source h) r (if p.id == m.id then claims_of_header m o else []) (claims_of_parts m ps)) ∙ e))
     where
       here : (o : Option ℕ) → unless_split m.split_reference (wide_in p.key) ≡ o → (b : Bool) → (p.id == m.id) ≡ b
@@ -492,7 +476,7 @@ module _ (source : Address) (h : List ℕ) where
       (λ (f : among_claims (is_own_bar source h) r (claims_left goes ms ps) ≡ true).
       let l = leaves_of goes r ms ps f in
       let is : Leaves goes r (m ∷ ms) ps = record { row = l.row; among = inr l.among; gone = l.gone; lays = l.lays } in is)
-      (either_of (among_claims (is_own_bar source h) r (if goes m.id then claims_of m ps else [])) (among_claims (is_own_bar source h) r (claims_left goes ms ps))
+      (or_cases (among_claims (is_own_bar source h) r (if goes m.id then claims_of m ps else [])) (among_claims (is_own_bar source h) r (claims_left goes ms ps))
       (sym (claims_append (is_own_bar source h) r (if goes m.id then claims_of m ps else []) (claims_left goes ms ps)) ∙ e))
     where
       here : (b : Bool) → goes m.id ≡ b → among_claims (is_own_bar source h) r (if b then claims_of m ps else []) ≡ true → Leaves goes r (m ∷ ms) ps
@@ -515,10 +499,10 @@ module _ (source : Address) (h : List ℕ) where
 
   own_stand : (goes : ℕ → Bool) (r : ℕ) (ms : List MessageRow) (ps : List PartRow) → Rises message_key ms
       → (among_own r (kept message_key goes ms) (kept part_id goes ps) || among_claims (is_own_bar source h) r (claims_left goes ms ps)) ≡ among_own r ms ps
-  own_stand goes r ms ps rises = both_ways (among_own r ks js || among_claims (is_own_bar source h) r (claims_left goes ms ps)) (among_own r ms ps)
+  own_stand goes r ms ps rises = same_bool (among_own r ks js || among_claims (is_own_bar source h) r (claims_left goes ms ps)) (among_own r ms ps)
       (λ e. ⊎_elim (λ (f : among_own r ks js ≡ true). is_owned r ms ps (all (owns_of r ks js f)))
       (λ (f : among_claims (is_own_bar source h) r (claims_left goes ms ps) ≡ true). is_owned r ms ps (gave (leaves_of goes r ms ps f)))
-      (either_of (among_own r ks js) (among_claims (is_own_bar source h) r (claims_left goes ms ps)) e))
+      (or_cases (among_own r ks js) (among_claims (is_own_bar source h) r (claims_left goes ms ps)) e))
       (λ e. parted (owns_of r ms ps e))
     where
       ks : List MessageRow

@@ -2,7 +2,7 @@
 use Rattle.std.proofs.Common.{◌≡◌, ℕ, zero, suc, ◌+◌, ◌<◌, ◌≤◌, List, [], ◌∷◌, ◌++◌, length, append-nil, Bool, true, false, refl, sym, ◌∙◌, ap, subst, inl, inr, ⊎_elim, arith, eq-eqb}
 use Rattle.std.specs.Prelude.{◌==◌, ◌&&◌, ◌||◌, if◌then◌else◌}
 use Rattle.std.specs.Str.{bytes_eq}
-use Rattle.std.proofs.lemmas.Bool.{and_parts, cases_Bool, cases_lt, cond-true, cond-false, eqb-true, ne_eqb, or_parts}
+use Rattle.std.proofs.lemmas.Bool.{and_parts, cases_Bool, cases_lt, cond-true, cond-false, eqb-true, ne_eqb, or_parts, or_cases}
 use Rattle.sms_base.specs.Among.{Among}
 use Rattle.sms_base.specs.declared.address.Address.{Address}
 use Rattle.sms_rows.specs.table.Table.{Rises, put}
@@ -11,7 +11,7 @@ use Rattle.sms_centre_rows.specs.declared.messages.claim.Claim.{Claim}
 use Rattle.sms_centre_rows.specs.messages.Bars.{bar_key, bar_of, is_barred, next_bar, with_bar, with_bars}
 use Rattle.sms_centre_rows.specs.messages.SplitReferences.{is_among, is_bar_between, is_own_bar, is_same_address, own_bars, references_in}
 use Rattle.sms_centre_spec.specs.forgetting.Forgetting.{NoneTwice}
-use Rattle.sms_centre_spec.proofs.forgetting.BarsStand.{among_append, either_of, one_rises, put_behind, references_append, same_pair}
+use Rattle.sms_centre_spec.proofs.forgetting.BarsStand.{among_append, one_rises, put_behind, references_append, same_pair}
 
 -- ---- one more
 
@@ -137,7 +137,7 @@ references_small test k (b ∷ bs) f n e = by (test b) e (references_small test 
     by true q rest = ⊎_elim
         (λ (here : (b.reference == n) ≡ true). subst (λ (m : ℕ). m < k) (eqb-true b.reference n here) (f b (inl refl)))
         (λ (behind : is_among n (references_in test bs) ≡ true). rest behind)
-        (either_of (b.reference == n) (is_among n (references_in test bs)) q)
+        (or_cases (b.reference == n) (is_among n (references_in test bs)) q)
     by false q rest = rest q
 
 pub few_bars : (source : Address) (h : List ℕ) (k : ℕ) (bs : List BarRow) → ((b : BarRow) → Among b bs → b.reference < k) → NoneTwice (own_bars source h bs) → length (own_bars source h bs) ≤ k

@@ -3,6 +3,7 @@ use Rattle.std.proofs.Common.{◌≡◌, ℕ, List, [], ◌∷◌, Bool, false, 
 use Rattle.std.specs.Prelude.{◌==◌, ◌&&◌, not, if◌then◌else◌}
 use Rattle.std.proofs.lemmas.Bool.{cond_both, cond-false, eqb-true}
 use Rattle.std.specs.Str.{bytes_eq}
+use Rattle.std.proofs.lemmas.Option.{same_Some}
 use Rattle.sms_base.specs.Among.{Among}
 use Rattle.smpp_pdu.specs.declared.query.QuerySm.{QuerySm}
 use Rattle.sms_intake.specs.declared.submission.CentreAccount.{CentreAccount}
@@ -37,7 +38,6 @@ use Rattle.sms_centre_spec.specs.Sessions.{answered_by, receipt_answered}
 use Rattle.sms_centre_spec.specs.SoundCore.{IsReceiptRow, IsSoundCore}
 use Rattle.sms_world.specs.centre_runs_are_steps.Offered.{IsOffered}
 use Rattle.sms_world.specs.centre_runs_are_steps.OfferedLaws.{AnsweredLaw, QueryLaw}
-use Rattle.sms_world.proofs.Options.{some_is}
 
 -- ---- where all was offered, nothing is
 
@@ -106,7 +106,7 @@ pub receipt_there : (c : Core) (session : Session) (number : ℕ) → IsSoundCor
     → (r : ReportRow) → report_of n c.rows.reports ≡ Some r → is_status r.kind ≡ false
 receipt_there c session number sound e n i r q =
     let x : IsReceiptRow c.rows n = (sound.each_session session (found_among session_key number session c.sessions e)).unanswered n i in
-    ap (λ (z : ReportRow). is_status z.kind) (sym (some_is x.0 r (sym x.1.0 ∙ q))) ∙ no_status x.0.kind x.1.1
+    ap (λ (z : ReportRow). is_status z.kind) (sym (same_Some x.0 r (sym x.1.0 ∙ q))) ∙ no_status x.0.kind x.1.1
 
 -- what waits is as before
 ended_offered : (accepted : Bool) (n id : ℕ) (o : Option ReportRow) (s : Store) (lines : List HandsetLink) → Rises report_key (reports_in s) → report_of id (reports_in s) ≡ o → ((r : ReportRow) → o ≡ Some r → is_status r.kind ≡ false)
@@ -120,7 +120,7 @@ ended_offered accepted n id (Some r) s lines keys there f k = λ number ready.
     waits_alike number (messages_in s) (report_key r) q rs (parts_waiting number (messages_in s) (priorities_in s) (parts_in s))
     (λ x i e.
     let both : Some x ≡ Some r = sym (among_found report_key x rs keys i) ∙ ap (λ (key : ℕ). row_at report_key key rs) e ∙ own in
-    ap (λ (y : ReportRow). is_status y.kind) (some_is x r both) ∙ f r refl) in
+    ap (λ (y : ReportRow). is_status y.kind) (same_Some x r both) ∙ f r refl) in
     ap (λ (ls : List QueuedPart). next s.moment ls) same ∙ k number ready
 
 answered_offered : (id : ℕ) (accepted : Bool) (o : Option Session) (d : Draft) → ((session : Session) → o ≡ Some session → (n : ℕ) → Among n session.unanswered → (r : ReportRow) → report_of n (reports_in d.store) ≡ Some r → is_status r.kind ≡ false)

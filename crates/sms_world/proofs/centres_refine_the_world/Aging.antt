@@ -33,7 +33,7 @@ use Rattle.sms_world.specs.headline.SeenWorld.{messages_by, parts_by}
 use Rattle.sms_world.specs.centres_refine_the_world.RefinesReports.{ReportSeen, RefinesReports, report_seen, reports_by}
 use Rattle.sms_world.proofs.centres_refine_the_world.Ending.{IsReached, can_end, end_is_reached, ended_refines, pending_in_world}
 use Rattle.sms_world.proofs.centres_refine_the_world.Playing.{centre_both, follow_both, agrees_follow}
-use Rattle.sms_centre_draft.proofs.walks.MomentStays.{end_moment}
+use Rattle.sms_centre_spec.proofs.MomentStays.{end_moment}
 
 -- ---- steps of a tick
 

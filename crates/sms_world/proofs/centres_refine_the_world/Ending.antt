@@ -17,7 +17,7 @@ use Rattle.sms_centre_rows.specs.declared.messages.message.MessageRow.{MessageRo
 use Rattle.sms_receipt.specs.StatusReports.{status_octets, status_of as status_code, status_report_of}
 use Rattle.sms_centre_rows.proofs.reports.AllWaiting.{report_found}
 use Rattle.sms_centre_rows.proofs.reports.ReportRows.{new_report, new_report_other}
-use Rattle.sms_centre_rows.specs.reports.Reports.{is_status, next_place, report_key, report_of}
+use Rattle.sms_centre_rows.specs.reports.Reports.{is_status, report_key, report_of}
 use Rattle.sms_centre_rows.specs.reports.SoundReports.{IsStatus}
 use Rattle.sms_centre_rows.specs.reports.Waiting.{IsReportApart}
 use Rattle.sms_centre_rows.specs.declared.reports.report.ReportKind.{ReportKind}
@@ -36,6 +36,7 @@ use Rattle.sms_centre_spec.proofs.SoundStores.{SoundStore}
 use Rattle.sms_centre_spec.proofs.StagesConsistent.{CanReport, can_report, next_is_new}
 use Rattle.sms_centre_spec.proofs.TpdusRead.{status_reads}
 use Rattle.sms_centre_spec.proofs.SoundSteady.{rows_map}
+use Rattle.sms_centre_spec.proofs.Keeping.{report_of_end}
 use Rattle.sms_centre_spec.specs.Draft.{Store, handsets_in, messages_in, parts_in, priorities_in, references_in, reports_in, waiting_in, with_message}
 use Rattle.sms_centre_spec.specs.Ends.{end as end_message, is_wished, make_report, report_to, status_given}
 use Rattle.sms_centre_spec.specs.Finals.{final_of}
@@ -207,15 +208,6 @@ wished OnFailure Expired e = tt
 wished OnFailure Deleted e = tt
 wished OnFailure Undeliverable e = tt
 
-abbrev pub row_made : ℕ → ReportKind → Bool → Store → ReportRow
-row_made id kind closed s = record {
-  place = next_place (reports_in s);
-  id = id;
-  kind = kind;
-  made = s.moment;
-  progress = record { is_done = closed; attempts = 0; due = s.moment };
-}
-
 codes_agree : (f : FinalState) → status_octet (status_code f) ≡ status_of f
 codes_agree Delivered = refl
 codes_agree Expired = refl
@@ -241,10 +233,10 @@ module _ (f : FinalState) (n : ℕ) (m : MessageRow) (s : Store) (w : World) (ca
 
   module _ (kind : ReportKind) (closed : Bool) where
     abbrev made : ReportRow
-    made = row_made m.id kind closed s
+    made = report_of_end m.id kind closed s
 
     abbrev more : List ReportRow
-    more = put report_key (row_made m.id kind closed s) (reports_in s)
+    more = put report_key (report_of_end m.id kind closed s) (reports_in s)
 
     is_new : IsReportApart rs made
     is_new = next_is_new made rs can.consistent.held.report_keys can.none refl

@@ -2,6 +2,9 @@
 use Rattle.std.proofs.Common.{◌≡◌, ℕ, ◌+◌, ◌-◌, ◌%◌, ◌<◌, ◌≤◌, arith, List, [], ◌∷◌, ◌++◌, length, Bool, true, false, cond, refl, sym, ◌∙◌, ap, subst, inl, inr, ⊎_elim, Option, Some, None, Result, Ok, Err, suc}
 use Rattle.std.specs.Prelude.{min, nat_le, nat_lt, ◌⊎◌}
 use Rattle.std.proofs.lemmas.Bool.{both_ways, cond-false, cond-true, cond_both, leb-true, cases_eq, le-leb}
+use Rattle.std.proofs.lemmas.Option.{same_Some}
+use Rattle.std.proofs.lemmas.List.{append-nil, append_assoc}
+use Rattle.sms_base.proofs.Lists.{among_back, among_front, among_parts}
 use Rattle.sms_base.specs.Among.{Among}
 use Rattle.sms_base.specs.declared.address.Address.{Address}
 use Rattle.sms_base.specs.declared.carried.Carried.{Carried}
@@ -36,7 +39,7 @@ use Rattle.sms_handset_rows.specs.outbox.Settling.{is_sending, lost, settled}
 use Rattle.sms_handset_rows.specs.outbox.Submits.{written_entry}
 use Rattle.sms_handset_rows.specs.declared.outbox.notice.Notice.{Notice}
 use Rattle.sms_handset_rows.specs.declared.outbox.out_entry.EntryState.{EntryState}
-use Rattle.sms_handset_rows.specs.declared.outbox.out_entry.EntryState.TheVariants.{Failed, Queued, Sending, Sent, Unsure}
+use Rattle.sms_handset_rows.specs.declared.outbox.out_entry.EntryState.TheVariants.{Queued, Sending}
 use Rattle.sms_handset_rows.specs.declared.outbox.out_entry.OutEntry.{OutEntry}
 use Rattle.sms_handset_rows.proofs.outbox.SoundOutbox.{held_among, held_entries}
 use Rattle.sms_handset_rows.proofs.outbox.SoundReferences.{next_is_free}
@@ -57,13 +60,11 @@ use Rattle.sms_handset.specs.declared.refusal.Refusal.{Refusal}
 use Rattle.sms_handset.proofs.SoundActs.{SoundIfDone, delete_sound, discard_sound, few_references, not_by_entries, write_sound}
 use Rattle.sms_handset.proofs.SoundDrafts.{SoundAt, sound_from}
 use Rattle.sms_handset.proofs.SoundEvents.{timed_out_sound, went_up_sound}
-use Rattle.sms_handset.proofs.SoundTransfers.{lapse_settles}
+use Rattle.sms_handset.proofs.SoundTransfers.{is_sending_state, lapse_settles}
 use Rattle.sms_play.specs.HandsetSide.{entries_given, happened, memories_given}
 use Rattle.sms_play.specs.Premises.{last_holder}
 use Rattle.sms_world.specs.entries_keep_references.ReportedEntries.{AreBelow, EventLaw, EntriesAgree}
-use Rattle.sms_world.proofs.entries_keep_references.RowsGiven.{all_reference, appended, carrying_reported, copies_reported, entries_new, entries_old, entries_removed, last_other, last_over, last_own, memories_over, nothing_more, numbered_reported}
-use Rattle.sms_world.proofs.scripts_are_runs.Growing.{either_part, in_front, in_rest}
-use Rattle.sms_world.proofs.Options.{some_is}
+use Rattle.sms_world.proofs.entries_keep_references.RowsGiven.{all_reference, carrying_reported, copies_reported, entries_new, entries_old, entries_removed, last_other, last_over, last_own, memories_over, numbered_reported}
 use Rattle.sms_link.proofs.Known.{begin_is}
 use Rattle.sms_play.specs.PlayState.{Party}
 use Rattle.sms_control.specs.declared.message.Cp.TheVariants.{DataUnit as CpData}
@@ -81,13 +82,6 @@ was_queued s e = ap (λ (z : EntryState). is_unfinished z) e
 
 not_both : (s : EntryState) → s ≡ Queued → s ≡ Sending → ⊥
 not_both s a b = let bad : Queued ≡ Sending = sym a ∙ b in absurd cc
-
-is_sending_state : (s : EntryState) → is_sending s ≡ true → s ≡ Sending
-is_sending_state Queued e = absurd cc
-is_sending_state Sending e = refl
-is_sending_state Sent e = absurd cc
-is_sending_state Failed e = absurd cc
-is_sending_state Unsure e = absurd cc
 
 -- a reference that no unfinished entry holds is none of theirs
 not_held : (r : ℕ) (os : List OutEntry) → is_among r (held_by_entries os) ≡ false → (o : OutEntry) → Among o os → is_unfinished o.state ≡ true → ¬ (r ≡ o.reference)
@@ -160,7 +154,7 @@ module _ (h : List ℕ) (base : List OutEntry) (W : OutEntry → Type 0) where
         ⊎_elim
         (λ (e : x.number ≡ y.0.number).
         let found : row_at out_key o.number os ≡ Some y.0 = ap (λ (k : ℕ). row_at out_key k os) (sym is.0 ∙ e) ∙ among_found out_key y.0 os order y.1.0 in
-        let own : y.0 ≡ o = some_is y.0 o (sym found ∙ at) in (
+        let own : y.0 ≡ o = same_Some y.0 o (sym found ∙ at) in (
           x,
           (
             put_own x os,
@@ -183,8 +177,8 @@ module _ (h : List ℕ) (base : List OutEntry) (W : OutEntry → Type 0) where
       → News h base W (put out_key x os) (rows ++ row ∷ [])
   news_more x os rows row order none new waits is n = record {
     to = λ y i fresh. ⊎_elim
-        (λ (e : y ≡ x). (row, (in_rest row rows (row ∷ []) (inl refl), subst (λ (z : OutEntry). IsRowFor h row z) (sym e) is)))
-        (λ (a : Among y os × ¬ (out_key y ≡ out_key x)). let z = n.to y a.0 fresh in (z.0, (in_front z.0 rows (row ∷ []) z.1.0, z.1.1)))
+        (λ (e : y ≡ x). (row, (among_back row rows (row ∷ []) (inl refl), subst (λ (z : OutEntry). IsRowFor h row z) (sym e) is)))
+        (λ (a : Among y os × ¬ (out_key y ≡ out_key x)). let z = n.to y a.0 fresh in (z.0, (among_front z.0 rows (row ∷ []) z.1.0, z.1.1)))
         (among_put out_key y x os i);
     from = λ g i. ⊎_elim
         (λ (j : Among g rows).
@@ -202,7 +196,7 @@ module _ (h : List ℕ) (base : List OutEntry) (W : OutEntry → Type 0) where
         (λ (e : g ≡ row). (x, (put_own x os, new, waits, subst (λ (z : GivenRow). IsRowFor h z x) (sym e) is)))
         (λ no_row. absurd no_row)
         j)
-        (either_part g rows (row ∷ []) i);
+        (among_parts g rows (row ∷ []) i);
   }
 
 -- what waits is open
@@ -313,7 +307,7 @@ module _ (h : List ℕ) (given : List GivenRow) (base : List OutEntry) (next fir
   same_frames : (moment : ℕ) (cs : List (Change OutEntry)) (frames fs : List Outgoing) → memories_given h moment next fs ≡ [] → told moment cs (frames ++ fs) ≡ told moment cs frames
   same_frames moment cs frames fs e =
       ap (λ (z : List GivenRow). given ++ (entries_given h moment base cs ++ z))
-      (memories_over h moment next frames fs ∙ ap (λ (z : List GivenRow). memories_given h moment next frames ++ z) e ∙ nothing_more (memories_given h moment next frames))
+      (memories_over h moment next frames fs ∙ ap (λ (z : List GivenRow). memories_given h moment next frames ++ z) e ∙ append-nil (memories_given h moment next frames))
 
   turned_by : (W : OutEntry → Type 0) (t : Turn) (d : Draft) → memories_given h d.moment next t.out.frames ≡ [] → AgreesBy W d → AgreesBy W (with_turn t d)
   turned_by W t d e s = record {
@@ -355,7 +349,7 @@ module _ (h : List ℕ) (given : List GivenRow) (base : List OutEntry) (next fir
 
   settles : (v : Ending) (reference n : ℕ) (o : OutEntry) (d : Draft) → IsSentIn reference (EntryHolder n) d → row_at out_key n d.rows.outbox ≡ Some o → AgreesAt d → AgreesAt (put_out (settled d.moment (verdict_of v) o) d)
   settles v reference n o d is e s =
-      let same : is.0 ≡ o = some_is is.0 o (sym is.1.0 ∙ e) in
+      let same : is.0 ≡ o = same_Some is.0 o (sym is.1.0 ∙ e) in
       let sending : o.state ≡ Sending = subst (λ (z : OutEntry). z.state ≡ Sending) same is.1.1.0 in
       let own : row_at out_key o.number d.rows.outbox ≡ Some o = ap (λ (k : ℕ). row_at out_key k d.rows.outbox) (found_key out_key n o d.rows.outbox e) ∙ e in
       out_put (Waits first) o (settled d.moment (verdict_of v) o) d own (settled_same d.moment (verdict_of v) o) (λ u. is_open o.state sending) (λ q. absurd (not_both o.state q.0 sending)) s
@@ -465,7 +459,7 @@ module _ (h : List ℕ) (given : List GivenRow) (base : List OutEntry) (next fir
       let m : List GivenRow = memories_given h d.moment next d.frames in
       let same : told d.moment d.changes.outbox (d.frames ++ carrying (Some (of_kind Data reference (Memory n))) fs) ≡ told d.moment d.changes.outbox d.frames ++ rows =
       ap (λ (z : List GivenRow). given ++ (e ++ z)) (memories_over h d.moment next d.frames (carrying (Some (of_kind Data reference (Memory n))) fs))
-      ∙ ap (λ (z : List GivenRow). given ++ z) (sym (appended e m rows)) ∙ sym (appended given (e ++ m) rows) in
+      ∙ ap (λ (z : List GivenRow). given ++ z) (sym (append_assoc e m rows)) ∙ sym (append_assoc given (e ++ m) rows) in
       ap (λ (z : List GivenRow). last_holder None h Up y.reference z) same
       ∙ last_over None h y.reference (told d.moment d.changes.outbox d.frames) rows
       ∙ last_other (last_holder None h Up y.reference (told d.moment d.changes.outbox d.frames)) h y.reference rows
@@ -574,9 +568,9 @@ module _ (h : List ℕ) (given : List GivenRow) (base : List OutEntry) (next fir
       let now : told d.moment (cs ++ Put x ∷ []) d.frames ≡ before ++ row ∷ [] =
       ap (λ (z : List Outgoing). told d.moment (cs ++ Put x ∷ []) z) w.quiet
       ∙ ap (λ (z : List GivenRow). given ++ (z ++ [])) (entries_new h d.moment cs x base none)
-      ∙ ap (λ (z : List GivenRow). given ++ z) (nothing_more (e ++ row ∷ []))
-      ∙ sym (appended given e (row ∷ []))
-      ∙ ap (λ (z : List GivenRow). (given ++ z) ++ row ∷ []) (sym (nothing_more e)) in
+      ∙ ap (λ (z : List GivenRow). given ++ z) (append-nil (e ++ row ∷ []))
+      ∙ sym (append_assoc given e (row ∷ []))
+      ∙ ap (λ (z : List GivenRow). (given ++ z) ++ row ∷ []) (sym (append-nil e)) in
       record {
         tells = record {
           rests = all_applied_push out_key cs (Put x) base ∙ ap (λ (z : List OutEntry). put out_key x z) s.rests;
@@ -663,7 +657,7 @@ module _ (h : List ℕ) (given : List GivenRow) (base : List OutEntry) (next fir
       rests = sym is_base;
       order = sound.rows.out_keys;
       below = below;
-      held = λ o i u. ap (λ (z : List GivenRow). last_holder None h Up o.reference z) (nothing_more given) ∙ tells o i u;
+      held = λ o i u. ap (λ (z : List GivenRow). last_holder None h Up o.reference z) (append-nil given) ∙ tells o i u;
       quiet = refl;
       counter = counter;
       news = subst (λ (os : List OutEntry). News h base (Waits first) os []) (sym is_base) (none_new h base (Waits first) (subst (λ (os : List OutEntry). Rises out_key os) is_base sound.rows.out_keys));

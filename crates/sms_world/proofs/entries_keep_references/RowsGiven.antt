@@ -4,6 +4,7 @@ use Rattle.std.specs.Prelude.{◌==◌, ◌&&◌, is_some, nat_le}
 use Rattle.std.specs.Str.{bytes_eq}
 use Rattle.std.proofs.lemmas.Bool.{and_from, and_parts, cases_Bool, cond-false, cond-true, cond_both, eq-eqb, eqb-true, leb-true}
 use Rattle.std.proofs.lemmas.Slice.Eq.{bytes_eq-Decides}
+use Rattle.std.proofs.lemmas.List.{append-nil, append_assoc}
 use Rattle.sms_base.specs.Among.{Among}
 use Rattle.sms_base.specs.declared.carried.Carried.{Carried}
 use Rattle.sms_base.specs.declared.carried.Kind.TheVariants.{Data}
@@ -21,16 +22,6 @@ use Rattle.sms_rows.specs.declared.table.change.Change.TheVariants.{Put, Remove}
 use Rattle.sms_rows.specs.table.Table.{all_applied, put, row_at, without}
 use Rattle.sms_play.specs.HandsetSide.{carried_given, entries_given, entry_given, memories_given, memory_given}
 use Rattle.sms_play.specs.Premises.{is_of_reference, is_same_side, last_holder}
-
--- ---- lists
-
-pub appended : (xs ys zs : List GivenRow) → (xs ++ ys) ++ zs ≡ xs ++ (ys ++ zs)
-appended [] ys zs = refl
-appended (x ∷ xs) ys zs = ap (λ (z : List GivenRow). x ∷ z) (appended xs ys zs)
-
-pub nothing_more : (xs : List GivenRow) → xs ++ [] ≡ xs
-nothing_more [] = refl
-nothing_more (x ∷ xs) = ap (λ (z : List GivenRow). x ∷ z) (nothing_more xs)
 
 -- ---- to whom a reference was given last
 
@@ -71,7 +62,7 @@ module _ (h : List ℕ) (moment : ℕ) where
   entries_put [] x base = refl
   entries_put (Put y ∷ cs) x base =
       ap (λ (z : List GivenRow). one_given y base ++ z) (entries_put cs x (put out_key y base))
-      ∙ sym (appended (one_given y base) (entries_given h moment (put out_key y base) cs) (one_given x (all_applied out_key cs (put out_key y base)) ++ []))
+      ∙ sym (append_assoc (one_given y base) (entries_given h moment (put out_key y base) cs) (one_given x (all_applied out_key cs (put out_key y base)) ++ []))
   entries_put (Remove n ∷ cs) x base = entries_put cs x (without out_key n base)
 
   pub entries_removed : (cs : List (Change OutEntry)) (n : ℕ) (base : List OutEntry) → entries_given h moment base (cs ++ Remove n ∷ []) ≡ entries_given h moment base cs
@@ -85,7 +76,7 @@ module _ (h : List ℕ) (moment : ℕ) where
   entries_old cs x o base e =
       entries_put cs x base
       ∙ ap (λ (z : Option OutEntry). entries_given h moment base cs ++ (cond (is_some z) [] (entry_given h moment x) ++ [])) e
-      ∙ nothing_more (entries_given h moment base cs)
+      ∙ append-nil (entries_given h moment base cs)
 
   -- a new one its reference
   pub entries_new : (cs : List (Change OutEntry)) (x : OutEntry) (base : List OutEntry) → row_at out_key x.number (all_applied out_key cs base) ≡ None
@@ -102,7 +93,7 @@ module _ (h : List ℕ) (moment next : ℕ) where
   pub memories_over : (xs ys : List Outgoing) → memories_given h moment next (xs ++ ys) ≡ memories_given h moment next xs ++ memories_given h moment next ys
   memories_over [] ys = refl
   memories_over (f ∷ xs) ys =
-      ap (λ (z : List GivenRow). one_reported f ++ z) (memories_over xs ys) ∙ sym (appended (one_reported f) (memories_given h moment next xs) (memories_given h moment next ys))
+      ap (λ (z : List GivenRow). one_reported f ++ z) (memories_over xs ys) ∙ sym (append_assoc (one_reported f) (memories_given h moment next xs) (memories_given h moment next ys))
 
   -- what a link repeats is told already
   pub copies_reported : (under_way answered : Option Carried) (fs : List (List ℕ)) → memories_given h moment next (from_links under_way answered fs) ≡ []

@@ -1,6 +1,7 @@
 -- A part of a group that the owner discarded: its number is noted, and the group is forgotten with its last one.
 use Rattle.std.proofs.Common.{◌≡◌, ℕ, List, [], ◌∷◌, ◌++◌, true, false, refl, sym, ◌∙◌, ap, subst, inl, inr, ⊎_elim, Option, Some, None}
 use Rattle.std.proofs.lemmas.Bool.{cond_both}
+use Rattle.std.proofs.lemmas.Option.{same_Some}
 use Rattle.sms_base.specs.Among.{Among}
 use Rattle.sms_rows.specs.table.Table.{Rises, row_at, put, without}
 use Rattle.sms_rows.proofs.table.Tables.{among_found, among_put, among_without, put_among, without_among}
@@ -30,13 +31,12 @@ use Rattle.sms_world.proofs.handset_runs_are_steps.Ending.{no_members}
 use Rattle.sms_world.proofs.handset_runs_are_steps.Grouping.{pair, by_group, closed, entered, here, matches_mark, matches_none, numbers_alike, numbers_more, passing, places_more}
 use Rattle.sms_world.proofs.handset_runs_are_steps.PartsArrive.{arrived_as, single_law}
 use Rattle.sms_world.proofs.handset_runs_are_steps.Taking.{AwaitsAnswer, taken, takes}
-use Rattle.sms_world.proofs.Options.{some_is}
 
 -- ---- the mark of a group is the one of the group among the marks
 
 same_mark : (ms : List DiscardedGroup) (x y : DiscardedGroup) → Rises mark_key ms → Among x ms → Among y ms → x.number ≡ y.number → x ≡ y
 same_mark ms x y r i j e =
-    some_is x y (sym (among_found mark_key x ms r i) ∙ ap (λ (z : ℕ). row_at mark_key z ms) e ∙ among_found mark_key y ms r j)
+    same_Some x y (sym (among_found mark_key x ms r i) ∙ ap (λ (z : ℕ). row_at mark_key z ms) e ∙ among_found mark_key y ms r j)
 
 pub mark_is : (k : ℕ) (es : List Entry) (ms : List DiscardedGroup) (x : DiscardedGroup) → Discarded k es ms → Among x ms → mark_of x.group ms ≡ Some x
 mark_is k es ms x d i = at (mark_of x.group ms) refl

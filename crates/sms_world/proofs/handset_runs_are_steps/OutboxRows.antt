@@ -3,6 +3,7 @@ use Rattle.std.proofs.Common.{◌≡◌, ◌⊎◌, ℕ, List, [], ◌∷◌, tr
 use Rattle.std.specs.Prelude.{◌==◌, ◌&&◌}
 use Rattle.std.proofs.lemmas.Bool.{cases_eq, cases_Bool, cond-true, cond-false, eqb-true, and_from, and_parts, both_ways}
 use Rattle.std.proofs.lemmas.Slice.Eq.{bytes_eq-Decides}
+use Rattle.std.proofs.lemmas.Option.{same_Some}
 use Rattle.sms_base.specs.Among.{Among}
 use Rattle.sms_rows.specs.table.Table.{row_at, put}
 use Rattle.sms_rows.proofs.table.Tables.{found_key, row_at_put, row_at_put_other}
@@ -13,7 +14,6 @@ use Rattle.sms_world_model.specs.World.{Allocation, EntryState, OutEntry, is_sam
 use Rattle.sms_world_model.specs.WorldStep.{replaced}
 use Rattle.sms_world.specs.handset_runs_are_steps.RefinesOutbox.{RefinesOut}
 use Rattle.sms_world.specs.headline.SeenWorld.{entry_seen}
-use Rattle.sms_world.proofs.Options.{some_is}
 
 pub same_digits : (a b : List ℕ) → a ≡ b → is_same_handset a b ≡ true
 same_digits a b e = (bytes_eq-Decides a b).1 e
@@ -84,7 +84,7 @@ module _ (h : List ℕ) (next : ℕ) (outbox : List OutRow) (entries : List OutE
       → (z : OutRow) × ((row_at out_key n outbox ≡ Some z) × (z.reference ≡ y.reference))
   arrived_from n y q = ⊎_elim
       (λ (g : o.number ≡ n).
-      let same : x ≡ y = some_is x y (sym new_here ∙ ap (λ (z : ℕ). row_at out_key z (put out_key x outbox)) g ∙ q) in
+      let same : x ≡ y = same_Some x y (sym new_here ∙ ap (λ (z : ℕ). row_at out_key z (put out_key x outbox)) g ∙ q) in
       (o, (ap (λ (z : ℕ). row_at out_key z outbox) (sym g) ∙ at, sym reference ∙ ap (λ (z : OutRow). z.reference) same)))
       (λ (g : o.number ≡ n → ⊥). (y, (sym (old_there n g) ∙ q, refl)))
       (cases_eq o.number n)
@@ -104,7 +104,7 @@ module _ (h : List ℕ) (next : ℕ) (outbox : List OutRow) (entries : List OutE
   out_noted seen s = record {
     there = λ n y q. ⊎_elim
         (λ (g : o.number ≡ n).
-        let same : x ≡ y = some_is x y (sym new_here ∙ ap (λ (z : ℕ). row_at out_key z (put out_key x outbox)) g ∙ q) in
+        let same : x ≡ y = same_Some x y (sym new_here ∙ ap (λ (z : ℕ). row_at out_key z (put out_key x outbox)) g ∙ q) in
         subst (λ (z : OutEntry). Among z entries) (sym seen ∙ ap (λ (z : OutRow). entry_seen h z) same) (s.there o.number o at))
         (λ (g : o.number ≡ n → ⊥). s.there n y (sym (old_there n g) ∙ q))
         (cases_eq o.number n);
@@ -112,7 +112,7 @@ module _ (h : List ℕ) (next : ℕ) (outbox : List OutRow) (entries : List OutE
         let old = s.only e i a in
         ⊎_elim
         (λ (g : o.number ≡ e.number).
-        let same : old.0 ≡ o = some_is old.0 o (sym old.1.0 ∙ ap (λ (v : ℕ). row_at out_key v outbox) (sym g) ∙ at) in
+        let same : old.0 ≡ o = same_Some old.0 o (sym old.1.0 ∙ ap (λ (v : ℕ). row_at out_key v outbox) (sym g) ∙ at) in
         (x, (ap (λ (z : ℕ). row_at out_key z (put out_key x outbox)) (sym g) ∙ new_here, old.1.1 ∙ ap (λ (z : OutRow). entry_seen h z) same ∙ sym seen)))
         (λ (g : o.number ≡ e.number → ⊥). (old.0, (old_there e.number g ∙ old.1.0, old.1.1)))
         (cases_eq o.number e.number);
@@ -126,7 +126,7 @@ module _ (h : List ℕ) (next : ℕ) (outbox : List OutRow) (entries : List OutE
   out_changed st seen s = record {
     there = λ n y q. ⊎_elim
         (λ (g : o.number ≡ n).
-        let same : x ≡ y = some_is x y (sym new_here ∙ ap (λ (z : ℕ). row_at out_key z (put out_key x outbox)) g ∙ q) in
+        let same : x ≡ y = same_Some x y (sym new_here ∙ ap (λ (z : ℕ). row_at out_key z (put out_key x outbox)) g ∙ q) in
         subst (λ (z : OutEntry). Among z (replaced (entry_seen h o) st entries)) (sym seen ∙ ap (λ (z : OutRow). entry_seen h z) same)
         (replaced_here (entry_seen h o) st (entry_seen h o) entries (s.there o.number o at) (refl, refl)))
         (λ (g : o.number ≡ n → ⊥).
@@ -138,7 +138,7 @@ module _ (h : List ℕ) (next : ℕ) (outbox : List OutRow) (entries : List OutE
         ⊎_elim
         (λ (z : SameEntry k.0 (entry_seen h o) × (e ≡ record k.0 { state = st })).
         let old = s.only k.0 k.1.0 z.0.0 in
-        let same : old.0 ≡ o = some_is old.0 o (sym old.1.0 ∙ ap (λ (v : ℕ). row_at out_key v outbox) z.0.1 ∙ at) in (
+        let same : old.0 ≡ o = same_Some old.0 o (sym old.1.0 ∙ ap (λ (v : ℕ). row_at out_key v outbox) z.0.1 ∙ at) in (
           x,
           (
             ap (λ (v : ℕ). row_at out_key v (put out_key x outbox)) (ap (λ (v : OutEntry). v.number) z.1 ∙ z.0.1) ∙ new_here,

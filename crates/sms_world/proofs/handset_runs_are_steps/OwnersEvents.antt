@@ -2,7 +2,7 @@
 use Rattle.std.proofs.Common.{◌≡◌, ℕ, ◌<◌, arith, List, [], ◌∷◌, true, false, cond, refl, sym, ◌∙◌, ap, subst, inl, inr, ⊎_elim, Option, Some, None, Result, Ok, Err, length, eq-eqb}
 use Rattle.std.specs.Prelude.{◌==◌, ◌&&◌, nat_lt}
 use Rattle.std.proofs.lemmas.Bool.{and_from, and_parts, both_ways, cases_Bool, cond-true, cond-false, cond_both, eqb-true, ltb-true}
-use Rattle.std.proofs.lemmas.Option.{none-some}
+use Rattle.std.proofs.lemmas.Option.{none-some, same_Some}
 use Rattle.sms_base.specs.Among.{Among}
 use Rattle.sms_rows.specs.table.Table.{row_at, put, without}
 use Rattle.sms_rows.proofs.table.Tables.{among_found, among_put, found_among, found_key, put_among, row_at_without, row_at_without_other}
@@ -49,7 +49,6 @@ use Rattle.sms_world.proofs.handset_runs_are_steps.Ending.{discarded_as, with_en
 use Rattle.sms_world.proofs.handset_runs_are_steps.Moving.{Begins, begins_then, removes}
 use Rattle.sms_world.proofs.handset_runs_are_steps.Offering.{follow_law}
 use Rattle.sms_world.proofs.handset_runs_are_steps.OutboxRows.{SameEntry, digits_same, same_digits}
-use Rattle.sms_world.proofs.Options.{some_is}
 
 -- no mark has that number
 abbrev IsApart : ℕ → List DiscardedGroup → Type 0
@@ -178,7 +177,7 @@ module _ (m : ℕ) (h : List ℕ) (b : World) (d : Draft) (w : World) (sound : S
       (all_from (λ (y : Entry). ¬ (y.number ≡ n)) (members g d.rows.entries)
       (λ y i q.
       let a = members_among g y d.rows.entries i in
-      let same : y ≡ x = some_is y x (sym (found_row y a.0) ∙ ap (λ (z : ℕ). row_at entry_key z d.rows.entries) q ∙ e) in
+      let same : y ≡ x = same_Some y x (sym (found_row y a.0) ∙ ap (λ (z : ℕ). row_at entry_key z d.rows.entries) q ∙ e) in
       both_ways (is_part_of g y.message) (ap (λ (z : Entry). is_part_of g z.message) same ∙ no_part g x.message t) a.1))
     where
       found_row : (y : Entry) → Among y d.rows.entries → row_at entry_key y.number d.rows.entries ≡ Some y

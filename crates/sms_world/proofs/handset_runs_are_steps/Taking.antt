@@ -1,6 +1,7 @@
 -- Data that come to a handset are one step: it takes them, answers a double or refuses.
 use Rattle.std.proofs.Common.{◌≡◌, ℕ, ◌≤◌, ◌<◌, arith, List, [], ◌∷◌, true, false, refl, sym, ◌∙◌, ap, subst, inl, inr, ⊎_elim, Option, Some, None}
 use Rattle.std.proofs.lemmas.Bool.{both_ways, cases_eq}
+use Rattle.std.proofs.lemmas.Option.{same_Some}
 use Rattle.sms_base.specs.Among.{Among}
 use Rattle.sms_rows.specs.table.Table.{row_at, put as put_row}
 use Rattle.sms_rows.proofs.table.Tables.{row_at_put, row_at_put_other}
@@ -37,7 +38,6 @@ use Rattle.sms_world.proofs.handset_runs_are_steps.Putting.{accepted_here, taken
 use Rattle.sms_world.proofs.handset_runs_are_steps.Grouping.{pair}
 use Rattle.sms_world.proofs.frames_pass_between_sides.Linking.{Awaits}
 use Rattle.sms_world.proofs.handset_runs_are_steps.Replying.{ack_answers, error_answers, replies}
-use Rattle.sms_world.proofs.Options.{some_is}
 
 -- ---- doubles
 
@@ -47,7 +47,7 @@ last_is octets (Some l) e = ap (λ (z : List ℕ). Some z) (sym ((is_same octets
 
 pub last_isn't : (octets : List ℕ) (o : Option LastAccepted) → is_double octets o ≡ false → octets_at o ≡ Some (compared octets) → ⊥
 last_isn't octets None e g = absurd cc
-last_isn't octets (Some l) e g = both_ways (same_message octets l.tpdu) e ((is_same octets l.tpdu).1 (sym (some_is (compared l.tpdu) (compared octets) g)))
+last_isn't octets (Some l) e g = both_ways (same_message octets l.tpdu) e ((is_same octets l.tpdu).1 (sym (same_Some (compared l.tpdu) (compared octets) g)))
 
 -- ---- the last accepted
 
@@ -60,7 +60,7 @@ last_taken h r octets last accepted refines q o =
     (λ (e : r ≡ q).
     let here : octets_at (row_at last_key q (put_row last_key l last)) ≡ Some (compared octets) =
     ap octets_at (ap (λ (z : ℕ). row_at last_key z (put_row last_key l last)) (sym e) ∙ row_at_put last_key l last) in (
-      (λ g. let x : compared octets ≡ o = some_is (compared octets) o (sym here ∙ g) in inl (λ j. record { handset = h; reference = sym e j; tpdu = sym x j })),
+      (λ g. let x : compared octets ≡ o = same_Some (compared octets) o (sym here ∙ g) in inl (λ j. record { handset = h; reference = sym e j; tpdu = sym x j })),
       (λ g. ⊎_elim
           (λ (x : p ≡ pair h r octets). here ∙ ap (λ (z : Accepted). Some z.tpdu) (sym x))
           (λ (x : ¬ ((h ≡ h) × (q ≡ r)) × IsLast p accepted). absurd (x.0 (refl, sym e))) g),

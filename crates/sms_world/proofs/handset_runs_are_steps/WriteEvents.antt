@@ -4,6 +4,7 @@ use Rattle.std.specs.Prelude.{nat_le, nat_lt}
 use Rattle.std.specs.List.{AllByRecursion}
 use Rattle.std.proofs.lemmas.Bool.{cases_eq, cond_both, leb-true}
 use Rattle.std.proofs.lemmas.List.{append-nil}
+use Rattle.std.proofs.lemmas.Option.{same_Some}
 use Rattle.sms_base.specs.Address.{IsAddress, address_of}
 use Rattle.sms_base.specs.declared.address.Address.{Address}
 use Rattle.sms_base.specs.declared.address_error.AddressError.{AddressError}
@@ -47,7 +48,6 @@ use Rattle.sms_world.specs.handset_runs_are_steps.Stages.{Happens, Moves}
 use Rattle.sms_world.proofs.handset_runs_are_steps.Moving.{Begins, begins_then, writes}
 use Rattle.sms_world.proofs.handset_runs_are_steps.Offering.{follow_law, free_up}
 use Rattle.sms_world.proofs.handset_runs_are_steps.OwnersEvents.{HappensIfDone, acts_then, both_done, done_sound}
-use Rattle.sms_world.proofs.Options.{some_is}
 use Rattle.sms_world_model.proofs.Upward.{entry_number}
 
 -- ---- one more entry
@@ -73,7 +73,7 @@ module _ (h : List ℕ) (m : ℕ) (outbox : List OutRow) (entries : List OutEntr
   there k ne = row_at_put_other out_key k o outbox ne
 
   is_new : (k : ℕ) (x : OutRow) → row_at out_key k (put out_key o outbox) ≡ Some x → o.number ≡ k → o ≡ x
-  is_new k x q g = some_is o x (sym here ∙ ap (λ (z : ℕ). row_at out_key z (put out_key o outbox)) g ∙ q)
+  is_new k x q g = same_Some o x (sym here ∙ ap (λ (z : ℕ). row_at out_key z (put out_key o outbox)) g ∙ q)
 
   pub out_more : RefinesOut h (o.number + 1) (put out_key o outbox) (entry_seen h o ∷ entries) (record { handset = h; reference = o.reference; holder = EntryHolder o.number; moment = m; tpdu = [] } ∷ up)
   out_more = record {

@@ -4,6 +4,7 @@ use Rattle.std.proofs.Common.{◌≡◌, ℕ, List, [], ◌∷◌, ◌++◌, Boo
 use Rattle.std.specs.Prelude.{◌⊎◌, ◌==◌}
 use Rattle.std.proofs.lemmas.Bool.{and_parts}
 use Rattle.std.proofs.lemmas.Slice.Eq.{bytes_eq-Decides}
+use Rattle.sms_base.proofs.Lists.{among_back, among_front}
 use Rattle.sms_base.specs.Among.{Among}
 use Rattle.sms_base.specs.declared.carried.Kind.TheVariants.{Ack, Data, Error}
 use Rattle.sms_base.specs.declared.holder.Holder.TheVariants.{Entry}
@@ -23,7 +24,6 @@ use Rattle.sms_world_model.proofs.Upward.{IsUpward, removed_from, up_item, empty
 use Rattle.sms_world.proofs.headline.AnswersTimely.{HandsAnswers}
 use Rattle.sms_world.proofs.headline.FaithfulRuns.{HandsDown, end_parts, run_parts}
 use Rattle.sms_world.proofs.headline.UpwardRuns.{control_leaves, reads_timely}
-use Rattle.sms_world.proofs.scripts_are_runs.Growing.{in_front, in_rest}
 use Rattle.sms_world.proofs.headline.DecidedTimely.{same_frame}
 use Rattle.sms_world.proofs.headline.FreshRuns.{HandsOne}
 use Rattle.sms_world.proofs.scripts_are_runs.UpGrown.{no_memory}
@@ -352,7 +352,7 @@ module _ (Known : List ℕ → ℕ → Type 0) where
       let second = run_parts v m b own follows first.1 in
       let z : World = end v (items m b own) in
       let in_steps : (s : Step) → Among s own → Among s steps =
-      λ s i. subst (λ (ss : List Step). Among s ss) (sym x.3) (in_rest s control (own ++ follows) (in_front s own follows i)) in
+      λ s i. subst (λ (ss : List Step). Among s ss) (sym x.3) (among_back s control (own ++ follows) (among_front s own follows i)) in
       let at_v : Stands v = calm_stands w m b control (control_calm control x.0) first.0 h in
       let at_z : Stands z =
       own_stands w v m n b steps takes own x.1 in_steps (control_leaves w m b control x.0) (λ u t. stays_timely w m b control u x.0 t) hands answers second.0 at_v in

@@ -42,7 +42,6 @@ use Rattle.sms_world.proofs.headline.FaithfulRuns.{end_parts, run_parts}
 use Rattle.sms_world.proofs.headline.FreshRuns.{AllQuiet, IsQuiet, both_quiet, control_quiet, follows_quiet}
 use Rattle.sms_world.proofs.messages_have_origins.Entered.{IsInTable, all_quiet_was}
 use Rattle.sms_world.proofs.messages_have_origins.Unmoved.{Rows, meets_leaves}
-use Rattle.sms_world.proofs.scripts_are_runs.Events.{ok_play, same_play}
 use Rattle.sms_world.specs.headline.OneRun.{IsAnswered, SubmitsAsAnswered, TakesIn, happening_of}
 use Rattle.sms_world.specs.scripts_are_runs.PlayRefinement.{PlayRefines}
 use Rattle.sms_world_model.proofs.Runs.{messages_stay}
@@ -57,6 +56,7 @@ use Rattle.std.proofs.Common.{ap, arith, inl, inr, refl, subst, sym, ⊎_elim, �
 use Rattle.std.proofs.lemmas.Bool.{cases_eq, cond-true, cond_both, eq-eqb}
 use Rattle.std.specs.Prelude.{Bool, Err, List, None, Ok, Option, Result, Some, [], false, suc, true, zero, ℕ, ◌++◌, ◌==◌, ◌∷◌, ◌≡◌, ◌⊎◌}
 use Rattle.sms_base.proofs.Lists.{among_back, among_front, among_parts}
+use Rattle.sms_play.proofs.answers.PlayAnswers.{ok_play, same_play}
 
 -- ---- what the definition answers
 

@@ -1,5 +1,6 @@
 -- An acknowledgement that is handed to a handset and is decided timely was made for the entry that holds its reference.
 use Rattle.std.proofs.Common.{◌≡◌, ℕ, List, [], true, refl, sym, ◌∙◌, ap, subst, Option, Some, None, Result, Ok, Err}
+use Rattle.std.proofs.lemmas.Option.{same_Some}
 use Rattle.sms_base.specs.Among.{Among}
 use Rattle.sms_base.specs.Reading.{◌>>=◌}
 use Rattle.sms_base.specs.declared.carried.Carried.{Carried as Carries}
@@ -36,13 +37,12 @@ use Rattle.sms_world.specs.headline.SeenWorld.{sent_by, sent_row}
 use Rattle.sms_world.specs.scripts_are_runs.PlayRefinement.{PlayRefines}
 use Rattle.sms_world.specs.headline.OneRun.{event_of, happening_of}
 use Rattle.sms_world.proofs.scripts_are_runs.Bags.{frame_found, row_seen}
-use Rattle.sms_world.proofs.scripts_are_runs.Events.{ok_play}
 use Rattle.sms_world.proofs.scripts_are_runs.Parties.{party_found}
 use Rattle.sms_world.proofs.headline.DecidedTimely.{number_by, numbered_there, same_frame}
 use Rattle.sms_world.proofs.headline.HeldReferences.{AllPartiesAgree}
-use Rattle.sms_world.proofs.Options.{some_is}
 use Rattle.sms_world.proofs.handset_runs_are_steps.Offering.{is_open}
 use Rattle.sms_world_model.proofs.Frames.{number_sent, one_number}
+use Rattle.sms_play.proofs.answers.PlayAnswers.{ok_play}
 
 -- an acknowledgement that is handed over, under a reference that an entry holds, is timely
 abbrev pub HandsAnswers : World → Event → Type 0
@@ -68,7 +68,7 @@ module _ (c : PlayState) (w : World) (s : PlayRefines c w) (tells : AllPartiesAg
       let name : o.number ≡ e.number = found_key out_key e.number o q.core.rows.outbox row.1.0 in
       let one : x.reference ≡ o.reference = sym reference ∙ sym has.2 ∙ same in
       let holder : x.tag ≡ Entry e.number =
-      some_is x.tag (Entry o.number) (sym last ∙ (λ j. last_holder None (sym number j) UpRow (one j) c.given) ∙ told) ∙ ap (λ (z : ℕ). Entry z) name in
+      same_Some x.tag (Entry o.number) (sym last ∙ (λ j. last_holder None (sym number j) UpRow (one j) c.given) ∙ told) ∙ ap (λ (z : ℕ). Entry z) name in
       (g, (subst (λ (gs : List Allocation). IsLatest g gs) (up_allocations u.line line) (upward.held g e has.0.0 has.0.1 has.0.2 has.0.3 has.0.4), has.1, has.2, has.0.3 ∙ sym holder ∙ sym tag))
 
   abbrev Held : FrameRow → Direction → Carries → Type 0

@@ -3,6 +3,7 @@ use Rattle.std.proofs.Common.{◌≡◌, ℕ, suc, ◌+◌, arith, List, [], ◌
 use Rattle.std.specs.Prelude.{◌⊎◌}
 use Rattle.std.proofs.lemmas.Bool.{and_from, and_parts}
 use Rattle.std.proofs.lemmas.List.{append_assoc}
+use Rattle.sms_base.proofs.Lists.{among_back}
 use Rattle.sms_base.specs.Among.{Among}
 use Rattle.sms_base.specs.declared.holder.Holder.{Holder}
 use Rattle.sms_base.specs.declared.holder.Holder.TheVariants.{Part, Report, Entry, Memory}
@@ -20,7 +21,7 @@ use Rattle.sms_world_model.specs.ScriptRun.{items}
 use Rattle.sms_world_model.specs.Submission.{Submission}
 use Rattle.sms_world_model.specs.World.{Accepted, Allocation, World, pair_given}
 use Rattle.sms_world.specs.scripts_are_runs.AllocationLaws.{NoneSubmits, OneSubmits, Submits}
-use Rattle.sms_world.proofs.scripts_are_runs.Growing.{GrownOnce, in_rest, steps_grow}
+use Rattle.sms_world.proofs.scripts_are_runs.Growing.{GrownOnce, steps_grow}
 use Rattle.sms_world.specs.scripts_are_runs.PlayRefinement.{PlayRefines}
 use Rattle.sms_world.proofs.headline.AcceptedPairs.{same_accepted}
 use Rattle.sms_world.proofs.headline.PairsReported.{pairs_reported}
@@ -242,7 +243,7 @@ module _ (c d : PlayState) (w : World) (m : ℕ) (b : Bool) (steps : List Step) 
   was : submitted_pairs old ≡ submitted_pairs w.down
   was =
       let once : GrownOnce m w.down v.down = steps_grow w m b steps one in
-      pairs_reported d v later c.given w.down before.down.parts (λ g j. subst (λ (ds : List Allocation). Among g ds) (sym once.grown.is) (in_rest g once.grown.more w.down j))
+      pairs_reported d v later c.given w.down before.down.parts (λ g j. subst (λ (ds : List Allocation). Among g ds) (sym once.grown.is) (among_back g once.grown.more w.down j))
 
   tops : on_top (pairs new) (submitted_pairs w.down) ≡ submitted_pairs v.down
   tops =

@@ -2,6 +2,7 @@
 use Rattle.std.proofs.Common.{Bool, List, Some, [], ap, false, inl, inr, length, refl, subst, sym, true, ⊎_elim, ℕ, ◌++◌, ◌∙◌, ◌∷◌, ◌≡◌}
 use Rattle.std.specs.Prelude.{◌==◌, ◌⊎◌}
 use Rattle.std.proofs.lemmas.Bool.{cases_Bool, cond-false, cond-true, cond_both}
+use Rattle.std.proofs.lemmas.Option.{same_Some}
 use Rattle.sms_base.specs.Among.{Among}
 use Rattle.sms_base.specs.declared.final_state.FinalState.TheVariants.{Deleted, Delivered, Expired, Undeliverable}
 use Rattle.sms_script.specs.declared.event.Act.{Act}
@@ -13,7 +14,6 @@ use Rattle.sms_script.specs.declared.event.WorldEvent.TheVariants.{Restart, Stop
 use Rattle.sms_tpdu.specs.declared.user_data.UserData.{UserData}
 use Rattle.sms_world.specs.headline.OneRun.{happening_of}
 use Rattle.sms_world.specs.headline.PlainScript.{Does}
-use Rattle.sms_world.proofs.Options.{some_is}
 use Rattle.sms_world_model.proofs.Tables.{entered_back}
 use Rattle.sms_world_model.proofs.Followers.{said_of_followers}
 use Rattle.sms_world_model.specs.ScriptRun.{AllControl, AllMayFollow, AllWrite, Asked, Belongs, Cancelled, Event, Follows, Handed, IsControl, IsExpiry, IsInOrder, IsOwn, IsPlayed, Reads, Removed, Restarted, Submitted, Tick_centre, Tick_handset, Wrote, items}
@@ -35,7 +35,7 @@ deleted_here id e z es rest u only more k =
     let x : Message = record { submission = u; state = Final Deleted } in
     ⊎_elim
     (λ (t : (e.submission.id == id) ≡ true).
-    let same : y ≡ x = some_is y x (sym (cond-true (e.submission.id == id) (Some y) (find id rest) t) ∙ k) in
+    let same : y ≡ x = same_Some y x (sym (cond-true (e.submission.id == id) (Some y) (find id rest) t) ∙ k) in
     let state : e.state ≡ Final Deleted = only (ap (λ (m : Message). m.state) same) in
     let submission : e.submission ≡ u = ap (λ (m : Message). m.submission) same in
     let whole : e ≡ x = λ j. record { submission = submission j; state = state j } in

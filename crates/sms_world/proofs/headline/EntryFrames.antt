@@ -1,6 +1,7 @@
 -- What a link sends of its own accord says what was sent before: data for an entry of the outbox carry what that entry has.
 use Rattle.std.proofs.Common.{◌≡◌, ℕ, ◌<◌, List, [], ◌∷◌, ◌++◌, Option, Some, None, Result, Ok, Err, sym, ◌∙◌, ap, subst}
 use Rattle.std.specs.Prelude.{is_none, ◌&&◌, is_some}
+use Rattle.std.proofs.lemmas.Option.{same_Some}
 use Rattle.sms_base.specs.declared.carried.Carried.{Carried}
 use Rattle.sms_base.specs.declared.carried.Kind.TheVariants.{Data}
 use Rattle.sms_base.specs.declared.holder.Holder.{Holder}
@@ -24,7 +25,6 @@ use Rattle.sms_link.specs.declared.outgoing.Outgoing.{Outgoing}
 use Rattle.sms_link.specs.LinkTurn.{LinkOf, Turn, carried_in, carrying, fired, from_links, taken}
 use Rattle.sms_world.specs.headline.SeenFrames.{frame_tpdu}
 use Rattle.sms_world.proofs.frames_pass_between_sides.Linking.{ack_read, rejection_read}
-use Rattle.sms_world.proofs.Options.{some_is}
 
 -- CP-DATA that arrives is in a transaction that has an identifier
 abbrev pub Brings : Result Cp CpFault → Type 0
@@ -67,7 +67,7 @@ module _ (Known : ℕ → List ℕ → Type 0) where
   -- what carries no data
   pub quiet_frames : (c : Carried) (fs : List (List ℕ)) → (c.kind ≡ Data → ⊥) → AllSay (carrying (Some c) fs)
   quiet_frames c [] never = tt
-  quiet_frames c (f ∷ fs) never = (λ x is kind. absurd (never (ap (λ (z : Carried). z.kind) (some_is c x is) ∙ kind)), quiet_frames c fs never)
+  quiet_frames c (f ∷ fs) never = (λ x is kind. absurd (never (ap (λ (z : Carried). z.kind) (same_Some c x is) ∙ kind)), quiet_frames c fs never)
 
   -- ---- the links' own
 

@@ -3,6 +3,7 @@ use Rattle.std.proofs.Common.{◌≡◌, ℕ, suc, ◌+◌, ◌%◌, ◌<◌, �
 use Rattle.std.specs.Prelude.{nat_lt, min, ◌-◌, slice_get}
 use Rattle.std.specs.List.{AllByRecursion}
 use Rattle.std.proofs.lemmas.Bool.{cond_both}
+use Rattle.std.proofs.lemmas.Option.{same_Some}
 use Rattle.sms_base.specs.Address.{IsAddress, address_of}
 use Rattle.sms_base.specs.Among.{Among}
 use Rattle.sms_base.specs.declared.address.Address.{Address}
@@ -61,7 +62,6 @@ use Rattle.sms_world.proofs.frames_pass_between_sides.Linking.{begin_is, data_fr
 use Rattle.sms_world.proofs.handset_runs_are_steps.Offering.{smma_sends}
 use Rattle.sms_world.proofs.handset_runs_are_steps.Submitting.{data_fits, data_read, data_some, submit_fits}
 use Rattle.sms_world.proofs.headline.EntryFrames.{AllSay, Brings, HolderSays, LinkSays, TurnSays, both_say, fired_says, quiet_frames, reply_next, taken_says}
-use Rattle.sms_world.proofs.Options.{some_is}
 use Rattle.sms_handset.proofs.KeptByStages.{AnyReference, AnyTransfer, AnyUnit, IfDone, IsSameEntry, KeptByEnds, KeptByMoves, KeptByOffers, KeptByWriting, acted_keeps, any_up, delete_keeps, discard_keeps, frame_keeps, lapse_keeps, lapses_each, lost_same, offer_keeps, settled_same, timers_keep, write_keeps}
 use Rattle.sms_handset.proofs.DueRows.{IsDue}
 
@@ -148,7 +148,7 @@ module _ (Known : ℕ → List ℕ → Type 0) (again : (n : ℕ) (t : List ℕ)
       let framed = data_framed FromOriginator i unit s.0.next some fits in
       let q : frame_tpdu (cp_at frame) ≡ tpdu = ap (λ (z : Result Cp CpFault). frame_tpdu z) (cp_again frame (CpData (in_transaction FromOriginator i) unit) framed) ∙ reads in
       begins_as reference tag unit d (
-        (λ x is k. subst (λ (z : Holder × List ℕ). HolderSays Known z.0 z.1) (λ j. ((some_is (of_kind Data reference tag) x is j).tag, sym q j)) known),
+        (λ x is k. subst (λ (z : Holder × List ℕ). HolderSays Known z.0 z.1) (λ j. ((same_Some (of_kind Data reference tag) x is j).tag, sym q j)) known),
         tt,
       ) s
 

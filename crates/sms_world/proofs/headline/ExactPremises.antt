@@ -1,6 +1,7 @@
 -- What `premises` answers is what each event is decided to be.
 use Rattle.std.proofs.Common.{◌≡◌, ℕ, ◌+◌, List, [], ◌∷◌, Bool, true, false, refl, sym, ◌∙◌, ap, subst, inl, inr, ⊎_elim, Option, Some, None, Result, Ok, Err}
 use Rattle.std.specs.Prelude.{◌⊎◌, if◌then◌else◌, not}
+use Rattle.std.proofs.lemmas.Option.{same_Some}
 use Rattle.sms_base.specs.Reading.{◌>>=◌}
 use Rattle.sms_script.specs.declared.report.Broken.{Broken}
 use Rattle.sms_script.specs.declared.report.Broken.TheVariants.{Reused, Timely}
@@ -13,10 +14,9 @@ use Rattle.sms_play.specs.Playing.{broken_on, or_later, played_on, premises_of}
 use Rattle.sms_play.specs.Premises.{broken_by, is_fresh_event, is_timely_event}
 use Rattle.sms_play.specs.Setups.{beginning, can_be_played}
 use Rattle.sms_world.specs.headline.Claims.{IfPlayed, AllTimely, AllFresh}
-use Rattle.sms_world.proofs.scripts_are_runs.Events.{ok_play}
 use Rattle.sms_world.specs.headline.DecidedPremises.{Breaks, BreaksFirst, FirstLaw, NoneLaw, Plays, Premises}
-use Rattle.sms_world.proofs.Options.{some_is}
 use Rattle.sms_script.specs.declared.setup.Setup.{Setup}
+use Rattle.sms_play.proofs.answers.PlayAnswers.{ok_play}
 
 abbrev Decided : Type 0
 Decided = Result (Option Broken) PlayFault
@@ -47,8 +47,8 @@ Looks n t f (Reused k) = (k ≡ n) × (t ≡ true) × (f ≡ false)
 
 some_looked : (n : ℕ) (t f : Bool) (b : Broken) → looked n t f ≡ Some b → Looks n t f b
 some_looked n true true b e = absurd cc
-some_looked n true false b e = subst (λ (x : Broken). Looks n true false x) (some_is (Reused n) b e) (refl, refl, refl)
-some_looked n false f b e = subst (λ (x : Broken). Looks n false f x) (some_is (Timely n) b e) (refl, refl)
+some_looked n true false b e = subst (λ (x : Broken). Looks n true false x) (same_Some (Reused n) b e) (refl, refl, refl)
+some_looked n false f b e = subst (λ (x : Broken). Looks n false f x) (same_Some (Timely n) b e) (refl, refl)
 
 looked_some : (n : ℕ) (t f : Bool) (b : Broken) → Looks n t f b → looked n t f ≡ Some b
 looked_some n t f (Timely k) l =

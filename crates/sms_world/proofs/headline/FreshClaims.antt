@@ -24,7 +24,6 @@ use Rattle.sms_world.proofs.scripts_are_runs.Agreeing.{sound_there}
 use Rattle.sms_world.specs.scripts_are_runs.PlayRefinement.{PlayRefines}
 use Rattle.sms_world.specs.scripts_are_runs.Happening.{HandsOctets, IsGoodEvent}
 use Rattle.sms_world.specs.headline.OneRun.{happening_of, world_after}
-use Rattle.sms_world.proofs.scripts_are_runs.Events.{ok_play}
 use Rattle.sms_world.proofs.scripts_are_runs.OneSubmission.{played_once}
 use Rattle.sms_world.proofs.headline.DecidedFresh.{decided_fresh}
 use Rattle.sms_world.proofs.headline.DecidedTimely.{hands_down}
@@ -39,6 +38,7 @@ use Rattle.sms_world.proofs.scripts_are_runs.Courses.{KeptByEvents, when_played}
 use Rattle.sms_world.specs.scripts_are_runs.PlayRuns.{LeadsTo}
 use Rattle.sms_script.specs.declared.setup.Setup.{Setup}
 use Rattle.sms_play.specs.Setups.{beginning}
+use Rattle.sms_play.proofs.answers.PlayAnswers.{ok_play}
 
 -- ---- what each event keeps
 

@@ -13,8 +13,8 @@ use Rattle.sms_play.specs.CentreSide.{accepted_after, centre_meets, done as cent
 use Rattle.sms_play.specs.PlayState.{PlayState}
 use Rattle.sms_play.specs.HandsetSide.{given_by}
 use Rattle.sms_play.specs.PlayedEvent.{played}
-use Rattle.sms_world.proofs.scripts_are_runs.Events.{ok_play}
 use Rattle.sms_world.proofs.scripts_are_runs.PlayedParts.{AnyMeeting, KeptByParts, any_met, event_keeps}
+use Rattle.sms_play.proofs.answers.PlayAnswers.{ok_play}
 
 -- these rows, and more behind them
 abbrev ExtendsRows : List GivenRow → PlayState → Type 0

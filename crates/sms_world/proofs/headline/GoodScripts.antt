@@ -3,6 +3,7 @@ use Rattle.std.proofs.Common.{◌≡◌, ℕ, List, [], ◌∷◌, map, Bool, tr
 use Rattle.std.specs.Prelude.{◌&&◌, nat_le}
 use Rattle.std.specs.Str.{is_utf8}
 use Rattle.std.proofs.lemmas.Bool.{and_parts, cases_Bool, cond-false, cond-true, leb-true}
+use Rattle.std.proofs.lemmas.Option.{same_Some}
 use Rattle.sms_base.specs.Among.{Among}
 use Rattle.sms_base.specs.Reading.{◌>>=◌}
 use Rattle.sms_base.specs.TimeStamp.{IsMoment}
@@ -26,7 +27,6 @@ use Rattle.sms_script.proofs.ScriptLaws.{script_found}
 use Rattle.sms_world.specs.scripts_are_runs.PlayRuns.{AreGood}
 use Rattle.sms_world.specs.scripts_are_runs.Happening.{IsGoodAct, IsGoodEvent, IsGoodTick}
 use Rattle.sms_world.specs.headline.TypedEvents.{AreTexts, AreTyped, IsTextAct, IsTextEvent}
-use Rattle.sms_world.proofs.Options.{some_is}
 
 abbrev read : ℕ → Result ℕ LineFault
 read n = Ok n
@@ -95,7 +95,7 @@ IsEventLine l e = third (script_lines (one_event e)) ≡ Some l
 -- what holds of the events of all lines
 module _ (P : WorldEvent → Type 0) (all : (words : List (List ℕ)) (e : WorldEvent) → IsEvent words e → P e) where
   said : (words : List (List ℕ)) (l : Line) (e : WorldEvent) → IsEventLine l e → Says words l → P e
-  said words l e q says = all words e (subst (λ (z : Line). Says words z) (sym (some_is _ l q)) says)
+  said words l e q says = all words e (subst (λ (z : Line). Says words z) (sym (same_Some _ l q)) says)
 
   of_line : (lines : List (List ℕ)) (ls : List Line) → AreLines lines ls → (l : Line) → Among l ls → (e : WorldEvent) → IsEventLine l e → P e
   of_line [] [] are l i e q = absurd i

@@ -2,7 +2,7 @@
 use Rattle.sms_base.specs.Among.{Among}
 use Rattle.sms_base.specs.Reading.{◌>>=◌}
 use Rattle.sms_centre_rows.specs.messages.Messages.{message_key}
-use Rattle.sms_play.proofs.answers.PlayAnswers.{no_system_error}
+use Rattle.sms_play.proofs.answers.PlayAnswers.{no_system_error, ok_play}
 use Rattle.sms_play.specs.PlayState.{PlayState}
 use Rattle.sms_play.specs.Playing.{play_state_of, report_of}
 use Rattle.sms_play.specs.Setups.{beginning}
@@ -25,7 +25,6 @@ use Rattle.sms_world.proofs.headline.TimelyClaims.{parts_once}
 use Rattle.sms_world.proofs.messages_have_origins.DeliveredClaims.{delivered_from}
 use Rattle.sms_world.proofs.messages_have_origins.OriginClaims.{origin_is}
 use Rattle.sms_world.proofs.messages_have_origins.TextClaims.{split_text_is}
-use Rattle.sms_world.proofs.scripts_are_runs.Events.{ok_play}
 use Rattle.sms_world.specs.headline.Claims.{AllTimely}
 use Rattle.sms_world.specs.headline.Headline.{FinalStates, Headline, Stay, WasDelivered}
 use Rattle.sms_world.specs.headline.HeadlineLaws.{ConfirmedLaw, HeadlineLaw, IsScript, LeadsOn, OneRunLaw, PartsLaw, ReceiptsStayLaw, ReportsSayLaw, StatusLaw, StayLaw}

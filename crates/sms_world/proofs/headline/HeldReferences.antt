@@ -26,12 +26,12 @@ use Rattle.sms_play.specs.Meeting.{AtCentre, AtHandset, Meeting, by_account, by_
 use Rattle.sms_play.specs.PlayedEvent.{party_restarted, played}
 use Rattle.sms_world_model.specs.World.{World}
 use Rattle.sms_world.specs.scripts_are_runs.PlayRefinement.{PlayRefines}
-use Rattle.sms_world.proofs.scripts_are_runs.Events.{ok_play}
 use Rattle.sms_world.proofs.scripts_are_runs.Parties.{party_found, with_among}
 use Rattle.sms_world.specs.entries_keep_references.ReportedEntries.{AreBelow, EntriesAgree}
 use Rattle.sms_world.proofs.entries_keep_references.EntriesAgreeing.{event_reported}
 use Rattle.sms_world.proofs.entries_keep_references.Elsewhere.{centre_elsewhere, other_elsewhere, agrees_still}
 use Rattle.sms_play.proofs.growth.Growing.{some_meeting}
+use Rattle.sms_play.proofs.answers.PlayAnswers.{ok_play}
 use Rattle.sms_player.proofs.playing.Placed.{numbers_preserved}
 use Rattle.sms_world.proofs.scripts_are_runs.PlayedParts.{IsMetSo, KeptByParts, event_keeps}
 

@@ -4,6 +4,7 @@ use Rattle.std.specs.Prelude.{if◌then◌else◌}
 use Rattle.std.specs.Str.{bytes_eq}
 use Rattle.std.proofs.lemmas.Bool.{both_ways, cases_Bool, cond-false, cond-true}
 use Rattle.std.proofs.lemmas.Slice.Eq.{bytes_eq-Decides}
+use Rattle.std.proofs.lemmas.Option.{same_Some}
 use Rattle.sms_base.proofs.Lists.{among_end}
 use Rattle.sms_base.specs.Among.{Among}
 use Rattle.sms_base.specs.declared.holder.Holder.{Holder}
@@ -32,7 +33,6 @@ use Rattle.sms_world.specs.headline.Claims.{pair_in_row, AreJoinedFrom, HaveNone
 use Rattle.sms_world.specs.scripts_are_runs.AllocationLaws.{IsReached}
 use Rattle.sms_world.proofs.scripts_are_runs.Agreeing.{sound_there}
 use Rattle.sms_world.specs.scripts_are_runs.PlayRefinement.{PlayRefines}
-use Rattle.sms_world.proofs.Options.{some_is}
 use Rattle.sms_world.proofs.SeenParts.{seen_of}
 
 pub placed_there : (w : World) → IsReached w → IsPlaced w
@@ -87,7 +87,7 @@ module _ (c : PlayState) (w : World) (s : PlayRefines c w) (q : Party) (there : 
       let p_id : p.id ≡ id = same_id p.id id p.number n small octet.0 keys in
       let p_number : p.number ≡ n = same_number p.id id p.number n small octet.0 keys in
       let m_id : m.id ≡ id = found_key message_key id m c.centre.rows.messages row.2.0 in
-      let seen : row.1 ≡ seen_of p = some_is row.1 (seen_of p) (sym found.1.1) in
+      let seen : row.1 ≡ seen_of p = same_Some row.1 (seen_of p) (sym found.1.1) in
       let as_row : x ≡ pair_in_row m p = pair ∙ ap pair_given row.2.2 ∙ (λ t. record { handset = m.handset; reference = (seen t).reference; tpdu = (seen t).tpdu }) in
       let at = s.centre.rows.table.there id m row.2.0 in
       let same = same_message w.table id known.0 at.0 known.1 at.1 known.2.0 (subst (λ (k : ℕ). IsRecorded w.table k at.0 at.1) m_id at.2.0) in
@@ -217,7 +217,7 @@ module _ (w : World) (placed : IsPlaced w) (f : IsFaithful w) where
   two_apart j y i l differ own x k m =
       let a = (for_is j.handset j.key x (is_of j i x k)).1 in
       let b = (for_is y.handset y.key x (is_of y l x m)).1 in
-      let key : j.key ≡ y.key = ap (λ (z : Place). z.key) (some_is {A = Place} _ _ (sym a ∙ b)) in
+      let key : j.key ≡ y.key = ap (λ (z : Place). z.key) (same_Some {A = Place} _ _ (sym a ∙ b)) in
       let his : IsEndedAt y.place y.group (groups_of j.handset j.key w.accepted).ended =
       subst (λ (z : List ℕ × Key). IsEndedAt y.place y.group (groups_of z.0 z.1 w.accepted).ended) (λ t. (sym own t, sym key t)) (placed.ended y l) in
       places_apart (groups_of j.handset j.key w.accepted).ended j.place y.place j.group y.group x

@@ -1,7 +1,8 @@
 -- What is joined with a part of a long message that was submitted at once is joined with its other parts alone.
-use Rattle.std.proofs.Common.{◌≡◌, ℕ, zero, suc, ◌<◌, ◌≤◌, arith, List, [], ◌∷◌, length, refl, sym, ◌∙◌, ap, subst, ⊎_elim, Option, Some, None}
-use Rattle.std.specs.Prelude.{slice_get}
+use Rattle.std.proofs.Common.{◌≡◌, ℕ, zero, suc, ◌<◌, ◌≤◌, arith, List, length, refl, sym, ◌∙◌, ap, subst, ⊎_elim, Option, Some, None}
 use Rattle.std.proofs.lemmas.Bool.{cases_eq}
+use Rattle.std.proofs.lemmas.Option.{same_Some}
+use Rattle.sms_base.proofs.Lists.{item_at}
 use Rattle.sms_base.specs.Among.{Among}
 use Rattle.sms_base.specs.declared.holder.Holder.TheVariants.{Part}
 use Rattle.sms_centre_rows.specs.messages.Messages.{message_at, message_key, part_at, part_key}
@@ -28,22 +29,15 @@ use Rattle.sms_world.specs.headline.SeenWorld.{IsRowOf, PartSeen, part_seen, par
 use Rattle.sms_world.specs.headline.Claims.{pair_in_row, IsLongMessage}
 use Rattle.sms_world.proofs.scripts_are_runs.Agreeing.{sound_there}
 use Rattle.sms_world.specs.scripts_are_runs.PlayRefinement.{PlayRefines}
-use Rattle.sms_world.proofs.Options.{some_is}
 use Rattle.sms_world.proofs.SeenParts.{small, seen_of, none_seen}
 
 row_seen : (o : Option PartRow) (x : PartSeen) → part_seen o ≡ Some x → (p : PartRow) × ((o ≡ Some p) × (seen_of p ≡ x))
 row_seen None x e = absurd (none_seen x e)
-row_seen (Some p) x e = (p, (refl, some_is (seen_of p) x e))
-
--- a list has an element at each place below its length
-there_at : (xs : List UserData) (n : ℕ) → n < length xs → (x : UserData) × (slice_get xs n ≡ Some x)
-there_at [] n l = absurd (omega (arith, l))
-there_at (x ∷ xs) zero l = (x, refl)
-there_at (x ∷ xs) (suc n) l = there_at xs n (omega (arith, l))
+row_seen (Some p) x e = (p, (refl, same_Some (seen_of p) x e))
 
 last_part : (n : ℕ) (xs : List UserData) → n ≡ length xs → 0 < n → (x : UserData) × (user_data_at n xs ≡ Some x)
 last_part zero xs e l = absurd (omega (arith, l))
-last_part (suc n) xs e l = there_at xs n (omega (arith, e))
+last_part (suc n) xs e l = item_at xs n (omega (arith, e))
 
 pub as_many : (a b : ℕ) → a ≤ b → b ≤ a → a ≡ b
 as_many a b l m = omega (arith, l, m)

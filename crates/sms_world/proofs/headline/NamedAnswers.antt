@@ -47,7 +47,6 @@ use Rattle.sms_script.specs.declared.report.rows.FrameRow.{FrameRow}
 use Rattle.sms_world.proofs.headline.AnsweredSubmits.{named_by, whole_answers}
 use Rattle.sms_world.proofs.messages_have_origins.EventsMake.{WasStoredIn}
 use Rattle.sms_world.proofs.messages_have_origins.Unmoved.{Rows, whole_leaves}
-use Rattle.sms_world.proofs.scripts_are_runs.Events.{ok_play, same_play}
 use Rattle.sms_world.specs.scripts_are_runs.PlayRefinement.{PlayRefines}
 use Rattle.sms_world.specs.scripts_are_runs.Happening.{HandsOctets, IsGoodEvent}
 use Rattle.sms_world.specs.headline.OneRun.{happening_of, world_after}
@@ -58,7 +57,7 @@ use Rattle.sms_world_model.specs.World.{IsRecorded, World}
 use Rattle.std.proofs.Common.{ap, inl, inr, refl, subst, sym, ⊎_elim, ◌∙◌}
 use Rattle.std.proofs.lemmas.Bool.{cond_both}
 use Rattle.std.specs.Prelude.{Err, List, None, Ok, Option, Result, Some, [], ℕ, ◌++◌, ◌∷◌, ◌≡◌, ◌⊎◌}
-use Rattle.sms_play.proofs.answers.PlayAnswers.{either_part}
+use Rattle.sms_play.proofs.answers.PlayAnswers.{either_part, ok_play, same_play}
 use Rattle.sms_world.proofs.scripts_are_runs.Courses.{KeptByEvents, NothingAsked}
 use Rattle.sms_world.specs.scripts_are_runs.PlayRuns.{LeadsTo}
 

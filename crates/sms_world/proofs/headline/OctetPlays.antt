@@ -63,13 +63,14 @@ use Rattle.sms_world.specs.scripts_are_runs.PlayRefinement.{PlayRefines, IsWhole
 use Rattle.sms_world.specs.headline.SeenWorld.{sent_by, sent_row}
 use Rattle.sms_world.specs.scripts_are_runs.Happening.{ActHandsOctets, HandsOctets, IsOctetsAt, IsOctetsUp}
 use Rattle.sms_world.proofs.scripts_are_runs.Bags.{frame_found, row_seen}
-use Rattle.sms_world.proofs.scripts_are_runs.Events.{event_leads, ok_play}
+use Rattle.sms_world.proofs.scripts_are_runs.Events.{event_leads}
 use Rattle.sms_world.proofs.scripts_are_runs.Parties.{party_found}
 use Rattle.sms_world.proofs.headline.SmallReferences.{data_small}
 use Rattle.sms_world.proofs.headline.ExactPremises.{if_played}
 use Rattle.sms_world.specs.headline.TypedEvents.{AreTexts, IsTextAct, IsTextEvent}
 use Rattle.sms_player.specs.heads.Heads.{party_of}
 use Rattle.sms_world.proofs.scripts_are_runs.PlayedParts.{IsMetSo, KeptByParts, event_keeps}
+use Rattle.sms_play.proofs.answers.PlayAnswers.{ok_play}
 
 -- each handset keeps octets, and each frame that goes up is octets
 pub record PlayKeepsOctets (c : PlayState) : Type 0 where

@@ -8,7 +8,7 @@ use Rattle.sms_world.proofs.messages_have_origins.EventNumbers.{enters_next}
 use Rattle.sms_world.proofs.headline.SentReceipts.{delivers_listed}
 use Rattle.sms_world.proofs.headline.TrueRequests.{requests_true}
 use Rattle.sms_world.proofs.headline.Takers.{TakersThere, takers_stay}
-use Rattle.sms_world.proofs.scripts_are_runs.Events.{event_leads, ok_play, same_play}
+use Rattle.sms_world.proofs.scripts_are_runs.Events.{event_leads}
 use Rattle.sms_world.specs.headline.OneRun.{IsEventRun, Runs, world_after, happening_of}
 use Rattle.sms_world.specs.scripts_are_runs.PlayRuns.{AllHandOctets, AreGood, LeadsTo}
 use Rattle.sms_world.specs.scripts_are_runs.PlayRefinement.{PlayRefines}
@@ -24,6 +24,7 @@ use Rattle.sms_world.proofs.headline.GivenGrows.{given_grows}
 use Rattle.sms_world_model.specs.ScriptRun.{Happening, is_stopped}
 use Rattle.sms_world.specs.scripts_are_runs.AllocationLaws.{OneSubmits}
 use Rattle.sms_world.proofs.scripts_are_runs.Courses.{first_of}
+use Rattle.sms_play.proofs.answers.PlayAnswers.{ok_play, same_play}
 
 -- what is said of an event that leads there by these steps
 one_event : (n : ℕ) (e : WorldEvent) (c d : PlayState) (w : World) → PlayRefines c w → TakersThere c w → IsGoodEvent e → HandsOctets e c → played n e c ≡ ok_play d → (l : LeadsTo e c w d) → IsEventRun n e c w l.0 d

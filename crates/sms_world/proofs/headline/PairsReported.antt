@@ -1,6 +1,7 @@
 -- The parts that a course tells were given references are, with the octets that their rows have, the pairs that the world submitted, in
 -- order.
 use Rattle.std.proofs.Common.{◌≡◌, ℕ, List, [], ◌∷◌, refl, sym, ◌∙◌, ap, inl, inr, Option, Some, None}
+use Rattle.std.proofs.lemmas.Option.{same_Some}
 use Rattle.sms_base.specs.Among.{Among}
 use Rattle.sms_base.specs.declared.holder.Holder.{Holder}
 use Rattle.sms_base.specs.declared.holder.Holder.TheVariants.{Part, Report, Entry, Memory}
@@ -15,7 +16,6 @@ use Rattle.sms_world_model.specs.World.{Accepted, Allocation, World, pair_given}
 use Rattle.sms_world.proofs.centres_refine_the_world.ByOctets.{by_octet_some}
 use Rattle.sms_world.specs.headline.SeenWorld.{PartSeen, part_seen, PartGiven, parts_given, parts_reported, with_part}
 use Rattle.sms_world.specs.scripts_are_runs.PlayRefinement.{PlayRefines}
-use Rattle.sms_world.proofs.Options.{some_is}
 use Rattle.sms_world.proofs.SeenParts.{none_seen}
 use Rattle.sms_play.proofs.judging.Looking.{newest_over}
 
@@ -52,7 +52,7 @@ rows_reported rows (r ∷ given) gs ps k =
 
 seen_tpdu : (o : Option PartRow) (s : PartSeen) → part_seen o ≡ Some s → s.tpdu ≡ compared (tpdu_in o)
 seen_tpdu None s e = absurd (none_seen s e)
-seen_tpdu (Some p) s e = ap (λ (z : PartSeen). z.tpdu) (sym (some_is (record { reference = p.reference; tpdu = compared p.tpdu; is_done = p.progress.is_done }) s e))
+seen_tpdu (Some p) s e = ap (λ (z : PartSeen). z.tpdu) (sym (same_Some (record { reference = p.reference; tpdu = compared p.tpdu; is_done = p.progress.is_done }) s e))
 
 module _ (d : PlayState) (v : World) (s : PlayRefines d v) where
   abbrev rows : List PartRow

@@ -8,7 +8,7 @@ use Rattle.sms_play.specs.PlayedEvent.{played}
 use Rattle.sms_play.specs.Playing.{played_on}
 use Rattle.sms_world.specs.scripts_are_runs.PlayRuns.{AllHandOctets, AreGood}
 use Rattle.sms_world.specs.headline.Claims.{IfPlayed}
-use Rattle.sms_world.proofs.scripts_are_runs.Events.{ok_play}
+use Rattle.sms_play.proofs.answers.PlayAnswers.{ok_play}
 
 -- the first lead to a course, and the others on from there
 pub record Parts (n : ℕ) (some others : List WorldEvent) (c d : PlayState) : Type 0 where

@@ -31,7 +31,7 @@ use Rattle.sms_world.proofs.headline.PlainSteps.{IsStep, parted_at, step_of}
 use Rattle.sms_world.proofs.headline.Tables.{line_of, line_stays, line_there, one_line, row_of_line, same_end, state_final}
 use Rattle.sms_world.proofs.headline.TrueRequests.{Cancels as CancelsAt, Deletes, Refuses, cancel_is}
 use Rattle.sms_world.proofs.messages_have_origins.Unmoved.{Rows, meets_leaves}
-use Rattle.sms_world.proofs.scripts_are_runs.Events.{event_leads, ok_play, same_play}
+use Rattle.sms_world.proofs.scripts_are_runs.Events.{event_leads}
 use Rattle.sms_world.specs.headline.OneRun.{happening_of}
 use Rattle.sms_world.specs.headline.PlainLaws.{DeletedLaw}
 use Rattle.sms_world.specs.headline.PlainScript.{Does}
@@ -52,6 +52,7 @@ use Rattle.std.specs.Prelude.{◌&&◌, ◌==◌, ◌⊎◌, if◌then◌else◌
 use Rattle.std.specs.List.{list_all}
 use Rattle.sms_base.proofs.Lists.{item_at}
 use Rattle.sms_base.specs.HandsetNumber.{is_decimal}
+use Rattle.sms_play.proofs.answers.PlayAnswers.{ok_play, same_play}
 
 -- ---- ids, in the words of the plain headline
 

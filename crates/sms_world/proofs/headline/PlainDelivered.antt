@@ -2,6 +2,7 @@
 use Rattle.std.proofs.Common.{◌≡◌, false, ℕ, zero, suc, ◌+◌, ◌*◌, ◌<◌, ◌≤◌, arith, List, [], ◌∷◌, ◌++◌, length, true, refl, sym, ◌∙◌, ap, subst, inl, inr, ⊎_elim, Some}
 use Rattle.std.proofs.lemmas.Bool.{cond-true}
 use Rattle.std.specs.Prelude.{◌==◌, ◌⊎◌, slice_get}
+use Rattle.std.proofs.lemmas.Option.{same_Some}
 use Rattle.sms_base.proofs.Lists.{among_parts}
 use Rattle.sms_base.specs.Among.{Among}
 use Rattle.sms_base.specs.declared.final_state.FinalState.{FinalState}
@@ -60,7 +61,6 @@ use Rattle.sms_world.proofs.headline.Tables.{line_of, line_there, row_of_line, s
 use Rattle.sms_world.proofs.headline.TimelyClaims.{IsTrusted, among_own}
 use Rattle.sms_world.proofs.scripts_are_runs.Agreeing.{sound_there}
 use Rattle.sms_world.proofs.submissions_stay.WrittenParts.{AllWritten, writings_hold}
-use Rattle.sms_world.proofs.Options.{some_is}
 use Rattle.sms_world.proofs.SeenParts.{small, seen_of}
 use Rattle.sms_world.proofs.headline.JoinedClaims.{some_part, same_number, same_id}
 use Rattle.sms_play.specs.judging.Watching.{pair_accepted as pair}
@@ -291,7 +291,7 @@ module _ (script : Script) (after : ℕ → Report) (typed : AreTyped script.eve
         let m_id : m.id ≡ id = found_key message_key id m c.centre.rows.messages row.2.0 in
         let m_there : Among m c.centre.rows.messages = found_among message_key id m c.centre.rows.messages row.2.0 in
         let of : p.id ≡ m.id = p_id ∙ sym m_id in
-        let seen : row.1 ≡ seen_of p = some_is row.1 (seen_of p) (sym found.1.1) in
+        let seen : row.1 ≡ seen_of p = same_Some row.1 (seen_of p) (sym found.1.1) in
         let in_row : pair_given g ≡ pair_in_row m p = ap pair_given row.2.2 ∙ (λ t. record { handset = m.handset; reference = (seen t).reference; tpdu = (seen t).tpdu }) in
         let as_row : pair a ≡ pair_in_row m p = given ∙ in_row in
         let t = of_row m m_there in

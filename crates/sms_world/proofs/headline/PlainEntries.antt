@@ -4,6 +4,7 @@ use Rattle.std.specs.Prelude.{◌⊎◌, if◌then◌else◌, slice_get}
 use Rattle.std.specs.Str.{chars}
 use Rattle.std.proofs.lemmas.Bool.{cond_both}
 use Rattle.std.proofs.lemmas.List.{append-nil}
+use Rattle.std.proofs.lemmas.Option.{same_Some}
 use Rattle.sms_base.specs.Among.{Among}
 use Rattle.sms_base.specs.Reading.{◌>>=◌}
 use Rattle.sms_base.specs.declared.carried.Carried.{Carried as Carries}
@@ -12,7 +13,7 @@ use Rattle.sms_base.specs.declared.carried.Kind.TheVariants.{Ack, Data, Error}
 use Rattle.sms_base.specs.declared.holder.Holder.{Holder}
 use Rattle.sms_base.specs.declared.holder.Holder.TheVariants.{Entry, Memory}
 use Rattle.sms_base.proofs.Addresses.{address_found}
-use Rattle.sms_base.proofs.Lists.{among_end}
+use Rattle.sms_base.proofs.Lists.{among_back, among_end, among_front, among_parts}
 use Rattle.sms_concat.specs.UserData.{data_length, header_of}
 use Rattle.sms_concat.specs.declared.content.Part.{Part as PartOf}
 use Rattle.sms_concat.specs.declared.split_error.SplitError.{SplitError}
@@ -103,17 +104,15 @@ use Rattle.sms_world.proofs.headline.EntryStages.{EventBrings, IfDoneAt, WritesK
 use Rattle.sms_world.proofs.headline.EntryWriting.{Has, body_at, same_octets, submit_reads, writable_at, wrote_has}
 use Rattle.sms_world.proofs.headline.HeadlineHolds.{of_play}
 use Rattle.sms_world.proofs.headline.PlainSteps.{IsStep, at_place, moved, step_of}
-use Rattle.sms_world.proofs.scripts_are_runs.Events.{ok_play, same_play}
-use Rattle.sms_world.proofs.scripts_are_runs.Growing.{either_part, in_front, in_rest}
 use Rattle.sms_world.proofs.scripts_are_runs.Meetings.{Meets, meets, number_of}
 use Rattle.sms_world.proofs.scripts_are_runs.Parties.{number_there, party_found}
-use Rattle.sms_world.proofs.Options.{some_is}
 use Rattle.sms_world.proofs.headline.OctetPlays.{with_among}
 use Rattle.sms_world.proofs.scripts_are_runs.Falling.{not_itself}
 use Rattle.sms_player.specs.heads.Heads.{party_of}
 use Rattle.sms_player.proofs.playing.Placed.{numbers_preserved}
 use Rattle.sms_world_model.proofs.Upward.{entry_number}
 use Rattle.sms_play.proofs.growth.Growing.{some_meeting}
+use Rattle.sms_play.proofs.answers.PlayAnswers.{ok_play, same_play}
 
 -- ---- plain facts
 
@@ -324,13 +323,13 @@ module _ (script : Script) (after : ℕ → Report) where
     begun_says : (o : Option Begun) → RefinesBegun h w.bag u o → BegunSays (Owners h) u a o
     begun_says None r = tt
     begun_says (Some b) (x, (is, sent)) = λ y q kind.
-        let same : x ≡ y = some_is x y (sym (again_carries h w.bag FromOriginator b.frame x u a sent ∙ is) ∙ q) in
+        let same : x ≡ y = same_Some x y (sym (again_carries h w.bag FromOriginator b.frame x u a sent ∙ is) ∙ q) in
         subst (λ (z : Carries). HolderSays (Owners h) z.tag (frame_tpdu (cp_at b.frame))) same (frame_known sent.2.0 b.frame x sent.2.1 (ap (λ (v : Carries). v.kind) same ∙ kind))
 
     answer_says : (o : Option Answer) → RefinesAnswer h w.bag a o → AnswerSays (Owners h) u a o
     answer_says None r = tt
     answer_says (Some b) (x, (is, sent)) = λ y q kind.
-        let same : x ≡ y = some_is x y (sym (again_carries h w.bag ToOriginator b.frame x u a sent ∙ is) ∙ q) in
+        let same : x ≡ y = same_Some x y (sym (again_carries h w.bag ToOriginator b.frame x u a sent ∙ is) ∙ q) in
         let own : x.kind ≡ Data = ap (λ (v : Carries). v.kind) same ∙ kind in
         absurd (not_answer (sym (ap (λ (z : Kind). flag_for z) own) ∙ sent.1))
 
@@ -397,8 +396,8 @@ module _ (script : Script) (after : ℕ → Report) where
           let low : first ≤ o.0.number = o.1.2.1 in
           omega (arith, number, low))
           (λ (l : Among x.given (memories_given p.number d.moment p.core.rows.counters.notice d.frames)). absurd (memory_row x.given j l x.holder))
-          (either_part x.given (entries_given p.number d.moment p.core.rows.outbox d.changes.outbox) (memories_given p.number d.moment p.core.rows.counters.notice d.frames) i))
-          (either_part x.given st.first.given (given_by p d) now)
+          (among_parts x.given (entries_given p.number d.moment p.core.rows.outbox d.changes.outbox) (memories_given p.number d.moment p.core.rows.counters.notice d.frames) i))
+          (among_parts x.given st.first.given (given_by p d) now)
 
       none_yet : (o : Option OutEntry) → row_at out_key first p.core.rows.outbox ≡ o → o ≡ None
       none_yet None is = refl
@@ -413,8 +412,8 @@ module _ (script : Script) (after : ℕ → Report) where
           let none : row_at out_key o.number p.core.rows.outbox ≡ None = ap (λ (k : ℕ). row_at out_key k p.core.rows.outbox) own ∙ none_yet (row_at out_key first p.core.rows.outbox) refl in
           let g = ends.news.to o (found_among out_key first o d.rows.outbox is) none in
           let new_rows : Among g.0 (given_by p d) =
-          in_front g.0 (entries_given p.number d.moment p.core.rows.outbox d.changes.outbox) (memories_given p.number d.moment p.core.rows.counters.notice d.frames) g.1.0 in
-          let now : Among g.0 st.next.given = subst (λ (rows : List GivenRow). Among g.0 rows) (sym gives) (in_rest g.0 st.first.given (given_by p d) new_rows) in
+          among_front g.0 (entries_given p.number d.moment p.core.rows.outbox d.changes.outbox) (memories_given p.number d.moment p.core.rows.counters.notice d.frames) g.1.0 in
+          let now : Among g.0 st.next.given = subst (λ (rows : List GivenRow). Among g.0 rows) (sym gives) (among_back g.0 st.first.given (given_by p d) new_rows) in
           record {
             before = length some;
             next = refl;

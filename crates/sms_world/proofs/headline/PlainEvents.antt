@@ -3,6 +3,7 @@ use Rattle.std.proofs.Common.{◌≡◌, ℕ, zero, suc, ◌+◌, ◌<◌, ◌�
 use Rattle.std.proofs.lemmas.Bool.{cases_Bool, cond-true, le-leb, ltb-false}
 use Rattle.std.specs.Prelude.{◌⊎◌, if◌then◌else◌, nat_le, nat_lt}
 use Rattle.std.specs.Str.{chars}
+use Rattle.sms_base.proofs.Lists.{among_back}
 use Rattle.sms_base.specs.Among.{Among}
 use Rattle.sms_base.specs.HandsetNumber.{own_address}
 use Rattle.sms_base.specs.declared.address.Address.{Address}
@@ -97,10 +98,9 @@ use Rattle.sms_world.proofs.headline.Tables.{line_of}
 use Rattle.sms_world.proofs.messages_have_origins.EventsMake.{WasStoredIn}
 use Rattle.sms_world.proofs.messages_have_origins.OriginClaims.{origin_is}
 use Rattle.sms_world.proofs.messages_have_origins.Unmoved.{Rows, meets_leaves}
-use Rattle.sms_world.proofs.scripts_are_runs.Events.{ok_play, same_play}
-use Rattle.sms_world.proofs.scripts_are_runs.Growing.{in_rest}
 use Rattle.sms_world.proofs.SeenParts.{one_is_small}
 use Rattle.sms_world.proofs.messages_have_origins.HandsetMessages.{same_submit, ok_up}
+use Rattle.sms_play.proofs.answers.PlayAnswers.{ok_play, same_play}
 
 -- ---- plain facts
 
@@ -245,7 +245,7 @@ module _ (script : Script) (after : ℕ → Report) (typed : AreTyped script.eve
   all_have (e ∷ es) some others c d parts leads k q =
       let x : IsStep script after some e (es ++ others) = step_of script after typed reports some e (es ++ others) parts in
       let first : c ≡ x.first = same_play c x.first (sym leads ∙ x.leads) in
-      let l : Leaves x.first x.next = event_leaves (1 + length some) x.first x.sees x.refines e x.next x.good x.octets x.is in
+      let l : Leaves x.first x.next = event_leaves (1 + length some) x.first e x.next x.is in
       all_have es (some ++ e ∷ []) others x.next d (parts ∙ moved some (es ++ others) e) x.then (l.setup ∙ subst (λ (z : PlayState). HasSetup z) first k) (ap (λ (z : List WorldEvent). play_state_of script.setup z) (sym (moved some es e)) ∙ q)
 
   has_setup : (some others : List WorldEvent) (c : PlayState) → script.events ≡ some ++ others → play_state_of script.setup some ≡ ok_play c → HasSetup c
@@ -282,7 +282,7 @@ module _ (script : Script) (after : ℕ → Report) (typed : AreTyped script.eve
         × ((i : ℕ) → ¬ (next_number first.centre.rows ≡ i) → message_at i (messages_in h.store) ≡ message_at i first.centre.rows.messages)
         × ((y : MessageRow) × (message_at (next_number first.centre.rows) (messages_in h.store) ≡ Some y))).
         let row : Answer = record { event = n; answered = Accepted (next_number first.centre.rows) } in
-        let said : Among row (with_answer n (Some (Submitted (next_number first.centre.rows))) (whole h first)).answers = in_rest row (whole h first).answers (row ∷ []) (inl refl) in
+        let said : Among row (with_answer n (Some (Submitted (next_number first.centre.rows))) (whole h first)).answers = among_back row (whole h first).answers (row ∷ []) (inl refl) in
         let met_so : Among row (centre_meets n (CentreSubmit k.0 (submit_of s)) first).answers = subst (λ (o : Option CentreAnswer). Among row (with_answer n o (whole h first)).answers) (sym a.0) said in
         let now : Among row (after at).answers = subst (λ (r : Report). Among row r.answers) (sym st.behind) (subst (λ (z : PlayState). Among row z.answers) met_it met_so) in
         subst (λ (z : Answer). Among z (after at).answers) (λ j. record { event = one_more (length some) j; answered = Accepted (sym number j) }) now)
@@ -364,7 +364,7 @@ module _ (script : Script) (after : ℕ → Report) (typed : AreTyped script.eve
         } in
         let o : Origin = record { submission = u; parts = w.body ∷ []; given_at = w.given_at } in
         let source : m.source ≡ own_address k.frame.handset = k.address ∙ ap (λ (h : List ℕ). own_address h) k.source in
-        let leaves : Leaves st.first st.next = event_leaves (1 + length some) st.first st.sees st.refines e st.next st.good st.octets st.is in
+        let leaves : Leaves st.first st.next = event_leaves (1 + length some) st.first e st.next st.is in
         let there : Among k.frame (after at).bag = subst (λ (r : Report). Among k.frame r.bag) (sym st.behind) (leaves.bag k.frame k.there) in
         let deliver : IsDeliverFor u w.body (compared k.part.tpdu) = record {
           deliver = k.carries.deliver;

@@ -1,6 +1,7 @@
 -- What handsets joined is whole and joined once, as the lines of a report say it.
 use Rattle.std.proofs.Common.{◌≡◌, ℕ, zero, suc, ◌<◌, List, [], ◌∷◌, ◌++◌, length, refl, sym, ◌∙◌, ap, subst, inl, inr, ⊎_elim, Option, Some, None, Result, Ok, Err}
 use Rattle.std.specs.Prelude.{◌⊎◌}
+use Rattle.std.proofs.lemmas.Option.{same_Some}
 use Rattle.sms_base.proofs.Lists.{among_parts}
 use Rattle.sms_alphabet.specs.declared.scheme.Coding.{Coding}
 use Rattle.sms_alphabet.specs.declared.scheme.Coding.TheVariants.{Compressed, Octets, Septets, Ucs2}
@@ -55,7 +56,6 @@ use Rattle.sms_world.proofs.headline.PlainEvents.{IsTraced}
 use Rattle.sms_world.proofs.headline.SplitJoins.{carried_from, parts_there, split_long}
 use Rattle.sms_world.proofs.headline.Tables.{line_of, line_there, one_row}
 use Rattle.sms_world.proofs.headline.TimelyClaims.{parts_once}
-use Rattle.sms_world.proofs.Options.{some_is}
 use Rattle.sms_world_model.proofs.Contents.{one_key_of}
 
 -- ---- plain facts
@@ -252,7 +252,7 @@ module _ (script : Script) (after : ℕ → Report) (typed : AreTyped script.eve
       let at_p = among_found part_key p now.centre.rows.parts s.sound.rows.messages.part_keys p_there in
       let at_r = among_found part_key r now.centre.rows.parts s.sound.rows.messages.part_keys r_there in
       let ids : p.id ≡ r.id = p_its ∙ id ∙ sym r_its in
-      let part : p ≡ r = some_is p r (sym at_p ∙ (λ j. part_at (ids j) (number j) now.centre.rows.parts) ∙ at_r) in
+      let part : p ≡ r = same_Some p r (sym at_p ∙ (λ j. part_at (ids j) (number j) now.centre.rows.parts) ∙ at_r) in
       λ j. pair_in_row (message j) (part j)
 
   -- ---- a row

@@ -34,7 +34,6 @@ use Rattle.sms_world.proofs.headline.NamedAnswers.{IsNamed, IsSubmitting, event_
 use Rattle.sms_world.proofs.headline.PlainSteps.{IsStep, at_place, parted_at, step_of}
 use Rattle.sms_world.proofs.headline.Tables.{line_of, line_there, row_of_line}
 use Rattle.sms_world.proofs.messages_have_origins.EventsMake.{WasStoredIn}
-use Rattle.sms_world.proofs.scripts_are_runs.Events.{ok_play, same_play}
 use Rattle.sms_world.proofs.scripts_are_runs.Growing.{none_less}
 use Rattle.sms_world.specs.headline.PlainLaws.{AreReports, NamedLaw}
 use Rattle.sms_world.specs.headline.PlainReport.{HasLine}
@@ -46,7 +45,7 @@ use Rattle.sms_world_model.specs.World.{World}
 use Rattle.std.proofs.Common.{List, Some, [], ap, arith, inl, inr, length, refl, subst, suc, sym, zero, ⊎_elim, ℕ, ◌+◌, ◌++◌, ◌<◌, ◌≤◌, ◌∙◌, ◌∷◌, ◌≡◌}
 use Rattle.std.specs.Prelude.{◌⊎◌}
 use Rattle.sms_base.proofs.Lists.{item_at}
-use Rattle.sms_play.proofs.answers.PlayAnswers.{either_part}
+use Rattle.sms_play.proofs.answers.PlayAnswers.{either_part, ok_play, same_play}
 
 -- ---- a line is a row
 

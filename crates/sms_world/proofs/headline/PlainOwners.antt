@@ -24,7 +24,6 @@ use Rattle.sms_script.specs.declared.script.Script.{Script}
 use Rattle.sms_world.proofs.headline.PlainNamed.{has_line, line_stored, next_is_free}
 use Rattle.sms_world.proofs.headline.PlainSteps.{IsStep, at_place, is_script, last_of, step_of}
 use Rattle.sms_world.proofs.messages_have_origins.OriginClaims.{origin_is}
-use Rattle.sms_world.proofs.scripts_are_runs.Events.{ok_play, same_play}
 use Rattle.sms_world.specs.headline.HeadlineLaws.{LeadsOn}
 use Rattle.sms_world.specs.headline.Origins.{ActMakes, IsFrom, IsOfApplication, MakesMessage}
 use Rattle.sms_world.specs.headline.PlainLaws.{AreReports}
@@ -32,12 +31,13 @@ use Rattle.sms_world.specs.headline.PlainReport.{HasLine, IsOwn}
 use Rattle.sms_world.specs.headline.PlainScript.{Does}
 use Rattle.sms_world.specs.headline.PlainWords.{numbered}
 use Rattle.sms_world.specs.headline.TypedEvents.{AreTyped}
-use Rattle.sms_world.proofs.Options.{some_is}
 use Rattle.sms_world.proofs.references_are_shared.LeftToOthers.{of_account}
 use Rattle.std.proofs.Common.{List, Result, Some, [], ap, arith, false, inl, inr, length, refl, subst, suc, sym, true, ⊎_elim, ℕ, ◌+◌, ◌++◌, ◌∙◌, ◌∷◌, ◌≡◌}
 use Rattle.std.proofs.lemmas.Bool.{cases_Bool, cond-false, cond-true}
 use Rattle.std.proofs.lemmas.Slice.Eq.{bytes_eq-Decides}
 use Rattle.std.specs.Str.{bytes_eq}
+use Rattle.std.proofs.lemmas.Option.{same_Some}
+use Rattle.sms_play.proofs.answers.PlayAnswers.{ok_play, same_play}
 
 -- ---- the account of a name
 
@@ -56,7 +56,7 @@ at_place_of k p name [] e = absurd cc
 at_place_of k p name (a ∷ accounts) e = ⊎_elim
     (λ (t : bytes_eq a.name name ≡ true).
     let found : Some k ≡ Some p = sym (cond-true (bytes_eq a.name name) (Some k) (account_from (k + 1) name accounts) t) ∙ e in
-    (0, a, (sym (some_is k p found) ∙ no_more k, refl, (bytes_eq-Decides a.name name).0 t)))
+    (0, a, (sym (same_Some k p found) ∙ no_more k, refl, (bytes_eq-Decides a.name name).0 t)))
     (λ (t : bytes_eq a.name name ≡ false).
     let x = at_place_of (k + 1) p name accounts (sym (cond-false (bytes_eq a.name name) (Some k) (account_from (k + 1) name accounts) t) ∙ e) in
     (suc x.0, x.1, (one_more p k x.0 x.2.0, x.2.1, x.2.2)))
@@ -66,7 +66,7 @@ pub account_named : (p : ℕ) (name : List ℕ) (accounts : List CentreAccount) 
 account_named p name accounts a e at =
     let x = at_place_of 0 p name accounts e in
     let both : Some x.1 ≡ Some a = sym x.2.1 ∙ ap (λ (q : ℕ). account_at q accounts) (from_none p x.0 x.2.0) ∙ at in
-    ap (λ (z : CentreAccount). z.name) (sym (some_is x.1 a both)) ∙ x.2.2
+    ap (λ (z : CentreAccount). z.name) (sym (same_Some x.1 a both)) ∙ x.2.2
 
 -- ---- whose a message is
 

@@ -11,13 +11,13 @@ use Rattle.sms_script.specs.declared.setup.Setup.{Setup}
 use Rattle.sms_world.proofs.headline.ScriptCourses.{can_play, script_hands}
 use Rattle.sms_world.proofs.headline.HeadlineHolds.{nothing_more, of_play, ok_report}
 use Rattle.sms_world.proofs.headline.Parting.{parted}
-use Rattle.sms_world.proofs.scripts_are_runs.Events.{ok_play}
 use Rattle.sms_world.specs.headline.PlainLaws.{AreReports, ReportsLaw}
 use Rattle.sms_world.specs.headline.TypedEvents.{AreTyped}
 use Rattle.sms_world.specs.scripts_are_runs.PlayRuns.{AllHandOctets}
 use Rattle.std.proofs.Common.{Err, List, Ok, Result, [], ap, length, refl, subst, sym, take, ℕ, ◌++◌, ◌∙◌, ◌∷◌, ◌≡◌}
 use Rattle.std.proofs.lemmas.Bool.{cond-true}
 use Rattle.sms_world.proofs.scripts_are_runs.Runs.{unplayed}
+use Rattle.sms_play.proofs.answers.PlayAnswers.{ok_play}
 
 abbrev no_report : Report
 no_report = record { answers = []; table = []; accepted = []; joined = []; receipts = []; outboxes = []; given = []; bag = [] }

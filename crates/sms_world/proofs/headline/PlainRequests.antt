@@ -35,10 +35,9 @@ use Rattle.sms_world.specs.headline.PlainWords.{id_in, numbered}
 use Rattle.sms_world.specs.headline.RequestClaims.{IsAnswered, IsNamedBy}
 use Rattle.sms_world.specs.headline.RequestClaims.{IsCancelled as CancelsSo, IsQueried}
 use Rattle.sms_world.specs.headline.TypedEvents.{AreTyped}
-use Rattle.sms_world.proofs.Options.{some_is}
 use Rattle.std.proofs.Common.{List, Some, [], ap, arith, false, inl, inr, length, refl, subst, suc, sym, true, ⊎_elim, ℕ, ◌+◌, ◌++◌, ◌<◌, ◌≤◌, ◌∙◌, ◌∷◌, ◌≡◌}
 use Rattle.std.proofs.lemmas.Bool.{cases_Bool, cond-false, cond-true, eqb-false}
-use Rattle.std.proofs.lemmas.Option.{slice_get_within}
+use Rattle.std.proofs.lemmas.Option.{same_Some, slice_get_within}
 use Rattle.std.specs.Prelude.{slice_get, ◌==◌}
 
 -- ---- a row that takes the place of that of its key
@@ -87,7 +86,7 @@ module _ (moment : ℕ) (m : MessageRow) where
   changed_lines (r ∷ rs) rises at = ⊎_elim
       (λ (t : (r.id == m.id) ≡ true).
       let found : Some r ≡ Some m = sym (cond-true (r.id == m.id) (Some r) (message_at m.id rs) t) ∙ at in
-      changed_first r rs rises.0 (some_is r m found))
+      changed_first r rs rises.0 (same_Some r m found))
       (λ (t : (r.id == m.id) ≡ false).
       let behind : message_at m.id rs ≡ Some m = sym (cond-false (r.id == m.id) (Some r) (message_at m.id rs) t) ∙ at in
       changed_behind r rs rises.0 (eqb-false r.id m.id t) behind (changed_lines rs rises.1 behind))
@@ -121,7 +120,7 @@ module _ (script : Script) (after : ℕ → Report) (typed : AreTyped script.eve
       let place : length x.some ≡ n = same_suc n (length x.some) x.number in
       let here : Some x.event ≡ Some e =
       sym (at_place x.some x.others x.event) ∙ ap (λ (es : List WorldEvent). slice_get es (length x.some)) (sym x.step.parts) ∙ ap (λ (k : ℕ). slice_get script.events k) place ∙ at in
-      subst (λ (z : WorldEvent). IsAnsweredAt script after n z y) (some_is x.event e here)
+      subst (λ (z : WorldEvent). IsAnsweredAt script after n z y) (same_Some x.event e here)
       (record {
         some = x.some;
         others = x.others;

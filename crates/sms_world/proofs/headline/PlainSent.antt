@@ -3,6 +3,7 @@ use Rattle.std.proofs.Common.{◌≡◌, ℕ, zero, suc, ◌+◌, ◌<◌, ◌�
 use Rattle.std.specs.Prelude.{◌⊎◌, slice_get}
 use Rattle.std.proofs.lemmas.Bool.{cases_lt}
 use Rattle.std.proofs.lemmas.List.{append-nil}
+use Rattle.std.proofs.lemmas.Option.{same_Some}
 use Rattle.sms_base.proofs.Lists.{among_parts}
 use Rattle.sms_base.specs.Among.{Among}
 use Rattle.sms_base.specs.declared.carried.Carried.{Carried as Carries}
@@ -65,12 +66,12 @@ use Rattle.sms_world.proofs.headline.SentClaims.{none_tell}
 use Rattle.sms_world.proofs.headline.Tables.{line_of, row_of_line}
 use Rattle.sms_world.proofs.scripts_are_runs.Bags.{row_seen}
 use Rattle.sms_world.proofs.scripts_are_runs.Beginnings.{begins}
-use Rattle.sms_world.proofs.scripts_are_runs.Events.{event_leads, ok_play, same_play}
-use Rattle.sms_world.proofs.Options.{some_is}
+use Rattle.sms_world.proofs.scripts_are_runs.Events.{event_leads}
 use Rattle.sms_world.proofs.scripts_are_runs.Growing.{none_less}
 use Rattle.sms_world.proofs.headline.LongMessages.{as_many}
 use Rattle.sms_world.proofs.handset_runs_are_steps.Others.{items_grow}
 use Rattle.sms_world_model.proofs.Frames.{number_sent, one_number}
+use Rattle.sms_play.proofs.answers.PlayAnswers.{ok_play, same_play}
 
 -- ---- plain facts
 
@@ -342,7 +343,7 @@ module _ (script : Script) (after : ℕ → Report) where
             a.next ∙ ap (λ (z : ℕ). suc z) (one_place k.id a.before k.place few (low k.place (length script.events) (soon k.place (length script.events) within)) new later k.new k.there)
 
         its_event : (e : WorldEvent) → numbered of.number script.events ≡ Some e → k.event ≡ e
-        its_event e at = some_is k.event e (sym k.at ∙ ap (λ (n : ℕ). numbered n script.events) (sym same_event) ∙ at)
+        its_event e at = same_Some k.event e (sym k.at ∙ ap (λ (n : ℕ). numbered n script.events) (sym same_event) ∙ at)
 
         sent_so : IsOfApplication script.setup script.events after of.number l.id of.origin ⊎ IsOfOwner script.setup script.events after of.number l.id of.origin → IsSent script.setup script.events after (after (length script.events)) x
         sent_so (inl a) = absurd (submits_nothing k.number a.asked (one_act k.event (Deliver k.number) (Submit a.asked) k.does (subst (λ (z : WorldEvent). Does z (Submit a.asked)) (sym (its_event a.event a.at)) a.does)))

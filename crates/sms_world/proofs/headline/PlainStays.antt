@@ -8,7 +8,7 @@ use Rattle.sms_script.specs.declared.report.Report.{Report}
 use Rattle.sms_world.proofs.headline.PlainSteps.{IsStep, parted_at, step_of}
 use Rattle.sms_world.proofs.headline.SentReceipts.{listed_on, reported_on}
 use Rattle.sms_world.proofs.headline.Tables.{line_stays, message_stays}
-use Rattle.sms_world.proofs.scripts_are_runs.Events.{event_leads, ok_play}
+use Rattle.sms_world.proofs.scripts_are_runs.Events.{event_leads}
 use Rattle.sms_world.specs.headline.OneRun.{happening_of}
 use Rattle.sms_world.specs.headline.PlainLaws.{EachStaysLaw}
 use Rattle.sms_world.specs.headline.PlainReport.{Stays}
@@ -21,6 +21,7 @@ use Rattle.sms_world_model.specs.World.{ReceiptOf, World}
 use Rattle.sms_world_model.specs.WorldStep.{Item, end}
 use Rattle.std.proofs.Common.{List, length, subst, suc, sym, ℕ, ◌+◌, ◌≡◌}
 use Rattle.sms_base.proofs.Lists.{item_at}
+use Rattle.sms_play.proofs.answers.PlayAnswers.{ok_play}
 
 event_stays : (n : ℕ) (e : WorldEvent) (c d : PlayState) (w : World) → PlayRefines c w → IsGoodEvent e → HandsOctets e c → played n e c ≡ ok_play d → Stays (report_of c) (report_of d)
 event_stays n e c d w s good octets is =

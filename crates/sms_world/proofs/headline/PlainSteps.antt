@@ -12,7 +12,6 @@ use Rattle.sms_world.proofs.headline.ScriptCourses.{can_play}
 use Rattle.sms_world.proofs.headline.HeadlineHolds.{nothing_more, of_play}
 use Rattle.sms_world.proofs.headline.ScriptCourses.{course_of}
 use Rattle.sms_world.proofs.scripts_are_runs.Courses.{first_of}
-use Rattle.sms_world.proofs.scripts_are_runs.Events.{ok_play, same_play}
 use Rattle.sms_world.specs.headline.HeadlineLaws.{IsScript, LeadsOn}
 use Rattle.sms_world.specs.headline.PlainLaws.{AreReports}
 use Rattle.sms_world.specs.headline.TypedEvents.{AreTyped}
@@ -23,6 +22,7 @@ use Rattle.std.proofs.Common.{Err, List, Ok, Result, Some, [], ap, arith, length
 use Rattle.std.proofs.lemmas.Bool.{cond-true}
 use Rattle.std.specs.Prelude.{slice_get}
 use Rattle.sms_world.proofs.scripts_are_runs.Runs.{unplayed}
+use Rattle.sms_play.proofs.answers.PlayAnswers.{ok_play, same_play}
 
 -- ---- some of the events, one, and the others
 

@@ -14,10 +14,9 @@ use Rattle.sms_script.specs.declared.report.answers.Answer.{Answer}
 use Rattle.sms_centre_rows.specs.declared.report_lines.ReportedMessage.{ReportedMessage}
 use Rattle.sms_world.proofs.headline.NamedAnswers.{GrowsNamed, IsSubmitting, event_grows}
 use Rattle.sms_world.proofs.headline.Tables.{row_of_line}
-use Rattle.sms_world.proofs.scripts_are_runs.Events.{ok_play, same_play}
 use Rattle.sms_world.specs.headline.PlainReport.{AnswersAscend, AreAscending}
 use Rattle.std.proofs.Common.{Err, List, Ok, Result, [], ap, arith, inl, inr, refl, subst, sym, ⊎_elim, ℕ, ◌+◌, ◌++◌, ◌<◌, ◌∷◌, ◌≡◌}
-use Rattle.sms_play.proofs.answers.PlayAnswers.{either_part}
+use Rattle.sms_play.proofs.answers.PlayAnswers.{either_part, ok_play, same_play}
 
 -- ---- messages
 

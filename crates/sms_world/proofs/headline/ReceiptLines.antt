@@ -1,6 +1,7 @@
 -- The lines of receipts and status reports.
 use Rattle.std.proofs.Common.{◌≡◌, ℕ, ◌<◌, List, [], ◌∷◌, ◌++◌, refl, sym, ◌∙◌, ap, subst, inl, inr, ⊎_elim, Option, Some, None, arith}
 use Rattle.std.specs.Prelude.{◌⊎◌}
+use Rattle.sms_base.proofs.Lists.{among_parts}
 use Rattle.sms_base.specs.Among.{Among}
 use Rattle.sms_base.specs.declared.final_state.FinalState.{FinalState}
 use Rattle.sms_centre_rows.specs.messages.Messages.{message_at, message_key}
@@ -14,7 +15,6 @@ use Rattle.sms_rows.proofs.table.Tables.{found_key}
 use Rattle.sms_centre_spec.proofs.SteadyTimes.{above_among}
 use Rattle.sms_play.specs.Playing.{receipt_line, receipt_lines, receipt_of}
 use Rattle.sms_world.specs.headline.Claims.{AreOnce}
-use Rattle.sms_world.proofs.scripts_are_runs.Growing.{either_part}
 
 -- whose it is
 record IsOf (x : ReceiptRow) (o : Option MessageRow) : Type 0 where
@@ -51,7 +51,7 @@ from_report x ms (r ∷ rs) i = ⊎_elim
     (λ (j : Among x (receipt_lines ms rs)).
     let y = from_report x ms rs j in
     record { report = y.report; among = inr y.among; message = y.message; found = y.found; id = y.id; state = y.state })
-    (either_part x (receipt_line (message_at r.id ms)) (receipt_lines ms rs) i)
+    (among_parts x (receipt_line (message_at r.id ms)) (receipt_lines ms rs) i)
 
 -- ---- no message has two
 

@@ -12,9 +12,9 @@ use Rattle.sms_play.specs.CentreSide.{accepted_after, centre_meets, done as cent
 use Rattle.sms_play.specs.PlayState.{PlayState, numbers_of}
 use Rattle.sms_play.specs.HandsetSide.{party_after}
 use Rattle.sms_play.specs.PlayedEvent.{played}
-use Rattle.sms_world.proofs.scripts_are_runs.Events.{ok_play}
 use Rattle.sms_player.proofs.playing.Placed.{numbers_preserved}
 use Rattle.sms_world.proofs.scripts_are_runs.PlayedParts.{AnyMeeting, KeptByParts, any_met, event_keeps}
+use Rattle.sms_play.proofs.answers.PlayAnswers.{ok_play}
 
 abbrev AreThose : List (List ℕ) → PlayState → Type 0
 AreThose ns c = numbers_of c.parties ≡ ns

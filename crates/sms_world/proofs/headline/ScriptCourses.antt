@@ -17,8 +17,8 @@ use Rattle.sms_world.proofs.headline.OctetPlays.{all_hand, begins_keep}
 use Rattle.sms_world.proofs.headline.Parting.{others_good, parted}
 use Rattle.sms_world.proofs.scripts_are_runs.Beginnings.{begins}
 use Rattle.sms_world.proofs.scripts_are_runs.Courses.{KeptByEvents, kept_along}
-use Rattle.sms_world.proofs.scripts_are_runs.Events.{ok_play, same_play}
 use Rattle.sms_world.proofs.scripts_are_runs.Runs.{run_leads, unplayed}
+use Rattle.sms_play.proofs.answers.PlayAnswers.{ok_play, same_play}
 
 -- a head that leads anywhere can be played
 pub record CanPlay (s : Setup) (es : List WorldEvent) (c : PlayState) : Type 0 where

@@ -18,7 +18,6 @@ use Rattle.sms_centre_rows.specs.declared.report_lines.ReceiptRow.{ReceiptRow}
 use Rattle.sms_world.proofs.headline.ReceiptLines.{from_report}
 use Rattle.sms_world.proofs.headline.Tables.{same_end}
 use Rattle.sms_world.proofs.headline.Takers.{TakersThere, of_number}
-use Rattle.sms_world.proofs.scripts_are_runs.Growing.{in_front, in_rest}
 use Rattle.sms_world.proofs.scripts_are_runs.Agreeing.{sound_there}
 use Rattle.sms_world.specs.headline.SeenPlay.{IsAsInTable, SeenWorld}
 use Rattle.sms_world.specs.headline.SeenWorld.{PartSeen, RefinesHandset, parts_by}
@@ -33,11 +32,12 @@ use Rattle.sms_world.proofs.centre_runs_are_steps.RowsAreTrue.{reported_is_true}
 use Rattle.sms_world.specs.centres_refine_the_world.CentreRefinement.{CentreRefines}
 use Rattle.sms_world.specs.centres_refine_the_world.RefinesReports.{ReportSeen, report_seen}
 use Rattle.sms_world.specs.centre_runs_are_steps.TruthfulRows.{ReportedRows}
-use Rattle.sms_world.proofs.Options.{some_is}
 use Rattle.sms_world.proofs.scripts_are_runs.Parties.{number_there}
 use Rattle.std.proofs.Common.{ap, inl, inr, refl, subst, sym, ⊎_elim, ◌∙◌}
 use Rattle.std.proofs.lemmas.Bool.{cases_eq}
 use Rattle.std.specs.Prelude.{List, None, Option, Some, [], ℕ, ◌∷◌, ◌≡◌}
+use Rattle.std.proofs.lemmas.Option.{same_Some}
+use Rattle.sms_base.proofs.Lists.{among_back, among_front}
 
 -- ---- receipts
 
@@ -50,8 +50,8 @@ receipt_there x m f ms (r ∷ rs) i at e = ⊎_elim
     (λ (q : x ≡ r).
     let own : Among (line m.id f) (receipt_line (Some m)) = subst (λ (o : Option FinalState). Among (line m.id f) (receipt_of m.id o)) (sym e) (inl refl) in
     let here : Some m ≡ message_at r.id ms = sym at ∙ ap (λ (z : ReportRow). message_at z.id ms) q in
-    in_front (line m.id f) (receipt_line (message_at r.id ms)) (receipt_lines ms rs) (subst (λ (o : Option MessageRow). Among (line m.id f) (receipt_line o)) here own))
-    (λ (j : Among x rs). in_rest (line m.id f) (receipt_line (message_at r.id ms)) (receipt_lines ms rs) (receipt_there x m f ms rs j at e))
+    among_front (line m.id f) (receipt_line (message_at r.id ms)) (receipt_lines ms rs) (subst (λ (o : Option MessageRow). Among (line m.id f) (receipt_line o)) here own))
+    (λ (j : Among x rs). among_back (line m.id f) (receipt_line (message_at r.id ms)) (receipt_lines ms rs) (receipt_there x m f ms rs j at e))
     i
 
 -- a report among these is found by its message's number, or another of that number
@@ -103,8 +103,8 @@ module _ (c : PlayState) (w : World) (s : PlayRefines c w) where
       let f = from_report r messages reports i in
       let at = found_by f.report reports f.among in
       let t = told f.report.id at.0 at.1 in
-      let same : t.0 ≡ f.message = some_is t.0 f.message (sym t.2.0 ∙ f.found) in
-      let state : t.1 ≡ r.state = some_is t.1 r.state (sym t.2.1 ∙ ap (λ (m : MessageRow). m.state) same ∙ f.state) in
+      let same : t.0 ≡ f.message = same_Some t.0 f.message (sym t.2.0 ∙ f.found) in
+      let state : t.1 ≡ r.state = same_Some t.1 r.state (sym t.2.1 ∙ ap (λ (m : MessageRow). m.state) same ∙ f.state) in
       let id : f.report.id ≡ r.id = sym (found_key message_key f.report.id f.message messages f.found) ∙ f.id in
       let here : Among (record { id = f.report.id; state = t.1 }) w.receipts = once_among (record { id = f.report.id; state = t.1 }) w.receipts t.2.2 in
       subst (λ (x : ReceiptOf). Among x w.receipts) (λ j. record { id = id j; state = state j }) here

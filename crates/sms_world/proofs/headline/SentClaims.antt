@@ -1,5 +1,6 @@
 -- What handsets count as sent the centre has, while frames are decided timely.
 use Rattle.std.proofs.Common.{◌≡◌, ℕ, ◌≤◌, List, [], ◌∷◌, length, sym, ◌∙◌, ap, subst, Some}
+use Rattle.std.proofs.lemmas.Option.{same_Some}
 use Rattle.sms_base.specs.Among.{Among}
 use Rattle.sms_base.specs.declared.address.Address.{Address}
 use Rattle.sms_base.specs.declared.holder.Holder.TheVariants.{Part}
@@ -34,18 +35,17 @@ use Rattle.sms_world.specs.headline.Claims.{AllTimely, IsMessageOf, SentSubmitte
 use Rattle.sms_world.specs.scripts_are_runs.PlayRefinement.{PlayRefines}
 use Rattle.sms_world.specs.scripts_are_runs.Happening.{HandsOctets, IsGoodEvent}
 use Rattle.sms_world.specs.headline.OneRun.{happening_of, world_after}
-use Rattle.sms_world.proofs.scripts_are_runs.Events.{ok_play}
 use Rattle.sms_world.proofs.headline.AnswersTimely.{hands_answers}
 use Rattle.sms_world.proofs.headline.DecidedTimely.{hands_down}
 use Rattle.sms_world.proofs.headline.HeldReferences.{AllPartiesAgree, held_reported}
 use Rattle.sms_world.proofs.headline.UpwardRuns.{event_upward}
-use Rattle.sms_world.proofs.Options.{some_is}
 use Rattle.sms_world.proofs.SeenParts.{small, one_is_small, only_one, seen_of, row_seen}
 use Rattle.sms_world.proofs.scripts_are_runs.Courses.{KeptByEvents}
 use Rattle.sms_world.specs.scripts_are_runs.PlayRuns.{LeadsTo}
 use Rattle.sms_script.specs.declared.setup.Setup.{Setup}
 use Rattle.sms_play.specs.Setups.{beginning}
 use Rattle.sms_world.proofs.headline.TimelyClaims.{timely_on}
+use Rattle.sms_play.proofs.answers.PlayAnswers.{ok_play}
 
 -- ---- what each event keeps
 
@@ -101,7 +101,7 @@ module _ (c : PlayState) (w : World) (s : PlayRefines c w) (up : IsUpward w) (q 
         let part : UserData = known.2.1.0 in
         let has : HasPart u 1 part = subst (λ (z : Submission). HasPart z 1 part) mine known.2.1.1.0 in
         let is_data : part ≡ text = (let both : Some part ≡ Some text = sym has ∙ first in cc) in
-        let seen_is : seen.0.tpdu ≡ compared p.tpdu = ap (λ (z : PartSeen). z.tpdu) (sym (some_is (seen_of p) seen.0 (ap part_seen (sym row.1) ∙ octet.1))) in
+        let seen_is : seen.0.tpdu ≡ compared p.tpdu = ap (λ (z : PartSeen). z.tpdu) (sym (same_Some (seen_of p) seen.0 (ap part_seen (sym row.1) ∙ octet.1))) in
         let deliver : IsDeliverOf u text g.0 (compared p.tpdu) =
         subst (λ (z : Submission × UserData × List ℕ). IsDeliverOf z.0 z.1 g.0 z.2) (λ j. (mine j, is_data j, seen_is j)) known.2.1.1.1 in (
           p,
@@ -117,7 +117,7 @@ module _ (c : PlayState) (w : World) (s : PlayRefines c w) (up : IsUpward w) (q 
                 let in_u : HasPart u y.number z.0 = subst (λ (v : Submission). HasPart v y.number z.0) same z.1 in
                 let bounds = part_within u.parts y.number z.0 in_u in
                 let number : y.number ≡ 1 = only_one y.number bounds.0 (subst (λ (ps : List UserData). y.number ≤ length ps) one bounds.1) in
-                some_is y p (sym at_y ∙ ap (λ (k : ℕ). part_at id k c.centre.rows.parts) number ∙ row.1);
+                same_Some y p (sym at_y ∙ ap (λ (k : ℕ). part_at id k c.centre.rows.parts) number ∙ row.1);
             source = ap (λ (z : Address). z.digits) (sym is.source) ∙ source;
             handset = sym is.handset ∙ handset;
             submitted = (u, g.0, (is, one, deliver));

@@ -29,11 +29,11 @@ use Rattle.sms_world.specs.headline.Claims.{DeliversReceipts, happened_then}
 use Rattle.sms_world.specs.headline.ReportClaims.{IsReceiptSent}
 use Rattle.sms_world.specs.scripts_are_runs.Happening.{HandsOctets, IsGoodEvent}
 use Rattle.sms_world.specs.scripts_are_runs.PlayRefinement.{PlayRefines}
-use Rattle.sms_world.proofs.Options.{some_is}
 use Rattle.sms_world_model.specs.WorldStep.{Item, after_item, end, Receipt, Status, Step, after}
 use Rattle.sms_world_model.specs.World.{ReceiptOf, World}
 use Rattle.std.proofs.Common.{ap, inr, sym, ◌∙◌}
 use Rattle.std.specs.Prelude.{List, None, Option, Some, [], true, ℕ, ◌∷◌, ◌≡◌}
+use Rattle.std.proofs.lemmas.Option.{same_Some}
 
 -- ---- deliver_sm
 
@@ -59,7 +59,7 @@ module _ (event : CentreEvent) (c : Core) (s : IsSoundCore c) (is : IsEvent even
       let own : m.id ≡ x.id = found_key message_key row.id m messages of_message.1.0 ∙ here.1 in
       let g : Goes messages later.sessions x = goes_to event c s x i in
       let at : message_at x.id messages ≡ Some m = ap (λ (n : ℕ). message_at n messages) (sym here.1) ∙ of_message.1.0 in
-      let same : m ≡ g.message = some_is m g.message (sym at ∙ g.there) in
+      let same : m ≡ g.message = same_Some m g.message (sym at ∙ g.there) in
       let among : Among m messages = found_among message_key row.id m messages of_message.1.0 in
       let done = ended_at m.state m.done state of_message.1.1.0.1 (sound.rows.messages.each_message m among).ended in
       record {

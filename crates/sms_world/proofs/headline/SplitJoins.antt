@@ -2,6 +2,7 @@
 use Rattle.std.proofs.Common.{◌≡◌, ℕ, zero, suc, ◌+◌, ◌*◌, ◌<◌, ◌≤◌, arith, inl, inr, List, [], ◌∷◌, ◌++◌, length, refl, sym, ◌∙◌, ap, subst, ⊎_elim, Option, Some, None}
 use Rattle.std.specs.Prelude.{◌==◌, slice_get}
 use Rattle.std.proofs.lemmas.Bool.{cases_eq, cond-false, cond-true, ne_eqb, eq-eqb}
+use Rattle.std.proofs.lemmas.Option.{same_Some}
 use Rattle.sms_base.proofs.Lists.{item_at}
 use Rattle.sms_base.specs.Among.{Among}
 use Rattle.sms_concat.specs.declared.content.Content.{Content}
@@ -25,7 +26,6 @@ use Rattle.sms_world_model.proofs.Contents.{one_key_of, piece_old, piece_new, le
 use Rattle.sms_world.specs.headline.Claims.{pair_in_row, AreJoinedRounds, IsJoinedRound, IsLongMessage, JoinedWhole}
 use Rattle.sms_world.specs.scripts_are_runs.PlayRefinement.{PlayRefines}
 use Rattle.sms_world.specs.headline.SplitClaims.{IsSplitOf, IsSplitUnder, split_key, AllSaySplit, SaysSplit, SplitsJoined}
-use Rattle.sms_world.proofs.Options.{some_is}
 
 -- ---- lists of parts, piece by piece
 
@@ -133,7 +133,7 @@ module _ (c : PlayState) (w : World) (s : PlayRefines c w) where
         let one : r.0 ≡ z.0 = cc in
         let carries : carried_in y.0.tpdu ≡ Some piece =
         ap (λ (k : Accepted). carried_in k.tpdu) r.1.2 ∙ carried_alike r.0.tpdu ∙ ap (λ (k : PartRow). carried_in k.tpdu) one ∙ z.1.1 in
-        some_is x piece (sym y.1.2 ∙ carries)
+        same_Some x piece (sym y.1.2 ∙ carries)
 
     joins : is.joined.content ≡ content
     joins =
@@ -146,7 +146,7 @@ module _ (c : PlayState) (w : World) (s : PlayRefines c w) where
         let x = item_at ps.0 i l in
         let f = item_at of.pieces i (omega (arith, l, long, total)) in
         x.1 ∙ ap (λ (z : PartOf). Some z) (piece_is i x.0 f.0 (all.1 i (omega (arith, l, long)) ∙ x.1) f.1) ∙ sym f.1) in
-        some_is is.joined.content content (sym ps.1.1 ∙ ap (λ (z : List PartOf). content_joined z) same ∙ split_joins content reference of.pieces of.split)
+        same_Some is.joined.content content (sym ps.1.1 ∙ ap (λ (z : List PartOf). content_joined z) same ∙ split_joins content reference of.pieces of.split)
 
     says : row ≡ record { handset = q.number; from = m.source.digits; coding = coding_of content.coding; units = content.units }
     says =

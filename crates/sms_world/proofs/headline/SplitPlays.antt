@@ -20,9 +20,9 @@ use Rattle.sms_world_model.specs.World.{World}
 use Rattle.sms_world.specs.scripts_are_runs.PlayRuns.{AllHandOctets, AreGood}
 use Rattle.sms_world.specs.scripts_are_runs.PlayRefinement.{PlayRefines}
 use Rattle.sms_world.specs.scripts_are_runs.Happening.{HandsOctets, IsGoodEvent}
-use Rattle.sms_world.proofs.scripts_are_runs.Events.{ok_play}
 use Rattle.sms_world.proofs.scripts_are_runs.Courses.{KeptByEvents, NothingAsked, kept_along}
 use Rattle.sms_world.proofs.scripts_are_runs.PlayedParts.{KeptByParts, MeetsIn, event_keeps, met_well}
+use Rattle.sms_play.proofs.answers.PlayAnswers.{ok_play}
 
 module _ (Q : Rows → Type 0) (keeps : (event : CentreEvent) (c : Core) → IsSoundCore c → IsEvent event → Q c.rows → Q (rows_of (centre_happened event c).store)) where
   abbrev Has : PlayState → Type 0

@@ -41,10 +41,10 @@ use Rattle.sms_world.specs.headline.SeenWorld.{sent_by, sent_row}
 use Rattle.sms_world_model.proofs.Sound.{IsKnown, Says}
 use Rattle.sms_world_model.specs.World.{Allocation, Carried, Down, Frame, Sent, World}
 use Rattle.sms_world.specs.headline.SeenFrames.{sent_down, frame_down, octets_down, line_down}
-use Rattle.sms_world.proofs.Options.{some_is}
 use Rattle.sms_world.proofs.scripts_are_runs.GivenBy.{seen_report_row}
 use Rattle.std.proofs.Common.{ap, refl, subst, sym, ◌∙◌}
 use Rattle.std.specs.Prelude.{List, Ok, Option, Result, Some, [], false, true, ℕ, ◌≡◌}
+use Rattle.std.proofs.lemmas.Option.{same_Some}
 
 not_deliver : (d : DeliverOf) (s : StatusReportOf) (r : Result DownTpdu TpduFault) → r ≡ Ok (Deliver d) → r ≡ Ok (StatusReport s) → ⊥
 not_deliver d s r a b =
@@ -107,7 +107,7 @@ module _ (c : PlayState) (w : World) (s : PlayRefines c w) (f : FrameRow) (x : C
         let there = report_found id row c.centre.rows.reports found.1.0 in
         let k : IsStatusOf c.centre.rows.messages row.id tpdu = rows row y.2 tpdu there.0 (found.1.1 ∙ y.4.2) in
         let own : m.id ≡ id = found_key message_key id m c.centre.rows.messages y.4.0 in
-        let same : k.message ≡ m = some_is k.message m (sym k.there ∙ ap (λ (z : ℕ). message_at z c.centre.rows.messages) there.1 ∙ y.4.0) in
+        let same : k.message ≡ m = same_Some k.message m (sym k.there ∙ ap (λ (z : ℕ). message_at z c.centre.rows.messages) there.1 ∙ y.4.0) in
         let d : StatusReportOf = status_report_of (final_of k.state k.moment k.message) in
         let told : List ℕ = octets_down x.kind f.octets in
         let giving : says.0.tpdu ≡ compared tpdu = ap (λ (z : Allocation). z.tpdu) y.4.3 in

@@ -50,8 +50,8 @@ use Rattle.sms_centre_spec.proofs.Stages.{IfThere}
 use Rattle.sms_centre_spec.proofs.Steady.{IsSteady, message_own}
 use Rattle.sms_centre_spec.proofs.SteadyEvents.{steady_event}
 use Rattle.sms_centre_spec.proofs.TpdusRead.{status_reads}
+use Rattle.sms_centre_spec.proofs.Keeping.{report_of_end}
 use Rattle.sms_world.proofs.split_messages_stay.MadeParts.{Accepts, IsAccepted, accept_leads}
-use Rattle.sms_world.proofs.centres_refine_the_world.Ending.{row_made}
 
 -- Its message is a handset's and has ended, and the octets read as the STATUS-REPORT of that end.
 pub record IsStatusOf (messages : List MessageRow) (id : ℕ) (tpdu : List ℕ) : Type 0 where
@@ -113,7 +113,7 @@ end_stays ms rs m f n k there pending =
 one_more : (id : ℕ) (kind : ReportKind) (closed : Bool) (s : Store) → AllStatus (messages_in s) (reports_in s) → ((reference : ℕ) (tpdu : List ℕ) → kind ≡ Status reference tpdu → IsStatusOf (messages_in s) id tpdu)
     → AllStatus (messages_in (make_report id kind closed s)) (reports_in (make_report id kind closed s))
 one_more id kind closed s k new x reference tpdu i is =
-    let r : ReportRow = row_made id kind closed s in
+    let r : ReportRow = report_of_end id kind closed s in
     ⊎_elim
     (λ (e : x ≡ r).
     subst (λ (z : ℕ). IsStatusOf (messages_in s) z tpdu) (ap (λ (z : ReportRow). z.id) (sym e)) (new reference tpdu (ap (λ (z : ReportRow). z.kind) (sym e) ∙ is)))

@@ -1,5 +1,6 @@
 -- The lines of messages are the rows of the centre, and those show the world's table.
 use Rattle.std.proofs.Common.{◌≡◌, ℕ, List, [], ◌∷◌, refl, sym, ◌∙◌, ap, subst, inl, inr, ⊎_elim, Option, Some, None}
+use Rattle.std.proofs.lemmas.Option.{same_Some}
 use Rattle.sms_base.specs.Among.{Among}
 use Rattle.sms_base.specs.declared.final_state.FinalState.{FinalState}
 use Rattle.sms_centre_spec.specs.Draft.{Core, draft_of}
@@ -19,7 +20,6 @@ use Rattle.sms_world_model.specs.Submission.{Submission}
 use Rattle.sms_world_model.specs.World.{Final, Pending, IsRecorded, State, World}
 use Rattle.sms_world.specs.centres_refine_the_world.CentreRefinement.{CentreRefines}
 use Rattle.sms_world.specs.headline.SeenWorld.{IsStateOf, PartSeen, parts_by}
-use Rattle.sms_world.proofs.Options.{some_is}
 
 abbrev pub line_of : MessageRow → ReportedMessage
 line_of m = record { id = m.id; from = m.source.digits; to = m.handset; state = state_of m.state }
@@ -41,7 +41,7 @@ pub one_row : (a b : MessageRow) (ms : List MessageRow) → Rises message_key ms
 one_row a b ms rises i j e =
     let p = among_found message_key a ms rises i in
     let q = among_found message_key b ms rises j in
-    some_is a b (sym p ∙ ap (λ (k : ℕ). message_at k ms) e ∙ q)
+    same_Some a b (sym p ∙ ap (λ (k : ℕ). message_at k ms) e ∙ q)
 
 pub one_line : (a b : ReportedMessage) (ms : List MessageRow) → Rises message_key ms → Among a (message_lines ms) → Among b (message_lines ms) → a.id ≡ b.id → a ≡ b
 one_line a b ms rises i j e =

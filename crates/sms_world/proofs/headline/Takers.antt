@@ -31,12 +31,12 @@ use Rattle.sms_world.specs.scripts_are_runs.PlayRefinement.{PlayRefines}
 use Rattle.sms_world.specs.headline.SeenWorld.{sent_by, sent_row}
 use Rattle.sms_world.specs.headline.OneRun.{event_of, happening_of}
 use Rattle.sms_world.proofs.scripts_are_runs.Bags.{frame_found, row_seen}
-use Rattle.sms_world.proofs.scripts_are_runs.Events.{ok_play}
 use Rattle.sms_world.proofs.scripts_are_runs.Parties.{number_there, party_found}
 use Rattle.sms_world.proofs.headline.DecidedTimely.{number_by, numbered_there, same_frame}
 use Rattle.sms_world.proofs.headline.SameHandsets.{handsets_stay}
 use Rattle.sms_world_model.proofs.Frames.{number_sent, one_number}
 use Rattle.sms_world_model.proofs.Followers.{said_of_followers}
+use Rattle.sms_play.proofs.answers.PlayAnswers.{ok_play}
 
 -- ---- steps that accept
 

@@ -3,6 +3,7 @@ use Rattle.std.proofs.Common.{◌≡◌, ℕ, ◌+◌, List, [], ◌∷◌, true
 use Rattle.std.proofs.lemmas.Bool.{both_ways, cases_Bool, cond-false, cond-true}
 use Rattle.std.proofs.lemmas.Slice.Eq.{bytes_eq-Decides}
 use Rattle.std.specs.Str.{bytes_eq}
+use Rattle.std.proofs.lemmas.Option.{same_Some}
 use Rattle.sms_base.specs.Among.{Among}
 use Rattle.sms_base.specs.declared.final_state.FinalState.{FinalState}
 use Rattle.sms_base.specs.declared.final_state.FinalState.TheVariants.{Delivered}
@@ -28,7 +29,6 @@ use Rattle.sms_world.proofs.scripts_are_runs.Agreeing.{sound_there}
 use Rattle.sms_world.specs.scripts_are_runs.PlayRefinement.{PlayRefines, PartyRefines}
 use Rattle.sms_world.specs.scripts_are_runs.Happening.{HandsOctets, IsGoodEvent}
 use Rattle.sms_world.specs.headline.OneRun.{happening_of, world_after}
-use Rattle.sms_world.proofs.scripts_are_runs.Events.{ok_play}
 use Rattle.sms_world.proofs.headline.DecidedTimely.{hands_down}
 use Rattle.sms_world.proofs.headline.FaithfulRuns.{event_faithful}
 use Rattle.sms_world.proofs.headline.Takers.{TakersThere, of_number, stored_among, takers_stay}
@@ -36,13 +36,13 @@ use Rattle.sms_script.specs.declared.report.rows.GivenRow.{GivenRow}
 use Rattle.sms_script.specs.declared.report.rows.Direction.{Direction}
 use Rattle.sms_script.specs.declared.report.rows.Direction.TheVariants.{Up as UpRow, Down as DownRow}
 use Rattle.sms_world.specs.centres_refine_the_world.RefinesGiven.{given_part}
-use Rattle.sms_world.proofs.Options.{some_is}
 use Rattle.sms_world.proofs.SeenParts.{small, seen_of}
 use Rattle.sms_tpdu.specs.declared.user_data.UserData.{UserData}
 use Rattle.sms_world.proofs.scripts_are_runs.Courses.{KeptByEvents, when_played}
 use Rattle.sms_world.specs.scripts_are_runs.PlayRuns.{LeadsTo}
 use Rattle.sms_script.specs.declared.setup.Setup.{Setup}
 use Rattle.sms_play.specs.Setups.{beginning}
+use Rattle.sms_play.proofs.answers.PlayAnswers.{ok_play}
 
 -- ---- what each event keeps
 
@@ -116,8 +116,8 @@ module _ (c : PlayState) (w : World) (s : PlayRefines c w) (all : DeliveredAccep
   given_is : (g : Allocation) → Among g w.down → g.holder ≡ Part m.id p.number → pair_given g ≡ pair_in_row m p
   given_is g among holder =
       let x = s.centre.rows.holders.of_part g m.id p.number among holder in
-      let row : x.0 ≡ m = some_is x.0 m (sym x.2.0 ∙ there) in
-      let part : x.1 ≡ seen_of p = some_is x.1 (seen_of p) (sym x.2.1 ∙ seen) in
+      let row : x.0 ≡ m = same_Some x.0 m (sym x.2.0 ∙ there) in
+      let part : x.1 ≡ seen_of p = same_Some x.1 (seen_of p) (sym x.2.1 ∙ seen) in
       ap pair_given x.2.2 ∙ (λ t. record { handset = (row t).handset; reference = (part t).reference; tpdu = (part t).tpdu })
 
   -- the row of its giving

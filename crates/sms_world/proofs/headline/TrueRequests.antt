@@ -38,13 +38,13 @@ use Rattle.sms_script.specs.declared.report.answers.Answered.TheVariants.{Found,
 use Rattle.sms_centre_rows.specs.declared.report_lines.MessageState.{MessageState}
 use Rattle.sms_world.proofs.headline.AnsweredSubmits.{last_same, one_longer, whole_answers}
 use Rattle.sms_world.proofs.messages_have_origins.Unmoved.{Rows, meets_leaves}
-use Rattle.sms_world.proofs.scripts_are_runs.Events.{ok_play, same_play}
 use Rattle.sms_world.specs.headline.RequestClaims.{IsAnswered, IsCancelled, IsQueried, RequestsAreTrue}
-use Rattle.sms_world.proofs.Options.{some_is}
 use Rattle.sms_world.proofs.centres_refine_the_world.QueuedParts.{none_of}
 use Rattle.std.proofs.Common.{Bool, List, None, Option, Some, ap, cond, false, inl, inr, refl, subst, sym, true, ⊎_elim, ℕ, ◌&&◌, ◌∙◌, ◌≡◌}
 use Rattle.std.proofs.lemmas.Bool.{cond_both}
 use Rattle.std.specs.Prelude.{◌⊎◌}
+use Rattle.std.proofs.lemmas.Option.{same_Some}
+use Rattle.sms_play.proofs.answers.PlayAnswers.{ok_play, same_play}
 
 -- ---- the message that is asked for
 
@@ -227,11 +227,11 @@ module _ (n : ℕ) (name text : List ℕ) (c d : PlayState) where
               ),
             ))
             (λ (x : Refuses (draft_of c.centre) k).
-            absurd (x.fails (same_status x.status ESME_ROK (ap answered_as (sym (some_is t.0 (Refused x.status) (sym t.1.0 ∙ x.answers))) ∙ t.1.1))))
+            absurd (x.fails (same_status x.status ESME_ROK (ap answered_as (sym (same_Some t.0 (Refused x.status) (sym t.1.0 ∙ x.answers))) ∙ t.1.1))))
             f;
         refused = λ y answered fails. let t = tells y answered in
             ⊎_elim
-            (λ (x : Deletes o text (draft_of c.centre) k). absurd (fails (sym t.1.1 ∙ ap answered_as (some_is t.0 Cancelled (sym t.1.0 ∙ x.answers)))))
+            (λ (x : Deletes o text (draft_of c.centre) k). absurd (fails (sym t.1.1 ∙ ap answered_as (same_Some t.0 Cancelled (sym t.1.0 ∙ x.answers)))))
             (λ (x : Refuses (draft_of c.centre) k). rows ∙ x.same)
             f;
       }

@@ -10,7 +10,6 @@ use Rattle.sms_script.specs.declared.report.Broken.{Broken}
 use Rattle.sms_script.specs.declared.report.Broken.TheVariants.{Reused, Timely}
 use Rattle.sms_script.specs.declared.setup.Setup.{Setup}
 use Rattle.sms_world.proofs.headline.HeadlineHolds.{nothing_more, one_run_is}
-use Rattle.sms_world.proofs.scripts_are_runs.Events.{ok_play, same_play}
 use Rattle.sms_world.specs.headline.Claims.{AllTimely, AllFresh, IfPlayed}
 use Rattle.sms_world.specs.headline.DecidedPremises.{Breaks, BreaksFirst, Premises}
 use Rattle.sms_world.specs.headline.OneRun.{AreFreshThere, IsEventRun, IsTimelyThere, Runs, world_after}
@@ -23,6 +22,7 @@ use Rattle.std.proofs.lemmas.Bool.{both_ways}
 use Rattle.std.specs.Prelude.{Bool, List, None, Option, Result, Some, [], false, true, ℕ, ◌+◌, ◌↔◌, ◌∷◌, ◌≡◌}
 use Rattle.sms_world.specs.headline.HeadlineLaws.{WorldLaw}
 use Rattle.sms_world.proofs.headline.ExactPremises.{premises_are}
+use Rattle.sms_play.proofs.answers.PlayAnswers.{ok_play, same_play}
 
 if_next : (r : Result PlayState PlayFault) (next : PlayState) (P : PlayState → Type 0) → r ≡ ok_play next → IfPlayed r P → P next
 if_next r next P e p = subst (λ (z : Result PlayState PlayFault). IfPlayed z P) e p

@@ -2,6 +2,7 @@
 use Rattle.std.proofs.Common.{◌≡◌, ◌⊎◌, inl, inr, ℕ, List, [], ◌∷◌, ◌++◌, Bool, true, false, Some, sym, ◌∙◌, ap, subst, ⊎_elim}
 use Rattle.std.specs.Prelude.{◌==◌}
 use Rattle.std.proofs.lemmas.Bool.{cases_Bool, cond-false, cond-true, cond_both}
+use Rattle.std.proofs.lemmas.Option.{same_Some}
 use Rattle.sms_base.specs.Among.{Among}
 use Rattle.sms_base.specs.declared.carried.Kind.TheVariants.{Data}
 use Rattle.sms_base.specs.declared.final_state.FinalState.TheVariants.{Deleted, Expired, Undeliverable}
@@ -12,7 +13,6 @@ use Rattle.sms_world_model.specs.World.{Carried, Final, Frame, Message, OutEntry
 use Rattle.sms_world_model.proofs.Tables.{entered_back}
 use Rattle.sms_world.proofs.headline.FaithfulRuns.{end_parts, run_parts}
 use Rattle.sms_world.proofs.headline.FreshRuns.{AllQuiet, HandsOne, IsQuiet, control_quiet, follows_quiet, writes_quiet}
-use Rattle.sms_world.proofs.Options.{some_is}
 
 -- the message of that id is that submission, whatever its state
 abbrev pub IsInTable : ℕ → Submission → List Message → Type 0
@@ -26,7 +26,7 @@ still_here id e z es rest u st more k =
     let x : Message = record { submission = u; state = st } in
     ⊎_elim
     (λ (t : (e.submission.id == id) ≡ true).
-    let same : y ≡ x = some_is y x (sym (cond-true (e.submission.id == id) (Some y) (find id rest) t) ∙ k) in
+    let same : y ≡ x = same_Some y x (sym (cond-true (e.submission.id == id) (Some y) (find id rest) t) ∙ k) in
     let found : IsInTable id u (e ∷ es) =
     (e.state, cond-true (e.submission.id == id) (Some e) (find id es) t ∙ ap (λ (m : Message). let w : Message = record { submission = m.submission; state = e.state } in Some w) same) in found)
     (λ (t : (e.submission.id == id) ≡ false).

@@ -22,9 +22,9 @@ use Rattle.sms_world.specs.headline.OneRun.{EntersNext}
 use Rattle.sms_world.specs.scripts_are_runs.PlayRefinement.{PlayRefines}
 use Rattle.sms_world.specs.scripts_are_runs.Happening.{HandsOctets, IsGoodEvent}
 use Rattle.sms_world.proofs.messages_have_origins.Unmoved.{Rows, meets_leaves}
-use Rattle.sms_world.proofs.scripts_are_runs.Events.{ok_play}
 use Rattle.sms_world.proofs.scripts_are_runs.Meetings.{Meets, meets}
 use Rattle.sms_world.proofs.scripts_are_runs.PlayedParts.{IsMetSo, KeptByParts, event_keeps}
+use Rattle.sms_play.proofs.answers.PlayAnswers.{ok_play}
 
 -- what is said of each message that was not there before
 module _ (n : ℕ) (c : PlayState) (w : World) (s : PlayRefines c w) (Says : MessageRow → Type 0) where

@@ -1,5 +1,6 @@
 -- A message that stands once an event was played stood there before, or the event made it; and what it made stays so through the others.
 use Rattle.std.proofs.Common.{◌≡◌, ◌⊎◌, inl, inr, ℕ, ◌+◌, List, Option, Some, None, Ok, refl, sym, ◌∙◌, ap, subst, ⊎_elim}
+use Rattle.std.proofs.lemmas.Option.{same_Some}
 use Rattle.sms_base.specs.Reading.{◌>>=◌}
 use Rattle.sms_rows.proofs.table.Tables.{found_among, found_key}
 use Rattle.sms_base.specs.Among.{Among}
@@ -45,7 +46,7 @@ use Rattle.sms_world.specs.scripts_are_runs.PlayRuns.{AllHandOctets, AreGood, ha
 use Rattle.sms_world.specs.scripts_are_runs.PlayRefinement.{PlayRefines}
 use Rattle.sms_world.specs.scripts_are_runs.Happening.{HandsOctets, IsGoodEvent}
 use Rattle.sms_world.specs.headline.OneRun.{happening_of}
-use Rattle.sms_world.proofs.scripts_are_runs.Events.{event_leads, ok_play, same_play}
+use Rattle.sms_world.proofs.scripts_are_runs.Events.{event_leads}
 use Rattle.sms_world.proofs.scripts_are_runs.Runs.{run_leads}
 use Rattle.sms_world.specs.headline.Origins.{IsSubmitted, IsOfApplication, IsOfHandset, MakesMessage}
 use Rattle.sms_world.proofs.submissions_stay.NewMessages.{made_is}
@@ -57,7 +58,7 @@ use Rattle.sms_world.proofs.messages_have_origins.HandsetOriginators.{IsAsked, f
 use Rattle.sms_world.proofs.split_messages_stay.KeptMessages.{IsSaid, OfRow, row_lasts, said_on}
 use Rattle.sms_world.proofs.messages_have_origins.HandsetMessages.{of_handset}
 use Rattle.sms_world.proofs.messages_have_origins.Unmoved.{Rows, meets_leaves, rows_in, rows_of}
-use Rattle.sms_world.proofs.Options.{some_is}
+use Rattle.sms_play.proofs.answers.PlayAnswers.{ok_play, same_play}
 
 -- ---- a submit_sm, that went to its end or was stopped behind its store call
 
@@ -138,7 +139,7 @@ module _ (n : ℕ) (e : WorldEvent) (es : List WorldEvent) (c next d : PlayState
       let l = event_leads n e c next w s good octets is in
       let now : IsSaid m.id (IsSubmitted u) next.centre.rows.messages next.centre.rows.parts = (y, (there, subst (λ (qs : List PartRow). IsSubmitted u y qs) (sym ps) z.2.2)) in
       let last = all_preserved (IsSaid m.id (IsSubmitted u)) (said_on m.id (IsSubmitted u) (submitted_lasts u)) (n + 1) es next d (end w (happened_in h l.0)) l.1.2 now goods more leads in
-      let same : last.0 ≡ m = some_is last.0 m (sym last.1.0 ∙ at) in
+      let same : last.0 ≡ m = same_Some last.0 m (sym last.1.0 ∙ at) in
       let found : WasStoredIn c m.id ⊎ IsOfApplication x c m d.centre.rows.parts =
       inr (record { number = number; place = k.place; account = z.0; submission = u; named = k.named; its = z.2.0; reads = z.2.1; is = subst (λ (y : MessageRow). IsSubmitted u y d.centre.rows.parts) same last.1.1 }) in found)
       (made_is k.place (submit_of x) c.centre y s.sound here)
@@ -153,7 +154,7 @@ module _ (n : ℕ) (e : WorldEvent) (es : List WorldEvent) (c next d : PlayState
       let now : IsSaid m.id (OfRow (IsAskedAt number c)) next.centre.rows.messages next.centre.rows.parts = (x, (there, new)) in
       let l = event_leads n e c next w s good octets is in
       let last = all_preserved (IsSaid m.id (OfRow (IsAskedAt number c))) (said_on m.id (OfRow (IsAskedAt number c)) (row_lasts (IsAskedAt number c) (asked_ends number c))) (n + 1) es next d (end w (happened_in h l.0)) l.1.2 now goods more leads in
-      subst (λ (z : MessageRow). IsAskedAt number c z) (some_is last.0 m (sym last.1.0 ∙ at)) last.1.1
+      subst (λ (z : MessageRow). IsAskedAt number c z) (same_Some last.0 m (sym last.1.0 ∙ at)) last.1.1
 
   -- it is a handset's
   asked_for : (number : ℕ) (u : Submission) → IsInTable m.id u (end w (happened_in h (event_leads n e c next w s good octets is).0)).table → Enters w (Handed number) u → m.id ≡ next_number c.centre.rows

@@ -1,5 +1,6 @@
 -- A handset's message is what the SUBMIT in a frame asks for.
 use Rattle.std.proofs.Common.{◌≡◌, ℕ, ◌≤◌, List, [], length, refl, sym, ◌∙◌, ap, subst, Option, Some, None, Result, Ok}
+use Rattle.std.proofs.lemmas.Option.{same_Some}
 use Rattle.sms_base.specs.Among.{Among}
 use Rattle.sms_base.specs.declared.address.Address.{Address}
 use Rattle.sms_base.specs.declared.carried.Carried.{Carried as Carries}
@@ -44,7 +45,6 @@ use Rattle.sms_world.proofs.headline.DecidedTimely.{number_by, numbered_there, s
 use Rattle.sms_world.proofs.messages_have_origins.HandsetOriginators.{IsAsked}
 use Rattle.sms_world.proofs.scripts_are_runs.Bags.{frame_found, row_seen as bag_seen}
 use Rattle.sms_world.specs.headline.Origins.{IsOfHandset}
-use Rattle.sms_world.proofs.Options.{some_is}
 use Rattle.sms_world.proofs.SeenParts.{small, only_one, seen_of, none_seen, row_seen}
 use Rattle.sms_world_model.proofs.Frames.{one_number}
 
@@ -122,7 +122,7 @@ module _ (c : PlayState) (w : World) (s : PlayRefines c w) (u : Submission) (st 
       let part : UserData = known.2.1.0 in
       let has : HasPart u 1 part = subst (λ (z : Submission). HasPart z 1 part) mine known.2.1.1.0 in
       let is_data : part ≡ text = (let both : Some part ≡ Some text = sym has ∙ first in cc) in
-      let seen_is : seen.0.tpdu ≡ compared p.tpdu = ap (λ (z : PartSeen). z.tpdu) (sym (some_is (seen_of p) seen.0 (ap part_seen (sym row.1) ∙ octet.1))) in
+      let seen_is : seen.0.tpdu ≡ compared p.tpdu = ap (λ (z : PartSeen). z.tpdu) (sym (same_Some (seen_of p) seen.0 (ap part_seen (sym row.1) ∙ octet.1))) in
       record {
         part = p;
         part_there = row.1;
@@ -134,7 +134,7 @@ module _ (c : PlayState) (w : World) (s : PlayRefines c w) (u : Submission) (st 
             let in_u : HasPart u y.number z.0 = subst (λ (v : Submission). HasPart v y.number z.0) same z.1 in
             let bounds = part_within u.parts y.number z.0 in_u in
             let number : y.number ≡ 1 = only_one y.number bounds.0 (subst (λ (ps : List UserData). y.number ≤ length ps) asks.parts bounds.1) in
-            some_is y p (sym at_y ∙ ap (λ (k : ℕ). part_at m.id k c.centre.rows.parts) number ∙ row.1);
+            same_Some y p (sym at_y ∙ ap (λ (k : ℕ). part_at m.id k c.centre.rows.parts) number ∙ row.1);
         row = subst (λ (z : Submission). IsRowOf m z) same t.2.1;
         moment = g.0;
         deliver = subst (λ (z : Submission × UserData × List ℕ). IsDeliverOf z.0 z.1 g.0 z.2) (λ j. (mine j, is_data j, seen_is j)) known.2.1.1.1;

@@ -31,7 +31,7 @@ use Rattle.sms_play.specs.Setups.{beginning, can_be_played}
 use Rattle.sms_world_model.specs.World.{World, empty}
 use Rattle.sms_world.specs.scripts_are_runs.PlayRuns.{AllHandOctets, AreGood}
 use Rattle.sms_world.specs.scripts_are_runs.PlayRefinement.{PlayRefines}
-use Rattle.sms_world.proofs.scripts_are_runs.Events.{event_leads, ok_play, same_play}
+use Rattle.sms_world.proofs.scripts_are_runs.Events.{event_leads}
 use Rattle.sms_world.proofs.scripts_are_runs.Runs.{unplayed}
 use Rattle.sms_world.proofs.scripts_are_runs.Courses.{first_of}
 use Rattle.sms_world.proofs.headline.SplitPlays.{all_preserved}
@@ -46,6 +46,7 @@ use Rattle.sms_world.proofs.messages_have_origins.SubmittedMoments.{made_then}
 use Rattle.sms_world.proofs.messages_have_origins.Unmoved.{Rows, rows_in, rows_of}
 use Rattle.sms_world.proofs.headline.ScriptCourses.{course_of}
 use Rattle.sms_world.specs.headline.OneRun.{world_after}
+use Rattle.sms_play.proofs.answers.PlayAnswers.{ok_play, same_play}
 
 -- ---- along a course
 

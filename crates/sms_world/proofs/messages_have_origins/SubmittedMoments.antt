@@ -2,6 +2,7 @@
 use Rattle.std.proofs.Common.{◌≡◌, inl, inr, ℕ, ◌+◌, ◌≤◌, List, [], ◌∷◌, Option, Some, None, refl, sym, ◌∙◌, ap, subst, ⊎_elim, arith}
 use Rattle.std.specs.Prelude.{nat_le}
 use Rattle.std.proofs.lemmas.Bool.{cond_both}
+use Rattle.std.proofs.lemmas.Option.{same_Some}
 use Rattle.sms_base.specs.Among.{Among}
 use Rattle.sms_base.specs.declared.final_state.FinalState.{FinalState}
 use Rattle.sms_base.specs.declared.final_state.FinalState.TheVariants.{Delivered}
@@ -17,7 +18,7 @@ use Rattle.sms_centre_rows.specs.messages.Messages.{Messages, all_done, ended, m
 use Rattle.sms_centre_rows.specs.messages.SplitReferences.{next_split}
 use Rattle.sms_centre_rows.specs.waiting.References.{handset_of}
 use Rattle.sms_centre_rows.specs.waiting.Trying.{finished}
-use Rattle.sms_centre_draft.proofs.walks.MomentStays.{end_moment}
+use Rattle.sms_centre_spec.proofs.MomentStays.{end_moment}
 use Rattle.sms_centre_spec.specs.CentreEvent.{happened}
 use Rattle.sms_centre_spec.specs.Draft.{Core, Store, bars_in, core_of, draft_of, handsets_in, messages_in, parts_in, rows_of, with_part_at}
 use Rattle.sms_centre_spec.specs.Ends.{end}
@@ -57,12 +58,12 @@ use Rattle.sms_world.proofs.messages_have_origins.EventNumbers.{EventSays, new_o
 use Rattle.sms_world.proofs.messages_have_origins.EventsMake.{WasStoredIn}
 use Rattle.sms_world.proofs.split_messages_stay.KeptMessages.{IsSaid, OfRow, row_lasts, said_on}
 use Rattle.sms_world.proofs.scripts_are_runs.EventMoments.{event_moment}
-use Rattle.sms_world.proofs.scripts_are_runs.Events.{event_leads, ok_play}
+use Rattle.sms_world.proofs.scripts_are_runs.Events.{event_leads}
 use Rattle.sms_world.proofs.scripts_are_runs.Meetings.{MeetsCentre, meets}
 use Rattle.sms_world.proofs.split_messages_stay.MadeParts.{Accepts, IsAccepted, accept_leads}
-use Rattle.sms_world.proofs.Options.{some_is}
 use Rattle.sms_world.proofs.scripts_are_runs.PartsInOrder.{end_touches}
 use Rattle.sms_world.proofs.scripts_are_runs.Growing.{none_less}
+use Rattle.sms_play.proofs.answers.PlayAnswers.{ok_play}
 
 -- ---- a submission is accepted at the moment of the store, which stays
 
@@ -222,4 +223,4 @@ module _ (n : ℕ) (e : WorldEvent) (es : List WorldEvent) (c next d : PlayState
       let now : IsSaid m.id (OfRow IsThen) next.centre.rows.messages next.centre.rows.parts = (x, (there, new)) in
       let l = event_leads n e c next w s good octets is in
       let last = all_preserved (IsSaid m.id (OfRow IsThen)) (said_on m.id (OfRow IsThen) (row_lasts IsThen (λ f k y p. p))) (n + 1) es next d (world_end w (happened_in (happening_of e c.centre.moment) l.0)) l.1.2 now goods more leads in
-      subst (λ (z : MessageRow). IsThen z) (some_is last.0 m (sym last.1.0 ∙ at)) last.1.1
+      subst (λ (z : MessageRow). IsThen z) (same_Some last.0 m (sym last.1.0 ∙ at)) last.1.1

@@ -1,5 +1,6 @@
 -- An event of the centre tells what its steps gave.
 use Rattle.std.proofs.Common.{◌≡◌, ℕ, List, ◌++◌, Bool, sym, ◌∙◌, ap, subst}
+use Rattle.sms_base.proofs.Lists.{among_back, among_front}
 use Rattle.sms_base.specs.Among.{Among}
 use Rattle.sms_centre_spec.specs.CentreEvent.{happened}
 use Rattle.sms_play.specs.CentreSide.{given_by}
@@ -13,7 +14,7 @@ use Rattle.sms_world_model.proofs.Sound.{IsSound as IsSoundWorld}
 use Rattle.sms_world.specs.scripts_are_runs.AllocationLaws.{IsReached, AgreementLaw}
 use Rattle.sms_world.specs.headline.SeenWorld.{AgreesDown}
 use Rattle.sms_world.proofs.scripts_are_runs.GivenBy.{event_agrees}
-use Rattle.sms_world.proofs.scripts_are_runs.Growing.{GrownOnce, in_front, in_rest, not_twice, steps_grow}
+use Rattle.sms_world.proofs.scripts_are_runs.Growing.{GrownOnce, not_twice, steps_grow}
 use Rattle.sms_world.proofs.scripts_are_runs.HoldersApart.{event_differs, rows_now}
 use Rattle.sms_world.proofs.scripts_are_runs.PutsReported.{rows_fall}
 use Rattle.sms_world.proofs.scripts_are_runs.Latest.{agrees_more}
@@ -46,6 +47,6 @@ event_reported event c w m b steps given sound is moment one reached run before 
       now = once.grown.now;
       differ = event_differs event c sound is;
       new = λ x y i j e.
-          let same : x ≡ y = world.single x y (there x (in_front x ds w.down i)) (there y (in_rest y ds w.down j)) e in
+          let same : x ≡ y = world.single x y (there x (among_front x ds w.down i)) (there y (among_back y ds w.down j)) e in
           not_twice ds w.down (subst (λ (gs : List Allocation). GivenOnce gs) once.grown.is world.given) x i (subst (λ (z : Allocation). Among z w.down) (sym same) j);
     }))

@@ -2,6 +2,7 @@
 use Rattle.std.proofs.Common.{◌≡◌, ℕ, ◌+◌, arith, suc, List, [], ◌∷◌, ◌++◌, length, true, false, refl, sym, ◌∙◌, ap, subst, inl, inr, ⊎_elim, Some}
 use Rattle.std.specs.Prelude.{◌⊎◌, ◌==◌}
 use Rattle.std.proofs.lemmas.Bool.{cases_Bool, cond-false, cond-true, eqb-true}
+use Rattle.std.proofs.lemmas.Option.{same_Some}
 use Rattle.sms_base.proofs.Lists.{among_end}
 use Rattle.sms_base.specs.Among.{Among}
 use Rattle.sms_link.specs.declared.outgoing.Outgoing.{Outgoing}
@@ -18,7 +19,6 @@ use Rattle.sms_world.specs.headline.SeenFrames.{sent_as, sent_down}
 use Rattle.sms_world.specs.centres_refine_the_world.FramesOut.{AreWholeDown, stacked_down}
 use Rattle.sms_world.specs.scripts_are_runs.PlayRefinement.{IsSentRow}
 use Rattle.sms_world.specs.headline.SeenWorld.{all_seen, sent_row}
-use Rattle.sms_world.proofs.Options.{some_is}
 
 -- ---- one more frame
 
@@ -84,7 +84,7 @@ pub frame_found : (n : ℕ) (fs : List FrameRow) (f : FrameRow) → frame_at n f
 frame_found n [] f e = absurd cc
 frame_found n (x ∷ xs) f e = ⊎_elim
     (λ (y : (x.number == n) ≡ true).
-    let q : x ≡ f = some_is x f (sym (cond-true (x.number == n) (Some x) (frame_at n xs) y) ∙ e) in
+    let q : x ≡ f = same_Some x f (sym (cond-true (x.number == n) (Some x) (frame_at n xs) y) ∙ e) in
     (inl (sym q), ap (λ (z : FrameRow). z.number) (sym q) ∙ eqb-true x.number n y))
     (λ (y : (x.number == n) ≡ false).
     let r = frame_found n xs f (sym (cond-false (x.number == n) (Some x) (frame_at n xs) y) ∙ e) in (inr r.0, r.1))

@@ -12,7 +12,8 @@ use Rattle.sms_world.specs.headline.OneRun.{world_after}
 use Rattle.sms_world.specs.scripts_are_runs.Happening.{HandsOctets, IsGoodEvent}
 use Rattle.sms_world.specs.scripts_are_runs.PlayRefinement.{PlayRefines}
 use Rattle.sms_world.specs.scripts_are_runs.PlayRuns.{AllHandOctets, AreGood, LeadsTo}
-use Rattle.sms_world.proofs.scripts_are_runs.Events.{event_leads, ok_play, same_play}
+use Rattle.sms_world.proofs.scripts_are_runs.Events.{event_leads}
+use Rattle.sms_play.proofs.answers.PlayAnswers.{ok_play, same_play}
 
 -- ---- what comes of the first event, and then of the others
 

@@ -23,12 +23,7 @@ use Rattle.sms_world.proofs.scripts_are_runs.CentreMeets.{centre_goes, centre_re
 use Rattle.sms_world.proofs.scripts_are_runs.HandsetMeets.{EventIsSteps, answer_refines, handset_goes, handset_stops, restart_refines, restarted_refines}
 use Rattle.sms_world.proofs.scripts_are_runs.Meetings.{Meets, meets, number_of}
 use Rattle.sms_world.proofs.scripts_are_runs.Parties.{party_found}
-
-abbrev pub ok_play : PlayState → Result PlayState PlayFault
-ok_play c = Ok c
-
-pub same_play : (x d : PlayState) → ok_play x ≡ ok_play d → x ≡ d
-same_play x d e = cc
+use Rattle.sms_play.proofs.answers.PlayAnswers.{ok_play, same_play}
 
 -- what comes of a meeting
 then_ok : (r : Result Meeting PlayFault) (f : Meeting → PlayState) (d : PlayState) → (r >>= λ (m : Meeting). ok_play (f m)) ≡ ok_play d → (m : Meeting) × ((r ≡ Ok m) × (f m ≡ d))

@@ -1,5 +1,7 @@
 -- The rows that an event of the centre tells are the allocations that its steps gave.
 use Rattle.std.proofs.Common.{◌≡◌, ℕ, ◌<◌, List, [], ◌∷◌, refl, sym, ◌∙◌, ap, subst, inl, inr, ⊎_elim, Option, Some, None}
+use Rattle.std.proofs.lemmas.Option.{same_Some}
+use Rattle.sms_base.proofs.Lists.{among_back, among_front, among_parts}
 use Rattle.sms_base.specs.Among.{Among}
 use Rattle.sms_base.specs.declared.holder.Holder.{Holder}
 use Rattle.sms_base.specs.declared.holder.Holder.TheVariants.{Part, Report, Entry, Memory}
@@ -40,11 +42,10 @@ use Rattle.sms_world.specs.centres_refine_the_world.RefinesGiven.{given_part, gi
 use Rattle.sms_world.specs.headline.SeenWorld.{PartSeen, part_seen, parts_by}
 use Rattle.sms_world.specs.centres_refine_the_world.RefinesReports.{ReportSeen, report_seen}
 use Rattle.sms_world.specs.scripts_are_runs.AllocationLaws.{HoldersSee}
-use Rattle.sms_world.proofs.scripts_are_runs.Growing.{Grown, either_part, in_front, in_rest, not_twice}
+use Rattle.sms_world.proofs.scripts_are_runs.Growing.{Grown, not_twice}
 use Rattle.sms_world.proofs.scripts_are_runs.Latest.{RecordAll, Records}
 use Rattle.sms_world.proofs.scripts_are_runs.PartMoves.{IsNewPart, IsSame, new_was_put, put_is_new}
 use Rattle.sms_world.proofs.scripts_are_runs.ReportMoves.{Reporting, came, committed, event_reports, new_report_put, put_report_new}
-use Rattle.sms_world.proofs.Options.{some_is}
 use Rattle.sms_world.proofs.SeenParts.{small, none_seen, seen_of}
 
 -- ---- rows of parts and of status reports
@@ -97,7 +98,7 @@ in_reports moment ms [] g i = absurd i
 in_reports moment ms (Put r ∷ cs) g i = ⊎_elim
     (λ (j : Among g (report_given moment r.id (source_in (message_at r.id ms)) r.kind)). in_kind moment ms r cs r.kind refl g j)
     (λ (j : Among g (reports_given moment ms cs)). later_row moment ms (Put r) cs g (in_reports moment ms cs g j))
-    (either_part g (report_given moment r.id (source_in (message_at r.id ms)) r.kind) (reports_given moment ms cs) i)
+    (among_parts g (report_given moment r.id (source_in (message_at r.id ms)) r.kind) (reports_given moment ms cs) i)
 in_reports moment ms (Amend n q ∷ cs) g i = later_row moment ms (Amend n q) cs g (in_reports moment ms cs g i)
 in_reports moment ms (Remove n ∷ cs) g i = later_row moment ms (Remove n) cs g (in_reports moment ms cs g i)
 
@@ -111,9 +112,9 @@ report_there moment ms (Put x ∷ cs) r reference tpdu e i = ⊎_elim
     let first : Among (report_row moment ms x.id reference) (report_given moment x.id (source_in (message_at x.id ms)) x.kind) =
     subst (λ (k : ReportKind). Among (report_row moment ms x.id reference) (report_given moment x.id (source_in (message_at x.id ms)) k)) (sym kind) (inl refl) in
     subst (λ (z : ReportRow). Among (report_row moment ms z.id reference) (reports_given moment ms (Put x ∷ cs))) (sym same)
-    (in_front (report_row moment ms x.id reference) (report_given moment x.id (source_in (message_at x.id ms)) x.kind) (reports_given moment ms cs) first))
+    (among_front (report_row moment ms x.id reference) (report_given moment x.id (source_in (message_at x.id ms)) x.kind) (reports_given moment ms cs) first))
     (λ (j : Among (Put r) cs).
-    in_rest (report_row moment ms r.id reference) (report_given moment x.id (source_in (message_at x.id ms)) x.kind) (reports_given moment ms cs) (report_there moment ms cs r reference tpdu e j))
+    among_back (report_row moment ms r.id reference) (report_given moment x.id (source_in (message_at x.id ms)) x.kind) (reports_given moment ms cs) (report_there moment ms cs r reference tpdu e j))
     i
 report_there moment ms (Amend n q ∷ cs) r reference tpdu e i = ⊎_elim (λ (z : Put r ≡ Amend n q). absurd cc) (λ (j : Among (Put r) cs). report_there moment ms cs r reference tpdu e j) i
 report_there moment ms (Remove n ∷ cs) r reference tpdu e i = ⊎_elim (λ (z : Put r ≡ Remove n). absurd cc) (λ (j : Among (Put r) cs). report_there moment ms cs r reference tpdu e j) i
@@ -126,7 +127,7 @@ none_report s e = absurd cc
 -- the row that a part is seen of
 seen_row : (o : Option PartRow) (s : PartSeen) → part_seen o ≡ Some s → (p : PartRow) × ((o ≡ Some p) × (s ≡ seen_of p))
 seen_row None s e = absurd (none_seen s e)
-seen_row (Some p) s e = (p, (refl, sym (some_is (seen_of p) s e)))
+seen_row (Some p) s e = (p, (refl, sym (same_Some (seen_of p) s e)))
 
 pub seen_report_row : (o : Option ReportRow) (s : ReportSeen) → report_seen o ≡ Some s → (r : ReportRow) × ((o ≡ Some r) × (r.kind ≡ s.kind))
 seen_report_row None s e = absurd (none_report s e)
@@ -167,16 +168,16 @@ module _ (event : CentreEvent) (c : Core) (sound : IsSoundCore c) (is : IsEvent 
 
   -- what stood in the world before is told by the rows from before
   is_new_there : (x : Allocation) → Among x v.down → (Among x w.down → ⊥) → Among x grown.more
-  is_new_there x i old = ⊎_elim (λ (j : Among x grown.more). j) (λ (j : Among x w.down). absurd (old j)) (either_part x grown.more w.down (subst (λ (ds : List Allocation). Among x ds) grown.is i))
+  is_new_there x i old = ⊎_elim (λ (j : Among x grown.more). j) (λ (j : Among x w.down). absurd (old j)) (among_parts x grown.more w.down (subst (λ (ds : List Allocation). Among x ds) grown.is i))
 
   not_before : (x : Allocation) → Among x grown.more → Among x w.down → ⊥
   not_before x i j = not_twice grown.more w.down (subst (λ (ds : List Allocation). GivenOnce ds) grown.is world.given) x i j
 
   still_there : (x : Allocation) → Among x w.down → Among x v.down
-  still_there x i = subst (λ (ds : List Allocation). Among x ds) (sym grown.is) (in_rest x grown.more w.down i)
+  still_there x i = subst (λ (ds : List Allocation). Among x ds) (sym grown.is) (among_back x grown.more w.down i)
 
   new_there : (x : Allocation) → Among x grown.more → Among x v.down
-  new_there x i = subst (λ (ds : List Allocation). Among x ds) (sym grown.is) (in_front x grown.more w.down i)
+  new_there x i = subst (λ (ds : List Allocation). Among x ds) (sym grown.is) (among_front x grown.more w.down i)
 
   abbrev Given : GivenRow → Type 0
   Given g = (x : Allocation) × (Among x grown.more × Records g x)
@@ -273,7 +274,7 @@ module _ (event : CentreEvent) (c : Core) (sound : IsSoundCore c) (is : IsEvent 
       let id_is : p.id ≡ id = sym same.id ∙ ids.0 in (
         part_row mo after.messages p,
         (
-          in_front (part_row mo after.messages p) (parts_given mo after.messages part_changes) (reports_given mo after.messages (changes_in d.store).reports) (part_there mo after.messages part_changes p put.1.0),
+          among_front (part_row mo after.messages p) (parts_given mo after.messages part_changes) (reports_given mo after.messages (changes_in d.store).reports) (part_there mo after.messages part_changes p put.1.0),
           record {
             side = refl;
             handset = ap (λ (z : Allocation). z.handset) y.2.2 ∙ sym (ap destination_in (ap (λ (k : ℕ). message_at k after.messages) id_is ∙ y.2.0));
@@ -288,7 +289,7 @@ module _ (event : CentreEvent) (c : Core) (sound : IsSoundCore c) (is : IsEvent 
   had_none x id i e q now reference tpdu kind None at = refl
   had_none x id i e q now reference tpdu kind (Some r) at =
       let k = (keeps_rows event c sound is).reports id r at in
-      let same : k.0 ≡ q = some_is k.0 q (sym k.1.0 ∙ now) in
+      let same : k.0 ≡ q = same_Some k.0 q (sym k.1.0 ∙ now) in
       let was : r.kind ≡ Status reference tpdu = sym k.1.1.kind ∙ ap (λ (z : ReportRow). z.kind) same ∙ kind in
       let found = report_found id r c.rows.reports at in
       let message = (sound.rows.reports.each r found.0).message in
@@ -312,7 +313,7 @@ module _ (event : CentreEvent) (c : Core) (sound : IsSoundCore c) (is : IsEvent 
       let id_is : r.id ≡ id = put.1.1 in (
         report_row mo after.messages r.id y.2,
         (
-          in_rest (report_row mo after.messages r.id y.2) (parts_given mo after.messages part_changes) (reports_given mo after.messages (changes_in d.store).reports)
+          among_back (report_row mo after.messages r.id y.2) (parts_given mo after.messages part_changes) (reports_given mo after.messages (changes_in d.store).reports)
               (report_there mo after.messages (changes_in d.store).reports r y.2 y.3 (put.1.2 ∙ kind) (committed (Put r) d.store.reports.news put.1.0)),
           record {
             side = refl;
@@ -338,7 +339,7 @@ module _ (event : CentreEvent) (c : Core) (sound : IsSoundCore c) (is : IsEvent 
       (λ (j : Among g (reports_given mo after.messages (changes_in d.store).reports)).
       let x = in_reports mo after.messages (changes_in d.store).reports g j in
       subst (λ (z : GivenRow). Given z) (sym x.row) (report_is_given x.report x.reference x.tpdu x.kind x.among))
-      (either_part g (parts_given mo after.messages part_changes) (reports_given mo after.messages (changes_in d.store).reports) i)
+      (among_parts g (parts_given mo after.messages part_changes) (reports_given mo after.messages (changes_in d.store).reports) i)
 
   pub event_agrees : RecordAll (given_by d) grown.more
   event_agrees = record {

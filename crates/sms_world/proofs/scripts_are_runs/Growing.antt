@@ -1,8 +1,9 @@
 -- What steps give goes on top of what was given, all of it at their moment; and the parts of the one submission that they take, if any,
 -- in order.
-use Rattle.std.proofs.Common.{◌≡◌, ℕ, suc, ◌+◌, ◌*◌, ◌<◌, ◌≤◌, List, [], ◌∷◌, ◌++◌, Bool, refl, sym, ◌∙◌, ap, subst, inl, inr, ⊎_elim, arith}
+use Rattle.std.proofs.Common.{◌≡◌, ℕ, suc, ◌+◌, ◌*◌, ◌<◌, ◌≤◌, List, [], ◌∷◌, ◌++◌, Bool, refl, sym, ◌∙◌, ap, subst, ⊎_elim, arith}
 use Rattle.std.specs.Prelude.{◌⊎◌}
 use Rattle.std.proofs.lemmas.List.{append-nil, append_assoc}
+use Rattle.sms_base.proofs.Lists.{among_back, among_parts}
 use Rattle.sms_base.specs.Among.{Among}
 use Rattle.sms_world_model.specs.Agreement.{GivenOnce}
 use Rattle.sms_world_model.specs.References.{Ticket, given_parts, part_allocation, report_allocation}
@@ -23,23 +24,11 @@ pub record Grown (m : ℕ) (old new : List Allocation) : Type 0 where
 abbrev none_more : (m : ℕ) (down : List Allocation) → Grown m down down
 none_more m down = record { more = []; is = refl; now = λ g i. absurd i }
 
-pub either_part : {A : Type 0} (x : A) (xs ys : List A) → Among x (xs ++ ys) → Among x xs ⊎ Among x ys
-either_part x [] ys i = inr i
-either_part x (z ∷ zs) ys i = ⊎_elim (λ (e : x ≡ z). inl (inl e)) (λ (j : Among x (zs ++ ys)). ⊎_elim (λ (k : Among x zs). inl (inr k)) (λ (k : Among x ys). inr k) (either_part x zs ys j)) i
-
-pub in_front : {A : Type 0} (x : A) (xs ys : List A) → Among x xs → Among x (xs ++ ys)
-in_front x [] ys i = absurd i
-in_front x (z ∷ zs) ys i = ⊎_elim (λ (e : x ≡ z). inl e) (λ (j : Among x zs). inr (in_front x zs ys j)) i
-
-pub in_rest : {A : Type 0} (x : A) (xs ys : List A) → Among x ys → Among x (xs ++ ys)
-in_rest x [] ys i = i
-in_rest x (z ∷ zs) ys i = inr (in_rest x zs ys i)
-
 abbrev then_grown : (m : ℕ) (a b c : List Allocation) → Grown m a b → Grown m b c → Grown m a c
 then_grown m a b c x y = record {
   more = y.more ++ x.more;
   is = y.is ∙ ap (λ (z : List Allocation). y.more ++ z) x.is ∙ sym (append_assoc y.more x.more a);
-  now = λ g i. ⊎_elim (λ (j : Among g y.more). y.now g j) (λ (j : Among g x.more). x.now g j) (either_part g y.more x.more i);
+  now = λ g i. ⊎_elim (λ (j : Among g y.more). y.now g j) (λ (j : Among g x.more). x.now g j) (among_parts g y.more x.more i);
 }
 
 abbrev one_more : (m : ℕ) (g : Allocation) (down : List Allocation) → g.moment ≡ m → Grown m down (g ∷ down)
@@ -114,7 +103,7 @@ parts_grow s m n (t ∷ ts) down =
           (λ (j : Among x (own ∷ [])). ⊎_elim
           (λ (e : x ≡ own). (ap (λ (z : PartGiven). z.id) e, subst (λ (q : ℕ). n ≤ q) (ap (λ (z : PartGiven). z.number) (sym e)) (none_less n)))
           (λ none. absurd none) j)
-          (either_part x (parts_given y.grown.more) (own ∷ []) (subst (λ (ps : List PartGiven). Among x ps) is i));
+          (among_parts x (parts_given y.grown.more) (own ∷ []) (subst (λ (ps : List PartGiven). Among x ps) is i));
     }
 
 once_step : (w : World) (m : ℕ) (s : Step) → GrownOnce m w.down (after w m s).down
@@ -158,6 +147,6 @@ not_twice [] down once x i j = i
 not_twice (g ∷ ds) down once x i j = ⊎_elim
     (λ (e : x ≡ g). below_itself x.moment
     (subst (λ (z : Allocation). x.moment < z.moment) (sym e)
-    (was_earlier (ds ++ down) x g.handset g.reference g.moment once.0 (in_rest x ds down j) (ap (λ (z : Allocation). z.handset) e) (ap (λ (z : Allocation). z.reference) e))))
+    (was_earlier (ds ++ down) x g.handset g.reference g.moment once.0 (among_back x ds down j) (ap (λ (z : Allocation). z.handset) e) (ap (λ (z : Allocation). z.reference) e))))
     (λ (k : Among x ds). not_twice ds down once.1 x k j)
     i

@@ -1,5 +1,6 @@
 -- The rows that an event of the centre tells are of holders that differ, all at the moment of the event.
 use Rattle.std.proofs.Common.{◌≡◌, ℕ, ◌<◌, arith, List, [], ◌∷◌, ◌++◌, refl, sym, ◌∙◌, ap, subst, inl, inr, ⊎_elim}
+use Rattle.sms_base.proofs.Lists.{among_parts}
 use Rattle.sms_base.specs.Among.{Among}
 use Rattle.sms_base.specs.declared.holder.Holder.TheVariants.{Part, Report}
 use Rattle.sms_script.specs.declared.report.rows.GivenRow.{GivenRow}
@@ -22,7 +23,6 @@ use Rattle.sms_centre_spec.specs.declared.event.CentreEvent.{CentreEvent}
 use Rattle.sms_play.specs.CentreSide.{given_by, parts_given as part_rows, report_given, reports_given, source_in}
 use Rattle.sms_world.specs.headline.SeenWorld.{HoldersDiffer}
 use Rattle.sms_world.proofs.scripts_are_runs.GivenBy.{IsReportRow, in_parts, in_reports, part_row}
-use Rattle.sms_world.proofs.scripts_are_runs.Growing.{either_part}
 use Rattle.sms_world.proofs.scripts_are_runs.Latest.{differ_append}
 use Rattle.sms_world.proofs.scripts_are_runs.PartsInOrder.{AllBelow, PutsFall, event_puts}
 use Rattle.sms_world.proofs.scripts_are_runs.PutsReported.{rows_over}
@@ -51,7 +51,7 @@ arrived_so x [] i = absurd i
 arrived_so x (y ∷ news) i = ⊎_elim
     (λ (j : Among x (oldest_first news)). inr (arrived_so x news j))
     (λ (j : Among x (y ∷ [])). ⊎_elim (λ (e : x ≡ y). inl e) (λ none. absurd none) j)
-    (either_part x (oldest_first news) (y ∷ []) i)
+    (among_parts x (oldest_first news) (y ∷ []) i)
 
 same_part : (a b m n : ℕ) → Part a m ≡ Part b n → (a ≡ b) × (m ≡ n)
 same_part a b m n e = (let x : a ≡ b = cc in x, let y : m ≡ n = cc in y)
@@ -151,4 +151,4 @@ rows_now d g i =
     ⊎_elim
     (λ (j : Among g (part_rows moment ms (changes_in d.store).parts)). let x = in_parts moment ms (changes_in d.store).parts g j in ap (λ (z : GivenRow). z.moment) x.1.1)
     (λ (j : Among g (reports_given moment ms (changes_in d.store).reports)). ap (λ (z : GivenRow). z.moment) (in_reports moment ms (changes_in d.store).reports g j).row)
-    (either_part g (part_rows moment ms (changes_in d.store).parts) (reports_given moment ms (changes_in d.store).reports) i)
+    (among_parts g (part_rows moment ms (changes_in d.store).parts) (reports_given moment ms (changes_in d.store).reports) i)

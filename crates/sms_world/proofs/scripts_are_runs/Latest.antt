@@ -4,6 +4,8 @@ use Rattle.std.specs.Prelude.{◌==◌, ◌&&◌}
 use Rattle.std.specs.Str.{bytes_eq}
 use Rattle.std.proofs.lemmas.Bool.{and_from, and_parts, and_right, both_ways, cases_Bool, cond-false, cond-true, eq-eqb, eqb-true}
 use Rattle.std.proofs.lemmas.Slice.Eq.{bytes_eq-Decides}
+use Rattle.std.proofs.lemmas.Option.{same_Some}
+use Rattle.sms_base.proofs.Lists.{among_back, among_front, among_parts}
 use Rattle.sms_base.specs.Among.{Among}
 use Rattle.sms_base.specs.declared.holder.Holder.{Holder}
 use Rattle.sms_script.specs.declared.report.rows.Direction.TheVariants.{Down}
@@ -12,9 +14,7 @@ use Rattle.sms_play.specs.Premises.{is_of_reference, is_same_side, last_holder}
 use Rattle.sms_world_model.specs.World.{Allocation, IsLatest}
 use Rattle.sms_base.specs.declared.holder.Holder.TheVariants.{Part, Report, Entry, Memory}
 use Rattle.sms_world.specs.headline.SeenWorld.{HoldersDiffer, IsDown, PartGiven, AgreesDown, latest_holder, parts_given, parts_reported, with_part}
-use Rattle.sms_world.proofs.scripts_are_runs.Growing.{either_part, in_front, in_rest}
 use Rattle.sms_world.proofs.scripts_are_runs.Falling.{Falls, part_from, part_to, parts_append, same_order, told_from, reported_on, told_over, told_to}
-use Rattle.sms_world.proofs.Options.{some_is}
 use Rattle.sms_world.proofs.scripts_are_runs.UpGrown.{IsOwnHolder}
 use Rattle.sms_script.specs.declared.report.rows.Direction.{Direction}
 
@@ -65,8 +65,8 @@ module _ (side : Direction) (h : List ℕ) (r : ℕ) where
   found_at : (g : GivenRow) (gs : List GivenRow) (k : Holder) → (o : Option Holder) → last None gs ≡ o → ((l : Holder) → o ≡ Some l → IsLast gs l) → (b : Bool) → of g ≡ b
       → or_else o (cond b (Some g.holder) None) ≡ Some k → IsLast (g ∷ gs) k
   found_at g gs k (Some l) q each b is e =
-      let x = each l refl in (x.0, (inr x.1.0, x.1.1, x.1.2 ∙ some_is l k e))
-  found_at g gs k None q each true is e = (g, (inl refl, is, some_is g.holder k e))
+      let x = each l refl in (x.0, (inr x.1.0, x.1.1, x.1.2 ∙ same_Some l k e))
+  found_at g gs k None q each true is e = (g, (inl refl, is, same_Some g.holder k e))
   found_at g gs k None q each false is e = absurd cc
 
   pub found_last : (gs : List GivenRow) (k : Holder) → last None gs ≡ Some k → IsLast gs k
@@ -105,7 +105,7 @@ module _ (side : Direction) (h : List ℕ) (r : ℕ) where
   pub found_latest : (ds : List Allocation) (k : Holder) → latest ds ≡ Some k → IsLatestOf ds k
   found_latest [] k e = absurd cc
   found_latest (g ∷ ds) k e = ⊎_elim
-      (λ (t : names h r g ≡ true). (g, (inl refl, t, some_is g.holder k (sym (cond-true (names h r g) (Some g.holder) (latest ds) t) ∙ e))))
+      (λ (t : names h r g ≡ true). (g, (inl refl, t, same_Some g.holder k (sym (cond-true (names h r g) (Some g.holder) (latest ds) t) ∙ e))))
       (λ (f : names h r g ≡ false). let x = found_latest ds k (sym (cond-false (names h r g) (Some g.holder) (latest ds) f) ∙ e) in (x.0, (inr x.1.0, x.1.1, x.1.2)))
       (cases_Bool (names h r g))
 
@@ -192,7 +192,7 @@ same_parts gs ds t rows allocations =
 pub differ_append : (xs ys : List GivenRow) → HoldersDiffer xs → HoldersDiffer ys → ((x y : GivenRow) → Among x xs → Among y ys → IsDown x → IsDown y → ¬ (x.holder ≡ y.holder)) → HoldersDiffer (xs ++ ys)
 differ_append [] ys a b apart = b
 differ_append (x ∷ xs) ys a b apart = (
-  λ is y i down. ⊎_elim (λ (j : Among y xs). a.0 is y j down) (λ (j : Among y ys). apart x y (inl refl) j is down) (either_part y xs ys i),
+  λ is y i down. ⊎_elim (λ (j : Among y xs). a.0 is y j down) (λ (j : Among y ys). apart x y (inl refl) j is down) (among_parts y xs ys i),
   differ_append xs ys a.1 b (λ z y i j. apart z y (inr i) j),
 )
 
@@ -211,28 +211,28 @@ pub record RecordNew (m : ℕ) (gs : List GivenRow) (ds down : List Allocation) 
 pub agrees_more : (m : ℕ) (given gs : List GivenRow) (down ds : List Allocation) → AgreesDown given down → RecordNew m gs ds down → AgreesDown (given ++ gs) (ds ++ down)
 agrees_more m given gs down ds tells t = record {
   each = λ g i is. ⊎_elim
-      (λ (j : Among g given). let x = tells.each g j is in (x.0, (in_rest x.0 ds down x.1.0, x.1.1)))
+      (λ (j : Among g given). let x = tells.each g j is in (x.0, (among_back x.0 ds down x.1.0, x.1.1)))
       (λ (j : Among g gs).
       let x = t.all.there g j in (
         x.0,
         (
-          in_front x.0 ds down x.1.0,
+          among_front x.0 ds down x.1.0,
           record { handset = x.1.1.handset; reference = x.1.1.reference; holder = x.1.1.holder; moment = t.now x.0 x.1.0 ∙ sym (t.rows_now g j) },
         ),
       ))
-      (either_part g given gs i);
+      (among_parts g given gs i);
   only = λ x i. ⊎_elim
       (λ (j : Among x ds).
       let g = t.all.told x j in (
         g.0,
         (
-          in_rest g.0 given gs g.1.0,
+          among_back g.0 given gs g.1.0,
           g.1.1.side,
           record { handset = g.1.1.handset; reference = g.1.1.reference; holder = g.1.1.holder; moment = t.now x j ∙ sym (t.rows_now g.0 g.1.0) },
         ),
       ))
-      (λ (j : Among x down). let g = tells.only x j in (g.0, (in_front g.0 given gs g.1.0, g.1.1, g.1.2)))
-      (either_part x ds down i);
+      (λ (j : Among x down). let g = tells.only x j in (g.0, (among_front g.0 given gs g.1.0, g.1.1, g.1.2)))
+      (among_parts x ds down i);
   differ = differ_append given gs tells.differ t.differ (λ x y i j is down_y e.
       let a = tells.each x i is in
       let b = t.all.there y j in
@@ -281,8 +281,8 @@ up_differ (g ∷ gs) all = ((λ is y i down. absurd (both_ways (is_same_side g.d
 
 pub agrees_still : (given gs : List GivenRow) (down : List Allocation) → AgreesDown given down → AllUp gs → AgreesDown (given ++ gs) down
 agrees_still given gs down tells all = record {
-  each = λ g i is. ⊎_elim (λ (j : Among g given). tells.each g j is) (λ (j : Among g gs). absurd (not_down g gs all j is)) (either_part g given gs i);
-  only = λ x i. let g = tells.only x i in (g.0, (in_front g.0 given gs g.1.0, g.1.1, g.1.2));
+  each = λ g i is. ⊎_elim (λ (j : Among g given). tells.each g j is) (λ (j : Among g gs). absurd (not_down g gs all j is)) (among_parts g given gs i);
+  only = λ x i. let g = tells.only x i in (g.0, (among_front g.0 given gs g.1.0, g.1.1, g.1.2));
   differ = differ_append given gs tells.differ (up_differ gs all) (λ x y i j is down_y e. not_down y gs all j down_y);
   last = λ h r. last_over Down h r None given gs ∙ still_last h r (last_holder None h Down r given) gs all ∙ tells.last h r;
   parts = told_over [] given gs ∙ still_parts (parts_reported [] given) gs all ∙ tells.parts;
@@ -296,7 +296,7 @@ latest_is h r k [] e = absurd cc
 latest_is h r k (g ∷ older) e = ⊎_elim
     (λ (t : names h r g ≡ true).
     let n = names_it h r g t in
-    (g, (inl refl, n.0, n.1, some_is g.holder k (sym (cond-true (names h r g) (Some g.holder) (latest_holder h r older) t) ∙ e))))
+    (g, (inl refl, n.0, n.1, same_Some g.holder k (sym (cond-true (names h r g) (Some g.holder) (latest_holder h r older) t) ∙ e))))
     (λ (f : names h r g ≡ false).
     let x = latest_is h r k older (sym (cond-false (names h r g) (Some g.holder) (latest_holder h r older) f) ∙ e) in
     (x.0, (inr ((λ s. both_ways (names h r g) f (named h r g (sym s.0 ∙ x.1.1) (sym s.1 ∙ x.1.2))), x.1.0), x.1.1, x.1.2, x.1.3)))

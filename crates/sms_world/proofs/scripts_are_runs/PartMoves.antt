@@ -2,7 +2,7 @@
 use Rattle.std.proofs.Common.{◌≡◌, ℕ, List, [], ◌∷◌, refl, sym, ◌∙◌, ap, subst, inl, inr, ⊎_elim, Option, Some, None}
 use Rattle.std.specs.Option.{option_map}
 use Rattle.std.proofs.lemmas.Bool.{cases_eq}
-use Rattle.std.proofs.lemmas.Option.{none-some}
+use Rattle.std.proofs.lemmas.Option.{none-some, same_Some}
 use Rattle.sms_base.specs.Among.{Among}
 use Rattle.sms_rows.specs.declared.table.change.Change.{Change}
 use Rattle.sms_rows.specs.table.Table.{row_at}
@@ -16,7 +16,6 @@ use Rattle.sms_centre_rows.specs.declared.waiting.revision.Revision.TheVariants.
 use Rattle.sms_centre_rows.specs.waiting.Revisions.{all_revised, amended, revised}
 use Rattle.sms_centre_rows.proofs.waiting.Amending.{row_at_amended, row_at_amended_other}
 use Rattle.sms_centre_messages.specs.references.Moves.{ArePartMoves, IsPartMove}
-use Rattle.sms_world.proofs.Options.{some_is}
 
 -- what stays of it
 pub record IsSame (p q : PartRow) : Type 0 where
@@ -105,7 +104,7 @@ module _ (cs : List (Change MessageRow)) (ms : List MessageRow) where
   new_was_put k q (Put x ∷ xs) ps moves none at = ⊎_elim
       (λ (e : part_key x ≡ k).
       let z = all_stay k x xs (revised part_key part_reaching (Put x) ps) moves.1 (ap (λ (n : ℕ). row_at part_key n (revised part_key part_reaching (Put x) ps)) (sym e) ∙ row_at_put part_key x ps) in
-      let same : z.0 ≡ q = some_is z.0 q (sym z.1.0 ∙ at) in
+      let same : z.0 ≡ q = same_Some z.0 q (sym z.1.0 ∙ at) in
       (x, (inl refl, e, subst (λ (y : PartRow). IsSame x y) same z.1.1)))
       (λ (ne : part_key x ≡ k → ⊥).
       let y = new_was_put k q xs (revised part_key part_reaching (Put x) ps) moves.1 (row_at_put_other part_key k x ps ne ∙ none) at in (y.0, (inr y.1.0, y.1.1, y.1.2)))

@@ -4,16 +4,16 @@ use Rattle.std.specs.Prelude.{◌⊎◌}
 use Rattle.std.specs.Str.{bytes_eq}
 use Rattle.std.proofs.lemmas.Bool.{both_ways, cases_Bool, cond-false, cond-true, cond_both}
 use Rattle.std.proofs.lemmas.Slice.Eq.{bytes_eq-Decides}
+use Rattle.std.proofs.lemmas.Option.{same_Some}
 use Rattle.sms_base.specs.Among.{Among}
 use Rattle.sms_centre_spec.specs.SoundCore.{AreDifferent}
 use Rattle.sms_play.specs.PlayState.{Party, numbers_of, party_at, with_party}
-use Rattle.sms_world.proofs.Options.{some_is}
 
 pub party_found : (n : List ℕ) (ps : List Party) (p : Party) → party_at n ps ≡ Some p → Among p ps × (p.number ≡ n)
 party_found n [] p e = absurd cc
 party_found n (x ∷ xs) p e = ⊎_elim
     (λ (y : bytes_eq x.number n ≡ true).
-    let q : x ≡ p = some_is x p (sym (cond-true (bytes_eq x.number n) (Some x) (party_at n xs) y) ∙ e) in
+    let q : x ≡ p = same_Some x p (sym (cond-true (bytes_eq x.number n) (Some x) (party_at n xs) y) ∙ e) in
     (inl (sym q), ap (λ (z : Party). z.number) (sym q) ∙ (bytes_eq-Decides x.number n).0 y))
     (λ (y : bytes_eq x.number n ≡ false).
     let r = party_found n xs p (sym (cond-false (bytes_eq x.number n) (Some x) (party_at n xs) y) ∙ e) in (inr r.0, r.1))

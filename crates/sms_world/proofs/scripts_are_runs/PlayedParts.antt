@@ -27,9 +27,9 @@ use Rattle.sms_play.specs.PlayedEvent.{centre_restarted, handset_restarted, hand
 use Rattle.sms_world_model.specs.World.{World}
 use Rattle.sms_world.specs.scripts_are_runs.Happening.{HandsOctets, IsGoodEvent}
 use Rattle.sms_world.specs.scripts_are_runs.PlayRefinement.{PlayRefines}
-use Rattle.sms_world.proofs.scripts_are_runs.Events.{ok_play, same_play}
 use Rattle.sms_world.proofs.scripts_are_runs.Meetings.{Meets, meets}
 use Rattle.sms_world.proofs.scripts_are_runs.Parties.{party_found}
+use Rattle.sms_play.proofs.answers.PlayAnswers.{ok_play, same_play}
 
 -- P is kept by each part of the n-th event, from c on. T is known of whom an act meets.
 pub record KeptByParts (P : PlayState → Type 0) (T : Act → Meeting → Type 0) (n : ℕ) (c : PlayState) : Type 0 where

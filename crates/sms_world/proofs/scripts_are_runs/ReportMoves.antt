@@ -2,7 +2,7 @@
 use Rattle.std.proofs.Common.{◌≡◌, ℕ, ◌+◌, List, [], ◌∷◌, ◌++◌, true, false, refl, sym, ◌∙◌, ap, subst, inl, inr, ⊎_elim, Option, Some, None}
 use Rattle.std.specs.Prelude.{◌==◌, nat_le}
 use Rattle.std.proofs.lemmas.Bool.{cases_eq, cond_both}
-use Rattle.std.proofs.lemmas.Option.{none-some}
+use Rattle.std.proofs.lemmas.Option.{none-some, same_Some}
 use Rattle.sms_base.proofs.Lists.{among_end}
 use Rattle.sms_base.specs.Among.{Among}
 use Rattle.sms_base.specs.declared.final_state.FinalState.{FinalState}
@@ -49,7 +49,6 @@ use Rattle.sms_centre_spec.proofs.AcceptedConsistent.{then_there}
 use Rattle.sms_centre_spec.proofs.StagesConsistent.{next_is_new}
 use Rattle.sms_centre_spec.proofs.Steady.{IsSteady, message_own}
 use Rattle.sms_centre_spec.proofs.SteadyEvents.{steady_event}
-use Rattle.sms_world.proofs.Options.{some_is}
 
 -- each report that came was of a message that had none, over the rows that those behind it led to
 abbrev pub ReportsMove : List (Revision ReportRow) → List ReportRow → Type 0
@@ -238,14 +237,14 @@ before_amend : (id n : ℕ) (p : Progress) (q : ReportRow) (news : List (Revisio
 before_amend id n p q news rs at made None e = absurd (none-some q (sym (far_none id n p (rows news rs) e) ∙ at))
 before_amend id n p q news rs at made (Some s) e =
     let y = made s e in
-    let same : so_far n p s ≡ q = some_is (so_far n p s) q (sym (far_of id n p (rows news rs) s e) ∙ at) in
+    let same : so_far n p s ≡ q = same_Some (so_far n p s) q (sym (far_of id n p (rows news rs) s e) ∙ at) in
     (y.0, (inr y.1.0, y.1.1, y.1.2 ∙ sym (far_kind n p s) ∙ ap (λ (z : ReportRow). z.kind) same))
 
 pub new_report_put : (id : ℕ) (q : ReportRow) (news : List (Revision ReportRow)) (rs : List ReportRow) → ReportsMove news rs → report_of id rs ≡ None → report_of id (rows news rs) ≡ Some q → WasMade id q.kind news
 new_report_put id q [] rs moves none at = absurd (none-some q (sym none ∙ at))
 new_report_put id q (Put x ∷ news) rs moves none at = ⊎_elim
     (λ (e : x.id ≡ id).
-    let same : x ≡ q = some_is x q (sym (new_report x (rows news rs) moves.0) ∙ ap (λ (k : ℕ). report_of k (put report_key x (rows news rs))) e ∙ at) in
+    let same : x ≡ q = same_Some x q (sym (new_report x (rows news rs) moves.0) ∙ ap (λ (k : ℕ). report_of k (put report_key x (rows news rs))) e ∙ at) in
     (x, (inl refl, e, ap (λ (z : ReportRow). z.kind) same)))
     (λ (ne : x.id ≡ id → ⊥).
     let y = new_report_put id q news rs moves.1 none (sym (new_report_other id x (rows news rs) moves.0 ne) ∙ at) in (y.0, (inr y.1.0, y.1.1, y.1.2)))

@@ -13,8 +13,9 @@ use Rattle.sms_world.specs.scripts_are_runs.PlayRuns.{RunLaw, ScriptLaw, after_p
 use Rattle.sms_world.specs.scripts_are_runs.PlayRefinement.{PlayRefines}
 use Rattle.sms_world.specs.headline.OneRun.{happening_of, world_after}
 use Rattle.sms_world.proofs.scripts_are_runs.Beginnings.{begins}
-use Rattle.sms_world.proofs.scripts_are_runs.Events.{event_leads, ok_play, same_play}
+use Rattle.sms_world.proofs.scripts_are_runs.Events.{event_leads}
 use Rattle.sms_world.proofs.scripts_are_runs.Courses.{first_of}
+use Rattle.sms_play.proofs.answers.PlayAnswers.{ok_play, same_play}
 
 -- the events happened, and lead to a world that the course sees
 abbrev Leads : World → List Happening → PlayState → Type 0

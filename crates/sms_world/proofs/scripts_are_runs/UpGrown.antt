@@ -2,7 +2,6 @@
 use Rattle.sms_base.specs.Among.{Among}
 use Rattle.sms_base.specs.declared.holder.Holder.{Holder}
 use Rattle.sms_base.specs.declared.holder.Holder.TheVariants.{Entry, Memory, Part, Report}
-use Rattle.sms_world.proofs.scripts_are_runs.Growing.{either_part, in_rest}
 use Rattle.sms_world.specs.scripts_are_runs.AllocationLaws.{IsReached}
 use Rattle.sms_world_model.specs.References.{IsNewHolder, Ticket, entry_allocation, memory_allocation}
 use Rattle.sms_world_model.specs.WorldStep.{Item, Run, end, after_item, Acknowledged, Can, Delete, Lapse, Offer_memory, Offer_up, Refused, Remove, Step, Submit, Write, after, is_entry, replaced}
@@ -14,6 +13,7 @@ use Rattle.std.proofs.Common.{ap, inl, inr, refl, subst, sym, ⊎_elim, ◌∙�
 use Rattle.std.proofs.lemmas.Bool.{cond_both}
 use Rattle.std.specs.Prelude.{Bool, List, [], ℕ, ◌++◌, ◌∷◌, ◌≡◌, ◌⊎◌}
 use Rattle.std.proofs.lemmas.List.{append_assoc}
+use Rattle.sms_base.proofs.Lists.{among_back, among_parts}
 use Rattle.sms_world_model.proofs.Upward.{entry_number}
 
 -- ---- one more giving
@@ -59,12 +59,12 @@ then_up : (h : List ℕ) (a b c : List Allocation) → UpGrown h a b → UpGrown
 then_up h a b c x y = record {
   more = y.more ++ x.more;
   is = y.is ∙ ap (λ (z : List Allocation). y.more ++ z) x.is ∙ sym (append_assoc y.more x.more a);
-  mine = λ z i. ⊎_elim (λ (j : Among z y.more). y.mine z j) (λ (j : Among z x.more). x.mine z j) (either_part z y.more x.more i);
-  own = λ z i. ⊎_elim (λ (j : Among z y.more). y.own z j) (λ (j : Among z x.more). x.own z j) (either_part z y.more x.more i);
+  mine = λ z i. ⊎_elim (λ (j : Among z y.more). y.mine z j) (λ (j : Among z x.more). x.mine z j) (among_parts z y.more x.more i);
+  own = λ z i. ⊎_elim (λ (j : Among z y.more). y.own z j) (λ (j : Among z x.more). x.own z j) (among_parts z y.more x.more i);
   fresh = λ z u i j s e. ⊎_elim
-      (λ (k : Among z y.more). y.fresh z u k (subst (λ (gs : List Allocation). Among u gs) (sym x.is) (in_rest u x.more a j)) s e)
+      (λ (k : Among z y.more). y.fresh z u k (subst (λ (gs : List Allocation). Among u gs) (sym x.is) (among_back u x.more a j)) s e)
       (λ (k : Among z x.more). x.fresh z u k j s e)
-      (either_part z y.more x.more i);
+      (among_parts z y.more x.more i);
 }
 
 step_up : (h : List ℕ) (w : World) (m : ℕ) (s : Step) → IsOfHandset h s → Can w m s → UpGrown h w.up (after w m s).up

@@ -15,8 +15,7 @@ use Rattle.sms_script.specs.declared.report.rows.Direction.TheVariants.{Up}
 use Rattle.sms_script.specs.declared.report.rows.GivenRow.{GivenRow}
 use Rattle.sms_world.proofs.entries_keep_references.Elsewhere.{AllElsewhere, last_elsewhere, agrees_still}
 use Rattle.sms_world.proofs.entries_keep_references.EntriesAgreeing.{Ends, IsOpen, IsRowFor, SentOne}
-use Rattle.sms_world.proofs.entries_keep_references.RowsGiven.{appended, last_over as last_over_up, last_own}
-use Rattle.sms_world.proofs.scripts_are_runs.Growing.{either_part, in_front, in_rest}
+use Rattle.sms_world.proofs.entries_keep_references.RowsGiven.{last_over as last_over_up, last_own}
 use Rattle.sms_world.proofs.scripts_are_runs.Latest.{found_last, found_latest, last_else, last_over, latest_else, named, names, names_it, none_last, none_latest, or_else}
 use Rattle.sms_world.proofs.scripts_are_runs.UpGrown.{HasEntry, IsOwnHolder, UpGrown, UpSingle}
 use Rattle.sms_world.specs.scripts_are_runs.PlayRefinement.{OwnAllocations}
@@ -24,12 +23,14 @@ use Rattle.sms_world.specs.headline.SeenWorld.{IsOfAllocationUp, IsUp, AgreesUp,
 use Rattle.sms_world_model.specs.World.{Allocation, World}
 use Rattle.sms_world_model.specs.WorldStep.{Step}
 use Rattle.sms_world.specs.handset_runs_are_steps.Refinement.{Refines}
-use Rattle.sms_world.proofs.Options.{some_is}
 use Rattle.std.proofs.Common.{ap, arith, inl, inr, refl, subst, sym, ⊎_elim, ◌∙◌}
 use Rattle.std.proofs.lemmas.Bool.{and_from, and_parts, both_ways, cases_Bool, cond-false, eq-eqb, eqb-true, ltb-false, ltb-true}
 use Rattle.std.proofs.lemmas.Slice.Eq.{bytes_eq-Decides}
 use Rattle.std.specs.Prelude.{List, None, Option, Some, [], false, nat_lt, true, ℕ, ◌&&◌, ◌++◌, ◌+◌, ◌<◌, ◌==◌, ◌∷◌, ◌≡◌, ◌≤◌, ◌⊎◌}
 use Rattle.std.specs.Str.{bytes_eq}
+use Rattle.std.proofs.lemmas.Option.{same_Some}
+use Rattle.std.proofs.lemmas.List.{append_assoc}
+use Rattle.sms_base.proofs.Lists.{among_back, among_front, among_parts}
 
 -- ---- rows and allocations of others
 
@@ -57,20 +58,20 @@ not_elsewhere h g (x ∷ gs) all i up own = ⊎_elim
 pub up_still : (h : List ℕ) (given more : List GivenRow) (up ds new : List Allocation) → new ≡ ds ++ up → AllElsewhere h more → ((x : Allocation) → Among x ds → ¬ (x.handset ≡ h)) → AgreesUp h given up → AgreesUp h (given ++ more) new
 up_still h given more up ds new is all other tells = subst (λ (us : List Allocation). AgreesUp h (given ++ more) us) (sym is) (record {
   each = λ g i side own. ⊎_elim
-      (λ (j : Among g given). let x = tells.each g j side own in (x.0, (in_rest x.0 ds up x.1.0, x.1.1)))
+      (λ (j : Among g given). let x = tells.each g j side own in (x.0, (among_back x.0 ds up x.1.0, x.1.1)))
       (λ (j : Among g more). absurd (not_elsewhere h g more all j side own))
-      (either_part g given more i);
+      (among_parts g given more i);
   only = λ x i own. ⊎_elim
       (λ (j : Among x ds). absurd (other x j own))
-      (λ (j : Among x up). let g = tells.only x j own in (g.0, (in_front g.0 given more g.1.0, g.1.1, g.1.2)))
-      (either_part x ds up i);
+      (λ (j : Among x up). let g = tells.only x j own in (g.0, (among_front g.0 given more g.1.0, g.1.1, g.1.2)))
+      (among_parts x ds up i);
   last = λ r. last_over Up h r None given more ∙ last_elsewhere (last_holder None h Up r given) h r more all ∙ tells.last r ∙ sym (latest_else Up h r ds up ∙ ap (λ (z : Option Holder). or_else z (latest_holder h r up)) (latest_other h r ds other));
 })
 
 pub own_still : (p : Party) (given more : List GivenRow) (up ds new : List Allocation) → new ≡ ds ++ up → AllElsewhere p.number more → OwnAllocations p given up → OwnAllocations p (given ++ more) new
 own_still p given more up ds new is all own = record {
   entries = agrees_still p.number p.core.rows.outbox given more all own.entries;
-  notices = λ n l. let x = own.notices n l in (x.0, (subst (λ (us : List Allocation). Among x.0 us) (sym is) (in_rest x.0 ds up x.1.0), x.1.1, x.1.2));
+  notices = λ n l. let x = own.notices n l in (x.0, (subst (λ (us : List Allocation). Among x.0 us) (sym is) (among_back x.0 ds up x.1.0), x.1.1, x.1.2));
 }
 
 -- ---- plain facts
@@ -132,13 +133,13 @@ module _ (h : List ℕ) (given gs : List GivenRow) (up ds : List Allocation) (te
   pub up_more : AgreesUp h (given ++ gs) (ds ++ up)
   up_more = record {
     each = λ g i side own. ⊎_elim
-        (λ (j : Among g given). let x = tells.each g j side own in (x.0, (in_rest x.0 ds up x.1.0, x.1.1)))
+        (λ (j : Among g given). let x = tells.each g j side own in (x.0, (among_back x.0 ds up x.1.0, x.1.1)))
         (λ (j : Among g gs). (n.row g j).2)
-        (either_part g given gs i);
+        (among_parts g given gs i);
     only = λ x i own. ⊎_elim
-        (λ (j : Among x ds). let g = n.told x j in (g.0, (in_rest g.0 given gs g.1.0, g.1.1, g.1.2)))
-        (λ (j : Among x up). let g = tells.only x j own in (g.0, (in_front g.0 given gs g.1.0, g.1.1, g.1.2)))
-        (either_part x ds up i);
+        (λ (j : Among x ds). let g = n.told x j in (g.0, (among_back g.0 given gs g.1.0, g.1.1, g.1.2)))
+        (λ (j : Among x up). let g = tells.only x j own in (g.0, (among_front g.0 given gs g.1.0, g.1.1, g.1.2)))
+        (among_parts x ds up i);
     last = λ r. last_over Up h r None given gs ∙ last_else Up h r gs (last_holder None h Up r given)
         ∙ (λ j. or_else (same_last r (last_holder None h Up r gs) (latest_holder h r ds) refl refl j) (tells.last r j))
         ∙ sym (latest_else Up h r ds up);
@@ -175,10 +176,10 @@ module _ (p : Party) (d : Draft) (given : List GivenRow) (w x : World) (steps : 
   ds = grown.more
 
   in_new : (y : Allocation) → Among y ds → Among y x.up
-  in_new y i = subst (λ (us : List Allocation). Among y us) (sym grown.is) (in_front y ds w.up i)
+  in_new y i = subst (λ (us : List Allocation). Among y us) (sym grown.is) (among_front y ds w.up i)
 
   in_old : (y : Allocation) → Among y w.up → Among y x.up
-  in_old y i = subst (λ (us : List Allocation). Among y us) (sym grown.is) (in_rest y ds w.up i)
+  in_old y i = subst (λ (us : List Allocation). Among y us) (sym grown.is) (among_back y ds w.up i)
 
   found : (o : OutRow) → Among o d.rows.outbox → row_at out_key o.number d.rows.outbox ≡ Some o
   found o i = among_found out_key o d.rows.outbox ends.order i
@@ -206,7 +207,7 @@ module _ (p : Party) (d : Draft) (given : List GivenRow) (w x : World) (steps : 
       (λ (s : SentOne h given base next first d).
       subst (λ (z : GivenRow). IsUp z × (z.handset ≡ h) × ((y : Allocation) × (Among y x.up × IsOfAllocationUp z y))) (sym (only_row s g j)) (side_up s.0 s.1.2, s.1.1, notice_allocation s))
       ends.sent)
-      (either_part g entries memories i)
+      (among_parts g entries memories i)
 
   -- ---- of a giving
 
@@ -229,7 +230,7 @@ module _ (p : Party) (d : Draft) (given : List GivenRow) (w x : World) (steps : 
       let same : y.reference ≡ row.reference = after.out.same row.number row y (found row at) (in_new y i) (grown.mine y i) holder_is in (
         z.0,
         (
-          in_front z.0 entries memories z.1.0,
+          among_front z.0 entries memories z.1.0,
           side_up z.0 z.1.1.direction,
           record { handset = grown.mine y i ∙ sym z.1.1.handset; reference = same ∙ sym z.1.1.reference; holder = holder_is ∙ sym z.1.1.holder },
         ),
@@ -257,7 +258,7 @@ module _ (p : Party) (d : Draft) (given : List GivenRow) (w x : World) (steps : 
       let both : y ≡ z.0 = single y z.0 (in_new y i) z.1.0 (grown.mine y i ∙ sym (z.1.1.handset ∙ s.1.1)) (holder ∙ ap (λ (k : ℕ). Memory k) e ∙ sym (z.1.1.holder ∙ s.1.3)) in (
         s.0,
         (
-          in_rest s.0 entries memories (subst (λ (gs : List GivenRow). Among s.0 gs) (sym s.1.0) (inl refl)),
+          among_back s.0 entries memories (subst (λ (gs : List GivenRow). Among s.0 gs) (sym s.1.0) (inl refl)),
           side_up s.0 s.1.2,
           subst (λ (v : Allocation). IsOfAllocationUp s.0 v) (sym both) z.1.1,
         ),
@@ -282,7 +283,7 @@ module _ (p : Party) (d : Draft) (given : List GivenRow) (w x : World) (steps : 
       let n = ends.news.from b j in
       let one : m.0.reference ≡ n.0.reference = sym m.1.3.reference ∙ same ∙ n.1.3.reference in
       let both : Entry m.0.number ≡ Entry n.0.number =
-      some_is (Entry m.0.number) (Entry n.0.number)
+      same_Some (Entry m.0.number) (Entry n.0.number)
       (sym (last_reported m.0 m.1.0 m.1.2) ∙ ap (λ (r : ℕ). last_holder None h Up r (given ++ rows)) one ∙ last_reported n.0 n.1.0 n.1.2) in
       m.1.3.holder ∙ both ∙ sym n.1.3.holder
 
@@ -295,7 +296,7 @@ module _ (p : Party) (d : Draft) (given : List GivenRow) (w x : World) (steps : 
       let own_row : b ≡ s.0 = only_row s b j in
       let r : m.0.reference ≡ s.0.reference = sym m.1.3.reference ∙ same ∙ ap (λ (z : GivenRow). z.reference) own_row in
       let before_it : List GivenRow = given ++ entries in
-      let all : given ++ rows ≡ before_it ++ s.0 ∷ [] = ap (λ (gs : List GivenRow). given ++ (entries ++ gs)) s.1.0 ∙ sym (appended given entries (s.0 ∷ [])) in
+      let all : given ++ rows ≡ before_it ++ s.0 ∷ [] = ap (λ (gs : List GivenRow). given ++ (entries ++ gs)) s.1.0 ∙ sym (append_assoc given entries (s.0 ∷ [])) in
       let last : last_holder None h Up s.0.reference (before_it ++ s.0 ∷ []) ≡ Some s.0.holder =
       last_over_up None h s.0.reference before_it (s.0 ∷ [])
       ∙ subst (λ (z : List ℕ). last_holder (last_holder None h Up s.0.reference before_it) z Up s.0.reference (s.0 ∷ []) ≡ Some s.0.holder) s.1.1
@@ -309,15 +310,15 @@ module _ (p : Party) (d : Draft) (given : List GivenRow) (w x : World) (steps : 
       (λ (m : Among a entries). ⊎_elim
       (λ (n : Among b entries). entries_once a b m n same)
       (λ (n : Among b memories). absurd (apart a b m n same))
-      (either_part b entries memories j))
+      (among_parts b entries memories j))
       (λ (m : Among a memories). ⊎_elim
       (λ (n : Among b entries). absurd (apart b a n m (sym same)))
       (λ (n : Among b memories). ⊎_elim
       (λ (none : (memories ≡ []) × (d.rows.counters.notice ≡ next)). absurd (subst (λ (gs : List GivenRow). Among a gs) none.0 m))
       (λ (s : SentOne h given base next first d). ap (λ (z : GivenRow). z.holder) (only_row s a m ∙ sym (only_row s b n)))
       ends.sent)
-      (either_part b entries memories j))
-      (either_part a entries memories i)
+      (among_parts b entries memories j))
+      (among_parts a entries memories i)
 
   -- ---- all that is told
 
@@ -329,7 +330,7 @@ module _ (p : Party) (d : Draft) (given : List GivenRow) (w x : World) (steps : 
       ⊎_elim
       (λ (j : Among y.0 ds). (y.0, (j, y.1.1)))
       (λ (j : Among y.0 w.up). absurd (was_not g i y.0 j y.1.1))
-      (either_part y.0 ds w.up (subst (λ (us : List Allocation). Among y.0 us) grown.is y.1.0))
+      (among_parts y.0 ds w.up (subst (λ (us : List Allocation). Among y.0 us) grown.is y.1.0))
     where
       was_not : (g : GivenRow) → Among g rows → (y : Allocation) → Among y w.up → IsOfAllocationUp g y → ⊥
       was_not g i y j t = ⊎_elim
@@ -346,7 +347,7 @@ module _ (p : Party) (d : Draft) (given : List GivenRow) (w x : World) (steps : 
           let l : next < next = before.notices.used next y j (t.handset ∙ ap (λ (z : GivenRow). z.handset) (only_row s g k) ∙ s.1.1) holder in
           let no : ⊥ = omega (arith, l) in no)
           ends.sent)
-          (either_part g entries memories i)
+          (among_parts g entries memories i)
 
   pub own_up : AgreesUp h (given ++ rows) x.up
   own_up =

@@ -1,6 +1,6 @@
 -- What was split stays whole after every event of a sound centre.
 use Rattle.std.proofs.Common.{◌≡◌, ℕ, ◌<◌, List, length, Some, None, refl, subst, true}
-use Rattle.std.proofs.lemmas.Option.{none-some}
+use Rattle.std.proofs.lemmas.Option.{none-some, same_Some}
 use Rattle.sms_base.specs.Among.{Among}
 use Rattle.sms_intake.specs.declared.submission.Submission.{Submission}
 use Rattle.sms_centre_rows.specs.declared.messages.message.MessageRow.{MessageRow}
@@ -19,7 +19,6 @@ use Rattle.sms_world.proofs.split_messages_stay.SplitParts.{stands_under}
 use Rattle.sms_intake.specs.PartBodies.{is_long}
 use Rattle.sms_world.specs.split_messages_stay.SplitLaws.{EventLaw}
 use Rattle.sms_world.proofs.split_messages_stay.KeptMessages.{IsLasting, all_said_on}
-use Rattle.sms_world.proofs.Options.{some_is}
 
 -- its parts have one key, and are as many as that says
 abbrev IsSplitWhole : MessageRow → List PartRow → Type 0
@@ -38,7 +37,7 @@ new_split u s e reference fit after long a r is =
     let cut = text_cut reference u.text long (fit.some reference) in
     let few : (p : PartRow) → Among p (parts_in e) → p.number < 256 = λ p among. (after.consistent.held.parts.numbers p among).1 in
     let own : IsSplitUnder row reference (length cut.pieces) (parts_in e) = stands_under row u reference (parts_in e) fit refl few cut a.made in
-    (length cut.pieces, subst (λ (n : ℕ). IsSplitUnder row n (length cut.pieces) (parts_in e)) (some_is reference r is) own)
+    (length cut.pieces, subst (λ (n : ℕ). IsSplitUnder row n (length cut.pieces) (parts_in e)) (same_Some reference r is) own)
 
 new_short : (u : Submission) (s e : Store) → IsSubmission u → SoundStore e → IsAccepted u s None 0 e → IsSplitWhole (message_of (next_number (rows_of s)) s.moment None u) (parts_in e)
 new_short u s e fit after a r is = absurd (none-some r is)

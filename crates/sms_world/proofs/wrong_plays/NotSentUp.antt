@@ -1,6 +1,7 @@
 -- Messages that are not from a handset's SUBMIT, and texts that are not a part's.
 use Rattle.std.proofs.Common.{arith, ◌≡◌, ℕ, zero, suc, List, [], ◌∷◌, true, false, refl, sym, ◌∙◌, ap, inl, inr, ⊎_elim, Some, Result, Ok, length}
 use Rattle.std.specs.Prelude.{◌⊎◌}
+use Rattle.std.proofs.lemmas.Option.{same_Some}
 use Rattle.sms_base.specs.Among.{Among}
 use Rattle.sms_base.specs.HandsetNumber.{own_address}
 use Rattle.sms_base.specs.declared.originator.Originator.{Originator}
@@ -35,7 +36,6 @@ use Rattle.sms_world.specs.headline.SeenWorld.{user_data_in}
 use Rattle.sms_world.specs.wrong_plays.Plays.{entry, from_writer, part_one, part_two, party, writers_core}
 use Rattle.sms_world.specs.wrong_plays.SentUp.{AloneLaw, CommonLaw, FrameLaw, HandsetLaw, NextLaw, OwnersLaw, ReferenceLaw, RightLaw, SentByOtherLaw, SentOtherTextLaw, SourceLaw, SubmittedTextLaw, TakersLaw, TextLaw, WishLaw, frame_up, other_deliver, part_up, sent_up}
 use Rattle.sms_world.specs.wrong_reports.Literals.{deliver, handset, hello_octets, other_octets, source, writer}
-use Rattle.sms_world.proofs.Options.{some_is}
 use Rattle.sms_world.proofs.wrong_reports.Apart.{the_one}
 
 -- ---- what the octets read as
@@ -221,7 +221,7 @@ sent_other_text all =
 pub submitted_text : SubmittedTextLaw
 submitted_text s =
     let x = s.each 1 part (ap (λ (ps : List SinglePart). part_numbered 1 ps) (parts_read s.reference)) in
-    let p : record part_one { tpdu = deliver other_octets } ≡ x.0 = some_is _ x.0 x.1.0 in
+    let p : record part_one { tpdu = deliver other_octets } ≡ x.0 = same_Some _ x.0 x.1.0 in
     let its = x.1.1 in
     let d : record delivered { originating_address = own_address source; user_data = text other_octets } ≡ its.deliver =
     same_deliver _ its.deliver (sym application_reads ∙ (ap (λ (z : PartRow). down_at InData (compared z.tpdu)) p ∙ its.reads)) in

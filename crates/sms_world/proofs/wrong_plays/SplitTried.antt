@@ -1,7 +1,7 @@
 -- A text in its two parts is split so, and what differs from that is not. A row that says another thing than its part.
 use Rattle.std.proofs.Common.{arith, ◌≡◌, ℕ, zero, suc, List, [], ◌∷◌, true, false, refl, sym, ◌∙◌, ap, subst, inl, inr, ⊎_elim, Option, Some, None, ◌<◌, ◌≤◌, length}
 use Rattle.std.specs.Prelude.{◌⊎◌, ◌++◌, slice_get}
-use Rattle.std.proofs.lemmas.Option.{none-some}
+use Rattle.std.proofs.lemmas.Option.{none-some, same_Some}
 use Rattle.sms_alphabet.specs.declared.concat_key.ConcatKey.{ConcatKey}
 use Rattle.sms_alphabet.specs.declared.scheme.Coding.TheVariants.{Octets}
 use Rattle.sms_base.specs.Among.{Among}
@@ -25,7 +25,6 @@ use Rattle.sms_world.specs.wrong_plays.Played.{long_content}
 use Rattle.sms_world.specs.wrong_plays.Plays.{part_one}
 use Rattle.sms_world.specs.wrong_plays.SplitText.{MixedRoundLaw, NoPlaceLaw, OtherContentLaw, OtherPlanLaw, OtherRowLaw, OtherWordsLaw, RightSplitLaw, odd, second, split_message, split_one, split_parts, split_two, stray}
 use Rattle.sms_world.specs.wrong_reports.Literals.{deliver, hello_octets, source, zeros}
-use Rattle.sms_world.proofs.Options.{some_is}
 use Rattle.sms_world.proofs.wrong_plays.NotSentUp.{same_deliver, ReadsDown}
 use Rattle.sms_world_model.specs.Place.{Place, carried_in, place_in}
 use Rattle.sms_world_model.specs.World.{Accepted}
@@ -168,7 +167,7 @@ other_content s =
     let is : s.pieces ≡ numbered other_content_is 7 (length x.1.0) 1 ((1 ∷ f.0) ∷ f.1) =
     x.1.2 ∙ ap (λ (z : List (List ℕ)). numbered other_content_is 7 (length x.1.0) 1 z) f.2 in
     let row = s.carried 0 _ (ap (λ (z : List PartOf). slice_get z 0) is) in
-    let its : split_one ≡ row.0 = some_is split_one row.0 row.1.0 in
+    let its : split_one ≡ row.0 = same_Some split_one row.0 row.1.0 in
     other_first f.0 _ (sym one_carried ∙ (ap (λ (z : PartRow). carried_in z.tpdu) its ∙ row.1.1))
 
 nowhere : place_in (deliver hello_octets) ≡ None

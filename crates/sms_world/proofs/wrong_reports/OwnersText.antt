@@ -1,6 +1,7 @@
 -- The text of an owner is of the handset that he wrote it to, and from his own.
 use Rattle.std.proofs.Common.{arith, ◌≡◌, Bool, ℕ, zero, suc, ◌+◌, ◌≤◌, ◌<◌, List, [], ◌∷◌, length, refl, sym, ◌∙◌, ap, subst, inl, inr, ⊎_elim, Some, false}
 use Rattle.std.specs.Str.{chars}
+use Rattle.std.proofs.lemmas.Option.{same_Some}
 use Rattle.sms_alphabet.specs.Spelling.{lacks_code, septets_for, spelled}
 use Rattle.sms_base.specs.Alphabet.{code_for, main_septet_of}
 use Rattle.sms_base.specs.Among.{Among}
@@ -30,7 +31,6 @@ use Rattle.sms_world.specs.headline.PlainWords.{numbered}
 use Rattle.sms_world.specs.wrong_reports.Literals.{handset, hello, of_writer, owner_carried, owner_events, owner_frame, owner_given, owner_line, owner_reports, owner_setup, writer}
 use Rattle.sms_world.specs.wrong_reports.Tried.{OtherEntryLaw, OwnerLaw, TrueOwnerLaw, TrueSentLaw}
 use Rattle.sms_world.proofs.wrong_reports.Read.{content, part}
-use Rattle.sms_world.proofs.Options.{some_is}
 use Rattle.sms_world.proofs.wrong_reports.RightReports.{none_before, submitted}
 use Rattle.sms_world.proofs.wrong_reports.Apart.{the_one}
 
@@ -212,7 +212,7 @@ entry_refused m =
     let number : o.number ≡ 2 = two_events o.number w.event w.number w.at w.does in
     let there : Among w.frame (owner_frame 2 ∷ []) = subst (λ (bag : List FrameRow). Among w.frame bag) (ap (λ (n : ℕ). (reports n).bag) number) w.among in
     let frame : w.frame ≡ owner_frame 2 = ⊎_elim (λ (e : w.frame ≡ owner_frame 2). e) (λ (n : ⊥). absurd n) there in
-    let carried : owner_carried 2 ≡ w.carried = some_is (owner_carried 2) w.carried (ap (λ (f : FrameRow). f.carried) (sym frame) ∙ w.carries) in
+    let carried : owner_carried 2 ≡ w.carried = same_Some (owner_carried 2) w.carried (ap (λ (f : FrameRow). f.carried) (sym frame) ∙ w.carries) in
     let place : w.place ≡ 1 = second_place w.first w.place (ap (λ (c : Carried). c.tag) carried ∙ w.of_entry) first in
     let text : o.origin.submission.text ≡ WholeText (content_of_text (chars hello)) = w.submission.text ∙ ap (λ (t : List ℕ). WholeText (content_of_text (chars t))) (sym k.words) in
     let parts : bodies_under w.reference o.origin.submission.text ≡ part ∷ [] = ap (λ (t : Text). bodies_under w.reference t) text ∙ one_piece w.reference in
