@@ -1,12 +1,16 @@
 //! A SUBMIT from a handset.
 ghost use Rattle.std.specs.Prelude.{◌≡◌, IfOk, Err};
+ghost use Rattle.std.specs.Option.{ok_or};
+ghost use Rattle.sms_base.specs.Address.{IsAddress};
+ghost use Rattle.sms_base.specs.HandsetNumber.{handset_of};
 ghost use Rattle.sms_tpdu.specs.TpduReading.{up_at};
 ghost use Rattle.sms_tpdu.specs.declared.carrier.Carrier.TheVariants.{InData};
+ghost use Rattle.sms_intake.specs.declared.refusal.SubmitRefusal.TheVariants.{NoHandset};
 ghost use Rattle.sms_intake.specs.HandsetIntake.{AnswersIntake, from_read, from_submit, is_of_account, is_past, submission_of, wish_of};
 
 use crate::refusal::{SubmitError, SubmitRefusal};
 use crate::submission::{CentreAccount, SinglePart, Submission, Text};
-use sms_base::{Address, Digits, Moment, Octets, Originator, Priority, Wish};
+use sms_base::{Address, Digits, Moment, Msisdn, Octets, Originator, Priority, Wish};
 use sms_concat::header_key;
 use sms_tpdu::{Carrier, Submit, Up, ValidityPeriod, read_up, validity};
 use std::alloc::{AllocError, Global};
@@ -31,13 +35,26 @@ fn wish_of(status_report_request: bool) -> Wish
     }
 }
 
-// The submission that the SUBMIT is.
+// The handset to which the SUBMIT goes.
+fn destination_of(submit: &Submit<'_>) -> Result<Msisdn, SubmitRefusal>
+    requires { IsAddress submit.now.destination_address }
+    ensures { result ≡ ok_or (handset_of submit.now.destination_address) NoHandset }
+{
+    submit
+        .destination_address
+        .handset()
+        .ok_or(SubmitRefusal::NoHandset)
+}
+
+// The submission that the SUBMIT to that handset is.
 fn submission_of(
     alloc: Global,
-    from: Digits,
+    from: Msisdn,
+    handset: Msisdn,
     now: Moment,
     submit: &Submit<'_>,
 ) -> Result<Submission, AllocError>
+    requires { handset ≡ submit.now.destination_address.digits }
     ensures { IfOk result (λ s. s ≡ submission_of from now submit.now) }
 {
     let octets = submit.user_data.octets.as_slice();
@@ -45,8 +62,8 @@ fn submission_of(
         originator: Originator::Handset {
             message_reference: submit.message_reference,
         },
-        source: Address::of_handset(from),
-        handset: submit.destination_address.digits,
+        source: Address::of_handset(from.digits()),
+        handset,
         protocol_identifier: submit.protocol_identifier,
         reply_path: submit.reply_path,
         wish: wish_of(submit.status_report_request),
@@ -80,33 +97,35 @@ fn is_of_account(digits: &Digits, accounts: &[CentreAccount]) -> bool
 fn accepted(
     alloc: Global,
     accounts: &[CentreAccount],
-    from: Digits,
+    from: Msisdn,
     now: Moment,
     submit: &Submit<'_>,
 ) -> Result<Submission, SubmitError>
+    requires { IsAddress submit.now.destination_address }
     ensures { AnswersIntake result (from_submit accounts.now from now submit.now) }
 {
-    if !submit.destination_address.names_handset() {
-        return Err(SubmitError::Refused(SubmitRefusal::NoHandset));
-    }
+    let handset = match destination_of(submit) {
+        Ok(handset) => handset,
+        Err(refusal) => return Err(SubmitError::Refused(refusal)),
+    };
     if is_of_account(&submit.destination_address.digits, accounts) {
         return Err(SubmitError::Refused(SubmitRefusal::OfAccount));
     }
     if is_past(now, submit.validity_period) {
         return Err(SubmitError::Refused(SubmitRefusal::PastLimit));
     }
-    let submission = submission_of(alloc, from, now, submit)?;
+    let submission = submission_of(alloc, from, handset, now, submit)?;
     Ok(submission)
 }
 
-/// The submission of what a handset with these digits sent in RP-DATA, or the first refusal. Refused are a TPDU that is
+/// The submission of what the handset sent in RP-DATA, or the first refusal. Refused are a TPDU that is
 /// unreadable or no SUBMIT, a destination that is no handset, one that is an account's number, and a limit that is past.
 ///
 /// Takes memory once, for the user data of what is accepted.
 pub fn from_submit(
     alloc: Global,
     accounts: &[CentreAccount],
-    from: Digits,
+    from: Msisdn,
     now: Moment,
     tpdu: &[u8],
 ) -> Result<Submission, SubmitError>
