@@ -16,7 +16,7 @@ ghost use Rattle.sms_centre_rows.specs.declared.waiting.queued_part.QueuedPart.{
 ghost use Rattle.sms_centre_spec.specs.SoundRows.{IsSound};
 
 use crate::soundness::RowTables;
-use sms_base::MessageId;
+use sms_base::{MessageId, Msisdn};
 use sms_centre_queue::queues::DeliveryQueuesDraft;
 use sms_centre_rows::conditions::status_reference;
 use sms_centre_rows::messages::{MessageRow, PartRow};
@@ -131,7 +131,10 @@ fn put_report(
     let Some(message) = tables.messages.find(Key::of(report.id.number())) else {
         return Ok(());
     };
-    queues.put(message.source.digits, report_queued(report))
+    let Some(number) = Msisdn::of_digits(&message.source.digits) else {
+        return Ok(());
+    };
+    queues.put(number, report_queued(report))
 }
 
 /// Adds all of these status reports that wait, beside what waits already. The last is added first.

@@ -6,16 +6,16 @@ use Rattle.sms_centre_recovery.specs.soundness.RowsOf.{rows_of}
 use Rattle.sms_rows.specs.table.Table.{put, row_at}
 use Rattle.sms_centre_rows.specs.declared.waiting.queued_part.QueuedPart.{QueuedPart}
 use Rattle.sms_centre_rows.specs.waiting.Keys.{queued_key}
-use Rattle.sms_centre_recovery.proofs.starting.QueuedWait.{if_ok, report_waits, source_digits}
+use Rattle.sms_centre_recovery.proofs.starting.QueuedWait.{if_ok, report_waits, source_number}
 use Rattle.sms_centre_recovery.proofs.starting.filling.put_report.Goals as goal
 
-pub put-requires : goal.put-requires
-put-requires c =
+pub returns-else-number : goal.returns-else-number
+returns-else-number c =
     let ms = c.args.tables.now.messages.rows in
     let r = c.args.report.now in
     let key = c.of.ensures ∙ c.number.ensures.value in
     let found : message_at r.id ms ≡ Some c.in-Some.message.now = ap (λ (n : ℕ). row_at message_key n ms) (sym key) ∙ sym c.in-Some.ensures in
-    record { digits = source_digits (rows_of c.args.tables.now) r c.in-Some.message.now c.requires.sound c.requires.there (sym c.if-not-is_open_status.ensures) found }
+    absurd (c.of_digits.ensures (source_number (rows_of c.args.tables.now) r c.in-Some.message.now c.requires.sound c.requires.there (sym c.if-not-is_open_status.ensures) found))
 
 pub returns : goal.returns
 returns c =
