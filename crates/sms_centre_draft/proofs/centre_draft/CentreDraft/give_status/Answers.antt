@@ -6,7 +6,7 @@ use Rattle.sms_centre_rows.specs.waiting.References.{give, handset_of}
 use Rattle.sms_centre_spec.specs.Draft.{handsets_in, messages_in}
 use Rattle.sms_centre_spec.specs.Ends.{status_given}
 use Rattle.sms_centre_draft.specs.CentreDraft.{Represents, CentreDraftOf, all_waiting}
-use Rattle.sms_centre_draft.proofs.RepresentedMoves.{ended_number, status_made_waits, status_represented, told_number}
+use Rattle.sms_centre_draft.proofs.RepresentedMoves.{status_made_waits, status_represented}
 use Rattle.sms_centre_draft.proofs.centre_draft.CentreDraft.give_status.Goals as goal
 
 pub returns : goal.returns
@@ -15,10 +15,10 @@ returns c = λ d n represents can is next.
     let was : Represents d w = subst (λ (x : CentreDraftOf). Represents d x) (sym c.self.view_is) represents in
     let m = c.args.message.now in
     let h = handset_of m.source.digits (handsets_in d.store) in
-    status_represented d w m c.args.state n c.args.reference c.make_status.new.self c.put.new.queues was can is next
+    status_represented d w m c.args.state n c.args.reference c.make_status.new.self c.put.new.self was can is next
     (subst (λ (o : List ℕ). DraftRepresents (messages_in d.store) c.make_status.new.self (report_made m.id (Status c.args.reference o) false w.moment d.store.reports))
-    (c.in_ok-tpdu.ensures (ended_number c.args.state m d w was can))
+    c.in_ok-tpdu.ensures
     (c.in_ok-make_status.ensures (messages_in d.store) d.store.reports was.reports can.none))
     (c.in_ok-put.ensures (give h c.args.reference w.moment d.store.allocations) d.links (all_waiting d.store) (all_waiting (status_given c.args.state m h (Some c.args.reference) d.store))
-    (c.in_ok-give.ensures (told_number c.args.state m n d w was can is) d.store.allocations d.links (all_waiting d.store) was.queues)
+    (c.in_ok-give.ensures d.store.allocations d.links (all_waiting d.store) was.queues)
     (status_made_waits c.args.state m c.args.reference d w was can))
