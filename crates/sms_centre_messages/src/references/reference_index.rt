@@ -8,7 +8,7 @@ ghost use Rattle.sms_centre_rows.specs.declared.messages.part.PartRow.{PartRow a
 
 use crate::references::counts::Counts;
 use crate::references::message_ends::MessageEnds;
-use sms_base::{Address, Digits};
+use sms_base::{Address, Digits, Msisdn};
 use sms_centre_rows::messages::MessageRow;
 use std::alloc::Global;
 use std::marker::Model;
@@ -52,7 +52,7 @@ impl ReferenceIndex {
 
     /// Whether the reference of a submission's own header was given to a message of its source and handset that isn't
     /// wholly delivered.
-    pub fn is_taken(&self, source: &Address, handset: &Digits, reference: Option<u16>) -> bool
+    pub fn is_taken(&self, source: &Address, handset: &Msisdn, reference: Option<u16>) -> bool
         ensures { (ms : List MessageRowOf) (ps : List PartRowOf) → Represents self.now ms ps
             → result ≡ is_taken reference (held_splits source.now handset.now ms) }
     {
@@ -63,7 +63,7 @@ impl ReferenceIndex {
     }
 
     // Whether a message that isn't wholly delivered holds the reference.
-    fn is_held(&self, source: &Address, handset: &Digits, reference: u16) -> bool
+    fn is_held(&self, source: &Address, handset: &Msisdn, reference: u16) -> bool
         ensures { (ms : List MessageRowOf) (ps : List PartRowOf) → Represents self.now ms ps
             → result ≡ is_among reference (held_splits source.now handset.now ms) }
     {
@@ -71,7 +71,7 @@ impl ReferenceIndex {
     }
 
     // Whether one was submitted with the reference.
-    fn is_own(&self, source: &Address, handset: &Digits, reference: u16) -> bool
+    fn is_own(&self, source: &Address, handset: &Msisdn, reference: u16) -> bool
         ensures { (ms : List MessageRowOf) (ps : List PartRowOf) → Represents self.now ms ps
             → result ≡ is_among reference (own_splits source.now handset.now ms ps) }
     {
@@ -79,7 +79,7 @@ impl ReferenceIndex {
     }
 
     // Whether no message may be split under the reference now.
-    fn is_barred(&self, source: &Address, handset: &Digits, reference: u16) -> bool
+    fn is_barred(&self, source: &Address, handset: &Msisdn, reference: u16) -> bool
         ensures { (ms : List MessageRowOf) (ps : List PartRowOf) → Represents self.now ms ps
             → result ≡ is_among reference (held_splits source.now handset.now ms ++ own_splits source.now handset.now ms ps) }
     {
@@ -91,7 +91,7 @@ impl ReferenceIndex {
 
     /// The reference under which the next message of that source to that handset is split, if one is free. It costs one
     /// look-up for each reference that is tried, one more than are barred at most.
-    pub fn next_split(&self, source: &Address, handset: &Digits) -> Option<u16>
+    pub fn next_split(&self, source: &Address, handset: &Msisdn) -> Option<u16>
         ensures { (ms : List MessageRowOf) (ps : List PartRowOf) → Represents self.now ms ps → result ≡ next_split source.now handset.now ms ps }
     {
         let pair = MessageEnds::of(source, handset, 0);
@@ -124,7 +124,7 @@ impl ReferenceIndex {
 
     /// Whether a message of that handset is pending under that TP-MR: the digits of its source, those of its destination, and
     /// TP-MR.
-    pub fn has_pending(&self, source: &Digits, handset: &Digits, message_reference: u8) -> bool
+    pub fn has_pending(&self, source: &Digits, handset: &Msisdn, message_reference: u8) -> bool
         ensures { (ms : List MessageRowOf) (ps : List PartRowOf) → Represents self.now ms ps
             → result ≡ has_pending source.now handset.now message_reference ms }
     {
