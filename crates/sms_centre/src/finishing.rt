@@ -1,8 +1,7 @@
 //! What follows an event, and the plan of it.
-ghost use Rattle.std.specs.Prelude.{◌≡◌, ℕ, Ok, IfOk};
+ghost use Rattle.std.specs.Prelude.{◌≡◌, Ok, IfOk};
 ghost use Rattle.sms_centre_spec.specs.CentreEvent.{follow as follow_of};
 ghost use Rattle.sms_centre_spec.specs.Draft.{Core, Draft, draft_of};
-ghost use Rattle.sms_centre_spec.specs.SoundCore.{HasNumber};
 ghost use Rattle.sms_centre_spec.specs.SoundRows.{IsSetup};
 ghost use Rattle.sms_centre.specs.Acting.{Acts, acted, congested};
 ghost use Rattle.sms_centre.specs.Stopping.{EndsSince, StoppingOutcome, WasStopped, stop_of as stop_of_error};
@@ -147,7 +146,6 @@ fn run<B: BodyKeep>(
     bodies: &mut B,
     centre: &[u8],
 ) -> Result<(), PlanStop>
-    requires number { HasNumber event.now }
     requires setup { IsSetup draft.old.setup }
     ensures outcome { (c : Core) (rows : B.Rows) → DraftRepresents (draft_of c) draft.old → StateRepresents c centre_state.now
         → CanOffer B.body_of rows centre.now (acted event.now c).store
@@ -169,7 +167,6 @@ fn run_anew<B: BodyKeep>(
     bodies: &mut B,
     centre: &[u8],
 ) -> Result<(), PlanError>
-    requires number { HasNumber event.now }
     ensures outcome { (c : Core) (rows : B.Rows) → DraftRepresents (draft_of c) draft.old
         → CanOffer B.body_of rows centre.now (congested event.now reference c).store
         → ReadingOutcome (λ _. DraftRepresents (follow_of (congested event.now reference c)) draft.new)
@@ -193,7 +190,6 @@ fn plan_anew<B: BodyKeep>(
     bodies: &mut B,
     centre: &[u8],
 ) -> Result<Plan, PlanError>
-    requires number { HasNumber event.now }
     ensures outcome { (c : Core) (rows : B.Rows) → DraftRepresents (draft_of c) draft.entry
         → CanOffer B.body_of rows centre.now (congested event.now reference c).store
         → ReadingOutcome (λ p. IsOutcome (follow_of (congested event.now reference c)) p.plan)
@@ -219,7 +215,6 @@ fn begin_anew<B: BodyKeep>(
     bodies: &mut B,
     centre: &[u8],
 ) -> Result<Plan, PlanError>
-    requires number { HasNumber event.now }
     ensures outcome { (c : Core) (rows : B.Rows) → StateRepresents c centre_state.now
         → CanOffer B.body_of rows centre.now (congested event.now reference c).store
         → ReadingOutcome (λ p. IsOutcome (follow_of (congested event.now reference c)) p.plan)
@@ -242,7 +237,6 @@ fn stopped<B: BodyKeep>(
     bodies: &mut B,
     centre: &[u8],
 ) -> Result<Plan, PlanError>
-    requires number { HasNumber event.now }
     ensures outcome { (c : Core) (rows : B.Rows) (first : Refusals) → StateRepresents c centre_state.now
         → CanOffer B.body_of rows centre.now (acted event.now c).store
         → WasStopped (λ reference. acted event.now c ≡ congested event.now reference c) (follow_of (acted event.now c)).links.read
@@ -274,7 +268,6 @@ fn plan_begun<B: BodyKeep>(
     bodies: &mut B,
     centre: &[u8],
 ) -> Result<Plan, PlanError>
-    requires number { HasNumber event.now }
     requires setup { IsSetup draft.setup }
     ensures outcome { (c : Core) (rows : B.Rows) → DraftRepresents (draft_of c) draft.entry → StateRepresents c centre_state.now
         → CanOffer B.body_of rows centre.now (acted event.now c).store
@@ -300,7 +293,6 @@ pub(crate) fn plan_of<B: BodyKeep>(
     bodies: &mut B,
     centre: &[u8],
 ) -> Result<Plan, PlanError>
-    requires number { HasNumber event.now }
     requires setup { IsSetup centre_state.now.setup }
     ensures outcome { (c : Core) (rows : B.Rows) → StateRepresents c centre_state.now
         → CanOffer B.body_of rows centre.now (acted event.now c).store
