@@ -96,7 +96,8 @@ impl Msisdn {
     pub fn is_spelled(&self, characters: &[char]) -> bool
         ensures { result ≡ bytes_eq characters.now self.now }
     {
-        characters == self.digits().as_slice()
+        let digits = self.digits();
+        characters == digits.as_slice()
     }
 
     /// It is a number, and the digits of a handset's own address.
