@@ -215,7 +215,8 @@ pub fn handset_text(alloc: Global, number: &Msisdn) -> Result<String, Error>
     ensures only { IfErr result LacksMemory }
 {
     number.spells_a_number();
-    text_of(alloc, number.digits().as_slice())
+    let digits = number.digits();
+    text_of(alloc, digits.as_slice())
 }
 
 fn put_character(text: &mut String, character: char) -> Result<(), AllocError>
