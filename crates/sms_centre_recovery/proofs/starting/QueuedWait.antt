@@ -89,26 +89,6 @@ module _ (ms : List MessageRow) (w : List ℕ → List QueuedPart) where
         (ap (λ (o : Option MessageRow). reports_to other r o) found ∙ reports_other other r m ne),
   )
 
--- ---- whose source is a number
-
--- a status report is of a handset's message
-from_handset : (kind : ReportKind) (o : Originator) (m : MessageRow) (r : ReportRow) → is_status kind ≡ true → FitsOriginator kind o m r → HasReportAddress o m.source → IsNumber m.source.digits
-from_handset Receipt o m r e fits told = absurd cc
-from_handset (Status reference tpdu) (Application account) m r e fits told = elim fits [ ]
-from_handset (Status reference tpdu) (Handset n) m r e fits told = told
-from_handset Unsent o m r e fits told = absurd cc
-
-pub source_number : (rows : Rows) (r : ReportRow) (m : MessageRow) → IsSound rows → Among r rows.reports → is_open_status r ≡ true → message_at r.id rows.messages ≡ Some m → IsMsisdn m.source.digits
-source_number rows r m sound there waits found =
-    let is = (sound.reports.each r there).message in
-    let same : is.0 ≡ m = some_same (sym is.1.0 ∙ found) in
-    let fits : FitsOriginator r.kind m.originator m r = subst (λ (x : MessageRow). FitsOriginator r.kind x.originator x r) same is.1.1.1 in
-    number_digits m.source.digits
-    (from_handset r.kind m.originator m r (and_parts (is_status r.kind) (not r.progress.is_done) waits).0 fits (sound.report_addresses m (found_among message_key r.id m rows.messages found)))
-  where
-    some_same : {x y : MessageRow} → Some x ≡ Some y → x ≡ y
-    some_same e = cc
-
 pub if_ok : {X E : Type 0} {P Q : Type 0} (r : Result X E) → (P → Q) → OnOk r P → OnOk r Q
 if_ok (Ok x) f p = f p
 if_ok (Err e) f p = p
