@@ -111,19 +111,34 @@ impl<'a> CentreDraft<'a> {
         Ok(reference)
     }
 
-    // A handset's message gets a status report, where a reference is free for it.
+    // The handset that submitted the message gets a status report, where a reference is free for it.
+    fn make_status_to(
+        &mut self,
+        state: FinalState,
+        message: &MessageRow,
+        handset: Msisdn,
+    ) -> Result<(), AllocError>
+        requires { handset ≡ message.now.source.digits }
+        ensures { (d : Draft) (n : ℕ) → Represents d self.old → IsUnreported state message.now d.store → message.now.originator ≡ Handset n
+            → OnOk result (Represents (in_store (make_status_of state message.now
+            (handset_of message.now.source.digits (handsets_in d.store)) d.store) d) self.new) }
+    {
+        let free = self.next_reference(handset)?;
+        match free {
+            Some(reference) => self.give_status(state, message, handset, reference),
+            None => self.make_unsent(message),
+        }
+    }
+
+    // A handset's message gets a status report.
     fn make_status(&mut self, state: FinalState, message: &MessageRow) -> Result<(), AllocError>
         ensures { (d : Draft) (n : ℕ) → Represents d self.old → IsUnreported state message.now d.store → message.now.originator ≡ Handset n
             → OnOk result (Represents (in_store (make_status_of state message.now
             (handset_of message.now.source.digits (handsets_in d.store)) d.store) d) self.new) }
     {
-        let Some(handset) = Msisdn::of_digits(&message.source.digits) else {
-            return Ok(());
-        };
-        let free = self.next_reference(handset)?;
-        match free {
-            Some(reference) => self.give_status(state, message, handset, reference),
-            None => self.make_unsent(message),
+        match Msisdn::of_digits(&message.source.digits) {
+            Some(handset) => self.make_status_to(state, message, handset),
+            None => Ok(()),
         }
     }
 

@@ -2,7 +2,10 @@ use Rattle.std.proofs.Common.{List, ℕ, Some, false, sym, subst}
 use Rattle.sms_centre_rows.specs.declared.reports.report.ReportKind.TheVariants.{Status}
 use Rattle.sms_centre_rows.specs.reports.Reports.{report_made}
 use Rattle.sms_centre_reports.specs.open_reports.OpenReportsDraft.{DraftRepresents}
+use Rattle.sms_rows.specs.table.Table.{put}
+use Rattle.sms_centre_rows.specs.waiting.Keys.{queued_key}
 use Rattle.sms_centre_rows.specs.waiting.References.{give, handset_of}
+use Rattle.sms_centre_queue.specs.queues.Representing.{DraftRepresents as QueuesRepresent, Waits}
 use Rattle.sms_centre_spec.specs.Draft.{handsets_in, messages_in}
 use Rattle.sms_centre_spec.specs.Ends.{status_given}
 use Rattle.sms_centre_draft.specs.CentreDraft.{Represents, CentreDraftOf, all_waiting}
@@ -20,5 +23,7 @@ returns c = λ d n represents can is next.
     c.in_ok-tpdu.ensures
     (c.in_ok-make_status.ensures (messages_in d.store) d.store.reports was.reports can.none))
     (c.in_ok-put.ensures (give h c.args.reference w.moment d.store.allocations) d.links (all_waiting d.store) (all_waiting (status_given c.args.state m h (Some c.args.reference) d.store))
-    (c.in_ok-give.ensures d.store.allocations d.links (all_waiting d.store) was.queues)
-    (status_made_waits c.args.state m c.args.reference d w was can))
+    (subst (λ (x : List ℕ). QueuesRepresent (give (handset_of x (handsets_in d.store)) c.args.reference w.moment d.store.allocations) d.links (all_waiting d.store) c.give.new.self) c.requires
+    (c.in_ok-give.ensures d.store.allocations d.links (all_waiting d.store) was.queues))
+    (subst (λ (x : List ℕ). Waits x (put queued_key (record { id = m.id; number = 0; reference = c.args.reference; priority = 0; due = w.moment })) (all_waiting d.store) (all_waiting (status_given c.args.state m h (Some c.args.reference) d.store))) (sym c.requires)
+    (status_made_waits c.args.state m c.args.reference d w was can)))
