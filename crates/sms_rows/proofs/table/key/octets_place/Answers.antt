@@ -21,8 +21,8 @@ pub loop-octet-preserved : goal.loop-octet-preserved
 loop-octet-preserved c =
     let digits = c.args.octets.now in
     let i = c.loop-octet.octet-index in
-    let front = drop-cons digits i c.octet-item.result (omega (arith, c.loop-octet-test.true)) in
-    let code : c.from.result ≡ digit_code_of (get_or digits i c.octet-item.result) = c.from.ensures ∙ c.octet_code.ensures.value ∙ ap (λ x. digit_code_of x) c.octet-item.is in
+    let front = drop-cons digits i 0 (omega (arith, c.loop-octet-test.true)) in
+    let code : c.from.result ≡ digit_code_of (get_or digits i 0) = c.from.ensures ∙ c.octet_code.ensures.value in
     let q : suc i ≡ i + 1 = omega arith in
     record {
       rest = subst (λ n. digits_from (16 * c.loop-octet.place + c.from.result) (drop n digits) ≡ digits_key digits) q
