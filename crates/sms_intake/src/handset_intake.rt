@@ -1,11 +1,9 @@
 //! A SUBMIT from a handset.
-ghost use Rattle.std.specs.Prelude.{◌≡◌, IfOk, Err};
-ghost use Rattle.std.specs.Option.{ok_or};
+ghost use Rattle.std.specs.Prelude.{◌≡◌, true, IfOk, Err};
 ghost use Rattle.sms_base.specs.Address.{IsAddress};
-ghost use Rattle.sms_base.specs.HandsetNumber.{handset_of};
+ghost use Rattle.sms_base.specs.HandsetNumber.{names_handset};
 ghost use Rattle.sms_tpdu.specs.TpduReading.{up_at};
 ghost use Rattle.sms_tpdu.specs.declared.carrier.Carrier.TheVariants.{InData};
-ghost use Rattle.sms_intake.specs.declared.refusal.SubmitRefusal.TheVariants.{NoHandset};
 ghost use Rattle.sms_intake.specs.HandsetIntake.{AnswersIntake, from_read, from_submit, is_of_account, is_past, submission_of, wish_of};
 
 use crate::refusal::{SubmitError, SubmitRefusal};
@@ -35,26 +33,27 @@ fn wish_of(status_report_request: bool) -> Wish
     }
 }
 
-// The handset to which the SUBMIT goes.
-fn destination_of(submit: &Submit<'_>) -> Result<Msisdn, SubmitRefusal>
-    requires { IsAddress submit.now.destination_address }
-    ensures { result ≡ ok_or (handset_of submit.now.destination_address) NoHandset }
+// The handset that the destination names.
+fn handset_at(destination: &Address) -> Msisdn
+    requires valid { IsAddress destination.now }
+    requires named { names_handset destination.now ≡ true }
+    ensures { result ≡ destination.now.digits }
 {
-    submit
-        .destination_address
-        .handset()
-        .ok_or(SubmitRefusal::NoHandset)
+    match destination.handset() {
+        Some(handset) => handset,
+        None => unreachable!(),
+    }
 }
 
-// The submission that the SUBMIT to that handset is.
+// The submission that the SUBMIT is.
 fn submission_of(
     alloc: Global,
     from: Msisdn,
-    handset: Msisdn,
     now: Moment,
     submit: &Submit<'_>,
 ) -> Result<Submission, AllocError>
-    requires { handset ≡ submit.now.destination_address.digits }
+    requires valid { IsAddress submit.now.destination_address }
+    requires named { names_handset submit.now.destination_address ≡ true }
     ensures { IfOk result (λ s. s ≡ submission_of from now submit.now) }
 {
     let octets = submit.user_data.octets.as_slice();
@@ -63,7 +62,7 @@ fn submission_of(
             message_reference: submit.message_reference,
         },
         source: Address::of_handset(from.digits()),
-        handset,
+        handset: handset_at(&submit.destination_address),
         protocol_identifier: submit.protocol_identifier,
         reply_path: submit.reply_path,
         wish: wish_of(submit.status_report_request),
@@ -104,17 +103,16 @@ fn accepted(
     requires { IsAddress submit.now.destination_address }
     ensures { AnswersIntake result (from_submit accounts.now from now submit.now) }
 {
-    let handset = match destination_of(submit) {
-        Ok(handset) => handset,
-        Err(refusal) => return Err(SubmitError::Refused(refusal)),
-    };
+    if !submit.destination_address.names_handset() {
+        return Err(SubmitError::Refused(SubmitRefusal::NoHandset));
+    }
     if is_of_account(&submit.destination_address.digits, accounts) {
         return Err(SubmitError::Refused(SubmitRefusal::OfAccount));
     }
     if is_past(now, submit.validity_period) {
         return Err(SubmitError::Refused(SubmitRefusal::PastLimit));
     }
-    let submission = submission_of(alloc, from, handset, now, submit)?;
+    let submission = submission_of(alloc, from, now, submit)?;
     Ok(submission)
 }
 
