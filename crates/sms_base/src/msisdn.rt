@@ -83,6 +83,17 @@ impl Msisdn {
         Msisdn::of(&filled[..characters.len()])
     }
 
+    /// The number that the characters spell.
+    pub fn spelled_by(digits: &Digits) -> Msisdn
+        requires { IsMsisdn digits.now }
+        ensures { result ≡ digits.now }
+    {
+        match Msisdn::of_digits(digits) {
+            Some(number) => number,
+            None => unreachable!(),
+        }
+    }
+
     /// The digits in order, one an octet.
     pub fn as_slice(&self) -> &[u8]
         ensures value { result.now ≡ self.now }
