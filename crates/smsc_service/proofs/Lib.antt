@@ -2,7 +2,6 @@ pub mod AccountsCome
 mod Archived
 mod ByFate
 mod ByOctets
-mod Numbers
 mod OrdersTold
 mod RokNames
 mod Roomy

@@ -4,12 +4,11 @@ ghost use Rattle.sms_centre.specs.state.CentreState.{Represents};
 ghost use Rattle.sms_centre_spec.specs.Draft.{Core};
 ghost use Rattle.sms_control.specs.ControlReading.{cp_at};
 ghost use Rattle.sms_relay.specs.RelayReading.{up_at};
-ghost use Rattle.smsc_service.specs.Refused.{part_refused_by, refusal_of_frame, refusal_of_unit, refusal_to as refusal_to_of, refused_at as refused_at_of, refused_of as refused_of_of, refused_part, under_way_at as under_way_at_of, under_way_for as under_way_for_of};
+ghost use Rattle.smsc_service.specs.Refused.{part_refused_by, refusal_of_frame, refusal_of_unit, refusal_to as refusal_to_of, refused_at as refused_at_of, refused_of as refused_of_of, refused_part, under_way_at as under_way_at_of};
 ghost use Rattle.smsc_service.specs.Seats.{seats_in};
 
-use crate::number::is_number;
 use crate::seat_map::SeatMap;
-use sms_base::{Carried, Digits, Holder, MessageId};
+use sms_base::{Carried, Holder, MessageId};
 use sms_centre::Centre;
 use sms_centre_spec::jobs::Job;
 use sms_control::{Cp, TransactionFlag};
@@ -99,23 +98,12 @@ fn refused_of(refusal: Refusal, under_way: Option<Carried>) -> Option<RefusedPar
     }
 }
 
-// What is under way to the handset, if it is one.
-fn under_way_for(centre: &Centre, handset: &Digits) -> Option<Carried>
-    ensures { (c : Core) → Represents c centre.now → result ≡ under_way_for_of c (Some handset.now) }
-{
-    if is_number(handset) {
-        centre.under_way(handset)
-    } else {
-        None
-    }
-}
-
 // What is under way over the link at the seat, if one is there.
 fn under_way_at(centre: &Centre, seat_map: &SeatMap, seat: u32) -> Option<Carried>
     ensures { (c : Core) → Represents c centre.now → result ≡ under_way_at_of c (seats_in seat_map.now).links seat }
 {
     match seat_map.handset_at(seat) {
-        Some(handset) => under_way_for(centre, &handset),
+        Some(handset) => centre.under_way(&handset),
         None => None,
     }
 }

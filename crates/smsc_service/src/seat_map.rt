@@ -1,11 +1,10 @@
 //! Which handset and which session is at which seat.
-ghost use Rattle.std.specs.Prelude.{◌≡◌, ◌<◌, IfOk};
+ghost use Rattle.std.specs.Prelude.{◌≡◌, ◌<◌, IfOk, bytes_eq};
 ghost use Rattle.sms_centre_spec.specs.declared.jobs.job.Job.TheVariants.{LinkUp};
 ghost use Rattle.smsc_service.specs.Seats.{followed, handset_at, is_vacant, link_key, nobody, seat_of, seats_in, bound_session_key};
 
-use crate::number::is_same;
 use crate::seat_table::SeatTable;
-use sms_base::Digits;
+use sms_base::Msisdn;
 use sms_centre_spec::jobs::Job;
 use sms_rows::table::{Key, Row};
 use std::alloc::{AllocError, Global};
@@ -14,7 +13,7 @@ use std::alloc::{AllocError, Global};
 #[derive(Clone, Copy, PartialEq, Eq)]
 pub struct LinkSeat {
     pub seat: u32,
-    pub handset: Digits,
+    pub handset: Msisdn,
 }
 
 impl Row for LinkSeat {
@@ -70,7 +69,7 @@ impl SeatMap {
     }
 
     /// The handset whose link is at the seat.
-    pub fn handset_at(&self, seat: u32) -> Option<Digits>
+    pub fn handset_at(&self, seat: u32) -> Option<Msisdn>
         ensures { result ≡ handset_at seat (seats_in self.now).links }
     {
         match self.links.find(Key::of(u64::from(seat))) {
@@ -80,7 +79,7 @@ impl SeatMap {
     }
 
     /// The seat of the handset's link.
-    pub fn seat_of(&self, handset: Digits) -> Option<u32>
+    pub fn seat_of(&self, handset: Msisdn) -> Option<u32>
         ensures { result ≡ seat_of handset (seats_in self.now).links }
     {
         for link in self.links.as_slice() {
@@ -100,7 +99,7 @@ impl SeatMap {
     }
 
     // The link of the handset is put at the seat, if it is nowhere.
-    fn raise(&mut self, seat: u32, handset: Digits)
+    fn raise(&mut self, seat: u32, handset: Msisdn)
         requires { seat < 32 }
         ensures { seats_in self.new ≡ followed seat (LinkUp handset) (seats_in self.old) }
     {
@@ -139,4 +138,11 @@ impl SeatMap {
         self.links.copy_from(&other.links);
         self.bound_sessions.copy_from(&other.bound_sessions);
     }
+}
+
+/// Whether both numbers are equal.
+pub(crate) fn is_same(number: &Msisdn, other: &Msisdn) -> bool
+    ensures { result ≡ bytes_eq number.now other.now }
+{
+    number == other
 }
