@@ -162,6 +162,13 @@ no_forgetting event before from most e = cc
 no_enrolling : (event : CentreEvent) (account : CentreAccount) → Enrol account ≡ Event event → ⊥
 no_enrolling event account e = cc
 
+abbrev AsksNone : SeatRequest → Type 0
+AsksNone (Event event) = ⊥
+AsksNone Nothing = Unit {0}
+AsksNone Taken = Unit {0}
+AsksNone (Forget before from most) = Unit {0}
+AsksNone (Enrol account) = Unit {0}
+
 place_of : (place : ℕ) (accounts : List CentreAccount) → account_at place accounts ≡ slice_get accounts place
 place_of place [] = refl
 place_of zero (a ∷ accounts) = refl
@@ -298,14 +305,7 @@ module _ (accounts : List CentreAccount) where
         → Sends (messages_in (happened event s.core).store) (OfBound (moved bound stimulus)) (happened event s.core).bindings
     event_sends sound stimulus event e = sends_of (OfBound bound) (OfBound (moved bound stimulus)) s.core sound fits.sessions event (leads stimulus event e)
 
-    -- ---- what asks no event
-
-    abbrev AsksNone : SeatRequest → Type 0
-    AsksNone (Event event) = ⊥
-    AsksNone Nothing = Unit {0}
-    AsksNone Taken = Unit {0}
-    AsksNone (Forget before from most) = Unit {0}
-    AsksNone (Enrol account) = Unit {0}
+    -- ---- where no event is asked
 
     job_unmoved : (seat : ℕ) (job : Job) → AsksNone (asked s.seats seat job) → (k : ℕ) → moved bound (JobOf seat job) k ≡ bound k
     job_unmoved seat (Bound account receives) none k = absurd none
@@ -327,48 +327,49 @@ module _ (accounts : List CentreAccount) where
     forget_setup : IsSoundCore s.core → (before from most : ℕ) → (core_of (forget before from most s.core)).rows.setup.accounts ≡ accounts
     forget_setup sound before from most = ap (λ (x : Core). x.rows.setup.accounts) (forget_leaves before from most s.core sound.rows) ∙ fits.setup
 
-    abbrev next : Stimulus Job → Fate → ℕ → Option Binding
-    next stimulus fate k = bound_behind k (bound k) stimulus fate
+-- ---- one item, and the accounts behind it
 
-    -- the accounts behind it are those that it is said of
-    abbrev NextFits : Stimulus Job → SeatRequest → Fate → Type 0
-    NextFits stimulus a fate = (now : List CentreAccount) × Fits now (next stimulus fate) (after_for a fate s stimulus)
+module _ (accounts : List CentreAccount) (bound : ℕ → Option Binding) (s : Serving) (fits : Fits accounts bound s) where
+  -- the accounts behind it are those that it is said of
+  abbrev NextFits : Stimulus Job → SeatRequest → Fate → Type 0
+  NextFits stimulus a fate = (now : List CentreAccount) × Fits now (λ (k : ℕ). bound_behind k (bound k) stimulus fate) (after_for a fate s stimulus)
 
-    stays_fit : (stimulus : Stimulus Job) (a : SeatRequest) → asked_by s.seats stimulus ≡ a → AsksNone a → Fits accounts (moved bound stimulus) s
-    stays_fit stimulus a e none = fits_same bound (moved bound stimulus) s (unmoved stimulus (subst AsksNone (sym e) none)) fits
+  stays_fit : (stimulus : Stimulus Job) (a : SeatRequest) → asked_by s.seats stimulus ≡ a → AsksNone a → Fits accounts (moved bound stimulus) s
+  stays_fit stimulus a e none =
+      fits_same accounts bound (moved bound stimulus) s (unmoved accounts bound s fits stimulus (subst AsksNone (sym e) none)) fits
 
-    request_fits : IsSoundCore s.core → (stimulus : Stimulus Job) (a : SeatRequest) (fate : Fate) → asked_by s.seats stimulus ≡ a → NextFits stimulus a fate
-    request_fits sound stimulus (Event event) Done e =
-        (accounts, record { sessions = (event_sends sound stimulus event e).held; bound_sessions = sits stimulus; setup = setup_stays event })
-    request_fits sound stimulus (Event event) NoMemory e = (accounts, fits)
-    request_fits sound stimulus (Event event) Refused e = (accounts, restart_fits (moved bound stimulus) s.core.rows (followed_by stimulus s.seats) fits.setup (sits stimulus))
-    request_fits sound stimulus Nothing Done e = (accounts, stays_fit stimulus Nothing e tt)
-    request_fits sound stimulus Nothing NoMemory e = (accounts, fits)
-    request_fits sound stimulus Nothing Refused e = (accounts, stays_fit stimulus Nothing e tt)
-    request_fits sound stimulus Taken Done e = (accounts, stays_fit stimulus Taken e tt)
-    request_fits sound stimulus Taken NoMemory e = (accounts, fits)
-    request_fits sound stimulus Taken Refused e = (accounts, stays_fit stimulus Taken e tt)
-    request_fits sound stimulus (Forget before from most) Done e =
-        let still = stays_fit stimulus (Forget before from most) e tt in
-        (accounts, record { sessions = still.sessions; bound_sessions = still.bound_sessions; setup = forget_setup sound before from most })
-    request_fits sound stimulus (Forget before from most) NoMemory e = (accounts, fits)
-    request_fits sound stimulus (Forget before from most) Refused e =
-        (accounts, restart_fits (moved bound stimulus) s.core.rows s.seats fits.setup (stays_fit stimulus (Forget before from most) e tt).bound_sessions)
-    request_fits sound stimulus (Enrol account) Done e =
-        let still = stays_fit stimulus (Enrol account) e tt in (
-          accounts_with account accounts,
-          record {
-            sessions = λ x i. let y = still.sessions x i in (y.0, y.1, y.2, y.3, keeps_place account accounts y.1 y.2 y.4, y.5);
-            bound_sessions = still.bound_sessions;
-            setup = ap (λ (l : List CentreAccount). accounts_with account l) fits.setup;
-          },
-        )
-    request_fits sound stimulus (Enrol account) NoMemory e = (accounts, fits)
-    request_fits sound stimulus (Enrol account) Refused e =
-        (accounts, restart_fits (moved bound stimulus) s.core.rows s.seats fits.setup (stays_fit stimulus (Enrol account) e tt).bound_sessions)
+  request_fits : IsSoundCore s.core → (stimulus : Stimulus Job) (a : SeatRequest) (fate : Fate) → asked_by s.seats stimulus ≡ a → NextFits stimulus a fate
+  request_fits sound stimulus (Event event) Done e =
+      (accounts, record { sessions = (event_sends accounts bound s fits sound stimulus event e).held; bound_sessions = sits accounts bound s fits stimulus; setup = setup_stays accounts bound s fits event })
+  request_fits sound stimulus (Event event) NoMemory e = (accounts, fits)
+  request_fits sound stimulus (Event event) Refused e = (accounts, restart_fits accounts (moved bound stimulus) s.core.rows (followed_by stimulus s.seats) fits.setup (sits accounts bound s fits stimulus))
+  request_fits sound stimulus Nothing Done e = (accounts, stays_fit stimulus Nothing e tt)
+  request_fits sound stimulus Nothing NoMemory e = (accounts, fits)
+  request_fits sound stimulus Nothing Refused e = (accounts, stays_fit stimulus Nothing e tt)
+  request_fits sound stimulus Taken Done e = (accounts, stays_fit stimulus Taken e tt)
+  request_fits sound stimulus Taken NoMemory e = (accounts, fits)
+  request_fits sound stimulus Taken Refused e = (accounts, stays_fit stimulus Taken e tt)
+  request_fits sound stimulus (Forget before from most) Done e =
+      let still = stays_fit stimulus (Forget before from most) e tt in
+      (accounts, record { sessions = still.sessions; bound_sessions = still.bound_sessions; setup = forget_setup accounts bound s fits sound before from most })
+  request_fits sound stimulus (Forget before from most) NoMemory e = (accounts, fits)
+  request_fits sound stimulus (Forget before from most) Refused e =
+      (accounts, restart_fits accounts (moved bound stimulus) s.core.rows s.seats fits.setup (stays_fit stimulus (Forget before from most) e tt).bound_sessions)
+  request_fits sound stimulus (Enrol account) Done e =
+      let still = stays_fit stimulus (Enrol account) e tt in (
+        accounts_with account accounts,
+        record {
+          sessions = λ x i. let y = still.sessions x i in (y.0, y.1, y.2, y.3, keeps_place account accounts y.1 y.2 y.4, y.5);
+          bound_sessions = still.bound_sessions;
+          setup = ap (λ (l : List CentreAccount). accounts_with account l) fits.setup;
+        },
+      )
+  request_fits sound stimulus (Enrol account) NoMemory e = (accounts, fits)
+  request_fits sound stimulus (Enrol account) Refused e =
+      (accounts, restart_fits accounts (moved bound stimulus) s.core.rows s.seats fits.setup (stays_fit stimulus (Enrol account) e tt).bound_sessions)
 
-    item_fits : IsSoundCore s.core → (e : Item Job Reply) → NextFits e.stimulus (asked_by s.seats e.stimulus) e.fate
-    item_fits sound e = request_fits sound e.stimulus (asked_by s.seats e.stimulus) e.fate refl
+  item_fits : IsSoundCore s.core → (e : Item Job Reply) → NextFits e.stimulus (asked_by s.seats e.stimulus) e.fate
+  item_fits sound e = request_fits sound e.stimulus (asked_by s.seats e.stimulus) e.fate refl
 
 -- ---- a run
 

@@ -152,11 +152,19 @@ impl OrderDesk {
         if !self.is_free() || !is_address(&account.address) {
             return false;
         }
+        let is_laid = self.lay(account);
+        if is_laid {
+            self.begin(ENROL);
+        }
+        is_laid
+    }
+
+    // Puts the account where the keeper takes it from. False where somebody else is there now.
+    fn lay(&self, account: CentreAccount) -> bool {
         let Some(mut place) = self.account.try_lock() else {
             return false;
         };
         *place = Some(account);
-        self.begin(ENROL);
         true
     }
 

@@ -131,12 +131,12 @@ impl<K: CentreStore + Drop, A: Archive + Drop> Service<K, A> {
             → IfHeld (bare rows) (K.state keep) (K.state (store_in service)) (IsServedBy K.state service (restarted rows nobody))) }
         ensures before { IfOk result (λ service. WasHonest (K.state keep) (K.state (store_in service))) }
     {
-        let count = accounts.len();
         let Ok((seat_map, resumed)) = empty_maps(alloc) else {
             return Err(StartError::NoMemory);
         };
         let mut group = GroupKeep::over(alloc, keep);
         let centre = restarted_from(alloc, &mut group, accounts, &seat_map)?;
+        let count = centre.account_count();
         Ok(Service::of(
             alloc, group, centre, seat_map, resumed, count, board, cutoff, errands,
         ))

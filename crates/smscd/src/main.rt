@@ -191,6 +191,9 @@ fn do_words<R: Threads + Wait + Clock + Copy + Send + Sync + 'static>(
 // So many seconds an order may take where the words don't say.
 const WAIT: u32 = 15;
 
+// And one that the accounts' file is read again, as many accounts may have to come first.
+const RELOAD_WAIT: u32 = 60;
+
 // Why the server did not do it. A reload, or an order of a message, has a reason of its own.
 fn refused(has_reason: bool, text: String) -> RunFault {
     if has_reason {
@@ -242,7 +245,9 @@ fn do_asked<R: Threads + Wait + Clock + Copy + Send + Sync + 'static>(
         ServerWords::End { control, seat } => {
             give(&host, control, Command::End(*seat), false, WAIT)
         }
-        ServerWords::Reload { control } => give(&host, control, Command::Reload, true, WAIT),
+        ServerWords::Reload { control } => {
+            give(&host, control, Command::Reload, true, RELOAD_WAIT)
+        }
         ServerWords::Order { control, order, id } => {
             give(&host, control, order_by(*order, *id), true, WAIT)
         }

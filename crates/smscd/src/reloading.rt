@@ -36,8 +36,8 @@ pub struct Reloader {
     // Those that are to come, the last one first, and what is taken over once they have.
     coming: Vec<KnownAccount>,
     renewal: Option<Renewal>,
-    // The last one that is known was ordered of the centre, which has not said yet that it has come.
-    is_ordered: bool,
+    // The name of the last one that is known, where the centre has not said yet that it has come.
+    ordered: Option<String>,
 }
 
 // What a run takes over of a file, by the places of accounts.
@@ -60,7 +60,8 @@ impl Renewal {
     fn put(&mut self, allowance: Allowance, login: Login, limit: u8) -> Result<(), AllocError> {
         self.allowed.push(allowance)?;
         self.logins.push(login)?;
-        self.limits.push(limit)
+        self.limits.push(limit)?;
+        Ok(())
     }
 }
 
@@ -111,7 +112,7 @@ fn count_named(accounts: &[TableAccount<'_>], name: &str) -> usize {
 fn may_stand(known: &[KnownAccount], of_words: usize, now: &TableAccount<'_>) -> bool {
     match place_of(known, now.name) {
         Some(place) if place < of_words => false,
-        Some(place) => is_same(&known[place], now),
+        Some(place) => known.get(place).is_some_and(|before| is_same(before, now)),
         None => true,
     }
 }
@@ -134,8 +135,20 @@ fn is_new(known: &[KnownAccount], account: &TableAccount<'_>) -> bool {
     place_of(known, account.name).is_none()
 }
 
-fn count_new(known: &[KnownAccount], now: &[TableAccount<'_>]) -> usize {
-    now.iter().filter(|account| is_new(known, account)).count()
+// The number of the first account for which a run has no place, from 1.
+fn first_beyond(known: &[KnownAccount], now: &[TableAccount<'_>]) -> Option<usize> {
+    let mut number = 0usize;
+    let mut places = known.len();
+    for account in now {
+        number = number.saturating_add(1);
+        if is_new(known, account) {
+            places = places.saturating_add(1);
+        }
+        if places > MOST_ACCOUNTS {
+            return Some(number);
+        }
+    }
+    None
 }
 
 // The accounts that the run does not know, the last one first.
@@ -251,10 +264,24 @@ fn put_new(
     Ok(())
 }
 
-fn name_of(alloc: Global, account: &KnownAccount) -> Result<String, AllocError> {
+fn name_of(alloc: Global, account: &CentreAccount) -> Result<String, AllocError> {
     let mut name = String::new(alloc);
-    name.push_str(std::str::from_utf8(account.account.name.as_slice()).unwrap_or(""))?;
+    name.push_str(std::str::from_utf8(account.name.as_slice()).unwrap_or(""))?;
     Ok(name)
+}
+
+fn no_place_text(alloc: Global, path: &str, line: usize) -> Result<String, AllocError> {
+    Ok(format!(in alloc;
+        "smscd: line {line} of {path}: a run has 32 accounts at most, with those that have gone\n"
+    )?)
+}
+
+// That the account at this line has no place.
+fn no_place(alloc: Global, path: &str, line: usize) -> RunFault {
+    match no_place_text(alloc, path, line) {
+        Ok(text) => RunFault::NotDone(text),
+        Err(_) => RunFault::NoMemory,
+    }
 }
 
 // That the centre has not taken an account.
@@ -317,7 +344,7 @@ impl Reloader {
             names,
             coming: Vec::new(host.alloc()),
             renewal: None,
-            is_ordered: false,
+            ordered: None,
         })
     }
 
@@ -345,10 +372,14 @@ impl Reloader {
         if let Some(number) = first_other(known, self.of_words, now) {
             return Err(RunFault::OtherAccount(line_at(self.path.as_str(), file, number)));
         }
-        if known.len().saturating_add(count_new(known, now)) > MOST_ACCOUNTS {
-            return Err(RunFault::Accounts);
+        match first_beyond(known, now) {
+            Some(number) => Err(no_place(
+                self.host.alloc(),
+                self.path.as_str(),
+                line_at(self.path.as_str(), file, number),
+            )),
+            None => Ok(()),
         }
-        Ok(())
     }
 
     // Keeps what is to come and to be taken over by these of the file.
@@ -424,45 +455,50 @@ impl Reloader {
 
     // Orders of the centre that this one comes, if it takes an order now. The run knows it from then on.
     fn order(&mut self, orders: &Orders, account: CentreAccount) -> Result<(), AllocError> {
+        let name = name_of(self.host.alloc(), &account)?;
         self.known.reserve(1)?;
         if !orders.enrol(account) {
             return Ok(());
         }
-        self.is_ordered = true;
+        self.ordered = Some(name);
         if let Some(comer) = self.coming.pop() {
             self.known.push(comer)?;
         }
         Ok(())
     }
 
-    // The last one is called by its name from now on, if there is memory for that.
-    fn name_last(&self) {
-        let Some(last) = self.known.last() else {
-            return;
-        };
-        if let Ok(name) = name_of(self.host.alloc(), last) {
-            self.names.put(self.known.len() - 1, name);
-        }
-    }
-
-    // The centre has said what came of the one that was ordered.
-    fn note(&mut self, outcome: OrderOutcome) -> Result<(), RunFault> {
-        self.is_ordered = false;
+    // The centre has said what came of the one of that name, which was ordered. Once it has come it is called so.
+    fn note(&mut self, name: String, outcome: OrderOutcome) -> Result<(), RunFault> {
         if outcome == OrderOutcome::Enrolled {
-            self.name_last();
+            self.names.put(self.known.len().saturating_sub(1), name);
             return Ok(());
         }
+        drop(name);
         drop(self.known.pop());
         Err(not_taken(self.host.alloc()))
     }
 
+    // Notes what came of the one that was ordered. False where the centre has not said it yet.
+    fn hear(&mut self, orders: &Orders) -> Result<bool, RunFault> {
+        let Some(name) = self.ordered.take() else {
+            return Ok(true);
+        };
+        match orders.outcome() {
+            Some(outcome) => {
+                self.note(name, outcome)?;
+                Ok(true)
+            }
+            None => {
+                self.ordered = Some(name);
+                Ok(false)
+            }
+        }
+    }
+
     // Goes on with what was read. It is done where nothing is to come any more.
     fn go_on<R: Wait + Clock>(&mut self, rt: &R, orders: &Orders) -> Result<bool, RunFault> {
-        if self.is_ordered {
-            match orders.outcome() {
-                Some(outcome) => self.note(outcome)?,
-                None => return Ok(false),
-            }
+        if !self.hear(orders)? {
+            return Ok(false);
         }
         if let Some(account) = self.next()? {
             self.order(orders, account)?;

@@ -28,7 +28,7 @@ returns-in-Ok-clause-settled g c = λ honest s r running.
         again = inl (c.in-Ok.ensures.closed, refl);
         accounts = record {
           come = none_come s.serving.core.rows.setup.accounts _ (accounts_are s.serving.core _ centre);
-          count = c.account_count.ensures ∙ ap (λ (l : List CentreAccount). length l) (accounts_are s.serving.core _ centre);
+          count = c.account_count-self.ensures ∙ ap (λ (l : List CentreAccount). length l) (accounts_are s.serving.core _ centre);
         };
       };
       archived = archived;
