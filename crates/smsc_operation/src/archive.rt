@@ -1,5 +1,5 @@
 //! The file to which a run writes what it forgets: a line of JSON a message, and never a text.
-use crate::lines::{number_text, put_quoted, state_word};
+use crate::lines::{name_text, number_text, put_quoted, state_word};
 use crate::moments::text_of;
 use sms_base::{Moment, Originator, Wish};
 use sms_centre::{Archive, NotArchived};
@@ -123,7 +123,7 @@ fn wish_word(wish: Wish) -> &'static str {
 fn line_of(alloc: Global, message: &MessageRow, parts: usize) -> Result<String, AllocError> {
     let id = message.id.number();
     let origin = origin_text(alloc, &message.originator)?;
-    let source = number_text(alloc, &message.source.digits)?;
+    let source = name_text(alloc, &message.source.digits)?;
     let destination = number_text(alloc, &message.handset)?;
     let submitted = text_of(alloc, message.submitted)?;
     let ended = moment_text(alloc, message.done)?;

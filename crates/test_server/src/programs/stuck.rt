@@ -1,11 +1,14 @@
 //! The table of what waits, by handset.
 use crate::rows::holds;
-use sms_base::{Address, Digits, Moment};
+use sms_base::{Moment, Msisdn};
 use smsc_cli::centre_table::{StuckLine, stuck_table};
 use std::test::Fail;
 
-fn digits(text: &str) -> Result<Digits, Fail> {
-    Ok(Address::new(1, 1, text)?.digits)
+fn digits(text: &str) -> Result<Msisdn, Fail> {
+    match Msisdn::of(text.as_bytes()) {
+        Some(number) => Ok(number),
+        None => Err(Fail::new("a handset's number")),
+    }
 }
 
 // 2026-11-26 04:46:01 at UTC, by `date -u -d @1795668361`, and so many seconds on.

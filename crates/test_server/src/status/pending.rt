@@ -1,6 +1,6 @@
 //! What is pending, by handset, as one commit after another says.
 use crate::rows::turn_holds;
-use sms_base::{Address, Digits, FinalState, Listed, MessageId, Moment, Octets, Originator, Wish};
+use sms_base::{Address, FinalState, Listed, MessageId, Moment, Msisdn, Octets, Originator, Wish};
 use sms_centre_rows::messages::{MessageRow, PartRow};
 use sms_centre_rows::waiting::{Progress, Revision};
 use sms_centre_spec::Changes;
@@ -25,8 +25,11 @@ fn id(number: u64) -> Result<MessageId, Fail> {
     }
 }
 
-fn digits(handset: &str) -> Result<Digits, Fail> {
-    Ok(Address::new(1, 1, handset)?.digits)
+fn digits(handset: &str) -> Result<Msisdn, Fail> {
+    match Msisdn::of(handset.as_bytes()) {
+        Some(number) => Ok(number),
+        None => Err(Fail::new("a handset's number")),
+    }
 }
 
 // ---- rows
