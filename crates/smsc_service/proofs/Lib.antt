@@ -2,6 +2,7 @@ pub mod AccountsCome
 mod Archived
 mod ByFate
 mod ByOctets
+mod Numbers
 mod OrdersTold
 mod RokNames
 mod Roomy

@@ -21,6 +21,7 @@ use Rattle.sms_keeper.specs.declared.machine.Stimulus.{Stimulus}
 use Rattle.sms_keeper.specs.declared.machine.Stimulus.TheVariants.{Job as JobOf, Tick, Own}
 use Rattle.smsc_service.specs.declared.asking.SeatRequest.{SeatRequest}
 use Rattle.smsc_service.specs.declared.asking.SeatRequest.TheVariants.{Event, Nothing, Taken, Forget, Enrol}
+use Rattle.smsc_service.specs.Numbers.{is_number}
 use Rattle.smsc_service.specs.Seats.{Seats, handset_at, seat_of}
 
 -- ---- requests: the PDU that was passed up, if it is the request that it was passed up as
@@ -51,7 +52,7 @@ link_for None handset = Event (LinkUpOf handset)
 -- what the link of the handset asks, if one is at the seat
 abbrev pub of_handset : (List ℕ → CentreEvent) → Option (List ℕ) → SeatRequest
 of_handset event None = Nothing
-of_handset event (Some handset) = Event (event handset)
+of_handset event (Some handset) = if is_number handset then Event (event handset) else Nothing
 
 -- ---- what is asked
 
@@ -62,7 +63,7 @@ asked s seat (Submit account pdu) = read_as (submission account) (pdu_at pdu)
 asked s seat (Query account pdu) = read_as (question account) (pdu_at pdu)
 asked s seat (Cancel account pdu) = read_as (withdrawal account) (pdu_at pdu)
 asked s seat (DeliverAnswered id is_accepted) = Event (DeliverAnsweredOf seat id is_accepted)
-asked s seat (LinkUp handset) = link_for (seat_of handset s.links) handset
+asked s seat (LinkUp handset) = if is_number handset then link_for (seat_of handset s.links) handset else Nothing
 asked s seat LinkDown = of_handset (λ handset. LinkDownOf handset) (handset_at seat s.links)
 asked s seat (Frame octets) = of_handset (λ handset. FrameOf handset octets None) (handset_at seat s.links)
 
@@ -78,6 +79,14 @@ abbrev pub asked_by : Seats → Stimulus Job → SeatRequest
 asked_by s (JobOf seat job) = if nat_lt seat 32 then asked s seat job else Nothing
 asked_by s (Tick now) = Event (TickOf now)
 asked_by s (Own errand) = errand_asks errand
+
+-- where it is an event, it is one of these
+abbrev pub IfEvent : (CentreEvent → Type 0) → SeatRequest → Type 0
+IfEvent Is (Event event) = Is event
+IfEvent Is Nothing = Unit {0}
+IfEvent Is Taken = Unit {0}
+IfEvent Is (Forget before from most) = Unit {0}
+IfEvent Is (Enrol account) = Unit {0}
 
 -- its answer, where it is an event that happens
 abbrev pub answer_of : SeatRequest → Core → Option CentreAnswer

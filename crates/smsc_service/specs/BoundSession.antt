@@ -7,6 +7,7 @@ use Rattle.sms_rows.specs.table.Table.{put}
 use Rattle.sms_centre_rows.specs.waiting.SoundAllocations.{IsNumber}
 use Rattle.smsc_service.specs.declared.seat_map.LinkSeat.{LinkSeat}
 use Rattle.smsc_service.specs.declared.seat_map.BoundSession.{BoundSession}
+use Rattle.smsc_service.specs.Numbers.{is_number}
 
 -- ---- handsets, each once
 
@@ -15,7 +16,7 @@ is_among number [] = false
 is_among number (first ∷ others) = if bytes_eq first number then true else is_among number others
 
 abbrev pub with_number : List ℕ → List (List ℕ) → List (List ℕ)
-with_number number numbers = if is_among number numbers then numbers else numbers ++ number ∷ []
+with_number number numbers = if not (is_number number) || is_among number numbers then numbers else numbers ++ number ∷ []
 
 abbrev pub handsets_from : List (List ℕ) → List LinkSeat → List (List ℕ)
 handsets_from numbers [] = numbers
@@ -23,6 +24,10 @@ handsets_from numbers (link ∷ links) = handsets_from (with_number link.handset
 
 abbrev pub handsets_of : List LinkSeat → List (List ℕ)
 handsets_of links = handsets_from [] links
+
+-- each is the number of a handset
+abbrev pub AreNumbers : List (List ℕ) → Type 0
+AreNumbers numbers = (number : List ℕ) → Among number numbers → IsNumber number
 
 -- ---- sessions, of the accounts that are there
 

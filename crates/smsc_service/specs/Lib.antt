@@ -4,6 +4,7 @@ pub mod Forgetting
 pub mod InMachine
 pub mod InSeated
 pub mod InService
+pub mod Numbers
 pub mod Outcomes
 pub mod Room
 pub mod Seats

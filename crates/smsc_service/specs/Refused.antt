@@ -21,6 +21,7 @@ use Rattle.sms_relay.specs.RelayReading.{up_at}
 use Rattle.sms_relay.specs.declared.fault.RelayFault.{RelayFault}
 use Rattle.sms_relay.specs.declared.frame.Rp.{Rp}
 use Rattle.sms_relay.specs.declared.frame.Rp.TheVariants.{DataUnit, AckUnit, ErrorUnit, Smma}
+use Rattle.smsc_service.specs.Numbers.{is_number}
 use Rattle.smsc_service.specs.Seats.{handset_at}
 use Rattle.smsc_service.specs.declared.refused.Refusal.{Refusal}
 use Rattle.smsc_service.specs.declared.refused.RefusedPart.{RefusedPart}
@@ -66,7 +67,7 @@ refused_of refusal (Some transfer) = if transfer.reference == refusal.reference 
 -- what is under way to the handset, if it is one
 abbrev pub under_way_for : Core → Option (List ℕ) → Option Carried
 under_way_for c None = None
-under_way_for c (Some handset) = (line_of handset c.lines).link.under_way
+under_way_for c (Some handset) = if is_number handset then (line_of handset c.lines).link.under_way else None
 
 -- what is under way over the link at the seat, if one is there
 abbrev pub under_way_at : Core → List LinkSeat → ℕ → Option Carried

@@ -10,12 +10,13 @@ use Rattle.sms_centre_spec.specs.declared.jobs.job.Job.TheVariants.{Bound, Unbou
 use Rattle.sms_keeper.specs.declared.machine.Stimulus.{Stimulus}
 use Rattle.sms_keeper.specs.declared.machine.Stimulus.TheVariants.{Job as JobOf, Tick, Own}
 use Rattle.smsc_service.specs.declared.seat_map.LinkSeat.{LinkSeat}
+use Rattle.smsc_service.specs.Numbers.{is_number}
 use Rattle.smsc_service.specs.Seats.{handset_at}
 
 -- how many wait for the handset, and how its link is, if it is one
 abbrev pub figures_for : Core → Option (List ℕ) → Option LinkFigures
 figures_for c None = None
-figures_for c (Some handset) = Some (figures_of (all_for handset c.rows) (line_of handset c.lines))
+figures_for c (Some handset) = if is_number handset then Some (figures_of (all_for handset c.rows) (line_of handset c.lines)) else None
 
 -- how the link at the seat is, if one is there
 abbrev pub figures_at : Core → List LinkSeat → ℕ → Option LinkFigures

@@ -7,6 +7,7 @@ ghost use Rattle.smsc_service.specs.Asking.{asked as asked_of, errand_asks as er
 ghost use Rattle.smsc_service.specs.Seats.{handset_at, seats_in};
 
 use crate::new_account::NewAccount;
+use crate::number::is_number;
 use crate::seat_map::SeatMap;
 use smpp_pdu::{Body, Pdu};
 use sms_base::{Moment, Msisdn, OctetView, Octets};
@@ -36,7 +37,7 @@ pub enum SeatRequest<'a> {
 // ---- requests
 
 fn submission(account: u8, body: Body<'_>) -> SeatRequest<'_>
-    ensures { result ≡ submission account body.entry }
+    ensures asked { result ≡ submission account body.entry }
 {
     match body {
         Body::SubmitSm(message) => SeatRequest::Event(CentreEvent::Submit { account, message }),
@@ -45,7 +46,7 @@ fn submission(account: u8, body: Body<'_>) -> SeatRequest<'_>
 }
 
 fn question(account: u8, body: Body<'_>) -> SeatRequest<'_>
-    ensures { result ≡ question account body.entry }
+    ensures asked { result ≡ question account body.entry }
 {
     match body {
         Body::QuerySm(query) => SeatRequest::Event(CentreEvent::Query { account, query }),
@@ -54,7 +55,7 @@ fn question(account: u8, body: Body<'_>) -> SeatRequest<'_>
 }
 
 fn withdrawal(account: u8, body: Body<'_>) -> SeatRequest<'_>
-    ensures { result ≡ withdrawal account body.entry }
+    ensures asked { result ≡ withdrawal account body.entry }
 {
     match body {
         Body::CancelSm(cancel) => SeatRequest::Event(CentreEvent::Cancel { account, cancel }),
@@ -63,7 +64,7 @@ fn withdrawal(account: u8, body: Body<'_>) -> SeatRequest<'_>
 }
 
 fn submitted(account: u8, pdu: &Octets) -> SeatRequest<'_>
-    ensures { result ≡ read_as (submission account) (pdu_at pdu.entry.now) }
+    ensures asked { result ≡ read_as (submission account) (pdu_at pdu.entry.now) }
 {
     match Pdu::read(pdu.as_slice()) {
         Ok(pdu) => submission(account, pdu.body),
@@ -72,7 +73,7 @@ fn submitted(account: u8, pdu: &Octets) -> SeatRequest<'_>
 }
 
 fn queried(account: u8, pdu: &Octets) -> SeatRequest<'_>
-    ensures { result ≡ read_as (question account) (pdu_at pdu.entry.now) }
+    ensures asked { result ≡ read_as (question account) (pdu_at pdu.entry.now) }
 {
     match Pdu::read(pdu.as_slice()) {
         Ok(pdu) => question(account, pdu.body),
@@ -81,7 +82,7 @@ fn queried(account: u8, pdu: &Octets) -> SeatRequest<'_>
 }
 
 fn cancelled(account: u8, pdu: &Octets) -> SeatRequest<'_>
-    ensures { result ≡ read_as (withdrawal account) (pdu_at pdu.entry.now) }
+    ensures asked { result ≡ read_as (withdrawal account) (pdu_at pdu.entry.now) }
 {
     match Pdu::read(pdu.as_slice()) {
         Ok(pdu) => withdrawal(account, pdu.body),
@@ -93,10 +94,11 @@ fn cancelled(account: u8, pdu: &Octets) -> SeatRequest<'_>
 
 // A link for a handset is up.
 fn raised(seat_map: &SeatMap, seat: u32, handset: Msisdn) -> SeatRequest<'static>
-    ensures { result ≡ asked_of (seats_in seat_map.now) seat (LinkUpOf handset) }
+    ensures asked { result ≡ asked_of (seats_in seat_map.now) seat (LinkUpOf handset) }
 {
     // The clause speaks of it.
     let _seat = seat;
+    is_number(&handset);
     match seat_map.seat_of(handset) {
         Some(_) => SeatRequest::Taken,
         None => SeatRequest::Event(CentreEvent::LinkUp { handset }),
@@ -105,31 +107,33 @@ fn raised(seat_map: &SeatMap, seat: u32, handset: Msisdn) -> SeatRequest<'static
 
 // The link at the seat is down.
 fn lowered(seat_map: &SeatMap, seat: u32) -> SeatRequest<'static>
-    ensures { result ≡ of_handset (λ handset. LinkDownOf handset) (handset_at seat (seats_in seat_map.now).links) }
+    ensures asked { result ≡ of_handset (λ handset. LinkDownOf handset) (handset_at seat (seats_in seat_map.now).links) }
 {
-    match seat_map.handset_at(seat) {
-        Some(handset) => SeatRequest::Event(CentreEvent::LinkDown { handset }),
-        None => SeatRequest::Nothing,
-    }
+    let Some(handset) = seat_map.handset_at(seat) else {
+        return SeatRequest::Nothing;
+    };
+    is_number(&handset);
+    SeatRequest::Event(CentreEvent::LinkDown { handset })
 }
 
 // A frame is read on the link at the seat.
 fn framed<'a>(seat_map: &SeatMap, seat: u32, octets: &'a Octets) -> SeatRequest<'a>
-    ensures { result ≡ of_handset (λ handset. FrameOf handset octets.entry.now None) (handset_at seat (seats_in seat_map.now).links) }
+    ensures asked { result ≡ of_handset (λ handset. FrameOf handset octets.entry.now None) (handset_at seat (seats_in seat_map.now).links) }
 {
-    match seat_map.handset_at(seat) {
-        Some(handset) => SeatRequest::Event(CentreEvent::Frame {
-            handset,
-            octets: OctetView::of(octets.as_slice()),
-            tag: None,
-        }),
-        None => SeatRequest::Nothing,
-    }
+    let Some(handset) = seat_map.handset_at(seat) else {
+        return SeatRequest::Nothing;
+    };
+    is_number(&handset);
+    SeatRequest::Event(CentreEvent::Frame {
+        handset,
+        octets: OctetView::of(octets.as_slice()),
+        tag: None,
+    })
 }
 
 /// What no seat asks of the centre.
 pub(crate) fn errand_asks(errand: &Errand) -> SeatRequest<'_>
-    ensures { result ≡ errand_asks_of errand.entry.now }
+    ensures asked { result ≡ errand_asks_of errand.entry.now }
 {
     match errand {
         Errand::Forget { before, from, most } => SeatRequest::Forget {
@@ -151,7 +155,7 @@ pub(crate) fn errand_asks(errand: &Errand) -> SeatRequest<'_>
 
 /// What the job of the seat asks of the centre.
 pub fn job_asks<'a>(seat_map: &SeatMap, seat: u32, job: &'a Job) -> SeatRequest<'a>
-    ensures { result ≡ asked_of (seats_in seat_map.now) seat job.entry.now }
+    ensures asked { result ≡ asked_of (seats_in seat_map.now) seat job.entry.now }
 {
     match job {
         Job::Bound { account, receives } => SeatRequest::Event(CentreEvent::Bound {

@@ -6,7 +6,8 @@ ghost use Rattle.smsc_service.specs.Seats.{seats_in};
 ghost use Rattle.smsc_service.specs.BoundSession.{handsets_of as handsets_of_links, is_among as is_among_of, sessions_of as sessions_of_bound};
 ghost use Rattle.smsc_service.specs.BoundSession.{with_number, with_session};
 
-use crate::seat_map::{BoundSession, SeatMap, is_same};
+use crate::number::{is_number, is_same};
+use crate::seat_map::{BoundSession, SeatMap};
 use sms_base::Msisdn;
 use sms_centre::ReceiptSession;
 use sms_centre_spec::Rows;
@@ -35,6 +36,7 @@ fn push_new(handset: Msisdn, handsets: &mut Vec<Msisdn>) -> Result<(), AllocErro
     ensures pushed { OnOk result (handsets.new.items ≡ with_number handset handsets.old.items) }
     ensures apart { AreDifferent handsets.new.items }
 {
+    is_number(&handset);
     if is_among(handset, handsets.as_slice()) {
         return Ok(());
     }

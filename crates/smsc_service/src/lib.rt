@@ -30,6 +30,7 @@
 //! - `machine`: a centre and the keep of a group
 //! - `made`: what came of a stimulus
 //! - `new_account`: an account that comes
+//! - `number`: the numbers of handsets
 //! - `order_desk`: where an order of the owner waits, and its outcome
 //! - `refused`: of which message a handset refuses a part, and by which cause
 //! - `restarting`: a centre that starts again
@@ -59,6 +60,7 @@ mod link_board;
 mod machine;
 mod made;
 mod new_account;
+mod number;
 mod order_desk;
 mod refused;
 mod replies;

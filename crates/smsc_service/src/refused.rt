@@ -4,11 +4,12 @@ ghost use Rattle.sms_centre.specs.state.CentreState.{Represents};
 ghost use Rattle.sms_centre_spec.specs.Draft.{Core};
 ghost use Rattle.sms_control.specs.ControlReading.{cp_at};
 ghost use Rattle.sms_relay.specs.RelayReading.{up_at};
-ghost use Rattle.smsc_service.specs.Refused.{part_refused_by, refusal_of_frame, refusal_of_unit, refusal_to as refusal_to_of, refused_at as refused_at_of, refused_of as refused_of_of, refused_part, under_way_at as under_way_at_of};
+ghost use Rattle.smsc_service.specs.Refused.{part_refused_by, refusal_of_frame, refusal_of_unit, refusal_to as refusal_to_of, refused_at as refused_at_of, refused_of as refused_of_of, refused_part, under_way_at as under_way_at_of, under_way_for as under_way_for_of};
 ghost use Rattle.smsc_service.specs.Seats.{seats_in};
 
+use crate::number::is_number;
 use crate::seat_map::SeatMap;
-use sms_base::{Carried, Holder, MessageId};
+use sms_base::{Carried, Holder, MessageId, Msisdn};
 use sms_centre::Centre;
 use sms_centre_spec::jobs::Job;
 use sms_control::{Cp, TransactionFlag};
@@ -98,12 +99,20 @@ fn refused_of(refusal: Refusal, under_way: Option<Carried>) -> Option<RefusedPar
     }
 }
 
+// What is under way to the handset.
+fn under_way_for(centre: &Centre, handset: &Msisdn) -> Option<Carried>
+    ensures { (c : Core) → Represents c centre.now → result ≡ under_way_for_of c (Some handset.now) }
+{
+    is_number(handset);
+    centre.under_way(handset)
+}
+
 // What is under way over the link at the seat, if one is there.
 fn under_way_at(centre: &Centre, seat_map: &SeatMap, seat: u32) -> Option<Carried>
     ensures { (c : Core) → Represents c centre.now → result ≡ under_way_at_of c (seats_in seat_map.now).links seat }
 {
     match seat_map.handset_at(seat) {
-        Some(handset) => centre.under_way(&handset),
+        Some(handset) => under_way_for(centre, &handset),
         None => None,
     }
 }

@@ -1,8 +1,9 @@
 //! Which handset and which session is at which seat.
-ghost use Rattle.std.specs.Prelude.{◌≡◌, ◌<◌, IfOk, bytes_eq};
+ghost use Rattle.std.specs.Prelude.{◌≡◌, ◌<◌, IfOk};
 ghost use Rattle.sms_centre_spec.specs.declared.jobs.job.Job.TheVariants.{LinkUp};
 ghost use Rattle.smsc_service.specs.Seats.{followed, handset_at, is_vacant, link_key, nobody, seat_of, seats_in, bound_session_key};
 
+use crate::number::is_same;
 use crate::seat_table::SeatTable;
 use sms_base::Msisdn;
 use sms_centre_spec::jobs::Job;
@@ -138,11 +139,4 @@ impl SeatMap {
         self.links.copy_from(&other.links);
         self.bound_sessions.copy_from(&other.bound_sessions);
     }
-}
-
-/// Whether both numbers are equal.
-pub(crate) fn is_same(number: &Msisdn, other: &Msisdn) -> bool
-    ensures { result ≡ bytes_eq number.now other.now }
-{
-    number == other
 }

@@ -3,9 +3,11 @@ ghost use Rattle.std.specs.Prelude.{◌≡◌, ◌||◌};
 ghost use Rattle.sms_centre.specs.state.CentreState.{Represents};
 ghost use Rattle.sms_centre_spec.specs.Draft.{Core};
 ghost use Rattle.smsc_service.specs.Seats.{seats_in};
-ghost use Rattle.smsc_service.specs.ShownLinks.{AreShown, figures_at as figures_at_of, is_shown_after as is_shown_after_of};
+ghost use Rattle.smsc_service.specs.ShownLinks.{AreShown, figures_at as figures_at_of, figures_for as figures_for_of, is_shown_after as is_shown_after_of};
 
+use crate::number::is_number;
 use crate::seat_map::SeatMap;
+use sms_base::Msisdn;
 use sms_centre::{Centre, LinkFigures};
 use sms_centre_spec::jobs::Job;
 use sms_keeper::Stimulus;
@@ -16,12 +18,20 @@ pub(crate) const SEATS: usize = 32;
 /// How the link at each seat is, if one is there.
 pub(crate) type ShownLinks = [Option<LinkFigures>; SEATS];
 
+// How many wait for the handset, and how its link is.
+fn figures_for(centre: &Centre, handset: &Msisdn) -> Option<LinkFigures>
+    ensures { (c : Core) → Represents c centre.now → result ≡ figures_for_of c (Some handset.now) }
+{
+    is_number(handset);
+    Some(centre.figures(handset))
+}
+
 // How the link at the seat is, if one is there.
 fn figures_at(centre: &Centre, seat_map: &SeatMap, seat: u32) -> Option<LinkFigures>
     ensures { (c : Core) → Represents c centre.now → result ≡ figures_at_of c (seats_in seat_map.now).links seat }
 {
     match seat_map.handset_at(seat) {
-        Some(handset) => Some(centre.figures(&handset)),
+        Some(handset) => figures_for(centre, &handset),
         None => None,
     }
 }
