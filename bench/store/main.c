@@ -50,7 +50,8 @@ static const char tables[] =
 	"CREATE TABLE report (place INTEGER NOT NULL, message INTEGER NOT NULL, kind TEXT NOT NULL, reference INTEGER, tpdu BLOB, made INTEGER NOT NULL, is_done INTEGER NOT NULL, attempts INTEGER NOT NULL, due INTEGER NOT NULL, UNIQUE (place)) STRICT;"
 	"CREATE TABLE priority (message INTEGER NOT NULL, priority INTEGER NOT NULL, UNIQUE (message)) STRICT;"
 	"CREATE INDEX report_message ON report (message);"
-	"INSERT INTO meta (version, kind) VALUES (2, 'centre');";
+	"CREATE TABLE bar (place INTEGER NOT NULL, source_ton INTEGER NOT NULL, source_npi INTEGER NOT NULL, source TEXT NOT NULL, handset TEXT NOT NULL, reference INTEGER NOT NULL, is_own INTEGER NOT NULL, UNIQUE (place)) STRICT;"
+	"INSERT INTO meta (version, kind) VALUES (3, 'centre');";
 
 static sqlite3 *db;
 static sqlite3_stmt *prepared[STATEMENTS];
@@ -303,6 +304,7 @@ static const struct list lists[] = {
 	{ "SELECT place, number, last_reference FROM handset", "ntn" },
 	{ "SELECT place, message, kind, reference, tpdu, made, is_done, attempts, due FROM report", "nntobnnnn" },
 	{ "SELECT message, priority FROM priority", "nn" },
+	{ "SELECT place, source_ton, source_npi, source, handset, reference, is_own FROM bar", "nnnttnn" },
 };
 
 /* What was read: octets behind octets. */
@@ -358,7 +360,7 @@ static void read_list(struct read *read, const struct list *list)
 	check(sqlite3_finalize(statement), SQLITE_OK);
 }
 
-/* All rows of the six tables into memory, each column by its type, in the order in which they lie in the file. */
+/* All rows of the seven tables into memory, each column by its type, in the order in which they lie in the file. */
 static void load(void)
 {
 	struct meter meter = { "load", 0, 0, UINT64_MAX };

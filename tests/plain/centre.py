@@ -247,6 +247,8 @@ class Centre:
     def __init__(self, number, accounts):
         self.number, self.accounts = number, accounts
         self.messages, self.parts, self.handsets, self.references, self.reports = [], [], [], {}, []
+        # What stays barred of messages that are gone: source, handset, reference, and whether a header had it.
+        self.bars = []
         self.now = START
         self.lines, self.sessions = {}, []
         self.frames, self.answer, self.deliveries = [], None, []
@@ -349,19 +351,24 @@ class Centre:
     # -- what is accepted
 
     def is_taken(self, submission):
-        """Whether it has a header with a 16-bit reference that the centre gave to a message that isn't delivered."""
+        """Whether it has a header with a 16-bit reference that the centre gave to a message that isn't delivered, or wasn't when it went."""
         return bool(submission.key) and submission.key[0] == 16 and self.holds_split(submission, submission.key[1])
 
     def between(self, submission):
         return [message for message in self.messages if message['source'] == submission.source and message['handset'] == submission.handset]
 
     def holds_split(self, submission, reference):
-        return any(message['split'] == reference and message['state'] != 0 for message in self.between(submission))
+        return (reference in self.barred(submission, False)
+                or any(message['split'] == reference and message['state'] != 0 for message in self.between(submission)))
+
+    def barred(self, submission, is_own):
+        ends = submission.source, submission.handset
+        return {reference for source, handset, reference, own in self.bars if (source, handset) == ends and own == is_own}
 
     def next_split(self, submission):
-        """The next 16-bit reference that no part came with and no message holds that isn't delivered."""
+        """The next 16-bit reference that no part came with and no message holds that isn't delivered, nor did one that is gone."""
         own = [message['id'] for message in self.between(submission) if message['split'] is None]
-        carried = {part['key'][1] for part in self.parts if part['id'] in own and part['key'] and part['key'][0] == 16}
+        carried = {part['key'][1] for part in self.parts if part['id'] in own and part['key'] and part['key'][0] == 16} | self.barred(submission, True)
         given = [message['split'] for message in self.between(submission) if message['split'] is not None]
         last = given[-1] if given else 65535
         for step in range(65536):
@@ -462,7 +469,10 @@ class Centre:
     def forget(self, before, first, most):
         """Looks at so many messages from that number on. Those go that ended before that moment and were reported, and that nothing needs."""
         looked = [message for message in self.messages if message['id'] >= first][:most]
-        gone = {message['id'] for message in looked if self.is_forgettable(message, before)}
+        going = [message for message in looked if self.is_forgettable(message, before)]
+        for message in going:
+            self.bar(message)
+        gone = {message['id'] for message in going}
         self.messages, self.parts, self.reports = (
             [row for row in rows if row['id'] not in gone] for rows in (self.messages, self.parts, self.reports))
 
@@ -480,15 +490,21 @@ class Centre:
             return False
         if any(line.under_way and line.under_way[1][1] == id for line in self.lines.values()):
             return False
-        return not self.bars(message)
-
-    def bars(self, message):
-        """Whether its reference is barred as long as it is there, or says where the search for the next one begins."""
-        if message['split'] is None:
-            return any(part['id'] == message['id'] and part['key'] and part['key'][0] == 16 for part in self.parts)
+        # So does the reference behind which the search for the next one begins.
         given = [other['split'] for other in self.messages
                  if (other['source'], other['handset']) == (message['source'], message['handset']) and other['split'] is not None]
-        return message['state'] != 0 or message['split'] == given[-1]
+        return message['split'] is None or message['split'] != given[-1]
+
+    def bar(self, message):
+        """Keeps what the message lays claim to: its reference, unless all of it was delivered, or those that its parts came with."""
+        ends = message['source'], message['handset']
+        if message['split'] is not None:
+            if message['state'] != 0:
+                self.bars.append((*ends, message['split'], False))
+            return
+        for part in self.parts:
+            if part['id'] == message['id'] and part['key'] and part['key'][0] == 16 and (*ends, part['key'][1], True) not in self.bars:
+                self.bars.append((*ends, part['key'][1], True))
 
     # -- receipts
 
@@ -718,6 +734,10 @@ class Centre:
             add_report(rows, report)
         for message in self.messages:
             rows.numbers(message['id'], message['priority'])
+        for place, (source, handset, reference, is_own) in enumerate(self.bars, 1):
+            rows.numbers(place)
+            rows.address(*source)
+            rows.numbers(*map(ord, handset), reference, int(is_own))
         return rows.value
 
 

@@ -6,7 +6,7 @@ use Rattle.std.proofs.lemmas.Bool.{eqb-false}
 use Rattle.std.proofs.lemmas.List.{length-append, append-nil}
 use Rattle.sms_base.specs.FaultReasons.{HasContinuation, HasFront}
 use Rattle.sms_base.specs.Reading.{◌>>=◌, only_if, octet_in, run_in, end_in, AreOctets}
-use Rattle.sms_base.proofs.FaultSteps.{Ends, Reads, TakesFront, CanReadFurther, IsPart, octets_back, octets_both, part_bind, pure_part, octet_part, run_part}
+use Rattle.sms_base.proofs.FaultSteps.{Ends, Reads, TakesFront, CanReadFurther, IsPart, longer, octets_back, octets_both, part_bind, pure_part, octet_part, run_part}
 use Rattle.sms_base.proofs.Steps.{bind_ok, bind_err, err_is, ok_is}
 use Rattle.smpp_pdu.specs.declared.fault.PduFault.{PduFault}
 use Rattle.smpp_pdu.specs.declared.fault.PduFault.TheVariants.{Truncated, BadLength, UnknownCommand, NoTerminator, BadTlv, FieldTooLong, ShortMessageTooLong}
@@ -88,9 +88,6 @@ Part read = TakesFront read × Continues read × NoOther read × Stays read
 -- a part that some octets are
 abbrev Field : {X : Type 0} → Reads PduFault X → Type 0
 Field read = Part read × CanReadFurther read []
-
-pub longer : {X : Type 0} (r : Reads PduFault X) (xs : List ℕ) (x : X) (rest ys : List ℕ) → TakesFront r → r xs ≡ Ok (x, rest) → r (xs ++ ys) ≡ Ok (x, rest ++ ys)
-longer r xs x rest ys h e = let f = h xs (x, rest) e in ap r (ap (λ (l : List ℕ). l ++ ys) f.1 ∙ append_assoc f.0 rest ys) ∙ f.2 (rest ++ ys)
 
 then_stays : {X Z : Type 0} (r : Reads PduFault X) (k : X × List ℕ → Result Z PduFault) → TakesFront r → Stays r → ((x : X) → Stays (λ rest. k (x, rest))) → Stays (λ xs. r xs >>= k)
 then_stays {X} {Z} r k front h hk xs ys f w e = elim (bind_err (r xs) k f e) [

@@ -5,6 +5,7 @@ use Rattle.std.proofs.lemmas.Bool.{ltb-true, ltb-false, le-ltb, eqb-true, eqb-fa
 use Rattle.std.proofs.lemmas.List.{length-append, take-append-le}
 use Rattle.sms_base.specs.Reading.{◌>>=◌, only_if, octet_in}
 use Rattle.sms_base.proofs.Steps.{bind_err, err_is}
+use Rattle.sms_base.proofs.FaultSteps.{longer}
 use Rattle.smpp_pdu.specs.declared.fault.PduFault.{PduFault}
 use Rattle.smpp_pdu.specs.declared.fault.PduFault.TheVariants.{Truncated, BadLength, UnknownCommand, NoTerminator, BadTlv, FieldTooLong, ShortMessageTooLong}
 use Rattle.smpp_pdu.specs.declared.command.CommandId.{CommandId}
@@ -14,7 +15,7 @@ use Rattle.smpp_pdu.specs.Commands.{command_of}
 use Rattle.smpp_pdu.specs.FieldReading.{two_in, four_in}
 use Rattle.smpp_pdu.specs.PduGrammar.{IsPdu}
 use Rattle.smpp_pdu.specs.PduReading.{body_at, cut_short, body_in, pdu_at}
-use Rattle.smpp_pdu.proofs.Bodies.{IsWrong, body_stays, four_front, longer, no_fault}
+use Rattle.smpp_pdu.proofs.Bodies.{IsWrong, body_stays, four_front, no_fault}
 use Rattle.smpp_pdu.proofs.PduLaws.{pdu_again}
 
 -- ---- whole PDUs

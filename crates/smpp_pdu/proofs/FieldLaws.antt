@@ -1,23 +1,16 @@
 -- Each field that is read is in the grammar, and each that is in the grammar is read.
-use Rattle.std.proofs.Common.{◌≡◌, ℕ, zero, suc, ◌+◌, ◌*◌, ◌/◌, ◌%◌, ◌<◌, Bool, true, false, cond, eqb, ltb, ◌||◌, List, [], ◌∷◌, ◌++◌, length, get_or, Result, Ok, refl, sym, ap, subst, ◌∙◌, arith, inl, inr, ◌⊎◌}
+use Rattle.std.proofs.Common.{◌≡◌, ℕ, zero, suc, ◌+◌, ◌*◌, ◌/◌, ◌%◌, ◌<◌, Bool, true, false, cond, eqb, ltb, ◌||◌, List, [], ◌∷◌, ◌++◌, length, Result, Ok, refl, sym, ap, subst, ◌∙◌, arith, inl, inr, ◌⊎◌}
 use Rattle.std.specs.List.{AllByRecursion}
-use Rattle.std.proofs.lemmas.Bool.{ltb-true, eqb-true, eqb-false, lt-ltb, eq-eqb, ne_eqb}
+use Rattle.std.proofs.lemmas.Bool.{ltb-true, eqb-true, eqb-false, lt-ltb, eq-eqb, ne_eqb, or_cases}
 use Rattle.sms_base.specs.Reading.{◌>>=◌, only_if, octet_in, AreOctets}
 use Rattle.sms_base.proofs.Steps.{bind_ok, passes, ok_is, octet_takes, run_takes, run_again}
+use Rattle.sms_base.proofs.OctetLaws.{octets_behind}
 use Rattle.smpp_pdu.specs.declared.fault.PduFault.{PduFault}
 use Rattle.smpp_pdu.specs.declared.fault.PduFault.TheVariants.{Truncated, FieldTooLong, ShortMessageTooLong}
 use Rattle.smpp_pdu.specs.Fields.{two, four, c_string, IsText, IsTimeText, counted}
 use Rattle.smpp_pdu.specs.FieldReading.{two_in, four_in, text_in, c_string_in, time_in, short_message_in}
 
 -- ---- octets
-
-pub are_octets : (xs : List ℕ) → ((i : ℕ) → get_or xs i 0 < 256) → AreOctets xs
-are_octets [] h = tt
-are_octets (o ∷ xs) h = (h 0, are_octets xs (λ i. h (suc i)))
-
-pub octets_behind : (text rest : List ℕ) → AreOctets (text ++ rest) → AreOctets rest
-octets_behind [] rest h = h
-octets_behind (o ∷ text) rest h = octets_behind text rest h.1
 
 -- what a field took of octets
 pub record Took (text xs rest : List ℕ) : Type 0 where
@@ -136,10 +129,6 @@ c_string_again limit text rest h =
     let b = begins text rest in
     begun_text limit (c_string text ++ rest) b.0 b.1 b.2 ∙ text_again limit text rest h.no_nul h.short
 
-either : (a b : Bool) → a || b ≡ true → (a ≡ true) ⊎ (b ≡ true)
-either true b e = inl refl
-either false b e = inr e
-
 either_true : (a b : Bool) → (a ≡ true) ⊎ (b ≡ true) → a || b ≡ true
 either_true true b h = refl
 either_true false b (inl e) = absurd cc
@@ -151,7 +140,7 @@ time_takes xs x h e =
     let a = bind_ok (c_string_in 17 xs) _ x e in
     let b = bind_ok (only_if (eqb (length a.0.0) 0 || eqb (length a.0.0) 16) FieldTooLong) _ x a.2 in
     let p = c_string_takes 17 xs a.0 h a.1 in
-    let known : (length a.0.0 ≡ 0) ⊎ (length a.0.0 ≡ 16) = elim (either _ _ (passes _ FieldTooLong b.0 b.1)) [ inl t ↦ inl (eqb-true (length a.0.0) 0 t) | inr t ↦ inr (eqb-true (length a.0.0) 16 t) ] in
+    let known : (length a.0.0 ≡ 0) ⊎ (length a.0.0 ≡ 16) = elim (or_cases _ _ (passes _ FieldTooLong b.0 b.1)) [ inl t ↦ inl (eqb-true (length a.0.0) 0 t) | inr t ↦ inr (eqb-true (length a.0.0) 16 t) ] in
     subst (λ (y : List ℕ × List ℕ). IsTimeText y.0 × Took (c_string y.0) xs y.1) (ok_is {E = PduFault} (a.0.0, a.0.1) x b.2) (record { time = p.0; length_is = known }, p.1)
 
 pub time_again : (text rest : List ℕ) → IsTimeText text → time_in (c_string text ++ rest) ≡ Ok (text, rest)

@@ -1,11 +1,12 @@
 -- A proper front of a PDU: an octet is missing, and no octet of it is wrong.
-use Rattle.std.proofs.Common.{◌≡◌, ◌⊎◌, ℕ, zero, suc, ◌+◌, ◌-◌, ◌*◌, ◌<◌, true, ◌&&◌, ltb, leb, List, [], ◌∷◌, ◌++◌, length, Option, Some, None, Result, Ok, Err, refl, sym, ap, ◌∙◌, arith, inl, inr}
+use Rattle.std.proofs.Common.{◌≡◌, ◌⊎◌, ℕ, zero, suc, ◌+◌, ◌-◌, ◌*◌, ◌<◌, true, ◌&&◌, ltb, leb, List, [], ◌++◌, length, Option, Some, None, Result, Ok, Err, refl, sym, ap, ◌∙◌, arith, inl, inr}
 use Rattle.std.specs.Option.{ok_or}
 use Rattle.std.proofs.lemmas.Bool.{lt-ltb}
 use Rattle.std.proofs.lemmas.List.{length-append}
 use Rattle.sms_base.specs.Reading.{◌>>=◌, octet_in}
 use Rattle.sms_base.proofs.Steps.{bind_ok}
 use Rattle.sms_base.proofs.Cuts.{CutsShort, CutsWhole, cuts_bind, cuts_octet, cuts_pure, whole_bind, whole_test}
+use Rattle.sms_base.proofs.Lists.{no_items}
 use Rattle.smpp_pdu.specs.declared.fault.PduFault.{PduFault}
 use Rattle.smpp_pdu.specs.declared.fault.PduFault.TheVariants.{Truncated, BadLength, UnknownCommand, NoTerminator, BadTlv, FieldTooLong, ShortMessageTooLong}
 use Rattle.smpp_pdu.specs.declared.command.CommandId.{CommandId}
@@ -55,10 +56,6 @@ cuts_four =
     cuts_bind Truncated (two_in Truncated) _ cuts_two (λ low.
     cuts_pure Truncated (65536 * high + low)))
 
-nothing_left : (ys : List ℕ) → length ys ≡ 0 → ys ≡ []
-nothing_left [] e = refl
-nothing_left (y ∷ ys) e = absurd (omega arith)
-
 short_body : (c : CommandId) (n : ℕ) (xs : List ℕ) → length xs < n → cut_short (body_at c xs) ≡ Truncated → body_in c n xs ≡ Err Truncated
 unfolding body_in
 short_body c n xs lt h = let short : ltb (length xs) n ≡ true = lt-ltb (length xs) n lt in rw (short, h) refl
@@ -68,7 +65,7 @@ whole_body c n xs ys b e =
     let filled = body_in_takes c n (xs ++ ys) b e in
     by_length (length ys) refl filled where
       by_length : (m : ℕ) → length ys ≡ m → Filled c n (xs ++ ys) b → (ys ≡ []) ⊎ (body_in c n xs ≡ Err Truncated)
-      by_length zero len filled = inl (nothing_left ys len)
+      by_length zero len filled = inl (no_items ys len)
       by_length (suc m) len filled =
           let short : length xs < n = omega (arith, filled.length_is, length-append xs ys) in
           inr (short_body c n xs short (body_front c xs ys b filled.reads))

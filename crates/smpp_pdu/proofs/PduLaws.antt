@@ -2,9 +2,9 @@
 use Rattle.std.proofs.Common.{◌≡◌, ◌⊎◌, ℕ, zero, suc, ◌+◌, ◌-◌, ◌*◌, ◌<◌, ◌≤◌, Bool, true, false, ◌&&◌, cond, eqb, ltb, leb, List, [], ◌∷◌, ◌++◌, length, take, Option, Some, None, Result, Ok, Err, refl, sym, ap, subst, ◌∙◌, arith, inl, inr}
 use Rattle.std.specs.Prelude.{find, IfOk}
 use Rattle.std.specs.Option.{ok_or}
-use Rattle.std.proofs.lemmas.Bool.{eqb-true, leb-true, le-ltb, le-leb, eq-eqb}
+use Rattle.std.proofs.lemmas.Bool.{eqb-true, leb-true, le-ltb, le-leb, eq-eqb, and_parts}
 use Rattle.sms_base.specs.Reading.{◌>>=◌, only_if, end_in, AreOctets}
-use Rattle.sms_base.proofs.Steps.{passes, ok_is, both, end_takes}
+use Rattle.sms_base.proofs.Steps.{passes, ok_is, end_takes}
 use Rattle.smpp_pdu.specs.declared.fault.PduFault.{PduFault}
 use Rattle.smpp_pdu.specs.declared.fault.PduFault.TheVariants.{Truncated, BadLength, UnknownCommand}
 use Rattle.smpp_pdu.specs.declared.command.CommandId.{CommandId}
@@ -41,24 +41,7 @@ command_of_is n c e = eqb-true (command_number c) n (found_holds (λ (x : Comman
 pub command_of-number : (c : CommandId) → command_of (command_number c) ≡ Some c
 unfolding command_of
 command_of-number BindReceiverId = refl
-command_of-number BindTransmitterId = refl
-command_of-number QuerySmId = refl
-command_of-number SubmitSmId = refl
-command_of-number DeliverSmId = refl
-command_of-number UnbindId = refl
-command_of-number CancelSmId = refl
-command_of-number BindTransceiverId = refl
-command_of-number EnquireLinkId = refl
-command_of-number GenericNackId = refl
-command_of-number BindReceiverRespId = refl
-command_of-number BindTransmitterRespId = refl
-command_of-number QuerySmRespId = refl
-command_of-number SubmitSmRespId = refl
-command_of-number DeliverSmRespId = refl
-command_of-number UnbindRespId = refl
-command_of-number CancelSmRespId = refl
-command_of-number BindTransceiverRespId = refl
-command_of-number EnquireLinkRespId = refl
+command_of-number _ = refl
 
 -- ---- bodies
 
@@ -173,7 +156,7 @@ pdu_takes xs p h e =
     went (four_in xs) _ p e (λ s1 a1 b1.
     let p1 = four_takes xs s1 h a1 in
     went (only_if (leb 16 s1.0 && leb s1.0 65536) BadLength) _ p b1 (λ u a2 b2.
-    let t = both (leb 16 s1.0) (leb s1.0 65536) (passes _ BadLength u a2) in
+    let t = and_parts (leb 16 s1.0) (leb s1.0 65536) (passes _ BadLength u a2) in
     let low : 16 ≤ s1.0 = leb-true 16 s1.0 t.0 in
     let high : s1.0 ≤ 65536 = leb-true s1.0 65536 t.1 in
     went (four_in s1.1) _ p b2 (λ s2 a3 b3.

@@ -1,12 +1,12 @@
 -- Why octets are no PDU, by the fault.
 use Rattle.std.proofs.Common.{◌≡◌, ◌⊎◌, ℕ, ◌+◌, ◌-◌, ◌<◌, ◌≤◌, Bool, true, false, ◌&&◌, cond, eqb, ltb, leb, List, [], ◌∷◌, ◌++◌, length, take, drop, Option, Some, None, Result, Ok, Err, refl, sym, ap, subst, ◌∙◌, arith, inl, inr}
 use Rattle.std.specs.Option.{ok_or}
-use Rattle.std.proofs.lemmas.Bool.{ltb-true, ltb-false, lt-ltb, le-ltb, leb-true, le-leb, eqb-false, ne_eqb}
+use Rattle.std.proofs.lemmas.Bool.{ltb-true, ltb-false, lt-ltb, le-ltb, leb-true, le-leb, eqb-false, ne_eqb, and_parts, false_from_ne_true}
 use Rattle.std.proofs.lemmas.List.{length-append, length-take, length-drop, take-append-drop, take_at, append-nil}
 use Rattle.sms_base.specs.FaultReasons.{HasContinuation, HasFront}
 use Rattle.sms_base.specs.Reading.{◌>>=◌, only_if, AreOctets}
 use Rattle.sms_base.proofs.FaultSteps.{octets_back}
-use Rattle.sms_base.proofs.Steps.{bind_err, err_is, ok_is, passes, both}
+use Rattle.sms_base.proofs.Steps.{bind_err, err_is, ok_is, passes}
 use Rattle.smpp_pdu.specs.declared.fault.PduFault.{PduFault}
 use Rattle.smpp_pdu.specs.declared.fault.PduFault.TheVariants.{Truncated, BadLength, UnknownCommand, NoTerminator, BadTlv, FieldTooLong, ShortMessageTooLong}
 use Rattle.smpp_pdu.specs.declared.command.CommandId.{CommandId}
@@ -40,7 +40,7 @@ Place xs f =
     ((f ≡ Truncated) × EndsInHeader xs) ⊎ (((f ≡ BadLength) × HasBadCommandLength xs) ⊎ (((f ≡ UnknownCommand) × HasNoCommand xs) ⊎ IsInBody xs f))
 
 in_range : (n : ℕ) → leb 16 n && leb n 65536 ≡ true → IsCommandLength n
-in_range n e = let t = both (leb 16 n) (leb n 65536) e in (leb-true 16 n t.0, leb-true n 65536 t.1)
+in_range n e = let t = and_parts (leb 16 n) (leb n 65536) e in (leb-true 16 n t.0, leb-true n 65536 t.1)
 
 range_test : (n : ℕ) → IsCommandLength n → leb 16 n && leb n 65536 ≡ true
 range_test n h = rw (le-leb 16 n h.0, le-leb n 65536 h.1) refl
@@ -314,14 +314,10 @@ is_long_message xs octets e = has_wrong_body xs ShortMessageTooLong tt (λ q. ab
 
 -- ---- the other way round
 
-false_or : (b : Bool) → (b ≡ true → ⊥) → b ≡ false
-false_or true h = absurd (h refl)
-false_or false h = refl
-
 pub bad_length_is : (xs : List ℕ) → HasBadCommandLength xs → pdu_at xs ≡ Err BadLength
 unfolding pdu_at
 bad_length_is xs (n, rest, spelled, bad) =
-    let test : leb 16 n && leb n 65536 ≡ false = false_or _ (λ t. bad (in_range n t)) in
+    let test : leb 16 n && leb n 65536 ≡ false = false_from_ne_true _ (λ t. bad (in_range n t)) in
     rw (spelled, four_again n rest, test) refl
 
 none_is : (o : Option CommandId) → ((c : CommandId) → o ≡ Some c → ⊥) → o ≡ None

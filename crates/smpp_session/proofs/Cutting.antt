@@ -1,6 +1,6 @@
 -- Octets that are fed one after the other, where they are cut.
 use Rattle.std.proofs.Common.{◌≡◌, ◌⊎◌, inl, inr, ℕ, zero, suc, ◌+◌, ◌<◌, ◌≤◌, Bool, true, false, ◌&&◌, cond, ltb, leb, List, [], ◌∷◌, ◌++◌, length, get_or, take, drop, refl, sym, ap, subst, ◌∙◌, arith, append_assoc, drop-drop}
-use Rattle.std.proofs.lemmas.Bool.{ltb-true, ltb-false}
+use Rattle.std.proofs.lemmas.Bool.{ltb-true, ltb-false, leb-true, leb-false}
 use Rattle.std.proofs.lemmas.Bool.Decides.{leb_tells}
 use Rattle.std.proofs.Math.ListN.{get_or-append}
 use Rattle.std.proofs.Math.Seq.{drop-cons, take-suc}
@@ -28,12 +28,6 @@ Facts l n (Whole len) = (len ≡ n) × (16 ≤ n) × (n ≤ 65536) × (n ≤ l)
 Facts l n BadLength = (16 ≤ l) × ((n < 16) ⊎ (65536 < n))
 Facts l n Dropped = ⊥
 
-leb-le : (a b : ℕ) → leb a b ≡ true → a ≤ b
-leb-le a b e = elim (leb_tells a b) [ inl w ↦ w.1 | inr w ↦ absurd cc ]
-
-leb-gt : (a b : ℕ) → leb a b ≡ false → b < a
-leb-gt a b e = elim (leb_tells a b) [ inl w ↦ absurd cc | inr w ↦ w.1 ]
-
 pub facts : (l n : ℕ) → Facts l n (front_by l n)
 facts l n = first (ltb l 16) refl where
   third : (a : Bool) → 16 ≤ n → n ≤ 65536 → ltb l n ≡ a → Facts l n (cond a Waiting (Whole n))
@@ -41,9 +35,9 @@ facts l n = first (ltb l 16) refl where
   third false low high e = (refl, low, high, ltb-false _ _ e)
 
   second : (a b : Bool) → 16 ≤ l → leb 16 n ≡ a → leb n 65536 ≡ b → Facts l n (cond (a && b) (cond (ltb l n) Waiting (Whole n)) BadLength)
-  second true true long d e = third (ltb l n) (leb-le _ _ d) (leb-le _ _ e) refl
-  second true false long d e = (long, inr (leb-gt _ _ e))
-  second false b long d e = (long, inl (leb-gt _ _ d))
+  second true true long d e = third (ltb l n) (leb-true _ _ d) (leb-true _ _ e) refl
+  second true false long d e = (long, inr (leb-false _ _ e))
+  second false b long d e = (long, inl (leb-false _ _ d))
 
   first : (a : Bool) → ltb l 16 ≡ a → Facts l n (cond a Waiting (cond (leb 16 n && leb n 65536) (cond (ltb l n) Waiting (Whole n)) BadLength))
   first true e = inl (ltb-true _ _ e)

@@ -292,13 +292,7 @@ fed_owed s xs none = (fed_owes s.conversation.owed s xs (record { owed = refl; n
 pub settled_none : (state : SessionState) (owed : List ℕ) → has_settled state owed ≡ true → owed ≡ []
 settled_none state [] e = refl
 settled_none Opened (n ∷ owed) e = absurd cc
-settled_none BoundTx (n ∷ owed) e = absurd cc
-settled_none BoundRx (n ∷ owed) e = absurd cc
-settled_none BoundTrx (n ∷ owed) e = absurd cc
-settled_none Unbinding (n ∷ owed) e = absurd cc
-settled_none Finishing (n ∷ owed) e = absurd cc
-settled_none Broken (n ∷ owed) e = absurd cc
-settled_none Closed (n ∷ owed) e = absurd cc
+settled_none _ (n ∷ owed) e = absurd cc
 
 answer_owes : (b : Bool) (n : ℕ) (owed : List ℕ) (c : Conversation) → has_settled c.state (owed_behind n c) ≡ b → Owes owed c
     → Owes (without n owed) (cond b (closed_conversation c) (record c { owed = owed_behind n c }))

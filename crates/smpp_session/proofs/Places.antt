@@ -5,13 +5,11 @@ use Rattle.std.specs.List.{remove}
 use Rattle.std.proofs.Math.Seq.{drop-cons, take-suc}
 use Rattle.std.proofs.lemmas.Bool.Decides.{eqb_tells}
 use Rattle.std.proofs.lemmas.List.{drop_all, append_assoc, append-nil, take_all}
+use Rattle.sms_base.proofs.Lists.{drop_item}
 use Rattle.smpp_session.specs.declared.account.Account.{Account}
 use Rattle.smpp_session.specs.declared.account.Login.TheVariants.{Known, UnknownName, WrongPassword}
 use Rattle.smpp_session.specs.Logins.{is_own, login}
 use Rattle.smpp_session.specs.Windows.{is_among, is_none, without}
-
-drop_item : {A : Type 0} (xs : List A) (i : ℕ) (a : A) → i < length xs → a ≡ get_or xs i a → drop i xs ≡ a ∷ drop (i + 1) xs
-drop_item xs i a fits is = drop-cons xs i a fits ∙ (ap (λ y. y ∷ drop (suc i) xs) (sym is) ∙ ap (λ (j : ℕ). a ∷ drop j xs) (sym (add-one i)))
 
 pub login_at : (i : ℕ) (n p : List ℕ) (xs : List Account) (a : Account) → i < length xs → a ≡ get_or xs i a
     → login i n p (drop i xs) ≡ cond (bytes_eq a.name n) (cond (is_own a.password p) (Known i) WrongPassword) (login (i + 1) n p (drop (i + 1) xs))

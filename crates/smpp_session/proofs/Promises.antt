@@ -3,6 +3,7 @@ use Rattle.std.proofs.Common.{◌≡◌, ◌⊎◌, inl, inr, ℕ, ◌<◌, Bool
 use Rattle.std.specs.List.{AllByRecursion}
 use Rattle.std.proofs.lemmas.Bool.{ltb-true}
 use Rattle.std.proofs.lemmas.List.{append-nil}
+use Rattle.sms_base.proofs.Lists.{all_append}
 use Rattle.smpp_pdu.specs.declared.fault.PduFault.{PduFault}
 use Rattle.smpp_pdu.specs.declared.command.CommandId.{CommandId}
 use Rattle.smpp_pdu.specs.declared.status.CommandStatus.{CommandStatus}
@@ -47,7 +48,7 @@ use Rattle.smpp_session.specs.SessionTable.{accepting_bind, bind_refused, broken
 use Rattle.smpp_session.specs.Stream.{header_at, front_of}
 use Rattle.smpp_session.specs.Windows.{is_among, without, IsSequenceNumber, IsWindow}
 use Rattle.smpp_session.proofs.Cutting.{closed_deaf, dropped}
-use Rattle.smpp_session.proofs.FreeNumbers.{all_append, after_is_number, free_is_free, free_is_number, window_added, window_taken, no_window}
+use Rattle.smpp_session.proofs.FreeNumbers.{after_is_number, free_is_free, free_is_number, window_added, window_taken, no_window}
 
 -- what the actions of a turn told, where an account was bound before them or not
 record IsSound (before : Bool) (turn : SessionStep) : Type 0 where
@@ -344,7 +345,7 @@ feed_quiet s xs e =
     let none : stream s.accounts (turn_of s, []) (s.buffered ++ xs) ≡ (turn_of s, []) = dropped s.accounts (turn_of s) (s.buffered ++ xs) (closed_deaf s.conversation.state e) in
     record { closed = ap (λ (c : StreamProgress). c.0.conversation.state) none ∙ e; nothing = ap (λ (c : StreamProgress). c.0.actions) none }
 
-answered_state : (b : Bool) (owed : List ℕ) (c : Conversation) → c.state ≡ Closed → (cond b (closed_conversation c) (record c { owed = owed })).state ≡ Closed
+pub answered_state : (b : Bool) (owed : List ℕ) (c : Conversation) → c.state ≡ Closed → (cond b (closed_conversation c) (record c { owed = owed })).state ≡ Closed
 answered_state true owed c e = refl
 answered_state false owed c e = e
 

@@ -1,6 +1,7 @@
 -- What is bound is not among the accounts that are full.
 use Rattle.std.proofs.Common.{◌≡◌, ℕ, Bool, true, false, cond, eqb, ltb, List, [], ◌∷◌, ◌++◌, Option, Some, None, Result, Ok, Err, refl, sym, ap, subst, ◌∙◌}
 use Rattle.std.specs.List.{AllByRecursion}
+use Rattle.sms_base.proofs.Lists.{all_append}
 use Rattle.smpp_pdu.specs.declared.fault.PduFault.{PduFault}
 use Rattle.smpp_pdu.specs.declared.command.CommandId.{CommandId}
 use Rattle.smpp_pdu.specs.declared.status.CommandStatus.{CommandStatus}
@@ -33,7 +34,6 @@ use Rattle.smpp_session.specs.SessionTable.{judged, judged_fault, refusal, witho
 use Rattle.smpp_session.specs.SessionTable.{accepting_bind, bind_refused, broken_by, kind_of_command, left_by, name_of, passed_up, refused_by, unbind_number, unbound_by}
 use Rattle.smpp_session.specs.Stream.{header_at, front_of}
 use Rattle.smpp_session.specs.Windows.{is_among, without}
-use Rattle.smpp_session.proofs.FreeNumbers.{all_append}
 
 -- while those accounts are full
 record IsRoomy (full : List Bool) (turn : SessionStep) : Type 0 where

@@ -1,6 +1,7 @@
 -- Each verdict comes when a time has run out, and none before.
 use Rattle.std.proofs.Common.{◌≡◌, ℕ, ◌-◌, ◌<◌, ◌≤◌, Bool, true, false, cond, Option, Some, None, refl, arith}
 use Rattle.std.proofs.lemmas.Bool.{ltb-true, ltb-false}
+use Rattle.std.proofs.lemmas.Option.{same_Some}
 use Rattle.smpp_session.specs.declared.patience.Patience.{Patience}
 use Rattle.smpp_session.specs.declared.patience.EndpointState.{EndpointState}
 use Rattle.smpp_session.specs.declared.patience.WaitOutcome.{WaitOutcome}
@@ -12,14 +13,11 @@ abbrev Told : Bool → Type 0 → Type 0
 Told true ran_out = ran_out → ⊥
 Told false ran_out = ran_out
 
-some_is : (a b : ℕ) → Some a ≡ Some b → a ≡ b
-some_is a b e = cc
-
 told : (limit : ℕ) (since : Option ℕ) (now : ℕ) → 0 < limit → Told (is_within_some limit since now) (HasRunOut limit since now)
 told limit None now some = λ out. let e = out.1 in absurd cc
 told limit (Some since) now some = by_test (is_within limit since now) refl where
   by_test : (t : Bool) → is_within limit since now ≡ t → Told t (HasRunOut limit (Some since) now)
-  by_test true e = λ out. (let same = some_is since out.0 out.1 in let less : now - since < limit = ltb-true (now - since) limit e in omega (arith, less, same, out.2))
+  by_test true e = λ out. (let same = same_Some since out.0 out.1 in let less : now - since < limit = ltb-true (now - since) limit e in omega (arith, less, same, out.2))
   by_test false e = (let more : limit ≤ now - since = ltb-false (now - since) limit e in (since, refl, omega (arith, more, some)))
 
 -- ---- what each verdict says

@@ -9,7 +9,7 @@ use Rattle.sms_alphabet.proofs.Held.{septet_power, octet_power}
 
 -- octets are the digits of their value
 
-digits_of_value : (o : List ℕ) → AreOctets o → digits_in 256 (length o) (value_in 256 o) ≡ o
+pub digits_of_value : (o : List ℕ) → AreOctets o → digits_in 256 (length o) (value_in 256 o) ≡ o
 digits_of_value [] h = refl
 digits_of_value (x ∷ xs) h =
     let small : x < 256 = h.0 in
@@ -25,18 +25,18 @@ packing_is septets octets fill h p =
 
 -- the value of those digits
 
-value_in-digits : (n v : ℕ) → v < 256 ^ n → value_in 256 (digits_in 256 n v) ≡ v
+pub value_in-digits : (n v : ℕ) → v < 256 ^ n → value_in 256 (digits_in 256 n v) ≡ v
 value_in-digits zero v h = let one = pow-zero 256 in omega arith
 value_in-digits (suc n) v h =
     let more = pow-succ' 256 n in
     let rest = value_in-digits n (v / 256) (omega (arith, more)) in
     omega (arith, rest)
 
-power_above : (n : ℕ) → 1 ≤ 2 ^ n
+pub power_above : (n : ℕ) → 1 ≤ 2 ^ n
 power_above zero = omega (arith, pow-zero 2)
 power_above (suc n) = omega (arith, pow-succ' 2 n, power_above n)
 
-packed_value : (fill : ℕ) (units : List ℕ) → AreSeptets units → 2 ^ fill * value_in 128 units < 256 ^ packed_len fill (length units)
+pub packed_value : (fill : ℕ) (units : List ℕ) → AreSeptets units → 2 ^ fill * value_in 128 units < 256 ^ packed_len fill (length units)
 packed_value fill units h =
     let n = length units in
     let p = 2 ^ fill in

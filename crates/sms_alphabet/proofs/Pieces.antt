@@ -3,12 +3,11 @@ use Rattle.std.proofs.Common.{length, get_or, ◌≡◌, ◌≢◌, ℕ, zero, s
 use Rattle.std.specs.List.{list_all}
 use Rattle.std.specs.Prelude.{nat_lt}
 use Rattle.std.specs.Result.{IfOk}
-use Rattle.std.proofs.lemmas.Bool.{eqb-true, eqb-false, ne_eqb, lt-ltb, ltb-true}
+use Rattle.std.proofs.lemmas.Bool.{eqb-true, eqb-false, ne_eqb, lt-ltb, ltb-true, and_parts}
 use Rattle.sms_base.specs.declared.alphabet.Code.{Code}
 use Rattle.sms_base.specs.declared.alphabet.Code.TheVariants.{Main, Extended}
 use Rattle.sms_base.specs.Alphabet.{IsPair, IsSpelling, septets_in, text_in, main_character, extended_character_of, escaped_character}
 use Rattle.sms_base.proofs.Alphabets.{code_reads, pair_is_extended, pair_is_septet, extended_is_pair}
-use Rattle.sms_base.proofs.Steps.{both}
 use Rattle.sms_alphabet.specs.Packing.{AreSeptets}
 use Rattle.sms_alphabet.specs.declared.reading.ReadingError.{ReadingError}
 use Rattle.sms_alphabet.specs.declared.reading.ReadingError.TheVariants.{NotSeptet}
@@ -92,10 +91,10 @@ two_left septet next rest false lt lt' t far near =
 
 cuts : (septets : List ℕ) → are_septets septets ≡ true → IsReading septets (text_in septets)
 cuts [] h = refl
-cuts (septet ∷ []) h = one_left septet (eqb septet 27) (ltb-true septet 128 (both (ltb septet 128) true h).0) refl
+cuts (septet ∷ []) h = one_left septet (eqb septet 27) (ltb-true septet 128 (and_parts (ltb septet 128) true h).0) refl
 cuts (septet ∷ next ∷ rest) h =
-    let b = both (ltb septet 128) (are_septets (next ∷ rest)) h in
-    let d = both (ltb next 128) (are_septets rest) b.1 in
+    let b = and_parts (ltb septet 128) (are_septets (next ∷ rest)) h in
+    let d = and_parts (ltb next 128) (are_septets rest) b.1 in
     two_left septet next rest (eqb septet 27) (ltb-true septet 128 b.0) (ltb-true next 128 d.0) refl (cuts rest d.1) (cuts (next ∷ rest) b.1)
 
 read_cuts : (septets text : List ℕ) (b : Bool) → are_septets septets ≡ b → cond b (Ok (text_in septets)) (Err NotSeptet) ≡ Ok text → IsReading septets text
@@ -113,14 +112,14 @@ found view septets (Err e) a = tt
 pub only : {X : Type 0} (view : X → List ℕ) (septets text : List ℕ) (result : Result X ReadingError) → AnswersText view result (text_read septets) → IsReading septets text → AnswersText view result (Ok text)
 only {X} view septets text result a r = subst (λ (w : Result (List ℕ) ReadingError). AnswersText view result w) (reading_again septets text r) a
 
-below : (septet : ℕ) (septets : List ℕ) → septet < 128 → AreSeptets septets → (k d : ℕ) → k < length (septet ∷ septets) → get_or (septet ∷ septets) k d < 128
+pub below : (septet : ℕ) (septets : List ℕ) → septet < 128 → AreSeptets septets → (k d : ℕ) → k < length (septet ∷ septets) → get_or (septet ∷ septets) k d < 128
 below septet septets first later zero d lt = first
 below septet septets first later (suc k) d lt = later k d (omega arith)
 
 each_below : (septets : List ℕ) → are_septets septets ≡ true → AreSeptets septets
 each_below [] h = λ k d lt. absurd (omega arith)
 each_below (septet ∷ septets) h =
-    let b = both (ltb septet 128) (are_septets septets) h in
+    let b = and_parts (ltb septet 128) (are_septets septets) h in
     λ k d lt. below septet septets (ltb-true septet 128 b.0) (each_below septets b.1) k d lt
 
 -- what spells a text are septets

@@ -4,10 +4,11 @@ use Rattle.std.specs.List.{AllByRecursion, list_all}
 use Rattle.std.specs.Prelude.{nat_lt}
 use Rattle.std.specs.Str.{chars, encode_utf8_all}
 use Rattle.std.specs.Char.{encode_utf8}
-use Rattle.std.proofs.lemmas.Bool.{ne_eqb, ltb-true, lt-ltb, le-ltb, cases_lt}
+use Rattle.std.proofs.lemmas.Bool.{ne_eqb, ltb-true, lt-ltb, le-ltb, cases_lt, and_parts}
 use Rattle.std.proofs.lemmas.Str.{chars-encodes}
 use Rattle.sms_base.specs.Alphabet.{text_in, main_character, escaped_character}
 use Rattle.sms_base.proofs.Alphabets.{text_scalars}
+use Rattle.sms_base.proofs.Bools.{and_assoc, and_true}
 
 -- what is still to be read
 abbrev pub pending : Bool → List ℕ → List ℕ
@@ -50,15 +51,10 @@ reads_end_escaped septets bytes rest e r = ap (λ (s : List ℕ). bytes ++ s) (s
 pub next_septet : (septets : List ℕ) (place : ℕ) → place < length septets → drop place septets ≡ get_or septets place 0 ∷ drop (place + 1) septets
 next_septet septets place lt = rw (add-one, drop-cons septets place 0) refl
 
--- the texts that are read are texts
-both : (a b : Bool) → a && b ≡ true → (a ≡ true) × (b ≡ true)
-both true b e = (refl, e)
-both false b e = absurd cc
-
 each_septet : (septets : List ℕ) → list_all (λ septet. nat_lt septet 128) septets ≡ true → AllByRecursion (λ septet. septet < 128) septets
 each_septet [] h = tt
 each_septet (septet ∷ septets) h =
-    let b = both (nat_lt septet 128) (list_all (λ s. nat_lt s 128) septets) h in
+    let b = and_parts (nat_lt septet 128) (list_all (λ s. nat_lt s 128) septets) h in
     (ltb-true septet 128 b.0, each_septet septets b.1)
 
 pub text_characters : (septets : List ℕ) → list_all (λ septet. nat_lt septet 128) septets ≡ true → chars (encode_utf8_all (text_in septets)) ≡ text_in septets
@@ -75,20 +71,12 @@ max_below m x = elim (cases_lt m 128) [
   | inr a ↦ le-ltb (max m x) 128 (omega (arith, a)) ∙ sym (rw (le-ltb m 128 a) refl)
 ]
 
-and_regroup : (a b c : Bool) → (a && b) && c ≡ a && (b && c)
-and_regroup true b c = refl
-and_regroup false b c = refl
-
-and_true : (a : Bool) → a && true ≡ a
-and_true true = refl
-and_true false = refl
-
 abbrev AllBelow : List ℕ → Bool
 AllBelow xs = list_all (λ septet. nat_lt septet 128) xs
 
 pub most_turn : (xs rest later : List ℕ) (m x : ℕ) → rest ≡ x ∷ later → nat_lt m 128 && AllBelow rest ≡ AllBelow xs → nat_lt (max m x) 128 && AllBelow later ≡ AllBelow xs
 most_turn xs rest later m x e h =
-    ap (λ (b : Bool). b && AllBelow later) (max_below m x) ∙ and_regroup (ltb m 128) (ltb x 128) (AllBelow later) ∙ ap (λ (r : List ℕ). ltb m 128 && AllBelow r) (sym e) ∙ h
+    ap (λ (b : Bool). b && AllBelow later) (max_below m x) ∙ and_assoc (ltb m 128) (ltb x 128) (AllBelow later) ∙ ap (λ (r : List ℕ). ltb m 128 && AllBelow r) (sym e) ∙ h
 
 pub most_end : (xs rest : List ℕ) (m : ℕ) → length rest ≡ 0 → nat_lt m 128 && AllBelow rest ≡ AllBelow xs → nat_lt m 128 ≡ AllBelow xs
 most_end xs [] m e h = sym (and_true (ltb m 128)) ∙ h

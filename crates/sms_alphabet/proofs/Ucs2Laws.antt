@@ -1,14 +1,13 @@
 -- What is written in UCS2 is read as the same text, and what is read was written so.
 use Rattle.std.specs.Result.{IfOk}
-use Rattle.std.proofs.Common.{get_or, ◌≡◌, ℕ, suc, ◌+◌, ◌-◌, ◌/◌, ◌%◌, ◌<◌, ◌≤◌, Bool, true, false, cond, ltb, List, [], ◌∷◌, ◌++◌, Result, Ok, Err, refl, sym, ap, subst, ◌∙◌, arith}
+use Rattle.std.proofs.Common.{◌≡◌, ℕ, ◌+◌, ◌-◌, ◌/◌, ◌%◌, ◌<◌, ◌≤◌, Bool, true, false, cond, ltb, List, [], ◌∷◌, ◌++◌, Result, Ok, Err, refl, sym, ap, subst, ◌∙◌, arith}
 use Rattle.std.specs.Str.{all_scalars}
 use Rattle.std.specs.Char.Utf16.{is_high_surrogate, is_low_surrogate, surrogate_pair_char}
-use Rattle.std.proofs.lemmas.Bool.{ltb-true, ltb-false, lt-ltb, le-ltb}
+use Rattle.std.proofs.lemmas.Bool.{ltb-true, ltb-false, lt-ltb, le-ltb, and_parts}
 use Rattle.std.proofs.lemmas.Bool.Decides.{nat_tests}
 use Rattle.sms_base.specs.Reading.{AreOctets}
 use Rattle.sms_alphabet.specs.declared.ucs2.Ucs2Error.{Ucs2Error}
 use Rattle.sms_alphabet.specs.declared.ucs2.Ucs2Error.TheVariants.{OddLength, LoneSurrogate}
-use Rattle.sms_base.proofs.Steps.{both}
 use Rattle.sms_alphabet.specs.Ucs2Reading.{unit_in, partner_in, character_at, character_in}
 use Rattle.sms_alphabet.proofs.Ucs2Steps.{step, ucs2_step}
 use Rattle.sms_alphabet.specs.Ucs2.{octets_for, ucs2_for, behind, unit_of, ucs2_in, AnswersUcs2}
@@ -96,7 +95,7 @@ pub ucs2_is_read : (text : List ℕ) → all_scalars text ≡ true → ucs2_in (
 unfolding ucs2_in
 ucs2_is_read [] s = refl
 ucs2_is_read (c ∷ text) s =
-    let b = both (scalar c) (scalars text) s in
+    let b = and_parts (scalar c) (scalars text) s in
     read_character c (ucs2_for text) (ltb c 65536) refl b.0 ∙ ap (behind c) (ucs2_is_read text b.1)
 
 -- ---- a text that was read was written so
@@ -183,10 +182,6 @@ read_is_ucs2 (a ∷ b ∷ []) text o e = last_unit a b text _ _ refl refl o.0 o.
 read_is_ucs2 (a ∷ b ∷ c ∷ []) text o e = absurd (odd_unit (is_low_surrogate (unit_of a b)) text e)
 read_is_ucs2 (a ∷ b ∷ c ∷ d ∷ rest) text o e =
     two_units a b c d rest text _ _ _ refl refl refl o (λ later ok is. read_is_ucs2 rest later ok is) (λ later ok is. read_is_ucs2 (c ∷ d ∷ rest) later ok is) e
-
-pub all_octets : (octets : List ℕ) → ((i : ℕ) → get_or octets i 0 < 256) → AreOctets octets
-all_octets [] h = tt
-all_octets (octet ∷ octets) h = (h 0, all_octets octets (λ i. h (suc i)))
 
 pub found : {X : Type 0} (view : X → List ℕ) (octets : List ℕ) (result : Result X Ucs2Error) → AreOctets octets → AnswersUcs2 view result (ucs2_in octets) → IfOk result (λ text. octets ≡ ucs2_for (view text))
 found view octets (Ok text) o a = (read_is_ucs2 octets (view text) o a).0

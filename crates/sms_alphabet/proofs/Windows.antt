@@ -4,10 +4,11 @@ use Rattle.std.proofs.Math.Nat.{mul_assoc, mul_comm, mul-add, mul-le-mul_right, 
 use Rattle.std.proofs.lemmas.Nat.{pow-add, field_of, shr_below, or_shifted, or_comm, shl_whole}
 use Rattle.std.proofs.lemmas.List.{length-append, length-drop}
 use Rattle.std.specs.Int.{w64, from_le_bytes, to_le_bytes}
+use Rattle.sms_base.proofs.OctetLaws.{IsBytes}
 use Rattle.sms_alphabet.specs.Packing.{value_in, digits_in, septets_in}
 use Rattle.sms_alphabet.proofs.Value.{value-append}
 use Rattle.sms_alphabet.proofs.Held.{Packs, octet_power, septet_power}
-use Rattle.sms_alphabet.proofs.Places.{IsBytes, value_in-from_bit}
+use Rattle.sms_alphabet.proofs.Places.{value_in-from_bit}
 
 -- the first eight octets are the number below 2 ^ 64
 pub eight_are : (a b c d e f g h : ℕ) (rest : List ℕ) → a < 256 → b < 256 → c < 256 → d < 256 → e < 256 → f < 256 → g < 256 → h < 256

@@ -81,6 +81,18 @@ type_of-number Subscriber = refl
 type_of-number Alphanumeric = refl
 type_of-number Abbreviated = refl
 
+pub same_type : (t u : TypeOfNumber) → type_number t ≡ type_number u → t ≡ u
+same_type t u e =
+    let both : Some t ≡ Some u = sym (type_of-number t) ∙ ap (λ (n : ℕ). type_of n) e ∙ type_of-number u in
+    let q : t ≡ u = cc in q
+
+-- addresses of equal parts are equal
+pub same_parts : (a b : Address) → type_number a.ton ≡ type_number b.ton → a.npi ≡ b.npi → a.digits ≡ b.digits → a ≡ b
+same_parts a b number npi digits =
+    ap (λ (t : TypeOfNumber). record a { ton = t }) (same_type a.ton b.ton number)
+    ∙ ap (λ (n : ℕ). record b { npi = n; digits = a.digits }) npi
+    ∙ ap (λ (d : List ℕ). record b { digits = d }) digits
+
 -- a test of one number
 pick_by : (n k : ℕ) (t ton : TypeOfNumber) (rest : Option TypeOfNumber) (b : Bool) → eqb n k ≡ b → type_number t ≡ k → (rest ≡ Some ton → type_number ton ≡ n) → cond b (Some t) rest ≡ Some ton → type_number ton ≡ n
 pick_by n k t ton rest true test is other e =

@@ -6,7 +6,8 @@ use Rattle.std.specs.Option.{IfSome}
 use Rattle.std.specs.List.{AllByRecursion}
 use lib.Utf8.{scalar, scalars}
 use Rattle.std.proofs.lemmas.List.Quantifiers.{position-Some}
-use Rattle.std.proofs.lemmas.Bool.{ltb-true, eqb-true, eqb-false, ne_eqb}
+use Rattle.std.proofs.lemmas.Bool.{ltb-true, eqb-true, eqb-false, ne_eqb, and_parts, and_from}
+use Rattle.std.proofs.lemmas.Option.{same_Some}
 use Rattle.sms_base.specs.declared.alphabet.Code.{Code}
 use Rattle.sms_base.specs.declared.alphabet.Code.TheVariants.{Main, Extended}
 use Rattle.sms_base.specs.declared.alphabet.TheConstants.{ESCAPE, MAIN_TABLE, EXTENSION_TABLE}
@@ -17,23 +18,18 @@ unfoldable pub each_from : (ℕ → ℕ → Bool) → ℕ → List ℕ → Bool
 each_from test i [] = true
 each_from test i (x ∷ xs) = test i x && each_from test (suc i) xs
 
-both : (a b : Bool) → a && b ≡ true → (a ≡ true) × (b ≡ true)
-both true true e = (refl, refl)
-both true false e = absurd cc
-both false b e = absurd cc
-
 pub each_at : (test : ℕ → ℕ → Bool) (i : ℕ) (xs : List ℕ) (k : ℕ) → each_from test i xs ≡ true → k < length xs → test (i + k) (get_or xs k 0) ≡ true
 unfolding each_from
 each_at test i [] k e lt = absurd (omega arith)
-each_at test i (x ∷ xs) zero e lt = let same : i + 0 ≡ i = omega arith in ap (λ (n : ℕ). test n x) same ∙ (both (test i x) (each_from test (suc i) xs) e).0
+each_at test i (x ∷ xs) zero e lt = let same : i + 0 ≡ i = omega arith in ap (λ (n : ℕ). test n x) same ∙ (and_parts (test i x) (each_from test (suc i) xs) e).0
 each_at test i (x ∷ xs) (suc k) e lt =
     let same : i + suc k ≡ suc i + k = omega arith in
-    ap (λ (n : ℕ). test n (get_or xs k 0)) same ∙ each_at test (suc i) xs k (both (test i x) (each_from test (suc i) xs) e).1 (omega arith)
+    ap (λ (n : ℕ). test n (get_or xs k 0)) same ∙ each_at test (suc i) xs k (and_parts (test i x) (each_from test (suc i) xs) e).1 (omega arith)
 
 all_at : {X : Type 0} (test : X → Bool) (xs : List X) (k : ℕ) (x : X) → list_all test xs ≡ true → k < length xs → test (get_or xs k x) ≡ true
 all_at test [] k x e lt = absurd (omega arith)
-all_at test (y ∷ xs) zero x e lt = (both (test y) (list_all test xs) e).0
-all_at test (y ∷ xs) (suc k) x e lt = all_at test xs k x (both (test y) (list_all test xs) e).1 (omega arith)
+all_at test (y ∷ xs) zero x e lt = (and_parts (test y) (list_all test xs) e).0
+all_at test (y ∷ xs) (suc k) x e lt = all_at test xs k x (and_parts (test y) (list_all test xs) e).1 (omega arith)
 
 unfoldable pub same_code : Option Code → Code → Bool
 same_code None code = false
@@ -96,12 +92,9 @@ code_of_pair (Extended septet) character p =
     let here : extended_test pair ≡ true = ap extended_test (sym p.2) ∙ passed in
     is_code (code_for character) (Extended septet) here
 
-some_is : (a b : Code) → Some a ≡ Some b → a ≡ b
-some_is a b e = cc
-
 -- a character has one code
 pub one_code : (a b : Code) (character : ℕ) → IsPair a character → IsPair b character → a ≡ b
-one_code a b character p q = some_is a b (sym (code_of_pair a character p) ∙ code_of_pair b character q)
+one_code a b character p q = same_Some a b (sym (code_of_pair a character p) ∙ code_of_pair b character q)
 
 -- what is written so is of the alphabet
 
@@ -258,12 +251,7 @@ unfolding scalar_test
 are_scalar septet lt =
     let passed : scalar_test (0 + septet) (get_or MAIN_TABLE septet 0) ≡ true = each_at scalar_test 0 MAIN_TABLE septet scalar_passes lt in
     let zeroed : 0 + septet ≡ septet = omega arith in
-    both (scalar (main_character septet)) (scalar (escaped_character septet)) (ap (λ (n : ℕ). scalar_test n (get_or MAIN_TABLE septet 0)) (sym zeroed) ∙ passed)
-
-and_both : (a b : Bool) → a ≡ true → b ≡ true → a && b ≡ true
-and_both true true p q = refl
-and_both true false p q = q
-and_both false b p q = p
+    and_parts (scalar (main_character septet)) (scalar (escaped_character septet)) (ap (λ (n : ℕ). scalar_test n (get_or MAIN_TABLE septet 0)) (sym zeroed) ∙ passed)
 
 cond_scalar : (b : Bool) (x y : ℕ) → scalar x ≡ true → scalar y ≡ true → scalar (cond b x y) ≡ true
 cond_scalar true x y p q = p
@@ -275,8 +263,8 @@ cond_scalars false xs ys p q = q
 
 pub text_scalars : (septets : List ℕ) → AllByRecursion (λ septet. septet < 128) septets → scalars (text_in septets) ≡ true
 text_scalars [] h = refl
-text_scalars (septet ∷ []) h = and_both _ _ (cond_scalar (eqb septet 27) 32 (main_character septet) refl (are_scalar septet h.0).0) refl
+text_scalars (septet ∷ []) h = and_from _ _ (cond_scalar (eqb septet 27) 32 (main_character septet) refl (are_scalar septet h.0).0) refl
 text_scalars (septet ∷ next ∷ rest) h =
     cond_scalars (eqb septet 27) (escaped_character next ∷ text_in rest) (main_character septet ∷ text_in (next ∷ rest))
-    (and_both _ _ (are_scalar next h.1.0).1 (text_scalars rest h.1.1))
-    (and_both _ _ (are_scalar septet h.0).0 (text_scalars (next ∷ rest) h.1))
+    (and_from _ _ (are_scalar next h.1.0).1 (text_scalars rest h.1.1))
+    (and_from _ _ (are_scalar septet h.0).0 (text_scalars (next ∷ rest) h.1))

@@ -75,7 +75,7 @@ pub part_last : {E X : Type 0} (f : Ends E) (r : Reads E X) → IsPart f r → I
 part_last f r h = (alone r h.0, h.1, h.2)
 
 -- what is read, read with more behind it
-longer : {E X : Type 0} (r : Reads E X) (xs : List ℕ) (x : X) (rest ys : List ℕ) → TakesFront r → r xs ≡ Ok (x, rest) → r (xs ++ ys) ≡ Ok (x, rest ++ ys)
+pub longer : {E X : Type 0} (r : Reads E X) (xs : List ℕ) (x : X) (rest ys : List ℕ) → TakesFront r → r xs ≡ Ok (x, rest) → r (xs ++ ys) ≡ Ok (x, rest ++ ys)
 longer r xs x rest ys h e =
     let f = h xs (x, rest) e in
     ap r (ap (λ (l : List ℕ). l ++ ys) f.1 ∙ append_assoc f.0 rest ys) ∙ f.2 (rest ++ ys)
@@ -204,15 +204,15 @@ module _ {E Y : Type 0} (f : Ends E) (k : ℕ × List ℕ → Result (Y × List 
 
 -- ---- a run of octets
 
-abbrev zeros : ℕ → List ℕ
+abbrev pub zeros : ℕ → List ℕ
 zeros zero = []
 zeros (suc n) = 0 ∷ zeros n
 
-zeros_octets : (n : ℕ) → AreOctets (zeros n)
+pub zeros_octets : (n : ℕ) → AreOctets (zeros n)
 zeros_octets zero = tt
 zeros_octets (suc n) = (omega arith, zeros_octets n)
 
-zeros_length : (n : ℕ) → length (zeros n) ≡ n
+pub zeros_length : (n : ℕ) → length (zeros n) ≡ n
 zeros_length zero = refl
 zeros_length (suc n) = ap (λ (m : ℕ). suc m) (zeros_length n)
 

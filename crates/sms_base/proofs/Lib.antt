@@ -15,3 +15,7 @@ pub mod SmppTimes
 pub mod Stamps
 pub mod WrittenStamps
 pub mod UtcClocks
+pub mod MarkupReadings
+pub mod Bools
+pub mod Lists
+pub mod OctetLaws

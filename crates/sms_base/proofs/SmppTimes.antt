@@ -1,23 +1,20 @@
 -- A time of SMPP is read as the moment that it is of, and no other.
 use Rattle.std.proofs.Common.{◌≡◌, subst, ℕ, ◌+◌, ◌-◌, ◌*◌, ◌/◌, ◌%◌, ◌<◌, ◌≤◌, Bool, true, false, ◌&&◌, cond, eqb, leb, Option, Some, None, List, [], ◌∷◌, length, get_or, drop, refl, sym, ap, ◌∙◌, arith, inl, inr, ℤ, pos, ◌-ℤ◌}
-use Rattle.std.proofs.lemmas.Bool.{leb-true, le-leb, eqb-true}
+use Rattle.std.proofs.lemmas.Bool.{leb-true, le-leb, eqb-true, and_parts}
 use Rattle.std.proofs.lemmas.List.{drop_more, length-drop}
+use Rattle.std.proofs.lemmas.Option.{cond_some}
 use Rattle.sms_base.specs.TimeStamp.{◌>>=◌, IsMoment, IsClock, zone_seconds, clock_in, moment_in}
 use Rattle.sms_base.specs.SmppTime.{AreNumbers, time_text, sign_of, after_length, IsSmppTime, decimal_in, pair_at, numbers_in, local_in, time_at, smpp_time_in}
 use Rattle.sms_base.specs.declared.smpp_time.SpelledTime.{SpelledTime}
-use Rattle.sms_base.proofs.ClockTests.{both, passes, clock_by, shown_passes, checked_seconds, tests}
-use Rattle.sms_base.proofs.Stamps.{bind_some, moment_in-is, moment_in-pos}
-
-some_if : {A : Type 0} (b : Bool) (x y : A) → cond b (Some x) None ≡ Some y → (b ≡ true) × (x ≡ y)
-some_if true x y e = (refl, cc)
-some_if false x y e = absurd cc
+use Rattle.sms_base.proofs.ClockTests.{shown_passes, checked_seconds, tests}
+use Rattle.sms_base.proofs.Stamps.{bind_some, clock_in-is, moment_in-is, moment_in-pos}
 
 -- ---- digits
 
 decimal_is : (o d : ℕ) → decimal_in o ≡ Some d → (d < 10) × (o ≡ 48 + d)
 decimal_is o d e =
-    let s = some_if (leb 48 o && leb o 57) (o - 48) d e in
-    let t = both (leb 48 o) (leb o 57) s.0 in
+    let s = cond_some (leb 48 o && leb o 57) (o - 48) d e in
+    let t = and_parts (leb 48 o) (leb o 57) s.0 in
     let a = leb-true 48 o t.0 in
     let b = leb-true o 57 t.1 in
     (omega (arith, a, b, s.1), omega (arith, a, b, s.1))
@@ -121,12 +118,6 @@ numbers_known n t last h lt =
 
 -- ---- moments
 
-clock_shown : (year month day hour minute second : ℕ) (z : ℤ) → year < 100 → clock_in year month day hour minute second ≡ Some z → IsClock year month day hour minute second z
-unfolding clock_in
-clock_shown year month day hour minute second z lt e =
-    let s = some_if _ _ _ e in
-    subst (λ (x : ℤ). IsClock year month day hour minute second x) s.1 (clock_by year month day hour minute second lt (passes _ _ _ _ _ _ s.0))
-
 local_is : (n : SpelledTime) (b : Bool) (m : ℕ) → local_in n b ≡ Some m → n.year < 100
     → (local : ℤ) × (n.quarters ≤ 48) × IsClock n.year n.month n.day n.hour n.minute n.second local × (pos m ≡ local -ℤ zone_seconds n.quarters b) × IsMoment m
 unfolding local_in
@@ -136,7 +127,7 @@ local_is n b m e lt = by_test (leb n.quarters 48) refl e where
   by_test true t h =
       let s = bind_some (clock_in n.year n.month n.day n.hour n.minute n.second) (λ (local : ℤ). moment_in (local -ℤ zone_seconds n.quarters b)) m h in
       let w = moment_in-is (s.0 -ℤ zone_seconds n.quarters b) m s.2 in
-      (s.0, leb-true n.quarters 48 t, clock_shown n.year n.month n.day n.hour n.minute n.second s.0 lt s.1, w.0, w.1)
+      (s.0, leb-true n.quarters 48 t, clock_in-is n.year n.month n.day n.hour n.minute n.second s.0 lt s.1, w.0, w.1)
   by_test false t h = absurd cc
 
 clock_known : (year month day hour minute second : ℕ) (local : ℤ) → IsClock year month day hour minute second local → clock_in year month day hour minute second ≡ Some local

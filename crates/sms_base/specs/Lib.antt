@@ -18,3 +18,4 @@ pub mod TimeStamp
 pub mod UtcClock
 pub mod StampWriting
 pub mod Markup
+pub mod MarkupReading

@@ -1,5 +1,5 @@
 -- An event acts, then receipts and offers follow; and what follows rests on what the event left.
-use Rattle.std.proofs.Common.{◌≡◌, ℕ, List, Option, refl, sym, ◌∙◌, subst, ap}
+use Rattle.std.proofs.Common.{◌≡◌, ℕ, List, [], Option, refl, sym, ◌∙◌, subst, ap}
 use Rattle.sms_centre_spec.specs.declared.event.CentreEvent.{CentreEvent}
 use Rattle.sms_centre_spec.specs.declared.event.CentreEvent.TheVariants.{Submit, Query, Cancel, Bound, Unbound, DeliverAnswered, Frame, LinkUp, LinkDown, Ordered, Tick}
 use Rattle.sms_centre_spec.specs.declared.rows.Rows.{Rows}
@@ -9,25 +9,16 @@ use Rattle.sms_centre_spec.specs.Draft.{Core, Draft, Store, rows_of}
 use Rattle.sms_centre_spec.specs.SoundCore.{IsEvent, IsSoundCore}
 use Rattle.sms_centre_spec.specs.SoundRows.{IsSetup, IsSound}
 use Rattle.sms_centre_spec.proofs.EventLaws.{stays_sound}
-use Rattle.sms_centre_spec.proofs.Resting.{base_of, happened_consistent}
+use Rattle.sms_centre_spec.proofs.Resting.{base_of, happened_bars, happened_consistent}
 use Rattle.sms_centre_events.specs.offering.Stored.{CanOffer, Stores}
 use Rattle.sms_centre.specs.state.CentreState.{Represents, CentreStateOf}
 use Rattle.sms_tpdu.specs.AddressGrammar.{relay_address}
-use Rattle.sms_centre.specs.Acting.{acted}
+use Rattle.sms_centre.specs.Acting.{acted, congested}
 use Rattle.sms_centre.specs.Stored.{StoresRows}
 
 pub acts_then_follows : (event : CentreEvent) (c : Core) → happened event c ≡ follow (acted event c)
 acts_then_follows (Submit account message) c = refl
-acts_then_follows (Query account wanted) c = refl
-acts_then_follows (Cancel account wanted) c = refl
-acts_then_follows (Bound session account receives) c = refl
-acts_then_follows (Unbound session) c = refl
-acts_then_follows (DeliverAnswered session id is_accepted) c = refl
-acts_then_follows (Frame handset octets tag) c = refl
-acts_then_follows (LinkUp handset) c = refl
-acts_then_follows (LinkDown handset) c = refl
-acts_then_follows (Ordered order id) c = refl
-acts_then_follows (Tick now) c = refl
+acts_then_follows _ c = refl
 
 -- receipts and offers change no rows
 pub stores_alike : (event : CentreEvent) (c : Core) → (happened event c).store ≡ (acted event c).store
@@ -45,6 +36,24 @@ stored_as_begun event c body k =
 
 pub sound_as_left : (event : CentreEvent) (c : Core) → IsSoundCore c → IsEvent event → IsSound (rows_of (acted event c).store)
 sound_as_left event c s e = subst (λ (t : Store). IsSound (rows_of t)) (stores_alike event c) (stays_sound event c s e).rows
+
+-- ---- no event puts bars
+
+pub acted_bars : (event : CentreEvent) (c : Core) → (acted event c).store.bars.news ≡ []
+acted_bars event c = ap (λ (s : Store). s.bars.news) (sym (stores_alike event c)) ∙ happened_bars event c
+
+pub congested_bars : (event : CentreEvent) (reference : ℕ) (c : Core) → (congested event reference c).store.bars.news ≡ []
+congested_bars (Submit account message) reference c = refl
+congested_bars (Query account wanted) reference c = refl
+congested_bars (Cancel account wanted) reference c = refl
+congested_bars (Bound session account receives) reference c = refl
+congested_bars (Unbound session) reference c = refl
+congested_bars (DeliverAnswered session id is_accepted) reference c = refl
+congested_bars (Frame handset octets tag) reference c = refl
+congested_bars (LinkUp handset) reference c = refl
+congested_bars (LinkDown handset) reference c = refl
+congested_bars (Ordered order id) reference c = refl
+congested_bars (Tick now) reference c = refl
 
 -- ---- the setup
 

@@ -46,6 +46,7 @@ rows_more x rows s = record {
   reports = s.reports;
   waiting = s.waiting;
   splits = s.splits;
+  bars = s.bars;
 }
 
 -- what is under way is of the same rows

@@ -5,14 +5,16 @@ use Rattle.sms_rows.specs.declared.table.change.Change.TheVariants.{Remove as Re
 use Rattle.sms_rows.specs.table.Table.{all_applied}
 use Rattle.sms_centre_messages.specs.message_index.MessageIndex.{Matches, MessageIndexOf, Represents}
 use Rattle.sms_centre_messages.specs.references.Moves.{ArePartRemovals, AreRemovals}
-use Rattle.sms_centre_messages.specs.references.ReferenceIndex.{ReferenceIndexOf, Represents as ReferencesRepresent}
+use Rattle.sms_centre_messages.specs.references.ReferenceIndex.{Barred, ReferenceIndexOf, Represents as ReferencesRepresent}
 use Rattle.sms_centre_messages.proofs.references.Forgotten.{holds_without}
 use Rattle.sms_centre_reports.specs.open_reports.Entries.{account_in}
 use Rattle.sms_centre_reports.specs.open_reports.OpenReports.{OpenReportsOf, Represents as RepresentsReports}
 use Rattle.sms_centre_reports.specs.sessions.Awaited.{AreAwaited}
+use Rattle.sms_centre_rows.specs.declared.messages.bar.BarRow.{BarRow}
 use Rattle.sms_centre_rows.specs.declared.messages.message.MessageRow.{MessageRow}
 use Rattle.sms_centre_rows.specs.declared.messages.part.PartRow.{PartRow}
 use Rattle.sms_centre_rows.specs.declared.waiting.revision.Revision.{Revision}
+use Rattle.sms_centre_rows.specs.declared.messages.claim.Claim.{Claim}
 use Rattle.sms_centre_rows.specs.messages.Messages.{Messages, message_key, part_at, parts_of}
 use Rattle.sms_centre_rows.specs.reports.Receipts.{Session}
 use Rattle.sms_centre_rows.specs.waiting.Revisions.{oldest_first as revisions_of}
@@ -23,12 +25,13 @@ use Rattle.sms_centre_spec.specs.declared.rows.Rows.{Rows}
 use Rattle.sms_centre_spec.specs.declared.setup.Setup.{Setup}
 use Rattle.sms_centre_spec.specs.Draft.{Core, Draft, Store, core_of, messages_in, parts_in, reports_in, rows_after, store_of}
 use Rattle.sms_centre_spec.specs.SoundCore.{IsSoundCore}
-use Rattle.sms_centre_spec.specs.forgetting.Forget.{forget, going_now, is_going_now, message_gone, messages_gone, part_gone, parts_out}
+use Rattle.sms_centre_spec.specs.forgetting.Forget.{bars_put, forget, going_now, is_going_now, may_go_now, message_gone, messages_gone, part_gone, parts_out}
+use Rattle.sms_centre_spec.specs.forgetting.Forgetting.{claims_left}
 use Rattle.sms_centre_spec.proofs.forgetting.Begins.{is_member}
 use Rattle.sms_centre_spec.proofs.forgetting.Looks.{message_stays}
 use Rattle.sms_centre_spec.proofs.forgetting.Moves.{report_stays}
 use Rattle.sms_centre_spec.proofs.forgetting.Now.{can_now, forgot_now}
-use Rattle.sms_centre_spec.proofs.forgetting.Removed.{base_kept, forget_commits, forget_leaves, forget_messages, setup_kept}
+use Rattle.sms_centre_spec.proofs.forgetting.Removed.{base_kept, forget_bars, forget_commits, forget_leaves, forget_messages, from_that, setup_kept}
 use Rattle.sms_centre.specs.declared.plans.event_outcome.EventOutcome.{EventOutcome}
 use Rattle.sms_centre.specs.plans.EventOutcome.{IsOutcome}
 use Rattle.sms_centre_draft.specs.Beginning.{IsCentre}
@@ -102,12 +105,17 @@ module _ (before from most : ℕ) (c : Core) (p : EventOutcome) (planned : IsOut
   }
 
   module _ (s : IsSoundCore c) where
-    pub reference_index_forgets : (claimed : ReferenceIndexOf) → ReferencesRepresent claimed c.rows.messages c.rows.parts
-        → ReferencesRepresent claimed (core_of d).rows.messages (core_of d).rows.parts
-    reference_index_forgets claimed holds =
-        let can = can_now before from most c s in
-        subst (λ (x : Core). ReferencesRepresent claimed x.rows.messages x.rows.parts) (sym (forget_leaves before from most c s.rows))
-        (holds_without (is_going_now before from most c) c.rows s.rows can.may can.bare claimed holds)
+    bars_are : p.changes.bars ≡ bars_put (claims_left (is_going_now before from most c) c.rows.messages c.rows.parts) c.rows.bars
+    bars_are =
+        ap (λ (x : Changes). x.bars) planned.changes ∙ forget_bars before from most c
+        ∙ ap (λ (l : List Claim). bars_put l c.rows.bars) (from_that (may_go_now before c) from most c.rows.messages c.rows.parts s.rows.messages.message_keys)
+
+    pub reference_index_forgets : (old new : ReferenceIndexOf) → ReferencesRepresent old c.rows.bars c.rows.messages c.rows.parts → Barred p.changes.bars old new
+        → ReferencesRepresent new (core_of d).rows.bars (core_of d).rows.messages (core_of d).rows.parts
+    reference_index_forgets old new holds barred =
+        subst (λ (x : Core). ReferencesRepresent new x.rows.bars x.rows.messages x.rows.parts) (sym (forget_leaves before from most c s.rows))
+        (holds_without (is_going_now before from most c) c.rows s.rows (can_now before from most c s).may old new holds
+        (subst (λ (b : List (Change BarRow)). Barred b old new) bars_are barred))
 
     pub awaited_still : AreAwaited c.rows.messages c.rows.reports c.sessions → AreAwaited (core_of d).rows.messages (core_of d).rows.reports (core_of d).sessions
     awaited_still was =

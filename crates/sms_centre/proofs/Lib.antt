@@ -1,6 +1,7 @@
 mod ActsFirst
-mod Archived
+pub mod Archived
 mod AsDefined
+mod Barred
 pub mod Enrolled
 mod MayGo
 mod Forgotten

@@ -3,6 +3,7 @@ use Rattle.std.proofs.Common.{◌≡◌, ℕ, zero, suc, ◌+◌, ◌-◌, ◌<�
 use Rattle.std.specs.Prelude.{◌⊎◌, ◌==◌, ◌&&◌, ◌||◌, not, is_some, nat_lt, slice_get, if◌then◌else◌, IfOk}
 use Rattle.std.proofs.lemmas.Option.{get_or_from_slice_get, slice_get-get_or}
 use Rattle.std.proofs.lemmas.Bool.{cases_Bool, cases_eq, eqb-true, lt-ltb, le-ltb, ne_eqb, or_left, or_right}
+use Rattle.sms_base.proofs.Bools.{same_bool}
 use Rattle.sms_base.specs.Among.{Among}
 use Rattle.sms_base.specs.declared.carried.Carried.{Carried}
 use Rattle.sms_base.specs.declared.holder.Holder.{Holder}
@@ -39,11 +40,6 @@ use Rattle.sms_centre_spec.proofs.SoundLinks.{line_found, line_none}
 use Rattle.sms_centre_spec.proofs.forgetting.Now.{on_way_there}
 use Rattle.sms_centre_draft.proofs.walks.LinesStay.{line_own}
 use Rattle.sms_centre.specs.Forgetting.{gone_at}
-
-same_bool : (a b : Bool) → (a ≡ true → b ≡ true) → (b ≡ true → a ≡ true) → a ≡ b
-same_bool true b f g = sym (f refl)
-same_bool false true f g = g refl
-same_bool false false f g = refl
 
 pub few_parts : (c : Core) → IsSoundCore c → Few c.rows.parts
 few_parts c s = record { keys = s.rows.messages.part_keys; numbers = λ p a. let i = s.rows.messages.each_part p a in (i.first, i.few) }

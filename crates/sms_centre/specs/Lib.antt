@@ -1,5 +1,6 @@
 pub mod Acting
 pub mod Archiving
+pub mod Barring
 pub mod Enrolling
 pub mod Forgetting
 pub mod Planning

@@ -1,7 +1,7 @@
 //! What follows an event, and the plan of it.
-ghost use Rattle.std.specs.Prelude.{◌≡◌, Ok, IfOk};
+ghost use Rattle.std.specs.Prelude.{◌≡◌, ℕ, [], Ok, IfOk};
 ghost use Rattle.sms_centre_spec.specs.CentreEvent.{follow as follow_of};
-ghost use Rattle.sms_centre_spec.specs.Draft.{Core, Draft, draft_of};
+ghost use Rattle.sms_centre_spec.specs.Draft.{Core, Draft, changes_in, draft_of};
 ghost use Rattle.sms_centre_spec.specs.SoundRows.{IsSetup};
 ghost use Rattle.sms_centre.specs.Acting.{Acts, acted, congested};
 ghost use Rattle.sms_centre.specs.Stopping.{EndsSince, StoppingOutcome, WasStopped, stop_of as stop_of_error};
@@ -18,11 +18,14 @@ use crate::acting::{EventEnd, act, refuse};
 use crate::plan::Plan;
 use crate::plans::{EventOutcome, settle};
 use crate::state::CentreState;
+use sms_base::Listed;
 use sms_centre_draft::CentreDraft;
 use sms_centre_events::offering::follow;
 use sms_centre_reports::report_log::ReportLogReserve;
+use sms_centre_rows::messages::BarRow;
 use sms_centre_spec::{CentreEvent, PlanError};
 use sms_rows::keep::BodyKeep;
+use sms_rows::table::Change;
 use std::alloc::{AllocError, Global};
 
 // A plan, if there is memory for its reports.
@@ -42,16 +45,22 @@ fn with_log(
     }
 }
 
-// The plan of the centre as it is.
+// The plan of the centre as it is, with the bars that are put.
 pub(crate) fn planned(
     alloc: Global,
     centre_state: &CentreState,
     draft: CentreDraft<'_>,
+    bars: Listed<Change<BarRow>>,
 ) -> Result<Plan, AllocError>
-    ensures plan { (d : Draft) → DraftRepresents d draft.entry → IfOk result (λ p. IsOutcome d p.plan) }
+    ensures plan { (d : Draft) → DraftRepresents d draft.entry → bars ≡ (changes_in d.store).bars → IfOk result (λ p. IsOutcome d p.plan) }
     ensures fits { IfOk result (FitsTheCentre centre_state.now) }
 {
-    let plan = settle(draft, &centre_state.messages, &centre_state.reference_index)?;
+    let plan = settle(
+        draft,
+        bars,
+        &centre_state.messages,
+        &centre_state.reference_index,
+    )?;
     let log = centre_state
         .log
         .make_reserve(alloc, plan.changes.reports.len());
@@ -67,15 +76,17 @@ fn unless_memory(made: Result<Plan, AllocError>) -> Result<Plan, PlanError>
     }
 }
 
+// An event puts no bars.
 fn plan(
     alloc: Global,
     centre_state: &CentreState,
     draft: CentreDraft<'_>,
 ) -> Result<Plan, PlanError>
-    ensures plan { (d : Draft) → DraftRepresents d draft.entry → UnlessMemory (λ p. IsOutcome d p.plan) result }
+    ensures plan { (d : Draft) → DraftRepresents d draft.entry → d.store.bars.news ≡ [] → UnlessMemory (λ p. IsOutcome d p.plan) result }
     ensures fits { IfOk result (FitsTheCentre centre_state.now) }
 {
-    unless_memory(planned(alloc, centre_state, draft))
+    let bars = Listed::new(alloc);
+    unless_memory(planned(alloc, centre_state, draft, bars))
 }
 
 // ---- what the event leads to

@@ -1,5 +1,5 @@
 //! Which messages a centre may forget, and the plan of it.
-ghost use Rattle.std.specs.Prelude.{◌≡◌, ◌∷◌, [], ◌++◌, ◌&&◌, ◌+◌, ℕ, List, Some, get_or, is_some, slice_get, IfOk, OnOk};
+ghost use Rattle.std.specs.Prelude.{◌≡◌, ◌∷◌, [], ◌++◌, ◌+◌, ℕ, List, Some, get_or, slice_get, IfOk, OnOk};
 ghost use Rattle.sms_rows.specs.table.Table.{Rises};
 ghost use Rattle.sms_centre_rows.specs.declared.reports.report.ReportRow.{ReportRow as ReportRowOf};
 ghost use Rattle.sms_centre_rows.specs.messages.Messages.{message_at};
@@ -7,10 +7,10 @@ ghost use Rattle.sms_centre_rows.specs.reports.Reports.{report_of};
 ghost use Rattle.sms_centre_rows.specs.waiting.Links.{line_of};
 ghost use Rattle.sms_centre_reports.specs.report_log.ByMessage.{reports_between};
 ghost use Rattle.sms_centre_reports.specs.report_log.ReportLog.{Represents as LogRepresents};
-ghost use Rattle.sms_centre_spec.specs.Draft.{Core, Draft, draft_of};
-ghost use Rattle.sms_centre_spec.specs.forgetting.Forget.{forget as forget_of, going_now, is_carried as is_carried_of, is_held_for as is_held_for_of};
+ghost use Rattle.sms_centre_spec.specs.Draft.{Core, Draft, changes_in, draft_of};
+ghost use Rattle.sms_centre_spec.specs.forgetting.Forget.{bars_put, claims_by, forget as forget_of, going_now, is_carried as is_carried_of, is_held_for as is_held_for_of};
 ghost use Rattle.sms_centre_spec.specs.forgetting.Forget.{is_on_way as is_on_way_of, may_go_now as may_go_now_of, next_from as next_from_of};
-ghost use Rattle.sms_centre_spec.specs.forgetting.Forgetting.{bars_reference as bars_reference_of, is_before, is_reported as is_reported_of};
+ghost use Rattle.sms_centre_spec.specs.forgetting.Forgetting.{is_reported as is_reported_of};
 ghost use Rattle.sms_centre_spec.specs.forgetting.Forgetting.{may_go as may_go_of};
 ghost use Rattle.sms_centre_draft.specs.CentreDraft.{Represents as DraftRepresents};
 ghost use Rattle.sms_centre_draft.specs.Forgetting.{ArePlaced};
@@ -21,31 +21,20 @@ ghost use Rattle.sms_centre.specs.plans.EventOutcome.{IsOutcome};
 ghost use Rattle.sms_centre.specs.state.CentreState.{CentreStateOf, Represents as StateRepresents};
 
 use crate::archiving::{Archive, archive_all};
+use crate::barring::bars_for;
 use crate::finishing::planned;
 use crate::forget_error::ForgetError;
 use crate::plan::Plan;
 use crate::state::CentreState;
-use sms_base::{Carried, Digits, Holder, MessageId, Moment, Msisdn};
+use sms_base::{Carried, Digits, Holder, Listed, MessageId, Moment, Msisdn};
 use sms_centre_draft::CentreDraft;
+use sms_centre_messages::message_index::has_ended;
 use sms_centre_reports::report_log::{MessageReport, ReportLog};
-use sms_centre_rows::messages::{MessageRow as Message, is_delivered};
-use sms_rows::table::Table;
+use sms_centre_rows::messages::{BarRow, MessageRow as Message};
+use sms_rows::table::{Change, Table};
 use std::alloc::{AllocError, Global};
 
 // ---- what is asked of a message
-
-// It has a final state, from before that moment.
-fn has_ended(message: &Message, before: Moment) -> bool
-    ensures { result ≡ (is_some message.now.state && is_before before message.now.done) }
-{
-    if message.state.is_none() {
-        return false;
-    }
-    match message.done {
-        Some(done) => done.seconds() < before.seconds(),
-        None => false,
-    }
-}
 
 // Its report is closed, and a later one gives the next place; or it has none.
 fn is_reported(state: &CentreState, id: MessageId) -> bool
@@ -70,19 +59,6 @@ fn may_go(state: &CentreState, before: Moment, message: &Message) -> bool
         return false;
     }
     state.messages.leaves_number(message)
-}
-
-// It came with a header of its own, or the centre split it and not all of it was delivered.
-fn bars_reference(state: &CentreState, message: &Message) -> bool
-    ensures { (c : Core) → StateRepresents c state.now → result ≡ bars_reference_of message.now c.rows.parts }
-{
-    if state.messages.has_own_wide(message) {
-        return true;
-    }
-    if message.split_reference.is_none() {
-        return false;
-    }
-    !is_delivered(message.state)
 }
 
 fn is_held_for(tag: Holder, id: MessageId) -> bool
@@ -143,9 +119,6 @@ fn may_go_now(
         → result ≡ may_go_now_of before c message.now }
 {
     if !may_go(state, before, message) {
-        return false;
-    }
-    if bars_reference(state, message) {
         return false;
     }
     if draft.bindings.is_unanswered(message.id) {
@@ -306,6 +279,7 @@ fn reports_to(
 
 // ---- the plan
 
+// The bars that are put for what goes.
 fn forget<A: Archive>(
     alloc: Global,
     state: &CentreState,
@@ -314,17 +288,19 @@ fn forget<A: Archive>(
     before: Moment,
     from: u64,
     most: u16,
-) -> Result<(), ForgetError>
+) -> Result<Listed<Change<BarRow>>, ForgetError>
     ensures plan { (c : Core) → DraftRepresents (draft_of c) draft.old → StateRepresents c state.now
         → OnOk result (DraftRepresents (forget_of before from most c) draft.new) }
+    ensures bars { (c : Core) → DraftRepresents (draft_of c) draft.old → StateRepresents c state.now
+        → IfOk result (λ bars. bars ≡ (changes_in (forget_of before from most c).store).bars) }
     ensures archived { (c : Core) → DraftRepresents (draft_of c) draft.old → StateRepresents c state.now
         → OnOk result (AreArchived (A.keeps archive.new) (going_now before from most c) c.rows) }
     ensures kept { Stays (A.keeps archive.old) (A.keeps archive.new) }
 {
     let ids = going(alloc, draft, state, before, from, most)?;
-    let done = forget_archived(alloc, state, draft, archive, ids.as_slice());
+    let bars = forget_archived(alloc, state, draft, archive, ids.as_slice());
     drop(ids);
-    done
+    bars
 }
 
 // What is forgotten is archived first.
@@ -334,18 +310,41 @@ fn forget_archived<A: Archive>(
     draft: &mut CentreDraft<'_>,
     archive: &mut A,
     ids: &[MessageId],
-) -> Result<(), ForgetError>
+) -> Result<Listed<Change<BarRow>>, ForgetError>
     ensures plan { (before from most : ℕ) (c : Core) → DraftRepresents (draft_of c) draft.old → StateRepresents c state.now
         → ids.now ≡ going_now before from most c → OnOk result (DraftRepresents (forget_of before from most c) draft.new) }
+    ensures bars { (c : Core) → StateRepresents c state.now
+        → IfOk result (λ bars. bars ≡ bars_put (claims_by ids.now c.rows.messages c.rows.parts) c.rows.bars) }
     ensures archived { (c : Core) → StateRepresents c state.now → OnOk result (AreArchived (A.keeps archive.new) ids.now c.rows) }
     ensures kept { Stays (A.keeps archive.old) (A.keeps archive.new) }
 {
     archive_all(alloc, state, archive, ids)?;
-    forget_all(alloc, state, draft, ids)?;
-    Ok(())
+    let bars = forget_all(alloc, state, draft, ids)?;
+    Ok(bars)
 }
 
 fn forget_all(
+    alloc: Global,
+    state: &CentreState,
+    draft: &mut CentreDraft<'_>,
+    ids: &[MessageId],
+) -> Result<Listed<Change<BarRow>>, AllocError>
+    ensures plan { (before from most : ℕ) (c : Core) → DraftRepresents (draft_of c) draft.old → StateRepresents c state.now → ids.now ≡ going_now before from most c
+        → OnOk result (DraftRepresents (forget_of before from most c) draft.new) }
+    ensures bars { (c : Core) → StateRepresents c state.now
+        → IfOk result (λ bars. bars ≡ bars_put (claims_by ids.now c.rows.messages c.rows.parts) c.rows.bars) }
+{
+    let bars = bars_for(alloc, state, ids)?;
+    match forget_reported(alloc, state, draft, ids) {
+        Ok(()) => Ok(bars),
+        Err(error) => {
+            drop(bars);
+            Err(error)
+        }
+    }
+}
+
+fn forget_reported(
     alloc: Global,
     state: &CentreState,
     draft: &mut CentreDraft<'_>,
@@ -377,7 +376,7 @@ fn plan_begun<A: Archive>(
     ensures fits { IfOk result (FitsTheCentre state.now) }
 {
     match forget(alloc, state, &mut draft, archive, before, from, most) {
-        Ok(()) => finished(alloc, state, draft),
+        Ok(bars) => finished(alloc, state, draft, bars),
         Err(error) => {
             drop(draft);
             Err(error)
@@ -385,11 +384,16 @@ fn plan_begun<A: Archive>(
     }
 }
 
-fn finished(alloc: Global, state: &CentreState, draft: CentreDraft<'_>) -> Result<Plan, ForgetError>
-    ensures plan { (d : Draft) → DraftRepresents d draft.entry → IfOk result (λ p. IsOutcome d p.plan) }
+fn finished(
+    alloc: Global,
+    state: &CentreState,
+    draft: CentreDraft<'_>,
+    bars: Listed<Change<BarRow>>,
+) -> Result<Plan, ForgetError>
+    ensures plan { (d : Draft) → DraftRepresents d draft.entry → bars ≡ (changes_in d.store).bars → IfOk result (λ p. IsOutcome d p.plan) }
     ensures fits { IfOk result (FitsTheCentre state.now) }
 {
-    let plan = planned(alloc, state, draft)?;
+    let plan = planned(alloc, state, draft, bars)?;
     Ok(plan)
 }
 

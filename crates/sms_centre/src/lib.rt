@@ -10,6 +10,7 @@
 //! - `acting`: what an event does by itself
 //! - `adopting`: a plan, put in
 //! - `archiving`: archives of what a centre forgets
+//! - `barring`: the bars that stand for what a centre forgets
 //! - `centre`: the centre and its calls
 //! - `finishing`: what follows an event, and its plan
 //! - `forget_error`: why a centre forgot nothing
@@ -25,6 +26,7 @@
 mod acting;
 mod adopting;
 mod archiving;
+mod barring;
 mod centre;
 mod finishing;
 mod forget_error;

@@ -2,7 +2,7 @@
 use Rattle.std.proofs.Common.{◌≡◌, ℕ, length, refl}
 use Rattle.sms_relay.specs.Cause.{IsRpCause}
 use Rattle.sms_intake.specs.declared.refusal.SubmitRefusal.{SubmitRefusal}
-use Rattle.sms_intake.specs.declared.refusal.SubmitRefusal.TheVariants.{WrongType, WrongValidityFormat, Unreadable, NoHandset, OfAccount, PastLimit, Duplicate, ReferenceTaken, Congested}
+use Rattle.sms_intake.specs.declared.refusal.SubmitRefusal.TheVariants.{WrongType}
 use Rattle.sms_intake.specs.Refusals.{cause_of}
 use Rattle.sms_intake.specs.SubmitReports.{accepting_report, refusing_report}
 
@@ -14,11 +14,4 @@ refusing_length refusal moment = refl
 
 pub refusal_cause : (refusal : SubmitRefusal) → IsRpCause (cause_of refusal)
 refusal_cause WrongType = tt
-refusal_cause WrongValidityFormat = tt
-refusal_cause Unreadable = tt
-refusal_cause NoHandset = tt
-refusal_cause OfAccount = tt
-refusal_cause PastLimit = tt
-refusal_cause Duplicate = tt
-refusal_cause ReferenceTaken = tt
-refusal_cause Congested = tt
+refusal_cause _ = tt

@@ -1,7 +1,7 @@
 -- What a transfer was for is found by what is kept in memory.
 use Rattle.std.proofs.Common.{◌≡◌, ℕ, List, Bool, true, false, Option, Some, None, refl, sym, ◌∙◌, ap, subst, ⊎_elim}
 use Rattle.std.specs.Prelude.{◌&&◌, ◌||◌, not, is_some}
-use Rattle.std.proofs.lemmas.Bool.{and_from, and_parts, cases_Bool, cond-false, cond-true}
+use Rattle.std.proofs.lemmas.Bool.{and_from, and_parts, cases_Bool, cond-false, cond-true, not-true}
 use Rattle.sms_base.specs.declared.holder.Holder.TheVariants.{Part, Report}
 use Rattle.sms_link.specs.declared.ending.Ending.{Ending}
 use Rattle.sms_rows.specs.table.Keys.{pair_key}
@@ -28,10 +28,6 @@ use Rattle.sms_centre_spec.specs.Transfers.{ended_with, is_open_part_at, is_open
 use Rattle.sms_centre_spec.proofs.Steady.{part_own, report_own}
 use Rattle.sms_centre_draft.specs.Transfers.{IsOpenPart, IsOpenStatus, IsReporting, IsWaiting, waiting_part, waiting_status}
 
-not_true : (b : Bool) → not b ≡ true → b ≡ false
-not_true true e = absurd cc
-not_true false e = refl
-
 -- ---- parts
 
 pub no_part_open : (id number : ℕ) (s : Store) → None ≡ found_part (part_at id number (parts_in s)) → is_open_part_at (part_at id number (parts_in s)) s ≡ false
@@ -51,7 +47,7 @@ part_with id number s p entry None there is of =
 part_with id number s p entry (Some m) there is of = ⊎_elim
     (λ (t : (not entry.progress.is_done && is_pending m) ≡ true).
     let parts = and_parts (not entry.progress.is_done) (is_pending m) t in
-    let undone : p.progress.is_done ≡ false = ap (λ (e : PartEntry). e.progress.is_done) is ∙ not_true entry.progress.is_done parts.0 in
+    let undone : p.progress.is_done ≡ false = ap (λ (e : PartEntry). e.progress.is_done) is ∙ not-true entry.progress.is_done parts.0 in
     let found : (q : PartRow) × IsWaiting id number entry m s q = (
       p,
       record {
@@ -153,7 +149,7 @@ pub open_is_status : (r : ReportRow) → is_open_status r ≡ true → is_status
 open_is_status r e = (and_parts (is_status r.kind) (not r.progress.is_done) e).0
 
 pub open_undone : (r : ReportRow) → is_open_status r ≡ true → r.progress.is_done ≡ false
-open_undone r e = not_true r.progress.is_done (and_parts (is_status r.kind) (not r.progress.is_done) e).1
+open_undone r e = not-true r.progress.is_done (and_parts (is_status r.kind) (not r.progress.is_done) e).1
 
 -- ---- how what waits ends
 

@@ -9,7 +9,7 @@ use Rattle.sms_centre_rows.specs.declared.messages.message.MessageRow.{MessageRo
 use Rattle.sms_centre_rows.specs.declared.reports.report.ReportRow.{ReportRow}
 use Rattle.sms_centre_rows.specs.messages.Messages.{Messages, message_at, message_key}
 use Rattle.sms_centre_rows.specs.messages.SplitReferences.{is_among}
-use Rattle.sms_centre_rows.specs.reports.Reports.{next_place, report_key, report_of, reports_of}
+use Rattle.sms_centre_rows.specs.reports.Reports.{next_place, report_of, reports_of}
 use Rattle.sms_centre_rows.specs.waiting.References.{Allocations}
 use Rattle.sms_centre_rows.specs.waiting.Revisions.{Revised}
 use Rattle.sms_centre_rows.proofs.reports.AllWaiting.{report_found}
@@ -20,11 +20,10 @@ use Rattle.sms_centre_reports.specs.open_reports.Entries.{account_in}
 use Rattle.sms_centre_reports.specs.open_reports.OpenReportsDraft.{DraftRepresents, OpenReportsDraftOf as ReportsOf, made_in}
 use Rattle.sms_centre_spec.specs.declared.rows.Rows.{Rows}
 use Rattle.sms_centre_spec.specs.Consistent.{IsConsistent}
-use Rattle.sms_centre_spec.specs.Draft.{Core, Draft, Store, core_of, draft_of, messages_in, reports_in, rows_of, store_of}
+use Rattle.sms_centre_spec.specs.Draft.{Core, Store, core_of, draft_of, messages_in, reports_in, rows_of, store_of}
 use Rattle.sms_centre_spec.specs.SoundCore.{IsSoundCore}
-use Rattle.sms_centre_spec.specs.SoundRows.{IsSound}
 use Rattle.sms_centre_spec.specs.forgetting.Forget.{forget, going_now, is_going_now, may_go_now, message_gone, message_out, messages_gone, remove_in, report_gone, report_out}
-use Rattle.sms_centre_spec.specs.forgetting.Forgetting.{MayGo, going, kept, report_id, rows_without}
+use Rattle.sms_centre_spec.specs.forgetting.Forgetting.{MayGo, going, kept, report_id, rows_cut}
 use Rattle.sms_centre_spec.proofs.SoundStores.{store_sound}
 use Rattle.sms_centre_spec.proofs.forgetting.Kept.{kept_among}
 use Rattle.sms_centre_spec.proofs.forgetting.Looks.{message_stays, waiting_same}
@@ -210,15 +209,19 @@ module _ (before from most : ℕ) (c : Core) (s : IsSoundCore c) where
   abbrev behind : Store
   behind = messages_gone ids first
 
-  after_rows : rows_of behind ≡ rows_without goes c.rows
+  -- with their bars
+  abbrev after : Store
+  after = (forget before from most c).store
+
+  after_rows : rows_of behind ≡ rows_cut goes c.rows
   after_rows = rows_left ids c.rows c.moment s.rows
 
   sound_after : IsSoundCore (core_of (forget before from most c))
   sound_after = (forgot_now before from most c s).left
 
-  consistent_after : IsConsistent behind
+  consistent_after : IsConsistent after
   consistent_after =
-      let k = (store_sound (rows_of behind) behind.moment sound_after.rows sound_after.now sound_after.moment).consistent in
+      let k = (store_sound (rows_of after) after.moment sound_after.rows sound_after.now sound_after.moment).consistent in
       record {
         held = record {
           allocations = k.held.allocations;

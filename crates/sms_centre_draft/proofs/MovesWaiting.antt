@@ -3,6 +3,7 @@ use Rattle.std.proofs.Common.{◌≡◌, ℕ, ◌<◌, List, [], ◌∷◌, Bool
 use Rattle.std.specs.Prelude.{◌&&◌, not, if◌then◌else◌}
 use Rattle.std.proofs.lemmas.Bool.{cases_eq, cond-true, cond-false}
 use Rattle.std.proofs.lemmas.Slice.Eq.{bytes_eq-Decides}
+use Rattle.sms_base.proofs.OctetLaws.{differ}
 use Rattle.sms_rows.specs.table.Keys.{pair_key}
 use Rattle.sms_rows.specs.table.Table.{put, row_at, without}
 use Rattle.sms_rows.proofs.table.Tables.{found_among, row_at_put, row_at_put_other, row_behind, row_here, without_behind}
@@ -27,7 +28,7 @@ use Rattle.sms_centre_queue.specs.queues.Representing.{Waits}
 use Rattle.sms_centre_spec.specs.Draft.{Store, messages_in, parts_in, priorities_in, reports_in, with_message, with_part, with_part_at, with_priority, with_report_at, with_reports}
 use Rattle.sms_centre_spec.specs.Held.{SoundHeld}
 use Rattle.sms_centre_draft.specs.CentreDraft.{all_waiting}
-use Rattle.sms_centre_draft.proofs.OthersWaiting.{differ, part_elsewhere}
+use Rattle.sms_centre_draft.proofs.OthersWaiting.{part_elsewhere}
 
 -- ---- under one key
 

@@ -1,46 +1,36 @@
 -- What waits for a handset has nothing of messages to other handsets.
-use Rattle.std.proofs.Common.{◌≡◌, ◌⊎◌, ℕ, zero, suc, ◌<◌, List, Bool, true, false, Option, Some, None, refl, sym, ◌∙◌, ap, subst, inl, inr, ⊎_elim, bytes_eq, arith}
+use Rattle.std.proofs.Common.{◌≡◌, ◌⊎◌, ℕ, ◌<◌, List, Bool, true, false, Option, Some, None, refl, sym, ◌∙◌, ap, subst, inl, inr, ⊎_elim, bytes_eq}
 use Rattle.std.specs.Prelude.{◌&&◌, not, if◌then◌else◌}
-use Rattle.std.proofs.lemmas.Bool.{cases_Bool, cases_eq, cond-false}
-use Rattle.std.proofs.lemmas.Slice.Eq.{bytes_eq-Decides}
+use Rattle.std.proofs.lemmas.Bool.{cases_eq, cond-false}
+use Rattle.sms_base.proofs.OctetLaws.{differ}
 use Rattle.sms_base.specs.declared.final_state.FinalState.{FinalState}
 use Rattle.sms_rows.specs.table.Keys.{pair_key}
 use Rattle.sms_rows.specs.table.Table.{row_at}
-use Rattle.sms_rows.proofs.table.Tables.{found_among, found_key}
 use Rattle.sms_centre_rows.specs.declared.messages.message.MessageRow.{MessageRow}
 use Rattle.sms_centre_rows.specs.declared.messages.part.PartRow.{PartRow}
 use Rattle.sms_centre_rows.specs.declared.messages.priority.PriorityRow.{PriorityRow}
-use Rattle.sms_centre_rows.specs.messages.Messages.{ended, is_pending, message_at, part_at, part_key}
+use Rattle.sms_centre_rows.specs.messages.Messages.{ended, is_pending, message_at, part_at}
 use Rattle.sms_centre_rows.specs.messages.OpenParts.{Numbered, part_queued, part_wait, waits_for}
 use Rattle.sms_centre_rows.specs.declared.reports.report.ReportRow.{ReportRow}
 use Rattle.sms_centre_rows.specs.reports.Waiting.{waiting_for}
 use Rattle.sms_centre_rows.proofs.reports.AllWaiting.{part_waits_at, rises_all}
-use Rattle.sms_centre_rows.proofs.reports.EndsWaiting.{end_waits}
+use Rattle.sms_centre_rows.proofs.reports.EndsWaiting.{end_waits, part_is}
 use Rattle.sms_centre_rows.proofs.reports.FewWaiting.{all_few}
 use Rattle.sms_centre_rows.specs.declared.waiting.queued_part.QueuedPart.{QueuedPart}
 use Rattle.sms_centre_rows.specs.waiting.Keys.{queued_key}
 use Rattle.sms_centre_rows.specs.waiting.Waiting.{withdrawn}
 use Rattle.sms_centre_rows.proofs.waiting.Alike.{pairs_alike}
 use Rattle.sms_centre_rows.proofs.waiting.Withdrawing.{rises_withdrawn, withdrawn_other, withdrawn_part}
+use Rattle.sms_centre_rows.proofs.reports.WaitingChanges.{cases_number}
 use Rattle.sms_centre_queue.specs.queues.Representing.{Waits}
 use Rattle.sms_centre_spec.specs.Draft.{Store, messages_in, parts_in, priorities_in, reports_in, with_message}
 use Rattle.sms_centre_spec.specs.Held.{SoundHeld}
 use Rattle.sms_centre_draft.specs.CentreDraft.{all_waiting}
 
-pub differ : (a b : List ℕ) → ¬ (a ≡ b) → bytes_eq a b ≡ false
-differ a b ne = ⊎_elim
-    (λ (t : bytes_eq a b ≡ true). absurd (ne ((bytes_eq-Decides a b).0 t)))
-    (λ (t : bytes_eq a b ≡ false). t)
-    (cases_Bool (bytes_eq a b))
-
 never : (a b : Bool) → (a && (b && false)) ≡ false
 never true true = refl
 never true false = refl
 never false b = refl
-
-pub cases_zero : (n : ℕ) → (n ≡ 0) ⊎ (0 < n)
-cases_zero zero = inl refl
-cases_zero (suc n) = inr (omega arith)
 
 -- ---- parts
 
@@ -49,13 +39,6 @@ part_elsewhere other ms qs p m of ne =
     ap (λ (o : Option MessageRow). if waits_for other p o then Some (part_queued p qs) else None) of
     ∙ cond-false (not p.progress.is_done && (is_pending m && bytes_eq m.handset other)) (Some (part_queued p qs)) None
     (ap (λ (b : Bool). not p.progress.is_done && (is_pending m && b)) (differ m.handset other ne) ∙ never (not p.progress.is_done) (is_pending m))
-
--- the part under a key is of that message
-part_is : (ps : List PartRow) (id n : ℕ) (p : PartRow) → Numbered ps → n < 256 → part_at id n ps ≡ Some p → p.id ≡ id
-part_is ps id n p numbered small e =
-    let k : pair_key p.id p.number ≡ pair_key id n = found_key part_key (pair_key id n) p ps e in
-    let few = (numbered.numbers p (found_among part_key (pair_key id n) p ps e)).1 in
-    omega (arith, k, few, small)
 
 part_of_elsewhere : (other : List ℕ) (ms : List MessageRow) (qs : List PriorityRow) (ps : List PartRow) (m : MessageRow) (n : ℕ) → Numbered ps → message_at m.id ms ≡ Some m → ¬ (m.handset ≡ other) → n < 256
     → part_wait other ms qs (part_at m.id n ps) ≡ None
@@ -82,7 +65,7 @@ ended_elsewhere other ms qs ps rs m numbered there ne =
     subst (λ (k : ℕ). row_at queued_key (pair_key k n) (withdrawn m.id w) ≡ row_at queued_key (pair_key k n) w) (sym e)
     (withdrawn_part m.id n w few some small
     ∙ sym (part_waits_at other ms qs ps rs m.id n numbered some small ∙ part_of_elsewhere other ms qs ps m n numbered there ne small)))
-    (cases_zero n))
+    (cases_number n))
     (λ (apart : i ≡ m.id → ⊥). withdrawn_other m.id i n w few small (inl apart))
     (cases_eq i m.id))
 

@@ -1,10 +1,9 @@
 -- What is kept of reports stays where a message changes in all but who submitted it.
-use Rattle.std.proofs.Common.{◌≡◌, ℕ, List, [], ◌∷◌, Option, Some, None, refl, sym, ◌∙◌, ap, inl, inr, ⊎_elim}
+use Rattle.std.proofs.Common.{◌≡◌, ℕ, List, Option, Some, None, sym, ◌∙◌, ap, ⊎_elim}
 use Rattle.std.specs.Prelude.{◌&&◌, if◌then◌else◌}
 use Rattle.std.proofs.lemmas.Bool.{cases_eq}
 use Rattle.sms_base.specs.Among.{Among}
 use Rattle.sms_base.specs.declared.final_state.FinalState.{FinalState}
-use Rattle.sms_rows.specs.index.Picked.{before_all, picked}
 use Rattle.sms_rows.specs.table.Table.{put}
 use Rattle.sms_rows.proofs.table.Tables.{row_at_put, row_at_put_other}
 use Rattle.sms_centre_rows.specs.declared.messages.message.MessageRow.{MessageRow}
@@ -14,11 +13,7 @@ use Rattle.sms_centre_rows.specs.reports.Reports.{is_open_receipt, reports_of}
 use Rattle.sms_centre_reports.specs.open_reports.Entries.{account_in, is_named, receipt_entry}
 use Rattle.sms_centre_reports.specs.open_reports.OpenReportsDraft.{OpenReportsDraftOf, DraftRepresents}
 use Rattle.sms_centre_rows.specs.waiting.Revisions.{Revised}
-
-picked_alike : {B : Type 0} (one two : ReportRow → Option B) (rows : List ReportRow) → ((r : ReportRow) → Among r rows → one r ≡ two r) → picked one rows ≡ picked two rows
-picked_alike one two [] f = refl
-picked_alike one two (r ∷ rows) f =
-    ap (λ (o : Option _). before_all o (picked one rows)) (f r (inl refl)) ∙ ap (λ (es : List _). before_all (two r) es) (picked_alike one two rows (λ s m. f s (inr m)))
+use Rattle.sms_centre_reports.proofs.open_reports.Keeping.{picked_alike}
 
 pub told_still : (ms others : List MessageRow) (p : OpenReportsDraftOf) (t : Revised ReportRow) → DraftRepresents ms p t → ((r : ReportRow) → Among r (reports_of t) → account_in (message_at r.id others) ≡ account_in (message_at r.id ms)) → DraftRepresents others p t
 told_still ms others p t tells same = record {

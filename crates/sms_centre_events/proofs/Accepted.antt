@@ -1,12 +1,11 @@
 -- What a submission becomes is what the definition says of its text and of its number.
-use Rattle.std.proofs.Common.{◌≡◌, ℕ, ◌<◌, ◌≤◌, nat_le, nat_lt, List, [], ◌∷◌, length, Bool, true, false, Option, Some, None, refl, sym, ◌∙◌, ap, subst, arith}
+use Rattle.std.proofs.Common.{◌≡◌, ℕ, ◌<◌, ◌≤◌, nat_le, nat_lt, List, [], ◌∷◌, length, Bool, true, false, Option, Some, None, refl, sym, ◌∙◌, ap, subst}
 use Rattle.std.proofs.lemmas.Bool.{cond-false, cond-true, le-leb, leb-true}
 use Rattle.std.specs.Prelude.{SomeIff, if◌then◌else◌}
 use Rattle.sms_base.specs.MessageId.{IsMessageId}
 use Rattle.sms_concat.specs.declared.content.Content.{Content}
 use Rattle.sms_concat.specs.UserData.{AreUnits, capacity}
 use Rattle.sms_rows.specs.table.Table.{Rises}
-use Rattle.sms_centre_rows.specs.declared.messages.message.MessageRow.{MessageRow}
 use Rattle.sms_centre_rows.specs.messages.Messages.{message_key}
 use Rattle.sms_centre_rows.specs.messages.SplitReferences.{next_split}
 use Rattle.sms_intake.specs.declared.submission.SinglePart.{SinglePart}
@@ -14,7 +13,7 @@ use Rattle.sms_intake.specs.declared.submission.Submission.{Submission}
 use Rattle.sms_intake.specs.declared.submission.Text.{Text}
 use Rattle.sms_intake.specs.declared.submission.Text.TheVariants.{Single, Whole}
 use Rattle.sms_intake.specs.PartBodies.{HasUnits, bodies_under, is_long}
-use Rattle.sms_centre_spec.specs.Draft.{Draft, Store, messages_in, parts_in, rows_of}
+use Rattle.sms_centre_spec.specs.Draft.{Draft, Store, bars_in, messages_in, parts_in, rows_of}
 use Rattle.sms_centre_spec.specs.MessageNumbers.{next_number}
 use Rattle.sms_centre_spec.specs.declared.rows.Rows.{Rows}
 use Rattle.sms_centre_spec.specs.Consistent.{IsSubmission}
@@ -28,7 +27,7 @@ use Rattle.sms_centre_draft.specs.CentreDraft.{Represents, CentreDraftOf}
 pub accepted_one : (id : ℕ) (u : Submission) (part : SinglePart) (parts : List SinglePart) (s : Store) → u.text ≡ Single part → parts ≡ part ∷ [] → accept_under id None parts u s ≡ accept_as id u s
 accepted_one id u part parts s one are =
     ap (λ (bodies : List SinglePart). accept_under id None bodies u s) are
-    ∙ sym (ap (λ (t : Text). if is_long t then accept_split id (next_split u.source u.handset (messages_in s) (parts_in s)) u s else accept_under id None (bodies_under 0 t) u s) one)
+    ∙ sym (ap (λ (t : Text). if is_long t then accept_split id (next_split u.source u.handset (bars_in s) (messages_in s) (parts_in s)) u s else accept_under id None (bodies_under 0 t) u s) one)
 
 pub one_body : (u : Submission) (part : SinglePart) (parts : List SinglePart) → IsSubmission u → u.text ≡ Single part → parts ≡ part ∷ [] → AreBodies u parts
 one_body u part parts is one are =
@@ -39,19 +38,19 @@ one_body u part parts is one are =
 -- what it becomes, by its text
 abbrev pub becomes : ℕ → Submission → Store → Text → Option Store
 becomes id u s t =
-    if is_long t then accept_split id (next_split u.source u.handset (messages_in s) (parts_in s)) u s else accept_under id None (bodies_under 0 u.text) u s
+    if is_long t then accept_split id (next_split u.source u.handset (bars_in s) (messages_in s) (parts_in s)) u s else accept_under id None (bodies_under 0 u.text) u s
 
 pub accepted_long : (id : ℕ) (u : Submission) (c : Content) (s : Store) → u.text ≡ Whole c → nat_lt (capacity c.coding) (length c.units) ≡ true
-    → accept_split id (next_split u.source u.handset (messages_in s) (parts_in s)) u s ≡ accept_as id u s
+    → accept_split id (next_split u.source u.handset (bars_in s) (messages_in s) (parts_in s)) u s ≡ accept_as id u s
 accepted_long id u c s whole long =
     sym (ap (λ (t : Text). becomes id u s t) whole
-    ∙ cond-true (is_long (Whole c)) (accept_split id (next_split u.source u.handset (messages_in s) (parts_in s)) u s) (accept_under id None (bodies_under 0 u.text) u s) long)
+    ∙ cond-true (is_long (Whole c)) (accept_split id (next_split u.source u.handset (bars_in s) (messages_in s) (parts_in s)) u s) (accept_under id None (bodies_under 0 u.text) u s) long)
 
 pub accepted_short : (id : ℕ) (u : Submission) (c : Content) (s : Store) → u.text ≡ Whole c → nat_lt (capacity c.coding) (length c.units) ≡ false
     → accept_under id None (bodies_under 0 u.text) u s ≡ accept_as id u s
 accepted_short id u c s whole short =
     sym (ap (λ (t : Text). becomes id u s t) whole
-    ∙ cond-false (is_long (Whole c)) (accept_split id (next_split u.source u.handset (messages_in s) (parts_in s)) u s) (accept_under id None (bodies_under 0 u.text) u s) short)
+    ∙ cond-false (is_long (Whole c)) (accept_split id (next_split u.source u.handset (bars_in s) (messages_in s) (parts_in s)) u s) (accept_under id None (bodies_under 0 u.text) u s) short)
 
 -- the parts of a content are those of the submission: user data, and at most 20
 pub same_bodies : (u : Submission) (c : Content) (reference : ℕ) (t : Text) (parts : List SinglePart) → u.text ≡ Whole c → t ≡ Whole c → parts ≡ bodies_under reference t → bodies_under reference u.text ≡ parts

@@ -19,7 +19,8 @@ use Rattle.sms_centre_spec.specs.Consistent.{IsConsistent}
 use Rattle.sms_centre_spec.proofs.StagesConsistent.{consistent_still}
 use Rattle.sms_centre_spec.proofs.SteadyTimes.{all_tried_steady, due_for_steady, stand_all}
 use Rattle.sms_centre_draft.specs.CentreDraft.{Represents, CentreDraftOf, all_waiting}
-use Rattle.sms_centre_events.proofs.Quiet.{AreReceipts, due_waits, tried_waits}
+use Rattle.sms_centre_draft.proofs.ReceiptsEnded.{AreReceipts, tried_waits}
+use Rattle.sms_centre_events.proofs.Quiet.{due_waits}
 use Rattle.sms_centre_draft.proofs.RepresentedMoves.{queues_alike}
 
 -- ---- rows and what waits, as a session ends and as one is bound

@@ -1,7 +1,8 @@
 -- A SUBMIT that is a duplicate, told by the TP-MRs that are pending.
-use Rattle.std.proofs.Common.{◌≡◌, ℕ, List, [], ◌∷◌, Bool, true, false, refl, ◌∙◌, ap}
+use Rattle.std.proofs.Common.{◌≡◌, ℕ, List, [], ◌∷◌, Bool, false, refl, ◌∙◌, ap}
 use Rattle.std.specs.Prelude.{◌&&◌, ◌||◌}
 use Rattle.std.specs.Str.{bytes_eq}
+use Rattle.sms_base.proofs.Bools.{and_false}
 use Rattle.sms_base.specs.declared.originator.Originator.{Originator}
 use Rattle.sms_base.specs.declared.originator.Originator.TheVariants.{Application, Handset}
 use Rattle.sms_centre_rows.specs.declared.messages.message.MessageRow.{MessageRow}
@@ -18,10 +19,6 @@ no_reference : (account : List ℕ) (o : Originator) → is_of_reference (Applic
 no_reference account (Application a) = refl
 no_reference account (Handset m) = refl
 
-none_of : (b : Bool) → (b && false) ≡ false
-none_of true = refl
-none_of false = refl
-
 -- of a handset's
 pub double_pending : (u : Submission) (n : ℕ) (ms : List MessageRow) → u.originator ≡ Handset n → is_pending_double u ms ≡ has_pending u.source.digits u.handset n ms
 double_pending u n [] e = refl
@@ -36,5 +33,5 @@ no_double u account [] e = refl
 no_double u account (m ∷ ms) e =
     ap (λ (o : Originator). (is_pending m && (is_of_reference o m.originator && (bytes_eq u.source.digits m.source.digits && bytes_eq u.handset m.handset))) || is_pending_double u ms) e
     ∙ ap (λ (b : Bool). (is_pending m && (b && (bytes_eq u.source.digits m.source.digits && bytes_eq u.handset m.handset))) || is_pending_double u ms) (no_reference account m.originator)
-    ∙ ap (λ (b : Bool). b || is_pending_double u ms) (none_of (is_pending m))
+    ∙ ap (λ (b : Bool). b || is_pending_double u ms) (and_false (is_pending m))
     ∙ no_double u account ms e

@@ -1,13 +1,13 @@
 -- The account at a place of the setup.
-use Rattle.std.proofs.Common.{◌≡◌, ℕ, zero, suc, ◌<◌, ◌≤◌, arith, length, get_or, List, [], ◌∷◌, Option, Some, None, option_copied, Bor, refl, sym, ◌∙◌, ap, inl, inr}
+use Rattle.std.proofs.Common.{◌≡◌, ℕ, zero, suc, ◌<◌, ◌≤◌, arith, length, get_or, List, [], ◌∷◌, Option, Some, None, option_copied, Bor, refl, sym, ◌∙◌, ap}
 use Rattle.sms_base.specs.Address.{IsAddress}
-use Rattle.sms_base.specs.Among.{Among}
 use Rattle.sms_intake.specs.declared.submission.CentreAccount.{CentreAccount}
 use Rattle.sms_centre_spec.specs.declared.setup.Setup.{Setup}
 use Rattle.sms_centre_spec.specs.Draft.{Draft}
 use Rattle.sms_centre_spec.specs.Requests.{account_at}
 use Rattle.sms_centre_spec.specs.SoundRows.{IsSetup}
 use Rattle.sms_centre_draft.specs.CentreDraft.{Represents, CentreDraftOf}
+use Rattle.sms_centre_spec.proofs.PduFits.{account_among}
 
 pub account_past : (place : ℕ) (accounts : List CentreAccount) → length accounts ≤ place → account_at place accounts ≡ None
 account_past place [] past = refl
@@ -25,11 +25,6 @@ module _ (place : ℕ) (d : Draft) (w : CentreDraftOf) (r : Option (Bor CentreAc
 
   pub no_account : Represents d w → option_copied r ≡ account_at place w.setup.accounts → r ≡ None → account_at place d.store.setup.accounts ≡ None
   no_account represents is there = ap (λ (s : Setup). account_at place s.accounts) (sym represents.setup) ∙ sym is ∙ ap (λ (x : Option (Bor CentreAccount)). option_copied x) there
-
-account_among : (place : ℕ) (a : CentreAccount) (accounts : List CentreAccount) → account_at place accounts ≡ Some a → Among a accounts
-account_among place a [] e = absurd cc
-account_among zero a (x ∷ accounts) e = let same : a ≡ x = cc in inl same
-account_among (suc place) a (x ∷ accounts) e = inr (account_among place a accounts e)
 
 -- its address is one
 pub account_address : (place : ℕ) (w : CentreDraftOf) (r : Option (Bor CentreAccount)) (a : Bor CentreAccount) → IsSetup w.setup → option_copied r ≡ account_at place w.setup.accounts → r ≡ Some a → IsAddress a.now.address

@@ -1,74 +1,22 @@
 -- Receipts move: nothing waits otherwise for a handset.
-use Rattle.std.proofs.Common.{◌≡◌, ℕ, ◌<◌, List, [], ◌∷◌, Bool, true, false, Option, Some, None, refl, sym, ◌∙◌, ap, subst, inl, inr, ⊎_elim, arith}
+use Rattle.std.proofs.Common.{◌≡◌, ℕ, List, [], ◌∷◌, Bool, true, Option, Some, None, refl, ◌∙◌, inl, inr}
 use Rattle.std.specs.Prelude.{◌&&◌, nat_lt, not, if◌then◌else◌}
-use Rattle.std.proofs.lemmas.Bool.{and_parts, cases_eq, cond_both}
-use Rattle.sms_base.specs.Among.{Among}
+use Rattle.std.proofs.lemmas.Bool.{and_parts, cond_both}
 use Rattle.sms_rows.specs.table.Table.{Rises}
 use Rattle.sms_centre_rows.specs.declared.messages.message.MessageRow.{MessageRow}
 use Rattle.sms_centre_rows.specs.messages.Messages.{message_at}
-use Rattle.sms_centre_rows.specs.declared.reports.report.ReportKind.{ReportKind}
-use Rattle.sms_centre_rows.specs.declared.reports.report.ReportKind.TheVariants.{Receipt, Status, Unsent}
 use Rattle.sms_centre_rows.specs.declared.reports.report.ReportRow.{ReportRow}
-use Rattle.sms_centre_rows.specs.reports.Receipts.{all_tried, is_account, is_put_off, receipt_ended, receipt_tried, receipts_due}
-use Rattle.sms_centre_rows.specs.reports.Reports.{amend_report, is_open_receipt, is_receipt, is_status, report_key, report_of, report_reaching, reports_of}
-use Rattle.sms_centre_rows.proofs.reports.ReportRows.{amended_other, amended_own}
-use Rattle.sms_centre_rows.specs.declared.waiting.progress.Progress.{Progress}
-use Rattle.sms_centre_rows.specs.waiting.Revisions.{Revised, amended}
+use Rattle.sms_centre_rows.specs.reports.Receipts.{is_account, is_put_off, receipts_due}
+use Rattle.sms_centre_rows.specs.reports.Reports.{amend_report, is_open_receipt, is_receipt, report_key, report_of, reports_of}
+use Rattle.sms_centre_rows.proofs.reports.Kinds.{no_status}
+use Rattle.sms_centre_rows.specs.waiting.Revisions.{Revised}
 use Rattle.sms_centre_rows.specs.waiting.Trying.{due_at}
-use Rattle.sms_centre_spec.specs.Draft.{Store, reports_in, with_report_at, with_reports}
+use Rattle.sms_centre_spec.specs.Draft.{Store, with_reports}
 use Rattle.sms_centre_spec.specs.Consistent.{IsConsistent}
-use Rattle.sms_centre_spec.proofs.StagesConsistent.{consistent_steady, consistent_still}
-use Rattle.sms_centre_spec.proofs.Steady.{report_own}
-use Rattle.sms_centre_spec.proofs.SteadyTimes.{ReportsInStore, above_among, all_tried_steady}
+use Rattle.sms_centre_spec.proofs.StagesConsistent.{consistent_steady}
+use Rattle.sms_centre_spec.proofs.SteadyTimes.{ReportsInStore, far_leaves}
 use Rattle.sms_centre_draft.specs.CentreDraft.{all_waiting}
 use Rattle.sms_centre_draft.proofs.MovesWaiting.{quiet_far_waits}
-
-not_status : (kind : ReportKind) → is_receipt kind ≡ true → is_status kind ≡ false
-not_status Receipt e = refl
-not_status (Status reference tpdu) e = absurd cc
-not_status Unsent e = refl
-
--- ---- receipts of a session that ends go again
-
--- a receipt stands there for each
-unfoldable pub AreReceipts : List ℕ → List ReportRow → Type 0
-AreReceipts ids rows = (id : ℕ) → Among id ids → (r : ReportRow) × ((report_of id rows ≡ Some r) × (is_receipt r.kind ≡ true))
-
-receipts_stay : (r : ReportRow) (q : Progress) (ids : List ℕ) (t : Revised ReportRow) → Rises report_key (reports_of t) → report_of r.id (reports_of t) ≡ Some r → is_receipt r.kind ≡ true → AreReceipts ids (reports_of t)
-    → AreReceipts ids (reports_of (amend_report r q t))
-unfolding AreReceipts
-receipts_stay r q ids t rises there receipt each id among = ⊎_elim
-    (λ (e : r.id ≡ id). (report_reaching q r, (subst (λ (n : ℕ). report_of n (amended report_key report_reaching (report_key r) q (reports_of t)) ≡ Some (report_reaching q r)) e (amended_own r q (reports_of t) there), receipt)))
-    (λ (ne : ¬ (r.id ≡ id)). let x = each id among in (x.0, (amended_other id r q (reports_of t) rises there ne ∙ x.1.0, x.1.1)))
-    (cases_eq r.id id)
-
-pub tried_waits : (n : ℕ) (ids : List ℕ) (t : Revised ReportRow) (s : Store) → IsConsistent (with_reports t s) → AreReceipts ids (reports_of t)
-    → (h : List ℕ) → all_waiting (with_reports (all_tried n ids t) s) h ≡ all_waiting (with_reports t s) h
-unfolding AreReceipts
-tried_waits n [] t s k each h = refl
-tried_waits n (id ∷ ids) t s k each h =
-    let one = each id (inl refl) in
-    let r : ReportRow = one.0 in
-    let own : report_of r.id (reports_of t) ≡ Some r = report_own id r (with_reports t s) one.1.0 in
-    tried_waits n ids (receipt_ended false n (report_of id (reports_of t)) t) s (all_tried_steady IsConsistent consistent_still n (id ∷ []) t s k)
-    (subst (λ (o : Option ReportRow). AreReceipts ids (reports_of (receipt_ended false n o t))) (sym one.1.0)
-    (receipts_stay r (receipt_tried n r.progress) ids t k.held.report_keys own one.1.1 (λ i a. each i (inr a)))) h
-    ∙ ap (λ (o : Option ReportRow). all_waiting (with_reports (receipt_ended false n o t) s) h) one.1.0
-    ∙ quiet_far_waits (with_reports t s) r (receipt_tried n r.progress) k.held own (not_status r.kind one.1.1) h
-
--- ---- receipts that waited for their minute are due
-
--- one report's progress leaves the others
-far_leaves : (r : ReportRow) (q : Progress) (rs : List ReportRow) (s : Store) → Rises report_key (reports_in s) → Rises report_key (r ∷ rs) → ReportsInStore (r ∷ rs) s
-    → ReportsInStore rs (with_report_at r q s)
-far_leaves r q rs s keys rises stand x among =
-    let there : report_of r.id (reports_in s) ≡ Some r = stand r (inl refl) in
-    let was : report_of x.id (reports_in s) ≡ Some x = stand x (inr among) in
-    let above : r.place < x.place = above_among report_key r.place x rs rises.0 among in
-    amended_other x.id r q (reports_in s) keys there (λ e. apart above (sym there ∙ ap (λ (id : ℕ). report_of id (reports_in s)) e ∙ was)) ∙ was
-  where
-    apart : r.place < x.place → Some r ≡ Some x → ⊥
-    apart above e = let same : r ≡ x = cc in let places : r.place ≡ x.place = ap (λ (y : ReportRow). y.place) same in omega (arith, above, places)
 
 put_off_receipt : (n : ℕ) (a : List ℕ) (r : ReportRow) (o : Option MessageRow) → is_put_off n a r o ≡ true → is_receipt r.kind ≡ true
 put_off_receipt n a r None e = absurd cc
@@ -86,7 +34,7 @@ due_waits n a ms (r ∷ rs) t s k rises stand h =
     (λ e. (
       consistent_steady.report_far r (due_at n r.progress) (with_reports t s) k there (λ f. f),
       far_leaves r (due_at n r.progress) rs (with_reports t s) k.held.report_keys rises stand,
-      quiet_far_waits (with_reports t s) r (due_at n r.progress) k.held there (not_status r.kind (put_off_receipt n a r (message_at r.id ms) e)) h,
+      quiet_far_waits (with_reports t s) r (due_at n r.progress) k.held there (no_status r.kind (put_off_receipt n a r (message_at r.id ms) e)) h,
     ))
     (λ e. (k, (λ x among. stand x (inr among)), refl)) in
     due_waits n a ms rs (if is_one then amend_report r (due_at n r.progress) t else t) s all.0 rises.1 all.1 h ∙ all.2

@@ -5,7 +5,7 @@ ghost use Rattle.sms_intake.specs.PartBodies.{HasUnits, bodies_under as bodies_u
 ghost use Rattle.sms_intake.specs.declared.submission.Text.TheVariants.{Single, Whole};
 ghost use Rattle.sms_centre_messages.specs.references.ReferenceIndex.{Represents as ReferencesRepresent};
 ghost use Rattle.sms_centre_rows.specs.messages.SplitReferences.{next_split};
-ghost use Rattle.sms_centre_spec.specs.Draft.{Draft, messages_in, parts_in};
+ghost use Rattle.sms_centre_spec.specs.Draft.{Draft, bars_in, messages_in, parts_in};
 ghost use Rattle.sms_centre_spec.specs.Consistent.{IsSubmission};
 ghost use Rattle.sms_centre_spec.specs.Submitting.{accept_as as accept_as_of, accept_split as accept_split_of, accept_under};
 ghost use Rattle.sms_centre_draft.specs.Submitting.{Accepts, IsNewId};
@@ -86,9 +86,9 @@ fn accept_split(
     requires submission { IsSubmission submission.now }
     requires whole { submission.now.text ≡ Whole content.now }
     requires units { AreUnits content.now.coding content.now.units }
-    ensures { (d : Draft) → DraftRepresents d draft.old → ReferencesRepresent reference_index.now (messages_in d.store) (parts_in d.store) → IsNewId id d.store
-        → IfOk result (Accepts (accept_split_of id (next_split submission.now.source submission.now.handset (messages_in d.store)
-        (parts_in d.store)) submission.now d.store) d draft.new) }
+    ensures { (d : Draft) → DraftRepresents d draft.old → ReferencesRepresent reference_index.now (bars_in d.store) (messages_in d.store) (parts_in d.store) → IsNewId id d.store
+        → IfOk result (Accepts (accept_split_of id (next_split submission.now.source submission.now.handset (bars_in d.store)
+        (messages_in d.store) (parts_in d.store)) submission.now d.store) d draft.new) }
 {
     let free = reference_index.next_split(&submission.source, &submission.handset);
     match free {
@@ -110,7 +110,7 @@ fn accept_whole(
     requires submission { IsSubmission submission.now }
     requires whole { submission.now.text ≡ Whole content.now }
     requires units { AreUnits content.now.coding content.now.units }
-    ensures { (d : Draft) → DraftRepresents d draft.old → ReferencesRepresent reference_index.now (messages_in d.store) (parts_in d.store) → IsNewId id d.store
+    ensures { (d : Draft) → DraftRepresents d draft.old → ReferencesRepresent reference_index.now (bars_in d.store) (messages_in d.store) (parts_in d.store) → IsNewId id d.store
         → IfOk result (Accepts (accept_as_of id submission.now d.store) d draft.new) }
 {
     if is_long(content) {
@@ -129,7 +129,7 @@ pub(crate) fn accept_as(
 ) -> Result<bool, AllocError>
     requires submission { IsSubmission submission.now }
     requires units { HasUnits submission.now.text }
-    ensures { (d : Draft) → DraftRepresents d draft.old → ReferencesRepresent reference_index.now (messages_in d.store) (parts_in d.store) → IsNewId id d.store
+    ensures { (d : Draft) → DraftRepresents d draft.old → ReferencesRepresent reference_index.now (bars_in d.store) (messages_in d.store) (parts_in d.store) → IsNewId id d.store
         → IfOk result (Accepts (accept_as_of id submission.now d.store) d draft.new) }
 {
     match &submission.text {

@@ -2,7 +2,8 @@
 ghost use Rattle.std.specs.Prelude.{◌≡◌, ◌&&◌, List, Some, None, if◌then◌else◌, max, nat_le};
 ghost use Rattle.sms_centre_messages.specs.references.ReferenceIndex.{Represents};
 ghost use Rattle.sms_centre_messages.specs.message_index.MessageIndex.{Represents as MessagesRepresent};
-ghost use Rattle.sms_centre_rows.specs.messages.SplitReferences.{held_splits, is_taken, wide_in};
+ghost use Rattle.sms_centre_rows.specs.messages.SplitReferences.{held_references, is_taken, wide_in};
+ghost use Rattle.sms_centre_rows.specs.declared.messages.bar.BarRow.{BarRow as BarRowOf};
 ghost use Rattle.sms_centre_rows.specs.declared.messages.message.MessageRow.{MessageRow as MessageRowOf};
 ghost use Rattle.sms_centre_rows.specs.declared.messages.part.PartRow.{PartRow as PartRowOf};
 ghost use Rattle.sms_centre_draft.specs.CentreDraft.{Represents as DraftRepresents};
@@ -21,7 +22,7 @@ use sms_intake::{Submission, Text};
 /// Whether it is to be refused as a duplicate (3GPP TS 23.040 9.2.3.25). It is one where a message of its originator,
 /// TP-MR and destination is pending, and TP-RD is 1.
 pub(crate) fn is_duplicate(reference_index: &ReferenceIndex, submission: &Submission) -> bool
-    ensures { (ms : List MessageRowOf) (ps : List PartRowOf) → Represents reference_index.now ms ps
+    ensures { (bs : List BarRowOf) (ms : List MessageRowOf) (ps : List PartRowOf) → Represents reference_index.now bs ms ps
         → result ≡ (submission.now.rejects_duplicates && is_pending_double submission.now ms) }
 {
     if !submission.rejects_duplicates {
@@ -62,8 +63,8 @@ fn own_reference(text: &Text) -> Option<u16>
 
 /// Whether its header has a reference that the centre gave for its source and handset (3GPP TS 23.040 9.2.3.24.8).
 pub(crate) fn is_reference_taken(reference_index: &ReferenceIndex, submission: &Submission) -> bool
-    ensures { (ms : List MessageRowOf) (ps : List PartRowOf) → Represents reference_index.now ms ps
-        → result ≡ is_taken (own_reference_of submission.now.text) (held_splits submission.now.source submission.now.handset ms) }
+    ensures { (bs : List BarRowOf) (ms : List MessageRowOf) (ps : List PartRowOf) → Represents reference_index.now bs ms ps
+        → result ≡ is_taken (own_reference_of submission.now.text) (held_references submission.now.source submission.now.handset bs ms) }
 {
     let reference = own_reference(&submission.text);
     reference_index.is_taken(&submission.source, &submission.handset, reference)

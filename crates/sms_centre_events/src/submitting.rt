@@ -5,7 +5,7 @@ ghost use Rattle.smpp_pdu.specs.declared.status.CommandStatus.TheVariants.{ESME_
 ghost use Rattle.sms_intake.specs.PartBodies.{HasUnits};
 ghost use Rattle.sms_centre_events.specs.Knowing.{Knows};
 ghost use Rattle.sms_centre_messages.specs.references.ReferenceIndex.{Represents as ReferencesRepresent};
-ghost use Rattle.sms_centre_spec.specs.Draft.{Draft, Store, in_store, messages_in, parts_in, rows_of};
+ghost use Rattle.sms_centre_spec.specs.Draft.{Draft, Store, bars_in, in_store, messages_in, parts_in, rows_of};
 ghost use Rattle.sms_centre_spec.specs.MessageNumbers.{next_number as next_number_of};
 ghost use Rattle.sms_centre_spec.specs.Shares.{unless_too_much};
 ghost use Rattle.sms_centre_spec.specs.Requests.{accepted as accepted_of, refused as refused_of, submission_received as submission_received_of};
@@ -74,7 +74,7 @@ fn accepted_as(
 ) -> Result<SubmitOutcome, AllocError>
     requires submission { IsSubmission submission.now }
     requires units { HasUnits submission.now.text }
-    ensures { (d : Draft) → DraftRepresents d draft.old → ReferencesRepresent reference_index.now (messages_in d.store) (parts_in d.store) → IsNewId id d.store
+    ensures { (d : Draft) → DraftRepresents d draft.old → ReferencesRepresent reference_index.now (bars_in d.store) (messages_in d.store) (parts_in d.store) → IsNewId id d.store
         → IfOk result (LeadsTo (accepted_of id (unless_too_much submission.now (accept_as_of id submission.now d.store)) d) d draft.new) }
 {
     let is_accepted = accept_as(draft, reference_index, id, submission)?;

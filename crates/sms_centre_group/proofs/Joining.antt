@@ -3,6 +3,7 @@ use Rattle.std.proofs.Common.{◌≡◌, ℕ, List, [], ◌∷◌, ◌++◌, ◌
 use Rattle.sms_rows.proofs.table.Tables.{all_applied_append}
 use Rattle.sms_centre_rows.specs.declared.waiting.progress.Progress.{Progress}
 use Rattle.sms_centre_rows.specs.declared.waiting.revision.Revision.{Revision}
+use Rattle.sms_centre_rows.specs.messages.Bars.{bar_key}
 use Rattle.sms_centre_rows.specs.messages.Messages.{message_key, part_key, part_reaching, priority_key}
 use Rattle.sms_centre_rows.specs.reports.Reports.{report_key, report_reaching}
 use Rattle.sms_centre_rows.specs.waiting.Keys.{handset_key, reference_key}
@@ -28,6 +29,7 @@ after_joined first second rows =
     let handsets = all_applied_append handset_key first.handsets second.handsets rows.handsets in
     let reports = revised_join report_key report_reaching first.reports second.reports rows.reports in
     let priorities = all_applied_append priority_key first.priorities second.priorities rows.priorities in
+    let bars = all_applied_append bar_key first.bars second.bars rows.bars in
     λ i. record {
       messages = messages i;
       parts = parts i;
@@ -35,6 +37,7 @@ after_joined first second rows =
       handsets = handsets i;
       reports = reports i;
       priorities = priorities i;
+      bars = bars i;
       setup = rows.setup;
     }
 

@@ -16,6 +16,7 @@ changes_in held = record {
   handsets = held.handsets.items;
   reports = held.reports.items;
   priorities = held.priorities.items;
+  bars = held.bars.items;
 }
 
 -- the changes are held without taking memory
@@ -26,3 +27,4 @@ pub record HasRoomFor (changes : Changes) (held : HeldChanges) : Type 0 where
   pub handsets : HasVecRoom (length changes.handsets) held.handsets
   pub reports : HasVecRoom (length changes.reports) held.reports
   pub priorities : HasVecRoom (length changes.priorities) held.priorities
+  pub bars : HasVecRoom (length changes.bars) held.bars

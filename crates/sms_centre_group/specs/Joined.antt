@@ -11,4 +11,5 @@ joined first second = record {
   handsets = first.handsets ++ second.handsets;
   reports = first.reports ++ second.reports;
   priorities = first.priorities ++ second.priorities;
+  bars = first.bars ++ second.bars;
 }

@@ -5,7 +5,7 @@ ghost use Rattle.sms_centre_group.specs.Joined.{joined};
 ghost use Rattle.sms_centre_spec.specs.Draft.{no_changes};
 
 use sms_base::Listed;
-use sms_centre_rows::messages::{MessageRow, PartRow, PriorityRow};
+use sms_centre_rows::messages::{BarRow, MessageRow, PartRow, PriorityRow};
 use sms_centre_rows::reports::ReportRow;
 use sms_centre_rows::waiting::{HandsetRow, ReferenceRow, Revision};
 use sms_centre_spec::Changes;
@@ -22,6 +22,7 @@ pub struct HeldChanges {
     pub(crate) handsets: Vec<Change<HandsetRow>>,
     pub(crate) reports: Vec<Revision<ReportRow>>,
     pub(crate) priorities: Vec<Change<PriorityRow>>,
+    pub(crate) bars: Vec<Change<BarRow>>,
 }
 
 // Puts the items at the end, where there is room.
@@ -48,6 +49,7 @@ impl HeldChanges {
             handsets: Vec::new(alloc),
             reports: Vec::new(alloc),
             priorities: Vec::new(alloc),
+            bars: Vec::new(alloc),
         }
     }
 
@@ -61,7 +63,8 @@ impl HeldChanges {
         self.references.reserve(changes.references.len())?;
         self.handsets.reserve(changes.handsets.len())?;
         self.reports.reserve(changes.reports.len())?;
-        self.priorities.reserve(changes.priorities.len())
+        self.priorities.reserve(changes.priorities.len())?;
+        self.bars.reserve(changes.bars.len())
     }
 
     /// Takes the changes of one event more, without taking memory.
@@ -75,6 +78,7 @@ impl HeldChanges {
         append(&mut self.handsets, changes.handsets);
         append(&mut self.reports, changes.reports);
         append(&mut self.priorities, changes.priorities);
+        append(&mut self.bars, changes.bars);
     }
 
     /// Whether nothing has changed.
@@ -87,6 +91,7 @@ impl HeldChanges {
             && self.handsets.as_slice().is_empty()
             && self.reports.as_slice().is_empty()
             && self.priorities.as_slice().is_empty()
+            && self.bars.as_slice().is_empty()
     }
 
     /// Gives all changes, as those of one event. Nothing has changed then.
@@ -101,6 +106,7 @@ impl HeldChanges {
             handsets: Listed::from_vec(mem::replace(&mut self.handsets, Vec::new(alloc))),
             reports: Listed::from_vec(mem::replace(&mut self.reports, Vec::new(alloc))),
             priorities: Listed::from_vec(mem::replace(&mut self.priorities, Vec::new(alloc))),
+            bars: Listed::from_vec(mem::replace(&mut self.bars, Vec::new(alloc))),
         }
     }
 }

@@ -1,3 +1,4 @@
+pub mod Claiming
 pub mod Entries
 pub mod Forgetting
 pub mod Numbers

@@ -1,4 +1,4 @@
 mod Counting
 pub mod EventMoves
 mod Newest
-mod MovesSteady
+pub mod MovesSteady

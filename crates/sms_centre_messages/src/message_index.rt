@@ -23,6 +23,7 @@ mod summary;
 
 pub use copying::{copy_of_changes, copy_of_originator};
 pub use draft::{MessageIndexDraft, MessageIndexPlan};
+pub use forgettable::has_ended;
 pub use index::{MessageIndex, MessageIndexReserve};
 pub use message_entry::{MessageEntry, OriginatorEntry};
 pub use summary::MessageSummary;

@@ -19,6 +19,7 @@ fn is_empty(changes: &Changes) -> bool
         && changes.handsets.as_slice().is_empty()
         && changes.reports.as_slice().is_empty()
         && changes.priorities.as_slice().is_empty()
+        && changes.bars.as_slice().is_empty()
 }
 
 /// Commits the changes of an event. Where nothing changes, as when a part is offered again that has its reference, the store is not

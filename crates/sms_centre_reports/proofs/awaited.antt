@@ -1,5 +1,5 @@
 mod AllEvents
-mod AsDefined
+pub mod AsDefined
 mod Awaiting
 mod BindingsEvents
 mod OpenStays

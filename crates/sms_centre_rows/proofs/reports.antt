@@ -5,3 +5,4 @@ pub mod ReportRows
 pub mod Serving
 pub mod WaitingChanges
 pub mod Windows
+pub mod Kinds

@@ -1,6 +1,6 @@
 //! The rows of a service centre, and their meaning.
 //!
-//! A centre stores messages, their parts, the references that it gave at each handset, reports, and priorities.
+//! A centre stores messages, their parts, the references that it gave at each handset, reports, priorities, and bars.
 //! `specs/` says what these rows mean: what a message still has to bring to its handset, and which references are free.
 //! It also says what waits where, and when rows are sound. Other crates keep these rows in memory, in stores, and
 //! change them in events; all do so in the words of this crate.

@@ -17,7 +17,7 @@ use Rattle.sms_centre_rows.specs.waiting.SoundAllocations.{IsNumber}
 use Rattle.sms_intake.specs.declared.submission.SinglePart.{SinglePart}
 use Rattle.sms_intake.specs.declared.submission.Submission.{Submission}
 use Rattle.sms_intake.specs.PartBodies.{deliver_octets}
-use Rattle.sms_centre_spec.specs.Draft.{Store, handsets_in, messages_in, parts_in, reports_in, rows_of}
+use Rattle.sms_centre_spec.specs.Draft.{Store, bars_in, handsets_in, messages_in, parts_in, reports_in, rows_of}
 use Rattle.sms_centre_spec.specs.MessageNumbers.{next_number}
 use Rattle.sms_centre_spec.specs.SoundRows.{HasReportAddress}
 use Rattle.sms_centre_spec.specs.Consistent.{IsSubmission, IsConsistent}
@@ -124,7 +124,7 @@ pub accept_consistent : (u : Submission) (s : Store) → IsConsistent s → IsSu
 accept_consistent u s k fit =
     let id : ℕ = next_number (rows_of s) in
     let below : (x : MessageRow) → Among x (messages_in s) → x.id < id = λ x among. below_next_number (rows_of s) x k.message_keys among in
-    let split : Option ℕ = next_split u.source u.handset (messages_in s) (parts_in s) in
+    let split : Option ℕ = next_split u.source u.handset (bars_in s) (messages_in s) (parts_in s) in
     cond_both (nat_le id 9999999999) (accept_as id u s) None (λ o. IfThere IsConsistent o)
     (λ t. cond_both (is_long u.text) (accept_split id split u s) (accept_under id None (bodies_under 0 u.text) u s) (λ o. IfThere IsConsistent o)
     (λ e. split_consistent id split u s k below fit) (λ e. under_consistent id None (bodies_under 0 u.text) u s k below fit (fit.few 0)))

@@ -17,7 +17,7 @@ use Rattle.sms_intake.specs.declared.submission.CentreAccount.{CentreAccount}
 use Rattle.sms_intake.specs.declared.submission.SinglePart.{SinglePart}
 use Rattle.sms_intake.specs.declared.submission.Submission.{Submission}
 use Rattle.sms_centre_spec.specs.CentreEvent.{happened}
-use Rattle.sms_centre_spec.specs.Draft.{Core, Draft, Store, core_of, draft_of, handsets_in, messages_in, parts_in, rows_of}
+use Rattle.sms_centre_spec.specs.Draft.{Core, Draft, Store, bars_in, core_of, draft_of, handsets_in, messages_in, parts_in, rows_of}
 use Rattle.sms_centre_spec.specs.MessageNumbers.{next_number}
 use Rattle.sms_centre_spec.specs.Requests.{account_at, accepted, refused, submission_received, submit_by}
 use Rattle.sms_intake.specs.SmppIntake.{from_pdu}
@@ -53,7 +53,7 @@ split_there id (Some r) u s = under_there id (Some r) (bodies_under r u.text) u 
 accept_there : (u : Submission) (s : Store) → IfThere (IsThere (next_number (rows_of s))) (accept u s)
 accept_there u s =
     let id : ℕ = next_number (rows_of s) in
-    let split : Option ℕ = next_split u.source u.handset (messages_in s) (parts_in s) in
+    let split : Option ℕ = next_split u.source u.handset (bars_in s) (messages_in s) (parts_in s) in
     cond_both (nat_le id 9999999999) (accept_as id u s) None (λ o. IfThere (IsThere id) o)
     (λ t. cond_both (is_long u.text) (accept_split id split u s) (accept_under id None (bodies_under 0 u.text) u s) (λ o. IfThere (IsThere id) o)
     (λ e. split_there id split u s) (λ e. under_there id None (bodies_under 0 u.text) u s))

@@ -29,7 +29,8 @@ unfolding
     Rattle.sms_intake.specs.HandsetIntake.from_submit Rattle.sms_intake.specs.SmppIntake.from_pdu
     Rattle.sms_intake.specs.SmppIntake.front_in Rattle.sms_intake.specs.SmppIntake.headed_text
     Rattle.sms_intake.specs.SmppIntake.judged_in Rattle.sms_intake.specs.SmppIntake.plain_text
-    Rattle.sms_centre_rows.specs.messages.PartEntries.done_to Rattle.sms_centre_rows.specs.messages.SplitReferences.first_free_split
+    Rattle.sms_centre_rows.specs.messages.PartEntries.done_to Rattle.sms_centre_rows.specs.messages.SplitReferences.all_references
+    Rattle.sms_centre_rows.specs.messages.SplitReferences.first_free_split
     Rattle.sms_relay.specs.Cause.cause_of Rattle.sms_relay.specs.MessageType.type_of
     Rattle.sms_relay.specs.RelayReading.ack_in Rattle.sms_relay.specs.RelayReading.cause_in
     Rattle.sms_relay.specs.RelayReading.centre_in Rattle.sms_relay.specs.RelayReading.data_down_in

@@ -4,6 +4,7 @@ use Rattle.std.specs.Prelude.{◌&&◌, not, if◌then◌else◌}
 use Rattle.std.proofs.lemmas.Bool.{cases_Bool, cases_eq, cond-true, cond-false}
 use Rattle.std.proofs.lemmas.Slice.Eq.{bytes_eq-Decides}
 use Rattle.std.specs.Str.{bytes_eq}
+use Rattle.sms_base.proofs.OctetLaws.{cases_octets}
 use Rattle.sms_rows.specs.table.Keys.{pair_key}
 use Rattle.sms_rows.specs.table.Table.{put, row_at}
 use Rattle.sms_rows.proofs.table.Tables.{found_among, rises_put, row_at_put, row_at_put_other}
@@ -25,7 +26,7 @@ use Rattle.sms_centre_rows.specs.waiting.References.{given_row, handset_at, hand
 use Rattle.sms_centre_rows.specs.waiting.SoundAllocations.{IsNumber, reference_at}
 use Rattle.sms_centre_rows.specs.waiting.SoundWaiting.{SoundWaiting, WasGiven}
 use Rattle.sms_centre_rows.proofs.waiting.AllocationsSound.{give_sound}
-use Rattle.sms_centre_rows.proofs.waiting.Mentions.{cases_number, put_number, put_number_other, row_fits}
+use Rattle.sms_centre_rows.proofs.waiting.Mentions.{put_number, put_number_other, row_fits}
 use Rattle.sms_centre_rows.proofs.waiting.WaitingSound.{next_is_free, waits_under, without_sound}
 use Rattle.sms_centre_spec.specs.Draft.{Store, handsets_in, messages_in, parts_in, priorities_in, references_in, reports_in, waiting_in, with_given, with_part, with_reports}
 use Rattle.sms_centre_spec.specs.Held.{SoundHeld}
@@ -80,7 +81,7 @@ waits_given s number l held next other o own none =
     subst (λ (x : Option QueuedPart). SoundWaiting (handset_at other (put handset_key (mentioned h l.reference) hs)) (put reference_key row rs) (waiting_as (queued_key l) x (waiting_in other s))) (sym (none e))
     (subst (λ (x : Option HandsetRow). SoundWaiting x (put reference_key row rs) (waiting_as (queued_key l) None (waiting_in other s))) (sym same)
     (given_more (handset_at other hs) rs (waiting_as (queued_key l) None (waiting_in other s)) row (without_sound (handset_at other hs) rs (waiting_in other s) (queued_key l) (held.waiting other)))))
-    (cases_number number other)
+    (cases_octets number other)
 
 -- ---- a part is given
 

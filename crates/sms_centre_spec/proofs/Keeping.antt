@@ -116,7 +116,7 @@ report_row_keeps r s k none next id x e =
     let at = report_found id x (reports_in s) e in
     (x, (new_report_other id r (reports_in s) (next_is_new r (reports_in s) k.held.report_keys none next) (λ q. none x at.0 (at.1 ∙ sym q)) ∙ e, same_report x))
 
-abbrev report_of_end : ℕ → ReportKind → Bool → Store → ReportRow
+abbrev pub report_of_end : ℕ → ReportKind → Bool → Store → ReportRow
 report_of_end id kind closed s = record {
   place = next_place (reports_in s);
   id = id;

@@ -16,7 +16,7 @@ use Rattle.sms_centre_spec.specs.declared.rows.Rows.{Rows}
 use Rattle.sms_intake.specs.declared.submission.SinglePart.{SinglePart}
 use Rattle.sms_intake.specs.declared.submission.Submission.{Submission}
 use Rattle.sms_intake.specs.PartBodies.{deliver_octets}
-use Rattle.sms_centre_spec.specs.Draft.{Store, handsets_in, messages_in, parts_in, rows_of}
+use Rattle.sms_centre_spec.specs.Draft.{Store, bars_in, handsets_in, messages_in, parts_in, rows_of}
 use Rattle.sms_centre_spec.specs.MessageNumbers.{next_number}
 use Rattle.sms_centre_spec.specs.Keeping.{Keeps}
 use Rattle.sms_centre_spec.specs.Submitting.{accept, accept_as, accept_split, accept_under, enter, give_part, give_parts, message_of, part_given, reference_for}
@@ -104,7 +104,7 @@ accept_keeps base u s k kept =
     let low = new i.message.0 (found_among message_key p.id i.message.0 (messages_in s) i.message.1.0) in
     let own = found_key message_key p.id i.message.0 (messages_in s) i.message.1.0 in
     omega (arith, few, low, own) in
-    let split : Option ℕ = next_split u.source u.handset (messages_in s) (parts_in s) in
+    let split : Option ℕ = next_split u.source u.handset (bars_in s) (messages_in s) (parts_in s) in
     cond_both (nat_le id 9999999999) (accept_as id u s) None (λ o. IfThere (λ (e : Store). Keeps base (rows_of e)) o)
     (λ t. cond_both (is_long u.text) (accept_split id split u s) (accept_under id None (bodies_under 0 u.text) u s) (λ o. IfThere (λ (e : Store). Keeps base (rows_of e)) o)
     (λ e. split_keeps base id u split s kept new before) (λ e. under_keeps base id u None (bodies_under 0 u.text) s kept new before))
@@ -114,7 +114,7 @@ accept_keeps base u s k kept =
 abbrev pub SoundSince : Rows → Store → Type 0
 SoundSince base s = SoundStore s × Keeps base (rows_of s)
 
-both_there : (A B : Store → Type 0) (o : Option Store) → IfThere A o → IfThere B o → IfThere (λ (s : Store). A s × B s) o
+pub both_there : (A B : Store → Type 0) (o : Option Store) → IfThere A o → IfThere B o → IfThere (λ (s : Store). A s × B s) o
 both_there A B None a b = tt
 both_there A B (Some s) a b = (a, b)
 

@@ -1,6 +1,8 @@
 pub mod Answered
+pub mod BoundSessions
 mod BodiesRefused
 mod Calendars
+pub mod CentreAddresses
 mod Everything
 mod ExpiredUnderWay
 mod LengthsThatFit
@@ -46,7 +48,9 @@ pub mod SoundSides
 pub mod SoundSteady
 pub mod SoundStores
 pub mod SubmitFits
+pub mod TextContents
 pub mod TextFields
+pub mod Ticking
 pub mod TpdusRead
 pub mod UnitOctets
 pub mod Stages
@@ -58,6 +62,7 @@ pub mod SteadyEvents
 mod StatusReported
 mod SubmitsJudged
 pub mod TriedAgain
+pub mod Unanswered
 mod UrgentFirst
 mod WindowFull
 mod Worked

@@ -23,7 +23,7 @@ use Rattle.sms_centre_spec.specs.declared.event.CentreEvent.{CentreEvent}
 use Rattle.sms_centre_spec.specs.declared.rows.Rows.{Rows}
 use Rattle.sms_centre_spec.specs.CentreEvent.{happened}
 use Rattle.sms_centre_spec.specs.Consistent.{IsSubmission}
-use Rattle.sms_centre_spec.specs.Draft.{Core, Store, core_of, draft_of, handsets_in, messages_in, parts_in, rows_of, with_message, with_part_at}
+use Rattle.sms_centre_spec.specs.Draft.{Core, Store, bars_in, core_of, draft_of, handsets_in, messages_in, parts_in, rows_of, with_message, with_part_at}
 use Rattle.sms_centre_spec.specs.Ends.{end, is_wished, report_to, status_given}
 use Rattle.sms_centre_spec.specs.MessageNumbers.{WasGiven, next_number}
 use Rattle.sms_centre_spec.specs.SoundCore.{IsEvent, IsSoundCore}
@@ -107,14 +107,15 @@ module _ (base : Rows) (rises : Rises message_key base.messages) where
   accept_numbered u s since are =
       let id : ℕ = next_number (rows_of s) in
       let is : id ≡ next_number base = same_next s since are in
-      let split : Option ℕ = next_split u.source u.handset (messages_in s) (parts_in s) in
+      let split : Option ℕ = next_split u.source u.handset (bars_in s) (messages_in s) (parts_in s) in
       cond_both (nat_le id 9999999999) (accept_as id u s) None (λ (o : Option Store). IfThere (AreNumbered base) o)
       (λ t. cond_both (is_long u.text) (accept_split id split u s) (accept_under id None (bodies_under 0 u.text) u s) (λ (o : Option Store). IfThere (AreNumbered base) o)
       (λ e. split_numbered id split u s are is) (λ e. under_numbered id None (bodies_under 0 u.text) u s are is))
       (λ t. tt)
 
-  -- ---- no other stage enters a message
+-- ---- no other stage enters a message
 
+module _ (base : Rows) where
   status_old : (f : FinalState) (m : MessageRow) (h : HandsetRow) (o : Option ℕ) (s : Store) → AreOld base s → AreOld base (status_given f m h o s)
   status_old f m h None s k = record { first = k.first; old = k.old }
   status_old f m h (Some r) s k = record { first = k.first; old = k.old }
@@ -146,7 +147,7 @@ module _ (base : Rows) (rises : Rises message_key base.messages) where
       let far : AreOld base e = record { first = k.first; old = k.old } in
       cond_both (all_done m.id (parts_in e)) (end Delivered m e) e (λ (x : Store). AreOld base x) (λ t. end_old Delivered m e far (message_own p.id m e of)) (λ t. far)
 
-  old_still : IsStill (λ (s : Store). SoundSince base s × AreOld base s)
+  pub old_still : IsStill (λ (s : Store). SoundSince base s × AreOld base s)
   old_still =
       let since : IsSteady (SoundSince base) = since_steady base in
       record {
@@ -167,7 +168,7 @@ pub event_numbers : (event : CentreEvent) (c : Core) → IsSoundCore c → IsEve
     → message_at m.id c.rows.messages ≡ None → m.id ≡ next_number c.rows
 event_numbers event c s is =
     let rises = s.rows.messages.message_keys in
-    event_leads (λ (x : Store). SoundSince c.rows x × AreOld c.rows x) (old_still c.rows rises) (AreNumbered c.rows) (λ u x k fit. accept_numbered c.rows rises u x k.0 k.1) (λ x k. old_numbered c.rows rises x k.1)
+    event_leads (λ (x : Store). SoundSince c.rows x × AreOld c.rows x) (old_still c.rows) (AreNumbered c.rows) (λ u x k fit. accept_numbered c.rows rises u x k.0 k.1) (λ x k. old_numbered c.rows rises x k.1)
     event c (begins c s, begins_old c s) s.now (event_gives event c s is)
 
 -- ---- a number is given once

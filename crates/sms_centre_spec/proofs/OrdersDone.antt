@@ -1,7 +1,7 @@
 -- What becomes of an operator's order.
 use Rattle.std.proofs.Common.{◌≡◌, ◌<◌, ℕ, List, [], ◌∷◌, Bool, true, false, Option, Some, None, refl, sym, ◌∙◌, ap, subst, inl, inr, ⊎_elim}
 use Rattle.std.specs.Prelude.{◌⊎◌, ◌==◌, ◌&&◌, not, if◌then◌else◌}
-use Rattle.std.proofs.lemmas.Bool.{and_parts, cases_eq, cond_both, cond-false, cond-true}
+use Rattle.std.proofs.lemmas.Bool.{and_parts, cases_eq, cond_both, cond-false, cond-true, not-true}
 use Rattle.sms_base.specs.Among.{Among}
 use Rattle.sms_base.specs.declared.final_state.FinalState.TheVariants.{Deleted}
 use Rattle.smpp_pdu.specs.declared.status.CommandStatus.TheVariants.{ESME_RCANCELFAIL, ESME_RINVMSGID}
@@ -67,10 +67,6 @@ pub among_parts : (id : ℕ) (l : QueuedPart) (ls : List QueuedPart) → Among l
 among_parts id l [] a = a
 among_parts id l (x ∷ xs) a = more_among (is_part_of id x) l x (parts_among id xs) xs (λ b. among_parts id l xs b) a
 
-not_true : (b : Bool) → not b ≡ true → b ≡ false
-not_true true e = absurd cc
-not_true false e = refl
-
 is_part : (b : Bool) (l x : QueuedPart) (ls : List QueuedPart) → (b ≡ true → (x.number == 0) ≡ false) → (Among l ls → (l.number == 0) ≡ false) → Among l (if b then x ∷ ls else ls)
     → (l.number == 0) ≡ false
 is_part true l x ls is f a = ⊎_elim (λ (same : l ≡ x). ap (λ (y : QueuedPart). y.number == 0) same ∙ is refl) (λ (b : Among l ls). f b) a
@@ -81,7 +77,7 @@ parts_are : (id : ℕ) (l : QueuedPart) (ls : List QueuedPart) → Among l (part
 parts_are id l [] a = absurd a
 parts_are id l (x ∷ xs) a =
     is_part (is_part_of id x) l x (parts_among id xs)
-    (λ e. not_true (x.number == 0) (and_parts (x.id == id) (not (x.number == 0)) e).1) (λ b. parts_are id l xs b) a
+    (λ e. not-true (x.number == 0) (and_parts (x.id == id) (not (x.number == 0)) e).1) (λ b. parts_are id l xs b) a
 
 -- ---- due now: each of them, and nothing else
 

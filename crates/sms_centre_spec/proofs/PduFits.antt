@@ -41,13 +41,13 @@ use Rattle.sms_centre_spec.specs.SoundCore.{HasNumber, IsEvent, IsSoundCore}
 use Rattle.sms_centre_spec.specs.Consistent.{IsBody, IsSubmission}
 use Rattle.sms_centre_spec.specs.Submitted.{AccountGives, EventGives}
 use Rattle.sms_centre_spec.proofs.SmppFits.{FitsText, content_fits, key_header, single_fits, whole_fits}
-use Rattle.sms_centre_spec.proofs.SoundLinks.{line_of_handset}
 use Rattle.sms_centre_spec.proofs.SubmitFits.{frame_fits, named_number}
 use Rattle.sms_centre_spec.proofs.TextFields.{IsHeader}
 use Rattle.sms_base.specs.HandsetNumber.{names_handset}
 use Rattle.sms_intake.specs.declared.smpp_front.Front.{Front}
 use Rattle.sms_intake.specs.SmppIntake.{address_in, address_or_none, are_whole, content_at, due_in, has_sar_lengths, has_too_much, limit_in, from_pdu, handset_named, has_header, header_read, header_size, headed_text, is_ascii, is_empty, plain_text, sar_key, single_behind, source_in, text_in, text_of, whole_of, front_in, judged_in, submission_for}
 use Rattle.sms_intake.specs.PartBodies.{bodies_under}
+use Rattle.sms_centre_rows.proofs.waiting.LinksRepresented.{line_of_handset}
 
 -- ---- what it says
 
@@ -156,7 +156,7 @@ pdu_fits account now m u is e =
 
 -- ---- events
 
-account_among : (place : ℕ) (a : CentreAccount) (accounts : List CentreAccount) → account_at place accounts ≡ Some a → Among a accounts
+pub account_among : (place : ℕ) (a : CentreAccount) (accounts : List CentreAccount) → account_at place accounts ≡ Some a → Among a accounts
 account_among place a [] e = absurd cc
 account_among zero a (x ∷ xs) e = let same : a ≡ x = cc in inl same
 account_among (suc place) a (x ∷ xs) e = inr (account_among place a xs e)

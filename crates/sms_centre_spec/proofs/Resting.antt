@@ -1,6 +1,7 @@
 -- Through every event the changes lead from the rows as they were to the rows as they stand.
-use Rattle.std.proofs.Common.{◌≡◌, refl, sym, ◌∙◌, ap}
+use Rattle.std.proofs.Common.{◌≡◌, [], refl, sym, ◌∙◌, ap}
 use Rattle.sms_rows.proofs.table.SinceLaws.{commits}
+use Rattle.sms_centre_rows.specs.messages.Bars.{bar_key}
 use Rattle.sms_centre_rows.specs.messages.Messages.{message_key, part_key, part_reaching, priority_key}
 use Rattle.sms_centre_rows.specs.reports.Reports.{report_key, report_reaching}
 use Rattle.sms_centre_rows.specs.waiting.Keys.{handset_key, reference_key}
@@ -21,6 +22,7 @@ base_of s = record {
   handsets = s.allocations.handsets.base;
   reports = s.reports.base;
   priorities = s.messages.priorities.base;
+  bars = s.bars.base;
   setup = s.setup;
 }
 
@@ -42,6 +44,22 @@ consistent_closed base = record {
 pub happened_consistent : (event : CentreEvent) (c : Core) → RestsOn c.rows (happened event c).store
 happened_consistent event c = happened_keeps (RestsOn c.rows) (consistent_closed c.rows) event c refl
 
+-- no event puts a bar
+bars_closed : Closed (λ (s : Store). s.bars.news ≡ [])
+bars_closed = record {
+  message = λ m s k. k;
+  part = λ p s k. k;
+  progress = λ p q s k. k;
+  priority = λ p s k. k;
+  given = λ h r s k. k;
+  report = λ r s k. k;
+  report_progress = λ r q s k. k;
+  moment = λ n s k. k;
+}
+
+pub happened_bars : (event : CentreEvent) (c : Core) → (happened event c).store.bars.news ≡ []
+happened_bars event c = happened_keeps (λ (s : Store). s.bars.news ≡ []) bars_closed event c refl
+
 -- what is committed leads to the rows as they stand
 pub store_commits : (s : Store) → rows_after (changes_in s) (base_of s) ≡ rows_of s
 store_commits s =
@@ -51,12 +69,15 @@ store_commits s =
     let h = commits handset_key s.allocations.handsets.news s.allocations.handsets.base in
     let t = revisions_commit report_key report_reaching s.reports.news s.reports.base in
     let q = commits priority_key s.messages.priorities.news s.messages.priorities.base in
-    ap (λ xs. record (rows_after (changes_in s) (base_of s)) { messages = xs }) m
-    ∙ ap (λ xs. record (rows_after (changes_in s) (base_of s)) { messages = (rows_of s).messages; parts = xs }) p
-    ∙ ap (λ xs. record (rows_after (changes_in s) (base_of s)) { messages = (rows_of s).messages; parts = (rows_of s).parts; references = xs }) r
-    ∙ ap (λ xs. record (rows_of s) { handsets = xs; reports = (rows_after (changes_in s) (base_of s)).reports; priorities = (rows_after (changes_in s) (base_of s)).priorities }) h
-    ∙ ap (λ xs. record (rows_of s) { reports = xs; priorities = (rows_after (changes_in s) (base_of s)).priorities }) t
-    ∙ ap (λ xs. record (rows_of s) { priorities = xs }) q
+    let b = commits bar_key s.bars.news s.bars.base in
+    let z : Rows = rows_after (changes_in s) (base_of s) in
+    ap (λ xs. record z { messages = xs }) m
+    ∙ ap (λ xs. record z { messages = (rows_of s).messages; parts = xs }) p
+    ∙ ap (λ xs. record z { messages = (rows_of s).messages; parts = (rows_of s).parts; references = xs }) r
+    ∙ ap (λ xs. record (rows_of s) { handsets = xs; reports = z.reports; priorities = z.priorities; bars = z.bars }) h
+    ∙ ap (λ xs. record (rows_of s) { reports = xs; priorities = z.priorities; bars = z.bars }) t
+    ∙ ap (λ xs. record (rows_of s) { priorities = xs; bars = z.bars }) q
+    ∙ ap (λ xs. record (rows_of s) { bars = xs }) b
 
 pub happened_rests : (event : CentreEvent) (c : Core) → rows_after (changes_in (happened event c).store) c.rows ≡ rows_of (happened event c).store
 happened_rests event c =

@@ -18,7 +18,7 @@ use Rattle.sms_centre_rows.proofs.waiting.WaitingSound.{next_is_free}
 use Rattle.sms_intake.specs.declared.submission.SinglePart.{SinglePart}
 use Rattle.sms_intake.specs.declared.submission.Submission.{Submission}
 use Rattle.sms_intake.specs.PartBodies.{deliver_octets, deliver_of}
-use Rattle.sms_centre_spec.specs.Draft.{Store, handsets_in, messages_in, parts_in, priorities_in, references_in, reports_in, rows_of, waiting_in}
+use Rattle.sms_centre_spec.specs.Draft.{Store, bars_in, handsets_in, messages_in, parts_in, priorities_in, references_in, reports_in, rows_of, waiting_in}
 use Rattle.sms_centre_spec.specs.MessageNumbers.{next_number}
 use Rattle.sms_centre_spec.specs.Consistent.{IsBody, IsSubmission, IsConsistent}
 use Rattle.sms_centre_spec.specs.Submitting.{accept, accept_as, accept_split, accept_under, enter, give_part, give_parts, message_of, part_given, reference_for}
@@ -77,6 +77,7 @@ part_sound id submitted n split u b (Some r) s fit body k some few next =
             (part_rows (messages_in s) (parts_in s) (priorities_in s) p m (rows_are (messages_in s) (parts_in s) (priorities_in s) k.0.messages) k.1 refl refl is);
         reports = k.0.reports;
         splits = k.0.splits;
+        bars = k.0.bars;
         setup = k.0.setup;
         times = record {
           now = k.0.times.now;
@@ -158,6 +159,7 @@ first_sound id split u b (Some r) s c body next =
             (first_rows ms (parts_in s) (priorities_in s) m p q (rows_are ms (parts_in s) (priorities_in s) c.sound.messages) first);
         reports = entered_reports ms (reports_in s) m c.sound.reports c.new;
         splits = entered_apart ms m c.sound.splits c.apart;
+        bars = c.sound.bars;
         setup = c.sound.setup;
         times = record {
           now = times.now;
@@ -183,7 +185,7 @@ under_sound id split (b ∷ bs) u s c some few bodies =
     (λ x g. parts_sound id s.moment 2 split u bs x c.fit (λ y a. bodies y (inr a)) g (omega arith) (omega (arith, few)))
 
 split_sound : (id : ℕ) (o : Option ℕ) (u : Submission) (s : Store) → SoundStore s → IsSubmission u → IsMessageId id → ((x : MessageRow) → Among x (messages_in s) → x.id < id)
-    → next_split u.source u.handset (messages_in s) (parts_in s) ≡ o → IfThere SoundStore (accept_split id o u s)
+    → next_split u.source u.handset (bars_in s) (messages_in s) (parts_in s) ≡ o → IfThere SoundStore (accept_split id o u s)
 split_sound id None u s k fit is new next = tt
 split_sound id (Some r) u s k fit is new next =
     under_sound id (Some r) (bodies_under r u.text) u s
@@ -192,7 +194,7 @@ split_sound id (Some r) u s k fit is new next =
       fit = fit;
       is = is;
       new = new;
-      apart = λ x n among e f g h i. next_is_apart u.source u.handset (messages_in s) (parts_in s) r x next among e f (g ∙ sym h) i;
+      apart = λ x n among e f g h i. next_is_apart u.source u.handset (bars_in s) (messages_in s) (parts_in s) r x next among e f (g ∙ sym h) i;
     })
     (fit.some r) (fit.few r) (fit.bodies r)
 
@@ -205,7 +207,7 @@ accept_sound : (u : Submission) (s : Store) → SoundStore s → IsSubmission u 
 accept_sound u s k fit =
     let id : ℕ = next_number (rows_of s) in
     let new : (x : MessageRow) → Among x (messages_in s) → x.id < id = λ x among. below_next_number (rows_of s) x k.messages.message_keys among in
-    let split : Option ℕ = next_split u.source u.handset (messages_in s) (parts_in s) in
+    let split : Option ℕ = next_split u.source u.handset (bars_in s) (messages_in s) (parts_in s) in
     cond_both (nat_le id 9999999999) (accept_as id u s) None (λ o. IfThere SoundStore o)
     (λ t.
     let is : IsMessageId id = record { some = some_next_number (rows_of s) k.messages.message_keys; short = leb-true id 9999999999 t } in

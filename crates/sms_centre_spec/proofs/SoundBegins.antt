@@ -21,7 +21,7 @@ use Rattle.sms_centre_spec.proofs.SoundLinks.{line_none}
 
 -- ---- the moment of rows is one
 
-greatest : (n k : ℕ) → IsMoment n → IsMoment k → IsMoment (max n k)
+pub greatest : (n k : ℕ) → IsMoment n → IsMoment k → IsMoment (max n k)
 greatest n k a b = record { from_2000 = (let f = a.from_2000 in omega (arith, f)); to_2099 = (let f = a.to_2099 in let g = b.to_2099 in omega (arith, f, g)) }
 
 messages_moment : (n : ℕ) (ms : List MessageRow) → IsMoment n → ((m : MessageRow) → Among m ms → IsMoment m.submitted) → IsMoment (after_messages n ms)
@@ -118,4 +118,5 @@ first_sound setup is = record {
   reports = record { keys = tt; each = λ r a. absurd a; once = λ r s a b e. absurd a };
   waiting = λ number. record { keys = tt; small = λ l a. absurd a; given = λ l a. absurd a; apart = λ l k a b e. absurd a };
   splits = λ m n r a b e f g h i j. absurd a;
+  bars = tt;
 }

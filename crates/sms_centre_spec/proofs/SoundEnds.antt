@@ -3,17 +3,18 @@ use Rattle.std.proofs.Common.{◌≡◌, ℕ, ◌<◌, List, Bool, true, false, 
 use Rattle.std.proofs.lemmas.Bool.{cond_both}
 use Rattle.sms_base.specs.Among.{Among}
 use Rattle.sms_base.specs.declared.final_state.FinalState.{FinalState}
-use Rattle.sms_rows.specs.table.Table.{put}
+use Rattle.sms_rows.specs.table.Table.{Rises, put}
 use Rattle.sms_rows.proofs.table.Tables.{among_put, found_among}
 use Rattle.sms_centre_rows.specs.declared.messages.message.MessageRow.{MessageRow}
 use Rattle.sms_base.specs.declared.originator.Originator.{Originator}
 use Rattle.sms_base.specs.declared.originator.Originator.TheVariants.{Application, Handset}
+use Rattle.sms_centre_rows.specs.messages.Bars.{bar_key}
 use Rattle.sms_centre_rows.specs.messages.Messages.{all_done, ended, is_pending, message_at, message_key}
 use Rattle.sms_centre_rows.specs.messages.SplitReferences.{is_delivered}
 use Rattle.sms_centre_rows.specs.declared.reports.report.ReportKind.{ReportKind}
 use Rattle.sms_centre_rows.specs.declared.reports.report.ReportKind.TheVariants.{Receipt, Status, Unsent}
 use Rattle.sms_centre_rows.specs.declared.reports.report.ReportRow.{ReportRow}
-use Rattle.sms_centre_rows.specs.reports.Reports.{is_status, next_place, report_key}
+use Rattle.sms_centre_rows.specs.reports.Reports.{is_status, report_key}
 use Rattle.sms_centre_rows.specs.reports.SoundReports.{FitsOriginator, IsReport, IsStatus, SoundReports}
 use Rattle.sms_centre_rows.specs.declared.waiting.handset.HandsetRow.{HandsetRow}
 use Rattle.sms_centre_rows.specs.declared.waiting.reference.ReferenceRow.{ReferenceRow}
@@ -21,7 +22,7 @@ use Rattle.sms_centre_rows.specs.waiting.Keys.{reference_key}
 use Rattle.sms_centre_rows.specs.waiting.References.{given_row, handset_of}
 use Rattle.sms_centre_rows.proofs.waiting.WaitingSound.{next_is_free}
 use Rattle.sms_centre_spec.specs.Finals.{final_of}
-use Rattle.sms_centre_spec.specs.Draft.{Store, handsets_in, messages_in, parts_in, priorities_in, references_in, reports_in, waiting_in, with_message}
+use Rattle.sms_centre_spec.specs.Draft.{Store, bars_in, handsets_in, messages_in, parts_in, priorities_in, references_in, reports_in, waiting_in, with_message}
 use Rattle.sms_centre_spec.specs.Ends.{end, is_wished, make_report, report_to, status_given}
 use Rattle.sms_receipt.specs.StatusReports.{status_octets, status_report_of}
 use Rattle.sms_centre_spec.specs.SoundRows.{AreSplitApart, HasReportAddress, IsSetup}
@@ -34,21 +35,12 @@ use Rattle.sms_centre_spec.proofs.SoundStores.{IsPast, SoundStore, Times}
 use Rattle.sms_centre_spec.proofs.SplitsStayApart.{end_apart}
 use Rattle.sms_centre_spec.proofs.StagesConsistent.{CanReport, can_report, next_is_new, quiet_consistent, status_consistent}
 use Rattle.sms_centre_spec.proofs.TpdusRead.{status_reads}
+use Rattle.sms_centre_spec.proofs.Keeping.{report_of_end}
 
 -- ---- a message that has ended is reported
 
--- the report that comes next, made now
-abbrev report_row : ℕ → ReportKind → Bool → Store → ReportRow
-report_row id kind closed s = record {
-  place = next_place (reports_in s);
-  id = id;
-  kind = kind;
-  made = s.moment;
-  progress = record { is_done = closed; attempts = 0; due = s.moment };
-}
-
-report_is : (f : FinalState) (n : ℕ) (m : MessageRow) (kind : ReportKind) (closed : Bool) (s : Store) → CanReport f n m s → FitsOriginator kind m.originator (ended f n m) (report_row m.id kind closed s)
-    → IsReport (messages_in s) (report_row m.id kind closed s)
+report_is : (f : FinalState) (n : ℕ) (m : MessageRow) (kind : ReportKind) (closed : Bool) (s : Store) → CanReport f n m s → FitsOriginator kind m.originator (ended f n m) (report_of_end m.id kind closed s)
+    → IsReport (messages_in s) (report_of_end m.id kind closed s)
 report_is f n m kind closed s can fits = record {
   place = some_next_place 1 (reports_in s) (omega arith);
   message = (ended f n m, (can.there, ((f, refl), fits)));
@@ -73,14 +65,15 @@ given_times g s t now x among = ⊎_elim
     (among_put reference_key x g (references_in s) among)
 
 quiet_sound : (f : FinalState) (n : ℕ) (m : MessageRow) (kind : ReportKind) (closed : Bool) (s : Store) → SoundStore s → CanReport f n m s → is_status kind ≡ false
-    → FitsOriginator kind m.originator (ended f n m) (report_row m.id kind closed s) → SoundStore (make_report m.id kind closed s)
+    → FitsOriginator kind m.originator (ended f n m) (report_of_end m.id kind closed s) → SoundStore (make_report m.id kind closed s)
 quiet_sound f n m kind closed s k can quiet fits =
-    let r : ReportRow = report_row m.id kind closed s in
+    let r : ReportRow = report_of_end m.id kind closed s in
     record {
       consistent = quiet_consistent f n m kind closed s can quiet;
       messages = k.messages;
       reports = new_reports (messages_in s) (reports_in s) r k.reports (next_is_new r (reports_in s) k.reports.keys can.none refl) (report_is f n m kind closed s can fits);
       splits = k.splits;
+      bars = k.bars;
       setup = k.setup;
       times = record { now = k.times.now; start = k.times.start; submitted = k.times.submitted; given = k.times.given; made = made_times r s k.times refl };
     }
@@ -88,13 +81,13 @@ quiet_sound f n m kind closed s k can quiet fits =
 status_sound : (f : FinalState) (n mr : ℕ) (m : MessageRow) (o : Option ℕ) (s : Store) → SoundStore s → CanReport f n m s → HasReportAddress (Handset mr) m.source → m.originator ≡ Handset mr
     → reference_for (handset_of m.source.digits (handsets_in s)) s ≡ o → SoundStore (status_given f m (handset_of m.source.digits (handsets_in s)) o s)
 status_sound f n mr m None s k can told from next =
-    quiet_sound f n m Unsent true s k can refl (subst (λ (o : Originator). FitsOriginator Unsent o (ended f n m) (report_row m.id Unsent true s)) (sym from) refl)
+    quiet_sound f n m Unsent true s k can refl (subst (λ (o : Originator). FitsOriginator Unsent o (ended f n m) (report_of_end m.id Unsent true s)) (sym from) refl)
 status_sound f n mr m (Some reference) s k can told from next =
     let h : HandsetRow = handset_of m.source.digits (handsets_in s) in
     let w : MessageRow = ended f n m in
     let tpdu : List ℕ = status_octets (final_of f s.moment m) in
     let kind : ReportKind = Status reference tpdu in
-    let r : ReportRow = report_row m.id kind false s in
+    let r : ReportRow = report_of_end m.id kind false s in
     let among : Among w (messages_in s) = found_among message_key m.id w (messages_in s) can.there in
     let small : reference < 256 = (next_is_free h (waiting_in h.number s) (references_in s) s.moment reference next).1 in
     let reads : IsStatus mr w s.moment tpdu (status_report_of (final_of f s.moment m)) =
@@ -106,6 +99,7 @@ status_sound f n mr m (Some reference) s k can told from next =
       reports = new_reports (messages_in s) (reports_in s) r k.reports (next_is_new r (reports_in s) k.reports.keys can.none refl)
           (report_is f n m kind false s can (subst (λ (o : Originator). FitsOriginator kind o w r) (sym from) fits));
       splits = k.splits;
+      bars = k.bars;
       setup = k.setup;
       times = record {
         now = k.times.now;
@@ -118,7 +112,7 @@ status_sound f n mr m (Some reference) s k can told from next =
 
 report_sound : (o : Originator) (f : FinalState) (n : ℕ) (m : MessageRow) (s : Store) → SoundStore s → CanReport f n m s → HasReportAddress o m.source → m.originator ≡ o → SoundStore (report_to o f m s)
 report_sound (Application account) f n m s k can told from =
-    quiet_sound f n m Receipt false s k can refl (subst (λ (o : Originator). FitsOriginator Receipt o (ended f n m) (report_row m.id Receipt false s)) (sym from) tt)
+    quiet_sound f n m Receipt false s k can refl (subst (λ (o : Originator). FitsOriginator Receipt o (ended f n m) (report_of_end m.id Receipt false s)) (sym from) tt)
 report_sound (Handset mr) f n m s k can told from = status_sound f n mr m (reference_for (handset_of m.source.digits (handsets_in s)) s) s k can told from refl
 
 -- ---- a message ends
@@ -130,12 +124,13 @@ pub record CanEnd (f : FinalState) (m : MessageRow) (s : Store) : Type 0 where
   pub told : is_delivered (Some f) ≡ all_done m.id (parts_in s)
   pub reports : SoundReports (messages_in s) (reports_in s)
   pub splits : AreSplitApart (messages_in s)
+  pub bars : Rises bar_key (bars_in s)
   pub setup : IsSetup s.setup
   pub times : Times s
   pub there : message_at m.id (messages_in s) ≡ Some m
   pub pending : is_pending m ≡ true
 
-ended_sound : (f : FinalState) (m : MessageRow) (s : Store) → CanEnd f m s → SoundStore (with_message (ended f s.moment m) s)
+pub ended_sound : (f : FinalState) (m : MessageRow) (s : Store) → CanEnd f m s → SoundStore (with_message (ended f s.moment m) s)
 ended_sound f m s c =
     let w : MessageRow = ended f s.moment m in
     let can = can_report f m s c.consistent c.there c.pending in
@@ -146,6 +141,7 @@ ended_sound f m s c =
           (ended_rows (λ x. ¬ (x.id ≡ m.id) → StatesItsParts ps x) (StatesItsParts ps) (messages_in s) ps (priorities_in s) m f s.moment c.rows c.there c.told (λ x among ne told. told ne));
       reports = end_reports (messages_in s) (reports_in s) m f s.moment c.reports c.there c.pending;
       splits = end_apart (messages_in s) m f s.moment c.splits c.there c.pending;
+      bars = c.bars;
       setup = c.setup;
       times = record {
         now = c.times.now;

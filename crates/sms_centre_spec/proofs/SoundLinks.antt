@@ -1,9 +1,10 @@
 -- The lines of a centre and its sessions stay sound over rows that stand, whatever a stage does to them.
-use Rattle.std.proofs.Common.{◌≡◌, ℕ, List, [], ◌∷◌, ◌++◌, true, false, Option, Some, None, Result, Ok, Err, refl, sym, ◌∙◌, ap, subst, inl, inr, ⊎_elim}
+use Rattle.std.proofs.Common.{◌≡◌, ℕ, List, [], ◌∷◌, true, false, Option, Some, None, Result, Ok, Err, refl, sym, ◌∙◌, ap, subst, inl, inr, ⊎_elim}
 use Rattle.std.specs.Prelude.{◌⊎◌, ◌==◌}
 use Rattle.std.specs.Str.{bytes_eq}
 use Rattle.std.proofs.lemmas.Bool.{cases_Bool, cond-false, cond-true, cond_both}
 use Rattle.std.proofs.lemmas.Slice.Eq.{bytes_eq-Decides}
+use Rattle.sms_base.proofs.Lists.{among_parts}
 use Rattle.sms_base.specs.Among.{Among}
 use Rattle.sms_base.specs.declared.carried.Carried.{Carried}
 use Rattle.sms_base.specs.declared.carried.Kind.{Kind}
@@ -60,16 +61,9 @@ none_line number x (l ∷ ls) none among own = ⊎_elim
     among)
     (cases_Bool (bytes_eq l.handset number))
 
-pub line_of_handset : (number : List ℕ) (ls : List HandsetLink) → (line_of number ls).handset ≡ number
-line_of_handset number ls = own (line_at number ls) refl
-  where
-    own : (o : Option HandsetLink) → line_at number ls ≡ o → (or_new_line number o).handset ≡ number
-    own None e = refl
-    own (Some l) e = (line_found number l ls e).1
-
 -- ---- a line takes its place
 
-among_with : (x line : HandsetLink) (ls : List HandsetLink) → Among x (with_line line ls) → (x ≡ line) ⊎ Among x ls
+pub among_with : (x line : HandsetLink) (ls : List HandsetLink) → Among x (with_line line ls) → (x ≡ line) ⊎ Among x ls
 among_with x line [] among = among
 among_with x line (l ∷ ls) among =
     cond_both (bytes_eq l.handset line.handset) (line ∷ ls) (l ∷ with_line line ls) (λ (ys : List HandsetLink). Among x ys → (x ≡ line) ⊎ Among x (l ∷ ls))
@@ -128,13 +122,6 @@ to_handset_among handset x (f ∷ fs) among = ⊎_elim
     (λ (a : Among x (to_handset handset fs)).
     let r = to_handset_among handset x fs a in
     let found : (g : Outgoing) × (Among g (f ∷ fs) × (x ≡ record { handset = handset; frame = g })) = (r.0, (inr r.1.0, r.1.1)) in found)
-    among
-
-among_parts : {A : Type 0} (x : A) (xs ys : List A) → Among x (xs ++ ys) → Among x xs ⊎ Among x ys
-among_parts x [] ys among = inr among
-among_parts x (z ∷ zs) ys among = ⊎_elim
-    (λ (e : x ≡ z). inl (inl e))
-    (λ (a : Among x (zs ++ ys)). ⊎_elim (λ (b : Among x zs). inl (inr b)) (λ (b : Among x ys). inr b) (among_parts x zs ys a))
     among
 
 pub turn_sound : (rows : Rows) (line : HandsetLink) (turn : Turn) (links : Links) → SoundLinks rows links → IsLine rows (turned turn line) → AllBring rows line.handset turn.out.frames → SoundLinks rows (turn_line line turn links)

@@ -5,6 +5,7 @@ use Rattle.std.specs.Prelude.{◌⊎◌, ◌==◌, ◌&&◌, not, nat_le, nat_lt
 use Rattle.std.specs.Str.{bytes_eq}
 use Rattle.std.proofs.lemmas.Bool.{and_parts, cond_both, eqb-false, eqb-true}
 use Rattle.std.proofs.lemmas.Slice.Eq.{bytes_eq-Decides}
+use Rattle.sms_base.proofs.Lists.{among_end}
 use Rattle.sms_base.specs.Among.{Among}
 use Rattle.sms_base.specs.declared.carried.Kind.TheVariants.{Data}
 use Rattle.sms_base.specs.declared.holder.Holder.{Holder}
@@ -46,7 +47,7 @@ use Rattle.sms_centre_spec.proofs.SoundSides.{Sides}
 
 -- ---- what is next waits there
 
-next_waits : (now : ℕ) (l : QueuedPart) (ls : List QueuedPart) → next now ls ≡ Some l → Among l ls
+pub next_waits : (now : ℕ) (l : QueuedPart) (ls : List QueuedPart) → next now ls ≡ Some l → Among l ls
 next_waits now l [] e = absurd cc
 next_waits now l (x ∷ xs) e = which (if_due now x) (next now xs) (λ y q. due y q) (λ q. next_waits now l xs q) e
   where
@@ -176,13 +177,6 @@ all_offered s (h ∷ hs) links k are a =
 session_there : (o : Option MessageRow) (s : Session) (ss : List Session) → session_for o ss ≡ Some s → Among s ss
 session_there None s ss e = absurd cc
 session_there (Some m) s ss e = (fewest_found (receives_for m) s ss e).0
-
-among_end : {A : Type 0} (n id : A) (ns : List A) → Among n (ns ++ id ∷ []) → Among n ns ⊎ (n ≡ id)
-among_end n id [] among = ⊎_elim (λ (e : n ≡ id). inr e) (λ (b : ⊥). absurd b) among
-among_end n id (x ∷ xs) among = ⊎_elim
-    (λ (e : n ≡ x). inl (inl e))
-    (λ (a : Among n (xs ++ id ∷ [])). ⊎_elim (λ (b : Among n xs). inl (inr b)) (λ (e : n ≡ id). inr e) (among_end n id xs a))
-    among
 
 module _ (rows : Rows) (moment : ℕ) where
   sent_in : (r : ReportRow) (s : Session) (bindings : Bindings) → SoundBindings rows bindings → Among s bindings.sessions → report_of r.id rows.reports ≡ Some r → is_receipt r.kind ≡ true → SoundBindings rows (send_in r.id s bindings)

@@ -30,7 +30,7 @@ use Rattle.sms_centre_spec.proofs.Steady.{message_own}
 
 -- ---- how far parts and reports are
 
-rows_map : (D E : MessageRow → Type 0) (s : Store) → AreRows D (messages_in s) (parts_in s) (priorities_in s) → ((x : MessageRow) → Among x (messages_in s) → D x → E x)
+pub rows_map : (D E : MessageRow → Type 0) (s : Store) → AreRows D (messages_in s) (parts_in s) (priorities_in s) → ((x : MessageRow) → Among x (messages_in s) → D x → E x)
     → AreRows E (messages_in s) (parts_in s) (priorities_in s)
 rows_map D E s r f = record {
   message_keys = r.message_keys;
@@ -49,6 +49,7 @@ part_far_sound p q s k there same = record {
       (put_off_rows (messages_in s) (parts_in s) (priorities_in s) p q (rows_are (messages_in s) (parts_in s) (priorities_in s) k.messages) there same);
   reports = k.reports;
   splits = k.splits;
+  bars = k.bars;
   setup = k.setup;
   times = record { now = k.times.now; start = k.times.start; submitted = k.times.submitted; given = k.times.given; made = k.times.made };
 }
@@ -59,6 +60,7 @@ report_far_sound r q s k there stays = record {
   messages = k.messages;
   reports = far_reports (messages_in s) (reports_in s) r q k.reports there stays;
   splits = k.splits;
+  bars = k.bars;
   setup = k.setup;
   times = record {
     now = k.times.now;
@@ -92,6 +94,7 @@ settled_sound p m s k there of pending undone =
       told = sym t;
       reports = k.reports;
       splits = k.splits;
+      bars = k.bars;
       setup = k.setup;
       times = times;
       there = found;
@@ -108,6 +111,7 @@ settled_sound p m s k there of pending undone =
           (cases_eq m.id x.id)));
       reports = k.reports;
       splits = k.splits;
+      bars = k.bars;
       setup = k.setup;
       times = times;
     })
@@ -123,6 +127,7 @@ part_end_sound f m s k there pending partly =
       told = partly ∙ sym (pending_undelivered m.state pending) ∙ rows.told m (found_among message_key m.id m (messages_in s) there);
       reports = k.reports;
       splits = k.splits;
+      bars = k.bars;
       setup = k.setup;
       times = k.times;
       there = there;
@@ -135,6 +140,7 @@ later_sound n s k past is = record {
   messages = k.messages;
   reports = k.reports;
   splits = k.splits;
+  bars = k.bars;
   setup = k.setup;
   times = record {
     now = is;

@@ -4,9 +4,10 @@ use Rattle.std.specs.Prelude.{is_none, max}
 use Rattle.sms_base.specs.Among.{Among}
 use Rattle.sms_base.specs.declared.final_state.FinalState.{FinalState}
 use Rattle.sms_base.specs.TimeStamp.{IsMoment}
-use Rattle.sms_rows.specs.table.Table.{row_at}
+use Rattle.sms_rows.specs.table.Table.{Rises, row_at}
 use Rattle.sms_rows.proofs.table.Tables.{among_found}
 use Rattle.sms_centre_rows.specs.declared.messages.message.MessageRow.{MessageRow}
+use Rattle.sms_centre_rows.specs.messages.Bars.{bar_key}
 use Rattle.sms_centre_rows.specs.messages.OpenParts.{Numbered}
 use Rattle.sms_centre_rows.specs.messages.SoundMessages.{SoundMessages}
 use Rattle.sms_centre_rows.specs.declared.reports.report.ReportRow.{ReportRow}
@@ -16,7 +17,7 @@ use Rattle.sms_centre_rows.specs.reports.Waiting.{Alone}
 use Rattle.sms_centre_rows.specs.declared.waiting.reference.ReferenceRow.{ReferenceRow}
 use Rattle.sms_centre_spec.specs.declared.rows.Rows.{Rows}
 use Rattle.sms_centre_spec.specs.CentreEvent.{after_messages, after_references, after_reports, moment_of}
-use Rattle.sms_centre_spec.specs.Draft.{Store, messages_in, parts_in, priorities_in, references_in, reports_in, rows_of, store_of}
+use Rattle.sms_centre_spec.specs.Draft.{Store, bars_in, messages_in, parts_in, priorities_in, references_in, reports_in, rows_of, store_of}
 use Rattle.sms_centre_spec.specs.SoundRows.{AreSplitApart, IsSetup, IsSound}
 use Rattle.sms_centre_spec.specs.Consistent.{IsConsistent}
 
@@ -37,6 +38,7 @@ pub record SoundStore (s : Store) : Type 0 where
   pub messages : SoundMessages (messages_in s) (parts_in s) (priorities_in s)
   pub reports : SoundReports (messages_in s) (reports_in s)
   pub splits : AreSplitApart (messages_in s)
+  pub bars : Rises bar_key (bars_in s)
   pub setup : IsSetup s.setup
   pub times : Times s
 
@@ -113,6 +115,7 @@ store_sound rows moment s now past =
       messages = s.messages;
       reports = s.reports;
       splits = s.splits;
+      bars = s.bars;
       setup = s.setup;
       times = record {
         now = now;
@@ -139,6 +142,7 @@ rows_are_sound s k = record {
   reports = k.reports;
   waiting = k.consistent.held.waiting;
   splits = k.splits;
+  bars = k.bars;
 }
 
 last_message : (n moment : ℕ) (ms : List MessageRow) → n ≤ moment → ((m : MessageRow) → Among m ms → m.submitted ≤ moment) → after_messages n ms ≤ moment

@@ -4,18 +4,19 @@ use Rattle.std.specs.Prelude.{not, ◌==◌, ◌&&◌, ◌||◌}
 use Rattle.std.specs.Str.{bytes_eq}
 use Rattle.std.proofs.lemmas.Bool.{and_from, cases_Bool, cond-true, cond_both}
 use Rattle.std.proofs.lemmas.Slice.Eq.{bytes_eq-Decides}
-use Rattle.sms_base.specs.AddressKind.{type_number}
 use Rattle.sms_base.specs.Among.{Among}
 use Rattle.sms_base.specs.declared.address.Address.{Address}
 use Rattle.sms_base.specs.declared.final_state.FinalState.{FinalState}
 use Rattle.sms_rows.specs.table.Table.{put}
 use Rattle.sms_rows.proofs.table.Tables.{among_put, found_among}
+use Rattle.sms_centre_rows.specs.declared.messages.bar.BarRow.{BarRow}
 use Rattle.sms_centre_rows.specs.declared.messages.message.MessageRow.{MessageRow}
 use Rattle.sms_centre_rows.specs.declared.messages.part.PartRow.{PartRow}
 use Rattle.sms_centre_rows.specs.messages.Messages.{ended, is_pending, message_at, message_key}
-use Rattle.sms_centre_rows.specs.messages.SplitReferences.{first_free_split, held_splits, is_among, is_between, is_delivered, is_same_address, last_split, next_split, optional, own_splits, start_after, turns_for}
+use Rattle.sms_centre_rows.specs.messages.SplitReferences.{all_references, first_free_split, held_bars, held_splits, is_among, is_between, is_delivered, is_same_address, last_split, next_split, optional, own_references, start_after}
 use Rattle.sms_centre_spec.specs.SoundRows.{AreSplitApart}
 use Rattle.sms_centre_spec.proofs.SoundMessagesStay.{pending_undelivered}
+use Rattle.sms_centre_rows.proofs.conditions.AddressTested.{one_address}
 
 -- ---- the next reference is held by none
 
@@ -35,14 +36,9 @@ among_front r (x ∷ xs) ys e = ⊎_elim
     (λ (t : (x == r) ≡ false). ap (λ (b : Bool). b || is_among r (xs ++ ys)) t ∙ among_front r xs ys (sym (ap (λ (b : Bool). b || is_among r xs) t) ∙ e))
     (cases_Bool (x == r))
 
-same_address : (a : Address) → is_same_address a a ≡ true
-same_address a =
-    and_from (type_number a.ton == type_number a.ton) ((a.npi == a.npi) && bytes_eq a.digits a.digits) (eq-eqb (type_number a.ton) (type_number a.ton) refl)
-    (and_from (a.npi == a.npi) (bytes_eq a.digits a.digits) (eq-eqb a.npi a.npi refl) ((bytes_eq-Decides a.digits a.digits).1 refl))
-
 between : (source : Address) (handset : List ℕ) (m : MessageRow) → m.source ≡ source → m.handset ≡ handset → is_between source handset m ≡ true
 between source handset m e f =
-    and_from (is_same_address m.source source) (bytes_eq m.handset handset) (ap (λ (a : Address). is_same_address a source) e ∙ same_address source) ((bytes_eq-Decides m.handset handset).1 f)
+    and_from (is_same_address m.source source) (bytes_eq m.handset handset) (ap (λ (a : Address). is_same_address a source) e ∙ one_address source) ((bytes_eq-Decides m.handset handset).1 f)
 
 held_there : (source : Address) (handset : List ℕ) (r : ℕ) (m : MessageRow) (ms : List MessageRow) → Among m ms → m.source ≡ source → m.handset ≡ handset → m.split_reference ≡ Some r
     → is_delivered m.state ≡ false → is_among r (held_splits source handset ms) ≡ true
@@ -70,13 +66,16 @@ held_there source handset r m (x ∷ xs) among e f g h =
     more None rest t = t
     more (Some n) rest t = ap (λ (b : Bool). (n == r) || b) t ∙ or_true (n == r)
 
-pub next_is_apart : (source : Address) (handset : List ℕ) (ms : List MessageRow) (ps : List PartRow) (r : ℕ) (m : MessageRow) → next_split source handset ms ps ≡ Some r → Among m ms → m.source ≡ source
+pub next_is_apart : (source : Address) (handset : List ℕ) (bs : List BarRow) (ms : List MessageRow) (ps : List PartRow) (r : ℕ) (m : MessageRow) → next_split source handset bs ms ps ≡ Some r → Among m ms → m.source ≡ source
     → m.handset ≡ handset → m.split_reference ≡ Some r → is_delivered m.state ≡ false → ⊥
-next_is_apart source handset ms ps r m next among e f g h =
+next_is_apart source handset bs ms ps r m next among e f g h =
     let held : List ℕ = held_splits source handset ms in
-    let barred : List ℕ = held ++ own_splits source handset ms ps in
-    let free : is_among r barred ≡ false = free_split (turns_for barred) (start_after (last_split source handset None ms)) r barred next in
-    let bad : true ≡ false = sym (among_front r held (own_splits source handset ms ps) (held_there source handset r m ms among e f g h)) ∙ free in absurd cc
+    let stays : List ℕ = held_bars source handset bs in
+    let own : List ℕ = own_references source handset bs ms ps in
+    let barred : List ℕ = (held ++ stays) ++ own in
+    let free : is_among r barred ≡ false = free_split all_references (start_after (last_split source handset None ms)) r barred next in
+    let there : is_among r (held ++ stays) ≡ true = among_front r held stays (held_there source handset r m ms among e f g h) in
+    let bad : true ≡ false = sym (among_front r (held ++ stays) own there) ∙ free in absurd cc
 
 -- ---- a message comes
 

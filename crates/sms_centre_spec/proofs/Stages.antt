@@ -14,7 +14,7 @@ use Rattle.sms_link.specs.declared.ending.Ending.{Ending}
 use Rattle.sms_link.specs.declared.ending.Ending.TheVariants.{Lost}
 use Rattle.sms_link.specs.declared.ending.Upward.{Upward}
 use Rattle.sms_link.specs.declared.ending.Upward.TheVariants.{Opened, Ended}
-use Rattle.sms_link.specs.LinkTurn.{fired as fired_link, taken}
+use Rattle.sms_link.specs.LinkTurn.{taken}
 use Rattle.sms_relay.specs.declared.fault.RelayFault.{RelayFault}
 use Rattle.sms_relay.specs.declared.frame.Rp.{Rp}
 use Rattle.sms_relay.specs.declared.frame.Rp.TheVariants.{DataUnit, AckUnit, ErrorUnit, Smma}
@@ -39,8 +39,8 @@ use Rattle.sms_centre_rows.specs.declared.waiting.handset.HandsetRow.{HandsetRow
 use Rattle.sms_centre_rows.specs.declared.waiting.handset_link.HandsetLink.{HandsetLink}
 use Rattle.sms_centre_rows.specs.declared.waiting.queued_part.QueuedPart.{QueuedPart}
 use Rattle.sms_centre_rows.specs.declared.waiting.progress.Progress.{Progress}
-use Rattle.sms_centre_rows.specs.waiting.Links.{line_at, line_of, lowered, put_line, turn_line}
-use Rattle.sms_centre_rows.specs.waiting.References.{handset_at, handset_of}
+use Rattle.sms_centre_rows.specs.waiting.Links.{line_of, lowered, put_line, turn_line}
+use Rattle.sms_centre_rows.specs.waiting.References.{handset_of}
 use Rattle.sms_centre_rows.specs.waiting.Revisions.{Revised}
 use Rattle.sms_centre_rows.specs.waiting.Trying.{due_at, later}
 use Rattle.sms_centre_spec.specs.declared.event.CentreEvent.{CentreEvent}
@@ -66,9 +66,10 @@ use Rattle.sms_centre_spec.specs.declared.order.Order.{Order}
 use Rattle.sms_centre_spec.specs.declared.order.Order.TheVariants.{Retry, Delete}
 use Rattle.sms_centre_spec.specs.Orders.{ordered, parts_among, retried}
 use Rattle.sms_centre_spec.specs.Sessions.{answered_by, bind, bound_as, due_for, unbind, unbound_from}
-use Rattle.sms_centre_spec.specs.CentreEvent.{aged, at_moment, drop_all, expire_all, expired, fire_at, fire_line, fire_mentioned, fire_others, fired, frame_taken, happened, is_mentioned, lost, lower, raise, raise_all, raised, report_limit, tag_of, timed_out, went_up}
-use Rattle.sms_centre_spec.specs.Draft.{Core, Draft, Store, draft_of, handsets_in, messages_in, on_links, parts_in, reports_in, rows_of, waiting_in, with_given, with_message, with_part, with_part_at, with_priority, with_report_at, with_reports}
+use Rattle.sms_centre_spec.specs.CentreEvent.{aged, at_moment, drop_all, expire_all, expired, fired, frame_taken, happened, lost, lower, raise, raised, report_limit, tag_of, went_up}
+use Rattle.sms_centre_spec.specs.Draft.{Core, Draft, Store, bars_in, draft_of, handsets_in, messages_in, on_links, parts_in, reports_in, rows_of, waiting_in, with_given, with_message, with_part, with_part_at, with_priority, with_report_at, with_reports}
 use Rattle.sms_centre_spec.specs.MessageNumbers.{next_number}
+use Rattle.sms_centre_spec.proofs.Ticking.{fired_says, raised_says}
 
 -- the moves keep the fact
 pub record Closed (P : Store → Type 0) : Type 0 where
@@ -198,7 +199,7 @@ module _ (P : Store → Type 0) (c : Closed P) where
 
   accept_as_keeps : (id : ℕ) (u : Submission) (s : Store) → P s → IfThere P (accept_as id u s)
   accept_as_keeps id u s k =
-      let split : Option ℕ = next_split u.source u.handset (messages_in s) (parts_in s) in
+      let split : Option ℕ = next_split u.source u.handset (bars_in s) (messages_in s) (parts_in s) in
       cond_both (is_long u.text) (accept_split id split u s) (accept_under id None (bodies_under 0 u.text) u s) (λ o. IfThere P o)
       (λ t. accept_split_keeps id split u s k) (λ t. accept_under_keeps id None (bodies_under 0 u.text) u s k)
 
@@ -267,47 +268,11 @@ module _ (P : Store → Type 0) (c : Closed P) where
   aged_keeps : (d : Draft) → P d.store → P (aged d).store
   aged_keeps d k = drop_all_keeps (reports_in (expired d.store)) (expired d.store) (expire_all_keeps (messages_in d.store) d.store k)
 
-  timed_out_keeps : (h : List ℕ) (u : Option Upward) (d : Draft) → P d.store → P (timed_out h u d).store
-  timed_out_keeps h None d k = k
-  timed_out_keeps h (Some (Opened unit)) d k = k
-  timed_out_keeps h (Some (Ended transfer ending)) d k = conclude_keeps h transfer ending d k
-
-  fire_line_keeps : (l : HandsetLink) (d : Draft) → P d.store → P (fire_line l d).store
-  fire_line_keeps l d k =
-      timed_out_keeps l.handset (fired_link d.store.moment l.link).out.up (on_links (turn_line l (fired_link d.store.moment l.link) d.links) d) k
-
-  fire_at_keeps : (o : Option HandsetLink) (d : Draft) → P d.store → P (fire_at o d).store
-  fire_at_keeps None d k = k
-  fire_at_keeps (Some l) d k = fire_line_keeps l d k
-
-  fire_mentioned_keeps : (hs : List HandsetRow) (d : Draft) → P d.store → P (fire_mentioned hs d).store
-  fire_mentioned_keeps [] d k = k
-  fire_mentioned_keeps (h ∷ hs) d k =
-      let o : Option HandsetLink = line_at h.number d.links.lines in fire_mentioned_keeps hs (fire_at o d) (fire_at_keeps o d k)
-
-  fire_others_keeps : (hs : List HandsetRow) (ls : List HandsetLink) (d : Draft) → P d.store → P (fire_others hs ls d).store
-  fire_others_keeps hs [] d k = k
-  fire_others_keeps hs (l ∷ ls) d k =
-      let o : Option HandsetLink = line_at l.handset d.links.lines in
-      fire_others_keeps hs ls (if is_mentioned (handset_at l.handset hs) then d else fire_at o d)
-      (cond_both (is_mentioned (handset_at l.handset hs)) d (fire_at o d) (λ (e : Draft). P e.store) (λ t. k) (λ t. fire_at_keeps o d k))
-
-  fired_keeps : (d : Draft) → P d.store → P (fired d).store
-  fired_keeps d k =
-      let hs : List HandsetRow = handsets_in d.store in
-      let e : Draft = fire_mentioned hs d in
-      fire_others_keeps hs d.links.lines e (fire_mentioned_keeps hs d k)
-
-  raise_all_keeps : (ls : List HandsetLink) (d : Draft) → P d.store → P (raise_all ls d).store
-  raise_all_keeps [] d k = k
-  raise_all_keeps (l ∷ ls) d k =
-      raise_all_keeps ls (if l.is_awaited then raise l.handset d else d)
-      (cond_both l.is_awaited (raise l.handset d) d (λ (e : Draft). P e.store) (λ t. raise_keeps l.handset d k) (λ t. k))
-
   pub ticked_keeps : (now : ℕ) (d : Draft) → P d.store → P (raised (fired (aged (at_moment now d)))).store
   ticked_keeps now d k =
-      let e : Draft = fired (aged (at_moment now d)) in
-      raise_all_keeps e.links.lines e (fired_keeps (aged (at_moment now d)) (aged_keeps (at_moment now d) (c.moment _ d.store k)))
+      let a : Draft = aged (at_moment now d) in
+      raised_says (λ (e : Draft). P e.store) raise_keeps (fired a)
+      (fired_says (λ (e : Draft). P e.store) conclude_keeps (λ links e kept. kept) a (aged_keeps (at_moment now d) (c.moment _ d.store k)))
 
   -- ---- sessions
 

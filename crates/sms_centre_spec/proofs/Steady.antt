@@ -1,7 +1,7 @@
 -- What the stages of events keep of a store, where each stage may assume what it is reached with: a fact that is firm is kept by
 -- every event that accepts no submission and answers no receipt. Here are the stages of stores alone.
-use Rattle.std.proofs.Common.{◌≡◌, ◌⊎◌, ℕ, ◌≤◌, List, [], ◌∷◌, Bool, true, false, Option, Some, None, refl, sym, ◌∙◌, subst, inl, inr, ⊎_elim}
-use Rattle.std.proofs.lemmas.Bool.{and_parts, cond_both}
+use Rattle.std.proofs.Common.{◌≡◌, ◌⊎◌, ℕ, ◌≤◌, List, [], ◌∷◌, true, false, Option, Some, None, refl, sym, ◌∙◌, subst, inl, inr, ⊎_elim}
+use Rattle.std.proofs.lemmas.Bool.{and_parts, cond_both, not-true}
 use Rattle.std.specs.Prelude.{not, ◌==◌, ◌&&◌}
 use Rattle.sms_base.specs.declared.address.Address.{Address}
 use Rattle.sms_base.specs.declared.final_state.FinalState.{FinalState}
@@ -81,15 +81,11 @@ pub record IsSteady (P : Store → Type 0) : Type 0 where
   pub report_far : (r : ReportRow) (q : Progress) (s : Store) → P s → report_of r.id (reports_in s) ≡ Some r → (q.is_done ≡ false → r.progress.is_done ≡ false) → P (with_report_at r q s)
   pub later : (n : ℕ) (s : Store) → P s → s.moment ≤ n → IsMoment n → P (record s { moment = n })
 
-not_done : (b : Bool) → not b ≡ true → b ≡ false
-not_done true e = absurd cc
-not_done false e = refl
-
 -- a report that is as closed as it was, or a status report that was open, does not wait again
 pub stays_closed : (r : ReportRow) (q : Progress) → (q.is_done ≡ r.progress.is_done) ⊎ (is_open_status r ≡ true) → q.is_done ≡ false → r.progress.is_done ≡ false
 stays_closed r q how e = ⊎_elim
     (λ (f : q.is_done ≡ r.progress.is_done). sym f ∙ e)
-    (λ (f : is_open_status r ≡ true). not_done r.progress.is_done (and_parts (is_status r.kind) (not r.progress.is_done) f).1)
+    (λ (f : is_open_status r ≡ true). not-true r.progress.is_done (and_parts (is_status r.kind) (not r.progress.is_done) f).1)
     how
 
 pub firm_of : (P : Store → Type 0) → IsStill P → IsFirm P
@@ -127,7 +123,7 @@ own_there a source None m e = absurd cc
 own_there a source (Some x) m e =
     cond_both (is_account a.name x.originator && is_from source x) (Some x) None (λ (o : Option MessageRow). o ≡ Some m → Some x ≡ Some m) (λ t f. f) (λ t f. absurd cc) e
 
-only_there : (destination : SmeAddress) (o : Option MessageRow) (m : MessageRow) → only_to destination o ≡ Some m → o ≡ Some m
+pub only_there : (destination : SmeAddress) (o : Option MessageRow) (m : MessageRow) → only_to destination o ≡ Some m → o ≡ Some m
 only_there destination None m e = absurd cc
 only_there destination (Some x) m e =
     cond_both (is_to destination x) (Some x) None (λ (o : Option MessageRow). o ≡ Some m → Some x ≡ Some m) (λ t f. f) (λ t f. absurd cc) e
@@ -144,7 +140,7 @@ module _ (P : Store → Type 0) (c : IsFirm P) where
   part_ended_firm : (v : Verdict) (p : PartRow) (m : MessageRow) (s : Store) → P s → row_at part_key (part_key p) (parts_in s) ≡ Some p → message_at p.id (messages_in s) ≡ Some m
       → is_open_part p (Some m) ≡ true → P (part_ended v p m s)
   part_ended_firm Settled p m s k there of waits =
-      let b = and_parts (not p.progress.is_done) (is_pending m) waits in c.settled p m s k there of b.1 (not_done p.progress.is_done b.0)
+      let b = and_parts (not p.progress.is_done) (is_pending m) waits in c.settled p m s k there of b.1 (not-true p.progress.is_done b.0)
   part_ended_firm HandsetFull p m s k there of waits = k
   part_ended_firm Again p m s k there of waits = c.part_far p (tried s.moment p.progress) s k there refl
   part_ended_firm Refused p m s k there of waits =

@@ -1,6 +1,6 @@
 -- What is firm is kept by every event but an answer to a receipt, and what is steady by every event, where what it submits passed
 -- all checks.
-use Rattle.std.proofs.Common.{◌≡◌, ℕ, List, [], ◌∷◌, Bool, Option, Some, None, Result, Ok, Err, refl, arith}
+use Rattle.std.proofs.Common.{◌≡◌, ℕ, List, Bool, Option, Some, None, Result, Ok, Err, refl, arith}
 use Rattle.std.proofs.lemmas.Bool.{cond_both}
 use Rattle.std.specs.Prelude.{max, if◌then◌else◌}
 use Rattle.sms_base.specs.declared.carried.Carried.{Carried}
@@ -12,7 +12,7 @@ use Rattle.sms_link.specs.declared.ending.Ending.{Ending}
 use Rattle.sms_link.specs.declared.ending.Ending.TheVariants.{Lost}
 use Rattle.sms_link.specs.declared.ending.Upward.{Upward}
 use Rattle.sms_link.specs.declared.ending.Upward.TheVariants.{Opened, Ended}
-use Rattle.sms_link.specs.LinkTurn.{fired as fired_link, taken}
+use Rattle.sms_link.specs.LinkTurn.{taken}
 use Rattle.sms_relay.specs.declared.fault.RelayFault.{RelayFault}
 use Rattle.sms_relay.specs.declared.frame.Rp.{Rp}
 use Rattle.sms_relay.specs.declared.frame.Rp.TheVariants.{DataUnit, AckUnit, ErrorUnit, Smma}
@@ -27,10 +27,8 @@ use Rattle.sms_centre_rows.specs.declared.messages.message.MessageRow.{MessageRo
 use Rattle.sms_centre_rows.specs.messages.Messages.{is_pending, message_at}
 use Rattle.sms_centre_rows.specs.messages.SplitReferences.{is_among}
 use Rattle.sms_centre_rows.specs.reports.Receipts.{Session, session_key}
-use Rattle.sms_centre_rows.specs.declared.waiting.handset.HandsetRow.{HandsetRow}
 use Rattle.sms_centre_rows.specs.declared.waiting.handset_link.HandsetLink.{HandsetLink}
-use Rattle.sms_centre_rows.specs.waiting.Links.{line_at, line_of, lowered, put_line, turn_line}
-use Rattle.sms_centre_rows.specs.waiting.References.{handset_at}
+use Rattle.sms_centre_rows.specs.waiting.Links.{line_of, lowered, put_line, turn_line}
 use Rattle.sms_intake.specs.HandsetIntake.{from_read}
 use Rattle.sms_centre_spec.specs.declared.event.CentreEvent.{CentreEvent}
 use Rattle.sms_centre_spec.specs.declared.event.CentreEvent.TheVariants.{Submit, Query, Cancel, Bound, Unbound, DeliverAnswered, Frame, LinkUp, LinkDown, Ordered, Tick}
@@ -49,14 +47,15 @@ use Rattle.sms_centre_spec.specs.declared.order.Order.{Order}
 use Rattle.sms_centre_spec.specs.declared.order.Order.TheVariants.{Retry, Delete}
 use Rattle.sms_centre_spec.specs.Orders.{ordered, parts_among, retried}
 use Rattle.sms_centre_spec.specs.Sessions.{answered_by, bind, bound_as, due_for, receipt_answered, unbind, unbound_from}
-use Rattle.sms_centre_spec.specs.CentreEvent.{tag_of, aged, at_moment, expired, fire_at, fire_line, fire_mentioned, fire_others, fired, frame_taken, happened, is_mentioned, lost, lower, raise, raise_all, raised, timed_out, went_up}
-use Rattle.sms_centre_spec.specs.Draft.{Core, Draft, Store, draft_of, handsets_in, messages_in, on_links, rows_of, waiting_in}
+use Rattle.sms_centre_spec.specs.CentreEvent.{tag_of, aged, at_moment, expired, fired, frame_taken, happened, lost, lower, raise, raised, went_up}
+use Rattle.sms_centre_spec.specs.Draft.{Core, Draft, Store, draft_of, messages_in, on_links, rows_of, waiting_in}
 use Rattle.sms_centre_spec.specs.MessageNumbers.{next_number}
 use Rattle.sms_centre_spec.specs.Consistent.{IsSubmission}
 use Rattle.sms_centre_spec.specs.Submitted.{AccountGives, EventGives, UnitGives, UpGives}
 use Rattle.sms_centre_spec.proofs.Stages.{IfThere, unless_kept}
 use Rattle.sms_centre_spec.proofs.Steady.{IsFirm, IsSteady, IsStill, all_due_firm, concluded_firm, due_now_firm, firm_of, message_own, still_of, to_cancel_there}
 use Rattle.sms_centre_spec.proofs.SteadyTimes.{all_tried_firm, answered_steady, dropped_firm, due_for_firm, expired_firm}
+use Rattle.sms_centre_spec.proofs.Ticking.{fired_says, raised_says}
 
 -- an answer to a receipt keeps it
 abbrev AnswerKeeps : (Store → Type 0) → ℕ → Bool → Type 0
@@ -81,43 +80,6 @@ module _ (P : Store → Type 0) (c : IsFirm P) where
 
   -- ---- a tick
 
-  timed_out_steady : (h : List ℕ) (u : Option Upward) (d : Draft) → P d.store → P (timed_out h u d).store
-  timed_out_steady h None d k = k
-  timed_out_steady h (Some (Opened unit)) d k = k
-  timed_out_steady h (Some (Ended transfer ending)) d k = conclude_steady h transfer ending d k
-
-  fire_line_steady : (l : HandsetLink) (d : Draft) → P d.store → P (fire_line l d).store
-  fire_line_steady l d k =
-      timed_out_steady l.handset (fired_link d.store.moment l.link).out.up (on_links (turn_line l (fired_link d.store.moment l.link) d.links) d) k
-
-  fire_at_steady : (o : Option HandsetLink) (d : Draft) → P d.store → P (fire_at o d).store
-  fire_at_steady None d k = k
-  fire_at_steady (Some l) d k = fire_line_steady l d k
-
-  fire_mentioned_steady : (hs : List HandsetRow) (d : Draft) → P d.store → P (fire_mentioned hs d).store
-  fire_mentioned_steady [] d k = k
-  fire_mentioned_steady (h ∷ hs) d k =
-      let o : Option HandsetLink = line_at h.number d.links.lines in fire_mentioned_steady hs (fire_at o d) (fire_at_steady o d k)
-
-  fire_others_steady : (hs : List HandsetRow) (ls : List HandsetLink) (d : Draft) → P d.store → P (fire_others hs ls d).store
-  fire_others_steady hs [] d k = k
-  fire_others_steady hs (l ∷ ls) d k =
-      let o : Option HandsetLink = line_at l.handset d.links.lines in
-      fire_others_steady hs ls (if is_mentioned (handset_at l.handset hs) then d else fire_at o d)
-      (cond_both (is_mentioned (handset_at l.handset hs)) d (fire_at o d) (λ (e : Draft). P e.store) (λ t. k) (λ t. fire_at_steady o d k))
-
-  fired_steady : (d : Draft) → P d.store → P (fired d).store
-  fired_steady d k =
-      let hs : List HandsetRow = handsets_in d.store in
-      let e : Draft = fire_mentioned hs d in
-      fire_others_steady hs d.links.lines e (fire_mentioned_steady hs d k)
-
-  raise_all_steady : (ls : List HandsetLink) (d : Draft) → P d.store → P (raise_all ls d).store
-  raise_all_steady [] d k = k
-  raise_all_steady (l ∷ ls) d k =
-      raise_all_steady ls (if l.is_awaited then raise l.handset d else d)
-      (cond_both l.is_awaited (raise l.handset d) d (λ (e : Draft). P e.store) (λ t. raise_steady l.handset d k) (λ t. k))
-
   at_moment_steady : (now : ℕ) (s : Store) → P s → IsMoment s.moment → IsMoment now → P (record s { moment = max s.moment now })
   at_moment_steady now s k was is =
       c.later (max s.moment now) s k (omega arith) (record { from_2000 = (let w = was.from_2000 in omega (arith, w)); to_2099 = (let w = was.to_2099 in let i = is.to_2099 in omega (arith, w, i)) })
@@ -125,9 +87,9 @@ module _ (P : Store → Type 0) (c : IsFirm P) where
   ticked_steady : (now : ℕ) (d : Draft) → P d.store → IsMoment d.store.moment → IsMoment now → P (raised (fired (aged (at_moment now d)))).store
   ticked_steady now d k was is =
       let a : Draft = aged (at_moment now d) in
-      let e : Draft = fired a in
       let later = at_moment_steady now d.store k was is in
-      raise_all_steady e.links.lines e (fired_steady a (dropped_firm P c (expired (at_moment now d).store) (expired_firm P c (at_moment now d).store later)))
+      raised_says (λ (e : Draft). P e.store) raise_steady (fired a)
+      (fired_says (λ (e : Draft). P e.store) conclude_steady (λ links e kept. kept) a (dropped_firm P c (expired (at_moment now d).store) (expired_firm P c (at_moment now d).store later)))
 
   -- ---- sessions
 

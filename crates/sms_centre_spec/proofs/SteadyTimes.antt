@@ -70,7 +70,7 @@ abbrev pub ReportsInStore : List ReportRow → Store → Type 0
 ReportsInStore rs s = (r : ReportRow) → Among r rs → report_of r.id (reports_in s) ≡ Some r
 
 -- one report's progress leaves the others
-far_leaves : (r : ReportRow) (q : Progress) (rs : List ReportRow) (s : Store) → Rises report_key (reports_in s) → Rises report_key (r ∷ rs) → ReportsInStore (r ∷ rs) s
+pub far_leaves : (r : ReportRow) (q : Progress) (rs : List ReportRow) (s : Store) → Rises report_key (reports_in s) → Rises report_key (r ∷ rs) → ReportsInStore (r ∷ rs) s
     → ReportsInStore rs (with_report_at r q s)
 far_leaves r q rs s keys rises stand x among =
     let there : report_of r.id (reports_in s) ≡ Some r = stand r (inl refl) in

@@ -1,47 +1,19 @@
 -- A content that has room behind a header is user data of its data coding scheme.
-use Rattle.std.proofs.Common.{◌≡◌, ℕ, zero, suc, ◌+◌, ◌-◌, ◌*◌, ◌/◌, ◌^◌, ◌<◌, ◌≤◌, List, [], ◌∷◌, ◌++◌, length, length-append, drop, true, refl, sym, ◌∙◌, ap, subst, ⊎_elim, arith}
+use Rattle.std.proofs.Common.{◌≡◌, ℕ, suc, ◌+◌, ◌-◌, ◌*◌, ◌^◌, ◌≤◌, List, [], ◌++◌, length, length-append, drop, true, refl, sym, ◌∙◌, ap, subst, ⊎_elim, arith}
 use Rattle.std.specs.Prelude.{◌⊎◌, nat_le}
-use Rattle.std.proofs.Math.Nat.{pow-succ', pow-zero, pow-le-pow_right, mul-le-mul_left, mul-add}
-use Rattle.std.proofs.lemmas.Nat.{pow-add}
 use Rattle.std.proofs.lemmas.Bool.{le-leb}
+use Rattle.sms_base.proofs.Lists.{drop_behind}
 use Rattle.sms_alphabet.specs.declared.scheme.Coding.{Coding}
 use Rattle.sms_alphabet.specs.declared.scheme.Coding.TheVariants.{Septets, Octets, Ucs2, Compressed}
 use Rattle.sms_alphabet.specs.Packing.{AreSeptets, IsPacking, digits_in, packed_len, value_in}
-use Rattle.sms_alphabet.proofs.Held.{octet_power, septet_power}
-use Rattle.sms_alphabet.proofs.RoundTrip.{length-digits, value-below}
+use Rattle.sms_alphabet.proofs.RoundTrip.{length-digits}
+use Rattle.sms_alphabet.proofs.Packed.{packed_value, value_in-digits}
 use Rattle.sms_alphabet.specs.declared.element.Element.{Element}
 use Rattle.sms_alphabet.specs.HeaderGrammar.{spelled, written}
 use Rattle.sms_concat.specs.UserData.{AreUnits, body_octets, capacity, data_length, fill_bits, header_septets, is_there}
 use Rattle.sms_tpdu.specs.UserDataGrammar.{HasHeader, IsContentBehind, IsPackedBehind, IsUserData, fill_behind, greatest_length, header_octets, octets_of}
 
 -- ---- septets packed behind fill bits
-
-value_in-digits : (n v : ℕ) → v < 256 ^ n → value_in 256 (digits_in 256 n v) ≡ v
-value_in-digits zero v h = let one = pow-zero 256 in omega arith
-value_in-digits (suc n) v h =
-    let more = pow-succ' 256 n in
-    let rest = value_in-digits n (v / 256) (omega (arith, more)) in
-    omega (arith, rest)
-
-power_above : (n : ℕ) → 1 ≤ 2 ^ n
-power_above zero = omega (arith, pow-zero 2)
-power_above (suc n) = omega (arith, pow-succ' 2 n, power_above n)
-
-packed_value : (fill : ℕ) (units : List ℕ) → AreSeptets units → 2 ^ fill * value_in 128 units < 256 ^ packed_len fill (length units)
-packed_value fill units h =
-    let n = length units in
-    let p = 2 ^ fill in
-    let v = value_in 128 units in
-    let lt = value-below units h in
-    let below : v + 1 ≤ 128 ^ n = omega arith in
-    let times : p * (v + 1) ≤ p * 128 ^ n = mul-le-mul_left p below in
-    let spread : p * (v + 1) ≡ p * v + p * 1 = mul-add p v 1 in
-    let one : p * 1 ≡ p = omega arith in
-    let some : 1 ≤ p = power_above fill in
-    let bits : p * 128 ^ n ≡ 2 ^ (fill + 7 * n) = ap (λ (q : ℕ). p * q) (septet_power n) ∙ sym (pow-add 2 fill (7 * n)) in
-    let room : 2 ^ (fill + 7 * n) ≤ 2 ^ (8 * packed_len fill n) = pow-le-pow_right {n = 2} (omega arith) {i = fill + 7 * n} {j = 8 * packed_len fill n} (omega arith) in
-    let octets : 256 ^ packed_len fill n ≡ 2 ^ (8 * packed_len fill n) = octet_power (packed_len fill n) in
-    omega arith
 
 -- the units behind the header, as they are packed
 rest_of : List ℕ → Coding → List ℕ → List ℕ
@@ -79,10 +51,6 @@ header_long header rest is = ⊎_elim
     let same : length front + 1 ≡ suc (length front) = omega arith in
     subst (λ (h : List ℕ). header_octets (is_there h) (h ++ rest) ≡ length h) (sym e.1) same)
     is
-
-drop_behind : (xs ys : List ℕ) → drop (length xs) (xs ++ ys) ≡ ys
-drop_behind [] ys = refl
-drop_behind (x ∷ xs) ys = drop_behind xs ys
 
 -- ---- the fields
 

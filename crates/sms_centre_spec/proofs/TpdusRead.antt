@@ -1,7 +1,6 @@
 -- The TPDUs of parts and status reports are read as what they were made of, and are short.
 use Rattle.std.proofs.Common.{◌≡◌, ℕ, ◌+◌, ◌≤◌, List, [], ◌∷◌, ◌++◌, length, length-append, Option, refl, sym, ◌∙◌, ap, subst, arith}
-use Rattle.sms_alphabet.specs.declared.scheme.Coding.{Coding}
-use Rattle.sms_alphabet.specs.declared.scheme.Coding.TheVariants.{Septets, Octets, Ucs2, Compressed}
+use Rattle.std.proofs.lemmas.List.{append-nil}
 use Rattle.sms_alphabet.specs.DataCodingScheme.{coding_of}
 use Rattle.sms_base.specs.Address.{IsAddress}
 use Rattle.sms_base.specs.declared.final_state.FinalState.{FinalState}
@@ -14,9 +13,9 @@ use Rattle.sms_tpdu.specs.declared.down.Down.TheVariants.{Deliver, StatusReport}
 use Rattle.sms_tpdu.specs.declared.status_report.StatusReport.{StatusReport as StatusReportOf}
 use Rattle.sms_tpdu.specs.AddressGrammar.{address_field}
 use Rattle.sms_tpdu.specs.TpduReading.{down_at}
-use Rattle.sms_tpdu.specs.UserDataGrammar.{greatest_length, octets_of}
 use Rattle.sms_tpdu.proofs.NameValues.{field_short}
 use Rattle.sms_tpdu.proofs.WrittenUnits.{written_down_is_read}
+use Rattle.sms_tpdu.proofs.Lengths.{few_octets}
 use Rattle.sms_centre_rows.specs.declared.messages.message.MessageRow.{MessageRow}
 use Rattle.sms_base.specs.declared.originator.Originator.{Originator}
 use Rattle.sms_base.specs.declared.originator.Originator.TheVariants.{Handset}
@@ -38,12 +37,6 @@ stamp_written : (moment : ℕ) → IsMoment moment → IsWrittenScts (stamp_of m
 stamp_written moment is = stamp_is_written moment is
 
 -- ---- DELIVER
-
-few_octets : (coding : Coding) (n : ℕ) → n ≤ greatest_length coding → octets_of coding n ≤ 140
-few_octets Septets n h = omega arith
-few_octets Octets n h = h
-few_octets Ucs2 n h = h
-few_octets Compressed n h = h
 
 pub part_reads : (id submitted moment : ℕ) (split : Option ℕ) (u : Submission) (b : SinglePart) (p : PartRow) → IsMoment moment → IsAddress u.source → IsBody u b → p.tpdu ≡ deliver_octets moment u b
     → IsDeliver (message_of id submitted split u) p (deliver_of moment u b)
@@ -68,17 +61,13 @@ part_reads id submitted moment split u b p now source body tpdu =
 
 -- ---- STATUS-REPORT
 
-append_none : (xs : List ℕ) → xs ++ [] ≡ xs
-append_none [] = refl
-append_none (x ∷ xs) = ap (λ (ys : List ℕ). x ∷ ys) (append_none xs)
-
 pub status_reads : (f : FinalState) (moment n : ℕ) (m w : MessageRow) → IsMoment moment → IsMoment m.submitted → IsNumber m.handset → m.originator ≡ Handset n → w.handset ≡ m.handset → w.submitted ≡ m.submitted
     → IsStatus n w moment (status_octets (final_of f moment m)) (status_report_of (final_of f moment m))
 status_reads f moment n m w now then number from handset submitted =
     let r : StatusReportOf = status_report_of (final_of f moment m) in
     let octets : List ℕ = status_octets (final_of f moment m) in
     let read = written_down_is_read InData octets (StatusReport r)
-    (stamp_of m.submitted, stamp_of moment, number, stamp_written m.submitted then, stamp_written moment now, tt, sym (append_none octets)) in
+    (stamp_of m.submitted, stamp_of moment, number, stamp_written m.submitted then, stamp_written moment now, tt, sym (append-nil octets)) in
     let to : List ℕ = address_field (own_address m.handset) in
     let front : length to ≤ 12 = field_short (own_address m.handset) number in
     let rest : List ℕ = stamp_of m.submitted ++ (stamp_of moment ++ (r.status ∷ [])) in

@@ -3,6 +3,7 @@ use Rattle.std.proofs.Common.{◌≡◌, ℕ, List, ◌∷◌, length, Option, S
 use Rattle.std.specs.Prelude.{◌&&◌, is_some}
 use Rattle.std.specs.Option.{option_map}
 use Rattle.std.proofs.lemmas.Bool.{cond_both}
+use Rattle.sms_base.proofs.OctetLaws.{octets_behind}
 use Rattle.sms_base.specs.declared.carried.Carried.{Carried}
 use Rattle.sms_base.specs.Reading.{AreOctets}
 use Rattle.sms_control.specs.declared.fault.CpFault.{CpFault}
@@ -25,7 +26,6 @@ use Rattle.sms_relay.specs.declared.frame.Rp.TheVariants.{DataUnit as RpData}
 use Rattle.sms_relay.specs.RelayReading.{up_at}
 use Rattle.sms_relay.proofs.FieldLaws.{IsBytes-octets}
 use Rattle.sms_relay.proofs.UnitLaws.{up_takes}
-use Rattle.sms_tpdu.proofs.Addresses.{suffix_fits}
 
 -- ---- CP-DATA
 
@@ -91,4 +91,4 @@ pub tpdu_octets : (unit tpdu centre : List ℕ) (reference : ℕ) → AreOctets 
 tpdu_octets unit tpdu centre reference are e =
     let is = up_takes unit (RpData reference centre tpdu) (IsBytes-octets unit are) e in
     let h = subst AreOctets is.2 are in
-    let rest : AreOctets (length tpdu ∷ tpdu) = suffix_fits centre (length tpdu ∷ tpdu) h.1.1.1.1 in rest.1
+    let rest : AreOctets (length tpdu ∷ tpdu) = octets_behind centre (length tpdu ∷ tpdu) h.1.1.1.1 in rest.1

@@ -52,7 +52,7 @@ abbrev pub setup : Setup
 setup = record { centre = own_address centre_number; start = t0; first = 1; accounts = record { name = codes "app1"; address = own_address app1; sources = [] } ∷ [] }
 
 abbrev pub no_rows : Rows
-no_rows = record { messages = []; parts = []; references = []; handsets = []; reports = []; priorities = []; setup = setup }
+no_rows = record { messages = []; parts = []; references = []; handsets = []; reports = []; priorities = []; bars = []; setup = setup }
 
 -- app1 is bound as a transceiver
 abbrev pub session_one : Session

@@ -1,8 +1,11 @@
 pub mod Kept
 pub mod Looks
 pub mod Splits
+pub mod BarsStand
+mod Once
 mod Sound
 mod Going
+mod Claims
 pub mod Moves
 mod Follow
 mod Answers
@@ -15,9 +18,8 @@ mod Orders
 mod Binds
 mod Everywhere
 mod Behind
-mod Runs
+pub mod Runs
 mod Latest
-mod BarsStand
 pub mod Begins
 pub mod Removed
 pub mod Now

@@ -2,15 +2,17 @@
 -- They are the rows with their changes, and the lines to handsets with what was sent on them. The third is the sessions of
 -- applications with the receipts that were sent in them.
 use Rattle.std.specs.Prelude.{ℕ, List, [], Option, Some, None}
-use Rattle.sms_rows.specs.table.Since.{untouched, oldest_first as changes_of}
+use Rattle.sms_rows.specs.table.Since.{Since, untouched, oldest_first as changes_of}
 use Rattle.sms_rows.specs.table.Table.{all_applied}
 use Rattle.sms_centre_spec.specs.declared.answer.CentreAnswer.{CentreAnswer}
 use Rattle.sms_centre_spec.specs.declared.rows.Changes.{Changes}
 use Rattle.sms_centre_spec.specs.declared.rows.Rows.{Rows}
 use Rattle.sms_centre_spec.specs.declared.setup.Setup.{Setup}
+use Rattle.sms_centre_rows.specs.declared.messages.bar.BarRow.{BarRow}
 use Rattle.sms_centre_rows.specs.declared.messages.message.MessageRow.{MessageRow}
 use Rattle.sms_centre_rows.specs.declared.messages.part.PartRow.{PartRow}
 use Rattle.sms_centre_rows.specs.declared.messages.priority.PriorityRow.{PriorityRow}
+use Rattle.sms_centre_rows.specs.messages.Bars.{bar_key, bars_of}
 use Rattle.sms_centre_rows.specs.messages.Messages.{Messages, messages_of, parts_of, priorities_of, put_message, put_part, amend_part, put_priority}
 use Rattle.sms_centre_rows.specs.messages.Messages.{message_key, part_key, priority_key, part_reaching}
 use Rattle.sms_centre_rows.specs.declared.reports.report.ReportRow.{ReportRow}
@@ -47,6 +49,8 @@ pub record Store : Type 0 where
   pub messages : Messages
   pub allocations : Allocations
   pub reports : Revised ReportRow
+  -- no event changes them
+  pub bars : Since BarRow
 
 pub record Draft : Type 0 where
   pub store : Store
@@ -61,6 +65,7 @@ store_of rows moment = record {
   messages = record { messages = untouched rows.messages; parts = unrevised rows.parts; priorities = untouched rows.priorities };
   allocations = record { handsets = untouched rows.handsets; references = untouched rows.references };
   reports = unrevised rows.reports;
+  bars = untouched rows.bars;
 }
 
 abbrev pub draft_of : Core → Draft
@@ -80,6 +85,7 @@ rows_of s = record {
   handsets = handsets_of s.allocations;
   reports = reports_of s.reports;
   priorities = priorities_of s.messages;
+  bars = bars_of s.bars;
   setup = s.setup;
 }
 
@@ -96,10 +102,11 @@ changes_in s = record {
   handsets = changes_of s.allocations.handsets.news;
   reports = revisions_of s.reports.news;
   priorities = changes_of s.messages.priorities.news;
+  bars = changes_of s.bars.news;
 }
 
 abbrev pub no_changes : Changes
-no_changes = record { messages = []; parts = []; references = []; handsets = []; reports = []; priorities = [] }
+no_changes = record { messages = []; parts = []; references = []; handsets = []; reports = []; priorities = []; bars = [] }
 
 -- the rows after the changes
 abbrev pub rows_after : Changes → Rows → Rows
@@ -110,6 +117,7 @@ rows_after changes rows = record {
   handsets = all_applied handset_key changes.handsets rows.handsets;
   reports = all_revised report_key report_reaching changes.reports rows.reports;
   priorities = all_applied priority_key changes.priorities rows.priorities;
+  bars = all_applied bar_key changes.bars rows.bars;
   setup = rows.setup;
 }
 
@@ -123,6 +131,9 @@ parts_in s = parts_of s.messages
 
 abbrev pub priorities_in : Store → List PriorityRow
 priorities_in s = priorities_of s.messages
+
+abbrev pub bars_in : Store → List BarRow
+bars_in s = bars_of s.bars
 
 abbrev pub handsets_in : Store → List HandsetRow
 handsets_in s = handsets_of s.allocations

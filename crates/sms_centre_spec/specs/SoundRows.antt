@@ -4,9 +4,11 @@ use Rattle.sms_base.specs.Address.{IsAddress}
 use Rattle.sms_base.specs.Among.{Among}
 use Rattle.sms_base.specs.declared.address.Address.{Address}
 use Rattle.sms_base.specs.TimeStamp.{IsMoment}
+use Rattle.sms_rows.specs.table.Table.{Rises}
 use Rattle.sms_centre_rows.specs.declared.messages.message.MessageRow.{MessageRow}
 use Rattle.sms_base.specs.declared.originator.Originator.{Originator}
 use Rattle.sms_base.specs.declared.originator.Originator.TheVariants.{Application, Handset}
+use Rattle.sms_centre_rows.specs.messages.Bars.{bar_key}
 use Rattle.sms_centre_rows.specs.messages.SoundMessages.{SoundMessages}
 use Rattle.sms_centre_rows.specs.messages.SplitReferences.{is_delivered}
 use Rattle.sms_centre_rows.specs.declared.reports.report.ReportRow.{ReportRow}
@@ -58,7 +60,8 @@ pub record IsSound (rows : Rows) : Type 0 where
   pub reports : SoundReports rows.messages rows.reports
   pub waiting : (number : List ℕ) → SoundWaiting (handset_at number rows.handsets) rows.references (all_for number rows)
   pub splits : AreSplitApart rows.messages
+  pub bars : Rises bar_key rows.bars
 
 -- the rows of a new store
 abbrev pub first_rows : Setup → Rows
-first_rows setup = record { messages = []; parts = []; references = []; handsets = []; reports = []; priorities = []; setup = setup }
+first_rows setup = record { messages = []; parts = []; references = []; handsets = []; reports = []; priorities = []; bars = []; setup = setup }

@@ -2,7 +2,7 @@
 use Rattle.std.specs.Prelude.{ℕ, ◌+◌, nat_le, List, [], ◌∷◌, Bool, false, if◌then◌else◌, Option, Some, None}
 use Rattle.std.specs.Option.{option_and_then}
 use Rattle.sms_centre_rows.specs.declared.messages.message.MessageRow.{MessageRow}
-use Rattle.sms_centre_rows.specs.messages.SplitReferences.{next_split, held_splits, wide_in, is_taken}
+use Rattle.sms_centre_rows.specs.messages.SplitReferences.{next_split, held_references, wide_in, is_taken}
 use Rattle.sms_centre_rows.specs.declared.waiting.handset.HandsetRow.{HandsetRow}
 use Rattle.sms_centre_rows.specs.waiting.References.{handset_of, next_reference}
 use Rattle.sms_intake.specs.declared.submission.SinglePart.{SinglePart}
@@ -10,7 +10,7 @@ use Rattle.sms_intake.specs.declared.submission.Submission.{Submission}
 use Rattle.sms_intake.specs.declared.submission.Text.{Text}
 use Rattle.sms_intake.specs.declared.submission.Text.TheVariants.{Whole, Single}
 use Rattle.sms_intake.specs.PartBodies.{bodies_under, deliver_octets, is_long}
-use Rattle.sms_centre_spec.specs.Draft.{Store, handsets_in, messages_in, parts_in, references_in, rows_of, waiting_in, with_given, with_message, with_part}
+use Rattle.sms_centre_spec.specs.Draft.{Store, bars_in, handsets_in, messages_in, parts_in, references_in, rows_of, waiting_in, with_given, with_message, with_part}
 use Rattle.sms_centre_spec.specs.Draft.{with_priority}
 use Rattle.sms_centre_spec.specs.MessageNumbers.{next_number}
 
@@ -82,7 +82,7 @@ accept_split id (Some reference) submission s = accept_under id (Some reference)
 abbrev pub accept_as : ℕ → Submission → Store → Option Store
 accept_as id submission s =
     if is_long submission.text
-    then accept_split id (next_split submission.source submission.handset (messages_in s) (parts_in s)) submission s
+    then accept_split id (next_split submission.source submission.handset (bars_in s) (messages_in s) (parts_in s)) submission s
     else accept_under id None (bodies_under 0 submission.text) submission s
 
 -- None where no number or no references are free
@@ -99,4 +99,4 @@ own_reference (Single part) = wide_in part.key
 -- the header that was submitted with it has a reference that the centre gave for its source and handset
 abbrev pub is_reference_taken : Submission → Store → Bool
 is_reference_taken submission s =
-    is_taken (own_reference submission.text) (held_splits submission.source submission.handset (messages_in s))
+    is_taken (own_reference submission.text) (held_references submission.source submission.handset (bars_in s) (messages_in s))

@@ -1,7 +1,7 @@
 //! What a centre stores, and what an event changes of it.
 use crate::setup::Setup;
 use sms_base::Listed;
-use sms_centre_rows::messages::{MessageRow, PartRow, PriorityRow};
+use sms_centre_rows::messages::{BarRow, MessageRow, PartRow, PriorityRow};
 use sms_centre_rows::reports::ReportRow;
 use sms_centre_rows::waiting::{HandsetRow, ReferenceRow, Revision};
 use sms_rows::table::Change;
@@ -15,6 +15,7 @@ pub struct Rows {
     pub handsets: Listed<HandsetRow>,
     pub reports: Listed<ReportRow>,
     pub priorities: Listed<PriorityRow>,
+    pub bars: Listed<BarRow>,
     pub setup: Setup,
 }
 
@@ -27,4 +28,5 @@ pub struct Changes {
     pub handsets: Listed<Change<HandsetRow>>,
     pub reports: Listed<Revision<ReportRow>>,
     pub priorities: Listed<Change<PriorityRow>>,
+    pub bars: Listed<Change<BarRow>>,
 }

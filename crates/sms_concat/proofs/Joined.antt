@@ -1,6 +1,5 @@
 -- Joining: the steps of the code, and that the parts of a split join to the content.
-use Rattle.std.proofs.Common.{◌≡◌, ℕ, ◌+◌, ◌-◌, ◌<◌, ◌≤◌, Bool, true, false, cond, ◌&&◌, eqb, List, [], ◌∷◌, ◌++◌, length, drop, get_or, Some, None, refl, sym, ap, ◌∙◌, arith, append_assoc, eq-eqb, min, ◌^◌, Result, Ok, Err}
-use Rattle.std.specs.Prelude.{OnErr}
+use Rattle.std.proofs.Common.{◌≡◌, ℕ, ◌+◌, ◌-◌, ◌<◌, ◌≤◌, Bool, true, false, cond, ◌&&◌, eqb, List, [], ◌∷◌, ◌++◌, length, drop, get_or, Some, None, refl, sym, ap, ◌∙◌, arith, append_assoc, eq-eqb, min, ◌^◌}
 use Rattle.std.proofs.lemmas.List.{append-nil, at_drop_more, at_drop_all, length-append}
 use Rattle.sms_alphabet.specs.declared.concat_key.ConcatReference.{ConcatReference}
 use Rattle.sms_alphabet.specs.declared.concat_key.ConcatReference.TheVariants.{SixteenBit}
@@ -125,7 +124,3 @@ whole_joins [] b e is = absurd cc
 whole_joins (part ∷ parts) b e is =
     let whole : is_whole (part ∷ parts) ≡ true = sym is ∙ e in
     (record { coding = part.content.coding; dcs = part.content.dcs; units = units_of (part ∷ parts) }, rw whole refl)
-
-pub on_err : {X E : Type 0} (P : Type 0) (r : Result X E) → P → OnErr r P
-on_err P (Ok x) p = tt
-on_err P (Err e) p = p

@@ -3,14 +3,13 @@ use Rattle.std.proofs.Common.{◌≡◌, ℕ, suc, ◌+◌, ◌-◌, ◌/◌, �
 use Rattle.std.specs.List.{position_or_len}
 use Rattle.std.specs.Str.{chars}
 use Rattle.std.proofs.lemmas.Str.{chars-nil}
-use Rattle.std.proofs.lemmas.Bool.{ltb-false, ltb-true, le-ltb, lt-ltb, le-leb, lt-leb, leb-true, leb-false, ne_eqb}
+use Rattle.std.proofs.lemmas.Bool.{ltb-false, ltb-true, le-ltb, lt-ltb, le-leb, lt-leb, leb-true, leb-false, ne_eqb, and_parts}
 use Rattle.std.proofs.lemmas.Bool.Decides.{nat_tests}
 use Rattle.std.proofs.lemmas.List.{length-append}
 use Rattle.sms_base.specs.declared.alphabet.Code.{Code}
 use Rattle.sms_base.specs.declared.alphabet.Code.TheVariants.{Main, Extended}
 use Rattle.sms_base.specs.Alphabet.{IsPair, code_for, septets_in}
 use Rattle.sms_base.proofs.Alphabets.{pair_of_code}
-use Rattle.sms_base.proofs.Steps.{both}
 use Rattle.sms_base.specs.Reading.{AreOctets}
 use Rattle.sms_alphabet.specs.declared.scheme.Coding.{Coding}
 use Rattle.sms_alphabet.specs.declared.scheme.Coding.TheVariants.{Septets, Octets, Ucs2, Compressed}
@@ -294,7 +293,7 @@ in_ucs2 t (character ∷ text) = in_ucs2 (with_unit (length (octets_for characte
 ucs2_all : (text : List ℕ) (t : Tally) → scalars text ≡ true → in_ucs2 t text ≡ tallied t (ucs2_units (ucs2_for text))
 ucs2_all [] t h = refl
 ucs2_all (character ∷ text) t h =
-    let b = both (scalar character) (scalars text) h in
+    let b = and_parts (scalar character) (scalars text) h in
     ucs2_all text (with_unit (length (octets_for character)) t) b.1 ∙ ap (tallied t) (sym (ucs2_cut character (ucs2_for text) b.0))
 
 -- ---- a text

@@ -1,5 +1,6 @@
 -- The answer of the last begun transaction that was answered is remembered.
 use Rattle.std.proofs.Common.{◌≡◌, ℕ, ◌&&◌, true, false, List, [], ◌∷◌, Result, Ok, Err, Option, Some, None, refl, sym, ap, subst, ◌∙◌, is_some, is_none}
+use Rattle.sms_base.proofs.OctetLaws.{octets_themselves}
 use Rattle.sms_control.specs.declared.fault.CpFault.{CpFault}
 use Rattle.sms_control.specs.declared.transaction.TransactionFlag.{TransactionFlag}
 use Rattle.sms_control.specs.declared.transaction.TransactionFlag.TheVariants.{FromOriginator, ToOriginator}
@@ -14,7 +15,6 @@ use Rattle.sms_control.specs.ControlGrammar.{spelled}
 use Rattle.sms_control.specs.LinkStep.{Step, quiet, in_transaction, begin_step, reply_in, reply_step, answer_taken, data_taken, ack_taken, error_taken, frame_taken, take_step, fire_step, is_same, has_begun, has_opened, opening_of, answer_of}
 use Rattle.sms_control.specs.LinkRuns.{Call, Begin, Reply, Take, Fire, step, run, IsNoAnswer, NoneAnswered}
 use Rattle.sms_control.proofs.LinkLaws.{either}
-use Rattle.sms_control.proofs.RepeatLaws.{same_itself}
 
 -- ---- it stays until another transaction is answered
 
@@ -62,7 +62,7 @@ run_keeps (c ∷ cs) s h = run_keeps cs (step c s).state h.1 ∙ keeps c s h.0
 
 -- ---- what was taken is remembered
 
-answer_is : (frame unit : List ℕ) (i : ℕ) (s : LinkState) → cp_at frame ≡ Ok (DataUnit (in_transaction ToOriginator i) unit)
+pub answer_is : (frame unit : List ℕ) (i : ℕ) (s : LinkState) → cp_at frame ≡ Ok (DataUnit (in_transaction ToOriginator i) unit)
     → take_step frame s ≡ answer_taken frame unit (in_transaction ToOriginator i) s
 unfolding take_step
 answer_is frame unit i s e = ap (frame_taken frame s) e
@@ -79,13 +79,13 @@ remembers frame unit other t s =
 again_alone : (frame unit : List ℕ) (i : ℕ) (s : LinkState) → s.last_answer ≡ Some frame
     → (answer_taken frame unit (in_transaction ToOriginator i) s).out.frames ≡ spelled (AckUnit (in_transaction FromOriginator i)) ∷ []
 again_alone frame unit i s e =
-    let again : is_same frame s.last_answer ≡ true = ap (is_same frame) e ∙ same_itself frame in
+    let again : is_same frame s.last_answer ≡ true = ap (is_same frame) e ∙ octets_themselves frame in
     either (λ (t : Step). t.out.frames ≡ spelled (AckUnit (in_transaction FromOriginator i)) ∷ []) (has_begun i s.begun) _ _ refl (rw again refl)
 
 again_quiet : (frame unit : List ℕ) (i : ℕ) (s : LinkState) → s.last_answer ≡ Some frame → has_begun i s.begun ≡ false
     → (answer_taken frame unit (in_transaction ToOriginator i) s).out.up ≡ None
 again_quiet frame unit i s e free =
-    let again : is_same frame s.last_answer ≡ true = ap (is_same frame) e ∙ same_itself frame in
+    let again : is_same frame s.last_answer ≡ true = ap (is_same frame) e ∙ octets_themselves frame in
     rw (free, again) refl
 
 -- ---- the laws

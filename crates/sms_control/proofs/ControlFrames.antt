@@ -1,15 +1,17 @@
 -- A frame that is read is in the grammar, one that is in the grammar is read, and a front of one ends too early.
-use Rattle.std.proofs.Common.{◌≡◌, ◌≢◌, ℕ, zero, suc, ◌+◌, ◌*◌, ◌/◌, ◌%◌, ◌<◌, ◌≤◌, Bool, true, false, ◌&&◌, cond, eqb, ltb, List, [], ◌∷◌, ◌++◌, length, get_or, Result, Ok, Err, Option, Some, None, refl, sym, ap, subst, ◌∙◌, arith, inl, inr}
+use Rattle.std.proofs.Common.{◌≡◌, ◌≢◌, ℕ, zero, ◌+◌, ◌*◌, ◌/◌, ◌%◌, ◌<◌, ◌≤◌, Bool, true, false, ◌&&◌, cond, eqb, ltb, List, [], ◌∷◌, ◌++◌, length, Result, Ok, Err, Option, Some, None, refl, sym, ap, subst, ◌∙◌, arith, inl, inr}
 use Rattle.std.specs.Prelude.{IfOk}
 use Rattle.std.specs.Option.{unwrap_or}
 use Rattle.std.specs.List.{find}
-use Rattle.std.proofs.lemmas.Bool.{ltb-true, ltb-false, eqb-true, lt-ltb, le-ltb, eq-eqb}
+use Rattle.std.proofs.lemmas.Bool.{ltb-true, ltb-false, eqb-true, lt-ltb, le-ltb, eq-eqb, and_parts}
 use Rattle.std.proofs.lemmas.List.{append-nil}
+use Rattle.std.proofs.lemmas.Option.{same_Some}
 use Rattle.sms_base.specs.Reading.{◌>>=◌, only_if, octet_in, run_in, end_in}
-use Rattle.sms_base.proofs.Steps.{bind_ok, passes, ok_is, both, octet_takes, run_takes, run_again, end_takes}
+use Rattle.sms_base.proofs.Steps.{bind_ok, passes, ok_is, octet_takes, run_takes, run_again, end_takes}
 use Rattle.sms_base.proofs.Cuts.{CutsShort, CutsWhole, cuts_bind, cuts_test, cuts_octet, cuts_run, cuts_pure, whole_bind, whole_end}
+use Rattle.sms_base.proofs.OctetLaws.{IsBytes, bytes_rest}
 use Rattle.sms_control.specs.declared.cause.CpCause.{CpCause}
-use Rattle.sms_control.specs.declared.cause.CpCause.TheVariants.{NetworkFailure, Congestion, InvalidTransactionIdentifier, SemanticallyIncorrectMessage, InvalidMandatoryInformation, MessageTypeNonExistent, MessageNotCompatible, InformationElementNonExistent, ProtocolErrorUnspecified, Other}
+use Rattle.sms_control.specs.declared.cause.CpCause.TheVariants.{Other}
 use Rattle.sms_control.specs.declared.fault.CpFault.{CpFault}
 use Rattle.sms_control.specs.declared.fault.CpFault.TheVariants.{Truncated, Trailing, BadLength}
 use Rattle.sms_control.specs.declared.message_type.MessageType.{MessageType}
@@ -22,12 +24,6 @@ use Rattle.sms_control.specs.declared.message.Cp.TheVariants.{DataUnit, AckUnit,
 use Rattle.sms_control.specs.ControlGrammar.{flag_value, flag_of, head_octet, head_of, type_octet, types, type_of, cause_octet, named, cause_of, IsCpCause, spelled, IsCpValue, IsCp}
 use Rattle.sms_control.specs.ControlReading.{known, head_in, type_in, unit_in, body_at, cp_at}
 
-abbrev pub IsBytes : List ℕ → Type 0
-IsBytes bytes = (i : ℕ) → get_or bytes i 0 < 256
-
-bytes_rest : (o : ℕ) (xs ys : List ℕ) → ys ≡ o ∷ xs → IsBytes ys → IsBytes xs
-bytes_rest o xs ys e h = let g : IsBytes (o ∷ xs) = subst IsBytes e h in λ i. g (suc i)
-
 bytes_first : (o : ℕ) (xs ys : List ℕ) → ys ≡ o ∷ xs → IsBytes ys → o < 256
 bytes_first o xs ys e h = let g : IsBytes (o ∷ xs) = subst IsBytes e h in g zero
 
@@ -36,9 +32,6 @@ bytes_first o xs ys e h = let g : IsBytes (o ∷ xs) = subst IsBytes e h in g ze
 knows : {A : Type 0} (o : Option A) (x : A) → known o ≡ Ok x → o ≡ Some x
 knows {A} (Some y) x e = ap (λ (v : A). Some v) (ok_is {E = CpFault} y x e)
 knows None x e = absurd cc
-
-some_is : {A : Type 0} (x y : A) → Some x ≡ Some y → x ≡ y
-some_is x y e = cc
 
 record Names (octet : ℕ) (transaction : Transaction) : Type 0 where
   same : octet ≡ head_octet transaction
@@ -60,10 +53,10 @@ head_names : (o : ℕ) (t : Transaction) → o < 256 → head_of o ≡ Some t �
 head_names o t h e = more (eqb (o % 16) 9 && ltb (o / 16 % 8) 7) refl e where
   more : (b : Bool) → eqb (o % 16) 9 && ltb (o / 16 % 8) 7 ≡ b → cond b (Some (record { flag = flag_of o; identifier = o / 16 % 8 })) None ≡ Some t → Names o t
   more true q g =
-      let p = both (eqb (o % 16) 9) (ltb (o / 16 % 8) 7) q in
+      let p = and_parts (eqb (o % 16) 9) (ltb (o / 16 % 8) 7) q in
       let nine : o % 16 ≡ 9 = eqb-true (o % 16) 9 p.0 in
       let small : o / 16 % 8 < 7 = ltb-true (o / 16 % 8) 7 p.1 in
-      subst (λ (v : Transaction). Names o v) (some_is (record { flag = flag_of o; identifier = o / 16 % 8 }) t g)
+      subst (λ (v : Transaction). Names o v) (same_Some (record { flag = flag_of o; identifier = o / 16 % 8 }) t g)
       (record { same = flag_same o h nine; below = small })
   more false q g = absurd cc
 
@@ -113,7 +106,7 @@ head_in_again t rest h = let e : head_of (head_octet t) ≡ Some t = head_again 
 
 one_type : (b : Bool) (kind found : MessageType) (octet : ℕ) (rest : Option MessageType) → eqb (type_octet kind) octet ≡ b
     → (rest ≡ Some found → eqb (type_octet found) octet ≡ true) → cond b (Some kind) rest ≡ Some found → eqb (type_octet found) octet ≡ true
-one_type true kind found octet rest is later e = subst (λ (m : MessageType). eqb (type_octet m) octet ≡ true) (some_is kind found e) is
+one_type true kind found octet rest is later e = subst (λ (m : MessageType). eqb (type_octet m) octet ≡ true) (same_Some kind found e) is
 one_type false kind found octet rest is later e = later e
 
 found_type : (octet : ℕ) (kinds : List MessageType) (found : MessageType) → find (λ kind. eqb (type_octet kind) octet) kinds ≡ Some found → eqb (type_octet found) octet ≡ true
@@ -169,15 +162,7 @@ stood_for octet cause e = tt
 cause_is : (cause : CpCause) → IsCpCause cause → cause_of (cause_octet cause) ≡ cause
 unfolding cause_of
 cause_is (Other octet) h = h
-cause_is NetworkFailure h = refl
-cause_is Congestion h = refl
-cause_is InvalidTransactionIdentifier h = refl
-cause_is SemanticallyIncorrectMessage h = refl
-cause_is InvalidMandatoryInformation h = refl
-cause_is MessageTypeNonExistent h = refl
-cause_is MessageNotCompatible h = refl
-cause_is InformationElementNonExistent h = refl
-cause_is ProtocolErrorUnspecified h = refl
+cause_is _ h = refl
 
 -- ---- the unit
 
@@ -191,7 +176,7 @@ unfolding unit_in
 unit_takes xs x e =
     let a = bind_ok (octet_in Truncated xs) _ x e in
     let b = bind_ok (only_if (ltb 0 a.0.0 && ltb a.0.0 249) BadLength) _ x a.2 in
-    let t = both (ltb 0 a.0.0) (ltb a.0.0 249) (passes _ BadLength b.0 b.1) in
+    let t = and_parts (ltb 0 a.0.0) (ltb a.0.0 249) (passes _ BadLength b.0 b.1) in
     let low : 0 < a.0.0 = ltb-true 0 a.0.0 t.0 in
     let high : a.0.0 < 249 = ltb-true a.0.0 249 t.1 in
     let p = octet_takes Truncated xs a.0 a.1 in

@@ -6,6 +6,7 @@ use Rattle.sms_base.specs.FaultReasons.{HasContinuation, HasFront}
 use Rattle.sms_base.specs.Reading.{◌>>=◌, only_if, octet_in, run_in, end_in, AreOctets}
 use Rattle.sms_base.proofs.Steps.{err_is}
 use Rattle.sms_base.proofs.FaultSteps.{Ends, Reads, Starts, IsPart, IsLast, octets_back, octets_both, part_last, last_bind, pure_part, bad_part, test_part, octet_part, from_octet, last_from_octet, run_part, whole_goes, whole_front}
+use Rattle.sms_base.proofs.OctetLaws.{IsBytes}
 use Rattle.sms_control.specs.declared.fault.CpFault.{CpFault}
 use Rattle.sms_control.specs.declared.fault.CpFault.TheVariants.{Truncated, Trailing, Unknown, BadLength}
 use Rattle.sms_control.specs.declared.message.Cp.{Cp}
@@ -16,7 +17,7 @@ use Rattle.sms_control.specs.declared.transaction.Transaction.{Transaction}
 use Rattle.sms_control.specs.declared.transaction.TransactionFlag.TheVariants.{FromOriginator}
 use Rattle.sms_control.specs.ControlGrammar.{IsCp, head_of, type_of, cause_of}
 use Rattle.sms_control.specs.ControlReading.{known, head_in, type_in, unit_in, body_at, cp_at}
-use Rattle.sms_control.proofs.ControlFrames.{IsBytes, cp_found, cp_again, front_cut}
+use Rattle.sms_control.proofs.ControlFrames.{cp_found, cp_again, front_cut}
 
 -- the two faults
 abbrev ends : Ends CpFault

@@ -1,9 +1,7 @@
 -- A frame that opened a transaction does not come up again while it is remembered.
 use Rattle.std.proofs.Common.{◌≡◌, ℕ, Bool, true, false, ◌&&◌, cond, eqb, List, [], ◌∷◌, Result, Ok, Err, Option, Some, None, refl, sym, ap, subst, ◌∙◌, is_some, is_none}
-use Rattle.std.specs.Str.{bytes_eq}
-use Rattle.std.proofs.lemmas.Bool.{eqb-true, eq-eqb}
-use Rattle.std.proofs.lemmas.Slice.Eq.{bytes_eq-Decides}
-use Rattle.sms_base.proofs.Steps.{both}
+use Rattle.std.proofs.lemmas.Bool.{eqb-true, eq-eqb, and_parts}
+use Rattle.sms_base.proofs.OctetLaws.{octets_themselves}
 use Rattle.sms_control.specs.declared.fault.CpFault.{CpFault}
 use Rattle.sms_control.specs.declared.transaction.TransactionFlag.{TransactionFlag}
 use Rattle.sms_control.specs.declared.transaction.TransactionFlag.TheVariants.{FromOriginator, ToOriginator}
@@ -91,20 +89,17 @@ fresh_sound = record { present = tt; last = tt }
 
 -- ---- a repeat is quiet
 
-pub same_itself : (xs : List ℕ) → bytes_eq xs xs ≡ true
-same_itself xs = (bytes_eq-Decides xs xs).1 refl
-
 abbrev Quiet : Step → Type 0
 Quiet t = t.out.up ≡ None
 
 last_quiet : (frame unit : List ℕ) (t : Transaction) (s : LinkState) → s.last_opening ≡ Some frame → Quiet (opening_taken frame unit t s)
 last_quiet frame unit t s e =
-    let again : is_same frame s.last_opening ≡ true = ap (is_same frame) e ∙ same_itself frame in
+    let again : is_same frame s.last_opening ≡ true = ap (is_same frame) e ∙ octets_themselves frame in
     either Quiet (is_same frame (opening_of s.opened)) _ _ refl (rw again refl)
 
 present_quiet : (frame unit : List ℕ) (t : Transaction) (s : LinkState) → opening_of s.opened ≡ Some frame → Quiet (opening_taken frame unit t s)
 present_quiet frame unit t s e =
-    let again : is_same frame (opening_of s.opened) ≡ true = ap (is_same frame) e ∙ same_itself frame in
+    let again : is_same frame (opening_of s.opened) ≡ true = ap (is_same frame) e ∙ octets_themselves frame in
     rw again refl
 
 opening_is : (frame : List ℕ) (s : LinkState) (h : IsOpening frame) → take_step frame s ≡ opening_taken frame h.unit (in_transaction FromOriginator h.identifier) s
@@ -134,7 +129,7 @@ fits : (frame : List ℕ) (i n : ℕ) (b : Option Begun) (o : Option Opened) (a 
     → has_opened i o && is_some (answer_of o) ≡ true → IsAcknowledged (Take frame) (state_of n b o a p)
 fits frame i n b None a p r e = absurd cc
 fits frame i n b (Some o) a p r e =
-    let t = both (eqb i o.identifier) (is_some o.answer) e in
+    let t = and_parts (eqb i o.identifier) (is_some o.answer) e in
     let same : i ≡ o.identifier = eqb-true i o.identifier t.0 in
     (o.opening, record { transaction = o; present = refl; is_answered = t.1; is_ack = r ∙ ap (λ (k : ℕ). Ok (AckUnit (in_transaction FromOriginator k))) same; opened_it = refl })
 

@@ -2,7 +2,7 @@
 use Rattle.std.proofs.Common.{◌≡◌, ℕ, zero, suc, ◌+◌, ◌*◌, ◌-◌, ◌<◌, ◌≤◌, arith, ◌&&◌, Bool, true, false, cond, eqb, ltb, List, [], ◌∷◌, ◌++◌, Result, Ok, Err, Option, Some, None, refl, sym, ap, ◌∙◌, is_some, is_none, get_or}
 use Rattle.std.specs.Option.{option_map}
 use Rattle.std.specs.Str.{bytes_eq}
-use Rattle.std.proofs.lemmas.Slice.Eq.{bytes_eq-Decides}
+use Rattle.sms_base.proofs.OctetLaws.{same_octets}
 use Rattle.sms_control.specs.declared.fault.CpFault.{CpFault}
 use Rattle.sms_control.specs.declared.transaction.TransactionFlag.{TransactionFlag}
 use Rattle.sms_control.specs.declared.transaction.TransactionFlag.TheVariants.{FromOriginator, ToOriginator}
@@ -289,13 +289,9 @@ run_sound : (cs : List Call) (s : LinkState) → Sound s → Sound (run cs s)
 run_sound [] s h = h
 run_sound (c ∷ cs) s h = run_sound cs (step c s).state (step_sound c s h)
 
--- a frame that begins low is not one that begins high
-same_is : (frame other : List ℕ) → bytes_eq frame other ≡ true → frame ≡ other
-same_is frame other e = (bytes_eq-Decides frame other).0 e
-
 apart : (frame low high : List ℕ) (x y : Bool) (m n : ℕ) → bytes_eq frame low ≡ x → bytes_eq frame high ≡ y → get_or low 0 0 < 128 → 128 ≤ get_or high 0 0 → m ≤ 2 → n ≤ 2 → cond x m 0 + cond y n 0 ≤ 2
 apart frame low high true true m n e f l h a b =
-    let same : get_or low 0 0 ≡ get_or high 0 0 = ap (λ (xs : List ℕ). get_or xs 0 0) (sym (same_is frame low e) ∙ same_is frame high f) in
+    let same : get_or low 0 0 ≡ get_or high 0 0 = ap (λ (xs : List ℕ). get_or xs 0 0) (sym (same_octets frame low e) ∙ same_octets frame high f) in
     absurd (omega (arith, same, l, h))
 apart frame low high true false m n e f l h a b = omega arith
 apart frame low high false true m n e f l h a b = omega arith

@@ -41,6 +41,7 @@ use Rattle.sms_handset_rows.specs.declared.inbox.entry.Group.{Group}
 use Rattle.sms_handset_rows.specs.inbox.Groups.{alone, members, is_part_of, first_number, joined_entry, single_entry, all_numbers, is_same_group, joined_content, part_entry, part_numbers, is_among, group_of, mark_of, key_of, is_open_part}
 use Rattle.sms_handset_rows.specs.declared.inbox.open_group.Regrouping.TheVariants.{Unchanged, Closed}
 use Rattle.sms_handset_rows.proofs.inbox.Indexing.{all_stay, one_grows, one_closes}
+use Rattle.sms_handset_rows.proofs.inbox.SoundEntries.{no_part}
 use Rattle.sms_handset_rows.specs.declared.inbox.open_group.Regrouping.{Regrouping}
 use Rattle.sms_handset_rows.specs.inbox.OpenGroups.{one_more, open_at}
 use Rattle.sms_handset_rows.specs.declared.inbox.discarded_group.DiscardedGroup.{DiscardedGroup}
@@ -478,11 +479,6 @@ delete_out_regroups n (Some o) d =
 freed_regroups : (r : Regrouping) (base : Rows) (d : Draft) → Regroups r base d.rows → Regroups r base (freed d).rows
 freed_regroups r base d h =
     cond_both d.rows.counters.is_memory_full (want_notice (put_counters (record d.rows.counters { is_memory_full = false }) d)) d (λ (z : Draft). Regroups r base z.rows) (λ t. h) (λ t. h)
-
-no_part : (g : Group) (m : Message) → is_open_part m ≡ false → is_part_of g m ≡ false
-no_part g (Single tpdu) e = refl
-no_part g (Part h k tpdu) e = absurd (true≢false e)
-no_part g (Joined source content) e = refl
 
 -- an entry that is no part leaves
 removed_regroups : (n : ℕ) (x : Entry) (d : Draft) → row_at entry_key n d.rows.entries ≡ Some x → is_open_part x.message ≡ false → Regroups Unchanged d.rows (remove_entry n d).rows

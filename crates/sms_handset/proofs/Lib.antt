@@ -7,6 +7,7 @@ pub mod KeptByStages
 pub mod PlansStore
 pub mod Resting
 pub mod SoundActs
+pub mod SoundBeginnings
 pub mod SoundDrafts
 pub mod SoundEvents
 pub mod SoundSending

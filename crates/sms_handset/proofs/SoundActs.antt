@@ -23,7 +23,7 @@ use Rattle.sms_handset_rows.specs.declared.inbox.discarded_group.DiscardedGroup.
 use Rattle.sms_handset_rows.proofs.inbox.GroupMembers.{all_without, among_members, one_group}
 use Rattle.sms_handset_rows.proofs.inbox.SoundGroups.{group_leaves, left_free, number_free}
 use Rattle.sms_handset_rows.proofs.inbox.SoundMarks.{IsMark, mark_new, new_none}
-use Rattle.sms_handset_rows.proofs.inbox.SoundRoom.{length_left}
+use Rattle.sms_handset_rows.proofs.inbox.SoundRoom.{length_left, tested}
 use Rattle.sms_handset_rows.specs.declared.inbox.entry.Message.{Message}
 use Rattle.sms_handset_rows.specs.declared.inbox.entry.Message.TheVariants.{Single, Part, Joined}
 use Rattle.sms_handset_rows.specs.declared.outbox.out_entry.OutEntry.{OutEntry}
@@ -121,10 +121,6 @@ pub count_split_outbox : (is_long : Bool) (d : Draft) → (count_split is_long d
 count_split_outbox false d = refl
 count_split_outbox true d = refl
 
-pub first_test : (a b : Bool) → cond a b false ≡ true → a ≡ true
-first_test true b e = refl
-first_test false b e = e
-
 pub write_to_sound : (report : Bool) (ps : List PartOf) (text : List ℕ) (to : Result Address AddressError) (d : Draft) → address_of 1 1 text ≡ to → AllByRecursion (λ (p : PartOf). IsWritable p) ps
     → SoundAt d → SoundIfDone (write_to report ps to d)
 write_to_sound report ps text (Err f) d q i s = tt
@@ -132,7 +128,7 @@ write_to_sound report ps text (Ok to) d q i s =
     let is_long = nat_lt 1 (length ps) in
     cond_both (fits_outbox (length ps) d) (Ok (written to report ps d)) (Err OutboxFull) (λ (z : Result Draft Refusal). SoundIfDone z)
     (λ t.
-    let fits = leb-true (length d.rows.outbox + length ps) 20 (first_test (nat_le (length d.rows.outbox + length ps) 20) (nat_le (d.rows.counters.entry + length ps) 4294967295) t) in
+    let fits = leb-true (length d.rows.outbox + length ps) 20 (tested (nat_le (length d.rows.outbox + length ps) 20) (nat_le (d.rows.counters.entry + length ps) 4294967295) t) in
     let room : length (count_split is_long d).rows.outbox + length ps ≤ 20 = subst (λ (os : List OutEntry). length os + length ps ≤ 20) (sym (count_split_outbox is_long d)) fits in
     write_parts_sound to report is_long ps (count_split is_long d) (address_found 1 1 text to q).valid i room (count_split_sound is_long d s))
     (λ t. tt)

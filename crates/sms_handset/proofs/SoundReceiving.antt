@@ -205,11 +205,11 @@ deliver_sound r tag tpdu m (Some key) d e q c s =
 
 -- ---- STATUS-REPORT
 
-latest_is : (x y : Option OutEntry) (o : OutEntry) → latest x y ≡ Some o → (x ≡ Some o) ⊎ (y ≡ Some o)
+pub latest_is : (x y : Option OutEntry) (o : OutEntry) → latest x y ≡ Some o → (x ≡ Some o) ⊎ (y ≡ Some o)
 latest_is x None o e = inl e
 latest_is x (Some y) o e = inr e
 
-reported_among : (r : StatusReportOf) (os : List OutEntry) (o : OutEntry) → reported r os ≡ Some o → Among o os
+pub reported_among : (r : StatusReportOf) (os : List OutEntry) (o : OutEntry) → reported r os ≡ Some o → Among o os
 reported_among r [] o e = absurd cc
 reported_among r (x ∷ xs) o e = ⊎_elim
     (λ (h : cond (is_reported r x) (Some x) None ≡ Some o). ⊎_elim

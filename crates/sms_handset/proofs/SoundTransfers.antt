@@ -157,7 +157,7 @@ record Lapses (os : List OutEntry) (z : Draft) : Type 0 where
   recovered : z.is_recovered ≡ false
   stand : (x : OutEntry) → Among x os → Among x z.rows.outbox
 
-is_sending_state : (s : EntryState) → is_sending s ≡ true → s ≡ Sending
+pub is_sending_state : (s : EntryState) → is_sending s ≡ true → s ≡ Sending
 is_sending_state Queued e = absurd cc
 is_sending_state Sending e = refl
 is_sending_state Sent e = absurd cc

@@ -1,17 +1,17 @@
 -- Parts of a run, one after the other.
-use Rattle.std.proofs.Common.{◌≡◌, ◌⊎◌, inl, inr, ℕ, suc, ◌+◌, ◌-◌, ◌^◌, ◌<◌, ◌≤◌, arith, length, length-append, drop, get_or, List, [], ◌∷◌, ◌++◌, map, Option, Some, None, Result, Ok, Err, refl, sym, ap, subst, ◌∙◌, append_assoc}
+use Rattle.std.proofs.Common.{◌≡◌, ◌⊎◌, inl, inr, ℕ, ◌+◌, ◌-◌, ◌^◌, ◌<◌, ◌≤◌, arith, length, length-append, List, [], ◌∷◌, ◌++◌, map, Option, Some, None, Result, Ok, Err, refl, sym, ap, subst, ◌∙◌, append_assoc}
 use Rattle.std.proofs.lemmas.Bool.Decides.{leb_tells}
 use Rattle.std.proofs.lemmas.List.{append-nil}
-use Rattle.std.proofs.Math.Seq.{drop-cons}
 use Rattle.std.specs.Prelude.{OnOk}
 use Rattle.std.specs.Io.KnownBytes.{Appends, Consumes}
+use Rattle.sms_base.proofs.Lists.{no_items}
 use Rattle.sms_link.specs.framing.Framing.{framed, front_of, joined}
 use Rattle.sms_handset_draft.specs.Draft.{Core}
 use Rattle.sms_handset.specs.declared.event.HandsetEvent.{HandsetEvent}
 use Rattle.sms_handset.specs.declared.event.HandsetEvent.TheVariants.{Tick}
-use Rattle.sms_script.specs.declared.owner.act.OwnersAct.{OwnersAct}
 use Rattle.sms_handset_link.specs.Run.{Follows, Meets, Sends, received}
 use Rattle.sms_handset_link.specs.Turns.{AreTimed, Attended, Cut, EndsQuiet, LeavesFor, LeavesNone, Turn, events_in, frames_in, octets_in}
+use Rattle.sms_link.proofs.framing.Streams.{joined_append}
 
 -- ---- known bytes
 
@@ -58,10 +58,6 @@ map_arrived : (one other : List (List ℕ)) → map received (one ++ other) ≡ 
 map_arrived [] other = refl
 map_arrived (x ∷ one) other = ap (λ (l : List HandsetEvent). received x ∷ l) (map_arrived one other)
 
-joined_join : (one other : List (List ℕ)) → joined (one ++ other) ≡ joined one ++ joined other
-joined_join [] other = refl
-joined_join (x ∷ one) other = ap (λ (l : List ℕ). framed x ++ l) (joined_join one other) ∙ sym (append_assoc (framed x) (joined one) (joined other))
-
 -- frames that were met, and more of them
 pub frames_join : (one other : List (List ℕ)) (a b c : Core) (f g h : Option (List ℕ)) → Meets (map received one) a b f g → Meets (map received other) b c g h → Meets (map received (one ++ other)) a c f h
 frames_join one other a b c f g h p q = subst (λ (l : List HandsetEvent). Meets l a c f h) (sym (map_arrived one other)) (meets_join (map received one) (map received other) a b c f g h p q)
@@ -70,7 +66,7 @@ frames_join one other a b c f g h p q = subst (λ (l : List HandsetEvent). Meets
 pub cut_join : (start middle last : List ℕ) (one other : List (List ℕ)) → start ≡ joined one ++ middle → middle ≡ joined other ++ last → start ≡ joined (one ++ other) ++ last
 cut_join start middle last one other p q =
     p ∙ (ap (λ (l : List ℕ). joined one ++ l) q
-    ∙ (sym (append_assoc (joined one) (joined other) last) ∙ ap (λ (l : List ℕ). l ++ last) (sym (joined_join one other))))
+    ∙ (sym (append_assoc (joined one) (joined other) last) ∙ ap (λ (l : List ℕ). l ++ last) (sym (joined_append one other))))
 
 pub cut_one : (middle frame last : List ℕ) → middle ≡ framed frame ++ last → middle ≡ joined (frame ∷ []) ++ last
 cut_one middle frame last e = e ∙ ap (λ (l : List ℕ). l ++ last) (sym (append-nil (framed frame)))
@@ -215,15 +211,11 @@ module _ (reads : ℕ → Type 0) where
 
 -- ---- a read that brought nothing
 
-no_octets : (octets : List ℕ) → length octets ≡ 0 → octets ≡ []
-no_octets [] e = refl
-no_octets (x ∷ octets) e = absurd (omega (arith, e))
-
 pub nothing_read : (before after octets : List ℕ) → after ≡ before ++ octets → after ≡ before → octets ≡ []
 nothing_read before after octets p q =
     let all : length after ≡ length before + length octets = ap (λ (l : List ℕ). length l) p ∙ length-append before octets in
     let same : length after ≡ length before = ap (λ (l : List ℕ). length l) q in
-    no_octets octets (omega (arith, all, same))
+    no_items octets (omega (arith, all, same))
 
 pub closed_leaves : (most met left : ℕ) (octets next : List ℕ) → octets ≡ [] → met + left ≡ most → (0 < left → front_of next ≡ Ok None) → LeavesFor most met octets next 0
 closed_leaves most met left octets next none all front = elim (leb_tells 1 left) [
@@ -234,10 +226,3 @@ closed_leaves most met left octets next none all front = elim (leb_tells 1 left)
 pub on_ok : {P Q E : Type 0} (r : Result (Unit {0}) E) → OnOk r P → (P → Q) → OnOk r Q
 on_ok (Ok done) p f = f p
 on_ok (Err e) p f = tt
-
--- the act at a place, and those behind it
-pub act_at : (acts : List OwnersAct) (i : ℕ) (act : OwnersAct) → i < length acts → act ≡ get_or acts i act → drop i acts ≡ act ∷ drop (i + 1) acts
-act_at acts i act within is =
-    let next : suc i ≡ i + 1 = omega arith in
-    drop-cons acts i act within
-    ∙ (ap (λ (a : OwnersAct). a ∷ drop (suc i) acts) (sym is) ∙ ap (λ (n : ℕ). act ∷ drop n acts) next)

@@ -1,4 +1,3 @@
-pub mod CentreAddresses
 pub mod FreeReferences
 pub mod PartFields
 pub mod SoundOutbox

@@ -1,8 +1,8 @@
 -- The addresses of entities: octets in ASCII are the characters that they spell.
-use Rattle.std.proofs.Common.{◌≡◌, ℕ, zero, suc, Bool, true, false, nat_lt, ◌&&◌, cond, List, [], ◌∷◌, Option, None, Result, Ok, Err, refl, sym, ap, ◌∙◌, arith}
+use Rattle.std.proofs.Common.{◌≡◌, ℕ, zero, suc, Bool, true, nat_lt, cond, List, [], ◌∷◌, Option, None, Result, Ok, Err, refl, sym, ap, ◌∙◌, arith}
 use Rattle.std.specs.Result.{result_ok}
 use Rattle.std.specs.Str.{chars, IsAscii, IsUtf8}
-use Rattle.std.proofs.lemmas.Bool.{ltb-true}
+use Rattle.std.proofs.lemmas.Bool.{and_parts, ltb-true}
 use Rattle.std.proofs.lemmas.Str.{chars-IsAscii, IsUtf8-from_ascii}
 use Rattle.sms_base.specs.Address.{address_of}
 use Rattle.sms_base.specs.declared.address.Address.{Address}
@@ -10,15 +10,10 @@ use Rattle.sms_base.specs.declared.address_error.AddressError.{AddressError}
 use Rattle.smpp_pdu.specs.declared.address.SmeAddress.{SmeAddress}
 use Rattle.sms_intake.specs.SmppIntake.{is_ascii, address_in, address_or_none}
 
-both : (a b : Bool) → a && b ≡ true → (a ≡ true) × (b ≡ true)
-both true true e = (refl, refl)
-both true false e = absurd cc
-both false b e = absurd cc
-
 are_ascii : (octets : List ℕ) → is_ascii octets ≡ true → IsAscii octets
 are_ascii [] h i = omega arith
-are_ascii (c ∷ cs) h zero = ltb-true _ _ (both (nat_lt c 128) (is_ascii cs) h).0
-are_ascii (c ∷ cs) h (suc i) = are_ascii cs (both (nat_lt c 128) (is_ascii cs) h).1 i
+are_ascii (c ∷ cs) h zero = ltb-true _ _ (and_parts (nat_lt c 128) (is_ascii cs) h).0
+are_ascii (c ∷ cs) h (suc i) = are_ascii cs (and_parts (nat_lt c 128) (is_ascii cs) h).1 i
 
 or_none_is : (r : Result Address AddressError) → result_ok r ≡ address_or_none r
 or_none_is (Ok address) = refl

@@ -1,15 +1,14 @@
 -- The texts of a submit_sm.
-use Rattle.std.proofs.Common.{◌≡◌, ℕ, zero, suc, ◌+◌, ◌*◌, ◌%◌, ◌<◌, true, ltb, List, [], ◌∷◌, length, flat_map, get_or, Result, Ok, Err, refl, arith}
-use Rattle.std.proofs.lemmas.Bool.{ltb-true, eq-eqb}
+use Rattle.std.proofs.Common.{◌≡◌, ℕ, ◌+◌, ◌*◌, ◌%◌, true, ltb, List, [], ◌∷◌, length, flat_map, Result, Ok, Err, refl, arith}
+use Rattle.std.proofs.lemmas.Bool.{ltb-true, eq-eqb, and_parts}
 use Rattle.std.proofs.lemmas.List.{length-append}
 use Rattle.std.specs.Char.Escape.{encode_utf16}
 use Rattle.sms_alphabet.specs.declared.spelling.SpellingError.{SpellingError}
 use Rattle.sms_alphabet.specs.Packing.{AreSeptets}
 use Rattle.sms_alphabet.specs.Spelling.{spelled}
 use Rattle.sms_alphabet.specs.Ucs2.{octets_for, ucs2_for, unit_octets}
-use Rattle.sms_alphabet.proofs.Pieces.{spelling_below}
+use Rattle.sms_alphabet.proofs.Pieces.{below, spelling_below}
 use Rattle.sms_alphabet.proofs.Spellings.{spelled_spells}
-use Rattle.sms_base.proofs.Steps.{both}
 use Rattle.sms_concat.specs.TextContent.{content_of_text, content_spelled}
 use Rattle.sms_concat.specs.UserData.{AreUnits}
 use Rattle.sms_intake.specs.declared.content_form.ContentForm.{ContentForm}
@@ -19,14 +18,10 @@ use Rattle.sms_intake.specs.SmppIntake.{are_whole, is_ascii}
 
 -- ---- units
 
-below : (septet : ℕ) (septets : List ℕ) → septet < 128 → AreSeptets septets → (k d : ℕ) → k < length (septet ∷ septets) → get_or (septet ∷ septets) k d < 128
-below septet septets first later zero d lt = first
-below septet septets first later (suc k) d lt = later k d (omega arith)
-
 pub ascii_septets : (octets : List ℕ) → is_ascii octets ≡ true → AreSeptets octets
 ascii_septets [] h = λ k d lt. absurd (omega arith)
 ascii_septets (octet ∷ octets) h =
-    let b = both (ltb octet 128) (is_ascii octets) h in
+    let b = and_parts (ltb octet 128) (is_ascii octets) h in
     λ k d lt. below octet octets (ltb-true octet 128 b.0) (ascii_septets octets b.1) k d lt
 
 spelled_units : (text : List ℕ) (r : Result (List ℕ) SpellingError) → spelled text ≡ r → AreUnits (content_spelled text r).coding (content_spelled text r).units

@@ -4,6 +4,8 @@ use Rattle.std.specs.Prelude.{◌&&◌, IfOk}
 use Rattle.std.specs.Option.{option_map}
 use Rattle.std.specs.List.{AllByRecursion}
 use Rattle.std.proofs.lemmas.Bool.{cond-true, cond-false}
+use Rattle.sms_base.proofs.Lists.{among_back}
+use Rattle.sms_base.proofs.OctetLaws.{IsBytes}
 use Rattle.sms_base.specs.Among.{Among}
 use Rattle.sms_base.specs.declared.holder.Holder.{Holder}
 use Rattle.sms_control.specs.declared.cause.CpCause.TheVariants.{InvalidTransactionIdentifier}
@@ -21,7 +23,7 @@ use Rattle.sms_control.specs.ControlGrammar.{IsCp, spelled, turned}
 use Rattle.sms_control.specs.ControlReading.{cp_at}
 use Rattle.sms_control.specs.Timers.{sent_again, begun_firing, opened_firing}
 use Rattle.sms_control.specs.LinkStep.{Step, quiet, in_transaction, acknowledgement, rejection, is_busy, started as links_started, begin_step, answer_of, frames_of, reply_step, is_same, has_begun, has_opened, opening_of, answer_frames, answer_taken, opening_taken, data_taken, ack_taken, error_taken, frame_taken, take_step, begun_fired, opened_fired, begun_frames, if_again, failed_by, fire_step}
-use Rattle.sms_control.proofs.ControlFrames.{IsBytes, cp_found, spelled_again}
+use Rattle.sms_control.proofs.ControlFrames.{cp_found, spelled_again}
 use Rattle.sms_control.proofs.LinkLaws.{either}
 use Rattle.sms_control.proofs.FiringCases.{firing_cases}
 use Rattle.sms_base.specs.declared.carried.Kind.{Kind}
@@ -67,12 +69,8 @@ pub record Holds (before : List Outgoing) (l : LinkOf) : Type 0 where
 
 -- ---- while more is sent
 
-among_more : (f : Outgoing) (fs before : List Outgoing) → Among f before → Among f (fs ++ before)
-among_more f [] before m = m
-among_more f (g ∷ gs) before m = inr (among_more f gs before m)
-
 sent_more : (flag : TransactionFlag) (fs before : List Outgoing) (c : Option Carried) (frame : List ℕ) → WasSent flag before c frame → WasSent flag (fs ++ before) c frame
-sent_more flag fs before c frame h = record { carried = h.carried; carries = h.carries; first = among_more (first_sending frame h.carried) fs before h.first; reads = h.reads }
+sent_more flag fs before c frame h = record { carried = h.carried; carries = h.carries; first = among_back (first_sending frame h.carried) fs before h.first; reads = h.reads }
 
 begun_more : (fs before : List Outgoing) (c : Option Carried) (b : Option Begun) → HoldsBegun before c b → HoldsBegun (fs ++ before) c b
 begun_more fs before c None h = tt

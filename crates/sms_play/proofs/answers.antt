@@ -1,4 +1,3 @@
 mod CentreAnswers
 mod Checks
 pub mod PlayAnswers
-pub mod Unanswered

@@ -62,7 +62,7 @@ abbrev pub centre_setup : Setup → CentreSetup
 centre_setup s = record { centre = own_address s.centre; start = s.start; first = 1; accounts = accounts_of s.accounts }
 
 abbrev pub no_rows : CentreSetup → CentreRows
-no_rows setup = record { messages = []; parts = []; references = []; handsets = []; reports = []; priorities = []; setup = setup }
+no_rows setup = record { messages = []; parts = []; references = []; handsets = []; reports = []; priorities = []; bars = []; setup = setup }
 
 abbrev pub handset_setup : Setup → HandsetSetup → OwnSetup
 handset_setup s h = record { number = own_address h.number; slots = h.slots; centre = own_address s.centre; start = s.start }

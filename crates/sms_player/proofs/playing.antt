@@ -4,7 +4,6 @@ pub mod Lines
 pub mod Showing
 pub mod Halting
 pub mod Outcomes
-pub mod LatinTexts
 pub mod Fitting
 pub mod Handing
 pub mod Turning

@@ -5,7 +5,7 @@ use Rattle.std.specs.List.{find, AllByRecursion}
 use Rattle.std.proofs.lemmas.Bool.{eqb-true, ne_eqb}
 use Rattle.sms_relay.specs.Cause.{number_of, named, cause_of, IsRpCause}
 use Rattle.sms_relay.specs.declared.cause.RpCause.{RpCause}
-use Rattle.sms_relay.specs.declared.cause.RpCause.TheVariants.{UnassignedNumber, OperatorDeterminedBarring, CallBarred, ShortMessageTransferRejected, MemoryCapacityExceeded, DestinationOutOfOrder, UnidentifiedSubscriber, FacilityRejected, UnknownSubscriber, NetworkOutOfOrder, TemporaryFailure, Congestion, ResourcesUnavailable, RequestedFacilityNotSubscribed, RequestedFacilityNotImplemented, InvalidShortMessageTransferReference, SemanticallyIncorrectMessage, InvalidMandatoryInformation, MessageTypeNonExistent, MessageNotCompatible, InformationElementNonExistent, ProtocolError, Interworking, Reserved}
+use Rattle.sms_relay.specs.declared.cause.RpCause.TheVariants.{Reserved}
 
 one_more : (b : Bool) (cause : RpCause) (number : ℕ) (rest : Option RpCause) → eqb (number_of cause) number ≡ b
     → number_of (unwrap_or rest (Reserved number)) ≡ number → number_of (unwrap_or (cond b (Some cause) rest) (Reserved number)) ≡ number
@@ -45,26 +45,4 @@ cause_of-is number fits = stood_for number (cause_of number) fits refl
 pub number_of-is : (cause : RpCause) → IsRpCause cause → (number_of cause < 128) × (cause_of (number_of cause) ≡ cause)
 unfolding cause_of
 number_of-is (Reserved number) h = h
-number_of-is UnassignedNumber h = (lit< tt, refl)
-number_of-is OperatorDeterminedBarring h = (lit< tt, refl)
-number_of-is CallBarred h = (lit< tt, refl)
-number_of-is ShortMessageTransferRejected h = (lit< tt, refl)
-number_of-is MemoryCapacityExceeded h = (lit< tt, refl)
-number_of-is DestinationOutOfOrder h = (lit< tt, refl)
-number_of-is UnidentifiedSubscriber h = (lit< tt, refl)
-number_of-is FacilityRejected h = (lit< tt, refl)
-number_of-is UnknownSubscriber h = (lit< tt, refl)
-number_of-is NetworkOutOfOrder h = (lit< tt, refl)
-number_of-is TemporaryFailure h = (lit< tt, refl)
-number_of-is Congestion h = (lit< tt, refl)
-number_of-is ResourcesUnavailable h = (lit< tt, refl)
-number_of-is RequestedFacilityNotSubscribed h = (lit< tt, refl)
-number_of-is RequestedFacilityNotImplemented h = (lit< tt, refl)
-number_of-is InvalidShortMessageTransferReference h = (lit< tt, refl)
-number_of-is SemanticallyIncorrectMessage h = (lit< tt, refl)
-number_of-is InvalidMandatoryInformation h = (lit< tt, refl)
-number_of-is MessageTypeNonExistent h = (lit< tt, refl)
-number_of-is MessageNotCompatible h = (lit< tt, refl)
-number_of-is InformationElementNonExistent h = (lit< tt, refl)
-number_of-is ProtocolError h = (lit< tt, refl)
-number_of-is Interworking h = (lit< tt, refl)
+number_of-is _ h = (lit< tt, refl)

@@ -1,10 +1,11 @@
 -- The fields of a unit: what is read stands at the front, what was written is read again, and a cut field ends too early.
 use Rattle.std.proofs.Common.{◌≡◌, ℕ, zero, suc, ◌<◌, ◌≤◌, ◌⊎◌, inl, inr, Bool, true, false, not, ◌&&◌, ◌||◌, cond, eqb, ltb, List, [], ◌∷◌, ◌++◌, length, get_or, Ok, Option, Some, None, refl, sym, ap, subst, ◌∙◌, arith, lit<}
-use Rattle.std.proofs.lemmas.Bool.{ltb-true, ltb-false, eqb-true, lt-ltb, le-ltb}
+use Rattle.std.proofs.lemmas.Bool.{ltb-true, ltb-false, eqb-true, lt-ltb, le-ltb, and_parts, not-true}
 use Rattle.std.proofs.lemmas.List.{append-nil}
 use Rattle.sms_base.specs.Reading.{◌>>=◌, only_if, octet_in, run_in, AreOctets}
-use Rattle.sms_base.proofs.Steps.{bind_ok, passes, ok_is, both, not_true, octet_takes, run_takes, run_again}
+use Rattle.sms_base.proofs.Steps.{bind_ok, passes, ok_is, octet_takes, run_takes, run_again}
 use Rattle.sms_base.proofs.Cuts.{Less, CutsShort, cuts_octet, cuts_run, cuts_pure, cuts_bind, cuts_test}
+use Rattle.sms_base.proofs.OctetLaws.{IsBytes, bytes_rest}
 use Rattle.sms_relay.specs.declared.cause.RpCause.{RpCause}
 use Rattle.sms_relay.specs.declared.fault.RelayFault.{RelayFault}
 use Rattle.sms_relay.specs.declared.fault.RelayFault.TheVariants.{Truncated, BadLength}
@@ -15,15 +16,9 @@ use Rattle.sms_relay.proofs.CauseLaws.{cause_of-number, cause_of-is, number_of-i
 
 -- ---- octets
 
-abbrev pub IsBytes : List ℕ → Type 0
-IsBytes bytes = (i : ℕ) → get_or bytes i 0 < 256
-
-pub IsBytes-rest : (o : ℕ) (xs ys : List ℕ) → ys ≡ o ∷ xs → IsBytes ys → IsBytes xs
-IsBytes-rest o xs ys e h = let g : IsBytes (o ∷ xs) = subst IsBytes e h in λ i. g (suc i)
-
 pub IsBytes-back : (xs ys zs : List ℕ) → zs ≡ xs ++ ys → IsBytes zs → IsBytes ys
 IsBytes-back [] ys zs e h = subst IsBytes e h
-IsBytes-back (x ∷ xs) ys zs e h = IsBytes-back xs ys (xs ++ ys) refl (IsBytes-rest x (xs ++ ys) zs e h)
+IsBytes-back (x ∷ xs) ys zs e h = IsBytes-back xs ys (xs ++ ys) refl (bytes_rest x (xs ++ ys) zs e h)
 
 pub IsBytes-octets : (xs : List ℕ) → AreOctets xs → (i : ℕ) → get_or xs i 0 < 256
 IsBytes-octets [] h i = lit< tt
@@ -65,8 +60,8 @@ centre_takes xs x e =
     let n = a.0.0 in
     let b = bind_ok (only_if (not (ltb n 2) && ltb n 12) BadLength) _ x a.2 in
     let t = run_takes Truncated n a.0.1 x b.2 in
-    let h = both (not (ltb n 2)) (ltb n 12) (passes _ BadLength b.0 b.1) in
-    let low : 2 ≤ n = ltb-false n 2 (not_true (ltb n 2) h.0) in
+    let h = and_parts (not (ltb n 2)) (ltb n 12) (passes _ BadLength b.0 b.1) in
+    let low : 2 ≤ n = ltb-false n 2 (not-true (ltb n 2) h.0) in
     let high : n < 12 = ltb-true n 12 h.1 in
     let whole : xs ≡ length x.0 ∷ (x.0 ++ x.1) = rw t.1 (octet_takes Truncated xs a.0 a.1 ∙ ap (λ (l : List ℕ). n ∷ l) t.0) in
     let is : length x.0 ≡ n = t.1 in

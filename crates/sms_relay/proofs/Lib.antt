@@ -5,3 +5,4 @@ pub mod FaultLaws
 pub mod Rows
 pub mod TypeLaws
 pub mod UnitLaws
+pub mod UnitLengths

@@ -4,6 +4,7 @@ use Rattle.std.specs.Prelude.{IfOk}
 use Rattle.std.proofs.lemmas.List.{append-nil}
 use Rattle.sms_base.specs.Reading.{octet_in, end_in}
 use Rattle.sms_base.proofs.Steps.{bind_ok, ok_is, octet_takes, end_takes}
+use Rattle.sms_base.proofs.OctetLaws.{IsBytes, bytes_rest}
 use Rattle.sms_relay.specs.declared.cause.RpCause.{RpCause}
 use Rattle.sms_relay.specs.declared.fault.RelayFault.{RelayFault}
 use Rattle.sms_relay.specs.declared.fault.RelayFault.TheVariants.{Truncated, Trailing}
@@ -16,7 +17,7 @@ use Rattle.sms_relay.proofs.TypeLaws.{type_of-octet}
 use Rattle.sms_relay.specs.Cause.{number_of, IsRpCause}
 use Rattle.sms_relay.specs.RelayGrammar.{IsUserData, user_data, IsCauseField, data_up, data_down, up_octets, down_octets, IsUpValue, IsDownValue, IsUp, IsDown}
 use Rattle.sms_relay.specs.RelayReading.{up_unit, down_unit, centre_in, nobody_in, tpdu_in, user_data_in, cause_in, data_up_in, data_down_in, ack_in, error_in, smma_in, up_in, down_in, up_at, down_at}
-use Rattle.sms_relay.proofs.FieldLaws.{IsBytes, IsBytes-rest, IsBytes-back, tpdu_takes, tpdu_last, centre_takes, centre_again, nobody_takes, nobody_again, user_data_takes, user_data_again, cause_takes, cause_again}
+use Rattle.sms_relay.proofs.FieldLaws.{IsBytes-back, tpdu_takes, tpdu_last, centre_takes, centre_again, nobody_takes, nobody_again, user_data_takes, user_data_again, cause_takes, cause_again}
 
 -- ---- the units, behind their type
 
@@ -38,8 +39,8 @@ data_up_takes xs z fits e end =
     let pa = octet_takes Truncated xs a.0 a.1 in
     let pb = nobody_takes a.0.1 b.0 b.1 in
     let pc = centre_takes b.0.1 c.0 c.1 in
-    let fa = IsBytes-rest a.0.0 a.0.1 xs pa fits in
-    let fb = IsBytes-rest 0 b.0.1 a.0.1 pb fa in
+    let fa = bytes_rest a.0.0 a.0.1 xs pa fits in
+    let fb = bytes_rest 0 b.0.1 a.0.1 pb fa in
     let fc = after_text c.0.0 c.0.1 b.0.1 pc.0 fb in
     let pd = tpdu_takes c.0.1 d.0 fc d.1 in
     let none : d.0.1 ≡ [] = ap (λ (y : Rp × List ℕ). y.1) is ∙ end in
@@ -59,9 +60,9 @@ data_down_takes xs z fits e end =
     let pa = octet_takes Truncated xs a.0 a.1 in
     let pb = centre_takes a.0.1 b.0 b.1 in
     let pc = nobody_takes b.0.1 c.0 c.1 in
-    let fa = IsBytes-rest a.0.0 a.0.1 xs pa fits in
+    let fa = bytes_rest a.0.0 a.0.1 xs pa fits in
     let fb = after_text b.0.0 b.0.1 a.0.1 pb.0 fa in
-    let fc = IsBytes-rest 0 c.0.1 b.0.1 pc fb in
+    let fc = bytes_rest 0 c.0.1 b.0.1 pc fb in
     let pd = tpdu_takes c.0.1 d.0 fc d.1 in
     let none : d.0.1 ≡ [] = ap (λ (y : Rp × List ℕ). y.1) is ∙ end in
     let tail = last_text d.0.0 d.0.1 c.0.1 pd.0 none in
@@ -83,7 +84,7 @@ ack_takes xs z fits e end =
     let b = bind_ok (user_data_in a.0.1) _ z a.2 in
     let is = ok_is {E = RelayFault} (AckUnit a.0.0 b.0.0, b.0.1) z b.2 in
     let pa = octet_takes Truncated xs a.0 a.1 in
-    let pb = user_data_takes a.0.1 b.0 (IsBytes-rest a.0.0 a.0.1 xs pa fits) b.1 in
+    let pb = user_data_takes a.0.1 b.0 (bytes_rest a.0.0 a.0.1 xs pa fits) b.1 in
     let none : b.0.1 ≡ [] = ap (λ (y : Rp × List ℕ). y.1) is ∙ end in
     let tail : a.0.1 ≡ user_data b.0.0 = pb.0 ∙ ap (λ (l : List ℕ). user_data b.0.0 ++ l) none ∙ append-nil (user_data b.0.0) in
     record { reference = a.0.0; unit = b.0.0; is = ap (λ (y : Rp × List ℕ). y.0) is; fits = pb.1; parts = pa ∙ ap (λ (l : List ℕ). a.0.0 ∷ l) tail }
@@ -108,7 +109,7 @@ error_takes xs z fits e end =
     let is = ok_is {E = RelayFault} (ErrorUnit a.0.0 b.0.0 c.0.0, c.0.1) z c.2 in
     let pa = octet_takes Truncated xs a.0 a.1 in
     let pb = cause_takes a.0.1 b.0 b.1 in
-    let fa = IsBytes-rest a.0.0 a.0.1 xs pa fits in
+    let fa = bytes_rest a.0.0 a.0.1 xs pa fits in
     let pc = user_data_takes b.0.1 c.0 (IsBytes-back pb.field b.0.1 a.0.1 pb.parts fa) c.1 in
     let none : c.0.1 ≡ [] = ap (λ (y : Rp × List ℕ). y.1) is ∙ end in
     let tail : b.0.1 ≡ user_data c.0.0 = pc.0 ∙ ap (λ (l : List ℕ). user_data c.0.0 ++ l) none ∙ append-nil (user_data c.0.0) in

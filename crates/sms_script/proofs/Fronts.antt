@@ -1,7 +1,8 @@
 -- A front of a text in which a line passes a limit is judged as the whole text.
-use Rattle.std.proofs.Common.{◌≡◌, ℕ, ◌+◌, ◌<◌, ◌≤◌, ◌||◌, Bool, true, false, true≢false, cond, eqb, List, [], ◌∷◌, ◌++◌, length, Result, Ok, Err, ◌⊎◌, inl, inr, ⊎_elim, refl, sym, ap, ◌∙◌, subst, arith, append-nil, length-append}
+use Rattle.std.proofs.Common.{◌≡◌, ℕ, ◌+◌, ◌<◌, ◌≤◌, ◌||◌, Bool, true, false, true≢false, cond, eqb, List, [], ◌∷◌, ◌++◌, length, Result, Ok, Err, ◌⊎◌, ⊎_elim, refl, sym, ap, ◌∙◌, subst, arith, append-nil, length-append}
 use Rattle.std.specs.Prelude.{nat_lt}
-use Rattle.std.proofs.lemmas.Bool.{ltb-true, lt-ltb, or_left}
+use Rattle.std.proofs.lemmas.Bool.{ltb-true, lt-ltb, or_left, or_cases}
+use Rattle.sms_base.proofs.Bools.{or_true}
 use Rattle.sms_base.specs.Reading.{◌>>=◌}
 use Rattle.sms_script.specs.Lines.{lines_of, onto}
 use Rattle.sms_script.specs.Limits.{passes_limit, passes_from, passes_limits, IsEnoughOf}
@@ -47,14 +48,6 @@ lines_begin (octet ∷ front) rest = by (eqb octet 10) (lines_begin front rest) 
 
 -- ---- a line that passes a limit
 
-or_cases : (a b : Bool) → (a || b) ≡ true → (a ≡ true) ⊎ (b ≡ true)
-or_cases true b e = inl refl
-or_cases false b e = inr e
-
-or_right : (a : Bool) → (a || true) ≡ true
-or_right true = refl
-or_right false = refl
-
 longer_passes : (number : ℕ) (line more : List ℕ) → passes_limit number line ≡ true → passes_limit number (line ++ more) ≡ true
 longer_passes number line more past = ⊎_elim
     (λ (many : nat_lt most_lines number ≡ true). or_left _ _ many)
@@ -62,7 +55,7 @@ longer_passes number line more past = ⊎_elim
     let l = ltb-true longest_line (length line) long in
     let k = length-append line more in
     let is : nat_lt longest_line (length (line ++ more)) ≡ true = lt-ltb longest_line (length (line ++ more)) (omega arith) in
-    ap (λ (b : Bool). nat_lt most_lines number || b) is ∙ or_right (nat_lt most_lines number))
+    ap (λ (b : Bool). nat_lt most_lines number || b) is ∙ or_true (nat_lt most_lines number))
     (or_cases (nat_lt most_lines number) (nat_lt longest_line (length line)) past)
 
 -- it is not read

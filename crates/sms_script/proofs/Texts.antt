@@ -1,5 +1,5 @@
 -- Text in UTF-8, cut where a front of it is text.
-use Rattle.std.proofs.Common.{◌≡◌, ℕ, zero, suc, ◌+◌, ◌-◌, ◌*◌, ◌%◌, ◌<◌, ◌≤◌, Bool, true, false, List, [], ◌∷◌, ◌++◌, length, take, drop, refl, sym, ap, ◌∙◌, subst, arith, ⊎_elim, Some, None}
+use Rattle.std.proofs.Common.{◌≡◌, ℕ, zero, suc, ◌+◌, ◌-◌, ◌*◌, ◌%◌, ◌<◌, ◌≤◌, true, false, List, [], ◌∷◌, ◌++◌, length, take, drop, refl, sym, ap, ◌∙◌, subst, arith, ⊎_elim, Some, None}
 use Rattle.std.specs.Prelude.{min}
 use Rattle.std.specs.Str.{IsUtf8, is_utf8, encode_utf8_all}
 use Rattle.std.specs.Char.{len_utf8, encode_utf8}
@@ -8,18 +8,14 @@ use Rattle.std.proofs.lemmas.Str.{IsUtf8-nil, IsUtf8-append, IsUtf8-drop, IsUtf8
 use Rattle.std.proofs.lemmas.List.{take-append-drop, take-take, length-append, length-take, length-drop}
 use Rattle.std.proofs.Math.Seq.{take-append_seam}
 use Rattle.std.proofs.Math.Utf8.{scalar, scalars}
+use Rattle.sms_base.proofs.Bools.{same_bool}
 use Rattle.sms_script.specs.Hexadecimal.{spelled}
 use Rattle.sms_script.specs.TextCuts.{ContinuesText}
-
-one_test : (a b : Bool) → (a ≡ true → b ≡ true) → (b ≡ true → a ≡ true) → a ≡ b
-one_test true b f g = sym (f refl)
-one_test false true f g = absurd (cc (g refl))
-one_test false false f g = refl
 
 -- behind a front that is text, the rest is text exactly where the whole is
 rest_is_text : (octets : List ℕ) (n : ℕ) → n ≤ length octets → IsUtf8 (take n octets) → is_utf8 octets ≡ is_utf8 (drop n octets)
 rest_is_text octets n le front =
-    one_test (is_utf8 octets) (is_utf8 (drop n octets))
+    same_bool (is_utf8 octets) (is_utf8 (drop n octets))
     (λ e. let whole = IsUtf8-from_is_utf8 octets e in
     is_utf8-from_IsUtf8 (drop n octets) (IsUtf8-drop octets n whole (IsCharBoundary-from_take octets n whole le front)))
     (λ e. is_utf8-from_IsUtf8 octets (subst (λ l. IsUtf8 l) (take-append-drop n octets) (IsUtf8-append (take n octets) (drop n octets) front (IsUtf8-from_is_utf8 (drop n octets) e))))

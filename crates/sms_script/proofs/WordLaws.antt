@@ -3,9 +3,9 @@ use Rattle.std.proofs.Common.{◌≡◌, ℕ, Bool, true, false, cond, List, [],
 use Rattle.std.specs.Prelude.{codes, bytes_eq}
 use Rattle.std.specs.List.{find}
 use Rattle.std.specs.Str.{is_utf8}
-use Rattle.std.proofs.lemmas.Bool.{cases_Bool}
 use Rattle.std.proofs.lemmas.Slice.Eq.{bytes_eq-Decides}
 use Rattle.sms_base.proofs.Steps.{bind_ok}
+use Rattle.sms_base.proofs.OctetLaws.{differ, same_octets}
 use Rattle.sms_script.specs.Lines.{is_word}
 use Rattle.sms_script.specs.Keywords.{keyword_text, keywords, keyword_of}
 use Rattle.sms_script.specs.Hexadecimal.{octets_of, text_of}
@@ -18,7 +18,7 @@ use Rattle.sms_script.specs.declared.event.StopPoint.TheVariants.{Before, After}
 use Rattle.sms_script.specs.declared.fault.LineFault.{LineFault}
 use Rattle.sms_script.specs.declared.fault.LineFault.TheVariants.{BadLine}
 use Rattle.sms_script.specs.declared.keyword.Keyword.{Keyword}
-use Rattle.sms_script.specs.declared.keyword.Keyword.TheVariants.{Start, Centre as CentreWord, Account, Handset as HandsetWord, Submit, Urgent, Query, Cancel, Write, Delete, Discard, Deliver, Tick, Restart, Stopped}
+use Rattle.sms_script.specs.declared.keyword.Keyword.TheVariants.{Start}
 
 -- ---- words
 
@@ -52,17 +52,11 @@ field_again read word words x w e = rw w (rw e refl)
 
 -- ---- what words stand for
 
-same_octets : (a b : List ℕ) → bytes_eq a b ≡ true → a ≡ b
-same_octets a b e = (bytes_eq-Decides a b).0 e
-
 equal_octets : (a b : List ℕ) → a ≡ b → bytes_eq a b ≡ true
 equal_octets a b e = (bytes_eq-Decides a b).1 e
 
 other_octets : (a b : List ℕ) → bytes_eq a b ≡ false → ¬ (a ≡ b)
 other_octets a b e p = absurd (cc (equal_octets a b p))
-
-unequal_octets : (a b : List ℕ) → ¬ (a ≡ b) → bytes_eq a b ≡ false
-unequal_octets a b n = ⊎_elim (λ (t : bytes_eq a b ≡ true). absurd (n (same_octets a b t))) (λ (f : bytes_eq a b ≡ false). f) (cases_Bool (bytes_eq a b))
 
 pub validity_takes : (word validity : List ℕ) → validity_of word ≡ Ok validity → IsValidity word validity
 validity_takes word validity e = by (bytes_eq word (codes "-")) refl e where
@@ -74,7 +68,7 @@ pub validity_again : (word validity : List ℕ) → IsValidity word validity →
 validity_again word validity h =
     ⊎_elim
     (λ (p : (word ≡ codes "-") × (validity ≡ [])). rw (equal_octets word (codes "-") p.0, p.1) refl)
-    (λ (q : ¬ (word ≡ codes "-") × (validity ≡ word)). rw (unequal_octets word (codes "-") q.0, q.1) refl)
+    (λ (q : ¬ (word ≡ codes "-") × (validity ≡ word)). rw (differ word (codes "-") q.0, q.1) refl)
     h
 
 pub body_takes : (word octets : List ℕ) → body_of word ≡ Ok octets → IsBody word octets
@@ -92,7 +86,7 @@ body_again word octets h =
     ⊎_elim
     (λ (p : (word ≡ codes "-") × (octets ≡ [])). rw (equal_octets word (codes "-") p.0, p.1) refl)
     (λ (q : octets_of word ≡ Ok octets).
-    rw (unequal_octets word (codes "-") (λ d. dash_spells_none octets (subst (λ w. octets_of w ≡ Ok octets) d q))) q)
+    rw (differ word (codes "-") (λ d. dash_spells_none octets (subst (λ w. octets_of w ≡ Ok octets) d q))) q)
     h
 
 text_is : (octets text : List ℕ) → text_of octets ≡ Ok text → octets ≡ text
@@ -118,7 +112,7 @@ side_takes word side e = by (bytes_eq word (codes "centre")) refl e where
 
 pub side_again : (word : List ℕ) (side : EventSide) → IsSide word side → side_of word ≡ Ok side
 side_again word Centre h = rw (equal_octets word (codes "centre") h) refl
-side_again word (Handset number) h = rw (unequal_octets word (codes "centre") h.0, h.1) refl
+side_again word (Handset number) h = rw (differ word (codes "centre") h.0, h.1) refl
 
 pub stop_takes : (word : List ℕ) (stop : StopPoint) → stop_of word ≡ Ok stop → word ≡ stop_text stop
 stop_takes word stop e = by (bytes_eq word (codes "before")) (bytes_eq word (codes "after")) refl refl e where
@@ -147,35 +141,9 @@ keyword_takes word k e = sym (same_octets (keyword_text k) word (found_passes (�
 pub keyword_again : (k : Keyword) → keyword_of (keyword_text k) ≡ Some k
 unfolding keyword_of
 keyword_again Start = refl
-keyword_again CentreWord = refl
-keyword_again Account = refl
-keyword_again HandsetWord = refl
-keyword_again Submit = refl
-keyword_again Urgent = refl
-keyword_again Query = refl
-keyword_again Cancel = refl
-keyword_again Write = refl
-keyword_again Delete = refl
-keyword_again Discard = refl
-keyword_again Deliver = refl
-keyword_again Tick = refl
-keyword_again Restart = refl
-keyword_again Stopped = refl
+keyword_again _ = refl
 
 -- a keyword is a word
 pub keyword_good : (k : Keyword) → is_word (keyword_text k) ≡ true
 keyword_good Start = refl
-keyword_good CentreWord = refl
-keyword_good Account = refl
-keyword_good HandsetWord = refl
-keyword_good Submit = refl
-keyword_good Urgent = refl
-keyword_good Query = refl
-keyword_good Cancel = refl
-keyword_good Write = refl
-keyword_good Delete = refl
-keyword_good Discard = refl
-keyword_good Deliver = refl
-keyword_good Tick = refl
-keyword_good Restart = refl
-keyword_good Stopped = refl
+keyword_good _ = refl

@@ -1,18 +1,13 @@
 -- Seats and queues that stay the same.
-use Rattle.std.proofs.Common.{◌≡◌, ◌<◌, ℕ, zero, suc, List, [], ◌∷◌, length, map, refl, sym, ap, ◌∙◌, subst, Some, slice_get, arith}
+use Rattle.std.proofs.Common.{◌≡◌, ◌<◌, ℕ, map, refl, sym, ap, ◌∙◌, subst, Some, slice_get}
 use Rattle.std.proofs.lemmas.List.{length-map}
-use Rattle.std.proofs.lemmas.Option.{none-some}
+use Rattle.std.proofs.lemmas.Option.{slice_get_within}
 use Rattle.sms_seats.specs.declared.queues.SeatChannel.{SeatChannel}
 use Rattle.sms_seats.specs.declared.queues.SeatQueues.{SeatQueues}
 use Rattle.sms_seats.specs.declared.seat.Seat.{Seat}
 use Rattle.sms_seats.specs.Queues.{seats_of, slots_in, IsSameQueues}
 use Rattle.sms_seats.specs.Seats.{number_of, IsNewSeat, IsSameSeat, IsSeatOf}
 use Rattle.sms_seats.proofs.Lines.{same_length}
-
-slice_get_within : {A : Type 0} (xs : List A) (k : ℕ) (x : A) → slice_get xs k ≡ Some x → k < length xs
-slice_get_within [] k x e = absurd (none-some x e)
-slice_get_within (y ∷ ys) zero x e = omega arith
-slice_get_within (y ∷ ys) (suc k) x e = let h = slice_get_within ys k x e in omega arith
 
 module _ {J O : Type 0} where
   pub same_self : (a : SeatQueues J O) → IsSameQueues a a

@@ -1,5 +1,5 @@
 -- What the statements of a migration make of a store of version 1.
-use Rattle.std.proofs.Common.{◌≡◌, ◌⊎◌, inl, inr, ℕ, ◌<◌, ℤ, pos, true, None, drop, List, [], ◌∷◌, ◌++◌, map, Ok, Err, Result, refl, sym, ap, ap₂, subst, ◌∙◌, arith, IsPermutation, append-nil}
+use Rattle.std.proofs.Common.{◌≡◌, ℕ, ◌<◌, ℤ, pos, true, None, drop, List, [], ◌∷◌, ◌++◌, map, Ok, refl, sym, ap, ap₂, subst, ◌∙◌, arith, IsPermutation, append-nil}
 use Rattle.std.specs.List.{AllByRecursion}
 use Rattle.std.proofs.lemmas.List.Sorted.{IsPermutation-map, IsPermutation-trans, IsPermutation-sym}
 use Rattle.sqlite.specs.declared.types.Value.TheVariants.{Null, Int}
@@ -32,6 +32,7 @@ use Rattle.sms_store_sql.specs.listing.Listing.{rows_where, ListOf, IsList, Repr
 use Rattle.sms_store_sql.specs.listing.Inside.{Ran}
 use Rattle.sms_store_sql.proofs.listing.Found.{all_permuted, mapped_back}
 use Rattle.sms_store_sql.proofs.listing.Trees.{insert_last, below_next, next_from}
+use Rattle.sms_store_sql.proofs.listing.Statements.{same_value, went}
 use Rattle.sms_rows.specs.table.Table.{Rises}
 use Rattle.sms_store_tables.specs.centre.CentreSchema.{centre_schema}
 use Rattle.sms_store_tables.specs.centre.MessageList.{message_list, message_is_list}
@@ -96,14 +97,6 @@ ranking = record (rows_where 2 [] (lit Null ∷ col 1 1 ∷ lit (Int (pos 0)) �
 inserting : (command_of (understood centre_schema rank_text) ≡ Insert 6 (Selected (record { lets = []; body = ranking }))) × IsPlain (understood centre_schema rank_text)
 unfolding understood everything
 inserting = (refl, (refl, refl))
-
--- a part that gave a value did not stop on the way
-went : {B E R : Type 0} {b : B} {Stops : E → Type 0} → ((stop : E) × Stops stop × (Ok b ≡ Err stop)) ⊎ R → R
-went (inl stopped) = absurd (let e = stopped.2 in cc)
-went (inr on) = on
-
-same_value : {B E : Type 0} {a b : B} → ◌≡◌ {A = Result B E} (Ok a) (Ok b) → a ≡ b
-same_value e = cc
 
 rises_lowest : (ms : List MessageRow) → Rises message_list.key ms → Rises priority_list.key (map lowest ms)
 rises_lowest [] h = tt

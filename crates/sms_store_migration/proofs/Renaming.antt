@@ -1,14 +1,18 @@
--- What a whole migration makes of a store of version 1.
-use Rattle.std.proofs.Common.{◌≡◌, ◌⊎◌, inl, inr, IsTrue, List, [], ◌∷◌, sym, ap, subst, ◌∙◌, arith}
+-- What a whole migration makes of a store of an earlier version.
+use Rattle.std.proofs.Common.{◌≡◌, ◌⊎◌, inl, inr, ℕ, IsTrue, List, [], ◌∷◌, refl, sym, ap, subst, ◌∙◌, arith, IsPermutation}
+use Rattle.std.proofs.lemmas.List.Sorted.{IsPermutation-refl}
 use Rattle.sqlite.specs.Effect.{Database}
 use Rattle.sqlite.specs.Order.{Row}
 use Rattle.sqlite.specs.State.{State}
 use Rattle.sqlite.specs.Tree.{Trees}
 use Rattle.sms_rows.specs.table.Table.{put, without}
+use Rattle.sms_rows.proofs.table.Tables.{without_here}
 use Rattle.sms_store_sql.specs.listing.Inside.{Alters}
 use Rattle.sms_store_sql.specs.listing.Listing.{ListOf, Represents}
 use Rattle.sms_store_sql.specs.listing.Transaction.{Leaves, IsOpenStore}
+use Rattle.sms_store_tables.specs.centre.BarList.{bar_list}
 use Rattle.sms_store_tables.specs.centre.MetaList.{meta_list}
+use Rattle.sms_store_tables.specs.centre.SecondMetaList.{meta_list as second_list}
 use Rattle.sms_store_tables.specs.centre.FirstMetaList.{meta_list as first_list}
 use Rattle.sms_store_tables.specs.centre.MessageList.{message_list}
 use Rattle.sms_store_tables.specs.centre.PartList.{part_list}
@@ -16,34 +20,44 @@ use Rattle.sms_store_tables.specs.centre.ReferenceList.{reference_list}
 use Rattle.sms_store_tables.specs.centre.HandsetList.{handset_list}
 use Rattle.sms_store_tables.specs.centre.ReportList.{report_list}
 use Rattle.sms_store_tables.specs.centre.PriorityList.{priority_list}
-use Rattle.sms_store_tables.specs.centre.Completing.{Completes}
-use Rattle.sms_store_migration.specs.Migrating.{Ranks, Renames, Migrates, migrated}
-use Rattle.sms_store_migration.specs.Versions.{AreStore, IsFirstStore, centre_meta, first_meta}
-use Rattle.sms_store_migration.specs.Types.{Rows, Meta}
-use Rattle.sms_store_migration.proofs.Apart.{free_0, free_2, free_4, free_6, free_8, free_10, free_12}
+use Rattle.sms_store_tables.specs.centre.Completing.{Completes, MakesBars}
+use Rattle.sms_store_migration.specs.Migrating.{Ranks, Renames, Migrates, MigratesSecond, migrated}
+use Rattle.sms_store_migration.specs.Versions.{AreStore, IsFirstStore, IsSecondStore, IsStore, centre_meta, first_meta, meta_of, second_meta}
+use Rattle.sms_store_migration.specs.Types.{BarRow, Rows, Meta}
+use Rattle.sms_store_migration.proofs.Apart.{free_0, free_2, free_4, free_6, free_8, free_10, free_12, free_15}
 
 -- what a list holds it holds in the same rows
 moved : {X : Type 0} (l : ListOf X) (rows others : List Row) (xs : List X) → others ≡ rows → Represents l rows xs → Represents l others xs
 moved l rows others xs same held = subst (λ rs. Represents l rs xs) (sym same) held
 
--- the row of the store is the same in both versions
+-- a tree without rows has no bars
+no_bars : (rows : Rows) (tree : List Row) → tree ≡ [] → rows.bars ≡ [] → Represents bar_list tree rows.bars
+no_bars rows tree none e =
+    subst (λ (bs : List BarRow). Represents bar_list tree bs) (sym e)
+    (record { entries = []; keyed = tt; stored = none; listed = IsPermutation-refl []; rises = tt; fit = tt })
+
+-- the row of the store is the same in all versions
 said_now : (rows : List Row) (said : List Meta) → Represents first_list rows said → Represents meta_list rows said
 said_now rows said h = record { entries = h.entries; keyed = h.keyed; stored = h.stored; listed = h.listed; rises = h.rises; fit = h.fit }
 
-pub renames : (a b c : State) → Alters meta_list (without meta_list.key 1) a b → Alters meta_list (put meta_list.key centre_meta) b c → Renames a.now c.now
-renames a b c p q has held =
+second_now : (rows : List Row) (said : List Meta) → Represents second_list rows said → Represents meta_list rows said
+second_now rows said h = record { entries = h.entries; keyed = h.keyed; stored = h.stored; listed = h.listed; rises = h.rises; fit = h.fit }
+
+pub renames : (version : ℕ) (a b c : State) → Alters meta_list (without meta_list.key version) a b → Alters meta_list (put meta_list.key centre_meta) b c → Renames version a.now c.now
+renames version a b c p q has held =
     let mid = p.schema has in
+    let none : without meta_list.key version (meta_of version ∷ []) ≡ [] = without_here meta_list.key version (meta_of version) [] refl in
     record {
       schema = q.schema mid;
-      meta = q.changed mid [] (p.changed has (first_meta ∷ []) held);
+      meta = q.changed mid [] (subst (λ (said : List Meta). Represents meta_list (b.now.trees 0) said) none (p.changed has (meta_of version ∷ []) held));
       others = λ tree apart free. q.others mid tree apart free ∙ p.others has tree apart free;
     }
 
--- the three steps, one after another
-pub migrates : (a b c d : Database) → Completes a b → Ranks b c → Renames c d → Migrates a d
+-- the three steps from version 1, one after another
+pub migrates : (a b c d : Database) → Completes a b → Ranks b c → Renames 1 c d → Migrates a d
 migrates a b c d p q r rows is =
     let made = p is.schema in
-    let ranked = q made.schema made.empty rows.messages (moved message_list (a.trees 2) (b.trees 2) rows.messages made.others.1.0 is.messages) in
+    let ranked = q made.schema made.ranks rows.messages (moved message_list (a.trees 2) (b.trees 2) rows.messages made.others.1.0 is.messages) in
     let named = r ranked.schema (moved meta_list (a.trees 0) (c.trees 0) (first_meta ∷ []) (ranked.others 0 (λ (e : 0 ≡ 12). omega (arith, e)) free_0 ∙ made.others.0) (said_now _ _ is.meta)) in
     record {
       schema = named.schema;
@@ -54,12 +68,31 @@ migrates a b c d p q r rows is =
       handsets = moved handset_list (a.trees 8) (d.trees 8) rows.handsets (named.others 8 (λ (e : 8 ≡ 0). omega (arith, e)) free_8 ∙ ranked.others 8 (λ (e : 8 ≡ 12). omega (arith, e)) free_8 ∙ made.others.1.1.1.1.0) is.handsets;
       reports = moved report_list (a.trees 10) (d.trees 10) rows.reports (named.others 10 (λ (e : 10 ≡ 0). omega (arith, e)) free_10 ∙ ranked.others 10 (λ (e : 10 ≡ 12). omega (arith, e)) free_10 ∙ made.others.1.1.1.1.1.0) is.reports;
       priorities = moved priority_list (c.trees 12) (d.trees 12) _ (named.others 12 (λ (e : 12 ≡ 0). omega (arith, e)) free_12) ranked.priorities;
+      bars = no_bars rows (d.trees 15) (named.others 15 (λ (e : 15 ≡ 0). omega (arith, e)) free_15 ∙ ranked.others 15 (λ (e : 15 ≡ 12). omega (arith, e)) free_15 ∙ made.bars) is.bars;
     }
 
--- a stop inside leaves the trees as they were, or those of the store of version 2
-pub stop_raises : (old new : State) (rows : Rows) (left : Trees) → IsOpenStore IsFirstStore old rows → ((db : Trees) → IsTrue old.is_open → old.may_leave db → db ≡ old.committed.trees)
-    → ((db : Trees) → new.may_leave db → old.may_leave db ⊎ (IsTrue old.is_open → Leaves Migrates old db)) → new.may_leave left → (left ≡ old.now.trees) ⊎ AreStore left (migrated rows)
-stop_raises old new rows left kept settled leaves may = elim (leaves left may) [
+-- the two steps from version 2
+pub migrates_second : (a b c : Database) → MakesBars a b → Renames 2 b c → MigratesSecond a c
+migrates_second a b c p r rows is =
+    let made = p is.schema in
+    let named = r made.schema (moved meta_list (a.trees 0) (b.trees 0) (second_meta ∷ []) made.others.0 (second_now _ _ is.meta)) in
+    record {
+      schema = named.schema;
+      meta = named.meta;
+      messages = moved message_list (a.trees 2) (c.trees 2) rows.messages (named.others 2 (λ (e : 2 ≡ 0). omega (arith, e)) free_2 ∙ made.others.1.0) is.messages;
+      parts = moved part_list (a.trees 4) (c.trees 4) rows.parts (named.others 4 (λ (e : 4 ≡ 0). omega (arith, e)) free_4 ∙ made.others.1.1.0) is.parts;
+      references = moved reference_list (a.trees 6) (c.trees 6) rows.references (named.others 6 (λ (e : 6 ≡ 0). omega (arith, e)) free_6 ∙ made.others.1.1.1.0) is.references;
+      handsets = moved handset_list (a.trees 8) (c.trees 8) rows.handsets (named.others 8 (λ (e : 8 ≡ 0). omega (arith, e)) free_8 ∙ made.others.1.1.1.1.0) is.handsets;
+      reports = moved report_list (a.trees 10) (c.trees 10) rows.reports (named.others 10 (λ (e : 10 ≡ 0). omega (arith, e)) free_10 ∙ made.others.1.1.1.1.1.0) is.reports;
+      priorities = moved priority_list (a.trees 12) (c.trees 12) rows.priorities (named.others 12 (λ (e : 12 ≡ 0). omega (arith, e)) free_12 ∙ made.others.1.1.1.1.1.1.0) is.priorities;
+      bars = no_bars rows (c.trees 15) (named.others 15 (λ (e : 15 ≡ 0). omega (arith, e)) free_15 ∙ made.empty) is.bars;
+    }
+
+-- a stop inside leaves the trees as they were, or those of the store of version 3
+pub stop_raises : (P : Database → Rows → Type 0) (Q : Database → Database → Type 0) (f : Rows → Rows) → ((a b : Database) → Q a b → (rows : Rows) → P a rows → IsStore b (f rows))
+    → (old new : State) (rows : Rows) (left : Trees) → IsOpenStore P old rows → ((db : Trees) → IsTrue old.is_open → old.may_leave db → db ≡ old.committed.trees)
+    → ((db : Trees) → new.may_leave db → old.may_leave db ⊎ (IsTrue old.is_open → Leaves Q old db)) → new.may_leave left → (left ≡ old.now.trees) ⊎ AreStore left (f rows)
+stop_raises P Q f leads old new rows left kept settled leaves may = elim (leaves left may) [
   | inl earlier ↦ inl (settled left kept.is_open earlier ∙ sym (ap (λ (d : Database). d.trees) kept.settled))
-  | inr made ↦ let after_it = made kept.is_open in inr (after_it.0, after_it.1, after_it.2 rows kept.store)
+  | inr made ↦ let after_it = made kept.is_open in inr (after_it.0, after_it.1, leads _ _ after_it.2 rows kept.store)
 ]

@@ -1,13 +1,14 @@
 -- A key of two columns: a row is found by both.
 use Rattle.std.specs.Prelude.{◌≡◌, ℕ, ◌<◌, ◌/◌, ◌%◌, ◌==◌, ◌&&◌, Bool, pos, true}
 use Rattle.std.proofs.Common.{ap, ap₂, ◌∙◌}
+use Rattle.sms_base.proofs.Bools.{and_true}
 use Rattle.sqlite.specs.Collation.TheVariants.{Binary}
 use Rattle.sqlite.specs.declared.types.Value.TheVariants.{Int}
 use Rattle.sqlite_sql.specs.Ops.{binary, is_true}
 use Rattle.sqlite_sql.specs.declared.ops.BinaryOp.TheVariants.{Compare}
 use Rattle.sqlite_sql.specs.declared.ops.CompareOp.TheVariants.{Eq}
 use Rattle.sms_rows.specs.table.Keys.{pair_key}
-use Rattle.sms_store_sql.proofs.listing.Columns.{same_number, pair_found, pairs_agree, and_true}
+use Rattle.sms_store_sql.proofs.listing.Columns.{same_number, pair_found, pairs_agree}
 
 -- a WHERE finds the one number equal to the other
 abbrev pub is_equal : ℕ → ℕ → Bool

@@ -1,3 +1,4 @@
+pub mod BarList
 pub mod CentreSchema
 pub mod Completing
 pub mod FirstMetaList
@@ -10,4 +11,5 @@ pub mod Pieces
 pub mod PriorityList
 pub mod ReferenceList
 pub mod ReportList
+pub mod SecondMetaList
 pub mod Types

@@ -1,9 +1,9 @@
 -- Each address field that is read is in the grammar, and each that is in the grammar is read.
 use Rattle.std.proofs.Common.{◌≡◌, ℕ, zero, suc, ◌+◌, ◌-◌, ◌*◌, ◌/◌, ◌%◌, ◌^◌, ◌<◌, ◌≤◌, Bool, true, false, not, ◌&&◌, ◌||◌, eqb, ltb, leb, List, [], ◌∷◌, ◌++◌, length, take, Ok, Option, Some, None, refl, sym, ap, subst, ◌∙◌, arith}
 use Rattle.std.specs.Option.{ok_or}
-use Rattle.std.proofs.lemmas.Bool.{ltb-true, ltb-false, leb-true, eqb-true, eqb-false, lt-ltb, le-ltb, eq-eqb, ne_eqb}
+use Rattle.std.proofs.lemmas.Bool.{ltb-true, ltb-false, leb-true, eqb-true, eqb-false, lt-ltb, le-ltb, eq-eqb, ne_eqb, and_parts, not-true}
 use Rattle.sms_base.specs.Reading.{only_if, octet_in, AreOctets}
-use Rattle.sms_base.proofs.Steps.{bind_ok, passes, ok_is, both, not_true, octet_takes}
+use Rattle.sms_base.proofs.Steps.{bind_ok, passes, ok_is, octet_takes}
 use Rattle.sms_base.specs.SemiOctet.{digit_of, is_digit}
 use Rattle.sms_base.specs.AddressKind.{type_of, type_number, is_name}
 use Rattle.sms_base.specs.declared.type_of_number.TypeOfNumber.{TypeOfNumber}
@@ -17,6 +17,8 @@ use Rattle.sms_base.specs.Address.{IsAddress, IsAddressText}
 use Rattle.sms_base.specs.Alphabet.{text_in}
 use Rattle.sms_base.specs.Reading.{run_in}
 use Rattle.sms_base.proofs.Steps.{run_takes, run_again}
+use Rattle.sms_base.proofs.Addresses.{type_number-of}
+use Rattle.sms_base.proofs.OctetLaws.{octets_behind}
 use Rattle.sms_alphabet.specs.Packing.{AreSeptets, value_in, digits_in as base_digits}
 use Rattle.sms_alphabet.proofs.RoundTrip.{value-below, digits_in-value, value_in-digits, length-digits, digits-below}
 use Rattle.sms_tpdu.proofs.Names.{read_name, read_some}
@@ -25,10 +27,6 @@ use Rattle.sms_tpdu.specs.AddressGrammar.{semi_octet, semi_octets, AreDigits, ty
 
 pub rest_fits : (o : ℕ) (xs ys : List ℕ) → ys ≡ o ∷ xs → AreOctets ys → (o < 256) × AreOctets xs
 rest_fits o xs ys e h = subst AreOctets e h
-
-pub suffix_fits : (xs ys : List ℕ) → AreOctets (xs ++ ys) → AreOctets ys
-suffix_fits [] ys h = h
-suffix_fits (x ∷ xs) ys h = suffix_fits xs ys h.1
 
 -- ---- semi-octets and digits
 
@@ -70,7 +68,7 @@ high_back c le lt =
 
 by_tests : (c : ℕ) (a b d e : Bool) → leb 48 c && ltb c 58 ≡ a → eqb c 42 ≡ b → eqb c 35 ≡ d → leb 97 c && ltb c 100 ≡ e → is_digit c ≡ true → IsBack c
 by_tests c true b d e ha hb hd he h =
-    let t = both (leb 48 c) (ltb c 58) ha in
+    let t = and_parts (leb 48 c) (ltb c 58) ha in
     let low : 48 ≤ c = leb-true 48 c t.0 in
     let high : c < 58 = ltb-true c 58 t.1 in
     let is : semi_octet c ≡ c - 48 = rw ha refl in
@@ -82,7 +80,7 @@ by_tests c false false true e ha hb hd he h =
     let is : semi_octet c ≡ 11 = rw (ha, hb, hd) refl in
     rw is (omega arith, sym (eqb-true c 35 hd))
 by_tests c false false false true ha hb hd he h =
-    let t = both (leb 97 c) (ltb c 100) he in
+    let t = and_parts (leb 97 c) (ltb c 100) he in
     let low : 97 ≤ c = leb-true 97 c t.0 in
     let high : c < 100 = ltb-true c 100 t.1 in
     let is : semi_octet c ≡ c - 85 = rw (ha, hb, hd, he) refl in
@@ -114,11 +112,11 @@ two_digits_takes xs x fits e =
     let a = bind_ok (octet_in Truncated xs) _ x e in
     let o = a.0.0 in
     let b = bind_ok (only_if (not (eqb (o % 16) 15) && not (eqb (o / 16) 15)) BadAddress) _ x a.2 in
-    let t = both (not (eqb (o % 16) 15)) (not (eqb (o / 16) 15)) (passes _ BadAddress b.0 b.1) in
+    let t = and_parts (not (eqb (o % 16) 15)) (not (eqb (o / 16) 15)) (passes _ BadAddress b.0 b.1) in
     let p = octet_takes Truncated xs a.0 a.1 in
     let f = rest_fits o a.0.1 xs p fits in
-    let low : o % 16 ≡ 15 → ⊥ = eqb-false (o % 16) 15 (not_true _ t.0) in
-    let high : o / 16 ≡ 15 → ⊥ = eqb-false (o / 16) 15 (not_true _ t.1) in
+    let low : o % 16 ≡ 15 → ⊥ = eqb-false (o % 16) 15 (not-true _ t.0) in
+    let high : o / 16 ≡ 15 → ⊥ = eqb-false (o / 16) 15 (not-true _ t.1) in
     let l = digit_back (o % 16) (omega (arith, low)) in
     let h = digit_back (o / 16) (omega (arith, high, f.0)) in
     let whole : o ≡ semi_octet (digit_of (o % 16)) + 16 * semi_octet (digit_of (o / 16)) = rw (l.1, h.1) (omega arith) in
@@ -136,10 +134,10 @@ last_digit_takes xs x fits e =
     let a = bind_ok (octet_in Truncated xs) _ x e in
     let o = a.0.0 in
     let b = bind_ok (only_if (not (eqb (o % 16) 15) && eqb (o / 16) 15) BadAddress) _ x a.2 in
-    let t = both (not (eqb (o % 16) 15)) (eqb (o / 16) 15) (passes _ BadAddress b.0 b.1) in
+    let t = and_parts (not (eqb (o % 16) 15)) (eqb (o / 16) 15) (passes _ BadAddress b.0 b.1) in
     let p = octet_takes Truncated xs a.0 a.1 in
     let f = rest_fits o a.0.1 xs p fits in
-    let low : o % 16 ≡ 15 → ⊥ = eqb-false (o % 16) 15 (not_true _ t.0) in
+    let low : o % 16 ≡ 15 → ⊥ = eqb-false (o % 16) 15 (not-true _ t.0) in
     let high : o / 16 ≡ 15 = eqb-true (o / 16) 15 t.1 in
     let l = digit_back (o % 16) (omega (arith, low)) in
     let whole : o ≡ semi_octet (digit_of (o % 16)) + 240 = rw l.1 (omega arith) in
@@ -199,18 +197,6 @@ digits_again (d ∷ e ∷ ds) rest h =
 
 -- ---- the type of number
 
-type_back : (n : ℕ) (t : TypeOfNumber) → type_of n ≡ Some t → type_number t ≡ n
-type_back zero t e = let f : Unknown ≡ t = cc in rw (← f) refl
-type_back (suc zero) t e = let f : International ≡ t = cc in rw (← f) refl
-type_back (suc (suc zero)) t e = let f : National ≡ t = cc in rw (← f) refl
-type_back (suc (suc (suc zero))) t e = let f : NetworkSpecific ≡ t = cc in rw (← f) refl
-type_back (suc (suc (suc (suc zero)))) t e = let f : Subscriber ≡ t = cc in rw (← f) refl
-type_back (suc (suc (suc (suc (suc zero))))) t e = let f : Alphanumeric ≡ t = cc in rw (← f) refl
-type_back (suc (suc (suc (suc (suc (suc zero)))))) t e = let f : Abbreviated ≡ t = cc in rw (← f) refl
-type_back (suc (suc (suc (suc (suc (suc (suc n))))))) t e =
-    let none : type_of (suc (suc (suc (suc (suc (suc (suc n))))))) ≡ None = rw (ne_eqb (suc (suc (suc (suc (suc (suc (suc n))))))) 0 (λ x. omega arith), ne_eqb (suc (suc (suc (suc (suc (suc (suc n))))))) 1 (λ x. omega arith), ne_eqb (suc (suc (suc (suc (suc (suc (suc n))))))) 2 (λ x. omega arith), ne_eqb (suc (suc (suc (suc (suc (suc (suc n))))))) 3 (λ x. omega arith), ne_eqb (suc (suc (suc (suc (suc (suc (suc n))))))) 4 (λ x. omega arith), ne_eqb (suc (suc (suc (suc (suc (suc (suc n))))))) 5 (λ x. omega arith), ne_eqb (suc (suc (suc (suc (suc (suc (suc n))))))) 6 (λ x. omega arith)) refl in
-    absurd cc
-
 type_again : (t : TypeOfNumber) → (type_of (type_number t) ≡ Some t) × (type_number t < 7)
 type_again Unknown = (refl, omega arith)
 type_again International = (refl, omega arith)
@@ -228,8 +214,8 @@ pub type_takes : (o : ℕ) (t : TypeOfNumber) → type_of_number_in o ≡ Ok t �
 unfolding type_of_number_in
 type_takes o t e =
     let a = bind_ok (only_if (not (ltb o 128)) BadAddress) _ t e in
-    let high : 128 ≤ o = ltb-false o 128 (not_true _ (passes _ BadAddress a.0 a.1)) in
-    let n : type_number t ≡ o / 16 - 8 = type_back (o / 16 - 8) t (ok_or_is _ t a.2) in
+    let high : 128 ≤ o = ltb-false o 128 (not-true _ (passes _ BadAddress a.0 a.1)) in
+    let n : type_number t ≡ o / 16 - 8 = type_number-of (o / 16 - 8) t (ok_or_is _ t a.2) in
     omega (arith, n, high)
 
 pub type_again_in : (t : TypeOfNumber) (npi : ℕ) → npi < 16 → type_of_number_in (128 + 16 * type_number t + npi) ≡ Ok t
@@ -287,7 +273,7 @@ name_takes count xs x fits e =
       value_len = p.1;
       value_is = ap (value_in 256) (sym front) ∙ sym (value_in-digits n v below);
       name_is = refl;
-      rest_fits = suffix_fits b.0.0 b.0.1 (subst AreOctets p.0 fits);
+      rest_fits = octets_behind b.0.0 b.0.1 (subst AreOctets p.0 fits);
     })
 
 name_again : (count : ℕ) (septets value rest : List ℕ) → length septets ≡ name_length count → AreSeptets septets → length value ≡ octets_for count → value_in 256 value ≡ value_in 128 septets
@@ -354,7 +340,7 @@ address_takes xs x fits e =
     let d = bind_ok (type_of_number_in kind) _ x c.2 in
     let l = bind_ok (only_if (not (is_name d.0) || ltb 1 len) BadAddress) _ x d.2 in
     let f = bind_ok (characters_in (is_name d.0) len c.0.1) _ x l.2 in
-    let t = both (ltb 0 len) (ltb len 21) (passes _ BadAddress b.0 b.1) in
+    let t = and_parts (ltb 0 len) (ltb len 21) (passes _ BadAddress b.0 b.1) in
     let pa = octet_takes Truncated xs a.0 a.1 in
     let fa = rest_fits len a.0.1 xs pa fits in
     let pc = octet_takes Truncated a.0.1 c.0 c.1 in

@@ -1,8 +1,9 @@
 -- TPDUs by carrier.
-use Rattle.std.proofs.Common.{◌≡◌, ℕ, suc, ◌%◌, ◌<◌, Bool, true, false, cond, eqb, List, [], ◌∷◌, get_or, Result, Ok, Err, refl, sym, ap, subst, ◌∙◌}
+use Rattle.std.proofs.Common.{◌≡◌, ℕ, ◌%◌, ◌<◌, Bool, true, false, cond, eqb, List, [], ◌∷◌, get_or, Result, Ok, Err, refl, sym, ap, subst, ◌∙◌}
 use Rattle.std.specs.Prelude.{IfOk}
 use Rattle.sms_base.specs.Reading.{◌>>=◌, AreOctets}
 use Rattle.sms_base.proofs.Steps.{bind_ok, ok_is}
+use Rattle.sms_base.proofs.OctetLaws.{are_octets}
 use Rattle.sms_tpdu.specs.declared.fault.TpduFault.{TpduFault}
 use Rattle.sms_tpdu.specs.declared.carrier.Carrier.{Carrier}
 use Rattle.sms_tpdu.specs.declared.carrier.Carrier.TheVariants.{InData, InAck, InError}
@@ -16,11 +17,6 @@ use Rattle.sms_tpdu.specs.TpduReading.{is_status_report, deliver_at, submit_at, 
 use Rattle.sms_tpdu.proofs.Delivers.{deliver_takes, deliver_again}
 use Rattle.sms_tpdu.proofs.Submits.{submit_takes, submit_again}
 use Rattle.sms_tpdu.proofs.Reports.{submit_report_takes, submit_report_again, deliver_report_takes, deliver_report_again, status_report_takes, status_report_again}
-
--- the elements of octets fit an octet
-pub octets_fit : (xs : List ℕ) → ((i : ℕ) → get_or xs i 0 < 256) → AreOctets xs
-octets_fit [] h = tt
-octets_fit (x ∷ xs) h = (h 0, octets_fit xs (λ i. h (suc i)))
 
 -- ---- down
 
@@ -61,7 +57,7 @@ down_again InError xs (StatusReport r) h = absurd h
 down_again InError xs (SubmitReport r) h = rw (submit_report_again true xs r h) refl
 
 pub down_found : (carrier : Carrier) (xs : List ℕ) (r : Result Down TpduFault) → ((i : ℕ) → get_or xs i 0 < 256) → r ≡ down_at carrier xs → IfOk r (λ t. IsDown carrier xs t)
-down_found carrier xs (Ok t) fits e = down_takes carrier xs t (octets_fit xs fits) (sym e)
+down_found carrier xs (Ok t) fits e = down_takes carrier xs t (are_octets xs fits) (sym e)
 down_found carrier xs (Err f) fits e = tt
 
 -- ---- up
@@ -88,7 +84,7 @@ up_again InError xs (Submit s) h = absurd h
 up_again InError xs (DeliverReport r) h = rw (deliver_report_again true xs r h) refl
 
 pub up_found : (carrier : Carrier) (xs : List ℕ) (r : Result Up TpduFault) → ((i : ℕ) → get_or xs i 0 < 256) → r ≡ up_at carrier xs → IfOk r (λ t. IsUp carrier xs t)
-up_found carrier xs (Ok t) fits e = up_takes carrier xs t (octets_fit xs fits) (sym e)
+up_found carrier xs (Ok t) fits e = up_takes carrier xs t (are_octets xs fits) (sym e)
 up_found carrier xs (Err f) fits e = tt
 
 -- ---- what is read may be written
@@ -109,7 +105,7 @@ down_writable InError xs (StatusReport r) h = absurd h
 down_writable InError xs (SubmitReport r) (first, indicator, stamp, unread, kind, has_cause, indicates, is_stamp, is_data, follows, whole) = is_data
 
 pub down_found_writable : (carrier : Carrier) (xs : List ℕ) (r : Result Down TpduFault) → ((i : ℕ) → get_or xs i 0 < 256) → r ≡ down_at carrier xs → IfOk r (λ t. IsWritableDown t)
-down_found_writable carrier xs (Ok t) fits e = down_writable carrier xs t (down_takes carrier xs t (octets_fit xs fits) (sym e))
+down_found_writable carrier xs (Ok t) fits e = down_writable carrier xs t (down_takes carrier xs t (are_octets xs fits) (sym e))
 down_found_writable carrier xs (Err f) fits e = tt
 
 up_writable : (carrier : Carrier) (xs : List ℕ) (t : Up) → IsUp carrier xs t → IsWritableUp t
@@ -121,5 +117,5 @@ up_writable InError xs (Submit s) h = absurd h
 up_writable InError xs (DeliverReport r) (first, indicator, unread, kind, has_cause, indicates, is_data, follows, whole) = is_data
 
 pub up_found_writable : (carrier : Carrier) (xs : List ℕ) (r : Result Up TpduFault) → ((i : ℕ) → get_or xs i 0 < 256) → r ≡ up_at carrier xs → IfOk r (λ t. IsWritableUp t)
-up_found_writable carrier xs (Ok t) fits e = up_writable carrier xs t (up_takes carrier xs t (octets_fit xs fits) (sym e))
+up_found_writable carrier xs (Ok t) fits e = up_writable carrier xs t (up_takes carrier xs t (are_octets xs fits) (sym e))
 up_found_writable carrier xs (Err f) fits e = tt

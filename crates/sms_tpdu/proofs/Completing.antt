@@ -6,6 +6,7 @@ use Rattle.std.proofs.lemmas.List.{length-append, length-drop, length-take, take
 use Rattle.std.proofs.Math.Nat.{pow-le-pow_right}
 use Rattle.sms_base.specs.Reading.{◌>>=◌, only_if, run_in, AreOctets}
 use Rattle.sms_base.proofs.Steps.{bind_ok, passes}
+use Rattle.sms_base.proofs.FaultSteps.{zeros, zeros_length, zeros_octets}
 use Rattle.sms_base.specs.TimeStamp.{scts_in, clock_in, zone_in, moment_in}
 use Rattle.jiff_core.specs.Calendar.{days_from_civil, day_count, days_of_years, days_of_months}
 use Rattle.sms_base.specs.AddressKind.{is_name, type_of}
@@ -33,6 +34,8 @@ use Rattle.sms_tpdu.proofs.Powers.{value_below}
 use Rattle.sms_tpdu.proofs.Addresses.{two_digits_takes, two_digits_again, last_digit_takes, last_digit_again}
 use Rattle.sms_tpdu.proofs.FaultSteps.{no_fault, fault_is, at_once, behind, cause_of, Reading, IsField, pure_field, bind_field, Completes, pure_completes, bind_completes}
 use Rattle.sms_tpdu.proofs.FaultFields.{two_untrailed, last_untrailed}
+use Rattle.sms_tpdu.proofs.Texts.{test_is}
+use Rattle.sms_tpdu.proofs.Times.{ok_or_is}
 
 -- what a field answers where octets are missing, and the octets that complete it
 abbrev Grows : {X : Type 0} → Reading X → List ℕ → Type 0
@@ -71,18 +74,6 @@ run_whole n xs e =
 
 -- ---- zeros
 
-abbrev zeros : ℕ → List ℕ
-zeros zero = []
-zeros (suc n) = 0 ∷ zeros n
-
-zeros_fit : (n : ℕ) → AreOctets (zeros n)
-zeros_fit zero = tt
-zeros_fit (suc n) = (omega arith, zeros_fit n)
-
-zeros_len : (n : ℕ) → length (zeros n) ≡ n
-zeros_len zero = refl
-zeros_len (suc n) = ap suc (zeros_len n)
-
 zeros_value : (n : ℕ) → value_in 256 (zeros n) ≡ 0
 zeros_value zero = refl
 zeros_value (suc n) = omega (arith, zeros_value n)
@@ -100,7 +91,7 @@ padded_value (suc h) [] n = zeros_dropped (suc h) n
 padded_value (suc h) (x ∷ xs) n = padded_value h xs n
 
 padded_len : (xs : List ℕ) (k : ℕ) → length xs < k → length (xs ++ zeros (k - length xs)) ≡ k
-padded_len xs k lt = length-append xs (zeros (k - length xs)) ∙ omega (arith, zeros_len (k - length xs))
+padded_len xs k lt = length-append xs (zeros (k - length xs)) ∙ omega (arith, zeros_length (k - length xs))
 
 drop_fits : (h : ℕ) (xs : List ℕ) → AreOctets xs → AreOctets (drop h xs)
 drop_fits zero xs fits = fits
@@ -117,18 +108,14 @@ found : (o : Option ℕ) (bad : TpduFault) (e : TpduFault) → (bad ≡ e → �
 found (Some m) bad e other p = absurd cc
 found None bad e other p = other (let q : bad ≡ e = cc in q)
 
-some_of : (o : Option ℕ) (x : ℕ) → ok_or o BadTime ≡ Ok x → o ≡ Some x
-some_of (Some m) x p = cc
-some_of None x p = absurd cc
-
 -- a stamp whose octets are missing is one once they are those of the first of January
 stamp_by : (xs : List ℕ) (m : ℕ) → length xs < 7 → AreOctets xs → scts_in (completed xs) ≡ Some m → Grows time_in xs
-stamp_by [] m lt fits h = (0 ∷ 16 ∷ 16 ∷ 0 ∷ 0 ∷ 0 ∷ 0 ∷ [], ((omega arith, (omega arith, (omega arith, zeros_fit 4))), (m, stamp_read 0 16 16 0 0 0 0 m h)))
-stamp_by (a ∷ []) m lt fits h = (16 ∷ 16 ∷ 0 ∷ 0 ∷ 0 ∷ 0 ∷ [], ((omega arith, (omega arith, zeros_fit 4)), (m, stamp_read a 16 16 0 0 0 0 m h)))
-stamp_by (a ∷ b ∷ []) m lt fits h = (16 ∷ 0 ∷ 0 ∷ 0 ∷ 0 ∷ [], ((omega arith, zeros_fit 4), (m, stamp_read a b 16 0 0 0 0 m h)))
-stamp_by (a ∷ b ∷ c ∷ []) m lt fits h = (0 ∷ 0 ∷ 0 ∷ 0 ∷ [], (zeros_fit 4, (m, stamp_read a b c 0 0 0 0 m h)))
-stamp_by (a ∷ b ∷ c ∷ d ∷ []) m lt fits h = (0 ∷ 0 ∷ 0 ∷ [], (zeros_fit 3, (m, stamp_read a b c d 0 0 0 m h)))
-stamp_by (a ∷ b ∷ c ∷ d ∷ e ∷ []) m lt fits h = (0 ∷ 0 ∷ [], (zeros_fit 2, (m, stamp_read a b c d e 0 0 m h)))
+stamp_by [] m lt fits h = (0 ∷ 16 ∷ 16 ∷ 0 ∷ 0 ∷ 0 ∷ 0 ∷ [], ((omega arith, (omega arith, (omega arith, zeros_octets 4))), (m, stamp_read 0 16 16 0 0 0 0 m h)))
+stamp_by (a ∷ []) m lt fits h = (16 ∷ 16 ∷ 0 ∷ 0 ∷ 0 ∷ 0 ∷ [], ((omega arith, (omega arith, zeros_octets 4)), (m, stamp_read a 16 16 0 0 0 0 m h)))
+stamp_by (a ∷ b ∷ []) m lt fits h = (16 ∷ 0 ∷ 0 ∷ 0 ∷ 0 ∷ [], ((omega arith, zeros_octets 4), (m, stamp_read a b 16 0 0 0 0 m h)))
+stamp_by (a ∷ b ∷ c ∷ []) m lt fits h = (0 ∷ 0 ∷ 0 ∷ 0 ∷ [], (zeros_octets 4, (m, stamp_read a b c 0 0 0 0 m h)))
+stamp_by (a ∷ b ∷ c ∷ d ∷ []) m lt fits h = (0 ∷ 0 ∷ 0 ∷ [], (zeros_octets 3, (m, stamp_read a b c d 0 0 0 m h)))
+stamp_by (a ∷ b ∷ c ∷ d ∷ e ∷ []) m lt fits h = (0 ∷ 0 ∷ [], (zeros_octets 2, (m, stamp_read a b c d e 0 0 m h)))
 stamp_by (a ∷ b ∷ c ∷ d ∷ e ∷ f ∷ []) m lt fits h = (0 ∷ [], ((omega arith, tt), (m, stamp_read a b c d e f 0 m h)))
 stamp_by (a ∷ b ∷ c ∷ d ∷ e ∷ f ∷ g ∷ xs) m lt fits h = absurd (omega arith)
 
@@ -137,7 +124,7 @@ unfolding time_in
 time_grows xs fits e = elim (cause_of (ok_or (scts_in (completed xs)) BadTime) (λ m. run_in Truncated 7 xs >>= (λ stamp. Ok (m, stamp.1))) Truncated e) [
   | at_once p ↦ absurd (found (scts_in (completed xs)) BadTime Truncated time_isn't p)
   | behind m p q ↦ elim (cause_of (run_in Truncated 7 xs) (λ stamp. Ok (m, stamp.1)) Truncated q) [
-    | at_once r ↦ stamp_by xs m (run_is_short 7 xs r) fits (some_of (scts_in (completed xs)) m p)
+    | at_once r ↦ stamp_by xs m (run_is_short 7 xs r) fits (ok_or_is (scts_in (completed xs)) m p)
     | behind x r s ↦ absurd (no_fault {X = ℕ × List ℕ} (m, x.1) Truncated s)
   ]
 ]
@@ -149,7 +136,7 @@ first_second = refl
 pub time_completes : Completes time_in
 time_completes = record {
   grows = time_grows;
-  starts = (0 ∷ 16 ∷ 16 ∷ 0 ∷ 0 ∷ 0 ∷ 0 ∷ [], ((omega arith, (omega arith, (omega arith, zeros_fit 4))), (946684800, stamp_read 0 16 16 0 0 0 0 946684800 first_second)));
+  starts = (0 ∷ 16 ∷ 16 ∷ 0 ∷ 0 ∷ 0 ∷ 0 ∷ [], ((omega arith, (omega arith, (omega arith, zeros_octets 4))), (946684800, stamp_read 0 16 16 0 0 0 0 946684800 first_second)));
 }
 
 -- ---- digits
@@ -228,7 +215,7 @@ name_grows count xs fits e =
           let here : eqb (value_in 256 xs / 128 ^ n) 0 ≡ true = ap (λ (l : List ℕ). eqb (value_in 256 l / 128 ^ n) 0) (sym (take_all k xs (omega (arith, lt)))) ∙ p.0 in
           let zs = xs ++ zeros (k - length xs) in
           let w = whole_name count zs (padded_len xs k lt) (ap (λ (v : ℕ). eqb (v / 128 ^ n) 0) (padded_value 0 xs (k - length xs)) ∙ here) in
-          (zeros (k - length xs), (zeros_fit (k - length xs), w))
+          (zeros (k - length xs), (zeros_octets (k - length xs), w))
       | behind x q s ↦ absurd (no_fault {X = List ℕ × List ℕ} _ Truncated s)
     ]
 
@@ -239,8 +226,8 @@ name_starts : (count : ℕ) → (ys : List ℕ) × (AreOctets ys × ((x : List �
 name_starts count =
     let k = octets_for count in
     let clear : eqb (value_in 256 (zeros k) / 128 ^ name_length count) 0 ≡ true = eq-eqb _ _ (ap (λ (v : ℕ). v / 128 ^ name_length count) (zeros_value k) ∙ no_quotient (128 ^ name_length count)) in
-    let w = whole_name count (zeros k) (zeros_len k) clear in
-    (zeros k, (zeros_fit k, w))
+    let w = whole_name count (zeros k) (zeros_length k) clear in
+    (zeros k, (zeros_octets k, w))
 
 characters_complete : (b : Bool) (count : ℕ) → Completes (characters_in b count)
 unfolding characters_in
@@ -325,12 +312,6 @@ too_short (Err TooShort) none e = refl
 too_short (Err BitsOutside) none e = absurd cc
 too_short (Err NoMemory) none e = absurd (none refl)
 
-passed_test : (r : Result (Unit {0}) UnpackError) (x : Unit {0}) → of_test r ≡ Ok x → r ≡ Ok tt
-passed_test (Ok done) x e = refl
-passed_test (Err TooShort) x e = absurd cc
-passed_test (Err BitsOutside) x e = absurd cc
-passed_test (Err NoMemory) x e = absurd cc
-
 abbrev test_by : Bool → Bool → Bool → Bool → Result (Unit {0}) UnpackError
 test_by a b c d = cond (not a) (Err BitsOutside) (cond b (Err TooShort) (cond (c || not d) (Err BitsOutside) (Ok tt)))
 
@@ -392,7 +373,7 @@ content_ok Septets h n xs x e =
     let o = drop h xs in
     let fill = fill_behind h n in
     let m = n - header_septets h in
-    eqb-true _ _ (ok_says (eqb (value_in 256 o % 2 ^ fill) 0) (ltb (length o) (packed_len fill m)) (ltb (packed_len fill m) (length o)) (ltb (value_in 256 o / 2 ^ fill) (128 ^ m)) (passed_test (tested o fill m) x e))
+    eqb-true _ _ (ok_says (eqb (value_in 256 o % 2 ^ fill) 0) (ltb (length o) (packed_len fill m)) (ltb (packed_len fill m) (length o)) (ltb (value_in 256 o / 2 ^ fill) (128 ^ m)) (test_is (tested o fill m) x e))
 content_ok Octets h n xs x e = tt
 content_ok Ucs2 h n xs x e = tt
 content_ok Compressed h n xs x e = tt
@@ -486,7 +467,7 @@ text_grows coding with_header n xs fits e =
     let p = padded coding with_header n j xs s in
     let zs = xs ++ zeros j in
     let content = content_whole coding (header_octets with_header zs) n xs fits s.less (within_any with_header k zs p.fits) p.clear in
-    (zeros j, (zeros_fit j, (zs, text_whole coding with_header n zs (padded_len xs k s.less) p.fits content)))
+    (zeros j, (zeros_octets j, (zs, text_whole coding with_header n zs (padded_len xs k s.less) p.fits content)))
 
 data_starts : (coding : Coding) (with_header : Bool) → Grows (user_data_in coding with_header) []
 unfolding user_data_in text_in text_test run_in

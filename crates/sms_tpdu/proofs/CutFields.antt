@@ -1,5 +1,5 @@
 -- The fields of a list that was cut: what is read is the same, or the list ends too early.
-use Rattle.std.proofs.Common.{◌≡◌, ℕ, zero, suc, ◌+◌, ◌-◌, ◌*◌, ◌/◌, ◌%◌, ◌^◌, ◌<◌, ◌≤◌, Bool, true, false, not, ◌||◌, cond, eqb, ltb, leb, List, [], ◌∷◌, ◌++◌, length, get_or, take, drop, Option, Some, None, Result, Ok, Err, refl, sym, ap, subst, ◌∙◌, arith, inl, inr, append_assoc}
+use Rattle.std.proofs.Common.{◌≡◌, ℕ, zero, suc, ◌+◌, ◌-◌, ◌*◌, ◌/◌, ◌%◌, ◌^◌, ◌<◌, ◌≤◌, Bool, true, false, not, ◌||◌, cond, eqb, ltb, leb, List, [], ◌∷◌, ◌++◌, length, get_or, take, drop, Some, Result, Ok, Err, refl, sym, ap, subst, ◌∙◌, arith, inl, inr, append_assoc}
 use Rattle.std.specs.Prelude.{◌⊎◌}
 use Rattle.std.specs.Option.{ok_or}
 use Rattle.std.proofs.lemmas.Bool.{ltb-true, ltb-false, eqb-true, lt-ltb, le-leb, eq-eqb}
@@ -8,6 +8,7 @@ use Rattle.std.proofs.Math.Nat.{one-le-pow}
 use Rattle.sms_base.specs.Reading.{◌>>=◌, only_if, octet_in, run_in}
 use Rattle.sms_base.proofs.Steps.{bind_ok, passes, ok_is, run_takes}
 use Rattle.sms_base.proofs.Cuts.{Less, CutsShort, cuts_octet, cuts_run, cuts_pure, cuts_bind, cuts_test}
+use Rattle.sms_base.proofs.Lists.{no_items}
 use Rattle.sms_base.specs.TimeStamp.{scts_in}
 use Rattle.sms_base.specs.AddressKind.{is_name}
 use Rattle.sms_base.specs.Alphabet.{text_in as characters_of}
@@ -15,7 +16,7 @@ use Rattle.sms_alphabet.specs.Packing.{value_in, packed_len, tested, digits_in a
 use Rattle.sms_alphabet.specs.declared.scheme.Coding.{Coding}
 use Rattle.sms_alphabet.specs.declared.scheme.Coding.TheVariants.{Septets, Octets, Ucs2, Compressed}
 use Rattle.sms_alphabet.specs.declared.unpacking.UnpackError.{UnpackError}
-use Rattle.sms_alphabet.specs.declared.unpacking.UnpackError.TheVariants.{TooShort, SpareBits as BitsOutside, NoMemory}
+use Rattle.sms_alphabet.specs.declared.unpacking.UnpackError.TheVariants.{TooShort, SpareBits as BitsOutside}
 use Rattle.sms_alphabet.proofs.Value.{value-append}
 use Rattle.sms_tpdu.specs.declared.fault.TpduFault.{TpduFault}
 use Rattle.sms_tpdu.specs.declared.fault.TpduFault.TheVariants.{Truncated, BadAddress, BadTime, UserDataTooLong, BadHeader}
@@ -24,9 +25,10 @@ use Rattle.sms_tpdu.specs.AddressReading.{two_digits_in, last_digit_in, digits_i
 use Rattle.sms_tpdu.specs.TimeReading.{completed, time_in}
 use Rattle.sms_tpdu.specs.UserDataGrammar.{octets_of, header_septets, fill_behind}
 use Rattle.sms_tpdu.specs.UserDataReading.{of_test, content_test, text_test, text_in, user_data_in}
-use Rattle.sms_tpdu.proofs.Times.{whole_completed}
+use Rattle.sms_tpdu.proofs.Times.{ok_or_is, whole_completed}
 use Rattle.sms_tpdu.proofs.Addresses.{quotient_zero, zero_quotient}
 use Rattle.sms_tpdu.proofs.CutStamps.{cut_stamp}
+use Rattle.sms_tpdu.proofs.Texts.{test_is}
 
 -- ---- steps
 
@@ -158,10 +160,6 @@ stamp_front (a ∷ b ∷ c ∷ d ∷ e ∷ []) ys m lt h = (cut_stamp a b c d e 
 stamp_front (a ∷ b ∷ c ∷ d ∷ e ∷ f ∷ []) ys m lt h = (cut_stamp a b c d e f (get_or ys 0 0) m h).six
 stamp_front (a ∷ b ∷ c ∷ d ∷ e ∷ f ∷ g ∷ xs) ys m lt h = absurd (omega arith)
 
-some_time : (o : Option ℕ) (m : ℕ) → ok_or o BadTime ≡ Ok m → o ≡ Some m
-some_time (Some n) m e = cc
-some_time None m e = absurd cc
-
 same_stamp : (xs ys : List ℕ) → 7 ≤ length xs → completed (xs ++ ys) ≡ completed xs
 same_stamp xs ys le =
     let len : length (take 7 xs) ≡ 7 = omega (arith, length-take 7 xs) in
@@ -174,7 +172,7 @@ unfolding time_in
 time_by xs ys z true t e =
     let a = bind_ok (ok_or (scts_in (completed (xs ++ ys))) BadTime) _ z e in
     let lt : length xs < 7 = ltb-true _ _ t in
-    let f = stamp_front xs ys a.0 lt (some_time _ a.0 a.1) in
+    let f = stamp_front xs ys a.0 lt (ok_or_is _ a.0 a.1) in
     inr (rw (f.1, run_short Truncated 7 xs lt) refl)
 time_by xs ys z false t e =
     let a = bind_ok (ok_or (scts_in (completed (xs ++ ys))) BadTime) _ z e in
@@ -227,10 +225,6 @@ tested_by o fill count false b c d ha hb hc e = absurd cc
 abbrev TestedOrShort : List ℕ → ℕ → ℕ → Type 0
 TestedOrShort o fill count = (tested o fill count ≡ Ok tt) ⊎ (tested o fill count ≡ Err TooShort)
 
-nothing : (r : List ℕ) → length r ≡ 0 → r ≡ []
-nothing [] e = refl
-nothing (x ∷ r) e = absurd (omega arith)
-
 front_tested_by : (o r : List ℕ) (fill count : ℕ) (b : Bool) → ltb (length o) (packed_len fill count) ≡ b → fill < 7 → tested (o ++ r) fill count ≡ Ok tt → TestedOrShort o fill count
 front_tested_by o r fill count true t lt e =
     let w = tested_by (o ++ r) fill count _ _ _ _ refl refl refl e in
@@ -239,7 +233,7 @@ front_tested_by o r fill count true t lt e =
 front_tested_by o r fill count false t lt e =
     let w = tested_by (o ++ r) fill count _ _ _ _ refl refl refl e in
     let none : length r ≡ 0 = omega (arith, ltb-false _ _ t, w.len, length-append o r) in
-    let same : o ++ r ≡ o = ap (λ (l : List ℕ). o ++ l) (nothing r none) ∙ append-nil o in
+    let same : o ++ r ≡ o = ap (λ (l : List ℕ). o ++ l) (no_items r none) ∙ append-nil o in
     inl (ap (λ (l : List ℕ). tested l fill count) (sym same) ∙ e)
 
 front_tested : (o r : List ℕ) (fill count : ℕ) → fill < 7 → tested (o ++ r) fill count ≡ Ok tt → TestedOrShort o fill count
@@ -250,12 +244,6 @@ fill_small header n = by (leb (header_septets header) n) where
   by : (b : Bool) → cond b (7 * header_septets header - 8 * header) 0 < 7
   by true = omega arith
   by false = omega arith
-
-test_is : (r : Result (Unit {0}) UnpackError) (x : Unit {0}) → of_test r ≡ Ok x → r ≡ Ok tt
-test_is (Ok y) x e = refl
-test_is (Err TooShort) x e = absurd cc
-test_is (Err BitsOutside) x e = absurd cc
-test_is (Err NoMemory) x e = absurd cc
 
 passing_of : (o : List ℕ) (fill count : ℕ) → TestedOrShort o fill count → Passing Truncated (of_test (tested o fill count))
 passing_of o fill count h = elim h [

@@ -1,37 +1,14 @@
 -- A time stamp that is cut, and completed by the first second of January, is a time stamp.
-use Rattle.std.proofs.Common.{◌≡◌, subst, ℕ, ◌+◌, ◌<◌, ◌≤◌, Bool, true, false, cond, Option, Some, None, [], ◌∷◌, refl, sym, arith, ℤ, pos, ◌+ℤ◌, ◌*ℤ◌, ◌-ℤ◌, ◌≤ℤ◌, unsigned_abs, int_le}
+use Rattle.std.proofs.Common.{◌≡◌, subst, ℕ, ◌+◌, ◌<◌, ◌≤◌, Bool, true, false, cond, Option, Some, None, [], ◌∷◌, refl, sym, arith, ℤ, pos, ◌-ℤ◌, ◌≤ℤ◌, unsigned_abs, int_le}
 use Rattle.jiff_core.specs.declared.civil.datetime.DateTime.{DateTime}
 use Rattle.jiff_core.specs.DateTime.{civil_seconds}
-use Rattle.jiff_core.specs.Date.{epoch_day}
-use Rattle.jiff_core.specs.Time.{time_seconds}
-use Rattle.jiff_core.specs.Calendar.{day_count, days_in_month, IsBetween, IsCivilDate}
-use Rattle.jiff_core.proofs.CalendarLemmas.{days_in_month_bounds, days_from_civil-day_count, day_count-lt_year, day_count-last_of_year}
-use Rattle.jiff_core.proofs.MarchLemmas.{day_count-early}
-use Rattle.jiff_core.proofs.DateLemmas.{civil}
+use Rattle.jiff_core.specs.Calendar.{days_in_month, IsBetween}
+use Rattle.jiff_core.proofs.CalendarLemmas.{days_in_month_bounds, days_from_civil-day_count}
 use Rattle.jiff_core.proofs.SignedLemmas.{signed_arith}
 use Rattle.sms_base.specs.TimeStamp.{IsClock, is_clock, clock_seconds, clock_in, zone_in, zone_seconds, moment_in, pair_in, scts_in}
 use Rattle.sms_base.proofs.ClockTests.{Passes, passes, tests, clock_by}
 use Rattle.sms_base.proofs.Stamps.{bind_some, pair_in-is}
-
-last_day : (y : ℤ) → IsBetween (pos 1990) (pos 2100) y → IsCivilDate y 12 31
-last_day y h = ((omega (arith, signed_arith), omega (arith, signed_arith)), (omega arith, omega arith), (omega arith, omega arith))
-
-day_count-2100 : day_count (pos 2100) 1 1 ≡ 4419435
-day_count-2100 = day_count-early (pos 2100) 12099 1 1 refl (omega arith) (omega arith) (omega arith)
-
-day_count-1999 : day_count (pos 1999) 12 31 ≡ 4382909
-day_count-1999 = omega (arith, day_count-last_of_year (pos 1999), day_count-early (pos 1999) 11998 1 1 refl (omega arith) (omega arith) (omega arith))
-
-days_between : (dt : DateTime) → IsBetween (pos 2000) (pos 2099) dt.date.year
-    → (4382910 ≤ day_count dt.date.year dt.date.month dt.date.day) × (day_count dt.date.year dt.date.month dt.date.day ≤ 4419434)
-days_between dt h =
-    let low = day_count-lt_year (pos 1999) 12 31 dt.date.year dt.date.month dt.date.day (last_day (pos 1999) (omega (arith, signed_arith), omega (arith, signed_arith))) dt.date.day_in.0 (omega (arith, signed_arith)) in
-    let high = day_count-lt_year dt.date.year dt.date.month dt.date.day (pos 2100) 1 1 (civil dt.date) (omega arith) (omega (arith, signed_arith)) in
-    (omega (arith, day_count-1999), omega (arith, day_count-2100))
-
-unfolded : (dt : DateTime) → civil_seconds dt ≡ epoch_day dt.date *ℤ pos 86400 +ℤ pos (time_seconds dt.time)
-unfolding civil_seconds
-unfolded dt = refl
+use Rattle.sms_base.proofs.Century.{days_between, unfolded}
 
 century : (dt : DateTime) → IsBetween (pos 2000) (pos 2099) dt.date.year → IsBetween (pos 946684800) (pos 4102444799) (civil_seconds dt)
 century dt h =

@@ -4,6 +4,7 @@ use Rattle.std.specs.Prelude.{◌⊎◌}
 use Rattle.std.proofs.lemmas.List.{append-nil}
 use Rattle.sms_base.specs.Reading.{◌>>=◌, octet_in, end_in, AreOctets}
 use Rattle.sms_base.proofs.Steps.{bind_ok, ok_is}
+use Rattle.sms_base.proofs.OctetLaws.{octets_before}
 use Rattle.sms_alphabet.specs.DataCodingScheme.{coding_of}
 use Rattle.sms_tpdu.specs.declared.fault.TpduFault.{TpduFault}
 use Rattle.sms_tpdu.specs.declared.fault.TpduFault.TheVariants.{Truncated, TrailingOctets, UnsupportedType, UnsupportedValidity}
@@ -179,19 +180,15 @@ up_trails InData xs fits e = made_trails submit_at (λ s. Submit s) submit_trail
 up_trails InAck xs fits e = made_trails (deliver_report_at false) (λ r. DeliverReport r) (deliver_report_trails false) xs fits e
 up_trails InError xs fits e = made_trails (deliver_report_at true) (λ r. DeliverReport r) (deliver_report_trails true) xs fits e
 
-front_fits : (xs ys : List ℕ) → AreOctets (xs ++ ys) → AreOctets xs
-front_fits [] ys h = tt
-front_fits (x ∷ xs) ys h = (h.0, front_fits xs ys h.1)
-
 pub down_left_over : (carrier : Carrier) (xs : List ℕ) → AreOctets xs → down_at carrier xs ≡ Err TrailingOctets → (front : List ℕ) × (octet : ℕ) × (rest : List ℕ) × (tpdu : Down) × (xs ≡ front ++ octet ∷ rest) × IsDown carrier front tpdu
 down_left_over carrier xs fits e =
     let t = down_trails carrier xs fits e in
-    (t.0, t.1, t.2, t.3, t.4, down_takes carrier t.0 t.3 (front_fits t.0 (t.1 ∷ t.2) (subst AreOctets t.4 fits)) t.5)
+    (t.0, t.1, t.2, t.3, t.4, down_takes carrier t.0 t.3 (octets_before t.0 (t.1 ∷ t.2) (subst AreOctets t.4 fits)) t.5)
 
 pub up_left_over : (carrier : Carrier) (xs : List ℕ) → AreOctets xs → up_at carrier xs ≡ Err TrailingOctets → (front : List ℕ) × (octet : ℕ) × (rest : List ℕ) × (tpdu : Up) × (xs ≡ front ++ octet ∷ rest) × IsUp carrier front tpdu
 up_left_over carrier xs fits e =
     let t = up_trails carrier xs fits e in
-    (t.0, t.1, t.2, t.3, t.4, up_takes carrier t.0 t.3 (front_fits t.0 (t.1 ∷ t.2) (subst AreOctets t.4 fits)) t.5)
+    (t.0, t.1, t.2, t.3, t.4, up_takes carrier t.0 t.3 (octets_before t.0 (t.1 ∷ t.2) (subst AreOctets t.4 fits)) t.5)
 
 -- ---- no continuation
 

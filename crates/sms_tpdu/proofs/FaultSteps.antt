@@ -3,9 +3,9 @@ use Rattle.std.proofs.Common.{◌≡◌, ℕ, Bool, true, false, List, [], ◌�
 use Rattle.std.proofs.lemmas.List.{append-nil}
 use Rattle.sms_base.specs.Reading.{◌>>=◌, only_if, octet_in, end_in, AreOctets}
 use Rattle.sms_base.proofs.Steps.{bind_ok, ok_is}
+use Rattle.sms_base.proofs.OctetLaws.{octets_behind}
 use Rattle.sms_tpdu.specs.declared.fault.TpduFault.{TpduFault}
 use Rattle.sms_tpdu.specs.declared.fault.TpduFault.TheVariants.{Truncated, TrailingOctets}
-use Rattle.sms_tpdu.proofs.Addresses.{suffix_fits}
 
 abbrev pub Reading : Type 0 → Type 0
 Reading X = List ℕ → Result (X × List ℕ) TpduFault
@@ -66,7 +66,7 @@ bind_field {X} {Y} r k hr hk = record {
   front = λ xs y fits e.
       let a = bind_ok (r xs) k y e in
       let f = hr.front xs a.0 fits a.1 in
-      let rest = suffix_fits f.0 a.0.1 (subst AreOctets f.1.0 fits) in
+      let rest = octets_behind f.0 a.0.1 (subst AreOctets f.1.0 fits) in
       let g = (hk a.0.0).front a.0.1 y rest a.2 in
       let whole : xs ≡ (f.0 ++ g.0) ++ y.1 = f.1.0 ∙ ap (λ (l : List ℕ). f.0 ++ l) g.1.0 ∙ sym (append_assoc f.0 g.0 y.1) in (
         f.0 ++ g.0,
@@ -94,7 +94,7 @@ trails_bind {X} {Z} r k hr hk xs fits e = elim (cause_of (r xs) k TrailingOctets
   | at_once p ↦ absurd (hr.untrailed xs p)
   | behind x p q ↦
       let f = hr.front xs x fits p in
-      let t = hk x.0 x.1 (suffix_fits f.0 x.1 (subst AreOctets f.1.0 fits)) q in
+      let t = hk x.0 x.1 (octets_behind f.0 x.1 (subst AreOctets f.1.0 fits)) q in
       let whole : xs ≡ (f.0 ++ t.0) ++ t.1 ∷ t.2 = f.1.0 ∙ ap (λ (l : List ℕ). f.0 ++ l) t.4 ∙ sym (append_assoc f.0 t.0 (t.1 ∷ t.2)) in
       (f.0 ++ t.0, t.1, t.2, t.3, whole, ap (λ (m : Result (X × List ℕ) TpduFault). m >>= k) (f.1.1 t.0) ∙ t.5)
 ]
@@ -149,7 +149,7 @@ bind_completes {X} {Y} r k f hr hk = record {
         (g.0 ++ s.0, (joined_fits g.0 s.0 g.1.0 s.1.0, (s.1.1.0, ap (λ (m : Result (X × List ℕ) TpduFault). m >>= k) one ∙ s.1.1.1)))
     | behind x p q ↦
         let t = f.front xs x fits p in
-        let g = (hk x.0).grows x.1 (suffix_fits t.0 x.1 (subst AreOctets t.1.0 fits)) q in
+        let g = (hk x.0).grows x.1 (octets_behind t.0 x.1 (subst AreOctets t.1.0 fits)) q in
         let one : r (xs ++ g.0) ≡ Ok (x.0, x.1 ++ g.0) = ap (λ (l : List ℕ). r (l ++ g.0)) t.1.0 ∙ ap r (append_assoc t.0 x.1 g.0) ∙ t.1.1 (x.1 ++ g.0) in
         (g.0, (g.1.0, (g.1.1.0, ap (λ (m : Result (X × List ℕ) TpduFault). m >>= k) one ∙ g.1.1.1)))
   ];
@@ -170,7 +170,7 @@ whole_completes {X} {Z} r k f hr hk = record {
         (g.0 ++ s.0, (joined_fits g.0 s.0 g.1.0 s.1.0, (s.1.1.0, ap (λ (m : Result (X × List ℕ) TpduFault). m >>= k) one ∙ s.1.1.1)))
     | behind x p q ↦
         let t = f.front xs x fits p in
-        let g = (hk x.0).grows x.1 (suffix_fits t.0 x.1 (subst AreOctets t.1.0 fits)) q in
+        let g = (hk x.0).grows x.1 (octets_behind t.0 x.1 (subst AreOctets t.1.0 fits)) q in
         let one : r (xs ++ g.0) ≡ Ok (x.0, x.1 ++ g.0) = ap (λ (l : List ℕ). r (l ++ g.0)) t.1.0 ∙ ap r (append_assoc t.0 x.1 g.0) ∙ t.1.1 (x.1 ++ g.0) in
         (g.0, (g.1.0, (g.1.1.0, ap (λ (m : Result (X × List ℕ) TpduFault). m >>= k) one ∙ g.1.1.1)))
   ];

@@ -3,7 +3,7 @@ use Rattle.std.proofs.Common.{◌≡◌, ℕ, ◌<◌, ◌≤◌, Bool, true, fa
 use Rattle.std.specs.Prelude.{IfOk}
 use Rattle.std.proofs.lemmas.List.{length-append}
 use Rattle.std.specs.declared.alloc.AllocError.{AllocError}
-use Rattle.sms_base.proofs.Stamps.{written_is_scts}
+use Rattle.sms_base.proofs.WrittenStamps.{written_is_stamp}
 use Rattle.sms_alphabet.specs.declared.scheme.Coding.{Coding}
 use Rattle.sms_alphabet.specs.declared.scheme.Coding.TheVariants.{Septets, Octets, Ucs2, Compressed}
 use Rattle.sms_tpdu.specs.declared.user_data.UserData.{UserData}
@@ -21,7 +21,7 @@ use Rattle.sms_tpdu.specs.TpduGrammar.{IsWrittenDeliver, IsWrittenSubmit, IsWrit
 use Rattle.sms_tpdu.proofs.Times.{stamp_len}
 use Rattle.sms_tpdu.proofs.NameValues.{field_short}
 
-few_octets : (coding : Coding) (n : ℕ) → n ≤ greatest_length coding → octets_of coding n ≤ 140
+pub few_octets : (coding : Coding) (n : ℕ) → n ≤ greatest_length coding → octets_of coding n ≤ 140
 few_octets Septets n le = omega arith
 few_octets Octets n le = le
 few_octets Ucs2 n le = le
@@ -35,7 +35,7 @@ deliver_short (Err e) d h = tt
 deliver_short (Ok o) d (stamp, is_address, is_stamp, is_text, whole) =
     let from = address_field d.originating_address in
     let f = field_short d.originating_address is_address in
-    let s : length stamp ≡ 7 = stamp_len stamp d.service_centre_time_stamp (written_is_scts stamp d.service_centre_time_stamp is_stamp) in
+    let s : length stamp ≡ 7 = stamp_len stamp d.service_centre_time_stamp (written_is_stamp stamp d.service_centre_time_stamp is_stamp) in
     let t = data_short _ _ d.user_data is_text in
     rw whole (omega (arith, f, s, t, length-append from (d.protocol_identifier ∷ d.data_coding_scheme ∷ (stamp ++ user_data_field d.user_data)), length-append stamp (user_data_field d.user_data)))
 
@@ -61,14 +61,14 @@ parameters_short with_header p h =
 pub submit_report_short : (r : Result (List ℕ) AllocError) (s : SubmitReport) → IfOk r (λ o. IsWrittenSubmitReport o s) → IfOk r (λ o. length o < 256)
 submit_report_short (Err e) s h = tt
 submit_report_short (Ok o) s (stamp, is_stamp, is_data, whole) =
-    let t : length stamp ≡ 7 = stamp_len stamp s.service_centre_time_stamp (written_is_scts stamp s.service_centre_time_stamp is_stamp) in
+    let t : length stamp ≡ 7 = stamp_len stamp s.service_centre_time_stamp (written_is_stamp stamp s.service_centre_time_stamp is_stamp) in
     let p = parameters_short false s.parameters is_data in
     rw whole (omega (arith, t, p, octet_short s.failure_cause, length-append (octet_field s.failure_cause) (indicator_of s.parameters ∷ (stamp ++ parameter_fields s.parameters)), length-append stamp (parameter_fields s.parameters)))
 
 validity_short : (text : List ℕ) (v : ValidityPeriod) → IsWrittenValidityField text v → length text ≤ 7
 validity_short text NotPresent h = rw h (omega arith)
 validity_short text (Relative period) h = rw h (omega arith)
-validity_short text (Absolute moment) h = omega (arith, stamp_len text moment (written_is_scts text moment h))
+validity_short text (Absolute moment) h = omega (arith, stamp_len text moment (written_is_stamp text moment h))
 
 pub submit_short : (r : Result (List ℕ) AllocError) (s : Submit) → IfOk r (λ o. IsWrittenSubmit o s) → IfOk r (λ o. length o < 256)
 submit_short (Err e) s h = tt
@@ -96,8 +96,8 @@ pub status_report_short : (r : Result (List ℕ) AllocError) (s : StatusReport) 
 status_report_short (Err e) s h = tt
 status_report_short (Ok o) s (stamp, discharge, is_address, is_stamp, is_discharge, is_data, whole) =
     let to = address_field s.recipient_address in
-    let a : length stamp ≡ 7 = stamp_len stamp s.service_centre_time_stamp (written_is_scts stamp s.service_centre_time_stamp is_stamp) in
-    let b : length discharge ≡ 7 = stamp_len discharge s.discharge_time (written_is_scts discharge s.discharge_time is_discharge) in
+    let a : length stamp ≡ 7 = stamp_len stamp s.service_centre_time_stamp (written_is_stamp stamp s.service_centre_time_stamp is_stamp) in
+    let b : length discharge ≡ 7 = stamp_len discharge s.discharge_time (written_is_stamp discharge s.discharge_time is_discharge) in
     let t : length (status_tail s.parameters) ≤ 144 = tail_by (eqb (indicator_of s.parameters) 0) s.user_data_header_indicator s.parameters is_data in
     let c = length-append to (stamp ++ (discharge ++ (s.status ∷ []))) in
     let d = length-append stamp (discharge ++ (s.status ∷ [])) in

@@ -7,6 +7,7 @@ pub mod Texts
 pub mod Delivers
 pub mod Submits
 pub mod Reports
+pub mod RelayAddresses
 pub mod Carriers
 pub mod DigitsPut
 pub mod NameValues

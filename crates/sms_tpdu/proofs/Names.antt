@@ -2,7 +2,7 @@
 use Rattle.std.proofs.Common.{◌≡◌, ℕ, zero, suc, ◌<◌, ◌≤◌, Bool, true, false, ◌&&◌, eqb, List, [], ◌∷◌, ◌++◌, length, Option, Some, None, refl, sym, ap, subst, ◌∙◌, arith}
 use Rattle.std.specs.Prelude.{is_some}
 use Rattle.std.specs.List.{AllByRecursion}
-use Rattle.std.proofs.lemmas.Bool.{eqb-true, eqb-false}
+use Rattle.std.proofs.lemmas.Bool.{eqb-true, eqb-false, and_parts}
 use Rattle.std.proofs.lemmas.List.{length-append}
 use Rattle.sms_base.specs.Address.{width_of, septet_count, has_code}
 use Rattle.sms_base.specs.Alphabet.{IsPair, IsSpelling, code_for, text_in, main_character, escaped_character, extended_character_of, main_septet_of, extended_septet_of}
@@ -19,17 +19,12 @@ all_under : (ℕ → Bool) → ℕ → Bool
 all_under test zero = true
 all_under test (suc n) = test n && all_under test n
 
-both : (a b : Bool) → a && b ≡ true → (a ≡ true) × (b ≡ true)
-both true true e = (refl, refl)
-both true false e = absurd cc
-both false b e = absurd cc
-
 under_at : (test : ℕ → Bool) (n k : ℕ) → all_under test n ≡ true → k < n → test k ≡ true
 unfolding all_under
 under_at test zero k e lt = absurd (omega arith)
-under_at test (suc n) k e lt = pick (λ less. under_at test n k (both (test n) (all_under test n) e).1 less) (eqb k n) refl where
+under_at test (suc n) k e lt = pick (λ less. under_at test n k (and_parts (test n) (all_under test n) e).1 less) (eqb k n) refl where
   pick : (k < n → test k ≡ true) → (b : Bool) → eqb k n ≡ b → test k ≡ true
-  pick below true t = ap test (eqb-true k n t) ∙ (both (test n) (all_under test n) e).0
+  pick below true t = ap test (eqb-true k n t) ∙ (and_parts (test n) (all_under test n) e).0
   pick below false t =
       let ne : k ≡ n → ⊥ = eqb-false k n t in
       below (omega (arith, ne))

@@ -1,6 +1,6 @@
 -- Numbers of so many digits in base 256.
 use Rattle.std.proofs.Common.{◌≡◌, ℕ, zero, suc, ◌+◌, ◌*◌, ◌/◌, ◌^◌, ◌<◌, ◌≤◌, List, [], ◌∷◌, length, refl, ap, arith}
-use Rattle.std.proofs.Math.Nat.{pow-succ', pow-zero, pow-le-pow_right}
+use Rattle.std.proofs.Math.Nat.{pow-succ', pow-le-pow_right}
 use Rattle.std.proofs.lemmas.Nat.{pow-add}
 use Rattle.sms_base.specs.Reading.{AreOctets}
 use Rattle.sms_alphabet.specs.Packing.{value_in, digits_in, packed_len}
@@ -36,12 +36,6 @@ value_more n o v lo lv =
     let e : 256 ^ (n + 1) ≡ 256 ^ n * 256 ^ 1 = pow-add 256 n 1 in
     let f : 256 ^ n * 256 ^ 1 ≡ 256 * 256 ^ n = omega arith in
     omega (arith, e, f)
-
-pub octets_back : (n v : ℕ) → v < 256 ^ n → value_in 256 (digits_in 256 n v) ≡ v
-octets_back zero v lt = omega (arith, pow-zero 256)
-octets_back (suc n) v lt =
-    let below : v / 256 < 256 ^ n = omega (arith, pow-succ' 256 n) in
-    omega (arith, octets_back n (v / 256) below)
 
 pub octets_len : (n v : ℕ) → length (digits_in 256 n v) ≡ n
 octets_len zero v = refl

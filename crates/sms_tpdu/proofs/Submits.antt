@@ -1,9 +1,9 @@
 -- A SUBMIT as a whole.
 use Rattle.std.proofs.Common.{◌≡◌, ℕ, zero, suc, ◌/◌, ◌%◌, ◌<◌, true, not, eqb, List, [], ◌∷◌, ◌++◌, Ok, refl, sym, ap, subst, ◌∙◌, arith}
-use Rattle.std.proofs.lemmas.Bool.{eqb-true, eqb-false, eq-eqb}
+use Rattle.std.proofs.lemmas.Bool.{eqb-true, eqb-false, eq-eqb, not-true}
 use Rattle.std.proofs.lemmas.List.{append-nil}
 use Rattle.sms_base.specs.Reading.{only_if, octet_in, end_in, AreOctets}
-use Rattle.sms_base.proofs.Steps.{bind_ok, passes, ok_is, not_true, octet_takes, end_takes}
+use Rattle.sms_base.proofs.Steps.{bind_ok, passes, ok_is, octet_takes, end_takes}
 use Rattle.sms_alphabet.specs.DataCodingScheme.{coding_of}
 use Rattle.sms_tpdu.specs.declared.fault.TpduFault.{TpduFault}
 use Rattle.sms_tpdu.specs.declared.fault.TpduFault.TheVariants.{Truncated, TrailingOctets, UnsupportedType, UnsupportedValidity}
@@ -119,7 +119,7 @@ submit_takes xs s fits e =
     let v = bind_ok (only_if (not (eqb (first / 8 % 4) 1)) UnsupportedValidity) _ s b.2 in
     let pa = octet_takes Truncated xs a.0 a.1 in
     let fa = rest_fits first a.0.1 xs pa fits in
-    let ne : first / 8 % 4 ≡ 1 → ⊥ = eqb-false (first / 8 % 4) 1 (not_true _ (passes _ UnsupportedValidity v.0 v.1)) in
+    let ne : first / 8 % 4 ≡ 1 → ⊥ = eqb-false (first / 8 % 4) 1 (not-true _ (passes _ UnsupportedValidity v.0 v.1)) in
     let t = rest_takes first a.0.1 s ne fa.1 v.2 in
     let head : IsSubmitHead first s = record { message_type = eqb-true (first % 4) 1 (passes _ UnsupportedType b.0 b.1); reject_duplicates = t.bits.0; validity = t.format; status_report = t.bits.1; header = t.bits.2; reply_path = t.bits.3 } in
     (first, t.to, t.period, head, t.is_to, t.is_period, t.is_text, pa ∙ t.whole)

@@ -4,6 +4,7 @@ use Rattle.std.proofs.lemmas.Bool.{ltb-true, leb-true, lt-ltb, le-leb}
 use Rattle.std.proofs.lemmas.List.{take_at}
 use Rattle.sms_base.specs.Reading.{only_if, octet_in, AreOctets}
 use Rattle.sms_base.proofs.Steps.{bind_ok, passes, ok_is, octet_takes, run_takes, run_again}
+use Rattle.sms_base.proofs.OctetLaws.{octets_behind}
 use Rattle.sms_alphabet.specs.Packing.{tested, unpacked, and_then, septets_in}
 use Rattle.sms_alphabet.specs.declared.scheme.Coding.{Coding}
 use Rattle.sms_alphabet.specs.declared.scheme.Coding.TheVariants.{Septets, Octets, Ucs2, Compressed}
@@ -15,11 +16,10 @@ use Rattle.sms_tpdu.specs.declared.fault.TpduFault.TheVariants.{Truncated, UserD
 use Rattle.sms_tpdu.specs.declared.user_data.UserData.{UserData}
 use Rattle.sms_tpdu.specs.UserDataGrammar.{greatest_length, octets_of, header_octets, header_septets, fill_behind, IsContentBehind, HasHeader, IsUserData, user_data_field}
 use Rattle.sms_tpdu.specs.UserDataReading.{header_fits, of_test, content_test, text_test, text_in, user_data_in}
-use Rattle.sms_tpdu.proofs.Addresses.{suffix_fits}
 
 -- ---- what stands behind the header
 
-test_is : (r : Result (Unit {0}) UnpackError) (x : Unit {0}) → of_test r ≡ Ok x → r ≡ Ok tt
+pub test_is : (r : Result (Unit {0}) UnpackError) (x : Unit {0}) → of_test r ≡ Ok x → r ≡ Ok tt
 test_is (Ok y) x e = refl
 test_is (Err TooShort) x e = absurd cc
 test_is (Err BitsOutside) x e = absurd cc
@@ -135,7 +135,7 @@ data_takes coding with_header xs x fits e =
     let is : IsUserData coding with_header made = record { within = leb-true _ _ (passes _ UserDataTooLong b.0 b.1); whole = t.len; header = header_takes coding with_header n d.0.0 t.len (passes _ BadHeader c.0 c.1) t.header; content = t.content } in
     let whole : xs ≡ user_data_field made ++ d.0.1 = pa ∙ ap (λ (l : List ℕ). n ∷ l) t.parts in
     subst (λ (y : UserData × List ℕ). TakesData coding with_header xs y.0 y.1) (ok_is {E = TpduFault} (made, d.0.1) x d.2)
-    (record { parts = whole; is = is; rest_fits = suffix_fits (user_data_field made) d.0.1 (subst AreOctets whole fits) })
+    (record { parts = whole; is = is; rest_fits = octets_behind (user_data_field made) d.0.1 (subst AreOctets whole fits) })
 
 pub data_again : (coding : Coding) (with_header : Bool) (u : UserData) (rest : List ℕ) → IsUserData coding with_header u → user_data_in coding with_header (user_data_field u ++ rest) ≡ Ok (u, rest)
 unfolding user_data_in

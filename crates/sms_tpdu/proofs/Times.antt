@@ -5,9 +5,9 @@ use Rattle.sms_base.specs.Reading.{run_in, AreOctets}
 use Rattle.sms_base.proofs.Steps.{bind_ok, ok_is, run_takes, run_again}
 use Rattle.sms_base.specs.TimeStamp.{IsScts, scts_in}
 use Rattle.sms_base.proofs.Stamps.{stamp_is_read, read_is_stamp}
+use Rattle.sms_base.proofs.OctetLaws.{octets_behind}
 use Rattle.sms_tpdu.specs.declared.fault.TpduFault.{TpduFault}
 use Rattle.sms_tpdu.specs.declared.fault.TpduFault.TheVariants.{Truncated, BadTime}
-use Rattle.sms_tpdu.proofs.Addresses.{suffix_fits}
 use Rattle.sms_tpdu.specs.TimeReading.{completed, time_in}
 
 -- a whole stamp is completed by nothing
@@ -28,7 +28,7 @@ pub record TakesTime (xs : List ℕ) (m : ℕ) (rest : List ℕ) : Type 0 where
   pub is : IsScts text m
   pub rest_fits : AreOctets rest
 
-ok_or_is : (o : Option ℕ) (m : ℕ) → ok_or o BadTime ≡ Ok m → o ≡ Some m
+pub ok_or_is : (o : Option ℕ) (m : ℕ) → ok_or o BadTime ≡ Ok m → o ≡ Some m
 ok_or_is (Some n) m e = cc
 ok_or_is None m e = absurd cc
 
@@ -42,7 +42,7 @@ time_takes xs x fits e =
     let read : scts_in b.0.0 ≡ Some a.0 = ap scts_in (sym same) ∙ ok_or_is _ a.0 a.1 in
     let is = read_is_stamp b.0.0 a.0 p.1 read in
     subst (λ (y : ℕ × List ℕ). TakesTime xs y.0 y.1) (ok_is {E = TpduFault} (a.0, b.0.1) x b.2)
-    (record { text = b.0.0; parts = p.0; is = is; rest_fits = suffix_fits b.0.0 b.0.1 (subst AreOctets p.0 fits) })
+    (record { text = b.0.0; parts = p.0; is = is; rest_fits = octets_behind b.0.0 b.0.1 (subst AreOctets p.0 fits) })
 
 pub stamp_len : (text : List ℕ) (m : ℕ) → IsScts text m → length text ≡ 7
 stamp_len text m (q, b, small, (year, month, day, hour, minute, second, local, clock, lt, spelled, instant, fits)) = ap length spelled

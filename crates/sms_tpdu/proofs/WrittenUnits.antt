@@ -1,8 +1,8 @@
 -- What is written is in the grammar, and a value has one written list.
-use Rattle.std.proofs.Common.{◌≡◌, ℕ, zero, suc, ◌+◌, ◌*◌, ◌/◌, ◌%◌, ◌<◌, ◌≤◌, Bool, true, false, ◌&&◌, cond, eqb, ltb, List, [], ◌∷◌, ◌++◌, length, get_or, Option, Some, None, Ok, refl, sym, ap, ◌∙◌, arith}
+use Rattle.std.proofs.Common.{◌≡◌, ℕ, zero, suc, ◌+◌, ◌*◌, ◌/◌, ◌%◌, ◌<◌, ◌≤◌, Bool, true, false, cond, eqb, ltb, List, [], ◌∷◌, ◌++◌, length, get_or, Option, Some, None, Ok, refl, sym, ap, ◌∙◌, arith}
 use Rattle.std.specs.Prelude.{Contains, is_some}
 use Rattle.std.specs.List.{AllByRecursion, list_all}
-use Rattle.std.proofs.lemmas.Bool.{ltb-true, eqb-true}
+use Rattle.std.proofs.lemmas.Bool.{ltb-true, eqb-true, and_parts}
 use Rattle.std.proofs.lemmas.List.{append-nil}
 use Rattle.std.proofs.lemmas.List.Elements.{All-from_recursion}
 use Rattle.sms_base.specs.Address.{IsAddress, has_code}
@@ -13,10 +13,10 @@ use Rattle.sms_base.specs.declared.alphabet.Code.TheVariants.{Main, Extended}
 use Rattle.sms_base.specs.declared.alphabet.TheConstants.{EXTENSION_TABLE}
 use Rattle.sms_base.specs.declared.address.Address.{Address}
 use Rattle.sms_base.proofs.Alphabets.{pair_of_code}
-use Rattle.sms_base.proofs.Stamps.{written_is_scts}
-use Rattle.sms_base.proofs.WrittenStamps.{one_written}
+use Rattle.sms_base.proofs.WrittenStamps.{one_written, written_is_stamp}
 use Rattle.sms_alphabet.specs.Packing.{AreSeptets, value_in, packed_len}
 use Rattle.sms_alphabet.proofs.RoundTrip.{value-below}
+use Rattle.sms_alphabet.proofs.Packed.{value_in-digits}
 use Rattle.sms_tpdu.specs.declared.carrier.Carrier.{Carrier}
 use Rattle.sms_tpdu.specs.declared.carrier.Carrier.TheVariants.{InData, InAck, InError}
 use Rattle.sms_tpdu.specs.declared.validity_period.ValidityPeriod.{ValidityPeriod}
@@ -38,23 +38,18 @@ use Rattle.sms_tpdu.specs.TpduGrammar.{IsDeliverHead, deliver_head, IsDeliver, I
 use Rattle.sms_tpdu.specs.TpduReading.{down_at, up_at}
 use Rattle.sms_tpdu.proofs.Names.{name_reads}
 use Rattle.sms_tpdu.proofs.NameValues.{name_few}
-use Rattle.sms_tpdu.proofs.Powers.{holds, octets_back, octets_len}
+use Rattle.sms_tpdu.proofs.Powers.{holds, octets_len}
 use Rattle.sms_tpdu.proofs.Carriers.{down_again, up_again}
 
 -- ---- addresses
-
-both : (a b : Bool) → a && b ≡ true → (a ≡ true) × (b ≡ true)
-both true true e = (refl, refl)
-both true false e = absurd cc
-both false b e = absurd cc
 
 abbrev Pair : Type 0
 Pair = ℕ × ℕ
 
 all_at : (test : Pair → Bool) (xs : List Pair) (k : ℕ) (x : Pair) → list_all test xs ≡ true → k < length xs → test (get_or xs k x) ≡ true
 all_at test [] k x e lt = absurd (omega arith)
-all_at test (y ∷ xs) zero x e lt = (both (test y) (list_all test xs) e).0
-all_at test (y ∷ xs) (suc k) x e lt = all_at test xs k x (both (test y) (list_all test xs) e).1 (omega arith)
+all_at test (y ∷ xs) zero x e lt = (and_parts (test y) (list_all test xs) e).0
+all_at test (y ∷ xs) (suc k) x e lt = all_at test xs k x (and_parts (test y) (list_all test xs) e).1 (omega arith)
 
 is_septet : Pair → Bool
 is_septet pair = ltb pair.0 128
@@ -79,7 +74,7 @@ small_name : (text : List ℕ) → Small (name_septets text)
 small_name [] = tt
 small_name (c ∷ cs) = small_before (code_for c) c (name_septets cs) refl (small_name cs)
 
-some_septets : (text : List ℕ) → 0 < length text → AllByRecursion (λ c. has_code c ≡ true) text → 0 < length (name_septets text)
+pub some_septets : (text : List ℕ) → 0 < length text → AllByRecursion (λ c. has_code c ≡ true) text → 0 < length (name_septets text)
 some_septets [] lt h = absurd (omega arith)
 some_septets (c ∷ cs) lt h = some_by (code_for c) (name_septets cs) h.0 where
   some_by : (o : Option Code) (rest : List ℕ) → is_some o ≡ true → 0 < length (code_septets o ++ rest)
@@ -98,7 +93,7 @@ written_by true a is h =
     let small : AreSeptets septets = All-from_recursion (λ s. s < 128) septets (small_name a.digits) in
     let v = value_in 128 septets in
     let len : length (packed_name a.digits) ≡ octets_for (name_semi_octets n) = octets_len (packed_len 0 n) v ∙ omega arith in
-    (name_semi_octets n, septets, packed_name a.digits, omega arith, omega arith, some, small, len, octets_back (packed_len 0 n) v (holds n v (value-below septets small)), sym (name_reads a.digits name.characters), refl)
+    (name_semi_octets n, septets, packed_name a.digits, omega arith, omega arith, some, small, len, value_in-digits (packed_len 0 n) v (holds n v (value-below septets small)), sym (name_reads a.digits name.characters), refl)
 
 pub written_address : (a : Address) → IsAddress a → IsAddressField (address_field a) a
 written_address a h = record { valid = h; spelled = written_by (is_name a.ton) a refl h }
@@ -138,7 +133,7 @@ head_deliver d =
 
 written_deliver : (o : List ℕ) (d : DeliverOf) → IsWrittenDeliver o d → IsDeliver o d
 written_deliver o d (stamp, is_address, is_stamp, is_text, whole) =
-    (deliver_head d, address_field d.originating_address, stamp, head_deliver d, written_address d.originating_address is_address, written_is_scts stamp d.service_centre_time_stamp is_stamp, is_text, whole)
+    (deliver_head d, address_field d.originating_address, stamp, head_deliver d, written_address d.originating_address is_address, written_is_stamp stamp d.service_centre_time_stamp is_stamp, is_text, whole)
 
 one_deliver : (o p : List ℕ) (d : DeliverOf) → IsWrittenDeliver o d → IsWrittenDeliver p d → o ≡ p
 one_deliver o p d (stamp, is_address, is_stamp, is_text, whole) (stamp', is_address', is_stamp', is_text', whole') =
@@ -172,7 +167,7 @@ head_submit s =
 written_validity : (text : List ℕ) (v : ValidityPeriod) → IsWrittenValidityField text v → IsValidityField text v
 written_validity text NotPresent h = h
 written_validity text (Relative period) h = h
-written_validity text (Absolute moment) h = written_is_scts text moment h
+written_validity text (Absolute moment) h = written_is_stamp text moment h
 
 one_validity : (a b : List ℕ) (v : ValidityPeriod) → IsWrittenValidityField a v → IsWrittenValidityField b v → a ≡ b
 one_validity a b NotPresent h k = h ∙ sym k
@@ -204,7 +199,7 @@ indicates p =
 
 written_submit_report : (in_error : Bool) (o : List ℕ) (r : SubmitReportOf) → HasCause in_error r.failure_cause → IsWrittenSubmitReport o r → IsSubmitReport in_error o r
 written_submit_report in_error o r cause (stamp, is_stamp, is_data, whole) =
-    (1, indicator_of r.parameters, stamp, [], refl, cause, indicates r.parameters, written_is_scts stamp r.service_centre_time_stamp is_stamp, is_data, tt, whole ∙ sym (append-nil (submit_report_fields 1 (indicator_of r.parameters) stamp r)))
+    (1, indicator_of r.parameters, stamp, [], refl, cause, indicates r.parameters, written_is_stamp stamp r.service_centre_time_stamp is_stamp, is_data, tt, whole ∙ sym (append-nil (submit_report_fields 1 (indicator_of r.parameters) stamp r)))
 
 one_submit_report : (o p : List ℕ) (r : SubmitReportOf) → IsWrittenSubmitReport o r → IsWrittenSubmitReport p r → o ≡ p
 one_submit_report o p r (stamp, is_stamp, is_data, whole) (stamp', is_stamp', is_data', whole') =
@@ -247,7 +242,7 @@ tail_by false with_header p e h = ([], indicates p, h, tt, sym (append-nil (para
 
 written_status_report : (o : List ℕ) (r : StatusReportOf) → IsWrittenStatusReport o r → IsStatusReport o r
 written_status_report o r (stamp, discharge, is_address, is_stamp, is_discharge, is_data, whole) =
-    (status_report_head r, address_field r.recipient_address, stamp, discharge, status_tail r.parameters, head_status r, written_address r.recipient_address is_address, written_is_scts stamp r.service_centre_time_stamp is_stamp, written_is_scts discharge r.discharge_time is_discharge, tail_by (eqb (indicator_of r.parameters) 0) r.user_data_header_indicator r.parameters refl is_data, whole)
+    (status_report_head r, address_field r.recipient_address, stamp, discharge, status_tail r.parameters, head_status r, written_address r.recipient_address is_address, written_is_stamp stamp r.service_centre_time_stamp is_stamp, written_is_stamp discharge r.discharge_time is_discharge, tail_by (eqb (indicator_of r.parameters) 0) r.user_data_header_indicator r.parameters refl is_data, whole)
 
 one_status_report : (o p : List ℕ) (r : StatusReportOf) → IsWrittenStatusReport o r → IsWrittenStatusReport p r → o ≡ p
 one_status_report o p r (stamp, discharge, is_address, is_stamp, is_discharge, is_data, whole) (stamp', discharge', is_address', is_stamp', is_discharge', is_data', whole') =

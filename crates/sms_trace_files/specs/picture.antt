@@ -4,5 +4,4 @@ pub mod Elements
 pub mod Looks
 pub mod Notes
 pub mod Places
-pub mod Reading
 pub mod Rows

@@ -57,6 +57,7 @@ unfolding
     Rattle.sms_intake.specs.SmppIntake.judged_in
     Rattle.sms_intake.specs.SmppIntake.plain_text
     Rattle.sms_centre_rows.specs.messages.PartEntries.done_to
+    Rattle.sms_centre_rows.specs.messages.SplitReferences.all_references
     Rattle.sms_centre_rows.specs.messages.SplitReferences.first_free_split
     Rattle.sms_handset_rows.specs.outbox.References.free_from
     Rattle.sms_relay.specs.Cause.cause_of

@@ -25,6 +25,7 @@ pub mod HeldReferences
 pub mod AnswersTimely
 pub mod UpwardRuns
 pub mod SentClaims
+pub mod ScriptCourses
 pub mod Claimed
 pub mod SplitJoins
 pub mod SplitPlays

@@ -3,7 +3,6 @@ pub mod Entered
 pub mod EventsMake
 pub mod HandsetOriginators
 pub mod HandsetMessages
-pub mod KeptRows
 pub mod SetupStays
 pub mod SubmittedMoments
 pub mod OriginClaims

@@ -11,6 +11,8 @@ pub mod CentreMeets
 pub mod Meetings
 pub mod Events
 pub mod Beginnings
+pub mod PlayedParts
+pub mod Courses
 pub mod Runs
 pub mod Falling
 pub mod Growing

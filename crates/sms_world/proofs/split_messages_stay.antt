@@ -1,8 +1,7 @@
+pub mod KeptMessages
 pub mod MadeParts
 pub mod Places
 pub mod SameParts
 pub mod SplitEvents
 pub mod SplitParts
-pub mod SplitSteady
 pub mod SplitTexts
-pub mod TextContents

@@ -1,5 +1,6 @@
 pub mod Apart
 pub mod Read
+pub mod RightReports
 pub mod FinalKept
 pub mod LineGone
 pub mod ReceiptState

@@ -2,6 +2,8 @@
 use Rattle.std.proofs.Common.{◌≡◌, ℕ, zero, suc, ◌+◌, ◌<◌, List, [], ◌∷◌, ◌++◌, refl, sym, ◌∙◌, ap, subst, ⊎_elim, Option, Some, None, Result, Ok, Err, length, arith}
 use Rattle.std.specs.Prelude.{slice_get}
 use Rattle.std.proofs.lemmas.Bool.{cases_eq}
+use Rattle.std.proofs.lemmas.Option.{same_Some}
+use Rattle.sms_base.proofs.Lists.{item_at}
 use Rattle.sms_base.specs.declared.holder.Holder.TheVariants.{Part}
 use Rattle.sms_alphabet.specs.declared.unpacking.UnpackError.{UnpackError}
 use Rattle.sms_concat.specs.Splitting.{numbered}
@@ -13,6 +15,7 @@ use Rattle.sms_concat.specs.declared.content.Content.{Content}
 use Rattle.sms_concat.specs.declared.content.Part.{Part as PartOf}
 use Rattle.sms_concat.proofs.FieldLaws.{read_says}
 use Rattle.sms_concat.proofs.Joined.{split_joins}
+use Rattle.sms_concat.proofs.Numbering.{length_numbered}
 use Rattle.sms_tpdu.specs.declared.user_data.UserData.{UserData}
 use Rattle.sms_world_model.specs.Submission.{Submission, HasPart, part_at}
 use Rattle.sms_world_model.specs.Place.{Key, Place, place_of, place_submitted, place_in, part_of, part_submitted, with_part, joined_parts}
@@ -31,16 +34,16 @@ use Rattle.sms_world_model.proofs.Wholes.{split_place}
 
 -- ---- the pieces one by one
 
-piece_old : (ps : List PartOf) (p : PartOf) (i : ℕ) → i < length ps → slice_get (ps ++ p ∷ []) i ≡ slice_get ps i
+pub piece_old : (ps : List PartOf) (p : PartOf) (i : ℕ) → i < length ps → slice_get (ps ++ p ∷ []) i ≡ slice_get ps i
 piece_old [] p i l = absurd (omega arith)
 piece_old (x ∷ ps) p zero l = refl
 piece_old (x ∷ ps) p (suc i) l = piece_old ps p i (omega arith)
 
-piece_new : (ps : List PartOf) (p : PartOf) → slice_get (ps ++ p ∷ []) (length ps) ≡ Some p
+pub piece_new : (ps : List PartOf) (p : PartOf) → slice_get (ps ++ p ∷ []) (length ps) ≡ Some p
 piece_new [] p = refl
 piece_new (x ∷ ps) p = piece_new ps p
 
-length_new : (ps : List PartOf) (p : PartOf) → length (ps ++ p ∷ []) ≡ suc (length ps)
+pub length_new : (ps : List PartOf) (p : PartOf) → length (ps ++ p ∷ []) ≡ suc (length ps)
 length_new [] p = refl
 length_new (x ∷ ps) p = let e = length_new ps p in omega (arith, e)
 
@@ -81,10 +84,6 @@ numbered_key c r total k (x ∷ xs) (suc i) p e =
     let n : k + 1 + i ≡ k + suc i = omega arith in
     numbered_key c r total (k + 1) xs i p e ∙ ap (λ m. Some (let z : ConcatKey = record { reference = SixteenBit r; total = total; number = m } in z)) n
 
-numbered_length : (c : Content) (r total k : ℕ) (xs : List (List ℕ)) → length (numbered c r total k xs) ≡ length xs
-numbered_length c r total k [] = refl
-numbered_length c r total k (x ∷ xs) = ap (λ n. suc n) (numbered_length c r total (k + 1) xs)
-
 -- ---- the key of what a part carries
 
 part_key : (s : Submission) (part : UserData) (p : PartOf) → part_submitted s part ≡ Some p → header_key s.user_data_header_indicator part.octets ≡ p.key
@@ -99,11 +98,6 @@ part_key s part p e = at (part_in s.user_data_header_indicator s.data_coding_sch
 abbrev split_key : Submission → ℕ → Key
 split_key s reference = record { source = s.source; reference = SixteenBit reference; total = length s.parts }
 
-there : (ps : List PartOf) (i : ℕ) → i < length ps → (p : PartOf) × (slice_get ps i ≡ Some p)
-there [] i l = absurd (omega arith)
-there (x ∷ ps) zero l = (x, refl)
-there (x ∷ ps) (suc i) l = there ps i (omega arith)
-
 placed_part : (s : Submission) (content : Content) (reference total : ℕ) (xs : List (List ℕ)) (ps : List PartOf) → ps ≡ numbered content reference total 1 xs → length s.parts ≡ total → Carry s (length s.parts) ps
     → (n : ℕ) (part : UserData) → HasPart s n part → place_submitted s part ≡ Some (record { key = split_key s reference; number = n })
 placed_part s content reference total xs ps is size all zero part has = absurd (cc)
@@ -111,7 +105,7 @@ placed_part s content reference total xs ps is size all (suc i) part has =
     let within = part_within s.parts (suc i) part has in
     let long = all.0 in
     let l : i < length ps = omega (arith, within.1, long) in
-    let p = there ps i l in
+    let p = item_at ps i l in
     let mine : part_submitted s part ≡ Some p.0 = ap (λ (o : Option UserData). carried_of s o) (sym has) ∙ all.1 i (omega (arith, within.1)) ∙ p.1 in
     let key = numbered_key content reference total 1 xs i p.0 (ap (λ (qs : List PartOf). slice_get qs i) (sym is) ∙ p.1) in
     let number : 1 + i ≡ suc i = omega arith in
@@ -123,7 +117,7 @@ split_parts s content reference x =
     let cut = x.split.cut x.long in
     let xs = cut.1.0 in
     let all = carry s (length s.parts) x.pieces x.carried in
-    let size : length s.parts ≡ length xs = sym all.0 ∙ ap (λ (ps : List PartOf). length ps) cut.1.2 ∙ numbered_length content reference (length xs) 1 xs in
+    let size : length s.parts ≡ length xs = sym all.0 ∙ ap (λ (ps : List PartOf). length ps) cut.1.2 ∙ length_numbered content reference (length xs) 1 xs in
     (refl, placed_part s content reference (length xs) xs x.pieces cut.1.2 size all)
 
 pub split_content : (s : Submission) (content : Content) (reference : ℕ) → IsSplitFrom s content reference → submitted_content s ≡ Some content
@@ -132,10 +126,7 @@ split_content s content reference x =
 
 -- ---- the claim
 
-one_content : (a b : Content) → Some a ≡ Some b → a ≡ b
-one_content a b e = cc
-
-one_key_of : (k l : Key) (a b : ℕ) (o : Option Place) → o ≡ Some (record { key = k; number = a }) → o ≡ Some (record { key = l; number = b }) → k ≡ l
+pub one_key_of : (k l : Key) (a b : ℕ) (o : Option Place) → o ≡ Some (record { key = k; number = a }) → o ≡ Some (record { key = l; number = b }) → k ≡ l
 one_key_of k l a b o x y = same (record { key = k; number = a }) (record { key = l; number = b }) (sym x ∙ y)
   where
     same : (p q : Place) → Some p ≡ Some q → p.key ≡ q.key
@@ -152,4 +143,4 @@ splits_joined w sound placed whole j i s st content reference is from at x a b =
     let here = among_of_key j.handset j.key x w.accepted ((within j.key.total (of_key j.handset j.key w.accepted)).1 j.group x (group_ended w placed j i) a) in
     let key : k ≡ j.key = one_key_of k j.key b.1 (number_in x) (place_in x.tpdu) his (for_is j.handset j.key x here.1).1 in
     let joined = whole j i s st is (subst (IsSplit s) key split) at x a b in
-    one_content j.content content (sym joined.1 ∙ split_content s content reference from)
+    same_Some j.content content (sym joined.1 ∙ split_content s content reference from)

@@ -1,6 +1,6 @@
 -- What each step keeps while frames come in time: parts of delivered messages were accepted, each once.
 use Rattle.std.proofs.Common.{◌≡◌, ℕ, zero, suc, ◌<◌, ◌≤◌, List, [], ◌∷◌, Bool, true, false, cond, refl, sym, ◌∙◌, ap, subst, inl, inr, ⊎_elim, Some, Ok, length, arith}
-use Rattle.std.specs.Prelude.{slice_get}
+use Rattle.std.proofs.lemmas.Option.{same_Some, slice_get_within}
 use Rattle.sms_base.specs.Among.{Among}
 use Rattle.sms_base.specs.declared.final_state.FinalState.TheVariants.{Delivered, Expired, Deleted, Undeliverable}
 use Rattle.sms_base.specs.declared.holder.Holder.{Holder}
@@ -296,23 +296,15 @@ stands_once p (x ∷ xs) d at o i =
     (λ (a : Among p xs). inr ((λ e. o.0 d (subst (λ (y : Accepted). IsDeliver y.tpdu d) e at) (subst (λ (y : Accepted). Among y xs) e a)), stands_once p xs d at o.1 a))
     i
 
-within : (xs : List UserData) (n : ℕ) (part : UserData) → slice_get xs n ≡ Some part → n < length xs
-within [] n part e = absurd (cc)
-within (x ∷ xs) zero part e = omega arith
-within (x ∷ xs) (suc n) part e = let l = within xs n part e in omega arith
-
 pub part_within : (xs : List UserData) (n : ℕ) (part : UserData) → part_at n xs ≡ Some part → (0 < n) × (n ≤ length xs)
 part_within xs zero part e = absurd (cc)
-part_within xs (suc n) part e = let l = within xs n part e in (omega arith, omega arith)
-
-one_part : (a b : UserData) → Some a ≡ Some b → a ≡ b
-one_part a b e = cc
+part_within xs (suc n) part e = let l = slice_get_within xs n part e in (omega arith, omega arith)
 
 pub delivered_accepted : (w : World) → IsFaithful w → DeliveredAccepted w
 delivered_accepted w h id s n part is has =
     let bounds = part_within s.parts n part has in
     let x = h.done id s (Final Delivered) is n bounds.0 bounds.1 in
-    let same : x.1.3.0 ≡ part = one_part x.1.3.0 part (sym x.1.3.1.0 ∙ has) in
+    let same : x.1.3.0 ≡ part = same_Some x.1.3.0 part (sym x.1.3.1.0 ∙ has) in
     let deliver = x.1.3.1.1 in (
       x.0,
       (

@@ -5,7 +5,7 @@ use Rattle.sms_world_model.specs.World.{Sent, Carried, Bare, World}
 use Rattle.sms_world_model.specs.WorldStep.{Step, Offer, Take, Take_again, Refuse, Offer_up, Offer_memory, Repeat_memory, Receive, Reject, Memory_free, Again, Control, after, Item, after_item, end}
 use Rattle.sms_world_model.specs.Agreement.{FramesDiffer}
 
-abbrev number_sent : Sent → ℕ
+abbrev pub number_sent : Sent → ℕ
 number_sent (Carried u) = u.number
 number_sent (Bare n a) = n
 
@@ -40,7 +40,7 @@ pub numbered_run : (w : World) (items : List Item) → Numbered w.bag → Number
 numbered_run w [] h = h
 numbered_run w (i ∷ is) h = numbered_run (after_item w i) is (numbered_item w i h)
 
-below : (xs : List Sent) (x : Sent) → Numbered xs → Among x xs → number_sent x ≤ length xs
+pub below : (xs : List Sent) (x : Sent) → Numbered xs → Among x xs → number_sent x ≤ length xs
 below [] x h i = absurd i
 below (y ∷ ys) x h i =
     ⊎_elim
@@ -48,7 +48,7 @@ below (y ∷ ys) x h i =
     (λ (j : Among x ys). let l = below ys x h.1 j in omega (arith, l))
     i
 
-one_number : (xs : List Sent) (x y : Sent) → Numbered xs → Among x xs → Among y xs → number_sent x ≡ number_sent y → x ≡ y
+pub one_number : (xs : List Sent) (x y : Sent) → Numbered xs → Among x xs → Among y xs → number_sent x ≡ number_sent y → x ≡ y
 one_number [] x y h i j e = absurd i
 one_number (z ∷ zs) x y h i j e =
     ⊎_elim

@@ -1,12 +1,11 @@
 -- The place of a part in a long message: what the octets say of it, and tests of keys.
-use Rattle.std.proofs.Common.{◌≡◌, ℕ, ◌<◌, ◌≤◌, List, true, refl, sym, ◌∙◌, ap, subst, Option, Some, None, Result, Ok, Err, eq-eqb, eqb-true, bytes_eq}
+use Rattle.std.proofs.Common.{◌≡◌, ℕ, ◌<◌, ◌≤◌, List, true, refl, ◌∙◌, ap, subst, Option, Some, None, Result, Ok, Err, eq-eqb, eqb-true, bytes_eq}
 use Rattle.std.specs.Prelude.{◌==◌, ◌&&◌}
 use Rattle.std.proofs.lemmas.Bool.{and_parts, and_from}
 use Rattle.std.proofs.lemmas.Slice.Eq.{bytes_eq-Decides}
-use Rattle.sms_base.specs.AddressKind.{type_number, type_of}
+use Rattle.sms_base.proofs.Addresses.{same_parts}
+use Rattle.sms_base.specs.AddressKind.{type_number}
 use Rattle.sms_base.specs.declared.address.Address.{Address}
-use Rattle.sms_base.specs.declared.type_of_number.TypeOfNumber.{TypeOfNumber}
-use Rattle.sms_base.specs.declared.type_of_number.TypeOfNumber.TheVariants.{Unknown, International, National, NetworkSpecific, Subscriber, Alphanumeric, Abbreviated}
 use Rattle.sms_concat.specs.Joining.{is_same_reference}
 use Rattle.sms_concat.specs.UserData.{part_in}
 use Rattle.sms_alphabet.specs.Concatenation.{header_key}
@@ -28,28 +27,11 @@ use Rattle.sms_world_model.specs.Groups.{number_in, is_for}
 
 -- ---- keys that are one are equal
 
-type_is : (t : TypeOfNumber) → type_of (type_number t) ≡ Some t
-type_is Unknown = refl
-type_is International = refl
-type_is National = refl
-type_is NetworkSpecific = refl
-type_is Subscriber = refl
-type_is Alphanumeric = refl
-type_is Abbreviated = refl
-
-same_type : (t u : TypeOfNumber) → type_number t ≡ type_number u → t ≡ u
-same_type t u e =
-    let both : Some t ≡ Some u = sym (type_is t) ∙ ap (λ (n : ℕ). type_of n) e ∙ type_is u in
-    let q : t ≡ u = cc in q
-
 same_address : (a b : Address) → is_same_address a b ≡ true → a ≡ b
 same_address a b e =
     let p = and_parts ((type_number a.ton == type_number b.ton) && (a.npi == b.npi)) (bytes_eq a.digits b.digits) e in
     let q = and_parts (type_number a.ton == type_number b.ton) (a.npi == b.npi) p.0 in
-    let ton : a.ton ≡ b.ton = same_type a.ton b.ton (eqb-true (type_number a.ton) (type_number b.ton) q.0) in
-    let npi : a.npi ≡ b.npi = eqb-true a.npi b.npi q.1 in
-    let digits : a.digits ≡ b.digits = (bytes_eq-Decides a.digits b.digits).0 p.1 in
-    λ j. record { ton = ton j; npi = npi j; digits = digits j }
+    same_parts a b (eqb-true (type_number a.ton) (type_number b.ton) q.0) (eqb-true a.npi b.npi q.1) ((bytes_eq-Decides a.digits b.digits).0 p.1)
 
 pub same_key : (a b : Key) → is_same_key a b ≡ true → a ≡ b
 same_key a b e =

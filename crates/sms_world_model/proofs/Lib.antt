@@ -20,3 +20,4 @@ pub mod Contents
 pub mod Ends
 pub mod Alike
 pub mod Example
+pub mod Followers

@@ -44,7 +44,7 @@ to_of_key h k q (p ∷ ps) i e =
 
 -- ---- places stay
 
-at_among : (place : ℕ) (group : List Accepted) (es : List (List Accepted)) → IsEndedAt place group es → Among group es
+pub at_among : (place : ℕ) (group : List Accepted) (es : List (List Accepted)) → IsEndedAt place group es → Among group es
 at_among place group [] i = i
 at_among place group (e ∷ es) i =
     ⊎_elim (λ (c : (place ≡ length es) × (group ≡ e)). inl c.1) (λ (j : IsEndedAt place group es). inr (at_among place group es j)) i
@@ -107,11 +107,11 @@ group_ended w h j i = at_among j.place j.group (groups_of j.handset j.key w.acce
 
 -- ---- no round is joined twice
 
-abbrev NoneTwice : List Accepted → Type 0
+abbrev pub NoneTwice : List Accepted → Type 0
 NoneTwice [] = Unit {0}
 NoneTwice (p ∷ ps) = ¬ Among p ps × NoneTwice ps
 
-key_once : (h : List ℕ) (k : Key) (ps : List Accepted) → DeliversOnce ps → NoneTwice (of_key h k ps)
+pub key_once : (h : List ℕ) (k : Key) (ps : List Accepted) → DeliversOnce ps → NoneTwice (of_key h k ps)
 key_once h k [] o = tt
 key_once h k (p ∷ ps) o =
     ⊎_elim
@@ -173,7 +173,7 @@ ended_some total (p ∷ ps) e i =
     (λ _ _ j. ended_some total ps e j)
     i
 
-not_joined : (js : List Joined) (x : Joined) (h : List ℕ) (k : Key) (place : ℕ) → HasNotJoined js h k place → Among x js → x.handset ≡ h → x.key ≡ k → x.place ≡ place → ⊥
+pub not_joined : (js : List Joined) (x : Joined) (h : List ℕ) (k : Key) (place : ℕ) → HasNotJoined js h k place → Among x js → x.handset ≡ h → x.key ≡ k → x.place ≡ place → ⊥
 not_joined [] x h k place n i a b c = i
 not_joined (y ∷ js) x h k place n i a b c =
     ⊎_elim

@@ -8,7 +8,7 @@ use Rattle.sms_world_model.specs.World.{Accepted}
 use Rattle.sms_world_model.specs.Premises.{AllArrived}
 use Rattle.sms_world_model.proofs.Tables.{among_from_test}
 
-test_from_among : (n : ℕ) (ms : List ℕ) → Among n ms → is_among n ms ≡ true
+pub test_from_among : (n : ℕ) (ms : List ℕ) → Among n ms → is_among n ms ≡ true
 test_from_among n [] i = absurd i
 test_from_among n (m ∷ ms) i =
     ⊎_elim

@@ -32,15 +32,15 @@ fresh_joins w (i ∷ is) b x y = (x.0, fresh_joins (after_item w i) is b x.1 y)
 
 -- ---- steps that read in time
 
-same_allocations : (w : World) (bag : List Sent) (l : Line) → allocations w l ≡ allocations (with_frames bag w) l
+pub same_allocations : (w : World) (bag : List Sent) (l : Line) → allocations w l ≡ allocations (with_frames bag w) l
 same_allocations w bag Down = refl
 same_allocations w bag Up = refl
 
 -- frames alone change nothing of it
-timely_frames : (w : World) (bag : List Sent) (u : Frame) → IsTimely w u → IsTimely (with_frames bag w) u
+pub timely_frames : (w : World) (bag : List Sent) (u : Frame) → IsTimely w u → IsTimely (with_frames bag w) u
 timely_frames w bag u (g, x) = (g, (subst (λ (gs : List Allocation). IsLatest g gs) (same_allocations w bag u.line) x.0, x.1, x.2, x.3))
 
-follow_timely : (w : World) (s : Step) → Follows s → ReadsTimely w s
+pub follow_timely : (w : World) (s : Step) → Follows s → ReadsTimely w s
 follow_timely w (Take u) f = absurd f
 follow_timely w (Settle u g id n) f = absurd f
 follow_timely w (Acknowledged u g e) f = absurd f
@@ -52,14 +52,7 @@ expiry_timely w _ x = absurd x
 
 may_timely : (w : World) (event : Event) (s : Step) → MayFollow event s → ReadsTimely w s
 may_timely w Tick_centre s f = ⊎_elim (λ (x : Follows s). follow_timely w s x) (λ (x : IsExpiry s). expiry_timely w s x) f
-may_timely w Submitted s f = follow_timely w s f
-may_timely w Cancelled s f = follow_timely w s f
-may_timely w Asked s f = follow_timely w s f
-may_timely w (Handed n) s f = follow_timely w s f
-may_timely w Tick_handset s f = follow_timely w s f
-may_timely w Wrote s f = follow_timely w s f
-may_timely w Removed s f = follow_timely w s f
-may_timely w Restarted s f = follow_timely w s f
+may_timely w _ s f = follow_timely w s f
 
 read_timely : (w : World) (v : Frame) (s : Step) → Reads v s → IsTimely w v → ReadsTimely w s
 read_timely w v (Take u) r t = subst (λ (x : Frame). IsTimely w x) (sym r) t
@@ -73,14 +66,14 @@ follows_timely : (w : World) (m : ℕ) (b : Bool) (event : Event) (ss : List Ste
 follows_timely w m b event [] f = tt
 follows_timely w m b event (s ∷ ss) f = (may_timely w event s f.0, follows_timely (after_item w (record { step = s; moment = m; stopped = b })) m b event ss f.1)
 
-control_timely : (w : World) (m : ℕ) (b : Bool) (ss : List Step) → AllControl ss → Timely w (items m b ss)
+pub control_timely : (w : World) (m : ℕ) (b : Bool) (ss : List Step) → AllControl ss → Timely w (items m b ss)
 control_timely w m b [] c = tt
 control_timely w m b (Again u ∷ ss) c = (tt, control_timely (after_item w (record { step = Again u; moment = m; stopped = b })) m b ss c.1)
 control_timely w m b (Control a ∷ ss) c = (tt, control_timely (after_item w (record { step = Control a; moment = m; stopped = b })) m b ss c.1)
 control_timely w m b (_ ∷ ss) c = absurd c.0
 
 -- what is timely stays so while control frames go
-stays_timely : (w : World) (m : ℕ) (b : Bool) (ss : List Step) (u : Frame) → AllControl ss → IsTimely w u → IsTimely (end w (items m b ss)) u
+pub stays_timely : (w : World) (m : ℕ) (b : Bool) (ss : List Step) (u : Frame) → AllControl ss → IsTimely w u → IsTimely (end w (items m b ss)) u
 stays_timely w m b [] u c t = t
 stays_timely w m b (Again v ∷ ss) u c t =
     let x = after_item w (record { step = Again v; moment = m; stopped = b }) in stays_timely x m b ss u c.1 (timely_frames w x.bag u t)

@@ -90,31 +90,7 @@ can_with w bag m (Control a) x can = can
 
 after_with : (w : World) (bag : List Sent) (m : ℕ) (s : Step) → with_frames bag (after w m s) ≡ with_frames bag (after (with_frames bag w) m s)
 after_with w bag m (Submit s ts) = refl
-after_with w bag m (Offer g o) = refl
-after_with w bag m (Take u) = refl
-after_with w bag m (Take_again u) = refl
-after_with w bag m (Refuse u) = refl
-after_with w bag m (Settle u g id n) = refl
-after_with w bag m (Expire id) = refl
-after_with w bag m (Delete id) = refl
-after_with w bag m (Fail u g id n) = refl
-after_with w bag m (Receipt s f) = refl
-after_with w bag m (Status s f t) = refl
-after_with w bag m (Close id) = refl
-after_with w bag m (Join j) = refl
-after_with w bag m (Write e r) = refl
-after_with w bag m (Remove e) = refl
-after_with w bag m (Offer_up g e o) = refl
-after_with w bag m (Offer_memory a n r) = refl
-after_with w bag m (Repeat_memory g n) = refl
-after_with w bag m (Receive u s ts) = refl
-after_with w bag m (Reject u) = refl
-after_with w bag m (Memory_free u) = refl
-after_with w bag m (Lapse e st) = refl
-after_with w bag m (Acknowledged u g e) = refl
-after_with w bag m (Refused u g e st) = refl
-after_with w bag m (Again u) = refl
-after_with w bag m (Control a) = refl
+after_with w bag m _ = refl
 
 -- ---- from a stopped event to the whole one
 
@@ -268,14 +244,7 @@ expiry_reads bag _ x = absurd x
 
 may_reads : (bag : List Sent) (event : Event) (s : Step) → MayFollow event s → ReadsFrom bag s
 may_reads bag Tick_centre s f = ⊎_elim (λ (x : Follows s). follow_reads bag s x) (λ (x : IsExpiry s). expiry_reads bag s x) f
-may_reads bag Submitted s f = follow_reads bag s f
-may_reads bag Cancelled s f = follow_reads bag s f
-may_reads bag Asked s f = follow_reads bag s f
-may_reads bag (Handed n) s f = follow_reads bag s f
-may_reads bag Tick_handset s f = follow_reads bag s f
-may_reads bag Wrote s f = follow_reads bag s f
-may_reads bag Removed s f = follow_reads bag s f
-may_reads bag Restarted s f = follow_reads bag s f
+may_reads bag _ s f = follow_reads bag s f
 
 follows_read : (bag : List Sent) (event : Event) (ss : List Step) → AllMayFollow event ss → AllReadFrom bag ss
 follows_read bag event [] x = tt

@@ -14,14 +14,14 @@ use Rattle.sms_tpdu.specs.declared.up.Up.TheVariants.{Submit as SubmitUp}
 use Rattle.sms_tpdu.specs.declared.user_data.UserData.{UserData}
 use Rattle.sms_tpdu.specs.TpduReading.{up_at, data_up_at, submit_at}
 use Rattle.sms_world_model.specs.Submission.{Submission, IsSubmitTo}
-use Rattle.sms_world_model.specs.World.{is_same_handset, State, Pending, Final, Message, Allocation, Line, Down, Up, Frame, Sent, Carried, Bare, EntryState, Queued, Sending, Sent_up, Failed, Unsure, OutEntry, World, IsRecorded, IsLatest, IsHeldUp, IsUnfinished, answer, next_number, empty}
+use Rattle.sms_world_model.specs.World.{is_same_handset, State, Pending, Message, Allocation, Line, Down, Up, Frame, Sent, Carried, Bare, EntryState, Queued, Sending, Sent_up, Failed, Unsure, OutEntry, World, IsRecorded, IsLatest, IsHeldUp, IsUnfinished, answer, next_number, empty}
 use Rattle.sms_world_model.specs.References.{IsNewHolder, entry_allocation, memory_allocation}
 use Rattle.sms_world_model.specs.WorldStep.{Step, Submit, Offer, Take, Take_again, Refuse, Settle, Expire, Delete, Fail, Write, Remove, Offer_up, Offer_memory, Repeat_memory, Receive, Reject, Memory_free, Lapse, Acknowledged, Refused, Again, Control, Can, after, submitted, Asks, IsSent, is_entry, replaced, removed, data_of, memory_of, Item, after_item, Run, end}
 use Rattle.sms_world_model.specs.Premises.{ReadsTimely, allocations, Timely}
 use Rattle.sms_base.specs.declared.carried.Kind.{Kind}
 use Rattle.sms_base.specs.declared.carried.Kind.TheVariants.{Data, Ack, Error}
 use Rattle.sms_world_model.proofs.Tables.{Grows, entered_here}
-use Rattle.sms_world_model.proofs.Sound.{Matches}
+use Rattle.sms_world_model.proofs.Sound.{Matches, grows_same}
 use Rattle.sms_world_model.proofs.Runs.{latest_same, table_grows, bag_grows}
 
 -- the table has the entry's message
@@ -113,10 +113,6 @@ new_holder (g ∷ gs) a h x n i p q =
 from_same : (oa : List OutEntry) → StemFrom oa oa
 from_same oa e i = (e, (i, (refl, refl, refl, refl)))
 
-grows_here : (t : List Message) → Grows t t
-grows_here t id s (Pending d) h = (Pending d, (h, tt))
-grows_here t id s (Final f) h = (Final f, (h, refl))
-
 module _ (t : List Message) (up : List Allocation) (ob : List OutEntry) (bg : List Sent) (h : Upward t up ob bg) where
   up_table : (v : List Message) → Grows t v → Upward v up ob bg
   up_table v more = record {
@@ -149,7 +145,7 @@ module _ (t : List Message) (up : List Allocation) (ob : List OutEntry) (bg : Li
       → ((e : OutEntry) → Among e oa → e.state ≡ Sent_up → HasMessage t e)
       → Upward t up oa bg
   up_less oa from held done = record {
-    sent = λ u i. says_up_less t t up ob oa u.line u.kind u (grows_here t) from (h.sent u i);
+    sent = λ u i. says_up_less t t up ob oa u.line u.kind u (grows_same t) from (h.sent u i);
     held = held;
     single = h.single;
     numbered = λ e i. let x = from e i in let y = h.numbered x.0 x.1.0 in (y.0, (y.1.0, y.1.1 ∙ sym x.1.1.0, y.1.2 ∙ ap Entry (sym x.1.1.1)));
@@ -187,7 +183,7 @@ module _ (t : List Message) (up : List Allocation) (ob : List OutEntry) (bg : Li
       more Down Ack u x = tt
       more Down Error u x = tt
 
-entry_number : (n m : ℕ) → Entry n ≡ Entry m → n ≡ m
+pub entry_number : (n m : ℕ) → Entry n ≡ Entry m → n ≡ m
 entry_number n m e = cc
 
 -- a new entry with its reference: frames that were sent say nothing of it
@@ -362,7 +358,7 @@ received v ob u s st (Part id k) is x asks = tt
 received v ob u s st (Report id) is x asks = tt
 
 -- no SUBMIT is empty
-empty_submit : up_at InData [] ≡ Err Truncated
+pub empty_submit : up_at InData [] ≡ Err Truncated
 unfolding up_at data_up_at submit_at
 empty_submit = refl
 
@@ -389,7 +385,7 @@ not_sent st c e =
     (λ (d : st ≡ Unsure). let bad : Unsure ≡ Sent_up = sym d ∙ e in let r : ⊥ = cc in r)
     c
 
-not_sent_3 : (st : EntryState) → (st ≡ Queued) ⊎ (st ≡ Failed) ⊎ (st ≡ Unsure) → st ≡ Sent_up → ⊥
+pub not_sent_3 : (st : EntryState) → (st ≡ Queued) ⊎ (st ≡ Failed) ⊎ (st ≡ Unsure) → st ≡ Sent_up → ⊥
 not_sent_3 st c e =
     ⊎_elim
     (λ (d : st ≡ Queued). let bad : Queued ≡ Sent_up = sym d ∙ e in let r : ⊥ = cc in r)

@@ -1,17 +1,16 @@
 -- An application's session at a seat after its end.
-use Rattle.std.proofs.Common.{◌≡◌, ◌&&◌, ℕ, ◌-◌, zero, suc, Bool, true, false, cond, leb, List, [], ◌∷◌, ◌++◌, length, drop, Option, Some, None, refl, sym, ap, ◌∙◌, append-nil}
+use Rattle.std.proofs.Common.{◌≡◌, ◌&&◌, ℕ, ◌-◌, Bool, true, false, cond, leb, List, [], ◌∷◌, ◌++◌, length, drop, Option, Some, None, refl, sym, ap, ◌∙◌, append-nil}
+use Rattle.sms_base.proofs.Bools.{and_false}
 use Rattle.smpp_pdu.specs.declared.status.CommandStatus.TheVariants.{ESME_RTHROTTLED}
 use Rattle.smpp_session.specs.declared.action.Action.{Action}
 use Rattle.smpp_session.specs.declared.calling.Call.{Call}
 use Rattle.smpp_session.specs.declared.calling.Call.TheVariants.{Feed, Deliver}
 use Rattle.smpp_session.specs.declared.conversation.SessionState.{SessionState}
 use Rattle.smpp_session.specs.declared.conversation.SessionState.TheVariants.{Unbinding, Closed}
-use Rattle.smpp_session.specs.declared.conversation.Conversation.{Conversation}
 use Rattle.smpp_session.specs.declared.fault.DeliverFault.{DeliverFault}
 use Rattle.smpp_session.specs.declared.fault.DeliverFault.TheVariants.{NotBound}
 use Rattle.smpp_session.specs.Bindings.{is_bind_lost, is_deaf}
 use Rattle.smpp_session.specs.Answers.{is_last, owed_behind}
-use Rattle.smpp_session.specs.SessionTable.{closed_conversation}
 use Rattle.smpp_session.specs.Calls.{called, ran}
 use Rattle.smpp_session.specs.Sessions.{SessionView, after_answered, after_unbind, delivery_fault, fault_in, fed, may_unbind, unbinding}
 use Rattle.sms_centre_spec.specs.declared.answer.CentreAnswer.{CentreAnswer}
@@ -34,6 +33,8 @@ use Rattle.smsc_endpoint.specs.PendingRequests.{left_without, throttled_before}
 use Rattle.smsc_endpoint.specs.Responses.{response}
 use Rattle.smsc_endpoint.proofs.EsmeActions.{actions_of, taken_is}
 use Rattle.smsc_endpoint.proofs.EsmeRuns.{gone_all, heard_if, refused_all}
+use Rattle.smsc_endpoint.proofs.LinkEnds.{drop_none}
+use Rattle.smpp_session.proofs.Promises.{answered_state}
 
 -- ---- a session that says nothing
 
@@ -63,17 +64,13 @@ responding_mute : (octets : Option (List ℕ)) (e : EsmeView) → e.outbox.is_cl
 responding_mute None e closed = record { session = λ s. s; outbox = refl }
 responding_mute (Some octets) e closed = record { session = λ s. s; outbox = closed_says octets e.outbox closed }
 
-answered_closed : (b : Bool) (owed : List ℕ) (c : Conversation) → c.state ≡ Closed → (cond b (closed_conversation c) (record c { owed = owed })).state ≡ Closed
-answered_closed true owed c e = refl
-answered_closed false owed c e = e
-
 one_mute : (request : PendingRequest) (requests : List PendingRequest) (answer : CentreAnswer) (e : EsmeView) → e.outbox.is_closed ≡ true → IsMute e (answered_one request requests answer e)
 one_mute request requests answer e closed =
     let before = record e { session = after_answered request.sequence_number e.session; waiting = requests; with_keeper = left_without request e.with_keeper } in
     let m = responding_mute (response e.session.conversation request answer) before closed in
     record {
       session = λ s. m.session
-          (answered_closed (is_last request.sequence_number e.session.conversation) (owed_behind request.sequence_number e.session.conversation) e.session.conversation s);
+          (answered_state (is_last request.sequence_number e.session.conversation) (owed_behind request.sequence_number e.session.conversation) e.session.conversation s);
       outbox = m.outbox;
     }
 
@@ -107,15 +104,11 @@ answer_mute answer e closed =
 abbrev pub StaysClosed : Type 0
 StaysClosed = (session : SessionView) (before : List Action) (calls : List Call) → session.conversation.state ≡ Closed → ((ran (session, before) calls).0.conversation.state ≡ Closed) × ((ran (session, before) calls).1 ≡ before)
 
-never : (b : Bool) → b && false ≡ false
-never true = refl
-never false = refl
-
 no_acts : (e : EsmeView) (f : SessionView × List Action) → e.session.conversation.state ≡ Closed → f.1 ≡ [] → actions_of e f ≡ []
 no_acts e f state none =
     let lost : is_bind_lost e.session.conversation.state f.1 f.0.conversation.state ≡ false =
     ap (λ (s : SessionState). is_bind_lost s f.1 f.0.conversation.state) state
-    ∙ (ap (λ (actions : List Action). is_bind_lost Closed actions f.0.conversation.state) none ∙ never (is_deaf f.0.conversation.state)) in
+    ∙ (ap (λ (actions : List Action). is_bind_lost Closed actions f.0.conversation.state) none ∙ and_false (is_deaf f.0.conversation.state)) in
     ap (λ (b : Bool). f.1 ++ lost_bind b) lost ∙ (append-nil f.1 ∙ none)
 
 taken_closed : (stays : StaysClosed) (octets : List ℕ) (e : EsmeView) → e.session.conversation.state ≡ Closed
@@ -201,10 +194,6 @@ put_back_ended false (job ∷ jobs) before c e h =
     back_ended (is_request job) job before c (handing (next_among (job ∷ jobs) c.esme.outbox) c.esme).1 e refl refl refl h
 
 -- ---- any calls
-
-drop_none : (n : ℕ) → drop {A = ℕ} n [] ≡ []
-drop_none zero = refl
-drop_none (suc n) = refl
 
 sent_ended : (b : Bool) (count : ℕ) (before c d : EsmeProgress) → IsEnded before c
     → d.esme ≡ counting_sent count (record c.esme { outbox = cond b (record c.esme.outbox { octets = drop count c.esme.outbox.octets }) c.esme.outbox }) → d.left ≡ c.left → IsEnded before d

@@ -4,6 +4,7 @@ use Rattle.std.proofs.lemmas.Bool.{lt-ltb}
 use Rattle.std.proofs.lemmas.List.{append_cancel_left, map-append}
 use Rattle.std.specs.List.{AllByRecursion}
 use Rattle.std.specs.Prelude.{slice_get, slice_set}
+use Rattle.sms_base.proofs.Lists.{all_append}
 use Rattle.smpp_pdu.specs.declared.header.Header.{Header}
 use Rattle.smpp_pdu.specs.declared.status.CommandStatus.TheVariants.{ESME_RTHROTTLED}
 use Rattle.smpp_session.specs.declared.account.Account.{Account}
@@ -38,6 +39,7 @@ use Rattle.smsc_endpoint.specs.Outbox.{OutboxView, next_among, requests_among, i
 use Rattle.smsc_endpoint.specs.PendingRequests.{is_throttled_first, throttled, throttled_at, throttled_before, with_throttled}
 use Rattle.smsc_endpoint.proofs.EsmeActions.{AreActed, acted_are, actions_of, taken_is}
 use Rattle.smsc_endpoint.proofs.EsmeRuns.{all_zero, first_answered, heard_if, next_throttled, one_call}
+use Rattle.smsc_endpoint.proofs.Requests.{counted_in}
 
 abbrev Fresh : List PendingRequest → Type 0
 Fresh requests = AllByRecursion (λ request. was_back request ≡ false) requests
@@ -101,22 +103,15 @@ all_throttled : (xs : List PendingRequest) → AllByRecursion IsThrottledAnswer 
 all_throttled [] = tt
 all_throttled (x ∷ xs) = throttled_by (was_back x) x (throttled_among xs) (all_throttled xs)
 
-all_append : {A : Type 0} (P : A → Type 0) (xs ys : List A) → AllByRecursion P xs → AllByRecursion P ys → AllByRecursion P (xs ++ ys)
-all_append P [] ys h g = g
-all_append P (x ∷ xs) ys h g = (h.0, all_append P xs ys h.1 g)
-
 -- ---- how many requests there are
 
-abbrev counted : Bool → ℕ → ℕ
-counted is n = cond is (suc n) n
-
-counted_add : (is : Bool) (n m : ℕ) → counted is (n + m) ≡ counted is n + m
+counted_add : (is : Bool) (n m : ℕ) → counted_in is (n + m) ≡ counted_in is n + m
 counted_add true n m = omega arith
 counted_add false n m = refl
 
 count_append : (xs ys : List Job) → requests_among (xs ++ ys) ≡ requests_among xs + requests_among ys
 count_append [] ys = omega arith
-count_append (x ∷ xs) ys = ap (counted (is_request x)) (count_append xs ys) ∙ counted_add (is_request x) (requests_among xs) (requests_among ys)
+count_append (x ∷ xs) ys = ap (counted_in (is_request x)) (count_append xs ys) ∙ counted_add (is_request x) (requests_among xs) (requests_among ys)
 
 count_session : (jobs : List Job) → requests_among (of_session jobs) ≡ requests_among jobs
 count_session [] = refl
@@ -310,7 +305,7 @@ put_turns_by : (is : Bool) (t u : EsmeTurns) (job : Job) (jobs : List Job) (h : 
     → u.back ≡ t.back ++ cond is (false ∷ []) [] → u.heard ≡ t.heard → HasTurns u
 put_turns_by true t u job jobs h is e waiting left answers back heard =
     let before : requests_among t.progress.esme.outbox.jobs ≡ suc (requests_among jobs) =
-    ap requests_among e ∙ ap (λ (b : Bool). counted b (requests_among jobs)) is in
+    ap requests_among e ∙ ap (λ (b : Bool). counted_in b (requests_among jobs)) is in
     let q = queued_first h.queued (requests_among jobs) (h.count ∙ before) in
     let fresh : Fresh (q.0 ∷ q.1.0) = subst Fresh q.1.1 h.fresh in
     let parts : h.handed ++ h.queued ≡ (h.handed ++ q.0 ∷ []) ++ q.1.0 =
@@ -331,7 +326,7 @@ put_turns_by true t u job jobs h is e waiting left answers back heard =
     }
 put_turns_by false t u job jobs h is e waiting left answers back heard =
     let before : requests_among t.progress.esme.outbox.jobs ≡ requests_among jobs =
-    ap requests_among e ∙ ap (λ (b : Bool). counted b (requests_among jobs)) is in
+    ap requests_among e ∙ ap (λ (b : Bool). counted_in b (requests_among jobs)) is in
     same_turns t u h waiting (ap requests_among left ∙ sym before) answers (back ∙ append-nil t.back) heard
 
 put_turns : (busy : Bool) (jobs : List Job) (t : EsmeTurns) → t.progress.esme.outbox.jobs ≡ jobs → HasTurns t
@@ -357,7 +352,7 @@ back_turns_by : (is : Bool) (t : EsmeTurns) (job : Job) (jobs : List Job) (d : E
     })
 back_turns_by true t job jobs d h is e waiting left is_open =
     let before : requests_among t.progress.esme.outbox.jobs ≡ suc (requests_among jobs) =
-    ap requests_among e ∙ ap (λ (b : Bool). counted b (requests_among jobs)) is in
+    ap requests_among e ∙ ap (λ (b : Bool). counted_in b (requests_among jobs)) is in
     let q = queued_first h.queued (requests_among jobs) (h.count ∙ before) in
     let fresh : Fresh (q.0 ∷ q.1.0) = subst Fresh q.1.1 h.fresh in
     let count : length q.1.0 ≡ requests_among d.outbox.jobs =
@@ -487,7 +482,7 @@ one_turn accounts Tell t h c in_turn some =
     let same = told_same t.progress.esme.notes t.progress.esme in
     plain_turns t Tell h same.0 (ap requests_among same.1) refl
 
-progress_of : (calls : List EsmeCall) (t : EsmeTurns) → (turned_all t calls).progress ≡ called_all t.progress calls
+pub progress_of : (calls : List EsmeCall) (t : EsmeTurns) → (turned_all t calls).progress ≡ called_all t.progress calls
 progress_of [] t = refl
 progress_of (call ∷ calls) t = progress_of calls (turned t call)
 

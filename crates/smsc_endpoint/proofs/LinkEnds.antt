@@ -175,7 +175,7 @@ put_back_ended false false [] before c e h = record { over = h.over; nobody = h.
 put_back_ended false false (job ∷ jobs) before c e h =
     back_ended job jobs before c (handing (next_among (job ∷ jobs) c.link.outbox) c.link).1 e refl refl refl refl refl h
 
-drop_none : (count : ℕ) → drop {A = ℕ} count [] ≡ []
+pub drop_none : (count : ℕ) → drop {A = ℕ} count [] ≡ []
 drop_none zero = refl
 drop_none (suc n) = refl
 

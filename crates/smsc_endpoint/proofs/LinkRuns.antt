@@ -3,6 +3,7 @@ use Rattle.std.proofs.Common.{◌≡◌, ◌⊎◌, inl, inr, ℕ, ◌-◌, Bool
 use Rattle.std.specs.List.{AllByRecursion}
 use Rattle.std.specs.Prelude.{MatchBool}
 use Rattle.std.proofs.lemmas.Bool.Decides.{leb_tells}
+use Rattle.sms_base.proofs.Lists.{all_append}
 use Rattle.sms_link.specs.declared.framing.fault.FramingFault.{FramingFault}
 use Rattle.sms_link.specs.framing.Framing.{BeginsWithFrame, IsFrame, IsStream, framed, front_of, joined}
 use Rattle.sms_centre_spec.specs.declared.jobs.job.Job.{Job}
@@ -23,6 +24,7 @@ use Rattle.smsc_endpoint.specs.LinkRuns.{LinkCall, LinkProgress, LinkRun, LinkSt
 use Rattle.smsc_endpoint.specs.LinkRuns.{all_jobs, frames_of, put_back_by, put_by, started, taken_back, with_left, with_link}
 use Rattle.smsc_endpoint.specs.LinkRuns.{At, Take, Hear, GiveUp, Send, Put, PutBack, Close, Tell}
 use Rattle.smsc_endpoint.specs.Outbox.{OutboxView, next_among, with_next, with_octets, without_octets}
+use Rattle.sms_link.proofs.framing.Streams.{joined_append}
 
 -- ---- lists
 
@@ -44,14 +46,6 @@ frame_jobs frames = map (λ frame. Frame frame) frames
 frames_back : (frames : List (List ℕ)) → frames_of (frame_jobs frames) ≡ frames
 frames_back [] = refl
 frames_back (frame ∷ frames) = ap (λ (fs : List (List ℕ)). frame ∷ fs) (frames_back frames)
-
-pub joined_append : (ps qs : List (List ℕ)) → joined (ps ++ qs) ≡ joined ps ++ joined qs
-joined_append [] qs = refl
-joined_append (p ∷ ps) qs = ap (λ (l : List ℕ). framed p ++ l) (joined_append ps qs) ∙ sym (append_assoc (framed p) (joined ps) (joined qs))
-
-all_append : {A : Type 0} (P : A → Type 0) (xs ys : List A) → AllByRecursion P xs → AllByRecursion P ys → AllByRecursion P (xs ++ ys)
-all_append P [] ys h g = g
-all_append P (x ∷ xs) ys h g = (h.0, all_append P xs ys h.1 g)
 
 -- ---- changes that read nothing
 

@@ -25,7 +25,7 @@ use Rattle.smsc_endpoint.specs.LinkRuns.{At, Take, Hear, GiveUp, Send, Put, PutB
 use Rattle.smsc_endpoint.specs.LinkSends.{HasSent, LinkSends, SaidFrame, SendRun, SendStep, begun, frame_given, frame_of, given_among, given_by, sent_in}
 use Rattle.smsc_endpoint.specs.LinkSends.{Given, Congestion, ProtocolError}
 use Rattle.smsc_endpoint.specs.Outbox.{OutboxView, next_among, with_octets}
-use Rattle.smsc_endpoint.proofs.LinkRuns.{joined_append}
+use Rattle.sms_link.proofs.framing.Streams.{joined_append}
 
 abbrev pub octets_of : List SaidFrame → List ℕ
 octets_of said = joined (map frame_of said)

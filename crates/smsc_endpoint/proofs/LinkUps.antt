@@ -4,7 +4,7 @@ use Rattle.std.specs.Prelude.{MatchBool}
 use Rattle.sms_link.specs.declared.framing.fault.FramingFault.{FramingFault}
 use Rattle.sms_link.specs.framing.Framing.{front_of}
 use Rattle.sms_centre_spec.specs.declared.jobs.job.Job.{Job}
-use Rattle.sms_centre_spec.specs.declared.jobs.job.Job.TheVariants.{Bound, Unbound, Submit, Query, Cancel, DeliverAnswered, LinkUp, LinkDown, Frame}
+use Rattle.sms_centre_spec.specs.declared.jobs.job.Job.TheVariants.{Frame}
 use Rattle.sms_centre_spec.specs.declared.jobs.reply.Reply.{Reply}
 use Rattle.sms_centre_spec.specs.declared.jobs.reply.Reply.TheVariants.{Answer, Receipt, Frame as FrameReply, Taken as TakenReply}
 use Rattle.smsc_endpoint.specs.declared.link_access.LinkAccess.{LinkAccess}
@@ -120,14 +120,7 @@ put_named c (Some job, m) n s = alike c.link m s.0.stage s.0.handset n
 
 back_named : (c : LinkProgress) (job : Job) (m : LinkView) → IsNamedUp m → IsNamedUp (taken_back job (handed_back job m) c).link
 back_named c (Frame octets) m n = n
-back_named c (Query account pdu) m n = n
-back_named c (LinkUp handset) m n = n
-back_named c (Bound account receives) m n = n
-back_named c Unbound m n = n
-back_named c (Submit account pdu) m n = n
-back_named c (Cancel account pdu) m n = n
-back_named c (DeliverAnswered id is_accepted) m n = n
-back_named c LinkDown m n = n
+back_named c _ m n = n
 
 put_back_named : (c : LinkProgress) (o : Option Job × LinkView) → IsNamedUp c.link → IsHanded c.link o → IsNamedUp (put_back_by o c).link
 put_back_named c (None, m) n s = alike c.link m s.0.stage s.0.handset n

@@ -72,7 +72,7 @@ moves_away (PutOwn job) p o m away e = let never : Asks ≡ Serves = sym m.1 ∙
 moves_away (Dropped reply) p o m away e = away (sym m.1 ∙ e)
 moves_away (Refused reply) p o m away e = behind_goes false p away (sym m.1 ∙ e)
 
-stays_away : (calls : List Call) (v : EsmeView) (p : Phase) (w : EsmeView) → Runs EsmeDoes v p calls w Serves → (p ≡ Serves → ⊥) → ⊥
+pub stays_away : (calls : List Call) (v : EsmeView) (p : Phase) (w : EsmeView) → Runs EsmeDoes v p calls w Serves → (p ≡ Serves → ⊥) → ⊥
 stays_away [] v p w r away = away (sym r.1)
 stays_away (call ∷ calls) v p w r away = stays_away calls r.0 r.1 w r.4 (moves_away call p r.1 r.3 away)
 
@@ -83,7 +83,7 @@ is_serving (Leaves due) = inr (λ (e : Leaves due ≡ Serves). absurd cc)
 is_serving Ends = inr (λ (e : Ends ≡ Serves). absurd cc)
 is_serving Asks = inr (λ (e : Asks ≡ Serves). absurd cc)
 
-fails : (o : Phase) → o ≡ Fails → o ≡ Serves → ⊥
+pub fails : (o : Phase) → o ≡ Fails → o ≡ Serves → ⊥
 fails o p e = let never : Fails ≡ Serves = sym p ∙ e in absurd cc
 
 -- ---- one call
@@ -178,15 +178,15 @@ one_step (Refused reply) c u l o m e = absurd (fails o m.1 e)
 
 -- ---- calls one after the other
 
-all_append : (xs ys : List EsmeCall) (c : EsmeProgress) → called_all c (xs ++ ys) ≡ called_all (called_all c xs) ys
+pub all_append : (xs ys : List EsmeCall) (c : EsmeProgress) → called_all c (xs ++ ys) ≡ called_all (called_all c xs) ys
 all_append [] ys c = refl
 all_append (x ∷ xs) ys c = all_append xs ys (called_once c x)
 
-sent_first : (call : Call) (calls : List Call) → octets_sent (call ∷ calls) ≡ octets_sent (call ∷ []) ++ octets_sent calls
+pub sent_first : (call : Call) (calls : List Call) → octets_sent (call ∷ calls) ≡ octets_sent (call ∷ []) ++ octets_sent calls
 sent_first (Sent octets) calls = ap (λ (os : List ℕ). os ++ octets_sent calls) (sym (append-nil octets))
 sent_first call calls = refl
 
-taken_first : (call : Call) (calls : List Call) → octets_taken (call ∷ calls) ≡ octets_taken (call ∷ []) ++ octets_taken calls
+pub taken_first : (call : Call) (calls : List Call) → octets_taken (call ∷ calls) ≡ octets_taken (call ∷ []) ++ octets_taken calls
 taken_first (Took octets went) calls = ap (λ (os : List ℕ). os ++ octets_taken calls) (sym (append-nil octets))
 taken_first call calls = refl
 

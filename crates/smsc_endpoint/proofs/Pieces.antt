@@ -1,5 +1,6 @@
 -- Octets that arrive in two pieces do to a session what both do together.
 use Rattle.std.proofs.Common.{◌≡◌, ◌⊎◌, inl, inr, ◌&&◌, ℕ, ◌+◌, ◌-◌, Bool, true, false, cond, eqb, eqb-true, List, [], ◌∷◌, ◌++◌, length, length-append, Option, Some, None, refl, sym, ap, ◌∙◌, arith, append-nil}
+use Rattle.sms_base.proofs.Bools.{and_false}
 use Rattle.smpp_pdu.specs.declared.header.Header.{Header}
 use Rattle.smpp_pdu.specs.Statuses.{status_number}
 use Rattle.smpp_session.specs.declared.action.Action.{Action}
@@ -170,10 +171,6 @@ deaf_unbound Finishing e = absurd cc
 deaf_unbound Broken e = refl
 deaf_unbound Closed e = refl
 
-never : (b : Bool) → b && false ≡ false
-never true = refl
-never false = refl
-
 -- what is lost in both is lost in the second, where it is not lost in the first
 second_lost : (before : SessionState) (m t : SessionView) (xs ys : List Action) → (is_deaf m.conversation.state ≡ true) ⊎ (is_bound m.conversation.state ≡ bound_behind (is_bound before) xs)
     → is_bind_lost before xs m.conversation.state ≡ false
@@ -253,7 +250,7 @@ joined e ys f h empty = by_closes a.closes refl where
             ∙ (ap (λ (q : SessionView × List Action). taken_in q (counting_received n v)) gives
             ∙ (ap (λ (b : Bool). unbound_where b (with_session f.0 (counting_received n v)))
             (ap (λ (s : SessionView). is_bind_lost s.conversation.state [] f.0.conversation.state) is
-            ∙ (ap (λ (b : Bool). is_deaf f.0.conversation.state && b) (deaf_unbound f.0.conversation.state deaf) ∙ never (is_deaf f.0.conversation.state)))
+            ∙ (ap (λ (b : Bool). is_deaf f.0.conversation.state && b) (deaf_unbound f.0.conversation.state deaf) ∙ and_false (is_deaf f.0.conversation.state)))
             ∙ ap (λ (s : SessionView). with_session s (counting_received n v)) (sym is)))
 
         again : (b : Bool) → is_deaf f.0.conversation.state ≡ true → g ≡ session_pair f.0

@@ -3,7 +3,7 @@ use Rattle.std.proofs.Common.{◌≡◌, ℕ, Bool, true, cond, List, [], ◌∷
 use Rattle.smpp_pdu.specs.Statuses.{status_number}
 use Rattle.smpp_pdu.specs.Writing.{written}
 use Rattle.smpp_pdu.specs.declared.status.CommandStatus.{CommandStatus}
-use Rattle.smpp_pdu.specs.declared.status.CommandStatus.TheVariants.{ESME_ROK, ESME_RINVMSGLEN, ESME_RINVCMDLEN, ESME_RINVCMDID, ESME_RINVBNDSTS, ESME_RALYBND, ESME_RSYSERR, ESME_RINVSRCADR, ESME_RINVDSTADR, ESME_RINVMSGID, ESME_RBINDFAIL, ESME_RINVPASWD, ESME_RINVSYSID, ESME_RCANCELFAIL, ESME_RMSGQFUL, ESME_RINVESMCLASS, ESME_RSUBMITFAIL, ESME_RTHROTTLED, ESME_RINVSCHED, ESME_RINVEXPIRY, ESME_RINVOPTPARSTREAM, ESME_ROPTPARNOTALLWD, ESME_RINVPARLEN}
+use Rattle.smpp_pdu.specs.declared.status.CommandStatus.TheVariants.{ESME_ROK}
 use Rattle.smpp_session.specs.Answers.{answer_pdu, answered, last_unbind, owed_behind}
 use Rattle.smpp_session.specs.Bindings.{is_bound}
 use Rattle.smpp_session.specs.SessionTable.{unbind_resp_to}
@@ -27,28 +27,7 @@ use Rattle.smsc_endpoint.proofs.EsmeRuns.{bound_goes}
 said : (status : CommandStatus) (number : ℕ) → submit_refused (header_in (written (answer_pdu number (Refused SubmitRequest (refusal_status status))))) ≡ SubmitRefused (status_number (refusal_status status)) ∷ []
 unfolding answer_pdu
 said ESME_ROK number = refl
-said ESME_RINVMSGLEN number = refl
-said ESME_RINVCMDLEN number = refl
-said ESME_RINVCMDID number = refl
-said ESME_RINVBNDSTS number = refl
-said ESME_RALYBND number = refl
-said ESME_RSYSERR number = refl
-said ESME_RINVSRCADR number = refl
-said ESME_RINVDSTADR number = refl
-said ESME_RINVMSGID number = refl
-said ESME_RBINDFAIL number = refl
-said ESME_RINVPASWD number = refl
-said ESME_RINVSYSID number = refl
-said ESME_RCANCELFAIL number = refl
-said ESME_RMSGQFUL number = refl
-said ESME_RINVESMCLASS number = refl
-said ESME_RSUBMITFAIL number = refl
-said ESME_RTHROTTLED number = refl
-said ESME_RINVSCHED number = refl
-said ESME_RINVEXPIRY number = refl
-said ESME_RINVOPTPARSTREAM number = refl
-said ESME_ROPTPARNOTALLWD number = refl
-said ESME_RINVPARLEN number = refl
+said _ number = refl
 
 bound_says : (c : Conversation) (number : ℕ) (answer : Answer) → is_bound c.state ≡ true → answered c number answer ≡ Some (written (answer_pdu number answer))
 bound_says c number answer e =

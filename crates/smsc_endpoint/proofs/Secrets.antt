@@ -7,7 +7,7 @@ use Rattle.std.proofs.lemmas.List.{drop_all}
 use Rattle.std.proofs.lemmas.Slice.Eq.{bytes_eq-Decides}
 use Rattle.sms_link.specs.framing.Framing.{framed, joined}
 use Rattle.sms_centre_spec.specs.declared.jobs.job.Job.{Job}
-use Rattle.sms_centre_spec.specs.declared.jobs.job.Job.TheVariants.{Bound, Unbound, Submit, Query, Cancel, DeliverAnswered, LinkUp, LinkDown, Frame}
+use Rattle.sms_centre_spec.specs.declared.jobs.job.Job.TheVariants.{LinkUp}
 use Rattle.smsc_endpoint.specs.declared.link_access.LinkAccess.TheVariants.{Secrets}
 use Rattle.smsc_endpoint.specs.declared.link_access.LinkSecret.{LinkSecret}
 use Rattle.smsc_endpoint.specs.FirstFrame.{before_space, behind_space, is_number, is_secret_of, next_octet, number_by, number_of}
@@ -83,25 +83,11 @@ module _ (secrets : List LinkSecret) (c : LinkProgress) (h : IsCutUp (Secrets se
 
   waiting_named : (job : Job) → IsWaitingJob (Secrets secrets) h.first job → IsBySecret secrets c.arrived job
   waiting_named (LinkUp handset) g = named handset g
-  waiting_named (Frame octets) g = tt
-  waiting_named (Bound account receives) g = tt
-  waiting_named Unbound g = tt
-  waiting_named (Submit account pdu) g = tt
-  waiting_named (Query account pdu) g = tt
-  waiting_named (Cancel account pdu) g = tt
-  waiting_named (DeliverAnswered id is_accepted) g = tt
-  waiting_named LinkDown g = tt
+  waiting_named _ g = tt
 
   left_named : (job : Job) → IsLinkJob (Secrets secrets) h.first job → IsBySecret secrets c.arrived job
   left_named (LinkUp handset) g = named handset g
-  left_named (Frame octets) g = tt
-  left_named (Bound account receives) g = tt
-  left_named Unbound g = tt
-  left_named (Submit account pdu) g = tt
-  left_named (Query account pdu) g = tt
-  left_named (Cancel account pdu) g = tt
-  left_named (DeliverAnswered id is_accepted) g = tt
-  left_named LinkDown g = tt
+  left_named _ g = tt
 
   all_named : (left waiting : List Job) → AllByRecursion (IsLinkJob (Secrets secrets) h.first) left → AllByRecursion (IsWaitingJob (Secrets secrets) h.first) waiting
       → AllByRecursion (IsBySecret secrets c.arrived) (left ++ waiting)

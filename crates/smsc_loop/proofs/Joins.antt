@@ -23,7 +23,7 @@ seat_trans s t u p q = record { number = q.number ∙ p.number; jobs = q.jobs �
 
 -- ---- lists
 
-longer : {A : Type 0} (a b c x y xy : List A) → b ≡ a ++ x → c ≡ b ++ y → xy ≡ x ++ y → c ≡ a ++ xy
+pub longer : {A : Type 0} (a b c x y xy : List A) → b ≡ a ++ x → c ≡ b ++ y → xy ≡ x ++ y → c ≡ a ++ xy
 longer {A} a b c x y xy p q r = q ∙ (ap (λ (l : List A). l ++ y) p ∙ (append_assoc a x y ∙ ap (λ (l : List A). a ++ l) (sym r)))
 
 pub unchanged : {A : Type 0} (a b : List A) → b ≡ a → b ≡ a ++ []
@@ -82,7 +82,7 @@ octets_sent_join (PutOwn job ∷ one) other = octets_sent_join one other
 octets_sent_join (Dropped reply ∷ one) other = octets_sent_join one other
 octets_sent_join (Refused reply ∷ one) other = octets_sent_join one other
 
-replies_taken_join : (one other : List Call) → replies_taken (one ++ other) ≡ replies_taken one ++ replies_taken other
+pub replies_taken_join : (one other : List Call) → replies_taken (one ++ other) ≡ replies_taken one ++ replies_taken other
 replies_taken_join [] other = refl
 replies_taken_join (Timed now went ∷ one) other = replies_taken_join one other
 replies_taken_join (Told full ∷ one) other = replies_taken_join one other
@@ -101,7 +101,7 @@ replies_taken_join (PutOwn job ∷ one) other = replies_taken_join one other
 replies_taken_join (Dropped reply ∷ one) other = ap (λ (l : List Reply). reply ∷ l) (replies_taken_join one other)
 replies_taken_join (Refused reply ∷ one) other = ap (λ (l : List Reply). reply ∷ l) (replies_taken_join one other)
 
-jobs_put_join : (one other : List Call) → jobs_put (one ++ other) ≡ jobs_put one ++ jobs_put other
+pub jobs_put_join : (one other : List Call) → jobs_put (one ++ other) ≡ jobs_put one ++ jobs_put other
 jobs_put_join [] other = refl
 jobs_put_join (Timed now went ∷ one) other = jobs_put_join one other
 jobs_put_join (Told full ∷ one) other = jobs_put_join one other

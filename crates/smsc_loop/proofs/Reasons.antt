@@ -18,14 +18,7 @@ module _ {V : Type 0} (waits : V → List ℕ) (over owing : V → Bool) where
       → Meant waits over owing ⊥ side closed v p why → Meant waits over owing run_over side closed v p why
   meant_in run_over side closed v p Closed (e, inl f) = absurd f
   meant_in run_over side closed v p Closed (e, inr f) = (e, inr f)
-  meant_in run_over side closed v p Over m = m
-  meant_in run_over side closed v p Silent m = m
-  meant_in run_over side closed v p Stalled m = m
-  meant_in run_over side closed v p Unanswered m = m
-  meant_in run_over side closed v p Inactive m = m
-  meant_in run_over side closed v p Ordered m = m
-  meant_in run_over side closed v p Replaced m = m
-  meant_in run_over side closed v p NoMemory m = m
+  meant_in run_over side closed v p _ m = m
 
   pub meant_last : (run_over : Type 0) (side : SideEnd) (closed : Bool) (v : V) (p : Phase) (why : LeaveReason)
       → Meant waits over owing run_over side closed v p why → MeantLast waits over owing run_over side closed v p why

@@ -1,183 +1,130 @@
 //! The file to which a run writes what it forgets: a line of JSON a message, and never a text.
-use crate::lines::{name_text, number_text, put_quoted, state_word};
-use crate::moments::text_of;
-use sms_base::{Moment, Originator, Wish};
+ghost use Rattle.std.specs.Prelude.{◌≡◌, ℕ, List, IfOk, OnOk};
+ghost use Rattle.smsc_status.specs.Archive.{archive_text};
+ghost use Rattle.smsc_operation.specs.Archiving.{HasLine, IsSoOfLine, said_of};
+
+use crate::ledger::{Ledger, LineFile};
+use sms_base::{FinalState, Moment, Octets};
 use sms_centre::{Archive, NotArchived};
 use sms_centre_rows::messages::MessageRow;
-use smsc_observer::{NO_MESSAGES, with_message};
-use smsc_status::MessageFigures;
+use smsc_status::{ArchiveLine, archive_line};
 use std::alloc::{AllocError, Global};
-use std::fs::{File, OpenOptions};
-use std::io::{self, Read, Seek, SeekFrom, Write};
-use std::os::unix::fs::OpenOptionsExt;
-
-// Its owner alone may read and write it.
-const PRIVATE: u32 = 0o600;
+use std::io;
 
 /// Where a run writes what it forgets, if anywhere.
 #[derive(Drop)]
-pub struct RunArchive {
+pub struct RunArchive<F: Ledger + Drop> {
     alloc: Global,
-    file: Option<File>,
-    /// So many messages were taken.
-    pub count: u64,
-    /// In how many of each state.
-    pub taken: MessageFigures,
+    pub(crate) ledger: Option<F>,
 }
 
-// Whether the file ends within a line.
-fn is_cut(file: &mut File) -> io::Result<bool> {
-    if file.seek(SeekFrom::End(0))? == 0 {
-        return Ok(false);
+// ---- a line
+
+fn line_of(
+    alloc: Global,
+    message: &MessageRow,
+    parts: usize,
+    ended: Moment,
+    state: FinalState,
+) -> Result<Octets, AllocError>
+    ensures { IfOk result (λ line. line ≡ archive_text (said_of message.now parts ended state)) }
+{
+    let destination = message.handset.digits();
+    archive_line(
+        alloc,
+        &ArchiveLine {
+            id: message.id,
+            originator: &message.originator,
+            source: message.source.digits.as_slice(),
+            destination: destination.as_slice(),
+            submitted: message.submitted,
+            ended,
+            parts: parts as u64,
+            state,
+            wish: message.wish,
+        },
+    )
+}
+
+// ---- the archive
+
+// The ledger takes the line, if there is one.
+fn append_to<F: Ledger>(ledger: &mut Option<F>, line: &[u8]) -> Result<(), NotArchived>
+    ensures taken { OnOk result (HasLine F.has ledger.new line.now) }
+    ensures others { (other : List ℕ) → HasLine F.has ledger.old other → HasLine F.has ledger.new other }
+    ensures kept { (other : List ℕ) → HasLine F.keeps ledger.old other → HasLine F.keeps ledger.new other }
+{
+    match ledger {
+        Some(ledger) => ledger.append(line).map_err(|_| NotArchived),
+        None => Ok(()),
     }
-    file.seek(SeekFrom::End(-1))?;
-    let mut last = [0u8; 1];
-    let count = file.read(&mut last)?;
-    Ok(count == 1 && last[0] != b'\n')
 }
 
-// A line that a full disk or a loss of power has cut off ends here.
-fn end_line(file: &mut File) -> io::Result<()> {
-    if is_cut(file)? {
-        return file.write_all(b"\n");
-    }
-    Ok(())
-}
-
-fn folder_of(path: &str) -> &str {
-    match path.rsplit_once('/') {
-        Some(("", _)) => "/",
-        Some((folder, _)) => folder,
-        None => ".",
+fn sync_in<F: Ledger>(ledger: &mut Option<F>) -> Result<(), NotArchived>
+    ensures synced { OnOk result ((line : List ℕ) → HasLine F.has ledger.old line → HasLine F.keeps ledger.new line) }
+    ensures kept { (line : List ℕ) → HasLine F.keeps ledger.old line → HasLine F.keeps ledger.new line }
+{
+    match ledger {
+        Some(ledger) => ledger.sync().map_err(|_| NotArchived),
+        None => Ok(()),
     }
 }
 
-// A new file is there after a loss of power only if the disk has its folder. Some file systems refuse to be asked for that.
-fn sync_folder(rt: &HostRuntime, path: &str) {
-    if let Ok(folder) = File::open(rt, folder_of(path)) {
-        let _ = folder.sync_all();
-    }
-}
-
-fn opened_at(rt: &HostRuntime, path: &str) -> io::Result<File> {
-    let mut file = OpenOptions::new()
-        .read(true)
-        .append(true)
-        .create(true)
-        .mode(PRIVATE)
-        .open(rt, path)?;
-    end_line(&mut file)?;
-    sync_folder(rt, path);
-    Ok(file)
-}
-
-fn opened(rt: &HostRuntime, path: Option<&str>) -> io::Result<Option<File>> {
+fn opened(rt: &HostRuntime, path: Option<&str>) -> io::Result<Option<LineFile>> {
     match path {
         Some(path) => {
-            let file = opened_at(rt, path)?;
+            let file = LineFile::open(rt, path)?;
             Ok(Some(file))
         }
         None => Ok(None),
     }
 }
 
-// ---- a line
-
-fn quoted(alloc: Global, octets: &[u8]) -> Result<String, AllocError> {
-    let mut text = String::new(alloc);
-    for octet in octets {
-        put_quoted(&mut text, *octet)?;
-    }
-    Ok(text)
-}
-
-// Who submitted it.
-fn origin_text(alloc: Global, originator: &Originator) -> Result<String, AllocError> {
-    match originator {
-        Originator::Application { account } => {
-            let name = quoted(alloc, account.as_slice())?;
-            Ok(format!(in alloc; "\"account\":\"{name}\"")?)
-        }
-        Originator::Handset { message_reference } => {
-            Ok(format!(in alloc; "\"message_reference\":{message_reference}")?)
-        }
-    }
-}
-
-fn moment_text(alloc: Global, moment: Option<Moment>) -> Result<String, AllocError> {
-    match moment {
-        Some(moment) => text_of(alloc, moment),
-        None => Ok(String::new(alloc)),
-    }
-}
-
-// When its receipt was wanted.
-fn wish_word(wish: Wish) -> &'static str {
-    match wish {
-        Wish::Nothing => "never",
-        Wish::Always => "always",
-        Wish::OnFailure => "on_failure",
-    }
-}
-
-fn line_of(alloc: Global, message: &MessageRow, parts: usize) -> Result<String, AllocError> {
-    let id = message.id.number();
-    let origin = origin_text(alloc, &message.originator)?;
-    let source = name_text(alloc, &message.source.digits)?;
-    let destination = number_text(alloc, &message.handset)?;
-    let submitted = text_of(alloc, message.submitted)?;
-    let ended = moment_text(alloc, message.done)?;
-    let state = message.state.map_or("", state_word);
-    let receipt = wish_word(message.wish);
-    Ok(format!(in alloc;
-        "{{\"id\":{id},{origin},\"source\":\"{source}\",\"destination\":\"{destination}\",\"submitted\":\"{submitted}\",\"ended\":\"{ended}\",\"parts\":{parts},\"state\":\"{state}\",\"receipt\":\"{receipt}\"}}\n"
-    )?)
-}
-
-// ---- the archive
-
-impl RunArchive {
+impl RunArchive<LineFile> {
     /// The archive at the path, which is made where it is missing. What is there stays.
-    pub fn open(rt: &HostRuntime, path: Option<&str>) -> io::Result<RunArchive> {
+    pub fn open(rt: &HostRuntime, path: Option<&str>) -> io::Result<RunArchive<LineFile>> {
         Ok(RunArchive {
             alloc: rt.alloc(),
-            file: opened(rt, path)?,
-            count: 0,
-            taken: NO_MESSAGES,
+            ledger: opened(rt, path)?,
         })
     }
+}
 
-    fn write(&mut self, message: &MessageRow, parts: usize) -> io::Result<()> {
-        let alloc = self.alloc;
-        if let Some(file) = &mut self.file {
-            let line = line_of(alloc, message, parts)?;
-            file.write_all(line.as_str().as_bytes())?;
-        }
-        self.count = self.count.saturating_add(1);
-        self.taken = with_message(self.taken, message.state);
-        Ok(())
-    }
-
-    fn make_durable(&mut self) -> io::Result<()> {
-        match &mut self.file {
-            Some(file) => file.sync_all(),
-            None => Ok(()),
+impl<F: Ledger + Drop> RunArchive<F> {
+    fn put(
+        &mut self,
+        message: &MessageRow,
+        parts: usize,
+        ended: Moment,
+        state: FinalState,
+    ) -> Result<(), NotArchived>
+        ensures taken { OnOk result (HasLine F.has self.new.ledger (archive_text (said_of message.now parts ended state))) }
+        ensures others { (other : List ℕ) → HasLine F.has self.old.ledger other → HasLine F.has self.new.ledger other }
+        ensures kept { (other : List ℕ) → HasLine F.keeps self.old.ledger other → HasLine F.keeps self.new.ledger other }
+    {
+        match line_of(self.alloc, message, parts, ended, state) {
+            Ok(line) => append_to(&mut self.ledger, line.as_slice()),
+            Err(_) => Err(NotArchived),
         }
     }
 }
 
-impl Archive for RunArchive {
-    ghost use Rattle.std.specs.Prelude.{⊤};
+/// It refuses a message that has not ended.
+impl<F: Ledger + Drop> Archive for RunArchive<F> {
+    ghost took = { λ archive message parts. IsSoOfLine (HasLine F.has archive.ledger) message parts };
 
-    ghost took = { λ archive message parts. ⊤ };
+    ghost keeps = { λ archive message parts. IsSoOfLine (HasLine F.keeps archive.ledger) message parts };
 
-    ghost keeps = { λ archive message parts. ⊤ };
-
+    #[tactic(auto, using(crate::proofs::Archived::so_now, crate::proofs::Archived::so_still))]
     fn take(&mut self, message: &MessageRow, parts: usize) -> Result<(), NotArchived> {
-        self.write(message, parts).map_err(|_| NotArchived)
+        match (message.done, message.state) {
+            (Some(ended), Some(state)) => self.put(message, parts, ended, state),
+            _ => Err(NotArchived),
+        }
     }
 
+    #[tactic(auto, using(crate::proofs::Archived::so_still))]
     fn sync(&mut self) -> Result<(), NotArchived> {
-        self.make_durable().map_err(|_| NotArchived)
+        sync_in(&mut self.ledger)
     }
 }

@@ -85,8 +85,8 @@ fn is_bare(text: &str) -> bool {
             && !matches!(octet, b'"' | b'\\' | b'='))
 }
 
-/// An octet between quotation marks; a question mark for one that is no printable ASCII.
-pub(crate) fn put_quoted(text: &mut String, octet: u8) -> Result<(), AllocError> {
+// An octet between quotation marks; a question mark for one that is no printable ASCII.
+fn put_quoted(text: &mut String, octet: u8) -> Result<(), AllocError> {
     match octet {
         b'"' => text.push_str("\\\""),
         b'\\' => text.push_str("\\\\"),
@@ -259,8 +259,8 @@ pub(crate) fn refusals_text(
     )?)
 }
 
-/// The word of a receipt for an end (SMPP v3.4 appendix B).
-pub(crate) fn state_word(state: FinalState) -> &'static str {
+// The word of a receipt for an end (SMPP v3.4 appendix B).
+fn state_word(state: FinalState) -> &'static str {
     match state {
         FinalState::Delivered => "DELIVRD",
         FinalState::Expired => "EXPIRED",

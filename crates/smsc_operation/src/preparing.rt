@@ -2,6 +2,11 @@
 //!
 //! FILE has a mark whether a run has it open. It is written while nobody has the database open, and the disk has it before the first
 //! commit of a run.
+ghost use Rattle.std.specs.Prelude.{◌≡◌, Err, IfOk, OnOk};
+ghost use Rattle.sms_centre_recovery.specs.soundness.RowsOf.{rows_of};
+ghost use Rattle.sms_centre_spec.specs.SoundRows.{IsSound};
+ghost use Rattle.smsc_operation.specs.declared.run_fault.RunFault.TheVariants.{BadRows};
+
 use crate::moments::text_of;
 use crate::opening::{FoundStore, connect, database_fault, keep_of, open_files, seed_of};
 use crate::run_fault::{RunFault, StoreFault, lost_fault};
@@ -167,29 +172,55 @@ fn bare_setup(alloc: Global, run: &ServerRun<'_>, start: Moment) -> Setup {
     }
 }
 
-fn judge_tables(alloc: Global, tables: &RowTables) -> Result<(), RunFault> {
-    if tables.is_sound(alloc)? {
-        Ok(())
-    } else {
-        Err(RunFault::BadRows)
+fn judge_tables(alloc: Global, tables: &RowTables) -> Result<(), RunFault>
+    ensures sound { OnOk result (IsSound (rows_of tables.now)) }
+    ensures refused { result ≡ Err BadRows → ¬ IsSound (rows_of tables.now) }
+{
+    match tables.is_sound(alloc) {
+        Ok(true) => Ok(()),
+        Ok(false) => Err(RunFault::BadRows),
+        Err(_) => Err(RunFault::NoMemory),
     }
 }
 
-/// Refuses rows on which no centre starts.
-pub fn judge_rows(alloc: Global, rows: Rows) -> Result<(), RunFault> {
+// Moved apart where no value is dropped.
+fn rows_in(tables: RowTables) -> Rows
+    ensures { result ≡ rows_of tables }
+{
+    Rows {
+        messages: Listed::from_vec(tables.messages.into_vec()),
+        parts: Listed::from_vec(tables.parts.into_vec()),
+        references: Listed::from_vec(tables.references.into_vec()),
+        handsets: Listed::from_vec(tables.handsets.into_vec()),
+        reports: Listed::from_vec(tables.reports.into_vec()),
+        priorities: Listed::from_vec(tables.priorities.into_vec()),
+        setup: tables.setup,
+    }
+}
+
+/// The rows, where a centre starts on them.
+pub(crate) fn judged(alloc: Global, rows: Rows) -> Result<Rows, RunFault>
+    ensures same { IfOk result (λ judged. judged ≡ rows) }
+    ensures sound { OnOk result (IsSound rows) }
+    ensures refused { result ≡ Err BadRows → ¬ IsSound rows }
+{
     let Some(tables) = RowTables::of(rows) else {
         return Err(RunFault::BadRows);
     };
-    let judged = judge_tables(alloc, &tables);
-    drop(tables);
-    judged
+    match judge_tables(alloc, &tables) {
+        Ok(()) => Ok(rows_in(tables)),
+        Err(fault) => {
+            drop(tables);
+            Err(fault)
+        }
+    }
 }
 
 // The greatest number of the keep's rows, which are judged.
 fn greatest_in<K: CentreStore>(alloc: Global, keep: &mut K) -> Result<Option<MessageId>, RunFault> {
-    let rows = keep.gather()?;
+    let rows = judged(alloc, keep.gather()?)?;
     let greatest = rows.messages.as_slice().last().map(|message| message.id);
-    judge_rows(alloc, rows)?;
+    drop(rows);
     Ok(greatest)
 }
 

@@ -220,7 +220,7 @@ pub const USAGE: &str =
     \u{20}  --log messages    a line as a message is accepted, and one as it ends\n\
     \u{20}  --log access      one line a message at its end: who, to whom, when, how it ended; never a text\n\
     \u{20}  --sessions N      end by itself after N connections\n\
-    \u{20}  --keep DAYS       forget the messages that ended before DAYS days, at the start and as it goes on; else all are kept\n\
+    \u{20}  --keep DAYS       forget the messages that ended before DAYS days, as the run goes on; else all are kept\n\
     \u{20}  --archive FILE    append what is forgotten to FILE first, a line of JSON a message; never a text\n\
     a store that a run refuses otherwise:\n\
     \u{20}  --ahead           its rows are ahead of the clock, and that is right\n\

@@ -61,22 +61,6 @@ pub fn without(all: &MessageFigures, gone: &MessageFigures) -> MessageFigures {
     }
 }
 
-/// The summary once these messages are gone: it counts as many fewer in each state.
-pub fn left_of(summary: Summary, gone: &MessageFigures) -> Summary {
-    Summary {
-        messages: without(&summary.messages, gone),
-        ..summary
-    }
-}
-
-/// The summary where these rows are left: it counts their messages in each state.
-pub fn left_in(summary: Summary, rows: &Rows) -> Summary {
-    Summary {
-        messages: message_figures(rows.messages.as_slice()),
-        ..summary
-    }
-}
-
 /// What a store's files are before it is opened.
 #[derive(Clone, Copy)]
 pub struct Files {

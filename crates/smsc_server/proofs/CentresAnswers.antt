@@ -4,6 +4,7 @@ use Rattle.std.specs.List.{AllByRecursion}
 use Rattle.std.specs.Prelude.{⊤}
 use Rattle.std.proofs.lemmas.Bool.{cases_Bool, lt-ltb}
 use Rattle.std.proofs.lemmas.List.{map-append}
+use Rattle.sms_base.proofs.Lists.{all_append}
 use Rattle.smpp_pdu.specs.declared.header.Header.{Header}
 use Rattle.smpp_session.specs.declared.account.Account.{Account}
 use Rattle.smpp_session.specs.declared.action.Action.{Action}
@@ -26,10 +27,10 @@ use Rattle.smsc_loop.specs.Calls.{jobs_put, octets_sent, replies_taken}
 use Rattle.sms_seats.specs.Seats.{put_by as put_at, taken_by as taken_at}
 use Rattle.smsc_loop.specs.Courses.{AreDue, Did, IsDue, LeadsTo, Runs, Standing}
 use Rattle.smsc_loop.specs.Owing.{answers_in as answers_got, awaited_after, awaited_with, is_ahead, requests_in as requests_put}
-use Rattle.smsc_loop.specs.Phases.{Phase, Serves, Fails, Leaves, Ends, Asks, Moves}
+use Rattle.smsc_loop.specs.Phases.{Phase, Serves, Leaves, Ends, Asks, Moves}
 use Rattle.smsc_loop.specs.declared.note.Note.{Note}
 use Rattle.smsc_loop.proofs.Counting.{answers_more, answers_same, requests_next}
-use Rattle.smsc_loop.proofs.Joins.{due_at, due_join}
+use Rattle.smsc_loop.proofs.Joins.{due_at, due_join, jobs_put_join, replies_taken_join}
 use Rattle.smsc_endpoint.specs.declared.pending.PendingRequest.{PendingRequest}
 use Rattle.smsc_endpoint.specs.EsmeCalls.{account_of, handed_back, handed_out, header_in, heard, is_sendable, pending, request_back}
 use Rattle.smsc_endpoint.specs.EsmeDoes.{EsmeDoes}
@@ -41,14 +42,14 @@ use Rattle.smsc_endpoint.specs.LoopCourses.{call_of, calls_of}
 use Rattle.smsc_endpoint.specs.Outbox.{requests_among as count_among, with_next}
 use Rattle.smsc_endpoint.specs.Refusing.{enquire_link, no_room}
 use Rattle.smsc_endpoint.proofs.EsmeRuns.{all_zero, begins as begins_progress, heard_if, one_call}
-use Rattle.smsc_endpoint.proofs.EsmeTurns.{begins as begins_turns, turns_hold}
-use Rattle.smsc_endpoint.proofs.LoopCourses.{is_serving, loop_course, moves_away}
+use Rattle.smsc_endpoint.proofs.EsmeTurns.{begins as begins_turns, progress_of, turns_hold}
+use Rattle.smsc_endpoint.proofs.LoopCourses.{all_append as called_append, fails, is_serving, loop_course, stays_away}
 use Rattle.smsc_server.specs.CentresAnswers.{AreFor, HasCentresAnswers, ReadsAnswers, answered_with, answers_to, not_back, request_in}
 use Rattle.smsc_server.specs.Exchanges.{Exchange, answered_in, answers_among, asked_in, requests_among}
 use Rattle.smsc_server.specs.WhatIsRead.{answers_in, course_of, parts_all}
 use Rattle.smsc_server.proofs.PartsWritten.{WasServed, adds_all, reads, runs_both, was_served}
 use Rattle.smsc_server.proofs.serving.Exchanged.{answers_join, requests_join}
-use Rattle.smsc_server.proofs.serving.Sat.{jobs_join, put_join, taken_join}
+use Rattle.smsc_server.proofs.serving.Sat.{jobs_join}
 
 -- ---- marks
 
@@ -111,10 +112,6 @@ none_in (DeliverAnsweredJob id is_accepted) e = refl
 none_in (LinkUp handset) e = refl
 none_in LinkDown e = refl
 none_in (FrameJob octets) e = refl
-
-all_append : {A : Type 0} (P : A → Type 0) (xs ys : List A) → AllByRecursion P xs → AllByRecursion P ys → AllByRecursion P (xs ++ ys)
-all_append P [] ys h g = g
-all_append P (x ∷ xs) ys h g = (h.0, all_append P xs ys h.1 g)
 
 all_first : {A : Type 0} (P : A → Type 0) (xs ys : List A) → AllByRecursion P (xs ++ ys) → AllByRecursion P xs
 all_first P [] ys h = tt
@@ -357,9 +354,6 @@ record Along (accounts : List Account) (t : EsmeTurns) (puts : List Job) (awaite
   count : falses t.back ≡ length t.heard + awaited
   heard_so : t.heard ≡ answers
 
-fails : (o : Phase) → o ≡ Fails → o ≡ Serves → ⊥
-fails o p e = let never : Fails ≡ Serves = sym p ∙ e in absurd cc
-
 both_long : (answers : List Answered) → length (map request_of answers) ≡ length (map answer_of answers)
 both_long [] = refl
 both_long (answered ∷ answers) = ap suc (both_long answers)
@@ -554,16 +548,7 @@ module _ (put : List (Option Job)) (taken : List Reply) (awaited : ℕ) (count :
   count_then (PutOwn job) due o m e = let never : Asks ≡ Serves = sym m.1 ∙ e in absurd cc
   count_then (Dropped reply) due o m e = absurd m.0
   count_then (Refused reply) due o m e = absurd (fails o m.1 e)
-  count_then (Timed now went) due o m e = count_still
-  count_then (Told full) due o m e = count_still
-  count_then (Took octets went) due o m e = count_still
-  count_then (GaveUp went) due o m e = count_still
-  count_then (AskedLink went) due o m e = count_still
-  count_then (AskedToLeave asked went) due o m e = count_still
-  count_then (Noted said) due o m e = count_still
-  count_then (Sent octets) due o m e = count_still
-  count_then (PutBack job again went) due o m e = count_still
-  count_then (Left last) due o m e = count_still
+  count_then _ due o m e = count_still
 
 module _ (accounts : List Account) (t : EsmeTurns) (puts : List Job) (awaited : ℕ) (answers : List CentreAnswer) (h : Along accounts t puts awaited answers) where
   abbrev Then : Call → Type 0
@@ -691,28 +676,16 @@ turned_append : (xs ys : List EsmeCall) (t : EsmeTurns) → turned_all t (xs ++ 
 turned_append [] ys t = refl
 turned_append (x ∷ xs) ys t = turned_append xs ys (turned t x)
 
-called_append : (xs ys : List EsmeCall) (c : EsmeProgress) → called_all c (xs ++ ys) ≡ called_all (called_all c xs) ys
-called_append [] ys c = refl
-called_append (x ∷ xs) ys c = called_append xs ys (called_once c x)
-
-progress_is : (xs : List EsmeCall) (t : EsmeTurns) → (turned_all t xs).progress ≡ called_all t.progress xs
-progress_is [] t = refl
-progress_is (x ∷ xs) t = progress_is xs (turned t x)
-
-stays_away : (calls : List Call) (v : EsmeView) (p : Phase) (w : EsmeView) → Runs EsmeDoes v p calls w Serves → (p ≡ Serves → ⊥) → ⊥
-stays_away [] v p w r away = away (sym r.1)
-stays_away (call ∷ calls) v p w r away = stays_away calls r.0 r.1 w r.4 (moves_away call p r.1 r.3 away)
-
 serves_on : (o : Phase) (calls : List Call) (u w : EsmeView) → Runs EsmeDoes u o calls w Serves → o ≡ Serves
 serves_on o calls u w r = ⊎_elim (λ (e : o ≡ Serves). e) (λ (away : o ≡ Serves → ⊥). absurd (stays_away calls u o w r away)) (is_serving o)
 
 puts_first : (call : Call) (calls : List Call) → requests_among (jobs_among (jobs_put (call ∷ calls))) ≡ own_requests call ++ requests_among (jobs_among (jobs_put calls))
 puts_first call calls =
-    ap (λ (l : List (Option Job)). requests_among (jobs_among l)) (put_join (call ∷ []) calls)
+    ap (λ (l : List (Option Job)). requests_among (jobs_among l)) (jobs_put_join (call ∷ []) calls)
     ∙ (ap requests_among (jobs_join (jobs_put (call ∷ [])) (jobs_put calls)) ∙ requests_join (jobs_among (jobs_put (call ∷ []))) (jobs_among (jobs_put calls)))
 
 answers_first : (call : Call) (calls : List Call) → answers_among (replies_taken (call ∷ calls)) ≡ own_answers call ++ answers_among (replies_taken calls)
-answers_first call calls = ap answers_among (taken_join (call ∷ []) calls) ∙ answers_join (replies_taken (call ∷ [])) (replies_taken calls)
+answers_first call calls = ap answers_among (replies_taken_join (call ∷ []) calls) ∙ answers_join (replies_taken (call ∷ [])) (replies_taken calls)
 
 -- some moment behind these calls
 abbrev EndsAlong : List Account → EsmeTurns → List Job → List CentreAnswer → Type 0
@@ -732,7 +705,7 @@ along_all accounts (call ∷ calls) t puts awaited answers w h r put taken count
     λ z. some (ap (λ (c : EsmeProgress). c.esme.wrong_binds) (called_append (call_of call) (calls_of calls) t.progress) ∙ z) in
     let now : (called_all t.progress (call_of call)).esme.wrong_binds ≢ 0 = λ z. rest (all_zero (calls_of calls) (called_all t.progress (call_of call)) z) in
     let next = turned_all t (call_of call) in
-    let is = progress_is (call_of call) t in
+    let is = progress_of (call_of call) t in
     let esme : next.progress.esme ≡ r.0 = ap (λ (c : EsmeProgress). c.esme) is ∙ esme_then call t.progress r.0 r.2 o r.3 serves in
     let own = step accounts t puts awaited answers h call r.0 r.2 o r.3 serves now_due now in
     let all = along_all accounts calls next (puts ++ own_requests call) (awaited_behind call awaited) (answers ++ own_answers call) w own
@@ -823,13 +796,13 @@ module _ (accounts : List Account) (calls : List Call) (xs : List Exchange) (h :
       let all = along_all accounts one (begun accounts) [] 0 [] h.last (start_along accounts) h.run
       put taken (none_awaited (requests_put put) (answers_got taken) count) (due_first put taken one other (subst (λ (l : List Call). AreDue put taken l) h.parts due)) some in
       let answers_so : t.progress.answers ≡ answers_in (parts_all (started accounts) (calls_of one)) =
-      ap (λ (c : EsmeProgress). c.answers) (progress_is (calls_of one) (begun accounts)) ∙ (adds_all (calls_of one) (started accounts)).answers in
+      ap (λ (c : EsmeProgress). c.answers) (progress_of (calls_of one) (begun accounts)) ∙ (adds_all (calls_of one) (started accounts)).answers in
       let asked : map asked_in xs ≡ requests_among (jobs_among (jobs_put one)) ++ requests_among (jobs_among (jobs_put other)) =
-      for.requests ∙ (ap (λ (l : List Call). requests_among (jobs_among (jobs_put l))) h.parts ∙ (ap (λ (l : List (Option Job)). requests_among (jobs_among l)) (put_join one other)
+      for.requests ∙ (ap (λ (l : List Call). requests_among (jobs_among (jobs_put l))) h.parts ∙ (ap (λ (l : List (Option Job)). requests_among (jobs_among l)) (jobs_put_join one other)
       ∙ (ap requests_among (jobs_join (jobs_put one) (jobs_put other)) ∙ requests_join (jobs_among (jobs_put one)) (jobs_among (jobs_put other))))) in
       let heard_so : map answered_in xs ≡ answers_among (replies_taken one) ++ (answers_among (replies_taken other) ++ for.left) =
       for.answers ∙ (ap (λ (l : List CentreAnswer). l ++ for.left) (ap (λ (l : List Call). answers_among (replies_taken l)) h.parts
-      ∙ (ap answers_among (taken_join one other) ∙ answers_join (replies_taken one) (replies_taken other)))
+      ∙ (ap answers_among (replies_taken_join one other) ∙ answers_join (replies_taken one) (replies_taken other)))
       ∙ append_assoc (answers_among (replies_taken one)) (answers_among (replies_taken other)) for.left) in
       subst (λ (l : List Answered). HasCentresAnswers xs l) answers_so
       (have_answers accounts t (requests_among (jobs_among (jobs_put one))) all.0 (answers_among (replies_taken one)) all.1 xs

@@ -1,6 +1,7 @@
 -- What the rows of a run say of what they do not forget.
 use Rattle.std.proofs.Common.{◌≡◌, ⊎_elim, ℕ, Bool, true, false, true≢false, List, [], ◌∷◌, Option, Some, refl, sym, ap, subst, ◌∙◌}
 use Rattle.std.proofs.lemmas.Bool.{cases_Bool, cond-false, cond-true}
+use Rattle.std.proofs.lemmas.Option.{same_Some}
 use Rattle.sms_base.specs.Among.{Among}
 use Rattle.sms_rows.specs.table.Keys.{pair_key}
 use Rattle.sms_rows.specs.table.Table.{Rises, row_at}
@@ -57,13 +58,10 @@ pub record KeepsOne (n : ℕ) (before behind : Rows) : Type 0 where
 pub one_of : (n : ℕ) (a b : Rows) → Keeps a b → KeepsOne n a b
 one_of n a b k = record { messages = k.messages n; parts = λ id number p is e. k.parts id number p e; reports = k.reports n }
 
-some_same : {A : Type 0} (x y : A) → Some x ≡ Some y → x ≡ y
-some_same x y e = cc
-
 -- a part that is found under a key is the only one of it
 same_part_there : (key : ℕ) (p y : PartRow) (parts : List PartRow) → Rises part_key parts → row_at part_key key parts ≡ Some p → Among y parts → part_key y ≡ key → y ≡ p
 same_part_there key p y parts rises found there is =
-    some_same y p (sym (ap (λ (k : ℕ). row_at part_key k parts) (sym is) ∙ among_found part_key y parts rises there) ∙ found)
+    same_Some y p (sym (ap (λ (k : ℕ). row_at part_key k parts) (sym is) ∙ among_found part_key y parts rises there) ∙ found)
 
 without_one : (goes : ℕ → Bool) (n : ℕ) (rows : Rows) → Rises part_key rows.parts → goes n ≡ false → KeepsOne n rows (rows_without goes rows)
 without_one goes n rows keys stays = record {

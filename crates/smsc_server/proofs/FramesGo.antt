@@ -4,6 +4,7 @@ use Rattle.std.specs.Prelude.{⊤, nat_lt}
 use Rattle.std.proofs.lemmas.Bool.{cases_Bool, cond-false, cond-true, cond_both}
 use Rattle.std.proofs.lemmas.Option.{none-some}
 use Rattle.std.proofs.lemmas.Slice.Eq.{bytes_eq-Decides}
+use Rattle.sms_base.proofs.Lists.{among_parts}
 use Rattle.sms_base.specs.Among.{Among}
 use Rattle.smpp_pdu.specs.declared.status.CommandStatus.{CommandStatus}
 use Rattle.smpp_pdu.specs.declared.status.CommandStatus.TheVariants.{ESME_RSYSERR}
@@ -44,7 +45,7 @@ use Rattle.smsc_service.specs.declared.asking.SeatRequest.{SeatRequest}
 use Rattle.smsc_service.specs.declared.asking.SeatRequest.TheVariants.{Event, Nothing, Taken, Forget, Enrol}
 use Rattle.smsc_service.specs.declared.seat_map.LinkSeat.{LinkSeat}
 use Rattle.smsc_server.specs.FramesGiven.{GoToHandsets, IsLinked, IsOfHandset, StaysUp, frame_for}
-use Rattle.smsc_server.proofs.RunKept.{among_parts, between}
+use Rattle.smsc_server.proofs.RunKept.{between}
 
 -- ---- a frame among what is given
 
@@ -171,16 +172,7 @@ found handset n (l ∷ links) e = ⊎_elim
 -- the job brings the link of that handset up
 rises : (stimulus : Stimulus Job) (handset : List ℕ) → is_that (risen_by stimulus) handset ≡ true → stimulus ≡ JobOf (asker stimulus) (LinkUp handset)
 rises (JobOf seat (LinkUp other)) handset e = ap (λ (h : List ℕ). JobOf seat (LinkUp h)) ((bytes_eq-Decides other handset).0 e)
-rises (JobOf seat (Bound account receives)) handset e = absurd (true≢false (sym e))
-rises (JobOf seat Unbound) handset e = absurd (true≢false (sym e))
-rises (JobOf seat (Submit account pdu)) handset e = absurd (true≢false (sym e))
-rises (JobOf seat (Query account pdu)) handset e = absurd (true≢false (sym e))
-rises (JobOf seat (Cancel account pdu)) handset e = absurd (true≢false (sym e))
-rises (JobOf seat (DeliverAnswered id is_accepted)) handset e = absurd (true≢false (sym e))
-rises (JobOf seat LinkDown) handset e = absurd (true≢false (sym e))
-rises (JobOf seat (Frame octets)) handset e = absurd (true≢false (sym e))
-rises (Tick now) handset e = absurd (true≢false (sym e))
-rises (Own errand) handset e = absurd (true≢false (sym e))
+rises _ handset e = absurd (true≢false (sym e))
 
 abbrev pub IsNamed : Stimulus Job → List LinkSeat → List ℕ → ℕ → Type 0
 IsNamed stimulus links handset n = (stimulus ≡ JobOf n (LinkUp handset)) ⊎ IsAt handset n links

@@ -1,12 +1,12 @@
 -- What a run forgot is among what it has of that.
 use Rattle.std.proofs.Common.{◌≡◌, ⊎_elim, ℕ, true, false, true≢false, List, [], ◌∷◌, ◌++◌, Some, inl, inr, sym, ap, subst, ◌∙◌}
 use Rattle.std.proofs.lemmas.Bool.{cond-false, cond-true, cases_Bool}
+use Rattle.sms_base.proofs.Lists.{among_back, among_front}
 use Rattle.sms_base.specs.Among.{Among}
 use Rattle.sms_rows.proofs.table.Tables.{found_among, found_key}
 use Rattle.sms_centre_rows.specs.declared.messages.message.MessageRow.{MessageRow}
 use Rattle.sms_centre_rows.specs.messages.Messages.{message_at, message_key}
 use Rattle.sms_centre_rows.specs.messages.SplitReferences.{is_among}
-use Rattle.sms_centre_spec.proofs.conditions.DifferTested.{among_back, among_front}
 use Rattle.sms_centre_spec.specs.declared.jobs.job.Job.{Job}
 use Rattle.sms_centre_spec.specs.declared.jobs.reply.Reply.{Reply}
 use Rattle.sms_centre_spec.specs.declared.rows.Rows.{Rows}

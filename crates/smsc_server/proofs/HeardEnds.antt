@@ -1,6 +1,7 @@
 -- What a connection heard of messages that ended.
 use Rattle.std.proofs.Common.{◌≡◌, ◌==◌, ◌⊎◌, inl, inr, ⊎_elim, ℕ, Bool, true, false, List, [], ◌∷◌, ◌++◌, if◌then◌else◌, refl, sym, ap, append_assoc, subst, ◌∙◌}
 use Rattle.std.proofs.lemmas.Bool.{eqb-true}
+use Rattle.sms_base.proofs.Lists.{among_front, among_parts}
 use Rattle.sms_base.specs.Among.{Among}
 use Rattle.sms_centre_spec.specs.declared.jobs.job.Job.{Job}
 use Rattle.sms_centre_spec.specs.declared.jobs.reply.Reply.{Reply}
@@ -11,16 +12,6 @@ use Rattle.sms_keeper.specs.History.{answers_in, outs_to}
 use Rattle.sms_receipt.specs.declared.final_message.Final.{Final}
 use Rattle.smsc_service.specs.Serving.{Serving}
 use Rattle.smsc_server.specs.RunPromises.{KeepsPromises, WasReported}
-
-among_first : {A : Type 0} (x : A) (xs ys : List A) → Among x xs → Among x (xs ++ ys)
-among_first x [] ys there = absurd there
-among_first x (z ∷ xs) ys (inl e) = inl e
-among_first x (z ∷ xs) ys (inr there) = inr (among_first x xs ys there)
-
-among_parts : {A : Type 0} (x : A) (xs ys : List A) → Among x (xs ++ ys) → Among x xs ⊎ Among x ys
-among_parts x [] ys there = inr there
-among_parts x (z ∷ zs) ys (inl e) = inl (inl e)
-among_parts x (z ∷ zs) ys (inr there) = ⊎_elim (λ (h : Among x zs). inl (inr h)) (λ (h : Among x ys). inr h) (among_parts x zs ys there)
 
 -- a reply to a seat is an out for it
 out_is : (n : ℕ) (r : Reply) (o : Out Reply) → n ≡ o.seat → r ≡ o.out → record { seat = n; out = r } ≡ o
@@ -51,5 +42,5 @@ item_of n r (e ∷ items) there =
 pub heard_ends : (n : ℕ) (first last : Serving) (items : List (Item Job Reply)) (heard untaken : List Reply) → KeepsPromises first items last
     → answers_in n items ≡ heard ++ untaken → (end : Final) → Among (Receipt end) heard → WasReported first items end
 heard_ends n first last items heard untaken keeps e end there =
-    let x = item_of n (Receipt end) items (subst (λ (l : List Reply). Among (Receipt end) l) (sym e) (among_first (Receipt end) heard untaken there)) in
+    let x = item_of n (Receipt end) items (subst (λ (l : List Reply). Among (Receipt end) l) (sym e) (among_front (Receipt end) heard untaken there)) in
     (x.0 ++ x.1 ∷ [], x.2, x.3 ∙ sym (append_assoc x.0 (x.1 ∷ []) x.2), keeps.receipts x.0 x.2 x.1 n end x.3 x.4)

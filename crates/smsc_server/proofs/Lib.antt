@@ -1,5 +1,4 @@
 pub mod AnswersAmongReplies
-pub mod BoundSessions
 pub mod CentresAnswers
 pub mod AccountsBehind
 pub mod ForgetAsked

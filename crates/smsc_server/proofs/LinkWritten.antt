@@ -5,7 +5,7 @@ use Rattle.sms_centre_spec.specs.declared.jobs.reply.Reply.{Reply}
 use Rattle.smsc_loop.specs.Calls.{Call, Timed, Told, Took, Heard, GaveUp, AskedLink, AskedToLeave, Noted, Sent, Put, PutBack, Left, PutLast, PutOwn, Dropped, Refused, octets_sent, octets_taken, replies_taken}
 use Rattle.smsc_loop.specs.Courses.{Did, LeadsTo, Runs, Standing}
 use Rattle.smsc_loop.specs.declared.note.Note.{Note}
-use Rattle.smsc_loop.specs.Phases.{Phase, Serves, Fails, Leaves, Ends, Asks, Moves}
+use Rattle.smsc_loop.specs.Phases.{Phase, Serves, Leaves, Ends, Asks, Moves}
 use Rattle.smsc_endpoint.specs.declared.link_access.LinkAccess.{LinkAccess}
 use Rattle.smsc_endpoint.specs.LinkCalls.{at_time, congestion, handed_back, handed_out, next_note, sending, sent_off}
 use Rattle.smsc_endpoint.specs.LinkDoes.{LinkDoes}
@@ -13,8 +13,10 @@ use Rattle.smsc_endpoint.specs.LinkRuns.{LinkCall, LinkProgress, LinkRun, LinkSt
 use Rattle.smsc_endpoint.specs.LinkRuns.{At, Take, Hear, GiveUp, Send, Put as HandOut, PutBack as HandOutAndBack, Tell}
 use Rattle.smsc_endpoint.specs.LinkSends.{HasSent, LinkSends, SendRun, SendStep, begun, given_by, given_in, sent_in}
 use Rattle.smsc_endpoint.specs.LinkView.{LinkView, opened}
-use Rattle.smsc_endpoint.proofs.LoopCourses.{is_serving, moves_away}
+use Rattle.smsc_endpoint.proofs.LoopCourses.{fails, is_serving, moves_away, sent_first, taken_first}
 use Rattle.smsc_server.specs.WhatALinkReads.{IsLinkRead, frames_heard, link_call_of, link_calls_of}
+use Rattle.smsc_server.proofs.PartsWritten.{sent_away, sent_last}
+use Rattle.smsc_loop.proofs.Joins.{longer}
 
 -- ---- lists
 
@@ -31,23 +33,11 @@ heard_append [] ys = refl
 heard_append (x ∷ xs) ys =
     ap (λ (fs : List (List ℕ)). given_by x ++ fs) (heard_append xs ys) ∙ sym (append_assoc (given_by x) (frames_heard xs) (frames_heard ys))
 
-sent_first : (call : Call) (calls : List Call) → octets_sent (call ∷ calls) ≡ octets_sent (call ∷ []) ++ octets_sent calls
-sent_first (Sent octets) calls = ap (λ (os : List ℕ). os ++ octets_sent calls) (sym (append-nil octets))
-sent_first call calls = refl
-
-taken_first : (call : Call) (calls : List Call) → octets_taken (call ∷ calls) ≡ octets_taken (call ∷ []) ++ octets_taken calls
-taken_first (Took octets went) calls = ap (λ (os : List ℕ). os ++ octets_taken calls) (sym (append-nil octets))
-taken_first call calls = refl
-
 heard_first : (call : Call) (calls : List Call) → frames_heard (replies_taken (call ∷ calls)) ≡ frames_heard (replies_taken (call ∷ [])) ++ frames_heard (replies_taken calls)
 heard_first (Heard reply went) calls = ap (λ (fs : List (List ℕ)). fs ++ frames_heard (replies_taken calls)) (sym (append-nil (given_by reply)))
 heard_first (Dropped reply) calls = ap (λ (fs : List (List ℕ)). fs ++ frames_heard (replies_taken calls)) (sym (append-nil (given_by reply)))
 heard_first (Refused reply) calls = ap (λ (fs : List (List ℕ)). fs ++ frames_heard (replies_taken calls)) (sym (append-nil (given_by reply)))
 heard_first call calls = refl
-
-more : {A : Type 0} (a b c first rest all : List A) → b ≡ a ++ first → c ≡ b ++ rest → all ≡ first ++ rest → c ≡ a ++ all
-more {A} a b c first rest all one two joins =
-    two ∙ (ap (λ (l : List A). l ++ rest) one ∙ (append_assoc a first rest ∙ ap (λ (l : List A). a ++ l) (sym joins)))
 
 -- ---- one call
 
@@ -109,9 +99,6 @@ back_arrived : (job : Job) (again : Bool) (m : LinkView) (c : LinkProgress) → 
 back_arrived job true m c = refl
 back_arrived job false m c = refl
 
-fails : (o : Phase) → o ≡ Fails → o ≡ Serves → ⊥
-fails o p e = let never : Fails ≡ Serves = sym p ∙ e in absurd cc
-
 one_step : (call : Call) (s : LinkSends) (m : LinkView) (o : Phase) → LeadsTo LinkDoes call s.progress.link m → Moves call Serves o → o ≡ Serves → LinkCourse s (call ∷ []) m
 one_step (Timed now true) s m o l v e =
     let d = with_link (at_time now s.progress.link) s.progress in
@@ -163,26 +150,18 @@ joined_course s call calls u w one rest = record {
   run = runs_append (link_call_of call) (link_calls_of calls) s one.then_at rest.then_at
       (subst (λ (made : List LinkCall). SendRun s made one.then_at) (append-nil (link_call_of call)) one.run) rest.run;
   link = rest.link;
-  arrived = more s.progress.arrived one.then_at.progress.arrived rest.then_at.progress.arrived (octets_taken (call ∷ [])) (octets_taken calls) (octets_taken (call ∷ calls))
+  arrived = longer s.progress.arrived one.then_at.progress.arrived rest.then_at.progress.arrived (octets_taken (call ∷ [])) (octets_taken calls) (octets_taken (call ∷ calls))
       one.arrived rest.arrived (taken_first call calls);
-  given = more s.given one.then_at.given rest.then_at.given (frames_heard (replies_taken (call ∷ []))) (frames_heard (replies_taken calls)) (frames_heard (replies_taken (call ∷ calls)))
+  given = longer s.given one.then_at.given rest.then_at.given (frames_heard (replies_taken (call ∷ []))) (frames_heard (replies_taken calls)) (frames_heard (replies_taken (call ∷ calls)))
       one.given rest.given (heard_first call calls);
-  sent = more s.sent one.then_at.sent rest.then_at.sent (octets_sent (call ∷ [])) (octets_sent calls) (octets_sent (call ∷ calls)) one.sent rest.sent (sent_first call calls);
+  sent = longer s.sent one.then_at.sent rest.then_at.sent (octets_sent (call ∷ [])) (octets_sent calls) (octets_sent (call ∷ calls)) one.sent rest.sent (sent_first call calls);
 }
 
 -- ---- where the connection was served
 
-sent_away : (call : Call) (calls : List Call) (p o : Phase) → Moves call p o → (p ≡ Serves → ⊥) → octets_sent (call ∷ calls) ≡ octets_sent calls
-sent_away (Sent octets) calls p o m away = absurd (away m.0)
-sent_away call calls p o m away = refl
-
 none_sent : (calls : List Call) (v w : LinkView) (p q : Phase) → Runs LinkDoes v p calls w q → (p ≡ Serves → ⊥) → octets_sent calls ≡ []
 none_sent [] v w p q r away = refl
 none_sent (call ∷ calls) v w p q r away = sent_away call calls p r.1 r.3 away ∙ none_sent calls r.0 w r.1 q r.4 (moves_away call p r.1 r.3 away)
-
-sent_last : (call : Call) (calls : List Call) (o : Phase) → Moves call Serves o → (o ≡ Serves → ⊥) → octets_sent (call ∷ calls) ≡ octets_sent calls
-sent_last (Sent octets) calls o m away = absurd (away m.1)
-sent_last call calls o m away = refl
 
 record WasServed (s : LinkSends) (calls : List Call) : Type 0 where
   one : List Call

@@ -21,7 +21,7 @@ use Rattle.smsc_loop.specs.Phases.{Phase, Serves, Moves}
 use Rattle.smsc_endpoint.specs.declared.pending.PendingRequest.{PendingRequest}
 use Rattle.smsc_endpoint.specs.EsmeCalls.{handed_back, handed_out, heard, is_sendable}
 use Rattle.smsc_endpoint.specs.EsmeDoes.{EsmeDoes}
-use Rattle.smsc_endpoint.specs.EsmeRuns.{Answered, EsmeCall, EsmeProgress, after_delivered, answer_actions, answered_among, called_all, called_once, fresh, lost_bind, octets_or_none, put_back_by, put_by, request_of, requests_from, requests_of, responses, sends_from, started, taken_back, throttled_among, with_esme}
+use Rattle.smsc_endpoint.specs.EsmeRuns.{Answered, EsmeCall, EsmeProgress, after_delivered, answer_actions, answered_among, called_all, called_once, fresh, lost_bind, octets_or_none, put_back_by, put_by, request_of, requests_from, responses, sends_from, started, taken_back, throttled_among, with_esme}
 use Rattle.smsc_endpoint.specs.EsmeRuns.{At, TellFull, Take, Hear, Say, WasSent, Leave, Put as HandOut, PutBack as HandOutAndBack, Tell}
 use Rattle.smsc_endpoint.specs.EsmeView.{EsmeView, opened}
 use Rattle.smsc_endpoint.specs.LoopCourses.{IsCourseOf, call_of, calls_of, octets_fed}
@@ -30,6 +30,7 @@ use Rattle.smsc_endpoint.specs.PendingRequests.{throttled_before}
 use Rattle.smsc_endpoint.specs.Responses.{response}
 use Rattle.smsc_endpoint.proofs.EsmeRuns.{begins, progress_holds}
 use Rattle.smsc_endpoint.proofs.LoopCourses.{is_serving, loop_course, moves_away}
+use Rattle.smsc_endpoint.proofs.EsmeActions.{requests_append}
 use Rattle.smsc_server.specs.WhatIsRead.{Part, OfTable, OfAnswer, OfReceipt, OfLeaving, OfServer, IsOwn, IsRead, Reads, StandIn, answer_parts, answers_in, course_of, heard_parts, octets_of_part, octets_of_parts, parts_all, parts_once, put_back_parts, receipt_parts, requests_in, taken_back_parts}
 use Rattle.smsc_server.proofs.ReceiptsWritten.{all_append, written_receipts}
 use Rattle.smsc_server.proofs.RequestsArrive.{requests_stand}
@@ -188,13 +189,8 @@ own_all (call ∷ calls) c =
 
 -- ---- requests: those of the actions that were done are those of the actions that were given
 
-from_append : (xs ys : List Action) → requests_from (xs ++ ys) ≡ requests_from xs ++ requests_from ys
-from_append [] ys = refl
-from_append (x ∷ xs) ys =
-    ap (λ (rs : List PendingRequest). requests_of x ++ rs) (from_append xs ys) ∙ sym (append_assoc (requests_of x) (requests_from xs) (requests_from ys))
-
 from_quiet : (xs ys : List Action) → requests_from ys ≡ [] → requests_from (xs ++ ys) ≡ requests_from xs
-from_quiet xs ys e = from_append xs ys ∙ (ap (λ (rs : List PendingRequest). requests_from xs ++ rs) e ∙ append-nil (requests_from xs))
+from_quiet xs ys e = requests_append xs ys ∙ (ap (λ (rs : List PendingRequest). requests_from xs ++ rs) e ∙ append-nil (requests_from xs))
 
 from_lost : (b : Bool) → requests_from (lost_bind b) ≡ []
 from_lost true = refl
@@ -211,7 +207,7 @@ from_delivering (Some fault) session message = refl
 from_answers : (session : SessionView) (answers : List Answered) → requests_from (answer_actions session answers) ≡ []
 from_answers session [] = refl
 from_answers session (answered ∷ others) =
-    from_append (sending (response session.conversation answered.0 answered.1)) (answer_actions (after_answered answered.0.sequence_number session) others)
+    requests_append (sending (response session.conversation answered.0 answered.1)) (answer_actions (after_answered answered.0.sequence_number session) others)
     ∙ (ap (λ (rs : List PendingRequest). rs ++ requests_from (answer_actions (after_answered answered.0.sequence_number session) others)) (from_sending (response session.conversation answered.0 answered.1))
     ∙ from_answers (after_answered answered.0.sequence_number session) others)
 
@@ -254,9 +250,9 @@ same_once (TellFull full) c h = h
 same_once (Take octets) c h =
     let f = fed c.esme.session octets in
     let lost = is_bind_lost c.esme.session.conversation.state f.1 f.0.conversation.state in
-    from_append c.actions (f.1 ++ lost_bind lost)
+    requests_append c.actions (f.1 ++ lost_bind lost)
     ∙ (ap (λ (rs : List PendingRequest). requests_from c.actions ++ rs) (from_quiet f.1 (lost_bind lost) (from_lost lost))
-    ∙ (ap (λ (rs : List PendingRequest). rs ++ requests_from f.1) h ∙ sym (from_append c.given f.1)))
+    ∙ (ap (λ (rs : List PendingRequest). rs ++ requests_from f.1) h ∙ sym (requests_append c.given f.1)))
 same_once (Hear reply) c h = same_heard reply c h
 same_once (Say octets) c h = h
 same_once (WasSent count) c h = h
@@ -271,7 +267,7 @@ same_all (call ∷ calls) c h = same_all calls (called_once c call) (same_once c
 
 -- ---- where the connection was served
 
-sent_away : (call : Call) (calls : List Call) (p o : Phase) → Moves call p o → (p ≡ Serves → ⊥) → octets_sent (call ∷ calls) ≡ octets_sent calls
+pub sent_away : (call : Call) (calls : List Call) (p o : Phase) → Moves call p o → (p ≡ Serves → ⊥) → octets_sent (call ∷ calls) ≡ octets_sent calls
 sent_away (Sent octets) calls p o m away = absurd (away m.0)
 sent_away call calls p o m away = refl
 
@@ -279,7 +275,7 @@ none_sent : (calls : List Call) (v w : EsmeView) (p q : Phase) → Runs EsmeDoes
 none_sent [] v w p q r away = refl
 none_sent (call ∷ calls) v w p q r away = sent_away call calls p r.1 r.3 away ∙ none_sent calls r.0 w r.1 q r.4 (moves_away call p r.1 r.3 away)
 
-sent_last : (call : Call) (calls : List Call) (o : Phase) → Moves call Serves o → (o ≡ Serves → ⊥) → octets_sent (call ∷ calls) ≡ octets_sent calls
+pub sent_last : (call : Call) (calls : List Call) (o : Phase) → Moves call Serves o → (o ≡ Serves → ⊥) → octets_sent (call ∷ calls) ≡ octets_sent calls
 sent_last (Sent octets) calls o m away = absurd (away m.1)
 sent_last call calls o m away = refl
 

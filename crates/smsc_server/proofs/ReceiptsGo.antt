@@ -3,6 +3,7 @@ use Rattle.std.proofs.Common.{◌≡◌, ◌==◌, ◌⊎◌, ◌∙◌, inl, in
 use Rattle.std.specs.Prelude.{nat_lt, slice_get}
 use Rattle.std.proofs.lemmas.Bool.{cases_Bool, cases_eq, cond-false, cond-true, cond_both, ne_eqb}
 use Rattle.std.proofs.lemmas.Option.{none-some}
+use Rattle.sms_base.proofs.Lists.{among_parts}
 use Rattle.sms_base.specs.Among.{Among}
 use Rattle.sms_base.specs.declared.final_state.FinalState.{FinalState}
 use Rattle.sms_base.specs.declared.originator.Originator.{Originator}
@@ -62,8 +63,8 @@ use Rattle.smsc_server.specs.AccountsCome.{accounts_behind}
 use Rattle.smsc_server.specs.Forgotten.{KeepsOrForgets, message_left}
 use Rattle.smsc_server.specs.RunPromises.{AreAsked, receipt_for}
 use Rattle.smsc_server.proofs.AccountsBehind.{keeps_place, run_accounts}
-use Rattle.smsc_server.proofs.BoundSessions.{Becomes, Each, Sends, StaysBut, StaysSo, sends_of}
-use Rattle.smsc_server.proofs.RunKept.{IsGood, among_parts, asked_parts, between, history_more, item_good, no_answer, no_failure, no_frames, none_by_nothing, none_failed, none_taken, restart_sound, run_good, run_left}
+use Rattle.sms_centre_spec.proofs.BoundSessions.{Becomes, Each, Sends, StaysSo, sends_of}
+use Rattle.smsc_server.proofs.RunKept.{IsGood, asked_parts, between, history_more, item_good, no_answer, no_failure, no_frames, none_by_nothing, none_failed, none_taken, restart_sound, run_good, run_left}
 
 -- ---- which events bind
 

@@ -1,5 +1,6 @@
 -- Each receipt that is written was taken from the seat.
 use Rattle.std.proofs.Common.{◌≡◌, ◌⊎◌, inl, inr, ⊎_elim, ℕ, Bool, true, false, List, [], ◌∷◌, ◌++◌, Option, Some, None, refl, sym, ap, subst, ◌∙◌, append_assoc, append-nil}
+use Rattle.sms_base.proofs.Lists.{among_back, among_front, among_parts}
 use Rattle.sms_base.specs.Among.{Among}
 use Rattle.smpp_session.specs.Sessions.{SessionView, after_answered}
 use Rattle.sms_centre_spec.specs.declared.jobs.job.Job.{Job}
@@ -30,20 +31,6 @@ receipts_append (OfAnswer session answered ∷ xs) ys = receipts_append xs ys
 receipts_append (OfReceipt session end ∷ xs) ys = ap (λ (l : List Final). end ∷ l) (receipts_append xs ys)
 receipts_append (OfLeaving session ∷ xs) ys = receipts_append xs ys
 receipts_append (OfServer octets ∷ xs) ys = receipts_append xs ys
-
-in_parts : {A : Type 0} (x : A) (xs ys : List A) → Among x (xs ++ ys) → Among x xs ⊎ Among x ys
-in_parts x [] ys there = inr there
-in_parts x (z ∷ zs) ys (inl e) = inl (inl e)
-in_parts x (z ∷ zs) ys (inr there) = ⊎_elim (λ (h : Among x zs). inl (inr h)) (λ (h : Among x ys). inr h) (in_parts x zs ys there)
-
-in_first : {A : Type 0} (x : A) (xs ys : List A) → Among x xs → Among x (xs ++ ys)
-in_first x [] ys there = absurd there
-in_first x (z ∷ xs) ys (inl e) = inl e
-in_first x (z ∷ xs) ys (inr there) = inr (in_first x xs ys there)
-
-in_behind : {A : Type 0} (x : A) (xs ys : List A) → Among x ys → Among x (xs ++ ys)
-in_behind x [] ys there = there
-in_behind x (z ∷ xs) ys there = inr (in_behind x xs ys there)
 
 -- ---- parts without a receipt
 
@@ -110,6 +97,6 @@ written_receipts (call ∷ calls) c end there =
     ap receipts_in (all_append c (call_of call) (calls_of calls)) ∙ receipts_append first rest in
     subst (λ (l : List Reply). Among (Receipt end) l) (sym (taken_first call calls))
     (⊎_elim
-    (λ (h : Among end (receipts_in first)). in_first (Receipt end) (replies_taken (call ∷ [])) (replies_taken calls) (call_receipts call c end h))
-    (λ (h : Among end (receipts_in rest)). in_behind (Receipt end) (replies_taken (call ∷ [])) (replies_taken calls) (written_receipts calls (called_all c (call_of call)) end h))
-    (in_parts end (receipts_in first) (receipts_in rest) (subst (λ (l : List Final). Among end l) whole there)))
+    (λ (h : Among end (receipts_in first)). among_front (Receipt end) (replies_taken (call ∷ [])) (replies_taken calls) (call_receipts call c end h))
+    (λ (h : Among end (receipts_in rest)). among_back (Receipt end) (replies_taken (call ∷ [])) (replies_taken calls) (written_receipts calls (called_all c (call_of call)) end h))
+    (among_parts end (receipts_in first) (receipts_in rest) (subst (λ (l : List Final). Among end l) whole there)))

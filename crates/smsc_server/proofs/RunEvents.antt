@@ -1,8 +1,8 @@
 -- What the items of a run ask are events of a centre.
-use Rattle.std.proofs.Common.{◌≡◌, ◌<◌, ◌≤◌, ◌||◌, ◌⊎◌, arith, inl, inr, ⊎_elim, ℕ, zero, suc, Bool, true, false, true≢false, not, List, [], ◌∷◌, ◌++◌, length, Option, Some, None, Result, Ok, Err, if◌then◌else◌, refl, sym, subst}
+use Rattle.std.proofs.Common.{◌≡◌, ◌≤◌, ◌||◌, ◌⊎◌, inl, inr, ⊎_elim, ℕ, true, not, List, ◌++◌, length, Option, Some, None, Result, Ok, Err, if◌then◌else◌, refl, sym, subst}
 use Rattle.std.specs.Prelude.{nat_eq, nat_lt}
-use Rattle.std.specs.List.{AllByRecursion, list_all}
-use Rattle.std.proofs.lemmas.Bool.{and_parts, cond_both}
+use Rattle.std.specs.List.{list_all}
+use Rattle.std.proofs.lemmas.Bool.{and_parts, cond_both, not-true}
 use Rattle.sms_base.specs.Among.{Among}
 use Rattle.sms_base.specs.Reading.{AreOctets}
 use Rattle.sms_base.specs.SemiOctet.{is_digit}
@@ -19,7 +19,7 @@ use Rattle.sms_rows.specs.table.Table.{row_at}
 use Rattle.sms_rows.proofs.table.Tables.{among_put, among_without, found_among}
 use Rattle.smpp_pdu.specs.PduReading.{pdu_at}
 use Rattle.smpp_pdu.specs.declared.body.Body.{Body}
-use Rattle.smpp_pdu.specs.declared.body.Body.TheVariants.{BindReceiver, BindTransmitter, BindTransceiver, SubmitSm, DeliverSm, QuerySm, CancelSm, Unbind, EnquireLink, GenericNack, BindReceiverResp, BindTransmitterResp, BindTransceiverResp, SubmitSmResp, DeliverSmResp, QuerySmResp, CancelSmResp, UnbindResp, EnquireLinkResp}
+use Rattle.smpp_pdu.specs.declared.body.Body.TheVariants.{BindReceiver}
 use Rattle.smpp_pdu.specs.declared.fault.PduFault.{PduFault}
 use Rattle.smpp_pdu.specs.declared.pdu.Pdu.{Pdu}
 use Rattle.smsc_service.specs.declared.asking.SeatRequest.{SeatRequest}
@@ -30,6 +30,7 @@ use Rattle.smsc_service.specs.Numbers.{is_number}
 use Rattle.smsc_service.specs.Seats.{Seats, followed, handset_of, link_key, raised, seat_of}
 use Rattle.smsc_service.specs.Serving.{followed_by}
 use Rattle.smsc_server.specs.RunPromises.{IsAsked, IsJob}
+use Rattle.smsc_service.proofs.Numbers.{number_is, some_there}
 
 -- the number of each link has at most 20 digits
 abbrev pub AreShort : List LinkSeat → Type 0
@@ -37,101 +38,24 @@ AreShort links = (l : LinkSeat) → Among l links → length l.handset ≤ 20
 
 -- ---- numbers
 
-not_false : (a : Bool) → not a ≡ false → a ≡ true
-not_false true e = refl
-not_false false e = absurd (true≢false e)
-
-not_true : (a : Bool) → not a ≡ true → a ≡ false
-not_true true e = absurd (true≢false (sym e))
-not_true false e = refl
-
-some_there : (n : ℕ) → nat_eq n 0 ≡ false → 0 < n
-some_there zero e = absurd cc
-some_there (suc n) e = omega arith
-
-all_digits : (text : List ℕ) → list_all is_digit text ≡ true → AllByRecursion (λ c. is_digit c ≡ true) text
-all_digits [] e = tt
-all_digits (c ∷ cs) e = let p = and_parts (is_digit c) (list_all is_digit cs) e in (p.0, all_digits cs p.1)
-
-number_is : (digits : List ℕ) → 0 < length digits → length digits ≤ 20 → list_all is_digit digits ≡ true → IsNumber digits
-number_is digits some few all = record {
-  npi = (let l : 1 < 16 = omega arith in l);
-  digits = record {
-    some = some;
-    number = λ no. record { few = few; digits = all_digits digits all };
-    name = λ yes. absurd cc;
-  };
-}
-
 pub number_of : (number : List ℕ) → length number ≤ 20 → is_number number ≡ true → IsNumber number
 number_of number few e =
     let p = and_parts (not (nat_eq (length number) 0)) (list_all is_digit number) e in
-    number_is number (some_there (length number) (not_true (nat_eq (length number) 0) p.0)) few p.1
+    number_is number (some_there (length number) (not-true (nat_eq (length number) 0) p.0)) few p.1
 
 -- ---- requests
 
 submission_is : (account : ℕ) (body : Body) → IfEvent IsEvent (submission account body)
 submission_is account (BindReceiver x) = tt
-submission_is account (BindTransmitter x) = tt
-submission_is account (BindTransceiver x) = tt
-submission_is account (SubmitSm x) = tt
-submission_is account (DeliverSm x) = tt
-submission_is account (QuerySm x) = tt
-submission_is account (CancelSm x) = tt
-submission_is account Unbind = tt
-submission_is account EnquireLink = tt
-submission_is account GenericNack = tt
-submission_is account (BindReceiverResp x) = tt
-submission_is account (BindTransmitterResp x) = tt
-submission_is account (BindTransceiverResp x) = tt
-submission_is account (SubmitSmResp x) = tt
-submission_is account (DeliverSmResp x) = tt
-submission_is account (QuerySmResp x) = tt
-submission_is account CancelSmResp = tt
-submission_is account UnbindResp = tt
-submission_is account EnquireLinkResp = tt
+submission_is account _ = tt
 
 question_is : (account : ℕ) (body : Body) → IfEvent IsEvent (question account body)
 question_is account (BindReceiver x) = tt
-question_is account (BindTransmitter x) = tt
-question_is account (BindTransceiver x) = tt
-question_is account (SubmitSm x) = tt
-question_is account (DeliverSm x) = tt
-question_is account (QuerySm x) = tt
-question_is account (CancelSm x) = tt
-question_is account Unbind = tt
-question_is account EnquireLink = tt
-question_is account GenericNack = tt
-question_is account (BindReceiverResp x) = tt
-question_is account (BindTransmitterResp x) = tt
-question_is account (BindTransceiverResp x) = tt
-question_is account (SubmitSmResp x) = tt
-question_is account (DeliverSmResp x) = tt
-question_is account (QuerySmResp x) = tt
-question_is account CancelSmResp = tt
-question_is account UnbindResp = tt
-question_is account EnquireLinkResp = tt
+question_is account _ = tt
 
 withdrawal_is : (account : ℕ) (body : Body) → IfEvent IsEvent (withdrawal account body)
 withdrawal_is account (BindReceiver x) = tt
-withdrawal_is account (BindTransmitter x) = tt
-withdrawal_is account (BindTransceiver x) = tt
-withdrawal_is account (SubmitSm x) = tt
-withdrawal_is account (DeliverSm x) = tt
-withdrawal_is account (QuerySm x) = tt
-withdrawal_is account (CancelSm x) = tt
-withdrawal_is account Unbind = tt
-withdrawal_is account EnquireLink = tt
-withdrawal_is account GenericNack = tt
-withdrawal_is account (BindReceiverResp x) = tt
-withdrawal_is account (BindTransmitterResp x) = tt
-withdrawal_is account (BindTransceiverResp x) = tt
-withdrawal_is account (SubmitSmResp x) = tt
-withdrawal_is account (DeliverSmResp x) = tt
-withdrawal_is account (QuerySmResp x) = tt
-withdrawal_is account CancelSmResp = tt
-withdrawal_is account UnbindResp = tt
-withdrawal_is account EnquireLinkResp = tt
+withdrawal_is account _ = tt
 
 read_is : (ask : Body → SeatRequest) → ((body : Body) → IfEvent IsEvent (ask body)) → (r : Result Pdu PduFault) → IfEvent IsEvent (read_as ask r)
 read_is ask h (Ok pdu) = h pdu.body

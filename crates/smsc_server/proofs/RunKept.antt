@@ -1,7 +1,7 @@
 -- A run of the centre keeps its promises.
-use Rattle.std.proofs.Common.{◌≡◌, ◌≤◌, ◌||◌, ◌⊎◌, inl, inr, ⊎_elim, ℕ, Bool, true, false, true≢false, not, List, [], ◌∷◌, ◌++◌, length, slice_get, Option, Some, None, if◌then◌else◌, refl, sym, ap, subst, ◌∙◌, bytes_eq}
-use Rattle.std.proofs.lemmas.Bool.{both_ways, cases_Bool, cond-false, cond-true, cond_both}
-use Rattle.std.proofs.lemmas.Slice.Eq.{bytes_eq-Decides}
+use Rattle.std.proofs.Common.{◌≡◌, ◌≤◌, ◌||◌, ◌⊎◌, inl, inr, ⊎_elim, ℕ, Bool, true, false, not, List, [], ◌∷◌, ◌++◌, length, slice_get, Option, Some, None, if◌then◌else◌, refl, sym, ap, subst, ◌∙◌}
+use Rattle.std.proofs.lemmas.Bool.{cond_both, not-false, or_parts}
+use Rattle.sms_base.proofs.Lists.{among_parts}
 use Rattle.sms_centre_rows.specs.waiting.SoundAllocations.{IsNumber}
 use Rattle.sms_base.specs.Among.{Among}
 use Rattle.sms_base.specs.declared.final_state.FinalState.{FinalState}
@@ -48,7 +48,6 @@ use Rattle.sms_receipt.specs.declared.final_message.Final.{Final}
 use Rattle.sms_rows.specs.table.Table.{Rises}
 use Rattle.sms_rows.proofs.table.Tables.{among_put, found_among, found_key, rises_put}
 use Rattle.sms_centre.specs.Enrolling.{rows_with}
-use Rattle.smsc_service.proofs.AccountsCome.{enrolled_sound}
 use Rattle.smsc_service.specs.Asking.{IfEvent, asked_by}
 use Rattle.smsc_service.specs.BoundSession.{AreNumbers, handsets_from, handsets_of, is_among, sessions_from, sessions_of, with_number, with_session}
 use Rattle.smsc_service.specs.Numbers.{is_number}
@@ -65,41 +64,13 @@ use Rattle.smsc_server.proofs.AccountsBehind.{run_accounts}
 use Rattle.smsc_server.proofs.ForgetAsked.{forget_asked, forgot_so}
 use Rattle.smsc_server.proofs.Forgotten.{KeepsOne, forget_one, message_through, one_of, part_through, report_through, still_left}
 use Rattle.smsc_server.proofs.RunEvents.{AreShort, asked_is, number_of, seats_short}
+use Rattle.smsc_service.proofs.Sittings.{among_snoc, different_snoc, not_among}
+use Rattle.sms_centre.proofs.Enrolled.{core_more}
 
 -- ---- a centre that starts again
 
-among_snoc : (n : List ℕ) (ns : List (List ℕ)) (m : List ℕ) → Among n (ns ++ m ∷ []) → Among n ns ⊎ (n ≡ m)
-among_snoc n [] m (inl e) = inr e
-among_snoc n [] m (inr x) = absurd x
-among_snoc n (k ∷ ns) m (inl e) = inl (inl e)
-among_snoc n (k ∷ ns) m (inr x) = ⊎_elim (λ h. inl (inr h)) (λ e. inr e) (among_snoc n ns m x)
-
 numbers_snoc : (ns : List (List ℕ)) (m : List ℕ) → AreNumbers ns → IsNumber m → AreNumbers (ns ++ m ∷ [])
 numbers_snoc ns m h k n there = ⊎_elim (λ x. h n x) (λ is. subst IsNumber (sym is) k) (among_snoc n ns m there)
-
-apart_snoc : (ns : List (List ℕ)) (m : List ℕ) → AreDifferent ns → ¬ Among m ns → AreDifferent (ns ++ m ∷ [])
-apart_snoc [] m d new = ((λ x. x), tt)
-apart_snoc (k ∷ ns) m d new =
-    ((λ x. ⊎_elim (λ h. d.0 h) (λ e. new (inl (sym e))) (among_snoc k ns m x)), apart_snoc ns m d.1 (λ x. new (inr x)))
-
--- what is not found among them is not there
-not_among : (n : List ℕ) (ns : List (List ℕ)) → is_among n ns ≡ false → Among n ns → ⊥
-not_among n [] e there = there
-not_among n (k ∷ ns) e there = ⊎_elim
-    (λ (t : bytes_eq k n ≡ true). let y : true ≡ false = sym (cond-true (bytes_eq k n) true (is_among n ns) t) ∙ e in absurd cc)
-    (λ (t : bytes_eq k n ≡ false). ⊎_elim
-    (λ (q : n ≡ k). both_ways (bytes_eq k n) t ((bytes_eq-Decides k n).1 (sym q)))
-    (λ (q : Among n ns). not_among n ns (sym (cond-false (bytes_eq k n) true (is_among n ns) t) ∙ e) q)
-    there)
-    (cases_Bool (bytes_eq k n))
-
-or_false : (a b : Bool) → (a || b) ≡ false → (a ≡ false) × (b ≡ false)
-or_false true b e = absurd (true≢false e)
-or_false false b e = (refl, e)
-
-not_false : (a : Bool) → not a ≡ false → a ≡ true
-not_false true e = refl
-not_false false e = absurd (true≢false e)
 
 abbrev AreApart : List (List ℕ) → Type 0
 AreApart numbers = AreNumbers numbers × AreDifferent numbers
@@ -107,9 +78,9 @@ AreApart numbers = AreNumbers numbers × AreDifferent numbers
 number_apart : (number : List ℕ) (numbers : List (List ℕ)) → length number ≤ 20 → AreApart numbers → AreApart (with_number number numbers)
 number_apart number numbers few h =
     cond_both (not (is_number number) || is_among number numbers) numbers (numbers ++ number ∷ []) AreApart (λ t. h)
-    (λ t. let p = or_false (not (is_number number)) (is_among number numbers) t in (
-      numbers_snoc numbers number h.0 (number_of number few (not_false (is_number number) p.0)),
-      apart_snoc numbers number h.1 (not_among number numbers p.1),
+    (λ t. let p = or_parts (not (is_number number)) (is_among number numbers) t in (
+      numbers_snoc numbers number h.0 (number_of number few (not-false (is_number number) p.0)),
+      different_snoc numbers number h.1 (not_among number numbers p.1),
     ))
 
 handsets_apart : (links : List LinkSeat) (numbers : List (List ℕ)) → AreShort links → AreApart numbers → AreApart (handsets_from numbers links)
@@ -158,7 +129,7 @@ request_good Taken fate s stimulus good is e = good
 request_good (Forget before from most) Done s stimulus good is e = record { core = (forgot_now before from most s.core good.core).left; short = good.short }
 request_good (Forget before from most) NoMemory s stimulus good is e = good
 request_good (Forget before from most) Refused s stimulus good is e = record { core = restart_sound s.core.rows s.seats good.core.rows good.short; short = good.short }
-request_good (Enrol account) Done s stimulus good is e = record { core = enrolled_sound account s.core good.core; short = good.short }
+request_good (Enrol account) Done s stimulus good is e = record { core = core_more account s.core good.core; short = good.short }
 request_good (Enrol account) NoMemory s stimulus good is e = good
 request_good (Enrol account) Refused s stimulus good is e = record { core = restart_sound s.core.rows s.seats good.core.rows good.short; short = good.short }
 
@@ -229,11 +200,6 @@ history_more [] e s m h outs =
 history_more (x ∷ one) e s m h outs = (h.0, history_more one e (after s x.stimulus x.fate) m h.1 outs)
 
 -- ---- receipts
-
-pub among_parts : {A : Type 0} (x : A) (xs ys : List A) → Among x (xs ++ ys) → Among x xs ⊎ Among x ys
-among_parts x [] ys there = inr there
-among_parts x (z ∷ zs) ys (inl e) = inl (inl e)
-among_parts x (z ∷ zs) ys (inr there) = ⊎_elim (λ (h : Among x zs). inl (inr h)) (λ (h : Among x ys). inr h) (among_parts x zs ys there)
 
 module _ (seat : ℕ) (end : Final) where
   pub no_answer : (asker : ℕ) (o : Option CentreAnswer) → Among (receipt_for seat end) (answer_out asker o) → ⊥

@@ -13,5 +13,4 @@ pub mod Settled
 pub mod StreamEnds
 pub mod Stretched
 pub mod Threads
-pub mod Unanswered
 pub mod Visits

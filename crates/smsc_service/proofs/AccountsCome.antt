@@ -2,14 +2,12 @@
 use Rattle.std.proofs.Common.{◌≡◌, ℕ, Bool, true, false, List, [], ◌∷◌, ◌++◌, length, take, refl, sym, ap, ◌∙◌, append-nil, append_assoc, if◌then◌else◌}
 use Rattle.std.proofs.lemmas.Bool.{cond-true}
 use Rattle.std.proofs.lemmas.List.{take_at}
-use Rattle.sms_centre.specs.Enrolling.{accounts_of, accounts_with, enrolled}
+use Rattle.sms_centre.specs.Enrolling.{accounts_of, accounts_with}
 use Rattle.sms_centre.specs.state.CentreState.{Represents, CentreStateOf}
-use Rattle.sms_centre.proofs.Enrolled.{core_more}
 use Rattle.sms_centre_spec.proofs.Resting.{happened_rests}
 use Rattle.sms_centre_spec.proofs.forgetting.Removed.{forget_commits}
 use Rattle.sms_centre_spec.specs.CentreEvent.{happened}
 use Rattle.sms_centre_spec.specs.Draft.{Core, core_of}
-use Rattle.sms_centre_spec.specs.SoundCore.{IsSoundCore}
 use Rattle.sms_centre_spec.specs.SoundRows.{IsSound}
 use Rattle.sms_centre_spec.specs.conditions.RowsTest.{has_address}
 use Rattle.sms_centre_spec.specs.declared.event.CentreEvent.{CentreEvent}
@@ -97,9 +95,6 @@ pub account_comes : (s : Serving) (account : CentreAccount) → has_address acco
 account_comes s account is =
     ap (λ (l : List CentreAccount). record s { core = record s.core { rows = with_accounts l s.core.rows } })
     (cond-true (has_address account) (s.core.rows.setup.accounts ++ account ∷ []) s.core.rows.setup.accounts is)
-
-pub enrolled_sound : (account : CentreAccount) (c : Core) → IsSoundCore c → IsSoundCore (enrolled account c)
-enrolled_sound account c sound = core_more account c sound
 
 -- ---- in memory
 

@@ -1,11 +1,11 @@
 -- What an archive has of what a run forgot, one step further.
 use Rattle.std.proofs.Common.{◌≡◌, ⊎_elim, ℕ, List, [], ◌∷◌, ◌++◌, true, inl, inr, refl, subst, sym}
 use Rattle.std.proofs.lemmas.Bool.{cond_both}
+use Rattle.sms_base.proofs.Lists.{among_parts}
 use Rattle.sms_base.specs.Among.{Among}
 use Rattle.sms_centre.specs.Archiving.{AreArchived, Stays, parts_in}
 use Rattle.sms_centre_rows.specs.declared.messages.message.MessageRow.{MessageRow}
 use Rattle.sms_centre_rows.specs.messages.SplitReferences.{is_among}
-use Rattle.sms_centre_spec.proofs.conditions.DifferTested.{among_either}
 use Rattle.sms_centre_spec.specs.declared.rows.Rows.{Rows}
 use Rattle.sms_centre_spec.specs.forgetting.Forget.{going_now}
 use Rattle.sms_keeper.specs.declared.machine.Fate.{Fate}
@@ -44,7 +44,7 @@ module _ (has : MessageRow → ℕ → Type 0) where
       ⊎_elim
       (λ (k : Among x went). numbered_archived (going_now before from most s.core) s.core.rows s.core.rows.messages (new refl) x k)
       (λ (k : Among x gone). old x k)
-      (among_either x went gone among)
+      (among_parts x went gone among)
   archived_more (Forget before from most) NoMemory s gone new old = old
   archived_more (Forget before from most) Refused s gone new old = old
   archived_more (Enrol account) fate s gone new old = old

@@ -2,12 +2,12 @@ pub mod AccountsCome
 mod Archived
 mod ByFate
 mod ByOctets
-mod Numbers
+pub mod Numbers
 mod OrdersTold
-mod RokNames
+pub mod RokNames
 mod Roomy
-mod Sittings
+pub mod Sittings
+mod Spared
 mod Standing
 mod Stepped
-mod Walking
 mod RepliesOfPlans

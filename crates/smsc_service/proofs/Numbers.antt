@@ -8,7 +8,7 @@ use Rattle.sms_base.specs.SemiOctet.{is_digit}
 use Rattle.smsc_service.specs.Numbers.{is_number}
 use Rattle.sms_centre_rows.specs.waiting.SoundAllocations.{IsNumber}
 
-all_digits : (text : List ℕ) → list_all is_digit text ≡ true → AllByRecursion (λ c. is_digit c ≡ true) text
+pub all_digits : (text : List ℕ) → list_all is_digit text ≡ true → AllByRecursion (λ c. is_digit c ≡ true) text
 all_digits [] e = tt
 all_digits (c ∷ cs) e = let p = and_parts (is_digit c) (list_all is_digit cs) e in (p.0, all_digits cs p.1)
 

@@ -2,9 +2,10 @@
 use Rattle.std.proofs.Common.{◌≡◌, ◌⊎◌, inl, inr, ⊎_elim, refl, sym, subst, ap, ℕ, List, [], ◌∷◌, ◌++◌, Option, Some, None, Result, Ok, Err}
 use Rattle.std.specs.Prelude.{nat_lt}
 use Rattle.std.proofs.lemmas.Bool.{cond_both}
+use Rattle.sms_base.proofs.Lists.{among_parts}
 use Rattle.smpp_pdu.specs.PduReading.{pdu_at}
 use Rattle.smpp_pdu.specs.declared.body.Body.{Body}
-use Rattle.smpp_pdu.specs.declared.body.Body.TheVariants.{BindReceiver, BindTransmitter, BindTransceiver, SubmitSm, DeliverSm, QuerySm, CancelSm, Unbind, EnquireLink, GenericNack, BindReceiverResp, BindTransmitterResp, BindTransceiverResp, SubmitSmResp, DeliverSmResp, QuerySmResp, CancelSmResp, UnbindResp, EnquireLinkResp}
+use Rattle.smpp_pdu.specs.declared.body.Body.TheVariants.{BindReceiver, BindTransmitter, BindTransceiver, SubmitSm}
 use Rattle.smpp_pdu.specs.declared.fault.PduFault.{PduFault}
 use Rattle.smpp_pdu.specs.declared.message.Message.{Message}
 use Rattle.smpp_pdu.specs.declared.pdu.Pdu.{Pdu}
@@ -38,11 +39,6 @@ use Rattle.smsc_service.specs.Serving.{Serving, after, after_for, gives, gives_f
 use Rattle.smsc_service.specs.Replies.{answer_for, answer_out, end_of, failed_by, frame_out, frame_outs, nothing_by, receipt_out, receipt_outs, seat_for, replies_at, vacancy}
 
 -- ---- an answer among what is told
-
-among_parts : {A : Type 0} (x : A) (xs ys : List A) → Among x (xs ++ ys) → Among x xs ⊎ Among x ys
-among_parts x [] ys there = inr there
-among_parts x (z ∷ zs) ys (inl e) = inl (inl e)
-among_parts x (z ∷ zs) ys (inr there) = ⊎_elim (λ (h : Among x zs). inl (inr h)) (λ (h : Among x ys). inr h) (among_parts x zs ys there)
 
 module _ (seat : ℕ) (answer : CentreAnswer) where
   no_frame : (o : Option ℕ) (octets : List ℕ) → Among (answer_for seat answer) (frame_out o octets) → ⊥
@@ -98,21 +94,7 @@ body_asks account (BindReceiver x) = tt
 body_asks account (BindTransmitter x) = tt
 body_asks account (BindTransceiver x) = tt
 body_asks account (SubmitSm message) = (account, (message, refl))
-body_asks account (DeliverSm x) = tt
-body_asks account (QuerySm x) = tt
-body_asks account (CancelSm x) = tt
-body_asks account Unbind = tt
-body_asks account EnquireLink = tt
-body_asks account GenericNack = tt
-body_asks account (BindReceiverResp x) = tt
-body_asks account (BindTransmitterResp x) = tt
-body_asks account (BindTransceiverResp x) = tt
-body_asks account (SubmitSmResp x) = tt
-body_asks account (DeliverSmResp x) = tt
-body_asks account (QuerySmResp x) = tt
-body_asks account CancelSmResp = tt
-body_asks account UnbindResp = tt
-body_asks account EnquireLinkResp = tt
+body_asks account _ = tt
 
 read_asks : (account : ℕ) (r : Result Pdu PduFault) → IsSubmission (read_as (submission account) r)
 read_asks account (Ok pdu) = body_asks account pdu.body

@@ -11,7 +11,7 @@ use Rattle.sms_rows.specs.table.Table.{put}
 use Rattle.sms_centre_rows.specs.waiting.SoundAllocations.{IsNumber}
 use Rattle.smsc_service.specs.BoundSession.{AreNumbers, is_among}
 
-among_snoc : (n : List ℕ) (ns : List (List ℕ)) (m : List ℕ) → Among n (ns ++ m ∷ []) → Among n ns ⊎ (n ≡ m)
+pub among_snoc : (n : List ℕ) (ns : List (List ℕ)) (m : List ℕ) → Among n (ns ++ m ∷ []) → Among n ns ⊎ (n ≡ m)
 among_snoc n [] m (inl e) = inr e
 among_snoc n [] m (inr x) = absurd x
 among_snoc n (k ∷ ns) m (inl e) = inl (inl e)
@@ -21,7 +21,7 @@ pub numbers_snoc : (ns : List (List ℕ)) (m : List ℕ) (all : List (List ℕ))
 numbers_snoc ns m all e h k n there =
     ⊎_elim (λ x. h n x) (λ is. subst IsNumber (sym is) k) (among_snoc n ns m (subst (λ l. Among n l) e there))
 
-different_snoc : (ns : List (List ℕ)) (m : List ℕ) → AreDifferent ns → ¬ Among m ns → AreDifferent (ns ++ m ∷ [])
+pub different_snoc : (ns : List (List ℕ)) (m : List ℕ) → AreDifferent ns → ¬ Among m ns → AreDifferent (ns ++ m ∷ [])
 different_snoc [] m d new = ((λ x. x), tt)
 different_snoc (k ∷ ns) m d new =
     ((λ x. ⊎_elim (λ h. d.0 h) (λ e. new (inl (sym e))) (among_snoc k ns m x)), different_snoc ns m d.1 (λ x. new (inr x)))

@@ -12,8 +12,6 @@ use Rattle.sms_centre_spec.specs.CentreEvent.{happened}
 use Rattle.sms_centre_spec.specs.Draft.{Core, Draft, core_of, rows_after}
 use Rattle.sms_centre_spec.specs.declared.event.CentreEvent.{CentreEvent}
 use Rattle.sms_centre_spec.proofs.Resting.{happened_rests}
-use Rattle.sms_centre_spec.proofs.forgetting.Removed.{forget_commits}
-use Rattle.sms_centre_spec.specs.forgetting.Forget.{forget}
 use Rattle.sms_centre.specs.declared.plans.event_outcome.EventOutcome.{EventOutcome}
 use Rattle.sms_centre_spec.specs.SoundRows.{IsSound}
 use Rattle.sms_centre_group.specs.Grouping.{grouped_body}
@@ -49,10 +47,6 @@ goes_back d keys held closed before refused NoMemory goes = (goes.0, none_counte
 -- the rows with the changes are those after the event
 pub rows_then : (event : CentreEvent) (c : Core) (p : EventOutcome) → IsOutcome (happened event c) p → rows_after p.changes c.rows ≡ (core_of (happened event c)).rows
 rows_then event c p k = ap (λ (x : Changes). rows_after x c.rows) k.changes ∙ happened_rests event c
-
--- and those after some messages were forgotten
-pub rows_left : (before from most : ℕ) (c : Core) (p : EventOutcome) → IsOutcome (forget before from most c) p → rows_after p.changes c.rows ≡ (core_of (forget before from most c)).rows
-rows_left before from most c p k = ap (λ (x : Changes). rows_after x c.rows) k.changes ∙ ap (λ (x : Core). x.rows) (forget_commits before from most c)
 
 -- the rows were read, and of them something was made, or not
 pub made_of : {R A E : Type 0} (is_right : A → Type 0) (rows : R) (after : KeepState R) (r : Result A E) → IfOk r is_right → after.holds rows → EndsWith is_right rows rows after r

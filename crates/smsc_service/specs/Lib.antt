@@ -1,6 +1,5 @@
 pub mod Accounts
 pub mod Asking
-pub mod Forgetting
 pub mod InMachine
 pub mod InSeated
 pub mod InService
@@ -9,6 +8,7 @@ pub mod Outcomes
 pub mod Room
 pub mod Seats
 pub mod ShownLinks
+pub mod Sparing
 pub mod Serving
 pub mod BoundSession
 pub mod Causes

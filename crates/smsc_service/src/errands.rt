@@ -1,6 +1,7 @@
 //! What a service does that no seat asks.
-ghost use Rattle.std.specs.Prelude.{◌≡◌};
+ghost use Rattle.std.specs.Prelude.{◌≡◌, IfSome};
 ghost use Rattle.smsc_service.specs.Outcomes.{told_of_account};
+ghost use Rattle.smsc_service.specs.Sparing.{Spares};
 
 use crate::order_desk::{OrderDesk, OrderOutcome, outcome_of};
 use sms_base::{MessageId, Moment};
@@ -33,7 +34,7 @@ pub struct Errands<A: Archive + Drop> {
     desk: Arc<OrderDesk>,
     // What came of the order that the group has, if it is committed.
     told: Option<OrderOutcome>,
-    keep: Option<u64>,
+    pub(crate) keep: Option<u64>,
     pub(crate) archive: A,
     // The number from which the next call looks.
     from: u64,
@@ -92,7 +93,9 @@ impl<A: Archive + Drop> Errands<A> {
     }
 
     // What it is to forget at that moment.
-    fn forgets(&self, now: Moment) -> Option<Errand> {
+    fn forgets(&self, now: Moment) -> Option<Errand>
+        ensures { IfSome result (Spares self.now.keep now) }
+    {
         let keep = self.keep?;
         if now.seconds() < self.due {
             return None;
@@ -106,7 +109,10 @@ impl<A: Archive + Drop> Errands<A> {
     }
 
     /// The next one, if there is one at that moment.
-    pub(crate) fn next(&self, now: Moment) -> Option<Errand> {
+    #[tactic(auto, using(crate::proofs::Spared::spares))]
+    pub(crate) fn next(&self, now: Moment) -> Option<Errand>
+        ensures { IfSome result (Spares self.now.keep now) }
+    {
         match self.desk.waiting() {
             Some(order) => Some(order),
             None => self.forgets(now),

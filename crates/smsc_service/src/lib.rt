@@ -22,7 +22,6 @@
 //! - `cutoff`: whether it is too late to begin anything
 //! - `ends`: the ends of messages
 //! - `errands`: what a service does that no seat asks
-//! - `forgetting`: what a run forgets as it starts
 //! - `seat_map`: which handset and which session is at which seat
 //! - `laws`: laws of the service's steps
 //! - `lending`: a service that is lent
@@ -53,7 +52,6 @@ mod causes;
 mod cutoff;
 mod ends;
 mod errands;
-mod forgetting;
 pub mod laws;
 mod lending;
 mod link_board;
@@ -80,7 +78,6 @@ pub use asking::{SeatRequest, job_asks};
 pub use bound_session::{handsets_of, sessions_of};
 pub use cutoff::Cutoff;
 pub use errands::{Errands, Forgetting};
-pub use forgetting::forget_ended;
 pub use lending::serve_with;
 pub use link_board::{CauseCount, LinkBoard, MOST_REFUSED};
 pub use machine::CentreMachine;

@@ -1,5 +1,6 @@
 //! Where an order of the owner waits for the keeper, and its outcome for whoever ordered.
-ghost use Rattle.std.specs.Prelude.{◌≡◌};
+ghost use Rattle.std.specs.Prelude.{◌≡◌, IfSome};
+ghost use Rattle.smsc_service.specs.Sparing.{IsOrder};
 ghost use Rattle.smsc_service.specs.Outcomes.{number_of as number_of_outcome, outcome_at as outcome_numbered, told_by};
 
 use smpp_pdu::CommandStatus;
@@ -189,7 +190,9 @@ impl OrderDesk {
     }
 
     /// The order that waits, if one does. The keeper asks it at once.
-    pub(crate) fn waiting(&self) -> Option<Errand> {
+    pub(crate) fn waiting(&self) -> Option<Errand>
+        ensures { IfSome result IsOrder }
+    {
         if self.progress.load(Ordering::SeqCst) != WAITING {
             return None;
         }

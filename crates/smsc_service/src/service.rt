@@ -1,5 +1,5 @@
 //! The centre as the machine of a hub.
-ghost use Rattle.std.specs.Prelude.{◌≡◌, IfOk, OnOk, take};
+ghost use Rattle.std.specs.Prelude.{◌≡◌, IfOk, IfSome, OnOk, take};
 ghost use Rattle.sms_rows.specs.keep.StoreOutcome.{IfHeld, WasHonest};
 ghost use Rattle.sms_centre_spec.specs.declared.rows.Rows.{Rows as RowsOf};
 ghost use Rattle.sms_centre.specs.Enrolling.{accounts_of};
@@ -8,6 +8,7 @@ ghost use Rattle.smsc_service.specs.Seats.{nobody, seats_in};
 ghost use Rattle.smsc_service.specs.Stepping.{OneRefused};
 ghost use Rattle.smsc_service.specs.Serving.{Serving, restarted};
 ghost use Rattle.smsc_service.specs.Course.{after, gives};
+ghost use Rattle.smsc_service.specs.Sparing.{Spares, kept_by};
 ghost use Rattle.smsc_service.specs.InService.{HasArchived, HasHonestStore, IfAwaited, IsAwaitedBy, IsBroken, IsRefusedBy, IsRunning, IsServedBy, archive_in, refusals_of, store_in};
 
 use crate::causes::cause_told_by;
@@ -229,7 +230,10 @@ impl<K: CentreStore + Drop, A: Archive + Drop> Machine<Job, Reply> for Service<K
 
     ghost after = { λ s stimulus fate. after s stimulus fate };
 
-    fn errand(&self, now: Moment) -> Option<Errand> {
+    // No message is forgotten before its time.
+    fn errand(&self, now: Moment) -> Option<Errand>
+        ensures { IfSome result (Spares (kept_by self.now) now) }
+    {
         self.errands.next(now)
     }
 

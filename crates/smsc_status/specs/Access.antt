@@ -1,18 +1,10 @@
 -- The line of a message at its end, in logfmt. It has no word of what the message says.
 use Rattle.std.specs.Prelude.{ℕ, List, ◌++◌, Option, Some, None, codes, decimal}
 use Rattle.sms_base.specs.MessageId.{id_text}
-use Rattle.sms_base.specs.declared.final_state.FinalState.{FinalState}
-use Rattle.sms_base.specs.declared.final_state.FinalState.TheVariants.{Delivered, Expired, Deleted, Undeliverable}
+use Rattle.sms_base.specs.FinalWords.{final_word}
 use Rattle.smsc_status.specs.declared.access.AccessLine.{AccessLine}
 use Rattle.smsc_status.specs.Numbers.{millionths_text, moment_text}
 use Rattle.smsc_status.specs.Words.{word_text}
-
--- the words of receipts (SMPP v3.4 appendix B)
-abbrev pub end_word : FinalState → List ℕ
-end_word Delivered = codes "DELIVRD"
-end_word Expired = codes "EXPIRED"
-end_word Deleted = codes "DELETED"
-end_word Undeliverable = codes "UNDELIV"
 
 -- who submitted it: an application by the name of its account, or the handset of the source
 abbrev pub originator_text : Option (List ℕ) → List ℕ → List ℕ
@@ -28,7 +20,7 @@ parties_text source destination = codes " source=" ++ (word_text source ++ (code
 unfoldable pub course_text : AccessLine → List ℕ
 course_text a =
     codes " parts=" ++ (decimal a.parts ++ (codes " submitted=" ++ (moment_text a.submitted ++ (codes " ended=" ++ (moment_text a.ended ++ (codes " state="
-    ++ (end_word a.state ++ (codes " failed_attempts=" ++ decimal a.failed_attempts))))))))
+    ++ (final_word a.state ++ (codes " failed_attempts=" ++ decimal a.failed_attempts))))))))
 
 unfoldable pub cause_text : ℕ → List ℕ
 cause_text cause = codes " last_cause=" ++ decimal cause

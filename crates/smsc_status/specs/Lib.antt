@@ -1,4 +1,5 @@
 pub mod Access
+pub mod Archive
 pub mod Charts
 pub mod Commits
 pub mod Json

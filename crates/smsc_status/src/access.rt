@@ -1,6 +1,7 @@
 //! The line of a message at its end.
 ghost use Rattle.std.specs.Prelude.{◌≡◌, ◌++◌, IfOk, OnOk, option_map};
-ghost use Rattle.smsc_status.specs.Access.{access_text, cause_text, commit_text, course_text, end_word as end_word_of, last_cause_text, number_text, originator_text, parties_text};
+ghost use Rattle.sms_base.specs.FinalWords.{final_word};
+ghost use Rattle.smsc_status.specs.Access.{access_text, cause_text, commit_text, course_text, last_cause_text, number_text, originator_text, parties_text};
 
 use crate::pieces::{Piece, put_pieces};
 use crate::words::put_word;
@@ -30,15 +31,11 @@ pub struct AccessLine<'a> {
     pub commit_micros: u64,
 }
 
-fn end_word(state: FinalState) -> &'static [u8]
-    ensures { result.now ≡ end_word_of state }
+/// The word of a receipt for an end (SMPP v3.4 appendix B).
+pub(crate) fn end_word(state: FinalState) -> &'static [u8]
+    ensures { result.now ≡ final_word state }
 {
-    match state {
-        FinalState::Delivered => b"DELIVRD",
-        FinalState::Expired => b"EXPIRED",
-        FinalState::Deleted => b"DELETED",
-        FinalState::Undeliverable => b"UNDELIV",
-    }
+    state.word().as_bytes()
 }
 
 #[tactic(auto, unfolding(crate::specs::Access::number_text))]

@@ -4,6 +4,7 @@
 //! format, or in JSON. Each of them escapes a name from outside, so that no reader takes it for anything else (`laws`).
 //!
 //! - `access`: the line of a message at its end
+//! - `archive`: the line of a message that is forgotten
 //! - `chart`: a figure over the last ten minutes, as a line
 //! - `commits`: how long commits take
 //! - `figures`: the figures of a run
@@ -23,6 +24,7 @@
 #![tactic(auto)]
 
 mod access;
+mod archive;
 mod chart;
 mod commits;
 mod figures;
@@ -41,6 +43,7 @@ mod series;
 mod words;
 
 pub use access::{AccessLine, access_line};
+pub use archive::{ArchiveLine, archive_line};
 pub use commits::{CommitFigures, PLACES, Quantile, place_of};
 pub use figures::{
     AccountLine, LastCause, LinkLine, MessageCounts, MessageFigures, PendingMessage, RefusedBinds,

@@ -40,3 +40,37 @@ pub(crate) fn put_string(out: &mut Octets, text: &[u8]) -> Result<(), AllocError
     put_quoted(out, text)?;
     out.append(b"\"")
 }
+
+#[tactic(auto, unfolding(crate::specs::Quoting::quoted_octet))]
+fn put_quoted_character(out: &mut Octets, character: char) -> Result<(), AllocError>
+    ensures { OnOk result (out.new ≡ out.old ++ quoted_octet character) }
+{
+    if character == '"' {
+        out.append(b"\\\"")
+    } else if character == '\\' {
+        out.append(b"\\\\")
+    } else if character < ' ' || '~' < character {
+        out.append(b"?")
+    } else {
+        out.push(character as u8)
+    }
+}
+
+fn put_quoted_name(out: &mut Octets, name: &[char]) -> Result<(), AllocError>
+    ensures { OnOk result (out.new ≡ out.old ++ quoted name.now) }
+{
+    for character in name {
+        put_quoted_character(out, *character)?;
+    }
+    Ok(())
+}
+
+/// The characters of a name, or digits, with their quotation marks.
+#[tactic(auto, unfolding(crate::specs::Quoting::string))]
+pub(crate) fn put_name(out: &mut Octets, name: &[char]) -> Result<(), AllocError>
+    ensures { OnOk result (out.new ≡ out.old ++ string name.now) }
+{
+    out.append(b"\"")?;
+    put_quoted_name(out, name)?;
+    out.append(b"\"")
+}

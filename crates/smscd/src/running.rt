@@ -1,7 +1,10 @@
 //! A run of the server.
+ghost use Rattle.std.specs.Prelude.{IsSome};
+ghost use Rattle.smsc_operation.specs.Loading.{read_in};
+
 use crate::account_book::book_of;
 use crate::control::Control;
-use crate::forgetting::{LoggedArchive, forget_old, forgetting_of};
+use crate::forgetting::{FileArchive, forgetting_of};
 use crate::ports::{listen, ports_of};
 use crate::reloading::Reloader;
 use crate::setup::{KnownAccount, MOST_ACCOUNTS, RunAccounts, setup_of};
@@ -17,6 +20,7 @@ use smsc_cli::words::{AccountWords, LogDetail, ServerRun};
 use smsc_endpoint::LinkAccess;
 use smsc_operation::account_names::AccountNames;
 use smsc_operation::feed::Source;
+use smsc_operation::loaded_keep::LoadedKeep;
 use smsc_operation::logging::{self, Log, LogThread};
 use smsc_operation::moments::{now, text_of};
 use smsc_operation::opening::{FoundStore, open_store};
@@ -24,13 +28,12 @@ use smsc_operation::preparing::leave_after;
 use smsc_operation::readiness;
 use smsc_operation::run_fault::{ClockBehind, RunFault};
 use smsc_operation::store_files::{StorePaths, open_mode_at, public_mode_at};
-use smsc_operation::summary::{Files, Summary, left_in, left_of, summary_of};
+use smsc_operation::summary::{Files, Summary, summary_of};
 use smsc_server::{
     AccountBook, Allowance, Allowances, Clocks, Given, ObservedKeep, Orders, Ports, RunClock,
     ServeFault, serve,
 };
 use smsc_service::{CentreAccount, CentreStore, Forgetting, LinkBoard, Setup};
-use smsc_status::MessageFigures;
 use std::alloc::{AllocError, Global};
 use std::io;
 use std::net::TcpListener;
@@ -446,54 +449,30 @@ fn say_store<R: Wait + Copy>(
     } = *summary;
     let newest = text_of(alloc, newest)?;
     let text = format!(in alloc;
-        "event=store version=2 state={word} open={open} messages={all} greatest_id={greatest} newest={newest} log_octets={log_octets} log_frames={taken} log_cut={cut} last_run={last_run} first_id={first}"
+        "event=store version=3 state={word} open={open} messages={all} greatest_id={greatest} newest={newest} log_octets={log_octets} log_frames={taken} log_cut={cut} last_run={last_run} first_id={first}"
     )?;
     log.put(level, text.as_str());
     Ok(())
 }
 
-// What the rows say once so many were forgotten. Where that is not known they are read again.
-fn look_behind<K: CentreStore>(
-    keep: &mut K,
-    summary: Summary,
-    gone: Option<MessageFigures>,
-) -> Result<Summary, RunFault> {
-    if let Some(gone) = gone {
-        return Ok(left_of(summary, &gone));
-    }
-    let rows = keep.gather()?;
-    let left = left_in(summary, &rows);
-    drop(rows);
-    Ok(left)
-}
-
-// Logs what the rows say, and gives it. What need not be kept is forgotten.
-fn look_at<R: Wait + Copy, K: CentreStore>(
+// Logs what was read of the store, and gives it. Rows that the last run left in order were not judged as the store was opened, and are now.
+fn look_at<R: Wait + Copy, K: CentreStore + Drop>(
     host: &HostRuntime,
-    run: &ServerRun<'_>,
     watchers: &Watchers<R>,
-    keep: &mut K,
+    keep: &mut LoadedKeep<K>,
     found: &FoundStore,
     start: Moment,
-) -> Result<Summary, RunFault> {
-    let rows = keep.gather()?;
-    let summary = summary_of(&rows, start);
-    watchers.begin(&rows);
-    let said = say_store(host.alloc(), &*watchers.log, found, &summary);
-    let done = match said {
-        Ok(()) => {
-            let log = &*watchers.log;
-            forget_old(host, log, run, keep, rows, found, start, summary.newest)
-        }
-        Err(_) => {
-            drop(rows);
-            Err(RunFault::NoMemory)
-        }
-    };
-    match done {
-        Ok(gone) => look_behind(keep, summary, gone),
-        Err(fault) => Err(fault),
+) -> Result<Summary, RunFault>
+    requires { IsSome (read_in keep.old) }
+{
+    let rows = keep.rows();
+    let summary = summary_of(rows, start);
+    watchers.begin(rows);
+    say_store(host.alloc(), &*watchers.log, found, &summary)?;
+    if found.begun.is_of_order() {
+        keep.judge(host.alloc())?;
     }
+    Ok(summary)
 }
 
 // The clock of the run, once the store was read, which may take long. Its time begins at the time of day, or at the newest moment of the
@@ -572,7 +551,7 @@ fn serve_open<R: Threads + Wait + Clock + Copy + Send + Sync + 'static, K: Centr
     given: &Given<Watchers<R>>,
     keep: K,
     accounts: Vec<CentreAccount>,
-    forgetting: Forgetting<LoggedArchive<R>>,
+    forgetting: Forgetting<FileArchive<R>>,
     ports: Ports<TcpListener>,
     clock: &RunClock<R>,
 ) -> Result<K, ServeFault> {
@@ -610,6 +589,25 @@ fn serve_ports<R: Threads + Wait + Clock + Copy + Send + Sync + 'static, K: Cent
     end_run(&rt, helpers, &*given.observer, ended)
 }
 
+// What was read of the store, the clock that goes on from there, and the ports.
+fn begin<R: Wait + Clock + Copy, K: CentreStore + Drop>(
+    host: &HostRuntime,
+    rt: R,
+    run: &ServerRun<'_>,
+    watchers: &Watchers<R>,
+    keep: &mut LoadedKeep<K>,
+    found: &FoundStore,
+    start: Moment,
+) -> Result<(Summary, RunClock<R>, Ports<TcpListener>), RunFault>
+    requires { IsSome (read_in keep.old) }
+{
+    let summary = look_at(host, watchers, keep, found, start)?;
+    let clock = clock_of(rt, summary.newest, run.is_ahead)?;
+    let ports = open_ports(host, run)?;
+    Ok((summary, clock, ports))
+}
+
+// The store is read once: what is said of it and what the centre starts on are the same rows.
 fn serve_keep<R: Threads + Wait + Clock + Copy + Send + Sync + 'static, K: CentreStore + Drop>(
     host: HostRuntime,
     rt: R,
@@ -620,11 +618,17 @@ fn serve_keep<R: Threads + Wait + Clock + Copy + Send + Sync + 'static, K: Centr
     found: &FoundStore,
     start: Moment,
 ) -> Result<K, RunFault> {
-    let mut keep = keep;
-    let summary = look_at(&host, run, &*given.observer, &mut keep, found, start)?;
-    let clock = clock_of(rt, summary.newest, run.is_ahead)?;
-    let ports = open_ports(&host, run)?;
-    serve_ports(host, rt, run, given, beside, keep, ports, &summary, &clock)
+    let mut keep = LoadedKeep::of(keep)?;
+    match begin(&host, rt, run, &*given.observer, &mut keep, found, start) {
+        Ok((summary, clock, ports)) => {
+            let keep = serve_ports(host, rt, run, given, beside, keep, ports, &summary, &clock)?;
+            Ok(keep.into_store())
+        }
+        Err(fault) => {
+            drop(keep);
+            Err(fault)
+        }
+    }
 }
 
 fn ports_fault(error: io::Error) -> RunFault {

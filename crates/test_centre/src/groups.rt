@@ -1,6 +1,6 @@
 //! What the events of a group changed, over a keep in memory.
 use crate::indexes::names::{at, message};
-use crate::rows::holds;
+use crate::rows::failed_at;
 use sms_base::{Address, Listed, Octets};
 use sms_centre_group::GroupKeep;
 use sms_centre_rows::messages::PartRow;
@@ -12,17 +12,17 @@ use sms_store_memory::centre::MemoryKeep;
 use std::alloc::Global;
 use std::test::Fail;
 
-fn setup(alloc: Global) -> Result<Setup, Fail> {
-    Ok(Setup {
-        centre: Address::new(1, 1, "447700900099")?,
+fn setup(alloc: Global) -> Option<Setup> {
+    Some(Setup {
+        centre: Address::new(1, 1, "447700900099").ok()?,
         start: at(0)?,
         first: 1,
         accounts: Listed::new(alloc),
     })
 }
 
-fn progress(attempts: u8) -> Result<Progress, Fail> {
-    Ok(Progress {
+fn progress(attempts: u8) -> Option<Progress> {
+    Some(Progress {
         is_done: false,
         attempts,
         due: at(0)?,
@@ -30,64 +30,19 @@ fn progress(attempts: u8) -> Result<Progress, Fail> {
 }
 
 // A part of message 1 with a TPDU of one octet.
-fn part(alloc: Global, number: u8, octet: u8) -> Result<PartRow, Fail> {
-    Ok(PartRow {
+fn part(alloc: Global, number: u8, octet: u8) -> Option<PartRow> {
+    Some(PartRow {
         id: message(1)?,
         number,
         reference: 0,
-        tpdu: Octets::copy_of(alloc, &[octet])?,
+        tpdu: Octets::copy_of(alloc, &[octet]).ok()?,
         key: None,
         progress: progress(0)?,
     })
 }
 
-fn key(number: u8) -> Result<Key, Fail> {
-    Ok(Key::pair(message(1)?.number(), number))
-}
-
-// The changes of an event that revises one part.
-fn changes_of(alloc: Global, revision: Revision<PartRow>) -> Result<Changes, Fail> {
-    let mut parts = Listed::new(alloc);
-    parts.push(revision)?;
-    Ok(Changes {
-        messages: Listed::new(alloc),
-        parts,
-        references: Listed::new(alloc),
-        handsets: Listed::new(alloc),
-        reports: Listed::new(alloc),
-        priorities: Listed::new(alloc),
-    })
-}
-
-fn hold(
-    alloc: Global,
-    group: &mut GroupKeep<MemoryKeep>,
-    revision: Revision<PartRow>,
-) -> Result<bool, Fail> {
-    let changes = changes_of(alloc, revision)?;
-    group.make_room(&changes)?;
-    group.hold(changes);
-    Ok(true)
-}
-
-// Whether the part of that number has a TPDU of that octet, or none.
-fn has(group: &mut GroupKeep<MemoryKeep>, number: u8, octet: Option<u8>) -> Result<bool, Fail> {
-    let Ok(body) = group.body(key(number)?) else {
-        return Err(Fail::new("a body was refused"));
-    };
-    Ok(match (&body, octet) {
-        (Some(body), Some(octet)) => body.as_slice() == [octet].as_slice(),
-        (None, None) => true,
-        _ => false,
-    })
-}
-
-// How many parts are committed.
-fn committed(group: &mut GroupKeep<MemoryKeep>) -> Result<usize, Fail> {
-    match group.gather() {
-        Ok(rows) => Ok(rows.parts.len()),
-        Err(_) => Err(Fail::new("the rows were refused")),
-    }
+fn key(number: u8) -> Option<Key> {
+    Some(Key::pair(message(1)?.number(), number))
 }
 
 // What an event changes of the parts of message 1, and what is seen then.
@@ -105,28 +60,87 @@ enum Step {
     Commits(usize),
 }
 
-fn amended(number: u8, attempts: u8) -> Result<Revision<PartRow>, Fail> {
-    Ok(Revision::Amend {
-        key: key(number)?,
-        progress: progress(attempts)?,
-    })
-}
-
-// Whether the step goes as it says.
-fn goes(alloc: Global, group: &mut GroupKeep<MemoryKeep>, step: &Step) -> Result<bool, Fail> {
+// What the step revises.
+fn revision_of(alloc: Global, step: &Step) -> Option<Revision<PartRow>> {
     match step {
-        Step::Puts(number, octet) => {
-            hold(alloc, group, Revision::Put(part(alloc, *number, *octet)?))
-        }
-        Step::Amends(number, attempts) => hold(alloc, group, amended(*number, *attempts)?),
-        Step::Removes(number) => hold(alloc, group, Revision::Remove(key(*number)?)),
-        Step::Flushes => Ok(group.flush() == Ok(())),
-        Step::Has(number, octet) => has(group, *number, *octet),
-        Step::Commits(count) => Ok(committed(group)? == *count),
+        Step::Puts(number, octet) => Some(Revision::Put(part(alloc, *number, *octet)?)),
+        Step::Amends(number, attempts) => Some(Revision::Amend {
+            key: key(*number)?,
+            progress: progress(*attempts)?,
+        }),
+        Step::Removes(number) => Some(Revision::Remove(key(*number)?)),
+        _ => None,
     }
 }
 
-// Each course with its steps; a step that fails is named by its course.
+// The changes of an event that revises one part.
+fn changes_of(alloc: Global, step: &Step) -> Option<Changes> {
+    let mut parts = Listed::new(alloc);
+    parts.push(revision_of(alloc, step)?).ok()?;
+    Some(Changes {
+        messages: Listed::new(alloc),
+        parts,
+        references: Listed::new(alloc),
+        handsets: Listed::new(alloc),
+        reports: Listed::new(alloc),
+        priorities: Listed::new(alloc),
+        bars: Listed::new(alloc),
+    })
+}
+
+fn held(group: &mut GroupKeep<MemoryKeep>, changes: Changes) -> bool {
+    match group.make_room(&changes) {
+        Ok(()) => {
+            group.hold(changes);
+            true
+        }
+        Err(_) => false,
+    }
+}
+
+fn holds_changes(alloc: Global, group: &mut GroupKeep<MemoryKeep>, step: &Step) -> bool {
+    match changes_of(alloc, step) {
+        Some(changes) => held(group, changes),
+        None => false,
+    }
+}
+
+// Whether the part of that number has a TPDU of that octet, or none.
+fn has(group: &mut GroupKeep<MemoryKeep>, number: u8, octet: Option<u8>) -> bool {
+    let Some(key) = key(number) else {
+        return false;
+    };
+    match group.body(key) {
+        Ok(Some(body)) => match octet {
+            Some(octet) => body.as_slice() == [octet].as_slice(),
+            None => false,
+        },
+        Ok(None) => octet.is_none(),
+        Err(_) => false,
+    }
+}
+
+// Whether so many parts are committed.
+fn are_committed(group: &mut GroupKeep<MemoryKeep>, count: usize) -> bool {
+    match group.gather() {
+        Ok(rows) => rows.parts.len() == count,
+        Err(_) => false,
+    }
+}
+
+// Whether the step goes as it says.
+fn goes(alloc: Global, group: &mut GroupKeep<MemoryKeep>, step: &Step) -> bool {
+    match step {
+        Step::Puts(_, _) | Step::Amends(_, _) | Step::Removes(_) => {
+            holds_changes(alloc, group, step)
+        }
+        Step::Flushes => group.flush() == Ok(()),
+        Step::Has(number, octet) => has(group, *number, *octet),
+        Step::Commits(count) => are_committed(group, *count),
+    }
+}
+
+// A course and its steps.
 type Course = (&'static str, &'static [Step]);
 
 const COURSES: &[Course] = &[
@@ -164,14 +178,19 @@ const FLUSHED: &[Step] = &[
 
 fn go(alloc: Global, group: &mut GroupKeep<MemoryKeep>, course: &Course) -> Result<(), Fail> {
     let (name, steps) = course;
-    for step in steps.iter() {
-        holds(goes(alloc, group, step)?, name)?;
+    for (at, step) in steps.iter().enumerate() {
+        if !goes(alloc, group, step) {
+            return Err(failed_at(name, at));
+        }
     }
     Ok(())
 }
 
 fn plays(alloc: Global, course: &Course) -> Result<(), Fail> {
-    let mut group = GroupKeep::over(alloc, MemoryKeep::new(alloc, setup(alloc)?));
+    let Some(setup) = setup(alloc) else {
+        return Err(Fail::new("no setup"));
+    };
+    let mut group = GroupKeep::over(alloc, MemoryKeep::new(alloc, setup));
     let went = go(alloc, &mut group, course);
     drop(group);
     went

@@ -1,5 +1,5 @@
 //! What waits for a handset, beside a plain search.
-use crate::rows::holds;
+use crate::rows::{failed_at, holds};
 use sms_base::{MessageId, Moment};
 use sms_centre_rows::waiting::QueuedPart;
 use sms_rows::table::Row;
@@ -11,18 +11,18 @@ use std::test::Fail;
 // 2024-02-29 23:59:58.
 const START: u64 = 1_709_251_198;
 
-fn queued(message: u64, number: u8, priority: u8, due: u64) -> Result<QueuedPart, Fail> {
-    Ok(QueuedPart {
-        id: MessageId::new(message).ok_or("no identity")?,
+fn queued(message: u64, number: u8, priority: u8, due: u64) -> Option<QueuedPart> {
+    Some(QueuedPart {
+        id: MessageId::new(message)?,
         number,
         reference: 0,
         priority,
-        due: Moment::from_seconds(due)?,
+        due: Moment::from_seconds(due).ok()?,
     })
 }
 
 // The row of that number: due in turn, of every priority.
-fn row(number: u64) -> Result<QueuedPart, Fail> {
+fn row(number: u64) -> Option<QueuedPart> {
     let due = START + number % 1_000 * 37 % 1_000;
     queued(number, (number % 3) as u8, (number % 4) as u8, due)
 }
@@ -53,54 +53,51 @@ fn plain_next(rows: &[QueuedPart], now: Moment) -> Option<QueuedPart> {
 }
 
 // A thousand rows.
-fn thousand(alloc: Global) -> Result<Vec<QueuedPart>, Fail> {
+fn thousand(alloc: Global) -> Option<Vec<QueuedPart>> {
     let mut rows = Vec::new(alloc);
     for number in 1..1_001 {
-        rows.push(row(number)?)?;
+        rows.push(row(number)?).ok()?;
     }
-    Ok(rows)
+    Some(rows)
 }
 
-fn waiting_of(alloc: Global, rows: &[QueuedPart]) -> Result<WaitingParts, Fail> {
+fn waiting_of(alloc: Global, rows: &[QueuedPart]) -> Option<WaitingParts> {
     let mut waiting = WaitingParts::new(alloc);
     for row in rows {
-        waiting.put(*row)?;
+        waiting.put(*row).ok()?;
     }
-    Ok(waiting)
+    Some(waiting)
 }
 
 // Takes every second row out of both.
-fn thin(
-    alloc: Global,
-    waiting: &mut WaitingParts,
-    rows: &[QueuedPart],
-) -> Result<Vec<QueuedPart>, Fail> {
+fn thin(alloc: Global, waiting: &mut WaitingParts, rows: &[QueuedPart]) -> Option<Vec<QueuedPart>> {
     let mut left = Vec::new(alloc);
     for row in rows {
         if row.id.number() % 2 == 0 {
-            waiting.remove(row.key())?;
+            waiting.remove(row.key()).ok()?;
         } else {
-            left.push(*row)?;
+            left.push(*row).ok()?;
         }
     }
-    Ok(left)
+    Some(left)
 }
 
 // At each second what waits says what the plain search says.
-fn agrees(waiting: &WaitingParts, rows: &[QueuedPart]) -> Result<(), Fail> {
+fn agrees(waiting: &WaitingParts, rows: &[QueuedPart], start: Moment) -> bool {
     for second in 0..1_001 {
-        let now = Moment::from_seconds(START + second)?;
-        let next = waiting.next(now);
-        if next != plain_next(rows, now) {
-            return Err(Fail::from("another one is next"));
+        let now = start.plus(second);
+        if waiting.next(now) != plain_next(rows, now) {
+            return false;
         }
     }
-    Ok(())
+    true
 }
 
-fn copy_agrees(waiting: &WaitingParts, rows: &[QueuedPart]) -> Result<(), Fail> {
-    let copy = waiting.copy()?;
-    agrees(&copy, rows)
+fn copy_agrees(waiting: &WaitingParts, rows: &[QueuedPart], start: Moment) -> bool {
+    match waiting.copy() {
+        Ok(copy) => agrees(&copy, rows, start),
+        Err(_) => false,
+    }
 }
 
 // Every second row is taken out, and what is left is offered in turn, by a copy as well.
@@ -108,91 +105,127 @@ fn the_rest_agrees(
     alloc: Global,
     waiting: &mut WaitingParts,
     rows: &[QueuedPart],
-) -> Result<(), Fail> {
-    let left = thin(alloc, waiting, rows)?;
-    agrees(waiting, left.as_slice())?;
-    copy_agrees(waiting, left.as_slice())
+    start: Moment,
+) -> bool {
+    match thin(alloc, waiting, rows) {
+        Some(left) => {
+            agrees(waiting, left.as_slice(), start) && copy_agrees(waiting, left.as_slice(), start)
+        }
+        None => false,
+    }
 }
 
-fn all_agree(alloc: Global, rows: &[QueuedPart]) -> Result<(), Fail> {
-    let mut waiting = waiting_of(alloc, rows)?;
-    agrees(&waiting, rows)?;
-    the_rest_agrees(alloc, &mut waiting, rows)
+fn all_agree(alloc: Global, rows: &[QueuedPart], start: Moment) -> bool {
+    match waiting_of(alloc, rows) {
+        Some(mut waiting) => {
+            agrees(&waiting, rows, start) && the_rest_agrees(alloc, &mut waiting, rows, start)
+        }
+        None => false,
+    }
 }
 
-#[test]
-fn thousand_rows_are_offered_in_turn(rt: HostRuntime) -> Result<(), Fail> {
-    let rows = thousand(rt.alloc())?;
-    all_agree(rt.alloc(), rows.as_slice())
+fn thousand_agree(alloc: Global, start: Moment) -> bool {
+    match thousand(alloc) {
+        Some(rows) => all_agree(alloc, rows.as_slice(), start),
+        None => false,
+    }
 }
 
-// The first part of a message waits alone, then with the second, which has the highest priority, then alone again.
-fn wait_beside(waiting: &mut WaitingParts) -> Result<(), Fail> {
-    let now = Moment::from_seconds(START)?;
-    let first = queued(7, 1, 0, START)?;
-    let second = queued(7, 2, 3, START)?;
-    waiting.put(first)?;
-    holds(
-        !waiting.waits_beside(now, &first) && waiting.waits_beside(now, &second),
-        "the first part",
-    )?;
-    waiting.put(second)?;
-    holds(
-        waiting.waits_beside(now, &first) && waiting.next(now) == Some(second),
-        "both parts",
-    )?;
-    waiting.remove(second.key())?;
-    holds(waiting.next(now) == Some(first), "the first part again")
+// A part: its message, its number and its priority. It is due at the start.
+type Part = (u64, u8, u8);
+
+// A step of a course of what waits.
+#[derive(Clone, Copy)]
+enum Step {
+    Puts(Part),
+    Removes(Part),
+    // Whether another one waits beside that part.
+    Beside(Part, bool),
+    Next(Part),
+    // Nothing is next, at the start or a second before.
+    Nothing,
+    NothingBefore,
 }
 
-#[test]
-fn another_one_waits_beside(rt: HostRuntime) -> Result<(), Fail> {
-    let mut waiting = WaitingParts::new(rt.alloc());
-    wait_beside(&mut waiting)
+fn part((message, number, priority): Part) -> Option<QueuedPart> {
+    queued(message, number, priority, START)
 }
 
-// Parts of one moment, in the order in which they go: by message, and then by number.
-const ORDER: &[(u64, u8)] = &[(1, 1), (1, 2), (2, 1), (10, 0)];
+fn goes(waiting: &mut WaitingParts, start: Moment, step: &Step) -> Option<bool> {
+    match step {
+        Step::Puts(wanted) => Some(waiting.put(part(*wanted)?).is_ok()),
+        Step::Removes(wanted) => Some(waiting.remove(part(*wanted)?.key()).is_ok()),
+        Step::Beside(wanted, is_so) => {
+            Some(waiting.waits_beside(start, &part(*wanted)?) == *is_so)
+        }
+        Step::Next(wanted) => Some(waiting.next(start) == Some(part(*wanted)?)),
+        Step::Nothing => Some(waiting.next(start).is_none()),
+        Step::NothingBefore => {
+            let before = Moment::from_seconds(START - 1).ok()?;
+            Some(waiting.next(before).is_none())
+        }
+    }
+}
 
-fn put_backwards(waiting: &mut WaitingParts) -> Result<(), Fail> {
-    for (message, number) in ORDER.iter().rev() {
-        waiting.put(queued(*message, *number, 0, START)?)?;
+const COURSES: &[(&str, &[Step])] = &[
+    // The first part of a message waits alone, then with the second, which has the highest priority, then alone again.
+    (
+        "another one waits beside",
+        &[
+            Step::Puts((7, 1, 0)),
+            Step::Beside((7, 1, 0), false),
+            Step::Beside((7, 2, 3), true),
+            Step::Puts((7, 2, 3)),
+            Step::Beside((7, 1, 0), true),
+            Step::Next((7, 2, 3)),
+            Step::Removes((7, 2, 3)),
+            Step::Next((7, 1, 0)),
+        ],
+    ),
+    // By message, and then by number.
+    (
+        "parts of one moment go in order",
+        &[
+            Step::Puts((10, 0, 0)),
+            Step::Puts((2, 1, 0)),
+            Step::Puts((1, 2, 0)),
+            Step::Puts((1, 1, 0)),
+            Step::NothingBefore,
+            Step::Next((1, 1, 0)),
+            Step::Removes((1, 1, 0)),
+            Step::Next((1, 2, 0)),
+            Step::Removes((1, 2, 0)),
+            Step::Next((2, 1, 0)),
+            Step::Removes((2, 1, 0)),
+            Step::Next((10, 0, 0)),
+            Step::Removes((10, 0, 0)),
+            Step::Nothing,
+        ],
+    ),
+];
+
+fn plays(alloc: Global, start: Moment, name: &str, steps: &[Step]) -> Result<(), Fail> {
+    let mut waiting = WaitingParts::new(alloc);
+    for (at, step) in steps.iter().enumerate() {
+        if goes(&mut waiting, start, step) != Some(true) {
+            return Err(failed_at(name, at));
+        }
     }
     Ok(())
-}
-
-// Nothing is next a second before they are due; then each is in its turn.
-fn go_in_order(waiting: &mut WaitingParts) -> Result<(), Fail> {
-    let due = Moment::from_seconds(START)?;
-    let before = Moment::from_seconds(START - 1)?;
-    holds(waiting.next(before).is_none(), "a second before")?;
-    for (message, number) in ORDER {
-        let part = queued(*message, *number, 0, START)?;
-        holds(waiting.next(due) == Some(part), "in its turn")?;
-        waiting.remove(part.key())?;
-    }
-    holds(waiting.next(due).is_none(), "all have gone")
-}
-
-fn go_backwards_and_in_order(waiting: &mut WaitingParts) -> Result<(), Fail> {
-    put_backwards(waiting)?;
-    go_in_order(waiting)
-}
-
-#[test]
-fn parts_of_one_moment_go_in_order(rt: HostRuntime) -> Result<(), Fail> {
-    let mut waiting = WaitingParts::new(rt.alloc());
-    go_backwards_and_in_order(&mut waiting)
 }
 
 const WAITS: &[(u8, u64)] = &[(1, 60), (2, 300), (3, 900), (4, 3_600), (5, 3_600)];
 
 #[test]
-fn attempts_wait_longer() -> Result<(), Fail> {
-    let now = Moment::from_seconds(START)?;
+fn what_waits_is_offered_in_turn(rt: HostRuntime) -> Result<(), Fail> {
+    let start = Moment::from_seconds(START)?;
+    holds(thousand_agree(rt.alloc(), start), "a thousand rows")?;
+    for (name, steps) in COURSES {
+        plays(rt.alloc(), start, name, steps)?;
+    }
     for (attempts, seconds) in WAITS {
-        let again = retry_after(*attempts, now).seconds();
-        holds(again == START + seconds, "a time")?;
+        let again = retry_after(*attempts, start).seconds();
+        holds(again.saturating_sub(START) == *seconds, "the next attempt")?;
     }
     Ok(())
 }

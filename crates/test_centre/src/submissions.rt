@@ -13,6 +13,7 @@ const NOW: u64 = 1_709_251_198;
 #[derive(Clone, Copy, Drop)]
 struct Fields<'a> {
     esm_class: u8,
+    source_ton: u8,
     source: &'a [u8],
     destination: &'a [u8],
     data_coding: u8,
@@ -26,21 +27,20 @@ struct Fields<'a> {
 }
 
 // `hello` to 447700900456.
-fn hello() -> Fields<'static> {
-    Fields {
-        esm_class: 0,
-        source: b"",
-        destination: b"447700900456",
-        data_coding: 0,
-        text: b"hello",
-        payload: None,
-        reference: None,
-        total: None,
-        number: None,
-        validity: b"",
-        schedule: b"",
-    }
-}
+const HELLO: Fields<'static> = Fields {
+    esm_class: 0,
+    source_ton: 1,
+    source: b"",
+    destination: b"447700900456",
+    data_coding: 0,
+    text: b"hello",
+    payload: None,
+    reference: None,
+    total: None,
+    number: None,
+    validity: b"",
+    schedule: b"",
+};
 
 fn view<'a>(octets: Option<&'a [u8]>) -> Option<OctetView<'a>> {
     match octets {
@@ -49,9 +49,9 @@ fn view<'a>(octets: Option<&'a [u8]>) -> Option<OctetView<'a>> {
     }
 }
 
-fn entity<'a>(digits: &'a [u8]) -> SmeAddress<'a> {
+fn entity<'a>(ton: u8, digits: &'a [u8]) -> SmeAddress<'a> {
     SmeAddress {
-        ton: 1,
+        ton,
         npi: 1,
         addr: OctetView::of(digits),
     }
@@ -60,8 +60,8 @@ fn entity<'a>(digits: &'a [u8]) -> SmeAddress<'a> {
 fn message_of<'a>(fields: &Fields<'a>) -> Message<'a> {
     Message {
         service_type: OctetView::of(b""),
-        source: entity(fields.source),
-        destination: entity(fields.destination),
+        source: entity(fields.source_ton, fields.source),
+        destination: entity(1, fields.destination),
         esm_class: fields.esm_class,
         protocol_id: 0,
         priority_flag: 0,
@@ -83,48 +83,48 @@ fn message_of<'a>(fields: &Fields<'a>) -> Message<'a> {
     }
 }
 
-// What becomes of a message at 2024-02-29 23:59:58, from the account 447700900001 that may give these sources.
-fn judged(
-    alloc: Global,
-    sources: Vec<AllowedSource>,
-    message: &Message<'_>,
-) -> Result<Result<Submission, SmppError>, Fail> {
-    let address = Address::new(1, 1, "447700900001")?;
-    let now = Moment::from_seconds(NOW)?;
-    let account = CentreAccount {
-        name: Octets::copy_of(alloc, b"app1")?,
+// The number 447700900002, those that begin with 4477001, and the name Bank; or no other source than the account.
+fn sources(alloc: Global, are_some: bool) -> Option<Vec<AllowedSource>> {
+    let mut sources = Vec::new(alloc);
+    if are_some {
+        let number = Address::new(1, 1, "447700900002").ok()?;
+        sources.push(AllowedSource::Number(number.digits)).ok()?;
+        let prefix = Address::new(1, 1, "4477001").ok()?;
+        sources.push(AllowedSource::Prefix(prefix.digits)).ok()?;
+        let name = Address::new(5, 0, "Bank").ok()?;
+        sources.push(AllowedSource::Name(name.digits)).ok()?;
+    }
+    Some(sources)
+}
+
+// The account 447700900001.
+fn account(alloc: Global, has_sources: bool) -> Option<CentreAccount> {
+    let address = Address::new(1, 1, "447700900001").ok()?;
+    let name = Octets::copy_of(alloc, b"app1").ok()?;
+    Some(CentreAccount {
+        name,
         address,
-        sources: Listed::from_vec(sources),
-    };
-    Ok(from_pdu(alloc, &account, now, message))
+        sources: Listed::from_vec(sources(alloc, has_sources)?),
+    })
 }
 
-// So too, from one that may give any source.
-fn submitted(alloc: Global, fields: &Fields<'_>) -> Result<Result<Submission, SmppError>, Fail> {
-    judged(alloc, Vec::new(alloc), &message_of(fields))
+// What is so of a submission.
+#[derive(Clone, Copy)]
+enum Wanted {
+    Refused(CommandStatus),
+    Accepted,
+    // It comes from its account, is due now and valid for two days, and says these units.
+    Plain(&'static [u8]),
+    // It says these units, in as many parts as they take.
+    Says(&'static [u8]),
+    // It is one part with these octets and that length.
+    Carries(&'static [u8], u8),
+    // It is valid for so many seconds.
+    ValidFor(u64),
+    // Duplicates are not rejected.
+    Twice,
 }
 
-// The status with which it is refused, where it is.
-fn refusal_of(alloc: Global, fields: &Fields<'_>) -> Result<Option<CommandStatus>, Fail> {
-    match submitted(alloc, fields)? {
-        Err(SmppError::Refused(status)) => Ok(Some(status)),
-        Err(SmppError::NoMemory) => Err(Fail::new("out of memory")),
-        Ok(_) => Ok(None),
-    }
-}
-
-fn is_refused(alloc: Global, fields: &Fields<'_>, status: CommandStatus) -> Result<(), Fail> {
-    holds(refusal_of(alloc, fields)? == Some(status), "a refusal")
-}
-
-fn accepted(alloc: Global, fields: &Fields<'_>) -> Result<Submission, Fail> {
-    match submitted(alloc, fields)? {
-        Ok(submission) => Ok(submission),
-        Err(_) => Err(Fail::new("refused")),
-    }
-}
-
-// Whether it says these units, in as many parts as they take.
 fn says(submission: &Submission, units: &[u8]) -> bool {
     match &submission.text {
         Text::Whole(content) => are(content.units.as_slice(), units),
@@ -132,7 +132,6 @@ fn says(submission: &Submission, units: &[u8]) -> bool {
     }
 }
 
-// Whether it is one part with these octets and that length.
 fn carries(submission: &Submission, octets: &[u8], length: u8) -> bool {
     match &submission.text {
         Text::Whole(_) => false,
@@ -140,77 +139,204 @@ fn carries(submission: &Submission, octets: &[u8], length: u8) -> bool {
     }
 }
 
-// Whether it comes from its account, is due now and valid for two days.
-fn is_plain(submission: &Submission, source: &Address) -> bool {
-    submission.source == *source
-        && submission.limit.seconds() == NOW + 172_800
-        && submission.due.seconds() == NOW
-}
-
-#[test]
-fn a_message_from_its_account_is_accepted(rt: HostRuntime) -> Result<(), Fail> {
-    let source = Address::new(1, 1, "447700900001")?;
-    let submission = accepted(rt.alloc(), &hello())?;
-    holds(
-        is_plain(&submission, &source) && says(&submission, b"hello"),
-        "hello",
-    )
-}
-
-// All is wrong.
-fn all_wrong() -> Fields<'static> {
-    Fields {
-        esm_class: 0x44,
-        source: &[0x80],
-        destination: b"44A",
-        data_coding: 5,
-        text: &[5, 0, 3],
-        payload: Some(b""),
-        reference: Some(&[1]),
-        validity: b"now",
-        schedule: b"000001000000000R",
-        ..hello()
+fn is_so(submission: &Submission, account: &CentreAccount, wanted: &Wanted) -> bool {
+    match wanted {
+        Wanted::Refused(_) => false,
+        Wanted::Accepted => true,
+        Wanted::Plain(units) => {
+            submission.source == account.address
+                && submission.limit.seconds() == NOW + 172_800
+                && submission.due.seconds() == NOW
+                && says(submission, units)
+        }
+        Wanted::Says(units) => says(submission, units),
+        Wanted::Carries(octets, length) => carries(submission, octets, *length),
+        Wanted::ValidFor(seconds) => submission.limit.seconds().saturating_sub(NOW) == *seconds,
+        Wanted::Twice => !submission.rejects_duplicates,
     }
 }
 
-// One field after the other is mended, and each time the next one is told: the addresses, the parameters, the text, and the times.
-fn are_judged(alloc: Global, fields: &mut Fields<'static>) -> Result<(), Fail> {
-    is_refused(alloc, fields, CommandStatus::ESME_RINVESMCLASS)?;
-    fields.esm_class = 0x40;
-    is_refused(alloc, fields, CommandStatus::ESME_RINVSRCADR)?;
-    fields.source = b"447700900002";
-    is_refused(alloc, fields, CommandStatus::ESME_RINVDSTADR)?;
-    fields.destination = b"447700900456";
-    is_refused(alloc, fields, CommandStatus::ESME_RINVPARLEN)?;
-    fields.reference = Some(&[0, 1]);
-    is_refused(alloc, fields, CommandStatus::ESME_ROPTPARNOTALLWD)?;
-    fields.reference = None;
-    is_refused(alloc, fields, CommandStatus::ESME_ROPTPARNOTALLWD)?;
-    fields.payload = None;
-    is_refused(alloc, fields, CommandStatus::ESME_RSUBMITFAIL)?;
-    fields.data_coding = 8;
-    is_refused(alloc, fields, CommandStatus::ESME_RSUBMITFAIL)?;
-    fields.text = &[5, 0, 3, 1, 1, 1, 4];
-    is_refused(alloc, fields, CommandStatus::ESME_RINVMSGLEN)?;
-    fields.text = &[5, 0, 3, 1, 1, 1, 4, 0x36];
-    is_refused(alloc, fields, CommandStatus::ESME_RINVEXPIRY)?;
-    fields.validity = b"000000000030000R";
-    is_refused(alloc, fields, CommandStatus::ESME_RINVSCHED)?;
-    fields.schedule = b"";
-    Ok(())
+// What becomes of a message at 2024-02-29 23:59:58, from that account.
+fn is_judged(
+    alloc: Global,
+    account: &CentreAccount,
+    now: Moment,
+    fields: &Fields<'_>,
+    wanted: &Wanted,
+) -> bool {
+    match from_pdu(alloc, account, now, &message_of(fields)) {
+        Ok(submission) => is_so(&submission, account, wanted),
+        Err(SmppError::Refused(status)) => match wanted {
+            Wanted::Refused(wanted) => status == *wanted,
+            _ => false,
+        },
+        Err(SmppError::NoMemory) => false,
+    }
 }
 
-fn is_valid_for(alloc: Global, fields: &Fields<'_>, seconds: u64) -> Result<bool, Fail> {
-    let submission = accepted(alloc, fields)?;
-    Ok(submission.limit.seconds().saturating_sub(NOW) == seconds)
-}
+// All is wrong. Then one field after the other is mended, and each time the next one is told: the addresses, the parameters,
+// the text, and the times.
+const ALL_WRONG: Fields<'static> = Fields {
+    esm_class: 0x44,
+    source_ton: 1,
+    source: &[0x80],
+    destination: b"44A",
+    data_coding: 5,
+    text: &[5, 0, 3],
+    payload: Some(b""),
+    reference: Some(&[1]),
+    total: None,
+    number: None,
+    validity: b"now",
+    schedule: b"000001000000000R",
+};
 
-#[test]
-fn refusals_come_in_order(rt: HostRuntime) -> Result<(), Fail> {
-    let mut fields = all_wrong();
-    are_judged(rt.alloc(), &mut fields)?;
-    holds(is_valid_for(rt.alloc(), &fields, 30)?, "30 seconds")
-}
+const WRONG_SOURCE: Fields<'static> = Fields {
+    esm_class: 0x40,
+    ..ALL_WRONG
+};
+
+const WRONG_DESTINATION: Fields<'static> = Fields {
+    source: b"447700900002",
+    ..WRONG_SOURCE
+};
+
+const WRONG_REFERENCE: Fields<'static> = Fields {
+    destination: b"447700900456",
+    ..WRONG_DESTINATION
+};
+
+const LONE_REFERENCE: Fields<'static> = Fields {
+    reference: Some(&[0, 1]),
+    ..WRONG_REFERENCE
+};
+
+const TEXT_AND_PAYLOAD: Fields<'static> = Fields {
+    reference: None,
+    ..LONE_REFERENCE
+};
+
+const RESERVED_CODING: Fields<'static> = Fields {
+    payload: None,
+    ..TEXT_AND_PAYLOAD
+};
+
+const SHORT_HEADER: Fields<'static> = Fields {
+    data_coding: 8,
+    ..RESERVED_CODING
+};
+
+const HALF_A_CHARACTER: Fields<'static> = Fields {
+    text: &[5, 0, 3, 1, 1, 1, 4],
+    ..SHORT_HEADER
+};
+
+const WRONG_VALIDITY: Fields<'static> = Fields {
+    text: &[5, 0, 3, 1, 1, 1, 4, 0x36],
+    ..HALF_A_CHARACTER
+};
+
+const WRONG_SCHEDULE: Fields<'static> = Fields {
+    validity: b"000000000030000R",
+    ..WRONG_VALIDITY
+};
+
+const ALL_MENDED: Fields<'static> = Fields {
+    schedule: b"",
+    ..WRONG_SCHEDULE
+};
+
+// A text behind a header that came, and parts of two by sar values.
+const BEHIND_A_HEADER: Fields<'static> = Fields {
+    esm_class: 0x40,
+    text: &[5, 0, 3, 0x2A, 2, 1, 0x61],
+    ..HELLO
+};
+
+const SAR: Fields<'static> = Fields {
+    text: b"a",
+    reference: Some(&[0, 0x2A]),
+    total: Some(&[2]),
+    number: Some(&[1]),
+    ..HELLO
+};
+
+const SAR_OF_THREE: Fields<'static> = Fields {
+    number: Some(&[3]),
+    ..SAR
+};
+
+// A header that came stays; sar values are one of a 16-bit reference, and are ignored where the third part of two is told.
+const ROWS: &[(&str, Fields<'static>, Wanted)] = &[
+    ("hello", HELLO, Wanted::Plain(b"hello")),
+    (
+        "esm_class",
+        ALL_WRONG,
+        Wanted::Refused(CommandStatus::ESME_RINVESMCLASS),
+    ),
+    (
+        "a source",
+        WRONG_SOURCE,
+        Wanted::Refused(CommandStatus::ESME_RINVSRCADR),
+    ),
+    (
+        "a destination",
+        WRONG_DESTINATION,
+        Wanted::Refused(CommandStatus::ESME_RINVDSTADR),
+    ),
+    (
+        "a parameter's length",
+        WRONG_REFERENCE,
+        Wanted::Refused(CommandStatus::ESME_RINVPARLEN),
+    ),
+    (
+        "a reference behind a header",
+        LONE_REFERENCE,
+        Wanted::Refused(CommandStatus::ESME_ROPTPARNOTALLWD),
+    ),
+    (
+        "a payload beside a text",
+        TEXT_AND_PAYLOAD,
+        Wanted::Refused(CommandStatus::ESME_ROPTPARNOTALLWD),
+    ),
+    (
+        "a reserved data_coding",
+        RESERVED_CODING,
+        Wanted::Refused(CommandStatus::ESME_RSUBMITFAIL),
+    ),
+    (
+        "a header that is cut",
+        SHORT_HEADER,
+        Wanted::Refused(CommandStatus::ESME_RSUBMITFAIL),
+    ),
+    (
+        "half a character",
+        HALF_A_CHARACTER,
+        Wanted::Refused(CommandStatus::ESME_RINVMSGLEN),
+    ),
+    (
+        "a validity period",
+        WRONG_VALIDITY,
+        Wanted::Refused(CommandStatus::ESME_RINVEXPIRY),
+    ),
+    (
+        "a schedule",
+        WRONG_SCHEDULE,
+        Wanted::Refused(CommandStatus::ESME_RINVSCHED),
+    ),
+    ("30 seconds", ALL_MENDED, Wanted::ValidFor(30)),
+    (
+        "a header that came",
+        BEHIND_A_HEADER,
+        Wanted::Carries(b"\x05\x00\x03\x2A\x02\x01\xC2", 8),
+    ),
+    (
+        "a header of a 16-bit reference",
+        SAR,
+        Wanted::Carries(b"\x06\x08\x04\x00\x2A\x02\x01\x61", 9),
+    ),
+    ("the third part of two", SAR_OF_THREE, Wanted::Says(b"a")),
+];
 
 // A payload of a data_coding.
 fn payload<'a>(data_coding: u8, octets: &'a [u8]) -> Fields<'a> {
@@ -218,73 +344,60 @@ fn payload<'a>(data_coding: u8, octets: &'a [u8]) -> Fields<'a> {
         data_coding,
         text: b"",
         payload: Some(octets),
-        ..hello()
+        ..HELLO
     }
-}
-
-fn are_the_most(alloc: Global, octets: &[u8]) -> Result<bool, Fail> {
-    let submission = accepted(alloc, &payload(0, octets))?;
-    Ok(!submission.rejects_duplicates)
 }
 
 // 3GPP TS 23.040 9.2.3.24: 20 parts of 152 septets. One septet more, which Latin 1 writes as well, is too many.
-#[test]
-fn twenty_parts_are_the_most(rt: HostRuntime) -> Result<(), Fail> {
-    let septets = vec![in rt.alloc(); 0x61u8; 3041]?;
-    let all = septets.as_slice();
-    holds(are_the_most(rt.alloc(), &all[..3040])?, "20 parts")?;
-    is_refused(rt.alloc(), &payload(0, all), CommandStatus::ESME_RINVMSGLEN)?;
-    is_refused(rt.alloc(), &payload(3, all), CommandStatus::ESME_RINVMSGLEN)
-}
+const PAYLOADS: &[(u8, usize, Wanted, &str)] = &[
+    (0, 3040, Wanted::Twice, "20 parts"),
+    (
+        0,
+        3041,
+        Wanted::Refused(CommandStatus::ESME_RINVMSGLEN),
+        "more than 20 parts",
+    ),
+    (
+        3,
+        3041,
+        Wanted::Refused(CommandStatus::ESME_RINVMSGLEN),
+        "more than 20 parts in Latin 1",
+    ),
+];
 
-// The text a, part of two by sar values.
-fn sar(number: &'static [u8]) -> Fields<'static> {
-    Fields {
-        text: b"a",
-        reference: Some(&[0, 0x2A]),
-        total: Some(&[2]),
-        number: Some(number),
-        ..hello()
+fn payload_goes(
+    alloc: Global,
+    account: &CentreAccount,
+    now: Moment,
+    row: &(u8, usize, Wanted, &'static str),
+) -> bool {
+    let (data_coding, length, wanted, _) = row;
+    match vec![in alloc; 0x61u8; *length] {
+        Ok(octets) => {
+            let fields = payload(*data_coding, octets.as_slice());
+            is_judged(alloc, account, now, &fields, wanted)
+        }
+        Err(_) => false,
     }
 }
 
-// Whether it is accepted with these octets and that length.
-fn is_carried(alloc: Global, fields: &Fields<'_>, octets: &[u8], length: u8) -> Result<bool, Fail> {
-    let submission = accepted(alloc, fields)?;
-    Ok(carries(&submission, octets, length))
+fn all_go(alloc: Global, account: &CentreAccount, now: Moment) -> Result<(), Fail> {
+    for (name, fields, wanted) in ROWS {
+        holds(is_judged(alloc, account, now, fields, wanted), name)?;
+    }
+    for row in PAYLOADS {
+        holds(payload_goes(alloc, account, now, row), row.3)?;
+    }
+    Ok(())
 }
 
-// A header that came stays; sar values are one of a 16-bit reference, and are ignored where the third part of two is told.
 #[test]
-fn headers_are_carried(rt: HostRuntime) -> Result<(), Fail> {
-    let fields = Fields {
-        esm_class: 0x40,
-        text: &[5, 0, 3, 0x2A, 2, 1, 0x61],
-        ..hello()
-    };
-    holds(
-        is_carried(rt.alloc(), &fields, b"\x05\x00\x03\x2A\x02\x01\xC2", 8)?,
-        "a header that came",
-    )?;
-    holds(
-        is_carried(
-            rt.alloc(),
-            &sar(&[1]),
-            b"\x06\x08\x04\x00\x2A\x02\x01\x61",
-            9,
-        )?,
-        "a header of a 16-bit reference",
-    )?;
-    let submission = accepted(rt.alloc(), &sar(&[3]))?;
-    holds(says(&submission, b"a"), "a text")
-}
-
-// The number 447700900002, those that begin with 4477001, and the name Bank.
-fn allowed(alloc: Global) -> Result<Vec<AllowedSource>, Fail> {
-    let number = AllowedSource::Number(Address::new(1, 1, "447700900002")?.digits);
-    let prefix = AllowedSource::Prefix(Address::new(1, 1, "4477001")?.digits);
-    let name = AllowedSource::Name(Address::new(5, 0, "Bank")?.digits);
-    Ok(vec![in alloc; number, prefix, name]?)
+fn messages_are_accepted_and_refused_in_order(rt: HostRuntime) -> Result<(), Fail> {
+    let now = Moment::from_seconds(NOW)?;
+    match account(rt.alloc(), false) {
+        Some(account) => all_go(rt.alloc(), &account, now),
+        None => Err(Fail::new("no account")),
+    }
 }
 
 // A type of number, an address, and whether it is such a source.
@@ -304,55 +417,67 @@ const SOURCES: &[(u8, &[u8], bool)] = &[
     (5, b"Bank1", false),
 ];
 
-fn is_so(alloc: Global, ton: u8, digits: &'static [u8], is_allowed: bool) -> Result<bool, Fail> {
-    let mut message = message_of(&hello());
-    message.source = SmeAddress {
-        ton,
-        npi: 1,
-        addr: OctetView::of(digits),
-    };
-    match judged(alloc, allowed(alloc)?, &message)? {
-        Ok(_) => Ok(is_allowed),
-        Err(SmppError::Refused(CommandStatus::ESME_RINVSRCADR)) => Ok(!is_allowed),
-        Err(_) => Ok(false),
-    }
-}
-
-#[test]
-fn a_source_that_is_not_allowed_is_refused(rt: HostRuntime) -> Result<(), Fail> {
-    for (ton, digits, is_allowed) in SOURCES {
-        holds(is_so(rt.alloc(), *ton, *digits, *is_allowed)?, "a source")?;
-    }
-    Ok(())
-}
-
-// A wrong source and a wrong destination, of that esm_class.
-fn status_of(alloc: Global, esm_class: u8) -> Result<Option<CommandStatus>, Fail> {
+fn source_goes(
+    alloc: Global,
+    account: &CentreAccount,
+    now: Moment,
+    row: &(u8, &'static [u8], bool),
+) -> bool {
+    let (source_ton, source, is_allowed) = row;
     let fields = Fields {
-        esm_class,
-        source: b"447700900003",
-        destination: b"none",
-        ..hello()
+        source_ton: *source_ton,
+        source: *source,
+        ..HELLO
     };
-    match judged(alloc, allowed(alloc)?, &message_of(&fields))? {
-        Err(SmppError::Refused(status)) => Ok(Some(status)),
-        _ => Ok(None),
-    }
+    let wanted = if *is_allowed {
+        Wanted::Accepted
+    } else {
+        Wanted::Refused(CommandStatus::ESME_RINVSRCADR)
+    };
+    is_judged(alloc, account, now, &fields, &wanted)
 }
+
+// A wrong source and a wrong destination, without and with a wrong esm_class.
+const WRONG_ADDRESSES: Fields<'static> = Fields {
+    source: b"447700900003",
+    destination: b"none",
+    ..HELLO
+};
+
+const WRONG_CLASS_AND_ADDRESSES: Fields<'static> = Fields {
+    esm_class: 4,
+    ..WRONG_ADDRESSES
+};
 
 // The source is judged behind esm_class and before the destination.
-const IN_TURN: &[(u8, CommandStatus)] = &[
-    (0, CommandStatus::ESME_RINVSRCADR),
-    (4, CommandStatus::ESME_RINVESMCLASS),
+const IN_TURN: &[(Fields<'static>, Wanted, &str)] = &[
+    (
+        WRONG_ADDRESSES,
+        Wanted::Refused(CommandStatus::ESME_RINVSRCADR),
+        "a source before a destination",
+    ),
+    (
+        WRONG_CLASS_AND_ADDRESSES,
+        Wanted::Refused(CommandStatus::ESME_RINVESMCLASS),
+        "esm_class before a source",
+    ),
 ];
 
-#[test]
-fn a_source_is_judged_in_its_turn(rt: HostRuntime) -> Result<(), Fail> {
-    for (esm_class, status) in IN_TURN {
-        holds(
-            status_of(rt.alloc(), *esm_class)? == Some(*status),
-            "its turn",
-        )?;
+fn sources_go(alloc: Global, account: &CentreAccount, now: Moment) -> Result<(), Fail> {
+    for row in SOURCES {
+        holds(source_goes(alloc, account, now, row), "a source")?;
+    }
+    for (fields, wanted, name) in IN_TURN {
+        holds(is_judged(alloc, account, now, fields, wanted), name)?;
     }
     Ok(())
+}
+
+#[test]
+fn a_source_that_is_not_allowed_is_refused_in_its_turn(rt: HostRuntime) -> Result<(), Fail> {
+    let now = Moment::from_seconds(NOW)?;
+    match account(rt.alloc(), true) {
+        Some(account) => sources_go(rt.alloc(), &account, now),
+        None => Err(Fail::new("no account")),
+    }
 }

@@ -14,3 +14,11 @@ pub(crate) fn turn_holds(turn: bool, course: &str, at: usize) -> Result<(), Fail
         Err(Fail::new(format_args!("{course}: turn {at}")))
     }
 }
+
+/// What was made, where it was.
+pub(crate) fn made<T>(value: Option<T>, name: &str) -> Result<T, Fail> {
+    match value {
+        Some(value) => Ok(value),
+        None => Err(Fail::new(name)),
+    }
+}

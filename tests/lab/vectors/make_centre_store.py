@@ -12,6 +12,7 @@ TABLES = [
     "CREATE TABLE report (place INTEGER NOT NULL, message INTEGER NOT NULL, kind TEXT NOT NULL, reference INTEGER, tpdu BLOB, made INTEGER NOT NULL, is_done INTEGER NOT NULL, attempts INTEGER NOT NULL, due INTEGER NOT NULL, UNIQUE (place)) STRICT",
     "CREATE TABLE priority (message INTEGER NOT NULL, priority INTEGER NOT NULL, UNIQUE (message)) STRICT",
     "CREATE INDEX report_message ON report (message)",
+    "CREATE TABLE bar (place INTEGER NOT NULL, source_ton INTEGER NOT NULL, source_npi INTEGER NOT NULL, source TEXT NOT NULL, handset TEXT NOT NULL, reference INTEGER NOT NULL, is_own INTEGER NOT NULL, UNIQUE (place)) STRICT",
 ]
 
 T0 = 1709251198  # 29 February 2024, 23:59:58
@@ -81,7 +82,7 @@ def main(folder):
         store.execute("BEGIN")
         for table in TABLES:
             store.execute(table)
-        put(store, "meta", [(2, "centre")])
+        put(store, "meta", [(3, "centre")])
         put(store, "message", messages)
         put(store, "part", parts)
         put(store, "given_reference", given)

@@ -1,5 +1,7 @@
 -- What is kept once a plan was put in is that of the centre after the event.
-use Rattle.std.proofs.Common.{◌≡◌, ℕ, List, sym, ◌∙◌, ap, subst}
+use Rattle.std.proofs.Common.{◌≡◌, ℕ, List, [], sym, ◌∙◌, ap, subst}
+use Rattle.sms_rows.specs.declared.table.change.Change.{Change}
+use Rattle.sms_rows.specs.table.Since.{oldest_first as changes_of}
 use Rattle.sms_rows.specs.table.Table.{Rises, all_applied}
 use Rattle.sms_centre_messages.specs.references.ReferenceIndex.{ReferenceIndexOf, Represents as ReferencesRepresent}
 use Rattle.sms_centre_messages.specs.references.Moves.{AreMoves, ArePartMoves}
@@ -7,12 +9,15 @@ use Rattle.sms_centre_messages.specs.reference_moves.ClaimMoves.{MoveReferenceIn
 use Rattle.sms_centre_messages.proofs.reference_moves.EventMoves.{event_moves}
 use Rattle.sms_centre_reports.specs.open_reports.OpenReports.{OpenReportsOf, Represents as RepresentsReports}
 use Rattle.sms_centre_messages.specs.message_index.MessageIndex.{Represents, MessageIndexOf, Matches}
+use Rattle.sms_centre_rows.specs.declared.messages.bar.BarRow.{BarRow}
 use Rattle.sms_centre_rows.specs.declared.messages.message.MessageRow.{MessageRow}
 use Rattle.sms_centre_rows.specs.declared.messages.part.PartRow.{PartRow}
+use Rattle.sms_centre_rows.specs.messages.Bars.{bar_key}
 use Rattle.sms_centre_rows.specs.messages.Messages.{message_key, part_key, part_reaching}
 use Rattle.sms_centre_rows.specs.reports.Receipts.{Session}
 use Rattle.sms_centre_queue.specs.queues.Plan.{IsAdopted}
 use Rattle.sms_centre_queue.specs.queues.Queues.{DeliveryQueuesOf}
+use Rattle.sms_centre_rows.specs.declared.waiting.revision.Revision.{Revision}
 use Rattle.sms_centre_rows.specs.waiting.Revisions.{all_revised}
 use Rattle.sms_centre_spec.specs.declared.event.CentreEvent.{CentreEvent}
 use Rattle.sms_centre_spec.specs.declared.rows.Changes.{Changes}
@@ -22,10 +27,16 @@ use Rattle.sms_centre_spec.specs.CentreEvent.{happened}
 use Rattle.sms_centre_spec.specs.Draft.{Core, Draft, core_of, messages_in, parts_in, reports_in, rows_after}
 use Rattle.sms_centre_spec.specs.SoundCore.{IsEvent}
 use Rattle.sms_centre_spec.proofs.EventLaws.{stays_sound}
-use Rattle.sms_centre_spec.proofs.Resting.{happened_rests, happened_consistent}
+use Rattle.sms_centre_spec.proofs.Resting.{happened_bars, happened_consistent, happened_rests}
 use Rattle.sms_centre.specs.declared.plans.event_outcome.EventOutcome.{EventOutcome}
 use Rattle.sms_centre.specs.plans.EventOutcome.{IsOutcome}
 use Rattle.sms_centre_draft.specs.Beginning.{IsCentre}
+
+-- what an event moves of messages and parts was put in
+abbrev pub Moved : ReferenceIndexOf → ReferenceIndexOf → List (Change MessageRow) → List (Revision PartRow) → List (Change BarRow) → Type 0
+Moved old new m r b =
+    (bs : List BarRow) (ms : List MessageRow) (ps : List PartRow) → ReferencesRepresent old bs ms ps → Rises message_key ms → Rises part_key ps → b ≡ [] → AreMoves m ms ps
+    → ArePartMoves m r (all_applied message_key m ms) ps → ReferencesRepresent new bs (all_applied message_key m ms) (all_revised part_key part_reaching r ps)
 
 module _ (event : CentreEvent) (c : Core) (p : EventOutcome) (is : IsEvent event) (planned : IsOutcome (happened event c) p) where
   rows_are : rows_after p.changes c.rows ≡ (core_of (happened event c)).rows
@@ -51,12 +62,13 @@ module _ (event : CentreEvent) (c : Core) (p : EventOutcome) (is : IsEvent event
       }
 
   pub reference_index_after : (setup : Setup) (moment : ℕ) (messages : MessageIndexOf) (queues : DeliveryQueuesOf) (reports : OpenReportsOf) (sessions : List Session) (reference_index claimed : ReferenceIndexOf) → IsCentre c setup moment messages queues reports sessions
-      → ReferencesRepresent reference_index c.rows.messages c.rows.parts
-      → ((ms : List MessageRow) (ps : List PartRow) → ReferencesRepresent reference_index ms ps → Rises message_key ms → Rises part_key ps → AreMoves p.changes.messages ms ps
-      → ArePartMoves p.changes.messages p.changes.parts (all_applied message_key p.changes.messages ms) ps
-      → ReferencesRepresent claimed (all_applied message_key p.changes.messages ms) (all_revised part_key part_reaching p.changes.parts ps))
-      → ReferencesRepresent claimed (core_of (happened event c)).rows.messages (core_of (happened event c)).rows.parts
+      → ReferencesRepresent reference_index c.rows.bars c.rows.messages c.rows.parts
+      → Moved reference_index claimed p.changes.messages p.changes.parts p.changes.bars
+      → ReferencesRepresent claimed (core_of (happened event c)).rows.bars (core_of (happened event c)).rows.messages (core_of (happened event c)).rows.parts
   reference_index_after setup moment messages queues reports sessions reference_index claimed was holds moved =
       let moves : MoveReferenceIndex p.changes c.rows = subst (λ (x : Changes). MoveReferenceIndex x c.rows) (sym planned.changes) (event_moves event c was.sound is) in
-      subst (λ (r : Rows). ReferencesRepresent claimed r.messages r.parts) rows_are
-      (moved c.rows.messages c.rows.parts holds was.sound.rows.messages.message_keys was.sound.rows.messages.part_keys moves.messages moves.parts)
+      let none : p.changes.bars ≡ [] = ap (λ (x : Changes). x.bars) planned.changes ∙ ap (λ (l : List (Change BarRow)). changes_of l) (happened_bars event c) in
+      let after : Rows = rows_after p.changes c.rows in
+      subst (λ (r : Rows). ReferencesRepresent claimed r.bars r.messages r.parts) rows_are
+      (subst (λ (bs : List BarRow). ReferencesRepresent claimed bs after.messages after.parts) (sym (ap (λ (l : List (Change BarRow)). all_applied bar_key l c.rows.bars) none))
+      (moved c.rows.bars c.rows.messages c.rows.parts holds was.sound.rows.messages.message_keys was.sound.rows.messages.part_keys none moves.messages moves.parts))

@@ -39,7 +39,7 @@ module _ (up : Bool) (rows : Rows) (ns : List (List ℕ)) (ss : List Session) (s
   begins_sound true = started_sound rows ns ss sound are apart keys (new_session rows ss new)
   begins_sound false = recovered_sound rows ns ss sound are apart keys (new_session rows ss new)
 
-  pub begun_represents : (s : CentreStateOf) → s.setup ≡ rows.setup → s.moment ≡ moment_of rows → MessagesRepresent s.messages rows.messages rows.parts → ReferencesRepresent s.reference_index rows.messages rows.parts
+  pub begun_represents : (s : CentreStateOf) → s.setup ≡ rows.setup → s.moment ≡ moment_of rows → MessagesRepresent s.messages rows.messages rows.parts → ReferencesRepresent s.reference_index rows.bars rows.messages rows.parts
       → QueuesRepresent rows.handsets rows.references (lines_of up ns) (λ (n : List ℕ). all_for n rows) s.queues → RepresentsReports rows.messages s.reports rows.reports → LogRepresents s.log rows.reports
       → s.sessions.rows ≡ ss → StateRepresents (begun up rows ns ss) s
   begun_represents s setup moment messages reference_index queues reports log sessions = record {

@@ -42,5 +42,5 @@ pub record IsOutcome (d : Draft) (p : EventOutcome) : Type 0 where
 -- it can be put in without taking memory
 pub record FitsIn (message_index : MessageIndexOf) (claimed : ReferenceIndexOf) (p : EventOutcome) : Type 0 where
   pub messages : FitsMessages p.next_state.messages (length p.changes.messages) message_index
-  pub reference_index : FitsReferenceIndex p.next_state.reference_index (length p.changes.messages) (length p.changes.parts) claimed
+  pub reference_index : FitsReferenceIndex p.next_state.reference_index (length p.changes.messages) (length p.changes.parts) (length p.changes.bars) claimed
   pub queues : FitsQueues p.next_state.queues

@@ -33,6 +33,6 @@ pub record CentreStateOf : Type 0 where
 -- It is that centre: a sound one, whose sessions wait for open receipts of their accounts alone.
 pub record Represents (c : Core) (s : CentreStateOf) : Type 0 where
   pub centre : IsCentre c s.setup s.moment s.messages s.queues s.reports s.sessions.rows
-  pub reference_index : ReferencesRepresent s.reference_index c.rows.messages c.rows.parts
+  pub reference_index : ReferencesRepresent s.reference_index c.rows.bars c.rows.messages c.rows.parts
   pub log : LogRepresents s.log c.rows.reports
   pub awaited : AreAwaited c.rows.messages c.rows.reports c.sessions

@@ -42,15 +42,17 @@ impl EventOutcome {
             → IsCentre (core_of (happened event c)) setup moment.new messages.new queues.new reports.new sessions.new.rows }
         ensures reference_index { (event : CentreEventOf) (c : Core) (setup : SetupOf) → IsEvent event → IsOutcome (happened event c) self
             → IsCentre c setup moment.old messages.old queues.old reports.old sessions.old.rows
-            → ReferencesRepresent reference_index.old c.rows.messages c.rows.parts
-            → ReferencesRepresent reference_index.new (core_of (happened event c)).rows.messages (core_of (happened event c)).rows.parts }
+            → ReferencesRepresent reference_index.old c.rows.bars c.rows.messages c.rows.parts
+            → ReferencesRepresent reference_index.new (core_of (happened event c)).rows.bars (core_of (happened event c)).rows.messages
+            (core_of (happened event c)).rows.parts }
         ensures forgotten { (before from most : ℕ) (c : Core) (setup : SetupOf) → IsOutcome (forget before from most c) self
             → IsCentre c setup moment.old messages.old queues.old reports.old sessions.old.rows
             → IsCentre (core_of (forget before from most c)) setup moment.new messages.new queues.new reports.new sessions.new.rows }
         ensures reference_index_forgets { (before from most : ℕ) (c : Core) (setup : SetupOf) → IsOutcome (forget before from most c) self
             → IsCentre c setup moment.old messages.old queues.old reports.old sessions.old.rows
-            → ReferencesRepresent reference_index.old c.rows.messages c.rows.parts
-            → ReferencesRepresent reference_index.new (core_of (forget before from most c)).rows.messages (core_of (forget before from most c)).rows.parts }
+            → ReferencesRepresent reference_index.old c.rows.bars c.rows.messages c.rows.parts
+            → ReferencesRepresent reference_index.new (core_of (forget before from most c)).rows.bars (core_of (forget before from most c)).rows.messages
+            (core_of (forget before from most c)).rows.parts }
     {
         let EventOutcome {
             changes,
@@ -72,8 +74,9 @@ impl EventOutcome {
             handsets,
             reports: reported,
             priorities,
+            bars,
         } = changes;
-        reference_index.adopt(claimed, put.as_slice(), parts.as_slice());
+        reference_index.adopt(claimed, put.as_slice(), parts.as_slice(), bars.as_slice());
         messages.adopt(reserve, put);
         queues.adopt(settled);
         *moment = now;
@@ -86,6 +89,7 @@ impl EventOutcome {
             handsets,
             reports: reported,
             priorities,
+            bars,
         };
         (changes, outputs)
     }

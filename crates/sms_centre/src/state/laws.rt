@@ -4,7 +4,7 @@ ghost use Rattle.sms_centre_messages.specs.message_index.MessageIndex.{Represent
 ghost use Rattle.sms_centre_rows.specs.messages.Messages.{message_key, part_key};
 ghost use Rattle.sms_centre_reports.specs.sessions.Awaited.{AreAwaited};
 ghost use Rattle.sms_rows.specs.table.Table.{Rises};
-ghost use Rattle.sms_centre_spec.specs.Draft.{Core, draft_of, messages_in, parts_in, reports_in};
+ghost use Rattle.sms_centre_spec.specs.Draft.{Core, bars_in, draft_of, messages_in, parts_in, reports_in};
 ghost use Rattle.sms_centre_spec.specs.SoundCore.{IsSoundCore};
 ghost use Rattle.sms_centre.specs.state.CentreState.{Represents, CentreStateOf};
 
@@ -15,7 +15,7 @@ pub fn a_state_meets_what_events_require()
     ensures messages { (c : Core) (s : CentreStateOf) → Represents c s
         → MessagesRepresent s.messages (messages_in (draft_of c).store) (parts_in (draft_of c).store) }
     ensures reference_index { (c : Core) (s : CentreStateOf) → Represents c s
-        → ReferencesRepresent s.reference_index (messages_in (draft_of c).store) (parts_in (draft_of c).store) }
+        → ReferencesRepresent s.reference_index (bars_in (draft_of c).store) (messages_in (draft_of c).store) (parts_in (draft_of c).store) }
     ensures awaited { (c : Core) (s : CentreStateOf) → Represents c s
         → AreAwaited (messages_in (draft_of c).store) (reports_in (draft_of c).store) (draft_of c).bindings.sessions }
     ensures message_order { (c : Core) (s : CentreStateOf) → Represents c s → Rises message_key c.rows.messages }

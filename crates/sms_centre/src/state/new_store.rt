@@ -20,6 +20,7 @@ pub fn first_rows(alloc: Global, setup: Setup) -> Rows
         handsets: Listed::new(alloc),
         reports: Listed::new(alloc),
         priorities: Listed::new(alloc),
+        bars: Listed::new(alloc),
         setup,
     }
 }

@@ -1,6 +1,6 @@
 -- Old status reports are dropped one after the other as what is kept of them tells: the walk goes on behind each.
-use Rattle.std.proofs.Common.{◌≡◌, ℕ, ◌+◌, ◌<◌, ◌≤◌, List, [], ◌∷◌, Bool, true, false, Option, Some, None, refl, sym, ◌∙◌, ap, subst, ⊎_elim, arith}
-use Rattle.std.specs.Prelude.{◌==◌, if◌then◌else◌, nat_lt}
+use Rattle.std.proofs.Common.{◌≡◌, ℕ, ◌+◌, ◌<◌, ◌≤◌, List, [], ◌∷◌, true, false, Option, Some, None, refl, sym, ◌∙◌, ap, subst, ⊎_elim, arith}
+use Rattle.std.specs.Prelude.{◌==◌, nat_lt}
 use Rattle.std.proofs.lemmas.Bool.{cases_Bool, cases_eq, cases_lt, cond-true, cond-false, eq-eqb, le-ltb, lt-ltb, ne_eqb}
 use Rattle.sms_base.specs.Among.{Among}
 use Rattle.sms_rows.specs.table.Table.{AllAbove, Rises, rows_from}
@@ -19,6 +19,8 @@ use Rattle.sms_centre_spec.specs.Draft.{Store, reports_in, with_reports}
 use Rattle.sms_centre_spec.specs.Transfers.{report_closed}
 use Rattle.sms_centre_spec.proofs.SteadyTimes.{report_none}
 use Rattle.sms_centre_draft.specs.walks.OldReports.{drop_from}
+use Rattle.sms_centre_reports.proofs.open_reports.Keeping.{kept_where}
+use Rattle.sms_centre_reports.proofs.open_reports.Amended.{from_first}
 
 -- ---- rows from a place on
 
@@ -44,12 +46,8 @@ drops (r ∷ rs) t s =
     ∙ ap (λ (x : Revised ReportRow). with_reports (drop_old s.moment rs x) s) (sym (cond-false (is_old s.moment r) u t b)))
     (cases_Bool (is_old s.moment r))
 
-from_zero : (rs : List ReportRow) → rows_from report_key 0 rs ≡ rs
-from_zero [] = refl
-from_zero (r ∷ rs) = from_here 0 r rs (omega arith)
-
 pub drops_begin : (s : Store) → dropped s ≡ drop_from 0 s
-drops_begin s = ap (λ (rs : List ReportRow). drop_all rs s) (sym (from_zero (reports_in s)))
+drops_begin s = ap (λ (rs : List ReportRow). drop_all rs s) (sym (from_first (reports_in s)))
 
 -- ---- a report that was dropped is behind the walk
 
@@ -93,10 +91,6 @@ module _ (n : ℕ) (q : Progress) where
 pub drops_end : (s : Store) (first : ℕ) → drop_old s.moment (rows_from report_key first (reports_in s)) s.reports ≡ s.reports → drop_from first s ≡ s
 drops_end s first none =
     drops (rows_from report_key first (reports_in s)) s.reports s ∙ ap (λ (t : Revised ReportRow). with_reports t s) none
-
-kept_where : {B : Type 0} (t : Bool) (x b : B) → (if t then Some x else None) ≡ Some b → (t ≡ true) × (x ≡ b)
-kept_where true x b e = (refl, cc)
-kept_where false x b e = absurd cc
 
 found_alone : (r : ReportRow) (o : Option ReportRow) (rs : List ReportRow) → report_of r.id rs ≡ o → Alone rs → Among r rs → report_of r.id rs ≡ Some r
 found_alone r None rs e alone among = absurd (report_none r.id r rs e among refl)

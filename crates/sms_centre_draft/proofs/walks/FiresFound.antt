@@ -1,6 +1,7 @@
 -- Timers fire at the lines that are found as the walk begins, whatever comes of those that fired before.
 use Rattle.std.proofs.Common.{◌≡◌, ℕ, ◌+◌, List, [], ◌∷◌, ◌++◌, Bool, true, false, Option, Some, None, refl, sym, ◌∙◌, ap, ⊎_elim, is_none, append-nil, arith}
 use Rattle.std.specs.Prelude.{◌&&◌, filter, if◌then◌else◌}
+use Rattle.sms_base.proofs.OctetLaws.{cases_octets}
 use Rattle.sms_control.specs.DueTimers.{is_due}
 use Rattle.sms_control.specs.LinkStep.{Step, quiet}
 use Rattle.sms_control.proofs.QuietTimers.{quiet_timers}
@@ -13,14 +14,13 @@ use Rattle.sms_centre_rows.specs.declared.waiting.handset_link.Sent.{Sent}
 use Rattle.sms_centre_rows.specs.waiting.Links.{Links, filled, line_at, line_of, or_new_line, turn_line, turned}
 use Rattle.sms_centre_rows.specs.waiting.References.{handset_at}
 use Rattle.sms_centre_rows.specs.waiting.SoundAllocations.{SoundAllocations}
-use Rattle.sms_centre_rows.proofs.waiting.LinksRepresented.{line_put_other}
-use Rattle.sms_centre_rows.proofs.waiting.Mentions.{cases_number, number_behind, number_here}
+use Rattle.sms_centre_rows.proofs.waiting.LinksRepresented.{line_of_handset, line_put_other}
+use Rattle.sms_centre_rows.proofs.waiting.Mentions.{number_behind, number_here}
 use Rattle.sms_centre_queue.specs.declared.queues.concern.ConcernedHandset.{ConcernedHandset}
 use Rattle.sms_centre_queue.specs.declared.queues.concern.Concern.TheVariants.{Fire, FireUnmentioned}
 use Rattle.sms_centre_queue.specs.queues.LineOrder.{AreLines}
 use Rattle.sms_centre_queue.specs.queues.Stops.{is_stop, line_stops, mention_stops}
 use Rattle.sms_centre_queue.specs.queues.Walks.{walk}
-use Rattle.sms_centre_queue.proofs.queues.LinkPlaces.{line_handset}
 use Rattle.sms_centre_queue.proofs.queues.StopsApart.{lines_apart, mentions_apart}
 use Rattle.sms_centre_spec.specs.declared.verdict.Verdict.{Verdict}
 use Rattle.sms_centre_spec.specs.declared.verdict.Verdict.TheVariants.{Settled, HandsetFull, Again, Refused, Late}
@@ -70,7 +70,7 @@ acts number d e = acts_at number (line_at number d.links.lines) d e
 ended_other : (v : Verdict) (handset other : List ℕ) (links : Links) → ¬ (handset ≡ other) → line_of other (line_ended v handset links).lines ≡ line_of other links.lines
 ended_other Settled handset other links ne = refl
 ended_other HandsetFull handset other links ne =
-    line_put_other other (filled (line_of handset links.lines)) links.lines (λ e. ne (sym (line_handset handset links.lines) ∙ e))
+    line_put_other other (filled (line_of handset links.lines)) links.lines (λ e. ne (sym (line_of_handset handset links.lines) ∙ e))
 ended_other Again handset other links ne = refl
 ended_other Refused handset other links ne = refl
 ended_other Late handset other links ne = refl
@@ -129,7 +129,7 @@ unmentioned_left (h ∷ hs) number d none = ⊎_elim
     let here = leaves h.number number d ne in
     let rest = unmentioned_left hs number (fire_there h.number d) (sym (number_behind number h hs ne) ∙ none) in
     record { line = rest.line ∙ here.line; moment = rest.moment ∙ here.moment })
-    (cases_number h.number number)
+    (cases_octets h.number number)
 
 -- ---- the handsets that were given none
 

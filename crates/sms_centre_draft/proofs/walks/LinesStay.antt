@@ -1,10 +1,10 @@
 -- A line that is put as it stands changes nothing, and each line stands as that of its handset.
 use Rattle.std.proofs.Common.{◌≡◌, ℕ, List, [], ◌∷◌, Option, Some, sym, ◌∙◌, ap, ⊎_elim}
+use Rattle.sms_base.proofs.OctetLaws.{cases_octets}
 use Rattle.sms_base.specs.Among.{Among}
 use Rattle.sms_centre_rows.specs.declared.waiting.handset_link.HandsetLink.{HandsetLink}
 use Rattle.sms_centre_rows.specs.waiting.Links.{line_at, line_of, or_new_line, with_line}
 use Rattle.sms_centre_rows.proofs.waiting.LinksRepresented.{line_behind, line_here}
-use Rattle.sms_centre_rows.proofs.waiting.Mentions.{cases_number}
 use Rattle.sms_centre_queue.specs.queues.LineOrder.{AreLines}
 use Rattle.sms_centre_queue.proofs.queues.LinkPlaces.{put_behind, put_here}
 use Rattle.sms_centre_queue.proofs.queues.StopOrder.{none_later}
@@ -21,7 +21,7 @@ put_same number l (x ∷ xs) e = ⊎_elim
     let later : line_at number xs ≡ Some l = sym (line_behind number x xs ne) ∙ e in
     let own : l.handset ≡ number = (line_found number l xs later).1 in
     put_behind l x xs (λ q. ne (q ∙ own)) ∙ ap (λ (ls : List HandsetLink). x ∷ ls) (put_same number l xs later))
-    (cases_number x.handset number)
+    (cases_octets x.handset number)
 
 pub line_own : (l : HandsetLink) (ls : List HandsetLink) → AreLines ls → Among l ls → line_of l.handset ls ≡ l
 line_own l [] apart m = elim m [ ]

@@ -24,11 +24,11 @@ use Rattle.sms_centre_spec.specs.Ends.{end, is_wished, report_to, status_given}
 use Rattle.sms_centre_spec.specs.Submitting.{reference_for}
 use Rattle.sms_centre_spec.specs.Transfers.{complete, conclude, holder_ended, part_ended, part_ended_at, part_ended_of, report_ended, report_ended_at, verdict_on}
 
-status_moment : (f : FinalState) (m : MessageRow) (h : HandsetRow) (o : Option ℕ) (s : Store) → (status_given f m h o s).moment ≡ s.moment
+pub status_moment : (f : FinalState) (m : MessageRow) (h : HandsetRow) (o : Option ℕ) (s : Store) → (status_given f m h o s).moment ≡ s.moment
 status_moment f m h None s = refl
 status_moment f m h (Some r) s = refl
 
-report_moment : (o : Originator) (f : FinalState) (m : MessageRow) (s : Store) → (report_to o f m s).moment ≡ s.moment
+pub report_moment : (o : Originator) (f : FinalState) (m : MessageRow) (s : Store) → (report_to o f m s).moment ≡ s.moment
 report_moment (Application account) f m s = refl
 report_moment (Handset n) f m s = let h : HandsetRow = handset_of m.source.digits (handsets_in s) in status_moment f m h (reference_for h s) s
 

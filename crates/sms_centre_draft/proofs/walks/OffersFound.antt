@@ -10,11 +10,10 @@ use Rattle.sms_centre_rows.specs.waiting.Keys.{queued_key}
 use Rattle.sms_centre_rows.specs.waiting.Links.{Links, is_ready, line_of, read_for, turned}
 use Rattle.sms_centre_rows.specs.waiting.SoundAllocations.{SoundAllocations}
 use Rattle.sms_centre_rows.specs.waiting.Waiting.{next, waits_beside}
-use Rattle.sms_centre_rows.proofs.waiting.LinksRepresented.{line_put_other}
+use Rattle.sms_centre_rows.proofs.waiting.LinksRepresented.{line_of_handset, line_put_other}
 use Rattle.sms_centre_queue.specs.declared.queues.concern.Concern.TheVariants.{Offer}
 use Rattle.sms_centre_queue.specs.queues.Stops.{is_offered, is_stop, mention_stops}
 use Rattle.sms_centre_queue.specs.queues.Walks.{walk}
-use Rattle.sms_centre_queue.proofs.queues.LinkPlaces.{line_handset}
 use Rattle.sms_centre_queue.proofs.queues.StopsApart.{mentions_apart}
 use Rattle.sms_centre_spec.specs.Draft.{Draft, Store, handsets_in, on_links, references_in, waiting_in}
 use Rattle.sms_centre_spec.specs.Offering.{holder_of, is_made, offer, offer_all, offer_among, offer_queued, offer_on, read_of, unit_of}
@@ -44,12 +43,12 @@ rests_on number line s links own e =
     (λ t. refl)
 
 rests : (number : List ℕ) (d : Draft) → concerns number d ≡ false → offer_at number d ≡ d
-rests number d e = ap (λ (a : Links). on_links a d) (rests_on number (line_of number d.links.lines) d.store d.links (line_handset number d.links.lines) e)
+rests number d e = ap (λ (a : Links). on_links a d) (rests_on number (line_of number d.links.lines) d.store d.links (line_of_handset number d.links.lines) e)
 
 -- ---- the lines of others stay
 
 -- reading touches no line
-read_lines : (l : QueuedPart) (s : Store) (links : Links) → (read_of l s links).lines ≡ links.lines
+pub read_lines : (l : QueuedPart) (s : Store) (links : Links) → (read_of l s links).lines ≡ links.lines
 read_lines l s links = cond_both (is_made l s) links (read_for (queued_key l) links) (λ (a : Links). a.lines ≡ links.lines) (λ t. refl) (λ t. refl)
 
 queued_other : (line : HandsetLink) (all_queued : List QueuedPart) (o : Option QueuedPart) (s : Store) (links : Links) (other : List ℕ) → ¬ (line.handset ≡ other) → line_of other (offer_queued line all_queued o s links).lines ≡ line_of other links.lines
@@ -66,7 +65,7 @@ on_other line s links other ne =
 others : (number other : List ℕ) (d : Draft) → ¬ (number ≡ other) → concerns other (offer_at number d) ≡ concerns other d
 others number other d ne =
     ap (λ (l : HandsetLink). is_offered d.store.moment l (waiting_in other d.store))
-    (on_other (line_of number d.links.lines) d.store d.links other (λ e. ne (sym (line_handset number d.links.lines) ∙ e)))
+    (on_other (line_of number d.links.lines) d.store d.links other (λ e. ne (sym (line_of_handset number d.links.lines) ∙ e)))
 
 -- ---- all of it
 

@@ -1,6 +1,6 @@
 -- What is offered to one handset.
 use Rattle.std.proofs.Common.{◌≡◌, ℕ, List, [], ◌∷◌, ◌++◌, Bool, true, false, Option, Some, None, Result, Ok, Err, refl, sym, ◌∙◌, ap, subst, cond, inl, inr, ⊎_elim}
-use Rattle.std.proofs.lemmas.Bool.{cond_both}
+use Rattle.sms_base.proofs.Lists.{among_front}
 use Rattle.sms_base.specs.Among.{Among}
 use Rattle.sms_rows.specs.keep.Refusing.{with_answer, with_read}
 use Rattle.sms_rows.specs.declared.keep.refusals.Refusals.{Refusals}
@@ -13,18 +13,20 @@ use Rattle.sms_centre_rows.specs.waiting.Keys.{queued_key}
 use Rattle.sms_centre_rows.specs.waiting.Links.{Links, is_ready, line_of, read_for, turn_line}
 use Rattle.sms_link.specs.LinkTurn.{begun}
 use Rattle.sms_centre_rows.specs.waiting.References.{Allocations}
-use Rattle.sms_centre_rows.specs.waiting.Waiting.{if_due, is_due, next, preceding, precedes}
+use Rattle.sms_centre_rows.specs.waiting.Waiting.{next}
 use Rattle.sms_centre_spec.specs.declared.plan_error.PlanError.{PlanError}
 use Rattle.sms_centre_spec.specs.declared.plan_error.PlanError.TheVariants.{NoBody, NoMemory}
 use Rattle.sms_centre_spec.specs.Draft.{Draft, Store, on_links, waiting_in}
 use Rattle.sms_centre_spec.specs.Offering.{holder_of, is_made, offer_queued, read_of, tpdu_of}
-use Rattle.sms_centre_spec.proofs.SoundLinks.{line_of_handset}
+use Rattle.sms_centre_spec.proofs.SoundOffers.{next_waits}
 use Rattle.sms_centre_draft.specs.walks.Stepping.{offer_at}
 use Rattle.sms_centre_events.specs.offering.Refusing.{SucceedsOrRefuses, NoneRefused, UnlessMemory}
 use Rattle.sms_centre_events.specs.offering.Offered.{next_for, offer_in, offer_next}
 use Rattle.sms_centre_draft.specs.CentreDraft.{Represents, CentreDraftOf, all_waiting}
 use Rattle.sms_centre_draft.proofs.RepresentedMoves.{aired_represented}
+use Rattle.sms_centre_draft.proofs.walks.OffersFound.{read_lines}
 use Rattle.sms_centre_events.specs.offering.Stored.{made_tpdu}
+use Rattle.sms_centre_rows.proofs.waiting.LinksRepresented.{line_of_handset}
 
 -- ---- the next one is offered
 
@@ -40,20 +42,6 @@ offer_is_next handset d =
     (ap (λ (n : List ℕ). cond (is_ready line) (offer_queued line (waiting_in n d.store) (next d.store.moment (waiting_in n d.store)) d.store d.links) d.links) (line_of_handset handset d.links.lines)
     ∙ one_way (is_ready line) line (waiting_in handset d.store) d.store d.links)
 
-next_waits : (now : ℕ) (l : QueuedPart) (ls : List QueuedPart) → next now ls ≡ Some l → Among l ls
-next_waits now l [] e = absurd cc
-next_waits now l (x ∷ xs) e = which (if_due now x) (next now xs) (λ y q. due y q) (λ q. next_waits now l xs q) e
-  where
-    due : (y : QueuedPart) → if_due now x ≡ Some y → y ≡ x
-    due y q = cond_both (is_due now x) (Some x) None (λ o. o ≡ Some y → y ≡ x) (λ t f. let same : y ≡ x = cc in same) (λ t f. absurd cc) q
-
-    which : (a b : Option QueuedPart) → ((y : QueuedPart) → a ≡ Some y → y ≡ x) → (b ≡ Some l → Among l xs) → preceding a b ≡ Some l → Among l (x ∷ xs)
-    which None b f g q = inr (g q)
-    which (Some y) None f g q = let same : l ≡ y = cc in inl (same ∙ f y refl)
-    which (Some y) (Some z) f g q =
-        cond_both (precedes z y) z y (λ w. Some w ≡ Some l → Among l (x ∷ xs))
-        (λ t h. inr (g h)) (λ t h. let same : l ≡ y = cc in inl (same ∙ f y refl)) q
-
 next_by : (b : Bool) (now : ℕ) (l : QueuedPart) (ls : List QueuedPart) → cond b (next now ls) None ≡ Some l → Among l ls
 next_by true now l ls e = next_waits now l ls e
 next_by false now l ls e = absurd cc
@@ -63,10 +51,6 @@ pub next_among : (handset : List ℕ) (l : QueuedPart) (d : Draft) → next_for 
 next_among handset l d e = next_by (is_ready (line_of handset d.links.lines)) d.store.moment l (waiting_in handset d.store) e
 
 -- ---- what is read
-
-among_front : {A : Type 0} (x : A) (xs ys : List A) → Among x xs → Among x (xs ++ ys)
-among_front x [] ys among = absurd among
-among_front x (z ∷ xs) ys among = ⊎_elim (λ (e : x ≡ z). inl e) (λ (a : Among x xs). inr (among_front x xs ys a)) among
 
 among_last : {A : Type 0} (x : A) (xs : List A) → Among x (xs ++ x ∷ [])
 among_last x [] = inl refl
@@ -91,13 +75,6 @@ pub offer_reads : (handset : List ℕ) (d : Draft) (k : ℕ) → Among k d.links
 offer_reads handset d k among = subst (λ (e : Draft). Among k e.links.read) (sym (offer_is_next handset d)) (offered_reads handset (next_for handset d) d k among)
 
 -- ---- reads are not seen on lines
-
-lines_by : (b : Bool) (key : ℕ) (links : Links) → (cond b links (read_for key links)).lines ≡ links.lines
-lines_by true key links = refl
-lines_by false key links = refl
-
-pub read_lines : (l : QueuedPart) (s : Store) (links : Links) → (read_of l s links).lines ≡ links.lines
-read_lines l s links = lines_by (is_made l s) (queued_key l) links
 
 clock_by : (b : Bool) (key : ℕ) (g : Allocations) (links : Links) (waiting : List ℕ → List QueuedPart) (p : QueuesOf) → RepresentsQueues g links waiting p → RepresentsQueues g (cond b links (read_for key links)) waiting p
 clock_by true key g links waiting p represents = represents

@@ -1,6 +1,7 @@
 -- What is planned with a store that answers every read but one.
 use Rattle.std.proofs.Common.{◌≡◌, ℕ, List, [], ◌∷◌, Bool, true, false, Option, Some, None, Ok, Err, refl, sym, ◌∙◌, ap, ⊎_elim, cond, eq-eqb}
 use Rattle.std.specs.Prelude.{◌==◌, ◌&&◌, not}
+use Rattle.sms_base.proofs.Bools.{and_false}
 use Rattle.sms_base.specs.Among.{Among}
 use Rattle.sms_centre_spec.specs.declared.plan_error.PlanError.TheVariants.{NoBody}
 use Rattle.sms_centre_spec.specs.Draft.{Draft}
@@ -10,10 +11,6 @@ use Rattle.sms_centre_events.specs.offering.Refusing.{answers_but}
 all_true : (keys : List ℕ) → all_answered (answers_but None) keys ≡ true
 all_true [] = refl
 all_true (k ∷ ks) = all_true ks
-
-and_false : (b : Bool) → (b && false) ≡ false
-and_false true = refl
-and_false false = refl
 
 one_false : (key : ℕ) (keys : List ℕ) → Among key keys → all_answered (answers_but (Some key)) keys ≡ false
 one_false key [] among = absurd among

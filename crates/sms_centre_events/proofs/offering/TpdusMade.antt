@@ -3,7 +3,7 @@ use Rattle.std.proofs.Common.{◌≡◌, ℕ, ◌≤◌, List, [], ◌∷◌, Bo
 use Rattle.std.specs.Prelude.{◌==◌, ◌||◌, is_some, not}
 use Rattle.std.specs.Str.{bytes_eq}
 use Rattle.std.specs.Option.{option_map}
-use Rattle.std.proofs.lemmas.Bool.{and_parts, cases_eq, cond-true, cond-false, cond_both, eqb-false, eqb-true, ne_eqb}
+use Rattle.std.proofs.lemmas.Bool.{and_parts, cases_eq, cond-true, cond-false, cond_both, eqb-false, eqb-true, ne_eqb, or_parts}
 use Rattle.sms_base.specs.Among.{Among}
 use Rattle.sms_base.specs.declared.originator.Originator.{Originator}
 use Rattle.sms_base.specs.declared.originator.Originator.TheVariants.{Application, Handset}
@@ -37,6 +37,7 @@ use Rattle.sms_centre_spec.specs.SoundRows.{IsSound}
 use Rattle.sms_centre_spec.specs.Consistent.{IsConsistent}
 use Rattle.sms_centre_events.specs.offering.Stored.{Stores, made_tpdu}
 use Rattle.sms_centre_events.proofs.offering.Unput.{PutsNone, stood}
+use Rattle.sms_centre_reports.proofs.awaited.AsDefined.{octets_as, puts_as}
 
 -- ---- what waits is a part, or a status report
 
@@ -142,29 +143,15 @@ part_made h l s consistent among nonzero =
 
 -- ---- a status report that the event made
 
-report_puts : (id : ℕ) (news : List (Revision ReportRow)) → report_is_made id news ≡ puts_report id news
-report_puts id [] = refl
-report_puts id (Put r ∷ news) = ap (λ (b : Bool). (r.id == id) || b) (report_puts id news)
-report_puts id (Amend n progress ∷ news) = report_puts id news
-report_puts id (Remove n ∷ news) = report_puts id news
-
-same_octets : (o : Option ReportRow) → tpdu_in o ≡ report_tpdu o
-same_octets None = refl
-same_octets (Some r) = refl
-
 pub report_made_is : (l : QueuedPart) (s : Store) → (l.number == 0) ≡ true → tpdu_made l.id s.reports ≡ made_tpdu l s
 report_made_is l s is =
     let octets : tpdu_of l s ≡ tpdu_in (report_of l.id (reports_in s)) =
-    cond-true (l.number == 0) (report_tpdu (report_of l.id (reports_in s))) (part_tpdu (part_at l.id l.number (parts_in s))) is ∙ sym (same_octets (report_of l.id (reports_in s))) in
+    cond-true (l.number == 0) (report_tpdu (report_of l.id (reports_in s))) (part_tpdu (part_at l.id l.number (parts_in s))) is ∙ sym (octets_as (report_of l.id (reports_in s))) in
     let made : is_made l s ≡ report_is_made l.id s.reports.news =
-    cond-true (l.number == 0) (puts_report l.id s.reports.news) (puts_part (queued_key l) s.messages.parts.news) is ∙ sym (report_puts l.id s.reports.news) in
+    cond-true (l.number == 0) (puts_report l.id s.reports.news) (puts_part (queued_key l) s.messages.parts.news) is ∙ sym (puts_as l.id s.reports.news) in
     sym (ap (λ (b : Bool). cond b (Some (tpdu_of l s)) None) made ∙ ap (λ (t : List ℕ). cond (report_is_made l.id s.reports.news) (Some t) None) octets)
 
 -- ---- what it did not make stands in the store
-
-or_none : (a b : Bool) → (a || b) ≡ false → (a ≡ false) × (b ≡ false)
-or_none true b e = absurd cc
-or_none false b e = (refl, e)
 
 abbrev IsPartRow : ℕ → List ℕ → PartRow → Type 0
 IsPartRow key tpdu p = (part_key p ≡ key) × (p.tpdu ≡ tpdu)
@@ -172,7 +159,7 @@ IsPartRow key tpdu p = (part_key p ≡ key) × (p.tpdu ≡ tpdu)
 parts_unput : (key : ℕ) (tpdu : List ℕ) (news : List (Revision PartRow)) → puts_part key news ≡ false → PutsNone (IsPartRow key tpdu) news
 parts_unput key tpdu [] e = tt
 parts_unput key tpdu (Put p ∷ news) e =
-    let both = or_none (part_key p == key) (puts_part key news) e in
+    let both = or_parts (part_key p == key) (puts_part key news) e in
     (λ (is : IsPartRow key tpdu p). eqb-false (part_key p) key both.0 is.0, parts_unput key tpdu news both.1)
 parts_unput key tpdu (Amend n progress ∷ news) e = parts_unput key tpdu news e
 parts_unput key tpdu (Remove n ∷ news) e = parts_unput key tpdu news e
@@ -183,7 +170,7 @@ IsReportRow id kind r = (r.id ≡ id) × (r.kind ≡ kind)
 reports_unput : (id : ℕ) (kind : ReportKind) (news : List (Revision ReportRow)) → puts_report id news ≡ false → PutsNone (IsReportRow id kind) news
 reports_unput id kind [] e = tt
 reports_unput id kind (Put r ∷ news) e =
-    let both = or_none (r.id == id) (puts_report id news) e in
+    let both = or_parts (r.id == id) (puts_report id news) e in
     (λ (is : IsReportRow id kind r). eqb-false r.id id both.0 is.0, reports_unput id kind news both.1)
 reports_unput id kind (Amend n progress ∷ news) e = reports_unput id kind news e
 reports_unput id kind (Remove n ∷ news) e = reports_unput id kind news e

@@ -50,7 +50,7 @@ entries_behind names n (e ∷ es) (m ∷ ms) are =
 
 -- ---- how many parts
 
-entries_from : (n : ℕ) (ps : List PartRow) → rows_from entry_key n (map part_entry ps) ≡ map part_entry (rows_from part_key n ps)
+pub entries_from : (n : ℕ) (ps : List PartRow) → rows_from entry_key n (map part_entry ps) ≡ map part_entry (rows_from part_key n ps)
 entries_from n [] = refl
 entries_from n (p ∷ ps) = by (nat_lt (part_key p) n) (entries_from n ps) where
   by : (b : Bool) → rows_from entry_key n (map part_entry ps) ≡ map part_entry (rows_from part_key n ps)
@@ -58,7 +58,7 @@ entries_from n (p ∷ ps) = by (nat_lt (part_key p) n) (entries_from n ps) where
   by true e = e
   by false e = refl
 
-entries_before : (n : ℕ) (ps : List PartRow) → rows_before entry_key n (map part_entry ps) ≡ map part_entry (rows_before part_key n ps)
+pub entries_before : (n : ℕ) (ps : List PartRow) → rows_before entry_key n (map part_entry ps) ≡ map part_entry (rows_before part_key n ps)
 entries_before n [] = refl
 entries_before n (p ∷ ps) = by (nat_lt (part_key p) n) (entries_before n ps) where
   by : (b : Bool) → rows_before entry_key n (map part_entry ps) ≡ map part_entry (rows_before part_key n ps)

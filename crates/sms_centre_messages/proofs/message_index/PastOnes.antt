@@ -6,6 +6,7 @@ use Rattle.std.specs.Option.{option_to_list}
 use Rattle.std.specs.Prelude.{◌==◌}
 use Rattle.std.proofs.lemmas.Bool.{cases_Bool, cases_eq, cond-true, cond-false, ne_eqb}
 use Rattle.std.proofs.lemmas.List.{at_drop_all, at_drop_more}
+use Rattle.sms_base.proofs.Lists.{among_back, among_parts}
 use Rattle.sms_base.specs.Among.{Among}
 use Rattle.sms_rows.specs.table.Table.{AllAbove, Rises, row_at}
 use Rattle.sms_rows.proofs.table.Tables.{above_lower, among_found, found_among, found_key}
@@ -19,17 +20,6 @@ abbrev own : ℕ → ℕ
 own n = n
 
 -- ---- lists of numbers
-
-among_append : (x : ℕ) (xs ys : List ℕ) → Among x (xs ++ ys) → Among x xs ⊎ Among x ys
-among_append x [] ys m = inr m
-among_append x (z ∷ zs) ys m = ⊎_elim
-    (λ (e : x ≡ z). inl (inl e))
-    (λ (r : Among x (zs ++ ys)). ⊎_elim (λ (a : Among x zs). inl (inr a)) (λ (a : Among x ys). inr a) (among_append x zs ys r))
-    m
-
-among_right : (x : ℕ) (xs ys : List ℕ) → Among x ys → Among x (xs ++ ys)
-among_right x [] ys m = m
-among_right x (z ∷ zs) ys m = inr (among_right x zs ys m)
 
 abbrev AllFrom : ℕ → List ℕ → Type 0
 AllFrom b ns = AllByRecursion (λ (n : ℕ). b ≤ n) ns
@@ -147,7 +137,7 @@ module _ (now : ℕ) (ms : List MessageRow) where
   confirmed_are last (n ∷ ns) x a = ⊎_elim
       (λ (b : Among x (confirmed_one now ms last n)). (one_is last n x b).1.0)
       (λ (b : Among x (confirmed now ms (Some n) ns)). confirmed_are (Some n) ns x b)
-      (among_append x (confirmed_one now ms last n) (confirmed now ms (Some n) ns) a)
+      (among_parts x (confirmed_one now ms last n) (confirmed now ms (Some n) ns) a)
 
   are_confirmed : (last : Option ℕ) (ns : List ℕ) (x : ℕ) → Among x ns → is_repeated x last ≡ false → past_id now (message_at x ms) ≡ Some x → Among x (confirmed now ms last ns)
   are_confirmed last [] x a f p = elim a [ ]
@@ -157,7 +147,7 @@ module _ (now : ℕ) (ms : List MessageRow) where
       subst (λ (k : ℕ). Among x (confirmed_one now ms last k ++ confirmed now ms (Some k) ns)) e
       (subst (λ (l : List ℕ). Among x (l ++ confirmed now ms (Some x) ns)) (sym one) (inl refl)))
       (λ (e : x ≡ n → ⊥).
-      among_right x (confirmed_one now ms last n) (confirmed now ms (Some n) ns)
+      among_back x (confirmed_one now ms last n) (confirmed now ms (Some n) ns)
       (are_confirmed (Some n) ns x (⊎_elim (λ (q : x ≡ n). absurd (e q)) (λ (r : Among x ns). r) a) (ne_eqb n x (λ (q : n ≡ x). e (sym q))) p))
       (cases_eq x n)
 

@@ -2,8 +2,9 @@
 use Rattle.std.proofs.Common.{◌≡◌, ℕ, zero, suc, ◌+◌, ◌<◌, List, [], ◌∷◌, ◌++◌, length, take, get_or, map, refl, sym, ◌∙◌, ap, arith}
 use Rattle.std.specs.List.{AllByRecursion}
 use Rattle.std.proofs.lemmas.List.{take_more}
-use Rattle.sms_rows.specs.table.Table.{AllAbove, RowsInMemory, Rises, insert, put, without}
+use Rattle.sms_rows.specs.table.Table.{RowsInMemory, Rises, insert, put, without}
 use Rattle.sms_rows.proofs.table.Tables.{insert_behind, without_behind}
+use Rattle.sms_rows.proofs.table.Places.{above_at}
 use Rattle.sms_centre_rows.specs.declared.messages.part.PartRow.{PartRow}
 use Rattle.sms_centre_rows.specs.declared.messages.parts.PartEntry.{PartEntry}
 use Rattle.sms_centre_rows.specs.messages.Messages.{part_key}
@@ -24,15 +25,10 @@ module _ {A : Type 0} (key : A → ℕ) where
   insert_below y (x ∷ xs) below =
       insert_behind key y x xs (let l = below.0 in omega (arith, l)) ∙ ap (λ (l : List A). x ∷ l) (insert_below y xs below.1)
 
-  above_at : (n i : ℕ) (xs : List A) (d : A) → AllAbove key n xs → i < length xs → n < key (get_or xs i d)
-  above_at n i [] d above l = absurd (omega (arith, l))
-  above_at n zero (x ∷ xs) d above l = above.0
-  above_at n (suc i) (x ∷ xs) d above l = above_at n i xs d above.1 (omega (arith, l))
-
   below_at : (i : ℕ) (xs : List A) (d : A) → Rises key xs → i < length xs → AllBelow (key (get_or xs i d)) (take i xs)
   below_at i [] d rises l = absurd (omega (arith, l))
   below_at zero (x ∷ xs) d rises l = tt
-  below_at (suc i) (x ∷ xs) d rises l = (above_at (key x) i xs d rises.0 (omega (arith, l)), below_at i xs d rises.1 (omega (arith, l)))
+  below_at (suc i) (x ∷ xs) d rises l = (above_at key (key x) i xs d rises.0 (omega (arith, l)), below_at i xs d rises.1 (omega (arith, l)))
 
   -- the next row of a list in order goes behind those before it
   pub put_next : (i : ℕ) (xs : List A) (d : A) → Rises key xs → i < length xs → put key (get_or xs i d) (take i xs) ≡ take (i + 1) xs

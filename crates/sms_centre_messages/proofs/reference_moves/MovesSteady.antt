@@ -9,12 +9,11 @@ use Rattle.sms_base.specs.declared.originator.Originator.{Originator}
 use Rattle.sms_base.specs.declared.originator.Originator.TheVariants.{Application, Handset}
 use Rattle.sms_rows.specs.declared.table.change.Change.{Change}
 use Rattle.sms_rows.specs.table.Keys.{pair_key}
-use Rattle.sms_rows.specs.table.Table.{Rises, put, row_at}
+use Rattle.sms_rows.specs.table.Table.{Rises, row_at}
 use Rattle.sms_rows.proofs.table.Tables.{among_put, found_among, found_key, rises_put}
 use Rattle.sms_centre_rows.specs.declared.messages.message.MessageRow.{MessageRow}
 use Rattle.sms_centre_rows.specs.declared.messages.part.PartRow.{PartRow}
-use Rattle.sms_centre_rows.specs.declared.messages.priority.PriorityRow.{PriorityRow}
-use Rattle.sms_centre_rows.specs.messages.Messages.{Messages, all_done, amend_part, ended, is_pending, message_at, message_key, messages_of, part_key, parts_of, put_message, put_part}
+use Rattle.sms_centre_rows.specs.messages.Messages.{Messages, all_done, ended, is_pending, message_at, message_key, part_key, put_message}
 use Rattle.sms_centre_rows.specs.messages.SoundMessages.{SoundMessages}
 use Rattle.sms_centre_rows.specs.messages.SplitReferences.{next_split}
 use Rattle.sms_centre_rows.specs.declared.waiting.handset.HandsetRow.{HandsetRow}
@@ -26,16 +25,15 @@ use Rattle.sms_intake.specs.declared.submission.Submission.{Submission}
 use Rattle.sms_intake.specs.PartBodies.{bodies_under, deliver_octets, is_long}
 use Rattle.sms_centre_messages.specs.references.ReferenceIndex.{AreFew, IsNewest}
 use Rattle.sms_centre_spec.specs.declared.rows.Rows.{Rows}
-use Rattle.sms_centre_spec.specs.Draft.{Store, handsets_in, messages_in, parts_in, rows_of, with_message, with_part_at}
+use Rattle.sms_centre_spec.specs.Draft.{Store, bars_in, handsets_in, messages_in, parts_in, rows_of, with_message, with_part_at}
 use Rattle.sms_centre_spec.specs.MessageNumbers.{next_number}
 use Rattle.sms_centre_spec.specs.Ends.{end, is_wished, report_to, status_given}
 use Rattle.sms_centre_spec.specs.Keeping.{Keeps}
 use Rattle.sms_centre_spec.specs.Consistent.{IsSubmission}
 use Rattle.sms_centre_spec.specs.Submitting.{accept, accept_as, accept_split, accept_under, enter, give_part, give_parts, message_of, part_given, reference_for}
 use Rattle.sms_centre_spec.specs.Transfers.{complete}
-use Rattle.sms_centre_spec.proofs.KeepingSteady.{SoundSince, since_steady}
+use Rattle.sms_centre_spec.proofs.KeepingSteady.{SoundSince, both_there, since_steady}
 use Rattle.sms_centre_spec.proofs.NextNumbers.{below_next_number}
-use Rattle.sms_centre_spec.proofs.SoundStores.{SoundStore}
 use Rattle.sms_centre_spec.proofs.Stages.{IfThere}
 use Rattle.sms_centre_spec.proofs.AcceptedConsistent.{then_there}
 use Rattle.sms_centre_spec.proofs.Steady.{IsSteady, message_own}
@@ -51,11 +49,11 @@ pub record Moving (base : Rows) (m : Messages) : Type 0 where
 
 -- ---- a message ends
 
-status_touches : (f : FinalState) (m : MessageRow) (h : HandsetRow) (o : Option ℕ) (s : Store) → (status_given f m h o s).messages ≡ s.messages
+pub status_touches : (f : FinalState) (m : MessageRow) (h : HandsetRow) (o : Option ℕ) (s : Store) → (status_given f m h o s).messages ≡ s.messages
 status_touches f m h None s = refl
 status_touches f m h (Some r) s = refl
 
-report_touches : (o : Originator) (f : FinalState) (m : MessageRow) (s : Store) → (report_to o f m s).messages ≡ s.messages
+pub report_touches : (o : Originator) (f : FinalState) (m : MessageRow) (s : Store) → (report_to o f m s).messages ≡ s.messages
 report_touches (Application account) f m s = refl
 report_touches (Handset n) f m s =
     let h : HandsetRow = handset_of m.source.digits (handsets_in s) in status_touches f m h (reference_for h s) s
@@ -201,7 +199,7 @@ accept_moves base u s sound since k fit =
     let low = below i.message.0 (found_among message_key p.id i.message.0 (messages_in s) i.message.1.0) in
     let own = found_key message_key p.id i.message.0 (messages_in s) i.message.1.0 in
     omega (arith, small, low, own) in
-    let split : Option ℕ = next_split u.source u.handset (messages_in s) (parts_in s) in
+    let split : Option ℕ = next_split u.source u.handset (bars_in s) (messages_in s) (parts_in s) in
     cond_both (nat_le id 9999999999) (accept_as id u s) None (λ o. IfThere (λ (e : Store). Moving base e.messages) o)
     (λ t.
     let short : id ≤ 9999999999 = leb-true id 9999999999 t in
@@ -214,10 +212,6 @@ accept_moves base u s sound since k fit =
 
 abbrev pub MovingSince : Rows → Store → Type 0
 MovingSince base s = SoundSince base s × Moving base s.messages
-
-both_there : (A B : Store → Type 0) (o : Option Store) → IfThere A o → IfThere B o → IfThere (λ (s : Store). A s × B s) o
-both_there A B None a b = tt
-both_there A B (Some s) a b = (a, b)
 
 pub moving_steady : (base : Rows) → SoundMessages base.messages base.parts base.priorities → IsSteady (MovingSince base)
 moving_steady base sound =

@@ -1,9 +1,8 @@
 -- A message ends, and a part comes.
-use Rattle.std.proofs.Common.{◌≡◌, ℕ, ◌+◌, ◌-◌, ◌<◌, ◌≤◌, nat_eq, List, [], ◌∷◌, Bool, true, false, Option, Some, None, is_some, is_none, true≢false, refl, sym, ◌∙◌, ap, subst, ⊎_elim, arith}
+use Rattle.std.proofs.Common.{◌≡◌, ℕ, ◌+◌, ◌-◌, ◌<◌, ◌≤◌, nat_eq, List, [], ◌∷◌, Bool, true, false, Option, Some, None, refl, sym, ◌∙◌, ap, subst, ⊎_elim, arith}
 use Rattle.std.specs.Prelude.{◌==◌, ◌&&◌, not, if◌then◌else◌}
 use Rattle.std.specs.Str.{bytes_eq}
 use Rattle.std.proofs.lemmas.Bool.{cases_eq}
-use Rattle.sms_base.specs.Among.{Among}
 use Rattle.sms_base.specs.declared.address.Address.{Address}
 use Rattle.sms_base.specs.declared.final_state.FinalState.{FinalState}
 use Rattle.sms_base.specs.declared.originator.Originator.{Originator}
@@ -12,15 +11,18 @@ use Rattle.sms_alphabet.specs.declared.concat_key.ConcatKey.{ConcatKey}
 use Rattle.sms_rows.specs.table.Table.{AllAbove, Rises, insert, put, row_at, without}
 use Rattle.sms_rows.proofs.table.Tables.{found_among, insert_behind, insert_here, row_at_put, row_at_put_other, row_behind, row_here, without_behind, without_here}
 use Rattle.std.proofs.lemmas.Bool.{cases_lt}
+use Rattle.sms_centre_rows.specs.declared.messages.bar.BarRow.{BarRow}
 use Rattle.sms_centre_rows.specs.declared.messages.message.MessageRow.{MessageRow}
 use Rattle.sms_centre_rows.specs.declared.messages.part.PartRow.{PartRow}
 use Rattle.sms_centre_rows.specs.messages.Messages.{ended, is_pending, message_at, message_key, part_key}
 use Rattle.sms_centre_rows.specs.messages.SplitReferences.{is_between, is_delivered, last_split, or_later, unless_split, wide_in}
 use Rattle.sms_centre_messages.specs.declared.references.message_ends.MessageEnds.{MessageEnds}
-use Rattle.sms_centre_messages.specs.references.ReferenceIndex.{AreFew, BarsLess, BringsBar, BringsOwn, Brought, ReferenceIndexOf, Ended, Represents, HoldsLess, PendsLess, still, submitted_with, submitted_with_any, holds, holds_any, last_code, is_from_handset, is_of, is_reference, repeats, total, wide_of}
+use Rattle.sms_centre_messages.specs.references.ReferenceIndex.{AreFew, BringsOwn, Brought, ReferenceIndexOf, Ended, Represents, HoldsLess, PendsLess, still, submitted_with, holds, last_code, is_from_handset, is_of, is_reference, repeats, total, wide_of}
 use Rattle.sms_centre_messages.specs.references.Counts.{CountsOf, IsAdded, IsTaken, counted, one_if}
 use Rattle.sms_centre_messages.specs.references.Keys.{is_same_sender, key_of, pair_of}
-use Rattle.sms_centre_messages.proofs.references.Entering.{at_most_one, none_any, none_first, plus_none, same_both, total_few, total_same, turned_back}
+use Rattle.sms_centre_messages.proofs.references.Entering.{at_most_one, none_any, none_first, plus_none, same_bars, same_both, total_few, total_same, turned_back}
+use Rattle.sms_centre_spec.proofs.forgetting.Splits.{above_among}
+use Rattle.sms_centre_spec.proofs.SoundMessagesStay.{pending_undelivered as undelivered}
 
 -- ---- totals where a row takes the place of another
 
@@ -92,13 +94,6 @@ put_after m x xs l =
     ap (λ (z : List MessageRow). insert message_key m z) (without_behind message_key m.id x xs (λ (e : x.id ≡ m.id). absurd (omega (arith, e, l))))
     ∙ insert_behind message_key m x (without message_key m.id xs) (omega (arith, l))
 
-above_among : (n : ℕ) (m : MessageRow) (xs : List MessageRow) → AllAbove message_key n xs → Among m xs → n < m.id
-above_among n m [] above a = elim a [ ]
-above_among n m (x ∷ xs) above a = ⊎_elim
-    (λ (e : m ≡ x). let l = above.0 in let q = ap (λ (r : MessageRow). r.id) e in omega (arith, l, q))
-    (λ (r : Among m xs). above_among n m xs above.1 r)
-    a
-
 last_stays : (source : Address) (handset : List ℕ) (state : FinalState) (moment : ℕ) (l : Option ℕ) (m : MessageRow) (ms : List MessageRow) → Rises message_key ms → message_at m.id ms ≡ Some m
     → last_split source handset l (put message_key (ended state moment m) ms) ≡ last_split source handset l ms
 last_stays source handset state moment l m [] rises there = absurd cc
@@ -135,54 +130,34 @@ less_held true true r = omega arith
 less_held true false r = refl
 less_held false a r = omega arith
 
-pub holds_ended : (m : MessageRow) (state : FinalState) (moment : ℕ) (old new : ReferenceIndexOf) (ms : List MessageRow) (ps : List PartRow) → Ended m state old new → Represents old ms ps → Rises message_key ms → message_at m.id ms ≡ Some m
-    → is_pending m ≡ true → is_delivered m.state ≡ false → Represents new (put message_key (ended state moment m) ms) ps
-holds_ended m state moment old new ms ps ends h rises there open' undelivered =
+pub holds_ended : (m : MessageRow) (state : FinalState) (moment : ℕ) (old new : ReferenceIndexOf) (bs : List BarRow) (ms : List MessageRow) (ps : List PartRow) → Ended m state old new → Represents old bs ms ps → Rises message_key ms
+    → message_at m.id ms ≡ Some m → is_pending m ≡ true → is_delivered m.state ≡ false → Represents new bs (put message_key (ended state moment m) ms) ps
+holds_ended m state moment old new bs ms ps ends h rises there open' undelivered =
     let later : MessageRow = ended state moment m in
-    record {
-      held = λ key.
-          let replaced = total_replaced message_key (holds key) later m ms rises there in
-          let before = h.held key in
-          let after = ends.held key in
-          let parts = less_held (is_delivered (Some state)) (is_of key m) (is_reference key.number m.split_reference) in
-          let was : holds key m ≡ one_if (is_of key m && (not false && is_reference key.number m.split_reference)) = ap (λ (d : Bool). one_if (is_of key m && (not d && is_reference key.number m.split_reference))) undelivered in
-          let some : holds key later + (if is_delivered (Some state) then holds key m else 0) ≡ holds key m =
-          ap (λ (n : ℕ). holds key later + (if is_delivered (Some state) then n else 0)) was ∙ parts ∙ sym was in
-          omega (arith, replaced, before, after, some);
-      own = λ key.
-          ap (λ (k : CountsOf). counted key k) ends.own ∙ h.own key
-          ∙ sym (parts_stay (λ p o. one_if (is_reference key.number (wide_of key p o))) m later ms ps refl there (λ p. refl));
-      barred = λ source handset.
-          let key = key_of source handset 0 in
-          let replaced = total_replaced message_key (holds_any key) later m ms rises there in
-          let before = h.barred source handset in
-          let after = ends.barred source handset in
-          let parts = less_held (is_delivered (Some state)) (is_of key m) (is_some m.split_reference) in
-          let was : holds_any key m ≡ one_if (is_of key m && (not false && is_some m.split_reference)) = ap (λ (d : Bool). one_if (is_of key m && (not d && is_some m.split_reference))) undelivered in
-          let some : holds_any key later + (if is_delivered (Some state) then holds_any key m else 0) ≡ holds_any key m =
-          ap (λ (n : ℕ). holds_any key later + (if is_delivered (Some state) then n else 0)) was ∙ parts ∙ sym was in
-          let same = parts_stay (λ p o. one_if (is_some (wide_of key p o))) m later ms ps refl there (λ p. refl) in
-          omega (arith, replaced, before, after, some, same);
-      last = λ source handset.
-          ap (λ (k : CountsOf). counted (key_of source handset 0) k) ends.last ∙ h.last source handset
-          ∙ ap last_code (sym (last_stays source handset state moment None m ms rises there));
-      pending = λ source handset reference.
-          let replaced = total_replaced message_key (λ x. one_if (repeats source handset reference x)) later m ms rises there in
-          let before = h.pending source handset reference in
-          let after = ends.pending source handset reference in
-          omega (arith, replaced, before, after);
-    }
-
--- it is told by its row after its end too
-undelivered : (o : Option FinalState) → is_none o ≡ true → is_delivered o ≡ false
-undelivered None e = refl
-undelivered (Some state) e = absurd (true≢false (sym e))
+    same_bars old new bs ms (put message_key later ms) ps ps ends.bars h
+    (λ key free.
+    let replaced = total_replaced message_key (holds key) later m ms rises there in
+    let before = h.held key free in
+    let after = ends.held key in
+    let parts = less_held (is_delivered (Some state)) (is_of key m) (is_reference key.number m.split_reference) in
+    let was : holds key m ≡ one_if (is_of key m && (not false && is_reference key.number m.split_reference)) = ap (λ (d : Bool). one_if (is_of key m && (not d && is_reference key.number m.split_reference))) undelivered in
+    let some : holds key later + (if is_delivered (Some state) then holds key m else 0) ≡ holds key m =
+    ap (λ (n : ℕ). holds key later + (if is_delivered (Some state) then n else 0)) was ∙ parts ∙ sym was in
+    omega (arith, replaced, before, after, some))
+    (λ key free.
+    ap (λ (k : CountsOf). counted key k) ends.own ∙ h.own key free
+    ∙ sym (parts_stay (λ p o. one_if (is_reference key.number (wide_of key p o))) m later ms ps refl there (λ p. refl)))
+    (λ source handset.
+    ap (λ (k : CountsOf). counted (key_of source handset 0) k) ends.last ∙ h.last source handset
+    ∙ ap last_code (sym (last_stays source handset state moment None m ms rises there)))
+    (λ source handset reference.
+    let replaced = total_replaced message_key (λ x. one_if (repeats source handset reference x)) later m ms rises there in
+    let before = h.pending source handset reference in
+    let after = ends.pending source handset reference in
+    omega (arith, replaced, before, after))
 
 held_still : (m : MessageRow) (key : MessageEnds) → is_pending m ≡ true → holds key (still m) ≡ holds key m
 held_still m key open' = ap (λ (d : Bool). one_if (is_of key m && (not d && is_reference key.number m.split_reference))) (sym (undelivered m.state open'))
-
-barred_still : (m : MessageRow) (key : MessageEnds) → is_pending m ≡ true → holds_any key (still m) ≡ holds_any key m
-barred_still m key open' = ap (λ (d : Bool). one_if (is_of key m && (not d && is_some m.split_reference))) (sym (undelivered m.state open'))
 
 pending_still : (m : MessageRow) (source handset : List ℕ) (n : ℕ) → is_pending m ≡ true → one_if (repeats source handset n (still m)) ≡ one_if (repeats source handset n m)
 pending_still m source handset n open' = ap (λ (b : Bool). one_if (b && (is_from_handset n m.originator && (bytes_eq source m.source.digits && bytes_eq handset m.handset)))) (sym open')
@@ -190,42 +165,32 @@ pending_still m source handset n open' = ap (λ (b : Bool). one_if (b && (is_fro
 ended_as : (m : MessageRow) (state : FinalState) (old new : ReferenceIndexOf) → is_pending m ≡ true → Ended (still m) state old new → Ended m state old new
 ended_as m state old new open' e = record {
   held = λ key. e.held key ∙ ap (λ (n : ℕ). counted key old.held - (if is_delivered (Some state) then n else 0)) (held_still m key open');
-  barred = λ source handset. e.barred source handset ∙ ap (λ (n : ℕ). counted (key_of source handset 0) old.barred - (if is_delivered (Some state) then n else 0)) (barred_still m (key_of source handset 0) open');
   pending = λ source handset n. e.pending source handset n ∙ ap (λ (k : ℕ). counted (pair_of source handset n) old.pending - k) (pending_still m source handset n open');
   last = e.last;
   own = e.own;
+  bars = e.bars;
 }
 
-pub holds_after_end : (row m : MessageRow) (state : FinalState) (moment : ℕ) (old new : ReferenceIndexOf) (ms : List MessageRow) (ps : List PartRow) → Ended (still row) state old new → Represents old ms ps → Rises message_key ms → message_at m.id ms ≡ Some m
-    → is_pending m ≡ true → still row ≡ still m → Represents new (put message_key (ended state moment m) ms) ps
-holds_after_end row m state moment old new ms ps e h rises there open' same =
-    holds_ended m state moment old new ms ps (ended_as m state old new open' (subst (λ (r : MessageRow). Ended r state old new) same e)) h rises there open' (undelivered m.state open')
+pub holds_after_end : (row m : MessageRow) (state : FinalState) (moment : ℕ) (old new : ReferenceIndexOf) (bs : List BarRow) (ms : List MessageRow) (ps : List PartRow) → Ended (still row) state old new → Represents old bs ms ps → Rises message_key ms → message_at m.id ms ≡ Some m
+    → is_pending m ≡ true → still row ≡ still m → Represents new bs (put message_key (ended state moment m) ms) ps
+holds_after_end row m state moment old new bs ms ps e h rises there open' same =
+    holds_ended m state moment old new bs ms ps (ended_as m state old new open' (subst (λ (r : MessageRow). Ended r state old new) same e)) h rises there open' (undelivered m.state open')
 
 -- ---- a part comes
 
-pub holds_brought : (m : MessageRow) (p : PartRow) (old new : ReferenceIndexOf) (ms : List MessageRow) (ps : List PartRow) → Brought m p.key old new → Represents old ms ps → Rises part_key ps → message_at p.id ms ≡ Some m
-    → row_at part_key (part_key p) ps ≡ None → AreFew ms ps → Represents new ms (put part_key p ps)
-holds_brought m p old new ms ps brought h rises there absent few = record {
-  held = λ key. ap (λ (k : CountsOf). counted key k) brought.held ∙ h.held key;
-  own = λ key.
-      let before = h.own key in
-      let small = total_few (submitted_with key ms) ps (λ x. at_most_one (is_reference key.number (wide_of key x (message_at x.id ms)))) in
-      let more = total_new part_key (submitted_with key ms) p ps rises absent in
-      let this : submitted_with key ms p ≡ one_if (is_reference key.number (wide_of key p (Some m))) = ap (λ (o : Option MessageRow). one_if (is_reference key.number (wide_of key p o))) there in
-      let after = brought.own key (omega (arith, before, small, few)) in
-      omega (arith, before, more, this, after);
-  barred = λ source handset.
-      let key = key_of source handset 0 in
-      let before = h.barred source handset in
-      let held = total_few (holds_any key) ms (λ x. at_most_one (is_of key x && (not (is_delivered x.state) && is_some x.split_reference))) in
-      let small = total_few (submitted_with_any key ms) ps (λ x. at_most_one (is_some (wide_of key x (message_at x.id ms)))) in
-      let more = total_new part_key (submitted_with_any key ms) p ps rises absent in
-      let this : submitted_with_any key ms p ≡ one_if (is_some (wide_of key p (Some m))) = ap (λ (o : Option MessageRow). one_if (is_some (wide_of key p o))) there in
-      let after = brought.barred source handset (omega (arith, before, held, small, few)) in
-      omega (arith, before, more, this, after);
-  last = λ source handset. ap (λ (k : CountsOf). counted (key_of source handset 0) k) brought.last ∙ h.last source handset;
-  pending = λ source handset reference. ap (λ (k : CountsOf). counted (pair_of source handset reference) k) brought.pending ∙ h.pending source handset reference;
-}
+pub holds_brought : (m : MessageRow) (p : PartRow) (old new : ReferenceIndexOf) (bs : List BarRow) (ms : List MessageRow) (ps : List PartRow) → Brought m p.key old new → Represents old bs ms ps → Rises part_key ps
+    → message_at p.id ms ≡ Some m → row_at part_key (part_key p) ps ≡ None → AreFew ms ps → Represents new bs ms (put part_key p ps)
+holds_brought m p old new bs ms ps brought h rises there absent few = same_bars old new bs ms ms ps (put part_key p ps) brought.bars h
+    (λ key free. ap (λ (k : CountsOf). counted key k) brought.held ∙ h.held key free)
+    (λ key free.
+    let before = h.own key free in
+    let small = total_few (submitted_with key ms) ps (λ x. at_most_one (is_reference key.number (wide_of key x (message_at x.id ms)))) in
+    let more = total_new part_key (submitted_with key ms) p ps rises absent in
+    let this : submitted_with key ms p ≡ one_if (is_reference key.number (wide_of key p (Some m))) = ap (λ (o : Option MessageRow). one_if (is_reference key.number (wide_of key p o))) there in
+    let after = brought.own key (omega (arith, before, small, few)) in
+    omega (arith, before, more, this, after))
+    (λ source handset. ap (λ (k : CountsOf). counted (key_of source handset 0) k) brought.last ∙ h.last source handset)
+    (λ source handset reference. ap (λ (k : CountsOf). counted (pair_of source handset reference) k) brought.pending ∙ h.pending source handset reference)
 
 -- ---- what the counts become
 
@@ -251,35 +216,14 @@ holds_taken m state reference old new split undelivered done taken = λ key.
     ∙ ap (λ (o : Option ℕ). one_if (is_of key m && (not (is_delivered m.state) && is_reference key.number o))) (sym split)
     ∙ chosen (is_delivered (Some state)) (holds key m) done)
 
-pub bars_taken : (m : MessageRow) (state : FinalState) (reference : ℕ) (old new : CountsOf) → m.split_reference ≡ Some reference → is_delivered m.state ≡ false → is_delivered (Some state) ≡ true → IsTaken (key_of m.source m.handset 0) old new → BarsLess m state old new
-bars_taken m state reference old new split undelivered done taken = λ source handset.
-    let key = key_of source handset 0 in
-    taken key
-    ∙ ap (λ (n : ℕ). counted key old - n)
-    (same_both (is_same_sender (key_of m.source m.handset 0).source key.source) (bytes_eq m.handset handset) true
-    ∙ ap (λ (d : Bool). one_if (is_of key m && (not d && true))) (sym undelivered)
-    ∙ ap (λ (o : Option ℕ). one_if (is_of key m && (not (is_delivered m.state) && is_some o))) (sym split)
-    ∙ chosen (is_delivered (Some state)) (holds_any key m) done)
-
 pub holds_unsplit : (m : MessageRow) (state : FinalState) (old : CountsOf) → m.split_reference ≡ None → HoldsLess m state old old
 holds_unsplit m state old split = λ key.
     minus_none (counted key old) (if is_delivered (Some state) then holds key m else 0)
     (no_choice (is_delivered (Some state)) (holds key m)
     (none_any (is_of key m) (not (is_delivered m.state)) ∙ ap (λ (o : Option ℕ). one_if (is_of key m && (not (is_delivered m.state) && is_reference key.number o))) (sym split)))
 
-pub bars_unsplit : (m : MessageRow) (state : FinalState) (old : CountsOf) → m.split_reference ≡ None → BarsLess m state old old
-bars_unsplit m state old split = λ source handset.
-    let key = key_of source handset 0 in
-    minus_none (counted key old) (if is_delivered (Some state) then holds_any key m else 0)
-    (no_choice (is_delivered (Some state)) (holds_any key m)
-    (none_any (is_of key m) (not (is_delivered m.state)) ∙ ap (λ (o : Option ℕ). one_if (is_of key m && (not (is_delivered m.state) && is_some o))) (sym split)))
-
 pub holds_undelivered : (m : MessageRow) (state : FinalState) (old : CountsOf) → is_delivered (Some state) ≡ false → HoldsLess m state old old
 holds_undelivered m state old no_end = λ key. minus_none (counted key old) (if is_delivered (Some state) then holds key m else 0) (unchosen (is_delivered (Some state)) (holds key m) no_end)
-
-pub bars_undelivered : (m : MessageRow) (state : FinalState) (old : CountsOf) → is_delivered (Some state) ≡ false → BarsLess m state old old
-bars_undelivered m state old no_end = λ source handset.
-    minus_none (counted (key_of source handset 0) old) (if is_delivered (Some state) then holds_any (key_of source handset 0) m else 0) (unchosen (is_delivered (Some state)) (holds_any (key_of source handset 0) m) no_end)
 
 pub pends_taken : (m : MessageRow) (reference : ℕ) (old new : CountsOf) → m.originator ≡ Handset reference → is_pending m ≡ true → IsTaken (pair_of m.source.digits m.handset reference) old new → PendsLess m old new
 pends_taken m reference old new from open' taken = λ source handset n.
@@ -297,18 +241,9 @@ arrived_same true true reference n = refl
 arrived_same true false reference n = refl
 arrived_same false h reference n = refl
 
-arrived_any : (s h : Bool) (reference : ℕ) → one_if (s && (h && true)) ≡ one_if (is_some (if s && h then Some reference else None))
-arrived_any true true reference = refl
-arrived_any true false reference = refl
-arrived_any false h reference = refl
-
 none_arrived : (b : Bool) (n : ℕ) → 0 ≡ one_if (is_reference n (if b then None else None))
 none_arrived true n = refl
 none_arrived false n = refl
-
-none_arrived_any : (b : Bool) (o : Option ℕ) → None ≡ o → 0 ≡ one_if (is_some (if b then o else None))
-none_arrived_any true o e = ap (λ (p : Option ℕ). one_if (is_some p)) e
-none_arrived_any false o e = refl
 
 pub owns_added : (m : MessageRow) (key : Option ConcatKey) (reference : ℕ) (old new : CountsOf) → unless_split m.split_reference (wide_in key) ≡ Some reference → IsAdded (key_of m.source m.handset reference) old new → BringsOwn m key old new
 owns_added m key reference old new own added = λ q small.
@@ -321,17 +256,3 @@ pub owns_none : (m : MessageRow) (key : Option ConcatKey) (old : CountsOf) → u
 owns_none m key old own = λ q small.
     plus_none (counted q old) (one_if (is_reference q.number (if is_of q m then unless_split m.split_reference (wide_in key) else None)))
     (none_arrived (is_of q m) q.number ∙ ap (λ (o : Option ℕ). one_if (is_reference q.number (if is_of q m then o else None))) (sym own))
-
-pub bar_added : (m : MessageRow) (key : Option ConcatKey) (reference : ℕ) (old new : CountsOf) → unless_split m.split_reference (wide_in key) ≡ Some reference → IsAdded (key_of m.source m.handset 0) old new → BringsBar m key old new
-bar_added m key reference old new own added = λ source handset small.
-    let q = key_of source handset 0 in
-    added q small
-    ∙ ap (λ (n : ℕ). counted q old + n)
-    (arrived_any (is_same_sender (key_of m.source m.handset 0).source q.source) (bytes_eq m.handset handset) reference
-    ∙ ap (λ (o : Option ℕ). one_if (is_some (if is_of q m then o else None))) (sym own))
-
-pub bar_none : (m : MessageRow) (key : Option ConcatKey) (old : CountsOf) → unless_split m.split_reference (wide_in key) ≡ None → BringsBar m key old old
-bar_none m key old own = λ source handset small.
-    let q = key_of source handset 0 in
-    plus_none (counted q old) (one_if (is_some (if is_of q m then unless_split m.split_reference (wide_in key) else None)))
-    (none_arrived_any (is_of q m) (unless_split m.split_reference (wide_in key)) (sym own))

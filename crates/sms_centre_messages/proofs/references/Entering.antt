@@ -1,20 +1,22 @@
 -- A message comes behind all others.
-use Rattle.std.proofs.Common.{◌≡◌, ℕ, ◌+◌, ◌<◌, ◌≤◌, nat_eq, List, [], ◌∷◌, ◌++◌, length, Bool, true, false, Option, Some, None, is_some, refl, sym, ◌∙◌, ap, inl, inr, ⊎_elim, eq-eqb, arith}
+use Rattle.std.proofs.Common.{◌≡◌, ℕ, ◌+◌, ◌<◌, ◌≤◌, nat_eq, nat_lt, List, [], ◌∷◌, ◌++◌, length, Bool, true, false, Option, Some, None, refl, sym, ◌∙◌, ap, inl, inr, arith}
 use Rattle.std.specs.Prelude.{◌==◌, ◌&&◌, not, if◌then◌else◌}
 use Rattle.std.specs.Str.{bytes_eq}
-use Rattle.std.proofs.lemmas.Bool.{cases_eq, ne_eqb}
 use Rattle.std.proofs.lemmas.Slice.Eq.{bytes_eq-Decides}
+use Rattle.sms_base.proofs.Bools.{swapped}
 use Rattle.sms_base.specs.Among.{Among}
 use Rattle.sms_base.specs.declared.address.Address.{Address}
 use Rattle.sms_base.specs.declared.originator.Originator.{Originator}
 use Rattle.sms_base.specs.declared.originator.Originator.TheVariants.{Application, Handset}
 use Rattle.sms_rows.specs.table.Table.{put}
 use Rattle.sms_rows.proofs.table.Tables.{row_at_put_other}
+use Rattle.sms_centre_rows.specs.declared.messages.bar.BarRow.{BarRow}
 use Rattle.sms_centre_rows.specs.declared.messages.message.MessageRow.{MessageRow}
 use Rattle.sms_centre_rows.specs.declared.messages.part.PartRow.{PartRow}
 use Rattle.sms_centre_rows.specs.messages.Messages.{is_pending, message_at, message_key}
 use Rattle.sms_centre_rows.specs.messages.SplitReferences.{is_between, is_delivered, last_split, or_later}
-use Rattle.sms_centre_messages.specs.references.ReferenceIndex.{AreFew, BarsMore, ReferenceIndexOf, IsNewest, Entered, GivesLast, Represents, HoldsMore, PendsMore, submitted_with_any, code_or, holds, holds_any, is_from_handset, is_of, is_reference, last_code, repeats, total, wide_of}
+use Rattle.sms_centre_messages.specs.references.ReferenceIndex.{AreFew, ReferenceIndexOf, IsNewest, Entered, GivesLast, Represents, HoldsMore, PendsMore, SameBars, any, submitted_with, code_or, holds, is_from_handset, is_held_at, is_of, is_own_at, is_reference, last_code, repeats, total, wide_of}
+use Rattle.sms_centre_messages.specs.declared.references.message_ends.MessageEnds.{MessageEnds}
 use Rattle.sms_centre_messages.specs.references.Counts.{CountsOf, IsAdded, IsSet, counted, one_if}
 use Rattle.sms_centre_messages.specs.references.Keys.{is_same_sender, key_of, pair_of}
 use Rattle.sms_centre_messages.proofs.references.Behind.{put_last}
@@ -63,37 +65,44 @@ same_parts f m ms ps none =
     total_same (λ p. f p (message_at p.id (put message_key m ms))) (λ p. f p (message_at p.id ms)) ps
     (λ p a. ap (λ (o : Option MessageRow). f p o) (row_at_put_other message_key p.id m ms (λ (e : m.id ≡ p.id). none p a (sym e))))
 
-pub holds_entered : (m : MessageRow) (old new : ReferenceIndexOf) (ms : List MessageRow) (ps : List PartRow) → Entered m old new → Represents old ms ps → IsNewest m ms ps → AreFew ms ps → Represents new (put message_key m ms) ps
-holds_entered m old new ms ps entered h behind few = record {
-  held = λ key.
-      let there = h.held key in
-      let small = total_few (holds key) ms (λ x. at_most_one (is_of key x && (not (is_delivered x.state) && is_reference key.number x.split_reference))) in
-      let more = total_behind (holds key) m ms behind.last in
-      let added = entered.held key (omega (arith, there, small, few)) in
-      omega (arith, there, more, added);
-  own = λ key.
-      ap (λ (k : CountsOf). counted key k) entered.own ∙ h.own key
-      ∙ sym (same_parts (λ p o. one_if (is_reference key.number (wide_of key p o))) m ms ps behind.no_parts);
-  barred = λ source handset.
-      let key = key_of source handset 0 in
-      let there = h.barred source handset in
-      let small = total_few (holds_any key) ms (λ x. at_most_one (is_of key x && (not (is_delivered x.state) && is_some x.split_reference))) in
-      let parts = total_few (submitted_with_any key ms) ps (λ p. at_most_one (is_some (wide_of key p (message_at p.id ms)))) in
-      let more = total_behind (holds_any key) m ms behind.last in
-      let same = same_parts (λ p o. one_if (is_some (wide_of key p o))) m ms ps behind.no_parts in
-      let added = entered.barred source handset (omega (arith, there, small, parts, few)) in
-      omega (arith, there, more, same, added);
-  last = λ source handset.
-      entered.last source handset
-      ∙ last_given (is_between source handset m) (last_split source handset None ms) m.split_reference (counted (key_of source handset 0) old.last) (h.last source handset)
-      ∙ ap last_code (sym (ap (λ (l : List MessageRow). last_split source handset None l) (put_behind m ms behind.last) ∙ last_append source handset None m ms));
-  pending = λ source handset reference.
-      let there = h.pending source handset reference in
-      let small = total_few (λ x. one_if (repeats source handset reference x)) ms (λ x. at_most_one (repeats source handset reference x)) in
-      let more = total_behind (λ x. one_if (repeats source handset reference x)) m ms behind.last in
-      let added = entered.pending source handset reference (omega (arith, there, small, few)) in
-      omega (arith, there, more, added);
+-- the bars stay
+pub same_bars : (old new : ReferenceIndexOf) (bs : List BarRow) (ms others : List MessageRow) (ps parts : List PartRow) → SameBars old new → Represents old bs ms ps
+    → ((key : MessageEnds) → any (is_held_at key) bs ≡ false → counted key new.held ≡ total (holds key) others)
+    → ((key : MessageEnds) → any (is_own_at key) bs ≡ false → counted key new.own ≡ total (submitted_with key others) parts)
+    → ((source : Address) (handset : List ℕ) → counted (key_of source handset 0) new.last ≡ last_code (last_split source handset None others))
+    → ((source handset : List ℕ) (reference : ℕ) → counted (pair_of source handset reference) new.pending ≡ total (λ m. one_if (repeats source handset reference m)) others)
+    → Represents new bs others parts
+same_bars old new bs ms others ps parts same h held own last pending = record {
+  held = held;
+  own = own;
+  held_bars = λ key. ap (λ (k : CountsOf). nat_lt 0 (counted key k)) same.held ∙ h.held_bars key;
+  own_bars = λ key. ap (λ (k : CountsOf). nat_lt 0 (counted key k)) same.own ∙ h.own_bars key;
+  next = ap (λ (n : ℕ). n + 1) same.last ∙ h.next;
+  last = last;
+  pending = pending;
 }
+
+pub holds_entered : (m : MessageRow) (old new : ReferenceIndexOf) (bs : List BarRow) (ms : List MessageRow) (ps : List PartRow) → Entered m old new → Represents old bs ms ps → IsNewest m ms ps → AreFew ms ps → Represents new bs (put message_key m ms) ps
+holds_entered m old new bs ms ps entered h behind few = same_bars old new bs ms (put message_key m ms) ps ps entered.bars h
+    (λ key free.
+    let there = h.held key free in
+    let small = total_few (holds key) ms (λ x. at_most_one (is_of key x && (not (is_delivered x.state) && is_reference key.number x.split_reference))) in
+    let more = total_behind (holds key) m ms behind.last in
+    let added = entered.held key (omega (arith, there, small, few)) in
+    omega (arith, there, more, added))
+    (λ key free.
+    ap (λ (k : CountsOf). counted key k) entered.own ∙ h.own key free
+    ∙ sym (same_parts (λ p o. one_if (is_reference key.number (wide_of key p o))) m ms ps behind.no_parts))
+    (λ source handset.
+    entered.last source handset
+    ∙ last_given (is_between source handset m) (last_split source handset None ms) m.split_reference (counted (key_of source handset 0) old.last) (h.last source handset)
+    ∙ ap last_code (sym (ap (λ (l : List MessageRow). last_split source handset None l) (put_behind m ms behind.last) ∙ last_append source handset None m ms)))
+    (λ source handset reference.
+    let there = h.pending source handset reference in
+    let small = total_few (λ x. one_if (repeats source handset reference x)) ms (λ x. at_most_one (repeats source handset reference x)) in
+    let more = total_behind (λ x. one_if (repeats source handset reference x)) m ms behind.last in
+    let added = entered.pending source handset reference (omega (arith, there, small, few)) in
+    omega (arith, there, more, added))
 
 -- ---- what its counts become
 
@@ -119,14 +128,6 @@ holds_added m reference old new split open' added = λ key small.
     ∙ ap (λ (d : Bool). one_if (is_of key m && (not d && (reference == key.number)))) (sym open')
     ∙ ap (λ (o : Option ℕ). one_if (is_of key m && (not (is_delivered m.state) && is_reference key.number o))) (sym split))
 
-pub bars_added : (m : MessageRow) (reference : ℕ) (old new : CountsOf) → m.split_reference ≡ Some reference → is_delivered m.state ≡ false → IsAdded (key_of m.source m.handset 0) old new → BarsMore m old new
-bars_added m reference old new split open' added = λ source handset small.
-    added (key_of source handset 0) small
-    ∙ ap (λ (n : ℕ). counted (key_of source handset 0) old + n)
-    (same_both (is_same_sender (key_of m.source m.handset 0).source (key_of source handset 0).source) (bytes_eq m.handset handset) true
-    ∙ ap (λ (d : Bool). one_if (is_of (key_of source handset 0) m && (not d && true))) (sym open')
-    ∙ ap (λ (o : Option ℕ). one_if (is_of (key_of source handset 0) m && (not (is_delivered m.state) && is_some o))) (sym split))
-
 pub plus_none : (n k : ℕ) → 0 ≡ k → n ≡ n + k
 plus_none n k e = omega (arith, e)
 
@@ -139,16 +140,6 @@ pub holds_delivered : (m : MessageRow) (old : CountsOf) → is_delivered m.state
 holds_delivered m old done = λ key small.
     plus_none (counted key old) (holds key m)
     (none_both (is_of key m) (is_reference key.number m.split_reference) ∙ ap (λ (d : Bool). one_if (is_of key m && (not d && is_reference key.number m.split_reference))) (sym done))
-
-pub bars_none : (m : MessageRow) (old : CountsOf) → m.split_reference ≡ None → BarsMore m old old
-bars_none m old split = λ source handset small.
-    plus_none (counted (key_of source handset 0) old) (holds_any (key_of source handset 0) m)
-    (none_any (is_of (key_of source handset 0) m) (not (is_delivered m.state)) ∙ ap (λ (o : Option ℕ). one_if (is_of (key_of source handset 0) m && (not (is_delivered m.state) && is_some o))) (sym split))
-
-pub bars_delivered : (m : MessageRow) (old : CountsOf) → is_delivered m.state ≡ true → BarsMore m old old
-bars_delivered m old done = λ source handset small.
-    plus_none (counted (key_of source handset 0) old) (holds_any (key_of source handset 0) m)
-    (none_both (is_of (key_of source handset 0) m) (is_some m.split_reference) ∙ ap (λ (d : Bool). one_if (is_of (key_of source handset 0) m && (not d && is_some m.split_reference))) (sym done))
 
 both_true : (s h : Bool) → (s && (h && true)) ≡ (s && h)
 both_true true true = refl
@@ -180,12 +171,6 @@ other_way a b = by (bytes_eq a b) (bytes_eq b a) refl refl where
   by false true e f = ((bytes_eq-Decides a b).1 (sym ((bytes_eq-Decides b a).0 f))) ∙ sym f
   by false false e f = e ∙ sym f
 
-number_other_way : (a b : ℕ) → nat_eq a b ≡ nat_eq b a
-number_other_way a b = ⊎_elim
-    (λ (e : a ≡ b). eq-eqb a b e ∙ sym (eq-eqb b a (sym e)))
-    (λ (e : a ≡ b → ⊥). ne_eqb a b e ∙ sym (ne_eqb b a (λ q. e (sym q))))
-    (cases_eq a b)
-
 turned : (s h n : Bool) → one_if (s && (h && n)) ≡ one_if (true && (n && (s && h)))
 turned true true true = refl
 turned true true false = refl
@@ -198,7 +183,7 @@ pub turned_back : (m : MessageRow) (reference : ℕ) (source handset : List ℕ)
     → one_if (bytes_eq m.source.digits source && (bytes_eq m.handset handset && nat_eq reference n)) ≡ one_if (repeats source handset n m)
 turned_back m reference source handset n from open' =
     turned (bytes_eq m.source.digits source) (bytes_eq m.handset handset) (nat_eq reference n)
-    ∙ ap (λ (b : Bool). one_if (true && (b && (bytes_eq m.source.digits source && bytes_eq m.handset handset)))) (number_other_way reference n)
+    ∙ ap (λ (b : Bool). one_if (true && (b && (bytes_eq m.source.digits source && bytes_eq m.handset handset)))) (swapped reference n)
     ∙ ap (λ (b : Bool). one_if (true && ((n == reference) && (b && bytes_eq m.handset handset)))) (other_way m.source.digits source)
     ∙ ap (λ (b : Bool). one_if (true && ((n == reference) && (bytes_eq source m.source.digits && b)))) (other_way m.handset handset)
     ∙ ap (λ (b : Bool). one_if (b && ((n == reference) && (bytes_eq source m.source.digits && bytes_eq handset m.handset)))) (sym open')

@@ -1,5 +1,5 @@
 -- What an event changes of messages and parts, as moves of what they lay claim to, and the memory for it.
-use Rattle.std.specs.Prelude.{◌≡◌, ℕ, ◌+◌, ◌≤◌, List, [], ◌∷◌, true, Option, Some, None}
+use Rattle.std.specs.Prelude.{◌≡◌, ℕ, ◌≤◌, List, [], ◌∷◌, true, Option, Some, None}
 use Rattle.sms_base.specs.declared.final_state.FinalState.{FinalState}
 use Rattle.sms_rows.specs.declared.table.change.Change.{Change}
 use Rattle.sms_rows.specs.declared.table.change.Change.TheVariants.{Put, Remove}
@@ -67,25 +67,31 @@ ArePartRemovals (r ∷ rs) = IsPartRemoval r × ArePartRemovals rs
 pub record ReferenceIndexReserveOf : Type 0 where
   pub held : ℕ
   pub own : ℕ
-  pub barred : ℕ
   pub last : ℕ
   pub pending : ℕ
+  pub held_bars : ℕ
+  pub own_bars : ℕ
 
--- it is memory for so many changes of messages and of parts
-pub record FitsTheReferences (s : ReferenceIndexReserveOf) (messages parts : ℕ) (k : ReferenceIndexOf) : Type 0 where
+-- it is memory for so many changes of messages, of parts and of bars
+pub record FitsTheReferences (s : ReferenceIndexReserveOf) (messages parts bars : ℕ) (k : ReferenceIndexOf) : Type 0 where
   pub held : Suffices messages s.held k.held
   pub own : Suffices parts s.own k.own
-  pub barred : Suffices (messages + parts) s.barred k.barred
   pub last : Suffices messages s.last k.last
   pub pending : Suffices messages s.pending k.pending
+  pub held_bars : Suffices bars s.held_bars k.held_bars
+  pub own_bars : Suffices bars s.own_bars k.own_bars
 
 -- so many changes take no memory
 pub record HasRoomFor (messages parts : ℕ) (k : ReferenceIndexOf) : Type 0 where
   pub held : messages ≤ k.held.room
   pub own : parts ≤ k.own.room
-  pub barred : messages + parts ≤ k.barred.room
   pub last : messages ≤ k.last.room
   pub pending : messages ≤ k.pending.room
+
+-- so many bars take none
+pub record HasBarRoom (bars : ℕ) (k : ReferenceIndexOf) : Type 0 where
+  pub held : bars ≤ k.held_bars.room
+  pub own : bars ≤ k.own_bars.room
 
 -- the memory was taken in
 pub record TakesInReferences (s : ReferenceIndexReserveOf) (old new : ReferenceIndexOf) : Type 0 where
@@ -93,9 +99,12 @@ pub record TakesInReferences (s : ReferenceIndexReserveOf) (old new : ReferenceI
   pub held_room : TookCounts s.held old.held new.held
   pub own : (key : MessageEnds) → counted key new.own ≡ counted key old.own
   pub own_room : TookCounts s.own old.own new.own
-  pub barred : (key : MessageEnds) → counted key new.barred ≡ counted key old.barred
-  pub barred_room : TookCounts s.barred old.barred new.barred
   pub last : (key : MessageEnds) → counted key new.last ≡ counted key old.last
   pub last_room : TookCounts s.last old.last new.last
   pub pending : (key : MessageEnds) → counted key new.pending ≡ counted key old.pending
   pub pending_room : TookCounts s.pending old.pending new.pending
+  pub held_bars : (key : MessageEnds) → counted key new.held_bars ≡ counted key old.held_bars
+  pub held_bars_room : TookCounts s.held_bars old.held_bars new.held_bars
+  pub own_bars : (key : MessageEnds) → counted key new.own_bars ≡ counted key old.own_bars
+  pub own_bars_room : TookCounts s.own_bars old.own_bars new.own_bars
+  pub last_bar : new.last_bar ≡ old.last_bar

@@ -1,5 +1,5 @@
 -- What messages lay claim to, as counts of messages and parts, and what memory has of it.
-use Rattle.std.specs.Prelude.{◌≡◌, ℕ, ◌+◌, ◌-◌, ◌<◌, ◌==◌, ◌&&◌, ◌||◌, not, is_some, List, [], ◌∷◌, length, Bool, false, if◌then◌else◌, Option, Some, None}
+use Rattle.std.specs.Prelude.{◌≡◌, ℕ, ◌+◌, ◌-◌, ◌<◌, ◌==◌, ◌&&◌, ◌||◌, not, nat_lt, List, [], ◌∷◌, length, Bool, false, if◌then◌else◌, Option, Some, None}
 use Rattle.std.specs.Str.{bytes_eq}
 use Rattle.sms_base.specs.AddressKind.{type_number}
 use Rattle.sms_base.specs.Among.{Among}
@@ -7,8 +7,12 @@ use Rattle.sms_base.specs.declared.final_state.FinalState.{FinalState}
 use Rattle.sms_base.specs.declared.originator.Originator.{Originator}
 use Rattle.sms_base.specs.declared.originator.Originator.TheVariants.{Application, Handset}
 use Rattle.sms_alphabet.specs.declared.concat_key.ConcatKey.{ConcatKey}
+use Rattle.sms_rows.specs.declared.table.change.Change.{Change}
+use Rattle.sms_rows.specs.declared.table.change.Change.TheVariants.{Put, Remove}
+use Rattle.sms_centre_rows.specs.declared.messages.bar.BarRow.{BarRow}
 use Rattle.sms_centre_rows.specs.declared.messages.message.MessageRow.{MessageRow}
 use Rattle.sms_centre_rows.specs.declared.messages.part.PartRow.{PartRow}
+use Rattle.sms_centre_rows.specs.messages.Bars.{next_bar}
 use Rattle.sms_centre_rows.specs.messages.Messages.{is_pending, message_at}
 use Rattle.sms_centre_rows.specs.messages.SplitReferences.{is_delivered, last_split, unless_split, wide_in}
 use Rattle.sms_base.specs.declared.address.Address.{Address}
@@ -36,10 +40,6 @@ is_reference n (Some reference) = reference == n
 abbrev pub holds : MessageEnds → MessageRow → ℕ
 holds key m = one_if (is_of key m && (not (is_delivered m.state) && is_reference key.number m.split_reference))
 
--- under any
-abbrev pub holds_any : MessageEnds → MessageRow → ℕ
-holds_any key m = one_if (is_of key m && (not (is_delivered m.state) && is_some m.split_reference))
-
 -- ---- of one part
 
 -- the 16-bit reference that was submitted with its message
@@ -50,8 +50,25 @@ wide_of key p (Some m) = if is_of key m then unless_split m.split_reference (wid
 abbrev pub submitted_with : MessageEnds → List MessageRow → PartRow → ℕ
 submitted_with key ms p = one_if (is_reference key.number (wide_of key p (message_at p.id ms)))
 
-abbrev pub submitted_with_any : MessageEnds → List MessageRow → PartRow → ℕ
-submitted_with_any key ms p = one_if (is_some (wide_of key p (message_at p.id ms)))
+-- ---- of one bar
+
+-- it is of the key's source and handset, and of its reference
+abbrev pub is_at : MessageEnds → BarRow → Bool
+is_at key b =
+    is_same_sender (record { type_of_number = type_number b.source.ton; plan = b.source.npi; digits = record { digits = b.source.digits } }) key.source
+    && (bytes_eq b.handset key.handset.digits && (b.reference == key.number))
+
+-- the centre gave it, or a header had it
+abbrev pub is_held_at : MessageEnds → BarRow → Bool
+is_held_at key b = is_at key b && not b.is_own
+
+abbrev pub is_own_at : MessageEnds → BarRow → Bool
+is_own_at key b = is_at key b && b.is_own
+
+-- one of them passes
+abbrev pub any : {A : Type 0} → (A → Bool) → List A → Bool
+any test [] = false
+any test (x ∷ xs) = test x || any test xs
 
 -- ---- messages of handsets
 
@@ -76,26 +93,36 @@ pub record ReferenceIndexOf : Type 0 where
   pub held : CountsOf
   -- how many parts were submitted with it
   pub own : CountsOf
-  -- of each source and handset, both together
-  pub barred : CountsOf
   -- the reference that was given last, and one more
   pub last : CountsOf
   -- of each TP-MR, how many messages are pending
   pub pending : CountsOf
+  -- of each reference of a source and a handset, some where a bar stands
+  pub held_bars : CountsOf
+  pub own_bars : CountsOf
+  -- the place of the last bar, or 0
+  pub last_bar : ℕ
 
 abbrev pub last_code : Option ℕ → ℕ
 last_code None = 0
 last_code (Some reference) = reference + 1
 
--- it is what these rows lay claim to
-pub record Represents (k : ReferenceIndexOf) (ms : List MessageRow) (ps : List PartRow) : Type 0 where
-  pub held : (key : MessageEnds) → counted key k.held ≡ total (holds key) ms
-  pub own : (key : MessageEnds) → counted key k.own ≡ total (submitted_with key ms) ps
-  pub barred : (source : Address) (handset : List ℕ)
-      → counted (key_of source handset 0) k.barred ≡ total (holds_any (key_of source handset 0)) ms + total (submitted_with_any (key_of source handset 0) ms) ps
+-- It is what these rows lay claim to. Where a bar stands, nothing is said of what messages lay claim to.
+pub record Represents (k : ReferenceIndexOf) (bs : List BarRow) (ms : List MessageRow) (ps : List PartRow) : Type 0 where
+  pub held : (key : MessageEnds) → any (is_held_at key) bs ≡ false → counted key k.held ≡ total (holds key) ms
+  pub own : (key : MessageEnds) → any (is_own_at key) bs ≡ false → counted key k.own ≡ total (submitted_with key ms) ps
+  pub held_bars : (key : MessageEnds) → nat_lt 0 (counted key k.held_bars) ≡ any (is_held_at key) bs
+  pub own_bars : (key : MessageEnds) → nat_lt 0 (counted key k.own_bars) ≡ any (is_own_at key) bs
+  pub next : k.last_bar + 1 ≡ next_bar bs
   pub last : (source : Address) (handset : List ℕ) → counted (key_of source handset 0) k.last ≡ last_code (last_split source handset None ms)
   pub pending : (source handset : List ℕ) (reference : ℕ)
       → counted (pair_of source handset reference) k.pending ≡ total (λ m. one_if (repeats source handset reference m)) ms
+
+-- the bars are as they were
+pub record SameBars (old new : ReferenceIndexOf) : Type 0 where
+  pub held : new.held_bars ≡ old.held_bars
+  pub own : new.own_bars ≡ old.own_bars
+  pub last : new.last_bar ≡ old.last_bar
 
 -- ---- moves
 
@@ -113,11 +140,6 @@ AreFew ms ps = length ms + length ps < 18446744073709551615
 -- the counts of references grow by what it holds
 abbrev pub HoldsMore : MessageRow → CountsOf → CountsOf → Type 0
 HoldsMore m old new = (key : MessageEnds) → counted key old < 18446744073709551615 → counted key new ≡ counted key old + holds key m
-
-abbrev pub BarsMore : MessageRow → CountsOf → CountsOf → Type 0
-BarsMore m old new =
-    (source : Address) (handset : List ℕ) → counted (key_of source handset 0) old < 18446744073709551615
-    → counted (key_of source handset 0) new ≡ counted (key_of source handset 0) old + holds_any (key_of source handset 0) m
 
 abbrev pub code_or : ℕ → Option ℕ → ℕ
 code_or earlier None = earlier
@@ -138,10 +160,10 @@ PendsMore m old new =
 -- the message is there, but no part of it
 pub record Entered (m : MessageRow) (old new : ReferenceIndexOf) : Type 0 where
   pub held : HoldsMore m old.held new.held
-  pub barred : BarsMore m old.barred new.barred
   pub last : GivesLast m old.last new.last
   pub pending : PendsMore m old.pending new.pending
   pub own : new.own ≡ old.own
+  pub bars : SameBars old new
 
 -- ---- what a message that ends releases
 
@@ -152,12 +174,6 @@ still m = record m { state = None; done = None }
 abbrev pub HoldsLess : MessageRow → FinalState → CountsOf → CountsOf → Type 0
 HoldsLess m state old new = (key : MessageEnds) → counted key new ≡ counted key old - (if is_delivered (Some state) then holds key m else 0)
 
-abbrev pub BarsLess : MessageRow → FinalState → CountsOf → CountsOf → Type 0
-BarsLess m state old new =
-    (source : Address) (handset : List ℕ)
-    → counted (key_of source handset 0) new
-    ≡ counted (key_of source handset 0) old - (if is_delivered (Some state) then holds_any (key_of source handset 0) m else 0)
-
 abbrev pub PendsLess : MessageRow → CountsOf → CountsOf → Type 0
 PendsLess m old new =
     (source handset : List ℕ) (reference : ℕ)
@@ -165,10 +181,10 @@ PendsLess m old new =
 
 pub record Ended (m : MessageRow) (state : FinalState) (old new : ReferenceIndexOf) : Type 0 where
   pub held : HoldsLess m state old.held new.held
-  pub barred : BarsLess m state old.barred new.barred
   pub pending : PendsLess m old.pending new.pending
   pub last : new.last ≡ old.last
   pub own : new.own ≡ old.own
+  pub bars : SameBars old new
 
 -- ---- what a part of that key brings, whose message it is
 
@@ -178,16 +194,32 @@ BringsOwn m key old new =
     → counted between new ≡ counted between old + one_if
     (is_reference between.number (if is_of between m then unless_split m.split_reference (wide_in key) else None))
 
-abbrev pub BringsBar : MessageRow → Option ConcatKey → CountsOf → CountsOf → Type 0
-BringsBar m key old new =
-    (source : Address) (handset : List ℕ) → counted (key_of source handset 0) old < 18446744073709551615
-    → counted (key_of source handset 0) new
-    ≡ counted (key_of source handset 0) old + one_if
-    (is_some (if is_of (key_of source handset 0) m then unless_split m.split_reference (wide_in key) else None))
-
 pub record Brought (m : MessageRow) (key : Option ConcatKey) (old new : ReferenceIndexOf) : Type 0 where
   pub own : BringsOwn m key old.own new.own
-  pub barred : BringsBar m key old.barred new.barred
   pub held : new.held ≡ old.held
   pub last : new.last ≡ old.last
   pub pending : new.pending ≡ old.pending
+  pub bars : SameBars old new
+
+-- ---- what bars bring
+
+abbrev pub is_put : (BarRow → Bool) → Change BarRow → Bool
+is_put test (Put b) = test b
+is_put test (Remove n) = false
+
+abbrev pub last_place : ℕ → List (Change BarRow) → ℕ
+last_place place [] = place
+last_place place (Put b ∷ cs) = last_place b.place cs
+last_place place (Remove n ∷ cs) = last_place place cs
+
+-- each that is put stands, and what messages lay claim to is as it was
+pub record Barred (changes : List (Change BarRow)) (old new : ReferenceIndexOf) : Type 0 where
+  pub held : (key : MessageEnds) → counted key new.held ≡ counted key old.held
+  pub own : (key : MessageEnds) → counted key new.own ≡ counted key old.own
+  pub held_bars : (key : MessageEnds)
+      → nat_lt 0 (counted key new.held_bars) ≡ (nat_lt 0 (counted key old.held_bars) || any (is_put (is_held_at key)) changes)
+  pub own_bars : (key : MessageEnds)
+      → nat_lt 0 (counted key new.own_bars) ≡ (nat_lt 0 (counted key old.own_bars) || any (is_put (is_own_at key)) changes)
+  pub last_bar : new.last_bar ≡ last_place old.last_bar changes
+  pub last : (key : MessageEnds) → counted key new.last ≡ counted key old.last
+  pub pending : (key : MessageEnds) → counted key new.pending ≡ counted key old.pending

@@ -1,22 +1,25 @@
 //! What is asked of a message before it is forgotten.
-ghost use Rattle.std.specs.Prelude.{◌≡◌, ◌&&◌, List, drop, nat_le, nat_lt, slice_get, IfOk};
+ghost use Rattle.std.specs.Prelude.{◌≡◌, ◌++◌, ◌&&◌, List, drop, is_some, nat_le, nat_lt, slice_get, IfOk, OnOk};
 ghost use Rattle.sms_rows.specs.table.Keys.{pair_key};
-ghost use Rattle.sms_rows.specs.table.Table.{row_at, rows_from};
+ghost use Rattle.sms_rows.specs.table.Table.{rows_between, rows_from};
+ghost use Rattle.sms_centre_rows.specs.messages.Bars.{claims_of, claims_of_header, claims_of_split};
 ghost use Rattle.sms_centre_rows.specs.messages.Messages.{message_key};
 ghost use Rattle.sms_centre_rows.specs.messages.PartEntries.{Few, entry_key};
+ghost use Rattle.sms_centre_rows.specs.messages.SplitReferences.{unless_split, wide_in};
 ghost use Rattle.sms_centre_rows.specs.declared.messages.message.MessageRow.{MessageRow as MessageRowOf};
 ghost use Rattle.sms_centre_rows.specs.declared.messages.part.PartRow.{PartRow as PartRowOf};
 ghost use Rattle.sms_centre_spec.specs.forgetting.Forget.{next_from};
-ghost use Rattle.sms_centre_spec.specs.forgetting.Forgetting.{has_own_wide, leaves_number};
+ghost use Rattle.sms_centre_spec.specs.forgetting.Forgetting.{is_before as is_before_of, leaves_number};
 ghost use Rattle.sms_centre_messages.specs.message_index.Entries.{message_entry_key};
-ghost use Rattle.sms_centre_messages.specs.message_index.Forgettable.{count_parts, is_own_wide, own_wide_to};
+ghost use Rattle.sms_centre_messages.specs.message_index.Forgettable.{claims_of_entries, count_parts};
 ghost use Rattle.sms_centre_messages.specs.message_index.MessageIndex.{Represents};
 
 use crate::message_index::index::MessageIndex;
 use crate::message_index::message_entry::MessageEntry;
 use crate::references::own_reference;
-use sms_base::MessageId;
-use sms_centre_rows::messages::MessageRow;
+use sms_base::{MessageId, Moment};
+use sms_centre_rows::messages::{Claim, MessageRow, PartEntry, is_delivered};
+use sms_concat::ConcatKey;
 use sms_rows::table::Key;
 use std::alloc::{AllocError, Global};
 
@@ -78,33 +81,89 @@ impl MessageIndex {
         }
     }
 
-    /// Whether the message was submitted with a header of its own that has a 16-bit reference.
-    pub fn has_own_wide(&self, message: &MessageRow) -> bool
-        ensures { (ms : List MessageRowOf) (ps : List PartRowOf) → Represents self.now ms ps → Few ps → result ≡ has_own_wide message.now ps }
+    /// What the message lays claim to, put behind these claims.
+    pub fn add_claims(
+        &self,
+        message: &MessageRow,
+        claims: &mut Vec<Claim>,
+    ) -> Result<(), AllocError>
+        ensures { (ms : List MessageRowOf) (ps : List PartRowOf) → Represents self.now ms ps → Few ps
+            → OnOk result (claims.new.items ≡ claims.old.items ++ claims_of message.now ps) }
     {
-        self.is_own_to_last(message)
+        add_claim_of_split(message, claims)?;
+        self.add_claims_of_parts(message, claims)?;
+        Ok(())
     }
 
-    // The same of its parts with the numbers 1 to 20.
-    fn is_own_to_last(&self, message: &MessageRow) -> bool
-        ensures { result ≡ own_wide_to message.now 20 self.now.parts.rows }
+    // What its parts lay claim to.
+    fn add_claims_of_parts(
+        &self,
+        message: &MessageRow,
+        claims: &mut Vec<Claim>,
+    ) -> Result<(), AllocError>
+        ensures { OnOk result (claims.new.items ≡ claims.old.items ++ claims_of_entries message.now
+            (rows_between entry_key (pair_key message.now.id 0) (pair_key message.now.id 255) self.now.parts.rows)) }
     {
-        for behind in 0u8..20 {
-            if self.is_own_wide(message, behind + 1) {
-                return true;
-            }
-        }
-        false
+        let number = message.id.number();
+        let parts = self
+            .parts
+            .rows_between(Key::pair(number, 0), Key::pair(number, 255));
+        add_claims_of(message, parts, claims)?;
+        Ok(())
     }
+}
 
-    // The same of its part of that number.
-    fn is_own_wide(&self, message: &MessageRow, number: u8) -> bool
-        ensures { result ≡ is_own_wide message.now (row_at entry_key (pair_key message.now.id number) self.now.parts.rows) }
-    {
-        match self.parts.find(Key::pair(message.id.number(), number)) {
-            Some(entry) => own_reference(message, &entry.key).is_some(),
-            None => false,
-        }
+fn add_claims_of(
+    message: &MessageRow,
+    parts: &[PartEntry],
+    claims: &mut Vec<Claim>,
+) -> Result<(), AllocError>
+    ensures { OnOk result (claims.new.items ≡ claims.old.items ++ claims_of_entries message.now parts.now) }
+{
+    for part in parts {
+        add_claim_of_header(message, &part.key, claims)?;
+    }
+    Ok(())
+}
+
+// The reference that the centre gave, where not all of it was delivered.
+fn add_claim_of_split(message: &MessageRow, claims: &mut Vec<Claim>) -> Result<(), AllocError>
+    ensures { OnOk result (claims.new.items ≡ claims.old.items ++ claims_of_split message.now message.now.split_reference) }
+{
+    let Some(reference) = message.split_reference else {
+        return Ok(());
+    };
+    if is_delivered(message.state) {
+        return Ok(());
+    }
+    claims.push(claim(message, reference, false))?;
+    Ok(())
+}
+
+// The 16-bit reference of a header that came with it.
+fn add_claim_of_header(
+    message: &MessageRow,
+    key: &Option<ConcatKey>,
+    claims: &mut Vec<Claim>,
+) -> Result<(), AllocError>
+    ensures { OnOk result (claims.new.items ≡ claims.old.items ++ claims_of_header message.now
+        (unless_split message.now.split_reference (wide_in key.now))) }
+{
+    let Some(reference) = own_reference(message, key) else {
+        return Ok(());
+    };
+    claims.push(claim(message, reference, true))?;
+    Ok(())
+}
+
+fn claim(message: &MessageRow, reference: u16, is_own: bool) -> Claim
+    ensures { result ≡ record { source = message.now.source; handset = message.now.handset; reference = reference; is_own = is_own } }
+{
+    Claim {
+        source: message.source,
+        handset: message.handset,
+        reference,
+        is_own,
     }
 }
 
@@ -114,4 +173,20 @@ fn is_before(message: &MessageRow, last: &MessageEntry) -> bool
 {
     message.id.number() < last.id.number()
         && message.submitted.seconds() <= last.submitted.seconds()
+}
+
+/// Whether the message has a final state, from before that moment.
+pub fn has_ended(message: &MessageRow, before: Moment) -> bool
+    ensures { result ≡ (is_some message.now.state && is_before_of before message.now.done) }
+{
+    message.state.is_some() && was_before(message.done, before)
+}
+
+fn was_before(done: Option<Moment>, before: Moment) -> bool
+    ensures { result ≡ is_before_of before done }
+{
+    match done {
+        Some(done) => done.seconds() < before.seconds(),
+        None => false,
+    }
 }

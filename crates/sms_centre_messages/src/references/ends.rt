@@ -1,10 +1,11 @@
 //! Claims that end with their messages, and claims of new parts.
 ghost use Rattle.std.specs.Prelude.{◌≡◌, ◌+◌, ◌<◌, ◌≤◌, ℕ, List, Some, true, IsOk, OnOk};
-ghost use Rattle.sms_centre_messages.specs.references.ReferenceIndex.{AreFew, BarsLess, BringsBar, BringsOwn, Brought, Ended, Represents, HoldsLess, PendsLess};
+ghost use Rattle.sms_centre_messages.specs.references.ReferenceIndex.{AreFew, BringsOwn, Brought, Ended, Represents, HoldsLess, PendsLess, SameBars};
 ghost use Rattle.sms_centre_messages.specs.references.ReferenceIndex.{still};
 ghost use Rattle.sms_centre_messages.specs.references.Moves.{HasRoomFor};
 ghost use Rattle.sms_centre_rows.specs.messages.Messages.{ended, is_pending, message_at, message_key, part_key};
 ghost use Rattle.sms_centre_rows.specs.messages.SplitReferences.{unless_split, wide_in, wide_reference};
+ghost use Rattle.sms_centre_rows.specs.declared.messages.bar.BarRow.{BarRow as BarRowOf};
 ghost use Rattle.sms_centre_rows.specs.declared.messages.message.MessageRow.{MessageRow as MessageRowOf};
 ghost use Rattle.sms_centre_rows.specs.declared.messages.part.PartRow.{PartRow as PartRowOf};
 ghost use Rattle.sms_rows.specs.table.Table.{Rises, put, row_at};
@@ -20,10 +21,11 @@ use std::alloc::AllocError;
 impl ReferenceIndex {
     /// A message that is pending ends so. The row is the one before its end, or the one after it.
     pub fn end(&mut self, row: &MessageRow, state: FinalState)
-        ensures holds { (ms : List MessageRowOf) (ps : List PartRowOf) (m : MessageRowOf) (moment : ℕ) → Represents self.old ms ps → Rises message_key ms
+        ensures holds { (bs : List BarRowOf) (ms : List MessageRowOf) (ps : List PartRowOf) (m : MessageRowOf) (moment : ℕ) → Represents self.old bs ms ps → Rises message_key ms
             → message_at m.id ms ≡ Some m → is_pending m ≡ true
-            → still row.now ≡ still m → Represents self.new (put message_key (ended state moment m) ms) ps }
+            → still row.now ≡ still m → Represents self.new bs (put message_key (ended state moment m) ms) ps }
         ensures room { (n p : ℕ) → HasRoomFor (n + 1) p self.old → HasRoomFor n p self.new }
+        ensures bars { SameBars self.old self.new }
     {
         self.count_out(row, state);
     }
@@ -34,17 +36,17 @@ impl ReferenceIndex {
         ensures room { (n p : ℕ) → HasRoomFor (n + 1) p self.old → HasRoomFor n p self.new }
     {
         drop_held(&mut self.held, row, state);
-        drop_barred(&mut self.barred, row, state);
         drop_pending(&mut self.pending, row);
     }
 
     /// Adds a part of that message, with that key.
     pub fn bring(&mut self, message: &MessageRow, key: &Option<ConcatKey>) -> Result<(), AllocError>
-        ensures holds { (ms : List MessageRowOf) (ps : List PartRowOf) (p : PartRowOf) → Represents self.old ms ps → Rises part_key ps
+        ensures holds { (bs : List BarRowOf) (ms : List MessageRowOf) (ps : List PartRowOf) (p : PartRowOf) → Represents self.old bs ms ps → Rises part_key ps
             → message_at p.id ms ≡ Some message.now → p.key ≡ key.now
-            → row_at part_key (part_key p) ps ≡ None → AreFew ms ps → OnOk result (Represents self.new ms (put part_key p ps)) }
+            → row_at part_key (part_key p) ps ≡ None → AreFew ms ps → OnOk result (Represents self.new bs ms (put part_key p ps)) }
         ensures room { (n p : ℕ) → HasRoomFor n (p + 1) self.old → OnOk result (HasRoomFor n p self.new) }
         ensures ready { HasRoomFor 0 1 self.old → IsOk result }
+        ensures bars { OnOk result (SameBars self.old self.new) }
     {
         self.count_part(message, key)?;
         Ok(())
@@ -61,7 +63,6 @@ impl ReferenceIndex {
         ensures ready { HasRoomFor 0 1 self.old → IsOk result }
     {
         count_own(&mut self.own, message, key)?;
-        count_bar(&mut self.barred, message, key)?;
         Ok(())
     }
 }
@@ -78,20 +79,6 @@ fn drop_held(held: &mut Counts, row: &MessageRow, state: FinalState)
         return;
     }
     held.take(MessageEnds::of(&row.source, &row.handset, reference));
-}
-
-// That it held one.
-fn drop_barred(barred: &mut Counts, row: &MessageRow, state: FinalState)
-    ensures less { BarsLess (still row.now) state barred.old barred.new }
-    ensures room { barred.old.room ≤ barred.new.room + 1 }
-{
-    if row.split_reference.is_none() {
-        return;
-    }
-    if !is_delivered(Some(state)) {
-        return;
-    }
-    barred.take(MessageEnds::of(&row.source, &row.handset, 0));
 }
 
 // The TP-MR of a handset's message.
@@ -143,21 +130,5 @@ fn count_own(
         return Ok(());
     };
     own.add(MessageEnds::of(&message.source, &message.handset, reference))?;
-    Ok(())
-}
-
-fn count_bar(
-    barred: &mut Counts,
-    message: &MessageRow,
-    key: &Option<ConcatKey>,
-) -> Result<(), AllocError>
-    ensures more { OnOk result (BringsBar message.now key.now barred.old barred.new) }
-    ensures room { OnOk result (barred.old.room ≤ barred.new.room + 1) }
-    ensures ready { 0 < barred.old.room → IsOk result }
-{
-    let Some(_) = own_reference(message, key) else {
-        return Ok(());
-    };
-    barred.add(MessageEnds::of(&message.source, &message.handset, 0))?;
     Ok(())
 }

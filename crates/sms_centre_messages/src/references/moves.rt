@@ -1,8 +1,9 @@
 //! Claims that are new or end.
 ghost use Rattle.std.specs.Prelude.{◌≡◌, ◌+◌, ◌<◌, ◌≤◌, ℕ, List, IsOk, OnOk};
-ghost use Rattle.sms_centre_messages.specs.references.ReferenceIndex.{AreFew, BarsMore, IsNewest, Entered, GivesLast, Represents, HoldsMore, PendsMore};
+ghost use Rattle.sms_centre_messages.specs.references.ReferenceIndex.{AreFew, IsNewest, Entered, GivesLast, Represents, HoldsMore, PendsMore, SameBars};
 ghost use Rattle.sms_centre_messages.specs.references.Moves.{HasRoomFor};
 ghost use Rattle.sms_centre_rows.specs.messages.Messages.{message_key};
+ghost use Rattle.sms_centre_rows.specs.declared.messages.bar.BarRow.{BarRow as BarRowOf};
 ghost use Rattle.sms_centre_rows.specs.declared.messages.message.MessageRow.{MessageRow as MessageRowOf};
 ghost use Rattle.sms_centre_rows.specs.declared.messages.part.PartRow.{PartRow as PartRowOf};
 ghost use Rattle.sms_rows.specs.table.Table.{put};
@@ -17,10 +18,11 @@ use std::alloc::AllocError;
 impl ReferenceIndex {
     /// Adds a message behind all others, with no parts yet.
     pub fn enter(&mut self, row: &MessageRow) -> Result<(), AllocError>
-        ensures holds { (ms : List MessageRowOf) (ps : List PartRowOf) → Represents self.old ms ps → IsNewest row.now ms ps → AreFew ms ps
-            → OnOk result (Represents self.new (put message_key row.now ms) ps) }
+        ensures holds { (bs : List BarRowOf) (ms : List MessageRowOf) (ps : List PartRowOf) → Represents self.old bs ms ps → IsNewest row.now ms ps → AreFew ms ps
+            → OnOk result (Represents self.new bs (put message_key row.now ms) ps) }
         ensures room { (n p : ℕ) → HasRoomFor (n + 1) p self.old → OnOk result (HasRoomFor n p self.new) }
         ensures ready { HasRoomFor 1 0 self.old → IsOk result }
+        ensures bars { OnOk result (SameBars self.old self.new) }
     {
         self.count_in(row)?;
         Ok(())
@@ -33,7 +35,6 @@ impl ReferenceIndex {
         ensures ready { HasRoomFor 1 0 self.old → IsOk result }
     {
         count_held(&mut self.held, row)?;
-        count_barred(&mut self.barred, row)?;
         note_last(&mut self.last, row)?;
         count_pending(&mut self.pending, row)?;
         Ok(())
@@ -53,22 +54,6 @@ fn count_held(held: &mut Counts, row: &MessageRow) -> Result<(), AllocError>
         return Ok(());
     }
     held.add(MessageEnds::of(&row.source, &row.handset, reference))?;
-    Ok(())
-}
-
-// That it holds one.
-fn count_barred(barred: &mut Counts, row: &MessageRow) -> Result<(), AllocError>
-    ensures more { OnOk result (BarsMore row.now barred.old barred.new) }
-    ensures room { OnOk result (barred.old.room ≤ barred.new.room + 1) }
-    ensures ready { 0 < barred.old.room → IsOk result }
-{
-    if row.split_reference.is_none() {
-        return Ok(());
-    }
-    if is_delivered(row.state) {
-        return Ok(());
-    }
-    barred.add(MessageEnds::of(&row.source, &row.handset, 0))?;
     Ok(())
 }
 

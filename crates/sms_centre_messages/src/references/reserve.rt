@@ -100,9 +100,10 @@ impl Counts {
 pub struct ReferenceIndexReserve {
     held: CountsReserve,
     own: CountsReserve,
-    barred: CountsReserve,
     last: CountsReserve,
     pending: CountsReserve,
+    held_bars: CountsReserve,
+    own_bars: CountsReserve,
 }
 
 impl Model for ReferenceIndexReserve {
@@ -110,7 +111,14 @@ impl Model for ReferenceIndexReserve {
 
     ghost Value = { ReferenceIndexReserveOf };
 
-    ghost view = { λ s. record { held = s.held; own = s.own; barred = s.barred; last = s.last; pending = s.pending } };
+    ghost view = { λ s. record {
+      held = s.held;
+      own = s.own;
+      last = s.last;
+      pending = s.pending;
+      held_bars = s.held_bars;
+      own_bars = s.own_bars;
+    } };
 }
 
 impl ReferenceIndexReserve {
@@ -118,31 +126,34 @@ impl ReferenceIndexReserve {
     fn new(alloc: Global) -> ReferenceIndexReserve {
         let held = CountsReserve::new(alloc);
         let own = CountsReserve::new(alloc);
-        let barred = CountsReserve::new(alloc);
         let last = CountsReserve::new(alloc);
         let pending = CountsReserve::new(alloc);
+        let held_bars = CountsReserve::new(alloc);
+        let own_bars = CountsReserve::new(alloc);
         ReferenceIndexReserve {
             held,
             own,
-            barred,
             last,
             pending,
+            held_bars,
+            own_bars,
         }
     }
 }
 
 impl ReferenceIndex {
-    /// Memory for that many changes of messages and of parts.
+    /// Memory for that many changes of messages, of parts and of bars.
     pub fn make_reserve(
         &self,
         alloc: Global,
         messages: usize,
         parts: usize,
+        bars: usize,
     ) -> Result<ReferenceIndexReserve, AllocError>
-        ensures { IfOk result (λ reserve. FitsTheReferences reserve messages parts self.now) }
+        ensures { IfOk result (λ reserve. FitsTheReferences reserve messages parts bars self.now) }
     {
         let mut reserve = ReferenceIndexReserve::new(alloc);
-        match self.fill_reserve(alloc, messages, parts, &mut reserve) {
+        match self.fill_reserve(alloc, messages, parts, bars, &mut reserve) {
             Ok(()) => Ok(reserve),
             Err(error) => {
                 drop(reserve);
@@ -157,22 +168,22 @@ impl ReferenceIndex {
         alloc: Global,
         messages: usize,
         parts: usize,
+        bars: usize,
         reserve: &mut ReferenceIndexReserve,
     ) -> Result<(), AllocError>
-        ensures { OnOk result (FitsTheReferences reserve.new messages parts self.now) }
+        ensures { OnOk result (FitsTheReferences reserve.new messages parts bars self.now) }
     {
-        let Some(both) = messages.checked_add(parts) else {
-            return Err(AllocError);
-        };
         self.held
             .make_reserve_in(alloc, messages, &mut reserve.held)?;
         self.own.make_reserve_in(alloc, parts, &mut reserve.own)?;
-        self.barred
-            .make_reserve_in(alloc, both, &mut reserve.barred)?;
         self.last
             .make_reserve_in(alloc, messages, &mut reserve.last)?;
         self.pending
             .make_reserve_in(alloc, messages, &mut reserve.pending)?;
+        self.held_bars
+            .make_reserve_in(alloc, bars, &mut reserve.held_bars)?;
+        self.own_bars
+            .make_reserve_in(alloc, bars, &mut reserve.own_bars)?;
         Ok(())
     }
 
@@ -182,8 +193,9 @@ impl ReferenceIndex {
     {
         self.held.use_reserve(reserve.held);
         self.own.use_reserve(reserve.own);
-        self.barred.use_reserve(reserve.barred);
         self.last.use_reserve(reserve.last);
         self.pending.use_reserve(reserve.pending);
+        self.held_bars.use_reserve(reserve.held_bars);
+        self.own_bars.use_reserve(reserve.own_bars);
     }
 }

@@ -8,10 +8,10 @@ use Rattle.sms_centre_rows.specs.declared.waiting.queued_part.QueuedPart.{Queued
 use Rattle.sms_centre_rows.specs.waiting.Links.{Links, line_of}
 use Rattle.sms_centre_rows.specs.waiting.References.{Allocations, handset_at, handset_of, handsets_of, next_reference, or_new_handset, place_after, references_of}
 use Rattle.sms_centre_rows.proofs.waiting.ReferencesRepresented.{next_represented}
+use Rattle.sms_centre_rows.proofs.waiting.LinksRepresented.{line_of_handset}
 use Rattle.sms_centre_queue.specs.declared.queues.placed_queue.PlacedQueue.{PlacedQueue}
 use Rattle.sms_centre_queue.specs.queues.Queues.{DeliveryQueuesDraftOf, HasNoPlace, at, or_new, placed_of}
 use Rattle.sms_centre_queue.specs.queues.Representing.{DraftRepresents, RepresentsPlaced}
-use Rattle.sms_centre_queue.proofs.queues.LinkPlaces.{line_handset}
 
 pub asked : (number : List ℕ) (o : Option PlacedQueue) (p : DeliveryQueuesDraftOf) → IsMsisdn number → o ≡ at (digits_key number) p
     → (g : Allocations) (links : Links) (w : List ℕ → List QueuedPart) → DraftRepresents g links w p → RepresentsPlaced number (handsets_of g) (references_of g) (w number) links.lines (or_new number o)
@@ -35,7 +35,7 @@ asked_reference number o p now digits is g links w represents =
     let q : PlacedQueue = or_new number o in
     let hs : List HandsetRow = handsets_of g in
     let one = asked number o p digits is g links w represents in
-    let handset : q.queue.line.handset ≡ number = ap (λ (l : HandsetLink). l.handset) one.queue.line ∙ line_handset number links.lines in
+    let handset : q.queue.line.handset ≡ number = ap (λ (l : HandsetLink). l.handset) one.queue.line ∙ line_of_handset number links.lines in
     ap (λ (n : List ℕ). next_reference (or_new_handset n p.next_place q.queue.row) q.queue.waiting q.queue.given now) handset
     ∙ ap (λ (n : ℕ). next_reference (or_new_handset number n q.queue.row) q.queue.waiting q.queue.given now) represents.next_place
     ∙ sym (next_represented number hs (references_of g) q.queue.given q.queue.waiting q.queue.row now represents.sound (sym one.queue.row) one.queue.given)

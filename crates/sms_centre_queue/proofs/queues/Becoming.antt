@@ -2,6 +2,7 @@
 use Rattle.std.proofs.Common.{◌≡◌, ℕ, List, length, Option, Some, sym, ◌∙◌, ap, subst, ⊎_elim}
 use Rattle.std.specs.Option.{option_or}
 use Rattle.std.proofs.lemmas.Bool.{cases_eq}
+use Rattle.sms_base.proofs.OctetLaws.{cases_octets}
 use Rattle.sms_base.specs.Among.{Among}
 use Rattle.sms_base.specs.Msisdn.{IsMsisdn}
 use Rattle.sms_rows.specs.table.Keys.{digits_key}
@@ -12,7 +13,6 @@ use Rattle.sms_centre_rows.specs.declared.waiting.queued_part.QueuedPart.{Queued
 use Rattle.sms_centre_rows.specs.waiting.Links.{Links}
 use Rattle.sms_centre_rows.specs.waiting.References.{Allocations, handsets_of, place_after, references_of}
 use Rattle.sms_centre_rows.specs.waiting.SoundAllocations.{SoundAllocations}
-use Rattle.sms_centre_rows.proofs.waiting.Mentions.{cases_number}
 use Rattle.sms_centre_queue.specs.declared.queues.placed_queue.PlacedQueue.{PlacedQueue}
 use Rattle.sms_centre_queue.specs.queues.LineOrder.{AreLines}
 use Rattle.sms_centre_queue.specs.queues.Queues.{Becomes, DeliveryQueuesDraftOf, at, or_new, placed_of, under}
@@ -69,7 +69,7 @@ represents_next number placed p base new g g2 links air2 w w2 digits becomes sam
       ap (λ (o : Option PlacedQueue). or_new other o) (at_other (digits_key number) (digits_key other) placed base new becomes apart ∙ same (digits_key other)) in
       subst (λ (q : PlacedQueue). RepresentsPlaced other (handsets_of g2) (references_of g2) (w2 other) air2.lines q) (sym there)
       (others other (placed_of other p) ne (represents.each other d)))
-      (cases_number number other);
+      (cases_octets number other);
   named = λ key q found. ⊎_elim
       (λ (e : key ≡ digits_key number).
       let is : Some placed ≡ Some q = sym (at_own (digits_key number) placed base new becomes) ∙ ap (λ (k : ℕ). at k new) (sym e) ∙ found in

@@ -21,6 +21,7 @@ use Rattle.sms_centre_rows.specs.waiting.Links.{Links, is_ready, line_of}
 use Rattle.sms_centre_rows.specs.waiting.References.{Allocations, handset_at, handsets_of, references_of}
 use Rattle.sms_centre_rows.specs.waiting.Waiting.{if_due, next, preceding}
 use Rattle.sms_centre_rows.proofs.waiting.Mentions.{number_found, number_none}
+use Rattle.sms_centre_rows.proofs.waiting.LinksRepresented.{line_of_handset}
 use Rattle.sms_centre_queue.specs.declared.queues.placed_queue.PlacedQueue.{PlacedQueue}
 use Rattle.sms_centre_queue.specs.declared.queues.concern.ConcernedHandset.{ConcernedHandset}
 use Rattle.sms_centre_queue.specs.declared.queues.concern.Concern.{Concern}
@@ -31,7 +32,6 @@ use Rattle.sms_centre_queue.specs.queues.Queues.{DeliveryQueuesDraftOf, at, is_l
 use Rattle.sms_centre_queue.specs.queues.Representing.{Indexed, DraftRepresents, RepresentsPlaced}
 use Rattle.sms_centre_queue.specs.queues.Stops.{all_noted, found, is_active, is_stop, is_wanted, line_place, line_stops, mention_stops, order_of, place_of, rests_for, scanned, stop_at, stop_if, stop_in, stops_of}
 use Rattle.sms_centre_queue.proofs.queues.Allocation.{number_digits}
-use Rattle.sms_centre_queue.proofs.queues.LinkPlaces.{line_handset}
 use Rattle.sms_centre_queue.proofs.queues.Scanning.{empty_before, empty_there, among_filter, filter_among, preserved_noted, noted_there, rises_filter, rises_noted, same_rows, seen_noted}
 use Rattle.sms_centre_queue.proofs.queues.StopOrder.{among_line_stop, among_mention, line_stop_among, lines_rise, mention_among, mentions_rise}
 
@@ -345,7 +345,7 @@ scan_finds purpose g links w p represents =
     let made : stop_at purpose q ≡ Some x = stop_made purpose q x (record {
       is = wanted_represented purpose x.number g links w q one ∙ f.1;
       order = d.1 q one;
-      number = sym (ap (λ (l : HandsetLink). l.handset) one.queue.line ∙ line_handset x.number links.lines);
+      number = sym (ap (λ (l : HandsetLink). l.handset) one.queue.line ∙ line_of_handset x.number links.lines);
     }) in
     looked_at purpose p (digits_key x.number) x (under (digits_key x.number) p.touched) (under (digits_key x.number) p.base.queues) represents.indexed
     (λ s seen same. alone g links w p x s represents rises f.0 (seen_found purpose g links w p s seen.0 (at seen.0 p) represents refl seen.1).0 same)

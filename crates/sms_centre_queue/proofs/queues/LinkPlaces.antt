@@ -1,24 +1,18 @@
 -- A link that is put keeps its place in the order of arrival, or is behind all others. No other changes its place.
-use Rattle.std.proofs.Common.{◌≡◌, ℕ, ◌+◌, ◌<◌, List, [], ◌∷◌, length, true, false, Option, None, refl, sym, ◌∙◌, ap, subst, inl, inr, ⊎_elim, cond, arith, bytes_eq}
+use Rattle.std.proofs.Common.{◌≡◌, ℕ, ◌+◌, ◌<◌, List, [], ◌∷◌, length, true, false, None, refl, sym, ◌∙◌, ap, subst, inl, inr, ⊎_elim, cond, arith, bytes_eq}
 use Rattle.std.specs.Prelude.{◌==◌}
 use Rattle.std.proofs.lemmas.Bool.{cases_Bool, cond-true, cond-false, ne_eqb}
 use Rattle.std.proofs.lemmas.Slice.Eq.{bytes_eq-Decides}
+use Rattle.sms_base.proofs.OctetLaws.{cases_octets, differ}
 use Rattle.sms_base.specs.Among.{Among}
 use Rattle.sms_base.specs.Msisdn.{IsMsisdn}
 use Rattle.sms_centre_rows.specs.declared.waiting.handset_link.HandsetLink.{HandsetLink}
-use Rattle.sms_centre_rows.specs.waiting.Links.{line_at, line_of, or_new_line, with_line}
-use Rattle.sms_centre_rows.proofs.waiting.LinksRepresented.{line_behind, line_here, put_at_other}
-use Rattle.sms_centre_rows.proofs.waiting.Mentions.{cases_number}
+use Rattle.sms_centre_rows.specs.waiting.Links.{line_at, with_line}
+use Rattle.sms_centre_rows.proofs.waiting.LinksRepresented.{put_at_other}
 use Rattle.sms_centre_queue.specs.queues.LineOrder.{AreLines, link_place_from}
 use Rattle.sms_centre_queue.specs.queues.Queues.{lines_now}
 
 -- ---- one line
-
-pub differ : (a b : List ℕ) → ¬ (a ≡ b) → bytes_eq a b ≡ false
-differ a b ne = ⊎_elim
-    (λ (t : bytes_eq a b ≡ true). absurd (ne ((bytes_eq-Decides a b).0 t)))
-    (λ (t : bytes_eq a b ≡ false). t)
-    (cases_Bool (bytes_eq a b))
 
 pub put_here : (line l : HandsetLink) (ls : List HandsetLink) → l.handset ≡ line.handset → with_line line (l ∷ ls) ≡ line ∷ ls
 put_here line l ls e = cond-true (bytes_eq l.handset line.handset) (line ∷ ls) (l ∷ with_line line ls) ((bytes_eq-Decides l.handset line.handset).1 e)
@@ -45,8 +39,8 @@ arrived_other place number line (l ∷ ls) ne = ⊎_elim
     (λ (t : l.handset ≡ number). arrived_here place number l (with_line line ls) t ∙ sym (arrived_here place number l ls t))
     (λ (t : l.handset ≡ number → ⊥).
     arrived_behind place number l (with_line line ls) t ∙ arrived_other (place + 1) number line ls ne ∙ sym (arrived_behind place number l ls t))
-    (cases_number l.handset number))
-    (cases_number l.handset line.handset)
+    (cases_octets l.handset number))
+    (cases_octets l.handset line.handset)
 
 -- it has a place, or the one behind that many lines
 abbrev place_behind : ℕ → ℕ → ℕ
@@ -67,7 +61,7 @@ arrived_own place line (l ∷ ls) some = ⊎_elim
     ∙ arrived_own (place + 1) line ls (omega arith)
     ∙ ap (λ (n : ℕ). place_behind (link_place_from (place + 1) line.handset ls) n) one_more
     ∙ sym (ap (λ (n : ℕ). place_behind n (length (l ∷ ls) + place)) (arrived_behind place line.handset l ls e)))
-    (cases_number l.handset line.handset)
+    (cases_octets l.handset line.handset)
 
 -- ---- how many lines there are
 
@@ -84,7 +78,7 @@ line_count place line (l ∷ ls) some = ⊎_elim
     let behind : length (l ∷ with_line line ls) ≡ length (with_line line ls) + 1 = omega arith in
     ap (λ (r : List HandsetLink). length r) (put_behind line l ls e) ∙ behind ∙ ap (λ (m : ℕ). m + 1) (line_count (place + 1) line ls (omega arith))
     ∙ grows n (length ls) ∙ ap (λ (m : ℕ). lines_now n m) one_more ∙ sym (ap (λ (m : ℕ). lines_now m (length (l ∷ ls))) (arrived_behind place line.handset l ls e)))
-    (cases_number l.handset line.handset)
+    (cases_octets l.handset line.handset)
   where
     grows : (n m : ℕ) → lines_now n m + 1 ≡ lines_now n (m + 1)
     grows n m = ⊎_elim
@@ -108,7 +102,7 @@ digits_put line (x ∷ xs) d f l m = ⊎_elim
     (λ (q : l ≡ x). f l (inl q))
     (λ (r : Among l (with_line line xs)). digits_put line xs d (λ y n. f y (inr n)) l r)
     (subst (λ (r : List HandsetLink). Among l r) (put_behind line x xs e) m))
-    (cases_number x.handset line.handset)
+    (cases_octets x.handset line.handset)
 
 pub apart_put : (line : HandsetLink) (ls : List HandsetLink) → AreLines ls → AreLines (with_line line ls)
 apart_put line [] a = (refl, tt)
@@ -119,13 +113,4 @@ apart_put line (l ∷ ls) a = ⊎_elim
     (λ (e : l.handset ≡ line.handset → ⊥).
     let none : line_at l.handset (with_line line ls) ≡ None = put_at_other l.handset line ls (λ q. e (sym q)) ∙ a.0 in
     subst AreLines (sym (put_behind line l ls e)) (none, apart_put line ls a.1))
-    (cases_number l.handset line.handset)
-
--- ---- a line is that of its handset
-
-pub line_handset : (number : List ℕ) (ls : List HandsetLink) → (line_of number ls).handset ≡ number
-line_handset number [] = refl
-line_handset number (l ∷ ls) = ⊎_elim
-    (λ (e : l.handset ≡ number). ap (λ (o : Option HandsetLink). (or_new_line number o).handset) (line_here number l ls e) ∙ e)
-    (λ (e : l.handset ≡ number → ⊥). ap (λ (o : Option HandsetLink). (or_new_line number o).handset) (line_behind number l ls e) ∙ line_handset number ls)
-    (cases_number l.handset number)
+    (cases_octets l.handset line.handset)

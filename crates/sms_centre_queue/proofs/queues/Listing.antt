@@ -1,18 +1,13 @@
 -- One key comes into the index or goes, and one queue comes under its key.
-use Rattle.std.proofs.Common.{◌≡◌, ℕ, List, [], ◌∷◌, length, Bool, true, false, nat_eq, Option, Some, None, refl, sym, ◌∙◌, ap, subst, ⊎_elim, cond, is_some, eq-eqb, arith}
+use Rattle.std.proofs.Common.{◌≡◌, ℕ, List, [], ◌∷◌, length, Bool, true, false, nat_eq, Option, Some, None, refl, sym, ◌∙◌, ap, subst, cond, is_some}
 use Rattle.std.specs.Map.{lookup}
-use Rattle.std.proofs.lemmas.Bool.{cases_eq, ne_eqb}
+use Rattle.sms_base.proofs.Lists.{no_items}
+use Rattle.sms_base.proofs.Bools.{swapped}
 use Rattle.sms_centre_queue.specs.declared.queues.placed_queue.PlacedQueue.{PlacedQueue}
 use Rattle.sms_centre_queue.specs.declared.queues.concern.ConcernedHandset.{ConcernedHandset}
 use Rattle.sms_centre_queue.specs.declared.queues.concern.Concern.TheVariants.{Offer}
 use Rattle.sms_centre_queue.specs.queues.Queues.{DeliveryQueuesDraftOf, is_listed, under}
 use Rattle.sms_centre_queue.specs.queues.Stops.{rested_at, scanned}
-
-pub swapped : (a b : ℕ) → nat_eq a b ≡ nat_eq b a
-swapped a b = ⊎_elim
-    (λ (e : a ≡ b). eq-eqb a b e ∙ sym (eq-eqb b a (sym e)))
-    (λ (e : a ≡ b → ⊥). ne_eqb a b e ∙ sym (ne_eqb b a (λ q. e (sym q))))
-    (cases_eq a b)
 
 over_cond : (b : Bool) (x y : Option (Unit {0})) → is_some (cond b x y) ≡ cond b (is_some x) (is_some y)
 over_cond true x y = refl
@@ -30,13 +25,8 @@ listed_as key k w active old new is written =
 pub placed_as : (key k : ℕ) (placed : PlacedQueue) (old new : List (ℕ × PlacedQueue)) → Written key (Some placed) old new → under k new ≡ cond (nat_eq k key) (Some placed) (under k old)
 placed_as key k placed old new written = written k ∙ ap (λ (b : Bool). cond b (Some placed) (under k old)) (swapped key k)
 
--- a moment at which nothing was found
-no_rows : (stops : List ConcernedHandset) → length stops ≡ 0 → stops ≡ []
-no_rows [] e = refl
-no_rows (s ∷ ss) e = absurd (omega (arith, e))
-
 pub nothing_at : (now : ℕ) (stops : List ConcernedHandset) (p : DeliveryQueuesDraftOf) → stops ≡ scanned (Offer now) p → length stops ≡ 0 → Some now ≡ rested_at now (scanned (Offer now) p)
-nothing_at now stops p is none = ap (λ (ss : List ConcernedHandset). rested_at now ss) (sym (no_rows stops none) ∙ is)
+nothing_at now stops p is none = ap (λ (ss : List ConcernedHandset). rested_at now ss) (sym (no_items stops none) ∙ is)
 
 some_rows : (now : ℕ) (stops : List ConcernedHandset) → ¬ (length stops ≡ 0) → None ≡ rested_at now stops
 some_rows now [] some = absurd (some refl)

@@ -8,13 +8,13 @@ use Rattle.sms_centre_rows.specs.declared.waiting.handset_link.Sent.{Sent}
 use Rattle.sms_centre_rows.specs.declared.waiting.queued_part.QueuedPart.{QueuedPart}
 use Rattle.sms_centre_rows.specs.waiting.Links.{Links, line_of, to_handset, with_line}
 use Rattle.sms_centre_rows.specs.waiting.References.{Allocations, handsets_of, references_of}
-use Rattle.sms_centre_rows.proofs.waiting.LinksRepresented.{line_put, line_put_other}
+use Rattle.sms_centre_rows.proofs.waiting.LinksRepresented.{line_of_handset, line_put, line_put_other}
 use Rattle.sms_centre_queue.specs.declared.queues.placed_queue.PlacedQueue.{PlacedQueue}
 use Rattle.sms_centre_queue.specs.queues.LineOrder.{link_place_in}
 use Rattle.sms_centre_queue.specs.queues.Queues.{Becomes, IsTaken, DeliveryQueuesDraftOf, link_place_now, counted, lines_now, on_line, with_queue}
 use Rattle.sms_centre_queue.specs.queues.Representing.{DraftRepresents, RepresentsPlaced, Waits}
 use Rattle.sms_centre_queue.proofs.queues.Becoming.{also_represented, represents_next}
-use Rattle.sms_centre_queue.proofs.queues.LinkPlaces.{apart_put, arrived_other, arrived_own, digits_put, line_count, line_handset}
+use Rattle.sms_centre_queue.proofs.queues.LinkPlaces.{apart_put, arrived_other, arrived_own, digits_put, line_count}
 
 -- ---- a queue that was taken out and is put back
 
@@ -41,7 +41,7 @@ taken_represented number q p mid g links w digits taken represents =
 
 pub taken_handset : (number : List ℕ) (q : PlacedQueue) (p mid : DeliveryQueuesDraftOf) (g : Allocations) (links : Links) (w : List ℕ → List QueuedPart) → IsMsisdn number → IsTaken number q p mid → DraftRepresents g links w p → q.queue.line.handset ≡ number
 taken_handset number q p mid g links w digits taken represents =
-    ap (λ (l : HandsetLink). l.handset) (taken_represented number q p mid g links w digits taken represents).queue.line ∙ line_handset number links.lines
+    ap (λ (l : HandsetLink). l.handset) (taken_represented number q p mid g links w digits taken represents).queue.line ∙ line_of_handset number links.lines
 
 -- ---- what waits
 
@@ -69,7 +69,7 @@ line_next number f sent q p mid new digits keeps taken becomes g links w represe
     let was = taken_represented number q p mid g links w digits taken represents in
     let line : HandsetLink = f (line_of number links.lines) in
     let is : q.queue.line ≡ line_of number links.lines = was.queue.line in
-    let handset : line.handset ≡ number = keeps (line_of number links.lines) ∙ line_handset number links.lines in
+    let handset : line.handset ≡ number = keeps (line_of number links.lines) ∙ line_of_handset number links.lines in
     let count : mid.lines ≡ length links.lines = ap (λ (x : DeliveryQueuesDraftOf). x.lines) taken.rest ∙ represents.lines in
     let frames : mid.frames ≡ links.frames = ap (λ (x : DeliveryQueuesDraftOf). x.frames) taken.rest ∙ represents.frames in
     let placed : PlacedQueue = on_line (f q.queue.line) (link_place_now q.link_place mid.lines) q in

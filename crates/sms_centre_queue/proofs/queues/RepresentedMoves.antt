@@ -16,10 +16,10 @@ use Rattle.sms_centre_queue.specs.declared.queues.placed_queue.PlacedQueue.{Plac
 use Rattle.sms_centre_queue.specs.queues.Queues.{Becomes, IsTaken, DeliveryQueuesDraftOf, link_place_now, counted, given_to, lines_now, with_queue}
 use Rattle.sms_centre_queue.specs.queues.Representing.{DraftRepresents, Waits}
 use Rattle.sms_centre_queue.proofs.queues.Allocation.{given_next}
-use Rattle.sms_centre_queue.proofs.queues.LinkPlaces.{line_handset}
 use Rattle.sms_centre_queue.proofs.queues.Moving.{line_next, waits_next}
+use Rattle.sms_centre_rows.proofs.waiting.LinksRepresented.{line_of_handset}
 
-if_ok : {X E : Type 0} {P Q : Type 0} (r : Result X E) → (P → Q) → OnOk r P → OnOk r Q
+pub if_ok : {X E : Type 0} {P Q : Type 0} (r : Result X E) → (P → Q) → OnOk r P → OnOk r Q
 if_ok (Ok x) f p = f p
 if_ok (Err e) f p = p
 
@@ -61,7 +61,7 @@ turn_next : (number : List ℕ) (turn : HandsetLink → Turn) (q : PlacedQueue) 
 turn_next number turn q s frames p mid new digits taken is sent becomes g links w represents =
     let line : HandsetLink = line_of number links.lines in
     subst (λ (n : List ℕ). DraftRepresents g (record links { lines = with_line (turned (turn line) line) links.lines; frames = links.frames ++ to_handset n (turn line).out.frames }) w new)
-    (sym (line_handset number links.lines))
+    (sym (line_of_handset number links.lines))
     (line_next number (λ l. turned (turn l) l) (λ l. (turn l).out.frames) q p mid new digits (λ l. refl) taken
     (subst (λ (x : List Outgoing). LinePut number q (queue_turned (turn q.queue.line) q.queue) x mid new) sent (subst (λ (x : DeliveryQueueOf). LinePut number q x frames mid new) is becomes))
     g links w represents)

@@ -1,5 +1,6 @@
 -- Stops in their order, and where each handset has its own.
 use Rattle.std.proofs.Common.{◌≡◌, ℕ, ◌+◌, ◌<◌, List, [], ◌∷◌, Some, None, refl, sym, ◌∙◌, ap, inl, inr, ⊎_elim, arith}
+use Rattle.sms_base.proofs.OctetLaws.{cases_octets}
 use Rattle.sms_base.specs.Among.{Among}
 use Rattle.sms_rows.specs.table.Table.{AllAbove, Rises}
 use Rattle.sms_centre_rows.specs.declared.waiting.handset.HandsetRow.{HandsetRow}
@@ -7,7 +8,6 @@ use Rattle.sms_centre_rows.specs.declared.waiting.handset_link.HandsetLink.{Hand
 use Rattle.sms_centre_rows.specs.waiting.Keys.{handset_key}
 use Rattle.sms_centre_rows.specs.waiting.Links.{line_at}
 use Rattle.sms_centre_rows.proofs.waiting.LinksRepresented.{line_behind, line_here}
-use Rattle.sms_centre_rows.proofs.waiting.Mentions.{cases_number}
 use Rattle.sms_centre_queue.specs.declared.queues.concern.ConcernedHandset.{ConcernedHandset}
 use Rattle.sms_centre_queue.specs.queues.Keys.{stop_key}
 use Rattle.sms_centre_queue.specs.queues.LineOrder.{AreLines, link_place_from}
@@ -57,7 +57,7 @@ line_stop_among n k number (l ∷ ls) e some = ⊎_elim
     let here : record { order = k; number = number } ≡ record { order = n; number = l.handset } = ap (λ (o : ℕ). record { order = o; number = number }) order ∙ ap (λ (x : List ℕ). record { order = n; number = x }) (sym t) in
     inl here)
     (λ (t : l.handset ≡ number → ⊥). inr (line_stop_among (n + 1) k number ls (sym (arrived_behind n number l ls t) ∙ e) some))
-    (cases_number l.handset number)
+    (cases_octets l.handset number)
 
 pub none_later : (n : ℕ) (number : List ℕ) (l : HandsetLink) (ls : List HandsetLink) → line_at number ls ≡ None → Among l ls → l.handset ≡ number → ⊥
 none_later n number l [] none m e = elim m [ ]
@@ -67,7 +67,7 @@ none_later n number l (x ∷ xs) none m e = ⊎_elim
     (λ (q : l ≡ x). t (ap (λ (y : HandsetLink). y.handset) (sym q) ∙ e))
     (λ (r : Among l xs). none_later n number l xs (sym (line_behind number x xs t) ∙ none) r e)
     m)
-    (cases_number x.handset number)
+    (cases_octets x.handset number)
 
 -- each stop of lines is that of one that came in that place
 pub among_line_stop : (n : ℕ) (s : ConcernedHandset) (ls : List HandsetLink) → 0 < n → AreLines ls → Among s (line_stops n ls) → (l : HandsetLink) × (Among l ls × (s.number ≡ l.handset) × (link_place_from n s.number ls ≡ s.order) × (0 < s.order))

@@ -16,7 +16,7 @@ use Rattle.sms_centre_queue.specs.declared.queues.placed_queue.PlacedQueue.{Plac
 use Rattle.sms_centre_queue.specs.queues.Queues.{DeliveryQueuesDraftOf, at, or_new, placed_of, under}
 use Rattle.sms_centre_queue.specs.queues.Representing.{Indexed, IsNamed, DraftRepresents, RepresentsPlaced}
 use Rattle.sms_centre_queue.specs.queues.Unlined.{unlined, unlined_all}
-use Rattle.sms_centre_queue.proofs.queues.LinkPlaces.{line_handset}
+use Rattle.sms_centre_rows.proofs.waiting.LinksRepresented.{line_of_handset}
 
 -- ---- the queues of a map, one after the other
 
@@ -57,7 +57,7 @@ represents_unlined number hs rs w lines q s = record {
     row = s.queue.row;
     given = s.queue.given;
     all_queued = s.queue.all_queued;
-    line = ap (λ (l : HandsetLink). new_line l.handset) s.queue.line ∙ ap new_line (line_handset number lines);
+    line = ap (λ (l : HandsetLink). new_line l.handset) s.queue.line ∙ ap new_line (line_of_handset number lines);
   };
   link_place = refl;
 }

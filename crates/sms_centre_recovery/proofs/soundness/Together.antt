@@ -4,6 +4,7 @@ use Rattle.std.specs.Prelude.{◌&&◌}
 use Rattle.std.proofs.lemmas.Bool.{and_from, and_parts}
 use Rattle.sms_base.specs.Among.{Among}
 use Rattle.sms_centre_rows.specs.declared.messages.message.MessageRow.{MessageRow}
+use Rattle.sms_centre_rows.specs.messages.Bars.{bar_key}
 use Rattle.sms_centre_rows.specs.messages.SoundMessages.{SoundMessages}
 use Rattle.sms_centre_rows.specs.reports.SoundReports.{SoundReports}
 use Rattle.sms_centre_rows.specs.waiting.References.{handset_at}
@@ -12,6 +13,7 @@ use Rattle.sms_centre_rows.specs.waiting.SoundWaiting.{SoundWaiting}
 use Rattle.sms_centre_spec.specs.declared.rows.Rows.{Rows}
 use Rattle.sms_centre_spec.specs.SoundRows.{AreSplitApart, AreTimes, HasReportAddress, IsSetup, IsSound, all_for}
 use Rattle.sms_centre_recovery.specs.soundness.RowsOf.{IsSoundAlone}
+use Rattle.sms_rows.specs.table.Table.{Rises}
 
 -- ---- all conditions of the rows
 
@@ -28,12 +30,12 @@ IsTestOf b P = (b ≡ true → P) × (P → b ≡ true)
 
 pub alone_from : (rows : Rows) (setup times told messages one two out : Bool) → IsTestOf setup (IsSetup rows.setup) → IsTestOf times (AreTimes rows.messages rows.references rows.reports)
     → IsTestOf told ((m : MessageRow) → Among m rows.messages → HasReportAddress m.originator m.source) → IsTestOf messages (SoundMessages rows.messages rows.parts rows.priorities)
-    → one ≡ setup && times → two ≡ told && messages → out ≡ one && two → out ≡ true → IsSoundAlone rows
-alone_from rows setup times told messages one two out s t d m a b o x =
+    → Rises bar_key rows.bars → one ≡ setup && times → two ≡ told && messages → out ≡ one && two → out ≡ true → IsSoundAlone rows
+alone_from rows setup times told messages one two out s t d m r a b o x =
     let top = and_parts one two (sym o ∙ x) in
     let x1 = and_parts setup times (sym a ∙ top.0) in
     let x2 = and_parts told messages (sym b ∙ top.1) in
-    record { setup = s.0 x1.0; times = t.0 x1.1; report_addresses = d.0 x2.0; sound = m.0 x2.1 }
+    record { setup = s.0 x1.0; times = t.0 x1.1; report_addresses = d.0 x2.0; sound = m.0 x2.1; bars = r }
 
 pub alone_to : (rows : Rows) (setup times told messages one two out : Bool) → IsTestOf setup (IsSetup rows.setup) → IsTestOf times (AreTimes rows.messages rows.references rows.reports)
     → IsTestOf told ((m : MessageRow) → Among m rows.messages → HasReportAddress m.originator m.source) → IsTestOf messages (SoundMessages rows.messages rows.parts rows.priorities)
@@ -58,6 +60,7 @@ beside_decides rows allocations reports splits waiting three four out g r p w e 
         reports = r.0 x3.1;
         waiting = (w (g.0 x3.0) alone.sound (r.0 x3.1) alone.report_addresses).0 x4.1;
         splits = p.0 x4.0;
+        bars = alone.bars;
       },
   λ sound.
       o ∙ and_from three four (e ∙ and_from allocations reports (g.1 sound.allocations) (r.1 sound.reports))

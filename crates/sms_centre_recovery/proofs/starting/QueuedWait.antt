@@ -1,8 +1,9 @@
 -- What waits, as one more of the rows is looked at.
-use Rattle.std.proofs.Common.{◌≡◌, ℕ, zero, List, [], ◌∷◌, Bool, true, false, Option, Some, Result, Ok, Err, OnOk, refl, sym, ◌∙◌, ap, subst, bytes_eq}
+use Rattle.std.proofs.Common.{◌≡◌, ℕ, zero, List, [], ◌∷◌, Bool, true, false, Option, Some, refl, sym, ◌∙◌, ap, subst, bytes_eq}
 use Rattle.std.specs.Prelude.{◌&&◌, not}
 use Rattle.std.proofs.lemmas.Bool.{and_from, and_parts, cond-true, cond-false}
 use Rattle.std.proofs.lemmas.Slice.Eq.{bytes_eq-Decides}
+use Rattle.sms_base.proofs.OctetLaws.{differ}
 use Rattle.sms_base.specs.Among.{Among}
 use Rattle.sms_base.specs.declared.originator.Originator.{Originator}
 use Rattle.sms_base.specs.declared.originator.Originator.TheVariants.{Application, Handset}
@@ -24,7 +25,6 @@ use Rattle.sms_centre_rows.specs.reports.SoundReports.{FitsOriginator}
 use Rattle.sms_centre_rows.specs.reports.Waiting.{report_queued, reports_to, with_reports}
 use Rattle.sms_centre_queue.specs.queues.Representing.{Waits}
 use Rattle.sms_centre_queue.proofs.queues.Allocation.{number_digits}
-use Rattle.sms_centre_queue.proofs.queues.LinkPlaces.{differ}
 use Rattle.sms_centre_rows.specs.declared.waiting.queued_part.QueuedPart.{QueuedPart}
 use Rattle.sms_centre_rows.specs.waiting.Keys.{queued_key}
 use Rattle.sms_centre_rows.specs.waiting.SoundAllocations.{IsNumber}
@@ -89,6 +89,3 @@ module _ (ms : List MessageRow) (w : List ℕ → List QueuedPart) where
         (ap (λ (o : Option MessageRow). reports_to other r o) found ∙ reports_other other r m ne),
   )
 
-pub if_ok : {X E : Type 0} {P Q : Type 0} (r : Result X E) → (P → Q) → OnOk r P → OnOk r Q
-if_ok (Ok x) f p = f p
-if_ok (Err e) f p = p

@@ -1,6 +1,7 @@
 -- Tables of rows, as a centre's definition has the rows.
 use Rattle.sms_base.specs.Among.{Among}
 use Rattle.sms_rows.specs.table.Table.{Rises}
+use Rattle.sms_centre_rows.specs.messages.Bars.{bar_key}
 use Rattle.sms_centre_rows.specs.messages.Messages.{message_key, part_key, priority_key}
 use Rattle.sms_centre_rows.specs.declared.messages.message.MessageRow.{MessageRow}
 use Rattle.sms_centre_rows.specs.messages.SoundMessages.{SoundMessages}
@@ -18,6 +19,7 @@ rows_of t = record {
   handsets = t.handsets.rows;
   reports = t.reports.rows;
   priorities = t.priorities.rows;
+  bars = t.bars.rows;
   setup = t.setup;
 }
 
@@ -29,6 +31,7 @@ pub record KeysRise (rows : Rows) : Type 0 where
   pub handsets : Rises handset_key rows.handsets
   pub reports : Rises report_key rows.reports
   pub priorities : Rises priority_key rows.priorities
+  pub bars : Rises bar_key rows.bars
 
 -- what of the rows is judged without memory
 pub record IsSoundAlone (rows : Rows) : Type 0 where
@@ -36,3 +39,4 @@ pub record IsSoundAlone (rows : Rows) : Type 0 where
   pub times : AreTimes rows.messages rows.references rows.reports
   pub report_addresses : (m : MessageRow) → Among m rows.messages → HasReportAddress m.originator m.source
   pub sound : SoundMessages rows.messages rows.parts rows.priorities
+  pub bars : Rises bar_key rows.bars

@@ -3,7 +3,7 @@ ghost use Rattle.std.specs.Prelude.{◌≡◌, ◌↔◌, true, IfNone, IfOk, On
 ghost use Rattle.sms_centre_spec.specs.SoundRows.{IsSetup, IsSound};
 ghost use Rattle.sms_centre_recovery.specs.soundness.RowsOf.{KeysRise, IsSoundAlone, rows_of};
 
-use sms_centre_rows::messages::{MessageRow, PartRow, PriorityRow};
+use sms_centre_rows::messages::{BarRow, MessageRow, PartRow, PriorityRow};
 use sms_centre_rows::reports::ReportRow;
 use sms_centre_rows::waiting::{HandsetRow, ReferenceRow};
 use sms_centre_spec::conditions::{
@@ -23,6 +23,7 @@ pub struct RowTables {
     pub handsets: Table<HandsetRow>,
     pub reports: Table<ReportRow>,
     pub priorities: Table<PriorityRow>,
+    pub bars: Table<BarRow>,
     pub setup: Setup,
 }
 
@@ -35,9 +36,10 @@ fn keys_rise(rows: &Rows) -> bool
     let handsets = rises(rows.handsets.as_slice());
     let reports = rises(rows.reports.as_slice());
     let priorities = rises(rows.priorities.as_slice());
+    let bars = rises(rows.bars.as_slice());
     both(
         both(messages, both(parts, references)),
-        both(handsets, both(reports, priorities)),
+        both(handsets, both(reports, both(priorities, bars))),
     )
 }
 
@@ -53,6 +55,7 @@ fn tables_of(rows: Rows) -> RowTables
         handsets: Table::from_vec(rows.handsets.into_vec()),
         reports: Table::from_vec(rows.reports.into_vec()),
         priorities: Table::from_vec(rows.priorities.into_vec()),
+        bars: Table::from_vec(rows.bars.into_vec()),
         setup: rows.setup,
     }
 }
@@ -85,6 +88,8 @@ impl RowTables {
         let times = times_are_sound(&self.messages, &self.references, &self.reports);
         let addresses = report_addresses_are_sound(&self.messages);
         let messages = messages_are_sound(&self.messages, &self.parts, &self.priorities);
+        // The call says that bars are in order.
+        let _bars = self.bars.as_slice();
         both(both(setup, times), both(addresses, messages))
     }
 

@@ -61,13 +61,13 @@ none_bound session place receives d e = ap (λ (o : Option CentreAccount). bound
 
 -- ---- what is made
 
-puts_as : (id : ℕ) (news : List (Revision ReportRow)) → is_made id news ≡ puts_report id news
+pub puts_as : (id : ℕ) (news : List (Revision ReportRow)) → is_made id news ≡ puts_report id news
 puts_as id [] = refl
 puts_as id (Put r ∷ news) = ap (λ (b : Bool). (r.id == id) || b) (puts_as id news)
 puts_as id (Amend n progress ∷ news) = puts_as id news
 puts_as id (Remove n ∷ news) = puts_as id news
 
-octets_as : (o : Option ReportRow) → tpdu_in o ≡ report_tpdu o
+pub octets_as : (o : Option ReportRow) → tpdu_in o ≡ report_tpdu o
 octets_as None = refl
 octets_as (Some r) = refl
 

@@ -1,8 +1,9 @@
 -- What was sent and not answered is so after each move of the sessions.
 use Rattle.std.proofs.Common.{◌≡◌, ◌⊎◌, ℕ, List, [], ◌∷◌, ◌++◌, Bool, true, false, Option, Some, None, refl, sym, ◌∙◌, ap, subst, inl, inr, ⊎_elim, length, eq-eqb}
 use Rattle.std.specs.Prelude.{◌&&◌, ◌||◌, ◌==◌, nat_le, nat_lt, not, if◌then◌else◌}
-use Rattle.std.proofs.lemmas.Bool.{and_parts, cases_Bool, cond_both, cond-true, cond-false}
+use Rattle.std.proofs.lemmas.Bool.{and_parts, cases_Bool, cond_both, cond-true, cond-false, not-true}
 use Rattle.std.proofs.lemmas.Slice.Eq.{bytes_eq-Decides}
+use Rattle.sms_base.proofs.Lists.{among_end}
 use Rattle.sms_base.specs.Among.{Among}
 use Rattle.sms_base.specs.declared.originator.Originator.{Originator}
 use Rattle.sms_base.specs.declared.originator.Originator.TheVariants.{Application, Handset}
@@ -20,23 +21,17 @@ use Rattle.sms_centre_rows.proofs.reports.ReportRows.{amended_other}
 use Rattle.sms_centre_rows.proofs.reports.Serving.{fewest_found}
 use Rattle.sms_centre_reports.specs.open_reports.Awaited.{IsAwaited}
 use Rattle.sms_centre_reports.specs.open_reports.Entries.{account_in, account_of}
-use Rattle.sms_centre_reports.proofs.open_reports.Keeping.{alone_found}
 use Rattle.sms_centre_reports.proofs.open_reports.ReceiptsMoved.{awaited_behind, still_awaited}
 use Rattle.sms_centre_reports.specs.sessions.Answering.{bindings_answered_by, bindings_unbound_from, reports_answered_by, reports_due, reports_unbound_from, session_new}
 use Rattle.sms_centre_reports.specs.sessions.Awaited.{AreAwaited}
-use Rattle.sms_centre_reports.proofs.sessions.Ending.{is_among_so}
 use Rattle.sms_centre_rows.specs.declared.waiting.progress.Progress.{Progress}
 use Rattle.sms_centre_rows.specs.waiting.Revisions.{Revised}
 use Rattle.sms_centre_rows.specs.waiting.Trying.{due_at, finished}
+use Rattle.sms_centre_spec.proofs.forgetting.Runs.{among_so}
+use Rattle.sms_centre_spec.proofs.forgetting.Begins.{is_member}
+use Rattle.sms_centre_spec.proofs.bodies.Bodies.{alone_found}
 
 -- ---- lists of numbers
-
-among_end : (n id : ℕ) (ids : List ℕ) → Among n (ids ++ id ∷ []) → Among n ids ⊎ (n ≡ id)
-among_end n id [] m = ⊎_elim (λ (e : n ≡ id). inr e) (λ (k : ⊥). absurd k) m
-among_end n id (x ∷ ids) m = ⊎_elim
-    (λ (e : n ≡ x). inl (inl e))
-    (λ (k : Among n (ids ++ id ∷ [])). ⊎_elim (λ (l : Among n ids). inl (inr l)) (λ (e : n ≡ id). inr e) (among_end n id ids k))
-    m
 
 left_among : (id n : ℕ) (ids : List ℕ) → Among n (without_id id ids) → Among n ids × ¬ (n ≡ id)
 left_among id n [] m = elim m [ ]
@@ -49,31 +44,16 @@ left_among id n (x ∷ ids) m = ⊎_elim
     (subst (λ (l : List ℕ). Among n l) (cond-false (x == id) (without_id id ids) (x ∷ without_id id ids) t) m))
     (cases_Bool (x == id))
 
-among_is : (n : ℕ) (ids : List ℕ) → Among n ids → is_among n ids ≡ true
-among_is n [] m = elim m [ ]
-among_is n (x ∷ ids) m = ⊎_elim
-    (λ (e : n ≡ x). ap (λ (b : Bool). b || is_among n ids) (eq-eqb x n (sym e)))
-    (λ (k : Among n ids). ap (λ (b : Bool). (x == n) || b) (among_is n ids k) ∙ or_true (x == n))
-    m
-  where
-    or_true : (b : Bool) → (b || true) ≡ true
-    or_true true = refl
-    or_true false = refl
-
 unanswered_is : (id : ℕ) (s : Session) (ss : List Session) → Among s ss → Among id s.unanswered → is_unanswered id ss ≡ true
 unanswered_is id s [] m k = elim m [ ]
 unanswered_is id s (x ∷ ss) m k = ⊎_elim
-    (λ (e : s ≡ x). ap (λ (b : Bool). b || is_unanswered id ss) (among_is id x.unanswered (subst (λ (y : Session). Among id y.unanswered) e k)))
+    (λ (e : s ≡ x). ap (λ (b : Bool). b || is_unanswered id ss) (is_member id x.unanswered (subst (λ (y : Session). Among id y.unanswered) e k)))
     (λ (l : Among s ss). ap (λ (b : Bool). is_among id x.unanswered || b) (unanswered_is id s ss l k) ∙ or_true (is_among id x.unanswered))
     m
   where
     or_true : (b : Bool) → (b || true) ≡ true
     or_true true = refl
     or_true false = refl
-
-not_so : (b : Bool) → not b ≡ true → b ≡ false
-not_so true e = absurd cc
-not_so false e = refl
 
 -- ---- the session that serves
 
@@ -128,7 +108,7 @@ module _ (moment : ℕ) (ms : List MessageRow) (rows : List ReportRow) (alone : 
       → AreAwaited ms rows (send_in r.id s bindings).sessions
   sent_in r s bindings m w e k =
       let parts = and_parts (is_open_receipt r) (nat_le r.progress.due moment && not (is_unanswered r.id bindings.sessions)) w in
-      let unsent = not_so (is_unanswered r.id bindings.sessions) (and_parts (nat_le r.progress.due moment) (not (is_unanswered r.id bindings.sessions)) parts.1).1 in
+      let unsent = not-true (is_unanswered r.id bindings.sessions) (and_parts (nat_le r.progress.due moment) (not (is_unanswered r.id bindings.sessions)) parts.1).1 in
       let there = serves (message_at r.id ms) s bindings.sessions e in
       let mine : IsAwaited ms rows s.account r.id = record { report = (r, (alone_found r rows alone m, parts.0)); account_is = there.1 } in
       let nowhere : (x : Session) → Among x bindings.sessions → ¬ Among r.id x.unanswered = λ x n l. let bad : true ≡ false = sym (unanswered_is r.id x bindings.sessions n l) ∙ unsent in absurd cc in
@@ -180,7 +160,7 @@ module _ (ms : List MessageRow) (moment : ℕ) (b : Bool) (t : Revised ReportRow
       one_changes ms (reports_of t) (reports_of (receipt_ended b moment (report_of id (reports_of t)) t)) ss s (without_id id s.unanswered)
       (λ n l. let f = left_among id n s.unanswered l in ended_other (report_of id (reports_of t)) id s.account n refl f.1 (k.each s m n f.0))
       (λ x o ne n l. (
-        ended_other (report_of id (reports_of t)) id x.account n refl (λ e. ne (k.apart x s o m id (subst (λ (i : ℕ). Among i x.unanswered) e l) (is_among_so id s.unanswered sent))) (k.each x o n l),
+        ended_other (report_of id (reports_of t)) id x.account n refl (λ e. ne (k.apart x s o m id (subst (λ (i : ℕ). Among i x.unanswered) e l) (among_so id s.unanswered sent))) (k.each x o n l),
         λ p. ne (k.apart x s o m n l (left_among id n s.unanswered p).0),
       ))
       k.apart
@@ -228,7 +208,7 @@ due_behind ms moment account name id (r ∷ rs) t k =
     undone : (o : Option MessageRow) → is_put_off moment account r o ≡ true → r.progress.is_done ≡ false
     undone None e = absurd cc
     undone (Some m) e =
-        not_so r.progress.is_done (and_parts (is_receipt r.kind) (not r.progress.is_done) (and_parts (is_open_receipt r) (is_account account m.originator && nat_lt moment r.progress.due) e).0).1
+        not-true r.progress.is_done (and_parts (is_receipt r.kind) (not r.progress.is_done) (and_parts (is_open_receipt r) (is_account account m.originator && nat_lt moment r.progress.due) e).0).1
 
 pub bind_keeps : (ms : List MessageRow) (session moment : ℕ) (account : List ℕ) (receives : Bool) (bindings : Bindings) (t : Revised ReportRow) → AreAwaited ms (reports_of t) bindings.sessions
     → AreAwaited ms (reports_of (reports_due account receives moment ms t)) (put_session (session_new session receives account) bindings).sessions

@@ -1,5 +1,5 @@
 -- The sessions are left as they are by every event but those of the sessions.
-use Rattle.std.proofs.Common.{◌≡◌, ℕ, List, [], ◌∷◌, Option, Some, None, Result, Ok, Err, refl, ◌∙◌}
+use Rattle.std.proofs.Common.{◌≡◌, ℕ, List, Option, Some, None, Result, Ok, Err, refl}
 use Rattle.std.proofs.lemmas.Bool.{cond_both}
 use Rattle.std.specs.Prelude.{if◌then◌else◌}
 use Rattle.sms_base.specs.declared.carried.Carried.{Carried}
@@ -7,7 +7,7 @@ use Rattle.sms_base.specs.declared.holder.Holder.{Holder}
 use Rattle.sms_link.specs.declared.ending.Ending.{Ending}
 use Rattle.sms_link.specs.declared.ending.Upward.{Upward}
 use Rattle.sms_link.specs.declared.ending.Upward.TheVariants.{Opened, Ended}
-use Rattle.sms_link.specs.LinkTurn.{fired as fired_link, taken}
+use Rattle.sms_link.specs.LinkTurn.{taken}
 use Rattle.sms_relay.specs.declared.fault.RelayFault.{RelayFault}
 use Rattle.sms_relay.specs.declared.frame.Rp.{Rp}
 use Rattle.sms_relay.specs.declared.frame.Rp.TheVariants.{DataUnit, AckUnit, ErrorUnit, Smma}
@@ -20,10 +20,8 @@ use Rattle.smpp_pdu.specs.declared.query.QuerySm.{QuerySm}
 use Rattle.smpp_pdu.specs.declared.status.CommandStatus.{CommandStatus}
 use Rattle.sms_centre_rows.specs.declared.messages.message.MessageRow.{MessageRow}
 use Rattle.sms_centre_rows.specs.messages.Messages.{is_pending, message_at}
-use Rattle.sms_centre_rows.specs.declared.waiting.handset.HandsetRow.{HandsetRow}
 use Rattle.sms_centre_rows.specs.declared.waiting.handset_link.HandsetLink.{HandsetLink}
-use Rattle.sms_centre_rows.specs.waiting.Links.{line_at, line_of, lowered, put_line, turn_line}
-use Rattle.sms_centre_rows.specs.waiting.References.{handset_at}
+use Rattle.sms_centre_rows.specs.waiting.Links.{line_of, lowered, put_line, turn_line}
 use Rattle.sms_intake.specs.HandsetIntake.{from_read}
 use Rattle.sms_intake.specs.declared.refusal.SubmitRefusal.{SubmitRefusal}
 use Rattle.sms_intake.specs.declared.refusal.SubmitRefusal.TheVariants.{Duplicate, ReferenceTaken}
@@ -39,9 +37,10 @@ use Rattle.sms_centre_spec.specs.declared.order.Order.{Order}
 use Rattle.sms_centre_spec.specs.declared.order.Order.TheVariants.{Retry, Delete}
 use Rattle.sms_centre_spec.specs.Orders.{ordered, retried}
 use Rattle.sms_centre_spec.specs.Requests.{accepted, cancel_by, cancelled, message_numbered, own_message, queried, query_by, submission_received, submit_by, to_cancel}
-use Rattle.sms_centre_spec.specs.CentreEvent.{aged, at_moment, fire_at, fire_mentioned, fire_others, fired, frame_taken, is_mentioned, lost, lower, raise, raise_all, raised, timed_out, went_up}
-use Rattle.sms_centre_spec.specs.Draft.{Draft, Store, handsets_in, messages_in, on_links, rows_of}
+use Rattle.sms_centre_spec.specs.CentreEvent.{aged, at_moment, fired, frame_taken, lost, lower, raised, went_up}
+use Rattle.sms_centre_spec.specs.Draft.{Draft, Store, messages_in, on_links, rows_of}
 use Rattle.sms_centre_spec.specs.MessageNumbers.{next_number}
+use Rattle.sms_centre_spec.proofs.Ticking.{fired_says, raised_says}
 
 conclude_bindings : (h : List ℕ) (t : Carried) (e : Ending) (d : Draft) → (conclude h t e d).bindings ≡ d.bindings
 conclude_bindings h t e d = refl
@@ -88,41 +87,11 @@ lower_bindings h d =
 
 -- ---- a tick
 
-timed_out_bindings : (h : List ℕ) (u : Option Upward) (d : Draft) → (timed_out h u d).bindings ≡ d.bindings
-timed_out_bindings h None d = refl
-timed_out_bindings h (Some (Opened unit)) d = refl
-timed_out_bindings h (Some (Ended transfer ending)) d = refl
-
-fire_at_bindings : (o : Option HandsetLink) (d : Draft) → (fire_at o d).bindings ≡ d.bindings
-fire_at_bindings None d = refl
-fire_at_bindings (Some l) d = timed_out_bindings l.handset (fired_link d.store.moment l.link).out.up (on_links (turn_line l (fired_link d.store.moment l.link) d.links) d)
-
-fire_mentioned_bindings : (hs : List HandsetRow) (d : Draft) → (fire_mentioned hs d).bindings ≡ d.bindings
-fire_mentioned_bindings [] d = refl
-fire_mentioned_bindings (h ∷ hs) d = fire_mentioned_bindings hs (fire_at (line_at h.number d.links.lines) d) ∙ fire_at_bindings (line_at h.number d.links.lines) d
-
-fire_others_bindings : (hs : List HandsetRow) (ls : List HandsetLink) (d : Draft) → (fire_others hs ls d).bindings ≡ d.bindings
-fire_others_bindings hs [] d = refl
-fire_others_bindings hs (l ∷ ls) d =
-    let o : Option HandsetLink = line_at l.handset d.links.lines in
-    fire_others_bindings hs ls (if is_mentioned (handset_at l.handset hs) then d else fire_at o d)
-    ∙ cond_both (is_mentioned (handset_at l.handset hs)) d (fire_at o d) (λ (e : Draft). e.bindings ≡ d.bindings) (λ t. refl) (λ t. fire_at_bindings o d)
-
-fired_bindings : (d : Draft) → (fired d).bindings ≡ d.bindings
-fired_bindings d =
-    let hs : List HandsetRow = handsets_in d.store in
-    fire_others_bindings hs d.links.lines (fire_mentioned hs d) ∙ fire_mentioned_bindings hs d
-
-raise_all_bindings : (ls : List HandsetLink) (d : Draft) → (raise_all ls d).bindings ≡ d.bindings
-raise_all_bindings [] d = refl
-raise_all_bindings (l ∷ ls) d =
-    raise_all_bindings ls (if l.is_awaited then raise l.handset d else d)
-    ∙ cond_both l.is_awaited (raise l.handset d) d (λ (e : Draft). e.bindings ≡ d.bindings) (λ t. refl) (λ t. refl)
-
 pub ticked_bindings : (now : ℕ) (d : Draft) → (raised (fired (aged (at_moment now d)))).bindings ≡ d.bindings
 ticked_bindings now d =
     let a : Draft = aged (at_moment now d) in
-    raise_all_bindings (fired a).links.lines (fired a) ∙ fired_bindings a
+    raised_says (λ (e : Draft). e.bindings ≡ d.bindings) (λ h e same. same) (fired a)
+    (fired_says (λ (e : Draft). e.bindings ≡ d.bindings) (λ h t ending e same. same) (λ links e same. same) a refl)
 
 -- ---- requests
 

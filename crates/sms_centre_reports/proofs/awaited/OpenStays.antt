@@ -2,6 +2,7 @@
 use Rattle.std.proofs.Common.{◌≡◌, ◌⊎◌, ℕ, ◌+◌, List, [], ◌∷◌, Bool, true, false, Option, Some, None, refl, sym, ◌∙◌, ap, subst, ⊎_elim}
 use Rattle.std.specs.Prelude.{nat_le, not}
 use Rattle.std.proofs.lemmas.Bool.{and_from, and_parts, cases_eq, cond_both}
+use Rattle.std.proofs.lemmas.Option.{same_Some}
 use Rattle.sms_base.specs.declared.final_state.FinalState.{FinalState}
 use Rattle.sms_base.specs.declared.final_state.FinalState.TheVariants.{Delivered}
 use Rattle.sms_base.specs.declared.originator.Originator.{Originator}
@@ -15,6 +16,7 @@ use Rattle.sms_centre_rows.specs.reports.Reports.{is_open_receipt, is_open_statu
 use Rattle.sms_centre_rows.specs.reports.Waiting.{Alone}
 use Rattle.sms_centre_rows.proofs.reports.AllWaiting.{report_found}
 use Rattle.sms_centre_rows.proofs.reports.ReportRows.{amended_other, amended_own}
+use Rattle.sms_centre_rows.proofs.reports.Kinds.{no_status}
 use Rattle.sms_centre_rows.specs.declared.waiting.handset.HandsetRow.{HandsetRow}
 use Rattle.sms_centre_rows.specs.declared.waiting.progress.Progress.{Progress}
 use Rattle.sms_centre_rows.specs.waiting.References.{handset_of}
@@ -24,8 +26,7 @@ use Rattle.sms_intake.specs.declared.submission.SinglePart.{SinglePart}
 use Rattle.sms_intake.specs.declared.submission.Submission.{Submission}
 use Rattle.sms_intake.specs.PartBodies.{bodies_under, is_long}
 use Rattle.sms_centre_reports.proofs.open_reports.Becoming.{became_made}
-use Rattle.sms_centre_reports.proofs.open_reports.Keeping.{no_status}
-use Rattle.sms_centre_spec.specs.Draft.{Store, handsets_in, messages_in, parts_in, reports_in, rows_of, with_message, with_part_at}
+use Rattle.sms_centre_spec.specs.Draft.{Store, bars_in, handsets_in, messages_in, parts_in, reports_in, rows_of, with_message, with_part_at}
 use Rattle.sms_centre_spec.specs.MessageNumbers.{next_number}
 use Rattle.sms_centre_spec.specs.Ends.{end, is_wished, report_to, status_given}
 use Rattle.sms_centre_spec.specs.Consistent.{IsConsistent, IsSubmission}
@@ -34,6 +35,7 @@ use Rattle.sms_centre_spec.proofs.Stages.{IfThere}
 use Rattle.sms_centre_spec.proofs.AcceptedConsistent.{then_there}
 use Rattle.sms_centre_spec.proofs.StagesConsistent.{part_far_consistent, consistent_steady}
 use Rattle.sms_centre_spec.proofs.Steady.{IsFirm, message_own, stays_closed}
+use Rattle.sms_centre_spec.proofs.KeepingSteady.{both_there}
 
 -- a receipt that is open is open still
 pub record Stay (before after : List ReportRow) : Type 0 where
@@ -70,7 +72,7 @@ module _ (Q : List ReportRow → Type 0) (id : ℕ) (u : Submission) where
 
   as_leaves : (s : Store) → Leaves s → IfThere Leaves (accept_as id u s)
   as_leaves s k =
-      let split : Option ℕ = next_split u.source u.handset (messages_in s) (parts_in s) in
+      let split : Option ℕ = next_split u.source u.handset (bars_in s) (messages_in s) (parts_in s) in
       cond_both (is_long u.text) (accept_split id split u s) (accept_under id None (bodies_under 0 u.text) u s) (λ (o : Option Store). IfThere Leaves o)
       (λ e. split_leaves split s k) (λ e. under_leaves None (bodies_under 0 u.text) s k)
 
@@ -78,10 +80,6 @@ accept_leaves : (Q : List ReportRow → Type 0) (u : Submission) (s : Store) →
 accept_leaves Q u s k =
     let id : ℕ = next_number (rows_of s) in
     cond_both (nat_le id 9999999999) (accept_as id u s) None (λ (o : Option Store). IfThere (λ (e : Store). Q (reports_in e)) o) (λ t. as_leaves Q id u s k) (λ t. tt)
-
-both_there : (A B : Store → Type 0) (o : Option Store) → IfThere A o → IfThere B o → IfThere (λ (s : Store). A s × B s) o
-both_there A B None a b = tt
-both_there A B (Some s) a b = (a, b)
 
 -- ---- an end makes a report at most, and none stood there
 
@@ -102,9 +100,6 @@ module _ (Q : List ReportRow → Type 0) (f : FinalState) (m : MessageRow) where
       let e : Store = with_message (ended f s.moment m) s in
       cond_both (is_wished m.wish f) (report_to m.originator f m e) e (λ (x : Store). Q (reports_in x)) (λ t. told_makes m.originator e makes) (λ t. k)
 
-one_message : (a b : MessageRow) → Some a ≡ Some b → a ≡ b
-one_message a b e = cc
-
 no_report : (m : MessageRow) (s : Store) → IsConsistent s → message_at m.id (messages_in s) ≡ Some m → is_pending m ≡ true → report_of m.id (reports_in s) ≡ None
 no_report m s k there pending = by (report_of m.id (reports_in s)) refl where
   by : (o : Option ReportRow) → report_of m.id (reports_in s) ≡ o → report_of m.id (reports_in s) ≡ None
@@ -112,7 +107,7 @@ no_report m s k there pending = by (report_of m.id (reports_in s)) refl where
   by (Some r) e =
       let at = report_found m.id r (reports_in s) e in
       let of = k.reports r at.0 in
-      let same : of.0 ≡ m = one_message of.0 m (sym of.1.0 ∙ ap (λ (i : ℕ). message_at i (messages_in s)) at.1 ∙ there) in
+      let same : of.0 ≡ m = same_Some of.0 m (sym of.1.0 ∙ ap (λ (i : ℕ). message_at i (messages_in s)) at.1 ∙ there) in
       let bad : false ≡ true = sym of.1.1 ∙ ap (λ (x : MessageRow). is_pending x) same ∙ pending in absurd cc
 
 put_stays : (base rows : List ReportRow) (r : ReportRow) → Rises report_key rows → Alone rows → r.place ≡ next_place rows → report_of r.id rows ≡ None → Stay base rows → Stay base (put report_key r rows)
@@ -133,9 +128,6 @@ end_stays base f m s k there pending stay =
 
 -- ---- a report is so far
 
-one_report : (a b : ReportRow) → Some a ≡ Some b → a ≡ b
-one_report a b e = cc
-
 open_still : (r : ReportRow) (q : Progress) → is_open_receipt r ≡ true → (q.is_done ≡ r.progress.is_done) ⊎ (is_open_status r ≡ true) → is_open_receipt (report_reaching q r) ≡ true
 open_still r q is how =
     let kind = and_parts (is_receipt r.kind) (not r.progress.is_done) is in
@@ -152,7 +144,7 @@ far_stays base rows r q keys there how k = record {
       let x = k.stays id b e is in
       ⊎_elim
       (λ (f : r.id ≡ id).
-      let same : x.0 ≡ r = one_report x.0 r (sym x.1.0 ∙ ap (λ (i : ℕ). report_of i rows) (sym f) ∙ there) in (
+      let same : x.0 ≡ r = same_Some x.0 r (sym x.1.0 ∙ ap (λ (i : ℕ). report_of i rows) (sym f) ∙ there) in (
         report_reaching q r,
         (
           ap (λ (i : ℕ). report_of i (amended report_key report_reaching (report_key r) q rows)) (sym f) ∙ amended_own r q rows there,

@@ -3,8 +3,9 @@ use Rattle.std.proofs.Common.{◌≡◌, ℕ, ◌+◌, ◌<◌, List, [], ◌∷
 use Rattle.std.specs.Option.{option_map}
 use Rattle.std.specs.Prelude.{◌==◌, if◌then◌else◌}
 use Rattle.std.proofs.lemmas.Bool.{cases_eq, cond-true, cond-false, ne_eqb}
+use Rattle.std.proofs.lemmas.Option.{same_Some}
 use Rattle.sms_base.specs.Among.{Among}
-use Rattle.sms_rows.specs.table.Table.{AllAbove, Rises, insert, put, row_at, without}
+use Rattle.sms_rows.specs.table.Table.{Rises, insert, put, row_at, without}
 use Rattle.sms_rows.proofs.table.Tables.{among_found, found_among, found_key, insert_behind, rises_put, row_at_put, row_at_put_other, without_behind}
 use Rattle.sms_centre_rows.specs.declared.reports.report.ReportRow.{ReportRow}
 use Rattle.sms_centre_rows.specs.reports.Reports.{next_place, place_after, report_key, report_of, report_reaching}
@@ -15,27 +16,9 @@ use Rattle.sms_centre_reports.specs.open_reports.Became.{Became}
 use Rattle.sms_centre_rows.specs.declared.waiting.progress.Progress.{Progress}
 use Rattle.sms_centre_rows.specs.waiting.Revisions.{amended}
 use Rattle.sms_centre_rows.proofs.waiting.Amending.{rises_amended, row_at_amended, row_at_amended_other}
+use Rattle.sms_centre_spec.proofs.NextNumbers.{below_next_place}
 
 -- ---- what is new
-
-above_among : (n : ℕ) (s : ReportRow) (rs : List ReportRow) → AllAbove report_key n rs → Among s rs → n < s.place
-above_among n s [] h m = elim m [ ]
-above_among n s (r ∷ rs) h m = ⊎_elim
-    (λ (e : s ≡ r). subst (λ (x : ReportRow). n < x.place) (sym e) h.0)
-    (λ (k : Among s rs). above_among n s rs h.1 k)
-    m
-
--- all places are below the next
-after_first : (p : ℕ) (r : ReportRow) (rs : List ReportRow) → Rises report_key (r ∷ rs) → r.place < place_after p (r ∷ rs)
-after_first p r [] h = omega arith
-after_first p r (s ∷ rs) h = let next = after_first (r.place + 1) s rs h.1 in omega (arith, next, h.0.0)
-
-pub below_next : (p : ℕ) (s : ReportRow) (rs : List ReportRow) → Rises report_key rs → Among s rs → s.place < place_after p rs
-below_next p s [] h m = elim m [ ]
-below_next p s (r ∷ rs) h m = ⊎_elim
-    (λ (e : s ≡ r). subst (λ (x : ReportRow). x.place < place_after p (r ∷ rs)) (sym e) (after_first p r rs h))
-    (λ (k : Among s rs). below_next (r.place + 1) s rs h.1 k)
-    m
 
 pub none_of : (id : ℕ) (s : ReportRow) (rs : List ReportRow) → report_of id rs ≡ None → Among s rs → ¬ (s.id ≡ id)
 none_of id s [] e m = elim m [ ]
@@ -49,7 +32,7 @@ none_of id s (r ∷ rs) e m = ⊎_elim
 
 is_new : (r : ReportRow) (rs : List ReportRow) → Rises report_key rs → r.place ≡ next_place rs → report_of r.id rs ≡ None → IsReportApart rs r
 is_new r rs h e none = record {
-  place = λ s m f. let l = below_next 1 s rs h m in absurd (omega (arith, l, e, f));
+  place = λ s m f. let l = below_next_place 1 s rs h m in absurd (omega (arith, l, e, f));
   message = λ s m. none_of r.id s rs none m;
 }
 
@@ -86,7 +69,7 @@ without_none n (s ∷ rs) f =
 
 pub next_made : (r : ReportRow) (rs : List ReportRow) → Rises report_key rs → r.place ≡ next_place rs → next_place (put report_key r rs) ≡ r.place + 1
 next_made r rs h e =
-    let lower : (s : ReportRow) → Among s rs → s.place < r.place = λ s m. let l = below_next 1 s rs h m in omega (arith, l, e) in
+    let lower : (s : ReportRow) → Among s rs → s.place < r.place = λ s m. let l = below_next_place 1 s rs h m in omega (arith, l, e) in
     ap (λ (x : List ReportRow). next_place (insert report_key r x)) (without_none r.place rs lower) ∙ insert_last 1 r rs lower
 
 -- ---- a report that is so far
@@ -100,19 +83,12 @@ far_place n q r = ⊎_elim
     (λ (e : r.place ≡ n → ⊥). ap (λ (x : ReportRow). x.place) (cond-false (r.place == n) (report_reaching q r) r (ne_eqb r.place n e)))
     (cases_eq r.place n)
 
-pub next_far : (p n : ℕ) (q : Progress) (rs : List ReportRow) → place_after p (amended report_key report_reaching n q rs) ≡ place_after p rs
-next_far p n q [] = refl
-next_far p n q (r ∷ rs) = next_far ((far n q r).place + 1) n q rs ∙ ap (λ (k : ℕ). place_after (k + 1) rs) (far_place n q r)
-
 keeps : (q : Progress) (x : ReportRow) → report_key (report_reaching q x) ≡ report_key x
 keeps q x = refl
 
 -- it stands under its place
 pub placed : (r : ReportRow) (rs : List ReportRow) → Rises report_key rs → report_of r.id rs ≡ Some r → row_at report_key r.place rs ≡ Some r
 placed r rs h e = among_found report_key r rs h (report_found r.id r rs e).0
-
-same_row : (a b : ReportRow) → Some a ≡ Some b → a ≡ b
-same_row a b e = cc
 
 pub became_far : (r : ReportRow) (q : Progress) (rs : List ReportRow) → Rises report_key rs → Alone rs → report_of r.id rs ≡ Some r
     → Became rs (amended report_key report_reaching (report_key r) q rs) (report_reaching q r)
@@ -123,7 +99,7 @@ became_far r q rs h alone e = record {
   others = λ id ne. amended_other id r q rs h e ne;
   at = row_at_amended report_key report_reaching keeps r.place q rs ∙ ap (λ (o : Option ReportRow). option_map (report_reaching q) o) (placed r rs h e);
   elsewhere = λ n ne. row_at_amended_other report_key report_reaching keeps n r.place q rs ne;
-  was = λ b f. let same : r ≡ b = same_row r b (sym (placed r rs h e) ∙ f) in (ap (λ (x : ReportRow). x.id) (sym same), ap (λ (x : ReportRow). x.kind) (sym same));
+  was = λ b f. let same : r ≡ b = same_Some r b (sym (placed r rs h e) ∙ f) in (ap (λ (x : ReportRow). x.id) (sym same), ap (λ (x : ReportRow). x.kind) (sym same));
 }
 
 -- ---- a report that comes last

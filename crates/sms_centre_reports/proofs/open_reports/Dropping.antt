@@ -2,6 +2,7 @@
 use Rattle.std.proofs.Common.{◌≡◌, ℕ, ◌+◌, ◌<◌, ◌≤◌, List, [], ◌∷◌, Bool, true, false, Option, Some, None, refl, sym, ◌∙◌, ap, subst, inl, inr, ⊎_elim, arith}
 use Rattle.std.specs.Prelude.{nat_le, if◌then◌else◌}
 use Rattle.std.proofs.lemmas.Bool.{and_from, and_parts, cases_Bool, cond-true, cond-false, le-leb, leb-true}
+use Rattle.std.proofs.lemmas.Option.{same_Some}
 use Rattle.sms_base.specs.Among.{Among}
 use Rattle.sms_rows.specs.index.First.{first_such, is_past_from}
 use Rattle.sms_rows.proofs.index.Picking.{picked_rises}
@@ -30,9 +31,6 @@ walk_is moment [] t = refl
 walk_is moment (r ∷ rs) t = walk_is moment rs (if is_old moment r then amend_report r (finished r.progress) t else t)
 
 -- ---- the first of the entries that passes
-
-one_entry : (a b : StatusEntry) → Some a ≡ Some b → a ≡ b
-one_entry a b e = cc
 
 above_entry : (n : ℕ) (e : StatusEntry) (es : List StatusEntry) → AllAbove status_key n es → Among e es → n < e.place
 above_entry n e [] h m = elim m [ ]
@@ -64,7 +62,7 @@ module _ (test : StatusEntry → Bool) where
   found : (e : StatusEntry) (es : List StatusEntry) → first_such test es ≡ Some e → Among e es × (test e ≡ true)
   found e [] q = absurd cc
   found e (x ∷ es) q = ⊎_elim
-      (λ (p : test x ≡ true). let same : x ≡ e = one_entry x e (sym (cond-true (test x) (Some x) (first_such test es) p) ∙ q) in (inl (sym same), subst (λ (y : StatusEntry). test y ≡ true) same p))
+      (λ (p : test x ≡ true). let same : x ≡ e = same_Some x e (sym (cond-true (test x) (Some x) (first_such test es) p) ∙ q) in (inl (sym same), subst (λ (y : StatusEntry). test y ≡ true) same p))
       (λ (p : test x ≡ false). let f = found e es (sym (cond-false (test x) (Some x) (first_such test es) p) ∙ q) in (inr f.0, f.1))
       (cases_Bool (test x))
 
@@ -118,7 +116,7 @@ module _ (first moment : ℕ) (ms : List MessageRow) (current : OpenReportsOf) (
           (row.1.0, row.1.1),
           walk_is moment (rows_from report_key first rows) t
               ∙ amends_on (is_old moment) closed first rows r t represents.keys row.1.0 (subst (λ (n : ℕ). first ≤ n) (sym place) past.0)
-              (λ x m l before. none_old (Some e) q x m l (λ g h. let same : e ≡ g = one_entry e g h in subst (λ (y : StatusEntry). x.place < y.place) same (omega (arith, before, place)))) old
+              (λ x m l before. none_old (Some e) q x m l (λ g h. let same : e ≡ g = same_Some e g h in subst (λ (y : StatusEntry). x.place < y.place) same (omega (arith, before, place)))) old
               ∙ sym (walk_is moment (rows_from report_key (r.place + 1) rows) (amend_report r (finished r.progress) t))
               ∙ ap (λ (n : ℕ). drop_old moment (rows_from report_key (n + 1) rows) (amend_report r (finished r.progress) t)) place,
         ),

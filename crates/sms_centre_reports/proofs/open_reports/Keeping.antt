@@ -2,6 +2,7 @@
 use Rattle.std.proofs.Common.{◌≡◌, ◌⊎◌, ℕ, List, [], ◌∷◌, Bool, true, false, Option, Some, None, refl, sym, ◌∙◌, ap, subst, inl, inr, ⊎_elim}
 use Rattle.std.specs.Prelude.{◌&&◌, ◌||◌, not, if◌then◌else◌}
 use Rattle.std.proofs.lemmas.Bool.{cases_Bool, cases_eq, cond-true, cond-false}
+use Rattle.sms_base.proofs.OctetLaws.{cases_octets}
 use Rattle.sms_base.specs.Among.{Among}
 use Rattle.sms_rows.specs.index.Picked.{before_all, pick_of, picked, set_at}
 use Rattle.sms_rows.proofs.index.Picking.{IsUnder, picked_same, picked_set, set_here, set_other}
@@ -12,16 +13,15 @@ use Rattle.sms_centre_rows.specs.declared.reports.report.ReportKind.{ReportKind}
 use Rattle.sms_centre_rows.specs.declared.reports.report.ReportKind.TheVariants.{Receipt, Status, Unsent}
 use Rattle.sms_centre_rows.specs.declared.reports.report.ReportRow.{ReportRow}
 use Rattle.sms_centre_rows.specs.reports.Reports.{is_open_receipt, is_open_status, is_receipt, is_status, next_place, report_key, report_of}
-use Rattle.sms_centre_rows.specs.reports.Waiting.{Alone}
-use Rattle.sms_centre_rows.proofs.reports.AllWaiting.{report_found}
 use Rattle.sms_centre_reports.specs.open_reports.Became.{Became}
 use Rattle.sms_centre_reports.specs.declared.open_reports.entry.ReceiptEntry.{ReceiptEntry}
 use Rattle.sms_centre_reports.specs.declared.open_reports.entry.ReportEntry.{ReportEntry}
 use Rattle.sms_centre_reports.specs.declared.open_reports.entry.StatusEntry.{StatusEntry}
 use Rattle.sms_centre_reports.specs.open_reports.Entries.{account_in, entry_key, is_named, is_open, open_entry, receipt_entry, receipt_key, report_entry, status_entry, status_key, status_limit}
 use Rattle.sms_centre_reports.specs.open_reports.OpenReports.{AccountOf, IsWithReceipt, OpenReportsOf, Represents, receipts_at}
-use Rattle.sms_centre_reports.proofs.open_reports.Becoming.{none_of}
 use Rattle.sms_centre_rows.specs.waiting.Trying.{later}
+use Rattle.sms_centre_spec.proofs.bodies.Bodies.{alone_found}
+use Rattle.sms_centre_rows.proofs.reports.Kinds.{no_status}
 
 -- ---- what is kept of a row
 
@@ -45,11 +45,6 @@ open_under r = ⊎_elim
     (λ (t : is_open r ≡ false). subst (λ (o : Option ReportEntry). IsUnder entry_key r.id o) (sym (cond-false (is_open r) (Some (report_entry r)) None t)) tt)
     (cases_Bool (is_open r))
 
-pub no_status : (k : ReportKind) → is_receipt k ≡ true → is_status k ≡ false
-no_status Receipt e = refl
-no_status (Status reference tpdu) e = absurd cc
-no_status Unsent e = absurd cc
-
 pub no_receipt : (k : ReportKind) → is_status k ≡ true → is_receipt k ≡ false
 no_receipt Receipt e = absurd cc
 no_receipt (Status reference tpdu) e = refl
@@ -62,25 +57,6 @@ receipt_none : (name : List ℕ) (ms : List MessageRow) (r : ReportRow) → is_r
 receipt_none name ms r e =
     cond-false (is_open_receipt r && is_named name (account_in (message_at r.id ms))) (Some (record { place = r.place; id = r.id; due = r.progress.due })) None
     (ap (λ (b : Bool). (b && not r.progress.is_done) && is_named name (account_in (message_at r.id ms))) e)
-
--- two names are the same or not
-pub names_apart : (xs ys : List ℕ) → (xs ≡ ys) ⊎ (xs ≡ ys → ⊥)
-names_apart [] [] = inl refl
-names_apart [] (y ∷ ys) = inr (λ e. absurd cc)
-names_apart (x ∷ xs) [] = inr (λ e. absurd cc)
-names_apart (x ∷ xs) (y ∷ ys) = ⊎_elim
-    (λ (e : x ≡ y). ⊎_elim
-    (λ (f : xs ≡ ys). inl (ap (λ (n : ℕ). n ∷ xs) e ∙ ap (λ (ns : List ℕ). y ∷ ns) f))
-    (λ (f : xs ≡ ys → ⊥). inr (λ g. f (tails x y xs ys g)))
-    (names_apart xs ys))
-    (λ (e : x ≡ y → ⊥). inr (λ g. e (heads x y xs ys g)))
-    (cases_eq x y)
-  where
-    heads : (x y : ℕ) (xs ys : List ℕ) → x ∷ xs ≡ y ∷ ys → x ≡ y
-    heads x y xs ys g = cc
-
-    tails : (x y : ℕ) (xs ys : List ℕ) → x ∷ xs ≡ y ∷ ys → xs ≡ ys
-    tails x y xs ys g = cc
 
 -- ---- a report becomes so: what is kept of all
 
@@ -120,7 +96,7 @@ module _ (rows after : List ReportRow) (r : ReportRow) (keys : Rises report_key 
     by_message = open_set current.open_reports represents.by_message;
     statuses = represents.statuses ∙ sym (unpicked status_key status_entry status_place (status_none r (no_status r.kind is_one))
         (λ b e. status_none b (no_status b.kind (ap (λ (k : ReportKind). is_receipt k) (became.was b e).1 ∙ is_one))));
-    receipts = λ other. by_name other (names_apart other name);
+    receipts = λ other. by_name other (cases_octets other name);
     next = is_next;
   } where
     and_false : (b : Bool) → (b && false) ≡ false
@@ -175,13 +151,7 @@ module _ (rows after : List ReportRow) (r : ReportRow) (keys : Rises report_key 
 
 -- ---- messages change
 
-pub alone_found : (r : ReportRow) (rows : List ReportRow) → Alone rows → Among r rows → report_of r.id rows ≡ Some r
-alone_found r rows alone m = by (report_of r.id rows) refl where
-  by : (o : Option ReportRow) → report_of r.id rows ≡ o → report_of r.id rows ≡ Some r
-  by None e = absurd (none_of r.id r rows e m refl)
-  by (Some s) e = let f = report_found r.id s rows e in e ∙ ap (λ (x : ReportRow). Some x) (alone s r f.0 m f.1)
-
-picked_alike : {B : Type 0} (one two : ReportRow → Option B) (rows : List ReportRow) → ((r : ReportRow) → Among r rows → one r ≡ two r) → picked one rows ≡ picked two rows
+pub picked_alike : {B : Type 0} (one two : ReportRow → Option B) (rows : List ReportRow) → ((r : ReportRow) → Among r rows → one r ≡ two r) → picked one rows ≡ picked two rows
 picked_alike one two [] f = refl
 picked_alike one two (r ∷ rows) f =
     ap (λ (o : Option _). before_all o (picked one rows)) (f r (inl refl)) ∙ ap (λ (es : List _). before_all (two r) es) (picked_alike one two rows (λ s m. f s (inr m)))

@@ -4,6 +4,7 @@ use Rattle.std.specs.Prelude.{◌&&◌, ◌||◌, not, if◌then◌else◌}
 use Rattle.std.specs.Str.{bytes_eq}
 use Rattle.std.proofs.lemmas.Bool.{cases_Bool, cond-true, cond-false}
 use Rattle.std.proofs.lemmas.Slice.Eq.{bytes_eq-Decides}
+use Rattle.sms_base.proofs.OctetLaws.{differ}
 use Rattle.sms_base.specs.Among.{Among}
 use Rattle.sms_rows.specs.index.Picked.{set_at}
 use Rattle.sms_centre_rows.specs.declared.messages.message.MessageRow.{MessageRow}
@@ -20,22 +21,19 @@ use Rattle.sms_centre_reports.specs.open_reports.Entries.{account_in, entry_key,
 use Rattle.sms_centre_reports.specs.open_reports.OpenReports.{AccountOf, IsWithReceipt, OpenReportsOf, Represents, receipts_at}
 use Rattle.sms_centre_reports.specs.open_reports.OpenReportsDraft.{OpenReportsDraftOf, DraftRepresents, amending, made_row, noting, putting}
 use Rattle.sms_centre_reports.specs.open_reports.Updates.{entry_reaching, keeping, keeping_of, keeping_receipt, keeping_status, receipt_of, status_of, unless_done, with_receipt}
-use Rattle.sms_centre_reports.proofs.open_reports.Becoming.{became_added, became_far, became_made, below_next, next_added, next_far, next_made, nothing_there}
+use Rattle.sms_centre_reports.proofs.open_reports.Becoming.{became_added, became_far, became_made, next_added, next_made, nothing_there}
 use Rattle.sms_centre_reports.proofs.open_reports.Noting.{noted_far, noted_put, stay_far, stay_put}
-use Rattle.sms_centre_reports.proofs.open_reports.Keeping.{preserved_receipt, preserved_closed, preserved_status, no_receipt, no_status}
+use Rattle.sms_centre_reports.proofs.open_reports.Keeping.{preserved_receipt, preserved_closed, preserved_status, no_receipt}
 use Rattle.sms_centre_rows.specs.declared.waiting.progress.Progress.{Progress}
 use Rattle.sms_centre_rows.specs.declared.waiting.revision.Revision.{Revision}
 use Rattle.sms_centre_rows.specs.declared.waiting.revision.Revision.TheVariants.{Put, Amend}
 use Rattle.sms_centre_rows.specs.waiting.Revisions.{Revised, amended}
 use Rattle.sms_centre_rows.specs.waiting.Trying.{later}
+use Rattle.sms_centre_spec.proofs.NextNumbers.{below_next_place}
+use Rattle.sms_centre_spec.proofs.forgetting.Moves.{next_amended}
+use Rattle.sms_centre_rows.proofs.reports.Kinds.{no_status}
 
 -- ---- accounts
-
-differ : (a b : List ℕ) → ¬ (a ≡ b) → bytes_eq a b ≡ false
-differ a b ne = ⊎_elim
-    (λ (t : bytes_eq a b ≡ true). absurd (ne ((bytes_eq-Decides a b).0 t)))
-    (λ (t : bytes_eq a b ≡ false). t)
-    (cases_Bool (bytes_eq a b))
 
 module _ (name : List ℕ) (place : ℕ) (entry : Option ReceiptEntry) where
   with_own : (o : Option ReceiptEntry) → o ≡ entry → (accounts : List AccountOf) → receipts_at name (with_receipt name place o accounts) ≡ set_at receipt_key place o (receipts_at name accounts)
@@ -178,7 +176,7 @@ tells_unsent ms p t id made tells none =
     subst (λ (n : ℕ). DraftRepresents ms (putting (made_row n id Unsent true made) p.current p) (report_made id Unsent true made t)) (sym represents.next)
     (record {
       current = preserved_closed rows (put report_key r rows) r represents.keys became ms p.current (p.current.next + 1) represents refl refl none
-          (λ b e. nothing_there r b rows (λ s m. below_next 1 s rows represents.keys m) e) next;
+          (λ b e. nothing_there r b rows (λ s m. below_next_place 1 s rows represents.keys m) e) next;
       changes = ap (λ (cs : List (Revision ReportRow)). cs ++ Put r ∷ []) tells.changes;
       noted = noted_put p.made p.changes t.news r tells.noted;
       stay = stay_put t.news rows (put report_key r rows) r became tells.stay;
@@ -192,7 +190,7 @@ far_receipt ms p t r q name tells there one account =
     let s : ReportRow = report_reaching q r in
     let represents = tells.current in
     let became = became_far r q rows represents.keys represents.alone there in
-    let next : p.current.next ≡ next_place after = represents.next ∙ sym (next_far 1 r.place q rows) in
+    let next : p.current.next ≡ next_place after = represents.next ∙ sym (next_amended 1 r.place q rows) in
     record {
       current = represents_receipt ms name s p.current p.current.next after one (named_is name (account_in (message_at r.id ms)) account)
           (preserved_receipt rows after s represents.keys became ms name p.current (with_receipt name r.place (receipt_entry name ms s) p.current.accounts) p.current.next represents one
@@ -210,7 +208,7 @@ far_status ms p t r q tells there one =
     let s : ReportRow = report_reaching q r in
     let represents = tells.current in
     let became = became_far r q rows represents.keys represents.alone there in
-    let next : p.current.next ≡ next_place after = represents.next ∙ sym (next_far 1 r.place q rows) in
+    let next : p.current.next ≡ next_place after = represents.next ∙ sym (next_amended 1 r.place q rows) in
     record {
       current = represents_status ms s p.current p.current.next after one (preserved_status rows after s represents.keys became ms p.current p.current.next represents one next);
       changes = ap (λ (cs : List (Revision ReportRow)). cs ++ Amend r.place q ∷ []) tells.changes;

@@ -2,6 +2,7 @@
 use Rattle.std.proofs.Common.{◌≡◌, ℕ, zero, suc, List, [], ◌∷◌, ◌++◌, Option, Some, None, refl, sym, ◌∙◌, ap, subst, ⊎_elim, length, eq-eqb, get_or, ◌<◌, ◌≤◌, arith}
 use Rattle.std.specs.Prelude.{◌==◌, ◌||◌, Bool, true, false}
 use Rattle.std.proofs.lemmas.Bool.{cases_eq, cond-true, cond-false, ne_eqb}
+use Rattle.std.proofs.lemmas.Option.{same_Some}
 use Rattle.sms_rows.specs.table.Table.{Rises, put, row_at}
 use Rattle.sms_rows.proofs.table.Tables.{row_at_put, row_at_put_other}
 use Rattle.sms_centre_rows.specs.declared.messages.message.MessageRow.{MessageRow}
@@ -87,13 +88,10 @@ stay_put news before after r became stay id = ⊎_elim
     (subst (λ (o : Option ReportRow). Stays (made_in id news) o) (sym (became.others id ne)) (stay id)))
     (cases_eq r.id id)
 
-one_row : (a b : ReportRow) → Some a ≡ Some b → a ≡ b
-one_row a b e = cc
-
 far_stays : (o : Option ReportRow) (r : ReportRow) (q : Progress) (rows after : List ReportRow) → report_of r.id rows ≡ Some r → report_of r.id after ≡ Some (report_reaching q r) → Stays o (report_of r.id rows) → Stays o (report_of r.id after)
 far_stays None r q rows after there so stays = tt
 far_stays (Some m) r q rows after there so stays =
-    let same : r ≡ stays.0 = one_row r stays.0 (sym there ∙ stays.1.0) in
+    let same : r ≡ stays.0 = same_Some r stays.0 (sym there ∙ stays.1.0) in
     (report_reaching q r, (so, subst (λ (x : ReportRow). x.kind ≡ m.kind) (sym same) stays.1.1))
 
 pub stay_far : (news : List (Revision ReportRow)) (rows : List ReportRow) (r : ReportRow) (q : Progress) → Rises report_key rows → Alone rows → report_of r.id rows ≡ Some r → ((id : ℕ) → Stays (made_in id news) (report_of id rows))
@@ -147,7 +145,7 @@ module _ (ms : List MessageRow) (p : OpenReportsDraftOf) (t : Revised ReportRow)
   pub one_made : (m : MadeEntry) (r : ReportRow) → row_at made_key id p.made ≡ Some m → put_at m.at p.changes ≡ Some r → Some (status_tpdu r.kind) ≡ tpdu_made id t
   one_made m r e f =
       let noted = noted_as (Some m) e in
-      let same : noted.0 ≡ r = one_row noted.0 r (sym noted.1.1 ∙ f) in
+      let same : noted.0 ≡ r = same_Some noted.0 r (sym noted.1.1 ∙ f) in
       let made : made_in id t.news ≡ Some r = noted.1.0 ∙ ap (λ (x : ReportRow). Some x) same in
       sym (cond-true (is_made id t.news) (Some (tpdu_in (report_of id (reports_of t)))) None (made_is id r t.news made) ∙ ap (λ (o : List ℕ). Some o) (stays_there r made))
 

@@ -3,6 +3,8 @@ use Rattle.std.proofs.Common.{◌≡◌, ℕ, ◌+◌, ◌<◌, ◌≤◌, List,
 use Rattle.std.specs.Prelude.{◌&&◌, nat_le, nat_lt, if◌then◌else◌}
 use Rattle.std.proofs.lemmas.Bool.{and_from, and_parts, cases_Bool, cond-true, cond-false, le-leb, leb-true}
 use Rattle.std.proofs.lemmas.Slice.Eq.{bytes_eq-Decides}
+use Rattle.std.proofs.lemmas.Option.{same_Some}
+use Rattle.sms_base.proofs.Bools.{and_false}
 use Rattle.sms_base.specs.Among.{Among}
 use Rattle.sms_rows.specs.index.First.{first_such, is_ahead_from}
 use Rattle.sms_rows.proofs.index.Picking.{picked_rises}
@@ -19,17 +21,14 @@ use Rattle.sms_centre_reports.specs.open_reports.Entries.{account_in, account_of
 use Rattle.sms_centre_reports.specs.open_reports.OpenReports.{OpenReportsOf, Represents, receipts_at}
 use Rattle.sms_centre_reports.specs.open_reports.OpenReportsDraft.{OpenReportsDraftOf, DraftRepresents}
 use Rattle.sms_centre_reports.proofs.open_reports.Amended.{amend_each, amends_end, amends_on, from_amended, from_first}
-use Rattle.sms_centre_reports.proofs.open_reports.Keeping.{alone_found, kept_where, receipt_place}
+use Rattle.sms_centre_reports.proofs.open_reports.Keeping.{kept_where, receipt_place}
 use Rattle.sms_centre_reports.proofs.open_reports.Serving.{among_preserved, first_found, first_reaches, preserved_among, preserved_of}
 use Rattle.sms_centre_rows.specs.declared.waiting.progress.Progress.{Progress}
 use Rattle.sms_centre_rows.specs.waiting.Revisions.{Revised}
 use Rattle.sms_centre_rows.specs.waiting.Trying.{due_at}
+use Rattle.sms_centre_spec.proofs.bodies.Bodies.{alone_found}
 
 -- ---- what is put off
-
-and_false : (b : Bool) → (b && false) ≡ false
-and_false true = refl
-and_false false = refl
 
 and_both : (a b c : Bool) → (a && (b && c)) ≡ ((a && b) && c)
 and_both true b c = refl
@@ -48,9 +47,6 @@ put_off_is moment name r (Some m) =
 named_own : (name : List ℕ) (o : Option (List ℕ)) → is_named name o ≡ true → o ≡ Some name
 named_own name None e = absurd cc
 named_own name (Some account) e = ap (λ (a : List ℕ). Some a) ((bytes_eq-Decides account name).0 e)
-
-one_of : (a b : ReceiptEntry) → Some a ≡ Some b → a ≡ b
-one_of a b e = cc
 
 -- a receipt that comes due, and all behind it
 pub record FallsDue (first moment : ℕ) (name : List ℕ) (ms : List MessageRow) (rows : List ReportRow) (t : Revised ReportRow) (e : ReceiptEntry) (r : ReportRow) : Type 0 where
@@ -128,7 +124,7 @@ module _ (moment : ℕ) (name : List ℕ) (ms : List MessageRow) where
             behind = ahead.0;
             walk = walk_is (rows_from report_key first rows) t
                 ∙ amends_on test reach first rows r t represents.keys row.1.0 (subst (λ (n : ℕ). first ≤ n) (sym place) ahead.0)
-                (λ x m l before. none_due (Some e) q x m l (λ g h. let same : e ≡ g = one_of e g h in subst (λ (y : ReceiptEntry). x.place < y.place) same (omega (arith, before, place)))) due
+                (λ x m l before. none_due (Some e) q x m l (λ g h. let same : e ≡ g = same_Some e g h in subst (λ (y : ReceiptEntry). x.place < y.place) same (omega (arith, before, place)))) due
                 ∙ sym (walk_is (rows_from report_key (r.place + 1) rows) (amend_report r (due_at moment r.progress) t));
           },
         )

@@ -1,5 +1,6 @@
 -- What is kept is built of sound rows, one after the other.
 use Rattle.std.proofs.Common.{◌≡◌, ℕ, ◌<◌, List, [], ◌∷◌, ◌++◌, Option, Some, None, true, refl, sym, ◌∙◌, ap, subst, inl, inr, ⊎_elim, arith}
+use Rattle.sms_base.proofs.Lists.{among_front}
 use Rattle.sms_base.specs.Among.{Among}
 use Rattle.sms_rows.specs.table.Table.{Rises}
 use Rattle.sms_centre_rows.specs.declared.messages.message.MessageRow.{MessageRow}
@@ -27,13 +28,6 @@ place_before s r [] rest h m = elim m [ ]
 place_before s r (d ∷ done) rest h m = ⊎_elim
     (λ (e : s ≡ d). subst (λ (x : ReportRow). x.place < r.place) (sym e) (above_one d.place r (done ++ r ∷ rest) h.0 (among_here r done rest)))
     (λ (k : Among s done). place_before s r done rest h.1 k)
-    m
-
-among_front : (s : ReportRow) (done rest : List ReportRow) → Among s done → Among s (done ++ rest)
-among_front s [] rest m = elim m [ ]
-among_front s (d ∷ done) rest m = ⊎_elim
-    (λ (e : s ≡ d). inl e)
-    (λ (k : Among s done). inr (among_front s done rest k))
     m
 
 -- ---- its message

@@ -2,6 +2,7 @@
 use Rattle.std.proofs.Common.{◌≡◌, ℕ, List, [], ◌∷◌, Bool, true, false, Option, Some, None, refl, sym, ◌∙◌, ap, subst, inl, inr, ⊎_elim}
 use Rattle.std.specs.Prelude.{◌||◌, ◌==◌, not, if◌then◌else◌}
 use Rattle.std.proofs.lemmas.Bool.{and_from, and_parts, cases_Bool, cond-true, cond-false}
+use Rattle.std.proofs.lemmas.Option.{same_Some}
 use Rattle.sms_base.specs.Among.{Among}
 use Rattle.sms_rows.specs.index.Picked.{pick_of}
 use Rattle.sms_centre_rows.specs.declared.messages.message.MessageRow.{MessageRow}
@@ -27,9 +28,6 @@ pub open_found : (id : ℕ) (r : ReportRow) (rows : List ReportRow) → report_o
 open_found id r rows there is =
     ap (λ (o : Option ReportRow). pick_of open_entry o) there ∙ cond-true (is_open r) (Some (report_entry r)) None (ap (λ (b : Bool). b || is_open_status r) is)
 
-one_entry : (a b : ReportEntry) → Some a ≡ Some b → a ≡ b
-one_entry a b e = cc
-
 pub never_missed : (id : ℕ) (r : ReportRow) (rows : List ReportRow) → None ≡ pick_of open_entry (report_of id rows) → report_of id rows ≡ Some r → is_open_receipt r ≡ true → ⊥
 never_missed id r rows e there is = let bad : None ≡ Some (report_entry r) = e ∙ open_found id r rows there is in absurd cc
 
@@ -38,7 +36,7 @@ pub moves_so : (ms : List MessageRow) (q : OpenReportsDraftOf) (t : Revised Repo
     → ((s : ReportRow) → report_of s.id (reports_of t) ≡ Some s → entry ≡ report_entry s → is_receipt s.kind ≡ true → account_in (message_at s.id ms) ≡ Some name → DraftRepresents ms q (amend_report s far t))
     → DraftRepresents ms q (amend_report r (moved becomes r.progress) t)
 moves_so ms q t r becomes far entry name id reaches found there is account moves =
-    let same : entry ≡ report_entry r = one_entry entry (report_entry r) (found ∙ open_found id r (reports_of t) there is) in
+    let same : entry ≡ report_entry r = same_Some entry (report_entry r) (found ∙ open_found id r (reports_of t) there is) in
     let own : r.id ≡ id = (report_found id r (reports_of t) there).1 in
     subst (λ (p : Progress). DraftRepresents ms q (amend_report r p t)) (reaches ∙ ap (λ (e : ReportEntry). moved becomes e.progress) same)
     (moves r (subst (λ (n : ℕ). report_of n (reports_of t) ≡ Some r) (sym own) there) same (and_parts (is_receipt r.kind) (not r.progress.is_done) is).0

@@ -2,8 +2,10 @@
 use Rattle.std.proofs.Common.{◌≡◌, ◌⊎◌, ℕ, ◌+◌, ◌≤◌, ◌<◌, List, [], ◌∷◌, Bool, true, false, Option, Some, None, refl, sym, ◌∙◌, ap, subst, inl, inr, ⊎_elim, length, eq-eqb, arith}
 use Rattle.std.specs.Prelude.{◌&&◌, nat_le, nat_lt, not, if◌then◌else◌}
 use Rattle.std.specs.Str.{bytes_eq}
-use Rattle.std.proofs.lemmas.Bool.{and_from, and_parts, cases_Bool, cases_lt, cond-true, cond-false, eqb-true, le-leb, leb-true}
+use Rattle.std.proofs.lemmas.Bool.{and_from, and_parts, cases_Bool, cases_lt, cond-true, cond-false, eqb-true, le-leb, leb-true, not-true, not_from_false}
 use Rattle.std.proofs.lemmas.Slice.Eq.{bytes_eq-Decides}
+use Rattle.std.proofs.lemmas.Option.{same_Some}
+use Rattle.sms_base.proofs.Bools.{and_false}
 use Rattle.sms_base.specs.Among.{Among}
 use Rattle.sms_rows.specs.index.First.{first_such, is_past_from}
 use Rattle.sms_rows.specs.index.Picked.{before_all, picked}
@@ -25,9 +27,6 @@ use Rattle.sms_centre_reports.specs.open_reports.Serving.{Next, earlier, is_read
 use Rattle.sms_centre_reports.specs.open_reports.DueReceipts.{sending_session, with_room}
 use Rattle.sms_centre_reports.proofs.open_reports.Keeping.{kept_where, receipt_place}
 use Rattle.sms_centre_reports.proofs.open_reports.Walking.{walk_ends, walk_on}
-
-one_of : {A : Type 0} (a b : A) → Some a ≡ Some b → a ≡ b
-one_of a b e = cc
 
 -- ---- lists
 
@@ -61,7 +60,7 @@ module _ (test : ReceiptEntry → Bool) where
   pub first_found : (e : ReceiptEntry) (es : List ReceiptEntry) → first_such test es ≡ Some e → Among e es × (test e ≡ true)
   first_found e [] q = absurd cc
   first_found e (x ∷ es) q = ⊎_elim
-      (λ (p : test x ≡ true). let same : x ≡ e = one_of x e (sym (cond-true (test x) (Some x) (first_such test es) p) ∙ q) in (inl (sym same), subst (λ (y : ReceiptEntry). test y ≡ true) same p))
+      (λ (p : test x ≡ true). let same : x ≡ e = same_Some x e (sym (cond-true (test x) (Some x) (first_such test es) p) ∙ q) in (inl (sym same), subst (λ (y : ReceiptEntry). test y ≡ true) same p))
       (λ (p : test x ≡ false). let f = first_found e es (sym (cond-false (test x) (Some x) (first_such test es) p) ∙ q) in (inr f.0, f.1))
       (cases_Bool (test x))
 
@@ -72,10 +71,6 @@ past_so first moment e t = ⊎_elim
     (λ (l : nat_le first e.place ≡ true). (leb-true first e.place l, leb-true e.due moment (sym (cond-true (nat_le first e.place) (nat_le e.due moment) false l) ∙ t)))
     (λ (l : nat_le first e.place ≡ false). let bad : false ≡ true = sym (cond-false (nat_le first e.place) (nat_le e.due moment) false l) ∙ t in absurd cc)
     (cases_Bool (nat_le first e.place))
-
-and_false : (b : Bool) → (b && false) ≡ false
-and_false true = refl
-and_false false = refl
 
 not_leb : (x y : ℕ) → y < x → nat_le x y ≡ false
 not_leb x y l = ⊎_elim
@@ -98,7 +93,7 @@ pub one_ready : (first moment : ℕ) (ss : List Session) (e : ReceiptEntry) (es 
 one_ready first moment ss e [] q u = absurd cc
 one_ready first moment ss e (x ∷ es) q u = ⊎_elim
     (λ (t : is_past_from receipt_key receipt_due first moment x ≡ true).
-    let same : x ≡ e = one_of x e (sym (cond-true (is_past_from receipt_key receipt_due first moment x) (Some x) (first_such (is_past_from receipt_key receipt_due first moment) es) t) ∙ q) in
+    let same : x ≡ e = same_Some x e (sym (cond-true (is_past_from receipt_key receipt_due first moment x) (Some x) (first_such (is_past_from receipt_key receipt_due first moment) es) t) ∙ q) in
     let unsent : is_unanswered x.id ss ≡ false = ap (λ (y : ReceiptEntry). is_unanswered y.id ss) same ∙ u in
     cond-true (is_ready first moment ss x) (Some x) (first_such (is_ready first moment ss) es)
     (ap (λ (b : Bool). b && not (is_unanswered x.id ss)) t ∙ ap (λ (b : Bool). not b) unsent)
@@ -124,7 +119,7 @@ pub passed_over : (first moment : ℕ) (ss : List Session) (e : ReceiptEntry) (e
 passed_over first moment ss e [] h q u = refl
 passed_over first moment ss e (x ∷ es) h q u = ⊎_elim
     (λ (t : is_past_from receipt_key receipt_due first moment x ≡ true).
-    let same : x ≡ e = one_of x e (sym (cond-true (is_past_from receipt_key receipt_due first moment x) (Some x) (first_such (is_past_from receipt_key receipt_due first moment) es) t) ∙ q) in
+    let same : x ≡ e = same_Some x e (sym (cond-true (is_past_from receipt_key receipt_due first moment x) (Some x) (first_such (is_past_from receipt_key receipt_due first moment) es) t) ∙ q) in
     let place : x.place ≡ e.place = ap (λ (y : ReceiptEntry). y.place) same in
     let sent : is_unanswered x.id ss ≡ true = ap (λ (y : ReceiptEntry). is_unanswered y.id ss) same ∙ u in
     let past = past_so first moment x t in
@@ -158,7 +153,7 @@ module _ {B : Type 0} (pick : ReportRow → Option B) where
     where
       here : (o : Option B) → o ≡ Some e → Among e (before_all o (picked pick rows))
       here None f = absurd cc
-      here (Some b) f = inl (sym (one_of b e f))
+      here (Some b) f = inl (sym (same_Some b e f))
 
       behind : (o : Option B) → Among e (picked pick rows) → Among e (before_all o (picked pick rows))
       behind None k = k
@@ -179,7 +174,7 @@ module _ {B : Type 0} (pick : ReportRow → Option B) where
 -- ---- sessions of an account
 
 same_account : (o : Originator) (name account : List ℕ) → account_of o ≡ Some name → is_account account o ≡ bytes_eq name account
-same_account (Application a) name account e = ap (λ (x : List ℕ). bytes_eq x account) (one_of a name e)
+same_account (Application a) name account e = ap (λ (x : List ℕ). bytes_eq x account) (same_Some a name e)
 same_account (Handset n) name account e = absurd cc
 
 no_account : (o : Originator) (account : List ℕ) → account_of o ≡ None → is_account account o ≡ false
@@ -203,19 +198,11 @@ serving_found name s ss e =
 
 -- ---- what goes
 
-not_true : (b : Bool) → not b ≡ true → b ≡ false
-not_true true e = absurd cc
-not_true false e = refl
-
-true_not : (b : Bool) → b ≡ false → not b ≡ true
-true_not true e = absurd cc
-true_not false e = refl
-
 room_of : (o : Option Session) (s : Session) → with_room o ≡ Some s → (o ≡ Some s) × (nat_lt (length s.unanswered) window ≡ true)
 room_of None s e = absurd cc
 room_of (Some a) s e = ⊎_elim
     (λ (t : nat_lt (length a.unanswered) window ≡ true).
-    let same : a ≡ s = one_of a s (sym (cond-true (nat_lt (length a.unanswered) window) (Some a) None t) ∙ e) in
+    let same : a ≡ s = same_Some a s (sym (cond-true (nat_lt (length a.unanswered) window) (Some a) None t) ∙ e) in
     (ap (λ (x : Session). Some x) same, subst (λ (x : Session). nat_lt (length x.unanswered) window ≡ true) same t))
     (λ (t : nat_lt (length a.unanswered) window ≡ false). let bad : None ≡ Some s = sym (cond-false (nat_lt (length a.unanswered) window) (Some a) None t) ∙ e in absurd cc)
     (cases_Bool (nat_lt (length a.unanswered) window))
@@ -233,7 +220,7 @@ goes_so moment ms ss r s e = ⊎_elim
     let one = and_parts (is_open_receipt r) (nat_le r.progress.due moment && not (is_unanswered r.id ss)) t in
     let two = and_parts (nat_le r.progress.due moment) (not (is_unanswered r.id ss)) one.1 in
     let at = room_of (session_for (message_at r.id ms) ss) s (sym (cond-true (waits moment r ss) (with_room (session_for (message_at r.id ms) ss)) None t) ∙ e) in
-    record { opened = one.0; due = leb-true r.progress.due moment two.0; unsent = not_true (is_unanswered r.id ss) two.1; session = at.0; room = at.1 })
+    record { opened = one.0; due = leb-true r.progress.due moment two.0; unsent = not-true (is_unanswered r.id ss) two.1; session = at.0; room = at.1 })
     (λ (t : waits moment r ss ≡ false). let bad : None ≡ Some s = sym (cond-false (waits moment r ss) (with_room (session_for (message_at r.id ms) ss)) None t) ∙ e in absurd cc)
     (cases_Bool (waits moment r ss))
 
@@ -241,7 +228,7 @@ so_goes : (moment : ℕ) (ms : List MessageRow) (ss : List Session) (r : ReportR
 so_goes moment ms ss r s goes =
     let waiting : waits moment r ss ≡ true =
     and_from (is_open_receipt r) (nat_le r.progress.due moment && not (is_unanswered r.id ss)) goes.opened
-    (and_from (nat_le r.progress.due moment) (not (is_unanswered r.id ss)) (le-leb r.progress.due moment goes.due) (true_not (is_unanswered r.id ss) goes.unsent)) in
+    (and_from (nat_le r.progress.due moment) (not (is_unanswered r.id ss)) (le-leb r.progress.due moment goes.due) (not_from_false (is_unanswered r.id ss) goes.unsent)) in
     cond-true (waits moment r ss) (with_room (session_for (message_at r.id ms) ss)) None waiting
     ∙ ap (λ (o : Option Session). with_room o) goes.session ∙ cond-true (nat_lt (length s.unanswered) window) (Some s) None goes.room
 
@@ -276,7 +263,7 @@ module _ (first moment : ℕ) (ms : List MessageRow) (current : OpenReportsOf) (
       let there : Among (preserved_of x) (receipts_at s.account current.accounts) =
       subst (λ (es : List ReceiptEntry). Among (preserved_of x) es) (sym (represents.receipts s.account)) (preserved_among (receipt_entry s.account ms) x (preserved_of x) rows m entry) in
       let ready : is_ready first moment ss (preserved_of x) ≡ true =
-      and_from (is_past_from receipt_key receipt_due first moment (preserved_of x)) (not (is_unanswered x.id ss)) (so_past first moment (preserved_of x) l goes.due) (true_not (is_unanswered x.id ss) goes.unsent) in
+      and_from (is_past_from receipt_key receipt_due first moment (preserved_of x)) (not (is_unanswered x.id ss)) (so_past first moment (preserved_of x) l goes.due) (not_from_false (is_unanswered x.id ss) goes.unsent) in
       let reached = first_reaches (is_ready first moment ss) (preserved_of x) (receipts_at s.account current.accounts) (receipts_rise s.account) there ready in
       let is_own : is_session s (serving s.account ss) ≡ true = ap (λ (o : Option Session). is_session s o) own ∙ eq-eqb s.number s.number refl in
       let test : (is_session s (serving s.account ss) && nat_lt (length s.unanswered) window) ≡ true = and_from (is_session s (serving s.account ss)) (nat_lt (length s.unanswered) window) is_own goes.room in (
@@ -307,7 +294,7 @@ module _ (first moment : ℕ) (ms : List MessageRow) (current : OpenReportsOf) (
       let past = past_so first moment e ready.0 in
       let it = is_it s (serving s.account ss) parts.0 in
       let among = serving_found s.account it.0 ss it.1.0 in
-      let same : it.0 ≡ s = one_of it.0 s (sym (among_found session_key it.0 ss rises among.0) ∙ ap (λ (n : ℕ). row_at session_key n ss) it.1.1 ∙ among_found session_key s ss rises m) in
+      let same : it.0 ≡ s = same_Some it.0 s (sym (among_found session_key it.0 ss rises among.0) ∙ ap (λ (n : ℕ). row_at session_key n ss) it.1.1 ∙ among_found session_key s ss rises m) in
       let place : r.place ≡ e.place = ap (λ (x : ReceiptEntry). x.place) kept_so.1 in
       let due : r.progress.due ≡ e.due = ap (λ (x : ReceiptEntry). x.due) kept_so.1 in (
         r,
@@ -318,7 +305,7 @@ module _ (first moment : ℕ) (ms : List MessageRow) (current : OpenReportsOf) (
             record {
               opened = shut.0;
               due = subst (λ (n : ℕ). n ≤ moment) (sym due) past.1;
-              unsent = ap (λ (x : ReceiptEntry). is_unanswered x.id ss) kept_so.1 ∙ not_true (is_unanswered e.id ss) ready.1;
+              unsent = ap (λ (x : ReceiptEntry). is_unanswered x.id ss) kept_so.1 ∙ not-true (is_unanswered e.id ss) ready.1;
               session = session_named r shut.1 ∙ it.1.0 ∙ ap (λ (x : Session). Some x) same;
               room = parts.1;
             },
@@ -382,7 +369,7 @@ module _ (first moment : ℕ) (ms : List MessageRow) (current : OpenReportsOf) (
 
   from_one : (s : Session) (o : Option ReceiptEntry) (n : Next) → next_from s o ≡ Some n → (n.session ≡ s) × (o ≡ Some n.receipt)
   from_one s None n e = absurd cc
-  from_one s (Some r) n e = let same : record { session = s; receipt = r } ≡ n = one_of (record { session = s; receipt = r }) n e in
+  from_one s (Some r) n e = let same : record { session = s; receipt = r } ≡ n = same_Some (record { session = s; receipt = r }) n e in
       (ap (λ (x : Next). x.session) (sym same), ap (λ (x : Next). Some x.receipt) same)
 
   pub next_is : (n : Next) (sessions : List Session) → next_among first moment ss current.accounts sessions ≡ Some n → Among n.session sessions × (next_in first moment ss current.accounts n.session ≡ Some n.receipt)
@@ -432,7 +419,7 @@ module _ (first moment : ℕ) (ms : List MessageRow) (current : OpenReportsOf) (
       let id : f.0.id ≡ n.receipt.id = ap (λ (x : ReceiptEntry). x.id) f.1.0.1 in
       walk_on moment ms first rows f.0 n.session bindings represents.keys f.1.0.0 f.1.1.0
       (λ x m l before. subst (λ (sessions : List Session). sending_session moment ms sessions x ≡ None) (sym same)
-      (none_before (Some n) e x m l (λ k q. let one : n ≡ k = one_of n k q in subst (λ (y : Next). x.place < y.receipt.place) one (omega (arith, before, place)))))
+      (none_before (Some n) e x m l (λ k q. let one : n ≡ k = same_Some n k q in subst (λ (y : Next). x.place < y.receipt.place) one (omega (arith, before, place)))))
       (subst (λ (sessions : List Session). sending_session moment ms sessions f.0 ≡ Some n.session) (sym same) (so_goes moment ms ss f.0 n.session f.1.1.1))
       ∙ ap (λ (k : ℕ). send_all moment ms (rows_from report_key (k + 1) rows) (send_in f.0.id n.session bindings)) place
       ∙ ap (λ (k : ℕ). send_all moment ms (rows_from report_key (n.receipt.place + 1) rows) (send_in k n.session bindings)) id

@@ -4,6 +4,7 @@ use Rattle.std.specs.Prelude.{◌&&◌, nat_lt}
 use Rattle.std.proofs.lemmas.Bool.{and_from, cases_Bool, cond-true, cond-false, lt-ltb}
 use Rattle.sms_rows.specs.index.First.{first_such}
 use Rattle.std.specs.Option.{option_map}
+use Rattle.std.proofs.lemmas.Option.{same_Some}
 use Rattle.sms_rows.specs.table.Table.{Rises, row_at, rows_from}
 use Rattle.sms_rows.proofs.table.Tables.{among_found, found_key}
 use Rattle.sms_centre_rows.specs.declared.messages.message.MessageRow.{MessageRow}
@@ -21,13 +22,10 @@ use Rattle.sms_centre_reports.specs.declared.sessions.sending.ReceiptToSend.{Rec
 use Rattle.sms_centre_reports.specs.sessions.SessionReceipts.{receipt_to_send}
 use Rattle.sms_centre_rows.specs.waiting.Revisions.{Revised}
 
-one_going : (a b : ReceiptToSend) → Some a ≡ Some b → a ≡ b
-one_going a b e = cc
-
 -- it goes in the session of some next
 some_next : (o : Option Next) (g : ReceiptToSend) → Some g ≡ option_map receipt_to_send o → (n : Next) × ((o ≡ Some n) × (g ≡ receipt_to_send n))
 some_next None g e = absurd cc
-some_next (Some n) g e = (n, (refl, one_going g (receipt_to_send n) e))
+some_next (Some n) g e = (n, (refl, same_Some g (receipt_to_send n) e))
 
 none_next : (o : Option Next) → None ≡ option_map receipt_to_send o → o ≡ None
 none_next None e = refl
@@ -80,14 +78,11 @@ module _ (first moment : ℕ) (ss : List Session) (accounts : List AccountOf) (s
 
 -- ---- it goes
 
-one_session : (a b : Session) → Some a ≡ Some b → a ≡ b
-one_session a b e = cc
-
 pub sent_so : (bindings : Bindings) (sessions : List Session) (before news : List Delivery) (seat sent s : Session) (number id : ℕ) → Some seat ≡ row_at session_key number bindings.sessions → row_at session_key number bindings.sessions ≡ Some s
     → sent ≡ record seat { unanswered = seat.unanswered ++ id ∷ [] } → record { sessions = sessions; deliveries = before } ≡ put_session sent bindings → news ≡ before ++ record { session = number; id = id } ∷ []
     → record { sessions = sessions; deliveries = news } ≡ send_in id s bindings
 sent_so bindings sessions before news seat sent s number id found there is puts pushes =
-    let same : seat ≡ s = one_session seat s (found ∙ there) in
+    let same : seat ≡ s = same_Some seat s (found ∙ there) in
     let own : number ≡ s.number = sym (found_key session_key number s bindings.sessions there) in
     let so : sent ≡ record s { unanswered = s.unanswered ++ id ∷ [] } = is ∙ ap (λ (x : Session). record x { unanswered = x.unanswered ++ id ∷ [] }) same in
     ap (λ (ds : List Delivery). record { sessions = sessions; deliveries = ds }) (pushes ∙ ap (λ (n : ℕ). before ++ record { session = n; id = id } ∷ []) own)

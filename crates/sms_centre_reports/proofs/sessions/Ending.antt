@@ -1,7 +1,6 @@
 -- Receipts that are answered, and sessions that end and are bound.
-use Rattle.std.proofs.Common.{◌≡◌, ℕ, List, [], ◌∷◌, Bool, true, false, Option, Some, sym, ◌∙◌, ap, subst, inl, inr, ⊎_elim, eqb-true}
-use Rattle.std.specs.Prelude.{◌||◌, ◌==◌}
-use Rattle.std.proofs.lemmas.Bool.{cases_Bool, cond-true}
+use Rattle.std.proofs.Common.{◌≡◌, ℕ, List, Bool, true, Option, Some, sym, ◌∙◌, ap, subst}
+use Rattle.std.proofs.lemmas.Bool.{cond-true}
 use Rattle.sms_base.specs.Among.{Among}
 use Rattle.sms_rows.specs.table.Table.{row_at}
 use Rattle.sms_rows.proofs.table.Tables.{found_among, found_key}
@@ -15,13 +14,7 @@ use Rattle.sms_centre_reports.specs.open_reports.OpenReportsDraft.{OpenReportsDr
 use Rattle.sms_centre_reports.specs.sessions.Answering.{bindings_unbound, bindings_unbound_from, reports_answered, reports_answered_by, reports_unbound, reports_unbound_from}
 use Rattle.sms_centre_reports.specs.sessions.Awaited.{AreAwaited}
 use Rattle.sms_centre_rows.specs.waiting.Revisions.{Revised}
-
-pub is_among_so : (id : ℕ) (ids : List ℕ) → is_among id ids ≡ true → Among id ids
-is_among_so id [] e = absurd cc
-is_among_so id (n ∷ ids) e = ⊎_elim
-    (λ (t : (n == id) ≡ true). inl (sym (eqb-true n id t)))
-    (λ (t : (n == id) ≡ false). inr (is_among_so id ids (sym (ap (λ (b : Bool). b || is_among id ids) t) ∙ e)))
-    (cases_Bool (n == id))
+use Rattle.sms_centre_spec.proofs.forgetting.Runs.{among_so}
 
 module _ (ms : List MessageRow) (t : Revised ReportRow) (ss : List Session) (awaited : AreAwaited ms (reports_of t) ss) (session : ℕ) (s : Session) (there : Some s ≡ row_at session_key session ss) where
   pub awaited_in : (id : ℕ) → Among id s.unanswered → IsAwaited ms (reports_of t) s.account id
@@ -32,7 +25,7 @@ module _ (ms : List MessageRow) (t : Revised ReportRow) (ss : List Session) (awa
   answers_so q id moment b name own sent ends =
       subst (λ (o : Option Session). DraftRepresents ms q (reports_answered_by id b moment o t)) there
       (subst (λ (u : Revised ReportRow). DraftRepresents ms q u) (sym (cond-true (is_among id s.unanswered) (receipt_ended b moment (report_of id (reports_of t)) t) t sent))
-      (ends (subst (λ (n : List ℕ). IsAwaited ms (reports_of t) n id) (sym own) (awaited_in id (is_among_so id s.unanswered sent)))))
+      (ends (subst (λ (n : List ℕ). IsAwaited ms (reports_of t) n id) (sym own) (awaited_in id (among_so id s.unanswered sent)))))
 
   pub unbinds_so : (q : OpenReportsDraftOf) (moment : ℕ) (name ids : List ℕ) → name ≡ s.account → ids ≡ s.unanswered
       → (((id : ℕ) → Among id ids → IsAwaited ms (reports_of t) name id) → DraftRepresents ms q (all_tried moment ids t)) → DraftRepresents ms q (reports_unbound session moment ss t)

@@ -1,17 +1,17 @@
 -- The test of an address holds exactly where the address can stand in a unit.
-use Rattle.std.proofs.Common.{◌≡◌, ◌↔◌, ℕ, ◌+◌, ◌-◌, ◌<◌, ◌≤◌, List, [], ◌∷◌, length, Bool, true, false, refl, sym, ◌∙◌, ap, subst, ⊎_elim, arith}
+use Rattle.std.proofs.Common.{◌≡◌, ◌↔◌, ℕ, ◌+◌, ◌-◌, ◌<◌, ◌≤◌, List, [], ◌∷◌, length, Bool, true, false, refl, sym, ◌∙◌, subst, ⊎_elim, arith}
 use Rattle.std.specs.List.{AllByRecursion, list_all}
 use Rattle.std.specs.Prelude.{◌&&◌, nat_le, nat_lt, if◌then◌else◌}
 use Rattle.std.proofs.lemmas.Bool.{and_from, and_parts, cases_Bool, cond-true, cond-false, le-leb, leb-true, lt-ltb, ltb-true}
 use Rattle.std.proofs.lemmas.Slice.Eq.{bytes_eq-Decides}
 use Rattle.std.specs.Str.{bytes_eq}
-use Rattle.std.proofs.Common.{eq-eqb, eqb-true, Some}
+use Rattle.std.proofs.Common.{eq-eqb, eqb-true}
 use Rattle.std.specs.Prelude.{◌==◌}
+use Rattle.sms_base.proofs.Addresses.{same_parts}
 use Rattle.sms_base.specs.declared.address.Address.{Address}
 use Rattle.sms_base.specs.declared.type_of_number.TypeOfNumber.{TypeOfNumber}
-use Rattle.sms_base.specs.declared.type_of_number.TypeOfNumber.TheVariants.{Unknown, International, National, NetworkSpecific, Subscriber, Alphanumeric, Abbreviated}
 use Rattle.sms_base.specs.Address.{IsAddress, IsAddressText, has_code, septet_count, width_of}
-use Rattle.sms_base.specs.AddressKind.{is_name, type_number, type_of}
+use Rattle.sms_base.specs.AddressKind.{is_name, type_number}
 use Rattle.sms_base.specs.Alphabet.{code_for}
 use Rattle.sms_base.specs.SemiOctet.{is_digit}
 use Rattle.sms_centre_rows.specs.messages.SplitReferences.{is_same_address}
@@ -78,32 +78,13 @@ address_tested a = (address_from a, address_to a)
 
 -- ---- addresses that are one
 
-type_is : (t : TypeOfNumber) → type_of (type_number t) ≡ Some t
-type_is Unknown = refl
-type_is International = refl
-type_is National = refl
-type_is NetworkSpecific = refl
-type_is Subscriber = refl
-type_is Alphanumeric = refl
-type_is Abbreviated = refl
-
-same_type : (t u : TypeOfNumber) → type_number t ≡ type_number u → t ≡ u
-same_type t u e =
-    let both : Some t ≡ Some u = sym (type_is t) ∙ ap (λ (n : ℕ). type_of n) e ∙ type_is u in
-    let q : t ≡ u = cc in q
-
 pub same_address : (a b : Address) → is_same_address a b ≡ true → a ≡ b
 same_address a b e =
     let p = and_parts (type_number a.ton == type_number b.ton) ((a.npi == b.npi) && bytes_eq a.digits b.digits) e in
     let q = and_parts (a.npi == b.npi) (bytes_eq a.digits b.digits) p.1 in
-    let ton : a.ton ≡ b.ton = same_type a.ton b.ton (eqb-true (type_number a.ton) (type_number b.ton) p.0) in
-    let npi : a.npi ≡ b.npi = eqb-true a.npi b.npi q.0 in
-    let digits : a.digits ≡ b.digits = (bytes_eq-Decides a.digits b.digits).0 q.1 in
-    ap (λ (t : TypeOfNumber). record a { ton = t }) ton
-    ∙ ap (λ (n : ℕ). record b { npi = n; digits = a.digits }) npi
-    ∙ ap (λ (d : List ℕ). record b { digits = d }) digits
+    same_parts a b (eqb-true (type_number a.ton) (type_number b.ton) p.0) (eqb-true a.npi b.npi q.0) ((bytes_eq-Decides a.digits b.digits).0 q.1)
 
-one_address : (a : Address) → is_same_address a a ≡ true
+pub one_address : (a : Address) → is_same_address a a ≡ true
 one_address a =
     and_from (type_number a.ton == type_number a.ton) ((a.npi == a.npi) && bytes_eq a.digits a.digits) (eq-eqb (type_number a.ton) (type_number a.ton) refl)
     (and_from (a.npi == a.npi) (bytes_eq a.digits a.digits) (eq-eqb a.npi a.npi refl) ((bytes_eq-Decides a.digits a.digits).1 refl))

@@ -1,5 +1,5 @@
 -- Tests that each row of a list passes, and tests that hold together.
-use Rattle.std.proofs.Common.{◌≡◌, List, [], ◌∷◌, Bool, true, false, Option, Some, None, refl, sym, ◌∙◌, ap, inl, inr, ⊎_elim, is_some}
+use Rattle.std.proofs.Common.{◌≡◌, List, [], ◌∷◌, Bool, true, Option, Some, None, refl, ◌∙◌, ap, inl, inr, ⊎_elim, is_some}
 use Rattle.std.specs.List.{AllByRecursion, list_all}
 use Rattle.std.proofs.lemmas.Bool.{and_from, and_parts}
 use Rattle.sms_base.specs.Among.{Among}
@@ -21,12 +21,6 @@ all_from test (y ∷ ys) e = let p = and_parts (test y) (list_all test ys) e in 
 pub all_to : {A : Type 0} (test : A → Bool) (xs : List A) → AllByRecursion (λ x. test x ≡ true) xs → list_all test xs ≡ true
 all_to test [] f = refl
 all_to test (y ∷ ys) f = and_from (test y) (list_all test ys) f.0 (all_to test ys f.1)
-
--- two tests that hold together are one
-pub same_test : (a b : Bool) → (a ≡ true → b ≡ true) → (b ≡ true → a ≡ true) → a ≡ b
-same_test true b f g = sym (f refl)
-same_test false true f g = g refl
-same_test false false f g = refl
 
 pub there_is : {A : Type 0} (o : Option A) → is_some o ≡ true → (x : A) × (o ≡ Some x)
 there_is None e = absurd cc

@@ -3,6 +3,7 @@ use Rattle.std.proofs.Common.{◌≡◌, ℕ, zero, suc, ◌<◌, ◌≤◌, Lis
 use Rattle.std.specs.Option.{option_map}
 use Rattle.std.specs.Prelude.{◌==◌, ◌&&◌, not}
 use Rattle.std.proofs.lemmas.Bool.{cases_eq, ne_eqb, and_parts, and_from}
+use Rattle.sms_base.proofs.Bools.{same_bool}
 use Rattle.sms_base.specs.Among.{Among}
 use Rattle.sms_rows.specs.declared.table.change.Change.TheVariants.{Put as PutRow}
 use Rattle.sms_rows.specs.table.Keys.{pair_key}
@@ -92,11 +93,6 @@ found_decides p t k tells = ap (λ (es : List PartEntry). row_at entry_key k es)
 
 -- ---- what is done
 
-same_bool : (a b : Bool) → (a ≡ true → b ≡ true) → (b ≡ true → a ≡ true) → a ≡ b
-same_bool true b f g = sym (f refl)
-same_bool false true f g = g refl
-same_bool false false f g = refl
-
 -- each one is done
 done_each : (id n k : ℕ) (es : List PartEntry) → done_to id n es ≡ true → 0 < k → k ≤ n → is_done_entry (row_at entry_key (pair_key id k) es) ≡ true
 unfolding done_to
@@ -113,7 +109,7 @@ each_done id (suc n) es f =
     and_from (is_done_entry (row_at entry_key (pair_key id (suc n)) es)) (done_to id n es) (f (suc n) (omega arith) (omega arith)) (each_done id n es (λ k some l. f k some (omega arith)))
 
 -- all of a list, by its members
-all_from : (id : ℕ) (ps : List PartRow) → ((p : PartRow) → Among p ps → p.id ≡ id → p.progress.is_done ≡ true) → all_done id ps ≡ true
+pub all_from : (id : ℕ) (ps : List PartRow) → ((p : PartRow) → Among p ps → p.id ≡ id → p.progress.is_done ≡ true) → all_done id ps ≡ true
 all_from id [] f = refl
 all_from id (p ∷ ps) f = and_from (not (is_undone id p)) (all_done id ps) (first p (f p (inl refl))) (all_from id ps (λ q m. f q (inr m))) where
   first : (p : PartRow) → (p.id ≡ id → p.progress.is_done ≡ true) → not (is_undone id p) ≡ true
@@ -122,7 +118,7 @@ all_from id (p ∷ ps) f = and_from (not (is_undone id p)) (all_done id ps) (fir
       (λ (e : p.id ≡ id → ⊥). ap (λ (b : Bool). not (b && not p.progress.is_done)) (ne_eqb p.id id e))
       (cases_eq p.id id)
 
-member_done : (id : ℕ) (p : PartRow) (ps : List PartRow) → all_done id ps ≡ true → Among p ps → p.id ≡ id → p.progress.is_done ≡ true
+pub member_done : (id : ℕ) (p : PartRow) (ps : List PartRow) → all_done id ps ≡ true → Among p ps → p.id ≡ id → p.progress.is_done ≡ true
 member_done id p [] e m same = elim m [ ]
 member_done id p (x ∷ xs) e m same =
     let parts = and_parts (not (is_undone id x)) (all_done id xs) e in

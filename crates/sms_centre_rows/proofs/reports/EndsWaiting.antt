@@ -1,7 +1,8 @@
 -- What waits where a message ends, and where one is new.
-use Rattle.std.proofs.Common.{◌≡◌, ℕ, ◌<◌, List, Option, Some, None, Bool, true, false, refl, sym, ◌∙◌, ap, ⊎_elim, arith}
+use Rattle.std.proofs.Common.{◌≡◌, ℕ, ◌<◌, List, Option, Some, None, false, refl, sym, ◌∙◌, ap, ⊎_elim, arith}
 use Rattle.std.specs.Prelude.{◌&&◌, not, if◌then◌else◌}
 use Rattle.std.proofs.lemmas.Bool.{cases_eq, cond-false}
+use Rattle.sms_base.proofs.Bools.{and_false}
 use Rattle.sms_base.specs.declared.final_state.FinalState.{FinalState}
 use Rattle.sms_rows.specs.table.Keys.{pair_key}
 use Rattle.sms_rows.specs.table.Table.{put}
@@ -30,15 +31,11 @@ report_alike : (h : List ℕ) (ms others : List MessageRow) (r : ReportRow) → 
 report_alike h ms others r e = ap (λ (o : Option MessageRow). if reports_to h r o then Some (report_queued r) else None) e
 
 -- the part under a key is of that message and has that number
-part_is : (ps : List PartRow) (id n : ℕ) (p : PartRow) → Numbered ps → n < 256 → part_at id n ps ≡ Some p → p.id ≡ id
+pub part_is : (ps : List PartRow) (id n : ℕ) (p : PartRow) → Numbered ps → n < 256 → part_at id n ps ≡ Some p → p.id ≡ id
 part_is ps id n p numbered small e =
     let k : pair_key p.id p.number ≡ pair_key id n = found_key part_key (pair_key id n) p ps e in
     let few = (numbered.numbers p (found_among part_key (pair_key id n) p ps e)).1 in
     omega (arith, k, few, small)
-
-and_false : (b : Bool) → (b && false) ≡ false
-and_false true = refl
-and_false false = refl
 
 -- ---- a message ends
 

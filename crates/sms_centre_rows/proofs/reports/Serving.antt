@@ -2,14 +2,12 @@
 use Rattle.std.proofs.Common.{◌≡◌, ◌⊎◌, ℕ, ◌<◌, ◌≤◌, List, [], ◌∷◌, Bool, true, false, Option, Some, None, refl, sym, ◌∙◌, ap, subst, inl, inr, ⊎_elim, length, arith}
 use Rattle.std.specs.Prelude.{nat_le, nat_lt, if◌then◌else◌}
 use Rattle.std.proofs.lemmas.Bool.{cases_Bool, cases_lt, cond-true, cond-false, le-leb, leb-true, lt-ltb}
+use Rattle.std.proofs.lemmas.Option.{same_Some}
 use Rattle.sms_base.specs.Among.{Among}
 use Rattle.sms_centre_rows.specs.declared.messages.message.MessageRow.{MessageRow}
 use Rattle.sms_centre_rows.specs.declared.reports.report.ReportRow.{ReportRow}
 use Rattle.sms_centre_rows.specs.messages.Messages.{message_at}
 use Rattle.sms_centre_rows.specs.reports.Receipts.{Bindings, Session, fewer_unanswered, fewest_unanswered, receives_for, send, send_in, send_to, session_for, waits, window}
-
-one_of : (a b : Session) → Some a ≡ Some b → a ≡ b
-one_of a b e = cc
 
 -- ---- of two
 
@@ -56,7 +54,7 @@ module _ (test : Session → Bool) where
   fewest_found s (x ∷ xs) e = ⊎_elim
       (λ (t : test x ≡ true).
       let so : fewer_unanswered x (fewest_unanswered test xs) ≡ s =
-      one_of (fewer_unanswered x (fewest_unanswered test xs)) s (sym (cond-true (test x) (of_two x xs) (fewest_unanswered test xs) t) ∙ e) in
+      same_Some (fewer_unanswered x (fewest_unanswered test xs)) s (sym (cond-true (test x) (of_two x xs) (fewest_unanswered test xs) t) ∙ e) in
       ⊎_elim
       (λ (a : fewer_unanswered x (fewest_unanswered test xs) ≡ x).
       let same : x ≡ s = sym a ∙ so in (inl (sym same), subst (λ (y : Session). test y ≡ true) same t))

@@ -53,7 +53,7 @@ report_under h ms r = ⊎_elim
 
 -- ---- a number is 0 or greater
 
-cases_number : (n : ℕ) → (n ≡ 0) ⊎ (0 < n)
+pub cases_number : (n : ℕ) → (n ≡ 0) ⊎ (0 < n)
 cases_number zero = inl refl
 cases_number (suc n) = inr (omega arith)
 

@@ -2,6 +2,7 @@
 use Rattle.std.proofs.Common.{◌≡◌, ◌⊎◌, ℕ, ◌+◌, ◌<◌, ◌≤◌, List, [], ◌∷◌, true, false, Option, Some, None, refl, sym, ◌∙◌, ap, subst, inl, inr, ⊎_elim, bytes_eq, arith}
 use Rattle.std.proofs.lemmas.Bool.{cases_Bool, cond-true, cond-false, cases_eq, cases_lt}
 use Rattle.std.proofs.lemmas.Slice.Eq.{bytes_eq-Decides}
+use Rattle.sms_base.proofs.OctetLaws.{cases_octets}
 use Rattle.sms_base.specs.Among.{Among}
 use Rattle.sms_rows.specs.table.Table.{AllAbove, Rises, insert, put, row_at, without}
 use Rattle.sms_rows.proofs.table.Tables.{among_found, among_without, insert_behind, insert_here, without_among}
@@ -21,12 +22,6 @@ number_behind number h hs ne = ⊎_elim
     (λ (t : bytes_eq h.number number ≡ false). cond-false (bytes_eq h.number number) (Some h) (handset_at number hs) t)
     (cases_Bool (bytes_eq h.number number))
 
-pub cases_number : (a b : List ℕ) → (a ≡ b) ⊎ (a ≡ b → ⊥)
-cases_number a b = ⊎_elim
-    (λ (t : bytes_eq a b ≡ true). inl ((bytes_eq-Decides a b).0 t))
-    (λ (t : bytes_eq a b ≡ false). inr (λ e. let y : bytes_eq a b ≡ true = (bytes_eq-Decides a b).1 e in absurd cc))
-    (cases_Bool (bytes_eq a b))
-
 -- ---- looked up
 
 pub number_found : (number : List ℕ) (h : HandsetRow) (hs : List HandsetRow) → handset_at number hs ≡ Some h → Among h hs × (h.number ≡ number)
@@ -34,7 +29,7 @@ number_found number h [] e = absurd cc
 number_found number h (g ∷ gs) e = ⊎_elim
     (λ (t : g.number ≡ number). let same : Some g ≡ Some h = sym (number_here number g gs t) ∙ e in let q : g ≡ h = cc in (inl (sym q), ap (λ (x : HandsetRow). x.number) (sym q) ∙ t))
     (λ (t : g.number ≡ number → ⊥). let r = number_found number h gs (sym (number_behind number g gs t) ∙ e) in (inr r.0, r.1))
-    (cases_number g.number number)
+    (cases_octets g.number number)
 
 pub number_none : (number : List ℕ) (g : HandsetRow) (hs : List HandsetRow) → handset_at number hs ≡ None → Among g hs → g.number ≡ number → ⊥
 number_none number g [] e m q = elim m [ ]
@@ -43,7 +38,7 @@ number_none number g (x ∷ xs) e m q = ⊎_elim
     (λ (r : Among g xs). ⊎_elim
     (λ (t : x.number ≡ number). let bad : Some x ≡ None = sym (number_here number x xs t) ∙ e in absurd cc)
     (λ (t : x.number ≡ number → ⊥). number_none number g xs (sym (number_behind number x xs t) ∙ e) r q)
-    (cases_number x.number number))
+    (cases_octets x.number number))
     m
 
 pub none_numbered : (number : List ℕ) (hs : List HandsetRow) → ((g : HandsetRow) → Among g hs → g.number ≡ number → ⊥) → handset_at number hs ≡ None
@@ -59,7 +54,7 @@ number_insert number h (x ∷ xs) e none = ⊎_elim
     (λ (l : x.place ≤ h.place). ap (λ (r : List HandsetRow). handset_at number r) (insert_behind handset_key h x xs l) ∙ ⊎_elim
     (λ (t : x.number ≡ number). let bad : Some x ≡ None = sym (number_here number x xs t) ∙ none in absurd cc)
     (λ (t : x.number ≡ number → ⊥). number_behind number x (insert handset_key h xs) t ∙ number_insert number h xs e (sym (number_behind number x xs t) ∙ none))
-    (cases_number x.number number))
+    (cases_octets x.number number))
     (cases_lt h.place x.place)
 
 number_insert_other : (number : List ℕ) (h : HandsetRow) (hs : List HandsetRow) → ¬ (h.number ≡ number) → handset_at number (insert handset_key h hs) ≡ handset_at number hs
@@ -69,7 +64,7 @@ number_insert_other number h (x ∷ xs) ne = ⊎_elim
     (λ (l : x.place ≤ h.place). ap (λ (r : List HandsetRow). handset_at number r) (insert_behind handset_key h x xs l) ∙ ⊎_elim
     (λ (t : x.number ≡ number). number_here number x (insert handset_key h xs) t ∙ sym (number_here number x xs t))
     (λ (t : x.number ≡ number → ⊥). number_behind number x (insert handset_key h xs) t ∙ number_insert_other number h xs ne ∙ sym (number_behind number x xs t))
-    (cases_number x.number number))
+    (cases_octets x.number number))
     (cases_lt h.place x.place)
 
 number_without_other : (number : List ℕ) (place : ℕ) (hs : List HandsetRow) → ((g : HandsetRow) → Among g hs → g.place ≡ place → g.number ≡ number → ⊥) → handset_at number (without handset_key place hs) ≡ handset_at number hs
@@ -82,7 +77,7 @@ number_without_other number place (x ∷ xs) f = ⊎_elim
     ap (λ (r : List HandsetRow). handset_at number r) (Rattle.sms_rows.proofs.table.Tables.without_behind handset_key place x xs e) ∙ ⊎_elim
     (λ (t : x.number ≡ number). number_here number x (without handset_key place xs) t ∙ sym (number_here number x xs t))
     (λ (t : x.number ≡ number → ⊥). number_behind number x (without handset_key place xs) t ∙ number_without_other number place xs (λ g m. f g (inr m)) ∙ sym (number_behind number x xs t))
-    (cases_number x.number number))
+    (cases_octets x.number number))
     (cases_eq x.place place)
 
 -- ---- the row of a handset

@@ -1,5 +1,5 @@
 -- The references under which the centre splits messages (3GPP TS 23.040 9.2.3.24.8), of each source and handset.
-use Rattle.std.specs.Prelude.{ℕ, zero, suc, ◌+◌, ◌%◌, ◌==◌, ◌&&◌, ◌||◌, not, List, [], ◌∷◌, ◌++◌, length, min, Bool, true, false, if◌then◌else◌, Option, Some}
+use Rattle.std.specs.Prelude.{ℕ, zero, suc, ◌+◌, ◌%◌, ◌==◌, ◌&&◌, ◌||◌, not, List, [], ◌∷◌, ◌++◌, Bool, true, false, if◌then◌else◌, Option, Some}
 use Rattle.std.specs.Prelude.{None}
 use Rattle.std.specs.Str.{bytes_eq}
 use Rattle.sms_base.specs.declared.address.Address.{Address}
@@ -8,6 +8,7 @@ use Rattle.sms_base.specs.declared.final_state.FinalState.TheVariants.{Delivered
 use Rattle.sms_alphabet.specs.declared.concat_key.ConcatKey.{ConcatKey}
 use Rattle.sms_alphabet.specs.declared.concat_key.ConcatReference.{ConcatReference}
 use Rattle.sms_alphabet.specs.declared.concat_key.ConcatReference.TheVariants.{EightBit, SixteenBit}
+use Rattle.sms_centre_rows.specs.declared.messages.bar.BarRow.{BarRow}
 use Rattle.sms_centre_rows.specs.declared.messages.message.MessageRow.{MessageRow}
 use Rattle.sms_centre_rows.specs.declared.messages.part.PartRow.{PartRow}
 use Rattle.sms_base.specs.AddressKind.{type_number}
@@ -75,6 +76,29 @@ own_splits source handset messages [] = []
 own_splits source handset messages (p ∷ ps) =
     optional (own_wide source handset p (message_at p.id messages)) (own_splits source handset messages ps)
 
+-- ---- the references that stay barred once their messages are forgotten
+
+abbrev pub is_bar_between : Address → List ℕ → BarRow → Bool
+is_bar_between source handset b = is_same_address b.source source && bytes_eq b.handset handset
+
+-- the centre gave it
+abbrev pub is_held_bar : Address → List ℕ → BarRow → Bool
+is_held_bar source handset b = is_bar_between source handset b && not b.is_own
+
+-- the header of a submission had it
+abbrev pub is_own_bar : Address → List ℕ → BarRow → Bool
+is_own_bar source handset b = is_bar_between source handset b && b.is_own
+
+abbrev pub references_in : (BarRow → Bool) → List BarRow → List ℕ
+references_in test [] = []
+references_in test (b ∷ bs) = if test b then b.reference ∷ references_in test bs else references_in test bs
+
+abbrev pub held_bars : Address → List ℕ → List BarRow → List ℕ
+held_bars source handset bars = references_in (is_held_bar source handset) bars
+
+abbrev pub own_bars : Address → List ℕ → List BarRow → List ℕ
+own_bars source handset bars = references_in (is_own_bar source handset) bars
+
 -- ---- the next one
 
 abbrev pub start_after : Option ℕ → ℕ
@@ -87,19 +111,26 @@ first_free_split zero reference barred = None
 first_free_split (suc turns) reference barred =
     if is_among reference barred then first_free_split turns ((reference + 1) % 65536) barred else Some reference
 
--- one more than are barred are enough to be tried, and all that there are
-abbrev pub turns_for : List ℕ → ℕ
-turns_for barred = min 65536 (length barred + 1)
+-- how many references of 16 bits there are
+unfoldable pub all_references : ℕ
+all_references = 65536
 
+-- all of them are tried
 abbrev pub next_among : Option ℕ → List ℕ → Option ℕ
-next_among last barred = first_free_split (turns_for barred) (start_after last) barred
+next_among last barred = first_free_split all_references (start_after last) barred
 
-abbrev pub next_split : Address → List ℕ → List MessageRow → List PartRow → Option ℕ
-next_split source handset messages parts =
+abbrev pub held_references : Address → List ℕ → List BarRow → List MessageRow → List ℕ
+held_references source handset bars messages = held_splits source handset messages ++ held_bars source handset bars
+
+abbrev pub own_references : Address → List ℕ → List BarRow → List MessageRow → List PartRow → List ℕ
+own_references source handset bars messages parts = own_splits source handset messages parts ++ own_bars source handset bars
+
+abbrev pub next_split : Address → List ℕ → List BarRow → List MessageRow → List PartRow → Option ℕ
+next_split source handset bars messages parts =
     next_among (last_split source handset None messages)
-    (held_splits source handset messages ++ own_splits source handset messages parts)
+    (held_references source handset bars messages ++ own_references source handset bars messages parts)
 
--- ---- a header that a submission had: the centre gave its reference to a message that is not wholly delivered
+-- ---- a header that a submission had: the centre gave its reference to a message that was not wholly delivered
 
 abbrev pub is_taken : Option ℕ → List ℕ → Bool
 is_taken None held = false

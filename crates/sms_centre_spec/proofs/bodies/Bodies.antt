@@ -35,13 +35,13 @@ part_body rows sound p there =
 
 -- ---- a status report
 
-own : (r : ReportRow) (rs : List ReportRow) → Alone rs → Among r rs → report_of r.id rs ≡ Some r
-own r [] alone there = absurd there
-own r (s ∷ rs) alone there = ⊎_elim
+pub alone_found : (r : ReportRow) (rs : List ReportRow) → Alone rs → Among r rs → report_of r.id rs ≡ Some r
+alone_found r [] alone there = absurd there
+alone_found r (s ∷ rs) alone there = ⊎_elim
     (λ (e : s.id ≡ r.id). report_here r.id s rs e ∙ ap (λ (x : ReportRow). Some x) (alone s r (inl refl) there e))
     (λ (e : s.id ≡ r.id → ⊥). report_behind r.id s rs e ∙ ⊎_elim
     (λ (q : r ≡ s). absurd (e (ap (λ (x : ReportRow). x.id) (sym q))))
-    (λ (q : Among r rs). own r rs (λ a b m n. alone a b (inr m) (inr n)) q)
+    (λ (q : Among r rs). alone_found r rs (λ a b m n. alone a b (inr m) (inr n)) q)
     there)
     (cases_eq s.id r.id)
 
@@ -57,7 +57,7 @@ report_body rows sound r there status =
     cond-true (pair_key r.id 0 % 256 == 0) (report_octets (report_of (pair_key r.id 0 / 256) rows.reports)) (part_octets (row_at part_key (pair_key r.id 0) rows.parts))
     (eq-eqb (pair_key r.id 0 % 256) 0 last)
     ∙ ap (λ (id : ℕ). report_octets (report_of id rows.reports)) first
-    ∙ ap (λ (o : Option ReportRow). report_octets o) (own r rows.reports (alone_from rows.messages rows.reports sound.reports) there)
+    ∙ ap (λ (o : Option ReportRow). report_octets o) (alone_found r rows.reports (alone_from rows.messages rows.reports sound.reports) there)
     ∙ status_octets r.kind status
 
 -- ---- both

@@ -3,6 +3,8 @@ use Rattle.std.proofs.Common.{◌≡◌, ◌⊎◌, ℕ, List, [], ◌∷◌, �
 use Rattle.std.specs.List.{list_any}
 use Rattle.std.specs.Prelude.{◌||◌}
 use Rattle.std.proofs.lemmas.Bool.{cases_Bool, cond-true, cond-false, eq-eqb, eqb-true}
+use Rattle.sms_base.proofs.Lists.{among_back, among_front, among_parts}
+use Rattle.sms_base.proofs.Bools.{or_true}
 use Rattle.sms_base.specs.Among.{Among}
 use Rattle.sms_rows.specs.table.Table.{Rises}
 use Rattle.sms_centre_spec.proofs.SteadyTimes.{above_among}
@@ -12,28 +14,6 @@ use Rattle.sms_centre_rows.specs.conditions.Differing.{differ, differ_by}
 abbrev pub AreDistinct : {K : Type 0} → List K → Type 0
 AreDistinct [] = Unit {0}
 AreDistinct (k ∷ ks) = (¬ Among k ks) × AreDistinct ks
-
-pub among_front : {A : Type 0} (x : A) (xs ys : List A) → Among x xs → Among x (xs ++ ys)
-among_front x [] ys a = elim a [ ]
-among_front x (z ∷ zs) ys a = ⊎_elim (λ (e : x ≡ z). inl e) (λ (r : Among x zs). inr (among_front x zs ys r)) a
-
-pub among_back : {A : Type 0} (x : A) (xs ys : List A) → Among x ys → Among x (xs ++ ys)
-among_back x [] ys a = a
-among_back x (z ∷ zs) ys a = inr (among_back x zs ys a)
-
-pub among_either : {A : Type 0} (x : A) (xs ys : List A) → Among x (xs ++ ys) → Among x xs ⊎ Among x ys
-among_either x [] ys a = inr a
-among_either {A} x (z ∷ zs) ys a = ⊎_elim
-    (λ (e : x ≡ z). let here : Among x (z ∷ zs) = inl e in inl here)
-    (λ (r : Among x (zs ++ ys)). ⊎_elim
-    (λ (f : Among x zs). let here : Among x (z ∷ zs) = inr f in inl here)
-    (λ (b : Among x ys). inr b)
-    (among_either x zs ys r))
-    a
-
-or_true : (b : Bool) → (b || true) ≡ true
-or_true true = refl
-or_true false = refl
 
 -- ---- the test, by one that tells what is the same
 
@@ -81,7 +61,7 @@ module _ {K : Type 0} (same : K → K → Bool) (one : (a b : K) → same a b �
       (λ k a s. ⊎_elim
       (λ (f : Among k seen). unseen k (inr a) f)
       (λ (b : Among k (n ∷ [])). ⊎_elim (λ (q : k ≡ n). distinct.0 (subst (λ (i : K). Among i ns) q a)) (λ (z : ⊥). z) b)
-      (among_either k seen (n ∷ []) s))
+      (among_parts k seen (n ∷ []) s))
       distinct.1)
       (cases_Bool (list_any (same n) seen))
 

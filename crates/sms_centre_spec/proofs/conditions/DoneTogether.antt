@@ -1,17 +1,18 @@
 -- Whether all parts of a message are done is told by those that stand between its keys.
-use Rattle.std.proofs.Common.{◌≡◌, ℕ, ◌+◌, ◌<◌, ◌≤◌, List, [], ◌∷◌, Bool, true, false, refl, sym, ◌∙◌, ap, subst, inl, inr, ⊎_elim, arith}
+use Rattle.std.proofs.Common.{◌≡◌, ℕ, ◌+◌, ◌<◌, ◌≤◌, List, [], ◌∷◌, sym, ap, subst, inl, inr, ⊎_elim, arith}
 use Rattle.std.specs.List.{list_all}
-use Rattle.std.specs.Prelude.{◌&&◌, ◌==◌, not, nat_lt}
-use Rattle.std.proofs.lemmas.Bool.{and_from, cases_Bool, cases_eq, cases_lt, cond-true, cond-false, le-ltb, lt-ltb, ne_eqb}
+use Rattle.std.specs.Prelude.{nat_lt}
+use Rattle.std.proofs.lemmas.Bool.{cases_lt, cond-true, cond-false, le-ltb, lt-ltb}
+use Rattle.sms_base.proofs.Bools.{same_bool}
 use Rattle.sms_base.specs.Among.{Among}
 use Rattle.sms_rows.specs.table.Keys.{pair_key}
 use Rattle.sms_rows.specs.table.Table.{Rises, rows_before, rows_from}
 use Rattle.sms_centre_rows.specs.declared.messages.part.PartRow.{PartRow}
-use Rattle.sms_centre_rows.specs.messages.Messages.{all_done, is_undone, part_key}
-use Rattle.sms_centre_spec.proofs.DoneMarks.{not_all_done}
+use Rattle.sms_centre_rows.specs.messages.Messages.{all_done, part_key}
 use Rattle.sms_centre_spec.proofs.SteadyTimes.{above_among}
 use Rattle.sms_centre_rows.specs.conditions.MessageTest.{is_done, parts_with}
-use Rattle.sms_centre_rows.proofs.conditions.Passing.{each_from, each_to, same_test}
+use Rattle.sms_centre_rows.proofs.conditions.Passing.{each_from, each_to}
+use Rattle.sms_centre_rows.proofs.messages.Entries.{all_from, member_done}
 
 -- ---- rows between two keys
 
@@ -78,28 +79,7 @@ among_own id p ps rises short m =
 
 -- ---- all done
 
-all_done_to : (id : ℕ) (ps : List PartRow) → ((p : PartRow) → Among p ps → p.id ≡ id → p.progress.is_done ≡ true) → all_done id ps ≡ true
-all_done_to id [] f = refl
-all_done_to id (p ∷ ps) f =
-    let rest = all_done_to id ps (λ x m e. f x (inr m) e) in
-    and_from (not (is_undone id p)) (all_done id ps)
-    (⊎_elim
-    (λ (e : p.id ≡ id). ap (λ (b : Bool). not ((p.id == id) && not b)) (f p (inl refl) e) ∙ none (p.id == id))
-    (λ (ne : p.id ≡ id → ⊥). ap (λ (b : Bool). not (b && not p.progress.is_done)) (ne_eqb p.id id ne))
-    (cases_eq p.id id))
-    rest
-  where
-    none : (b : Bool) → not (b && not true) ≡ true
-    none true = refl
-    none false = refl
-
-done_of : (id : ℕ) (p : PartRow) (ps : List PartRow) → all_done id ps ≡ true → Among p ps → p.id ≡ id → p.progress.is_done ≡ true
-done_of id p ps e m own = ⊎_elim
-    (λ (t : p.progress.is_done ≡ true). t)
-    (λ (t : p.progress.is_done ≡ false). let bad : true ≡ false = sym e ∙ not_all_done id p ps m own t in absurd cc)
-    (cases_Bool p.progress.is_done)
-
 pub done_together : (id : ℕ) (ps : List PartRow) → Rises part_key ps → ((p : PartRow) → Among p ps → p.number < 256) → list_all is_done (parts_with id ps) ≡ all_done id ps
-done_together id ps rises short = same_test (list_all is_done (parts_with id ps)) (all_done id ps)
-    (λ e. all_done_to id ps (λ p m own. each_from is_done (parts_with id ps) e p (own_among id p ps rises m (short p m) own)))
-    (λ e. each_to is_done (parts_with id ps) (λ p m. let a = among_own id p ps rises short m in done_of id p ps e a.0 a.1))
+done_together id ps rises short = same_bool (list_all is_done (parts_with id ps)) (all_done id ps)
+    (λ e. all_from id ps (λ p m own. each_from is_done (parts_with id ps) e p (own_among id p ps rises m (short p m) own)))
+    (λ e. each_to is_done (parts_with id ps) (λ p m. let a = among_own id p ps rises short m in member_done id p ps e a.0 a.1))

@@ -1,10 +1,11 @@
 -- Keys that some rows of two lists have: where none stands twice, rows of one key are one, and no row of the other list has it.
 use Rattle.std.proofs.Common.{◌≡◌, ◌⊎◌, ℕ, List, [], ◌∷◌, ◌++◌, filter_map, Option, Some, None, refl, sym, ◌∙◌, ap, subst, inl, inr, ⊎_elim, arith}
 use Rattle.std.specs.List.{cons_option}
+use Rattle.sms_base.proofs.Lists.{among_back, among_front, among_parts}
 use Rattle.sms_base.specs.Among.{Among}
 use Rattle.sms_rows.specs.table.Table.{Rises}
 use Rattle.sms_centre_spec.proofs.SteadyTimes.{above_among}
-use Rattle.sms_centre_spec.proofs.conditions.DifferTested.{AreDistinct, among_back, among_either, among_front}
+use Rattle.sms_centre_spec.proofs.conditions.DifferTested.{AreDistinct}
 
 -- ---- two lists
 
@@ -26,7 +27,7 @@ not_both k (x ∷ xs) ys d a b = ⊎_elim
 pub distinct_both : (xs ys : List ℕ) → AreDistinct xs → AreDistinct ys → ((k : ℕ) → Among k xs → Among k ys → ⊥) → AreDistinct (xs ++ ys)
 distinct_both [] ys d e f = e
 distinct_both (x ∷ xs) ys d e f = (
-  λ a. ⊎_elim (λ (r : Among x xs). d.0 r) (λ (b : Among x ys). f x (inl refl) b) (among_either x xs ys a),
+  λ a. ⊎_elim (λ (r : Among x xs). d.0 r) (λ (b : Among x ys). f x (inl refl) b) (among_parts x xs ys a),
   distinct_both xs ys d.1 e (λ k a b. f k (inr a) b),
 )
 

@@ -2,6 +2,7 @@
 use Rattle.std.proofs.Common.{◌≡◌, ℕ, List, [], ◌∷◌, nat_eq, Option, Some, None, refl, sym, ◌∙◌, ap, inl, inr, ⊎_elim, eq-eqb, arith}
 use Rattle.std.specs.Option.{option_map}
 use Rattle.std.proofs.lemmas.Bool.{cond-true, cond-false, ne_eqb}
+use Rattle.sms_base.proofs.OctetLaws.{cases_octets}
 use Rattle.sms_base.specs.Among.{Among}
 use Rattle.sms_rows.specs.table.Keys.{digits_key, pair_key}
 use Rattle.sms_rows.specs.table.Table.{Rises}
@@ -11,7 +12,7 @@ use Rattle.sms_centre_rows.specs.declared.waiting.reference.ReferenceRow.{Refere
 use Rattle.sms_centre_rows.specs.waiting.Keys.{handset_key}
 use Rattle.sms_centre_rows.specs.waiting.References.{handset_at}
 use Rattle.sms_centre_rows.specs.waiting.SoundAllocations.{IsNumber, SoundAllocations}
-use Rattle.sms_centre_rows.proofs.waiting.Mentions.{cases_number, number_behind, number_here}
+use Rattle.sms_centre_rows.proofs.waiting.Mentions.{number_behind, number_here}
 use Rattle.sms_centre_spec.proofs.SteadyTimes.{above_among}
 use Rattle.sms_centre_rows.specs.conditions.AllocationTest.{number_key}
 use Rattle.sms_centre_rows.specs.conditions.WaitingTest.{Places, hold_at, place_from}
@@ -50,7 +51,7 @@ found_from number (h ∷ hs) place is are apart rises = ⊎_elim
     (ne_eqb (digits_key number) (number_key h) (λ q. ne (sym (digits_equal number h.number (all_digits number is) (all_digits h.number (are h (inl refl))) q)))))
     ∙ found_from number hs place is (λ g a. are g (inr a)) (λ f g a b e. apart f g (inr a) (inr b) e) rises.1
     ∙ sym (ap (λ (o : Option HandsetRow). or_place o place) (number_behind number h hs ne)))
-    (cases_number h.number number)
+    (cases_octets h.number number)
 
 -- ---- the key of a reference at a handset
 

@@ -3,6 +3,7 @@ use Rattle.std.proofs.Common.{◌≡◌, ℕ, List, Bool, true, false, Option, S
 use Rattle.std.specs.Prelude.{if◌then◌else◌}
 use Rattle.sms_rows.specs.table.Table.{row_at}
 use Rattle.sms_rows.proofs.table.Tables.{found_among}
+use Rattle.sms_centre_rows.specs.declared.messages.bar.BarRow.{BarRow}
 use Rattle.sms_centre_rows.specs.messages.SplitReferences.{is_among}
 use Rattle.sms_centre_rows.specs.declared.reports.report.ReportRow.{ReportRow}
 use Rattle.sms_centre_rows.specs.declared.messages.message.MessageRow.{MessageRow}
@@ -23,7 +24,7 @@ use Rattle.sms_centre_spec.specs.forgetting.Forgot.{CanForget, Same, Stays, core
 use Rattle.sms_centre_spec.proofs.forgetting.Kept.{not_both}
 use Rattle.sms_centre_spec.proofs.forgetting.Going.{one_row}
 use Rattle.sms_centre_spec.proofs.forgetting.Follow.{follow_same}
-use Rattle.sms_centre_spec.proofs.forgetting.Moves.{base_stays, report_far, report_look}
+use Rattle.sms_centre_spec.proofs.forgetting.Moves.{bars_look, base_stays, report_far, report_look}
 
 -- a draft and what follows it
 abbrev pub Alike : (ℕ → Bool) → Draft → Draft → Type 0
@@ -37,6 +38,7 @@ rows_alike goes s k =
     ∙ ap (λ (l : List PartRow). record z { messages = w.messages; parts = l }) k.parts
     ∙ ap (λ (l : List ReportRow). record z { messages = w.messages; parts = w.parts; reports = l }) k.reports
     ∙ ap (λ (l : List PriorityRow). record z { messages = w.messages; parts = w.parts; reports = w.reports; priorities = l }) k.priorities
+    ∙ ap (λ (l : List BarRow). record w { bars = l }) (bars_look goes s k)
 
 pub followed : (goes : ℕ → Bool) (small large : Draft) → Alike goes small large → Same goes (follow small) (follow large)
 followed goes small large a = record {

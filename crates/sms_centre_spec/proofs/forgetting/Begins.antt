@@ -112,7 +112,6 @@ begins goes c s can away = record {
     };
   };
   may = can.may;
-  bare = can.bare;
   given = can.given;
 }
 

@@ -1,13 +1,13 @@
 -- What may be forgotten may be forgotten behind every event too.
-use Rattle.std.proofs.Common.{◌≡◌, ℕ, ◌+◌, ◌<◌, List, [], ◌∷◌, Bool, true, Some, refl, sym, ◌∙◌, ap, subst, inl, inr, arith}
+use Rattle.std.proofs.Common.{◌≡◌, ℕ, ◌+◌, ◌<◌, List, [], ◌∷◌, Bool, true, refl, sym, ◌∙◌, ap, subst, inl, inr, arith}
 use Rattle.std.specs.Prelude.{is_some}
 use Rattle.sms_base.specs.Among.{Among}
 use Rattle.sms_base.specs.declared.address.Address.{Address}
 use Rattle.sms_rows.specs.table.Table.{Rises}
 use Rattle.sms_rows.proofs.table.Tables.{among_found, found_among, found_key}
 use Rattle.sms_centre_rows.specs.declared.messages.message.MessageRow.{MessageRow}
-use Rattle.sms_centre_rows.specs.messages.Messages.{id_after, message_at, message_key, next_id}
-use Rattle.sms_centre_rows.specs.messages.SplitReferences.{is_between, unless_split, wide_in}
+use Rattle.sms_centre_rows.specs.messages.Messages.{id_after, message_key, next_id}
+use Rattle.sms_centre_rows.specs.messages.SplitReferences.{is_between}
 use Rattle.sms_centre_spec.specs.declared.event.CentreEvent.{CentreEvent}
 use Rattle.sms_centre_spec.specs.declared.rows.Rows.{Rows}
 use Rattle.sms_centre_spec.specs.CentreEvent.{happened}
@@ -17,7 +17,7 @@ use Rattle.sms_centre_spec.specs.SoundCore.{IsEvent, IsSoundCore}
 use Rattle.sms_centre_spec.proofs.EventLaws.{keeps_rows}
 use Rattle.sms_centre_spec.proofs.NextNumbers.{below_next_id}
 use Rattle.sms_centre_spec.proofs.Resting.{base_of, happened_consistent}
-use Rattle.sms_centre_spec.specs.forgetting.Forgetting.{AreBare, MayGo}
+use Rattle.sms_centre_spec.specs.forgetting.Forgetting.{MayGo}
 use Rattle.sms_centre_spec.specs.forgetting.Forgot.{AsksOther, CanForget, Stays}
 use Rattle.sms_centre_spec.proofs.forgetting.Everywhere.{event_same}
 
@@ -77,19 +77,6 @@ module _ (goes : ℕ → Bool) (event : CentreEvent) (c : Core) (s : IsSoundCore
         ap (λ (y : Address). is_between m.source m.handset (record x.0 { source = y })) x.1.1.source
         ∙ ap (λ (y : List ℕ). is_between m.source m.handset (record x.0 { source = w.source; handset = y })) x.1.1.handset ∙ f.1.1.1.0 in
         (x.0, (found_among message_key w.id x.0 after.messages x.1.0, (high, (between, ap is_some x.1.1.split ∙ f.1.1.1.1))));
-  }
-
-  pub bare_behind : AreBare goes after
-  bare_behind = record {
-    free = λ m a g. can.bare.free m (was m a g) g;
-    own = λ p m a g e.
-        let key : m.id ≡ p.id = found_key message_key p.id m after.messages e in
-        let there : Among m c.rows.messages = was m (found_among message_key p.id m after.messages e) (ap goes key ∙ g) in
-        let b = k.old_part p a g in
-        let part : Among b.0 c.rows.parts = subst (λ (r : Rows). Among b.0 r.parts) rests b.1.0 in
-        let found : message_at b.0.id c.rows.messages ≡ Some m =
-        ap (λ (n : ℕ). message_at n c.rows.messages) (b.1.1.0 ∙ sym key) ∙ among_found message_key m c.rows.messages s.rows.messages.message_keys there in
-        ap (λ o. unless_split m.split_reference (wide_in o)) (sym b.1.1.1) ∙ can.bare.own b.0 m part (ap goes b.1.1.0 ∙ g) found;
   }
 
   pub given_behind : (id : ℕ) → goes id ≡ true → id + 1 < next_id after.messages

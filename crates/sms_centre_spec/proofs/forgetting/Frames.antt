@@ -19,7 +19,6 @@ use Rattle.sms_tpdu.specs.declared.carrier.Carrier.TheVariants.{InData}
 use Rattle.sms_tpdu.specs.TpduReading.{up_at as tpdu_up_at}
 use Rattle.sms_centre_rows.specs.declared.messages.message.MessageRow.{MessageRow}
 use Rattle.sms_centre_rows.specs.messages.Messages.{is_pending, message_key}
-use Rattle.sms_centre_rows.specs.messages.SplitReferences.{is_taken}
 use Rattle.sms_centre_rows.specs.declared.waiting.handset_link.HandsetLink.{HandsetLink}
 use Rattle.sms_centre_rows.specs.waiting.Links.{line_of, lowered, put_line, turn_line}
 use Rattle.sms_intake.specs.declared.refusal.SubmitRefusal.{SubmitRefusal}
@@ -80,7 +79,7 @@ module _ (goes : ℕ → Bool) where
       let s : Store = d.store in
       let z : Store = store_without goes s in
       let e : Draft = draft_without goes d in
-      let held : is_reference_taken u z ≡ is_reference_taken u s = ap (λ (l : List ℕ). is_taken (own_reference u.text) l) (n.held u.source u.handset) in
+      let held : is_reference_taken u z ≡ is_reference_taken u s = n.taken u.source u.handset (own_reference u.text) in
       let double : is_duplicate u z ≡ is_duplicate u s =
       ap (λ (l : List MessageRow). u.rejects_duplicates && is_pending_double u l) k.messages ∙ ap (λ (b : Bool). u.rejects_duplicates && b) (double_same goes u (messages_in s) k.ended) in
       let small : Draft = if is_reference_taken u s then refuse h r tag ReferenceTaken e else submit_accepted h r tag (accept u z) e in

@@ -5,21 +5,20 @@ use Rattle.std.specs.Str.{bytes_eq}
 use Rattle.std.proofs.lemmas.Slice.Eq.{bytes_eq-Decides}
 use Rattle.sms_base.specs.AddressKind.{type_number}
 use Rattle.sms_base.specs.declared.address.Address.{Address}
-use Rattle.sms_centre_spec.proofs.forgetting.Splits.{above}
-use Rattle.std.proofs.lemmas.Bool.{and_from, and_parts, cases_Bool, cases_eq, cond_both, eqb-true, leb-true, ltb-true, or_parts}
+use Rattle.sms_centre_spec.proofs.forgetting.Splits.{above_among}
+use Rattle.std.proofs.lemmas.Bool.{and_from, and_parts, cases_Bool, cases_eq, cond_both, eqb-true, leb-true, ltb-true}
 use Rattle.sms_base.specs.Among.{Among}
 use Rattle.sms_rows.specs.table.Table.{Rises, row_at, rows_from}
-use Rattle.sms_rows.proofs.table.Tables.{among_found, found_among, found_key}
+use Rattle.sms_rows.proofs.table.Tables.{among_found}
 use Rattle.sms_centre_rows.specs.declared.messages.message.MessageRow.{MessageRow}
-use Rattle.sms_centre_rows.specs.declared.messages.part.PartRow.{PartRow}
 use Rattle.sms_centre_rows.specs.messages.Messages.{is_pending, message_key, next_id}
-use Rattle.sms_centre_rows.specs.messages.SplitReferences.{is_among, is_between, is_delivered, is_same_address, last_split, or_later, unless_split, wide_in}
+use Rattle.sms_centre_rows.specs.messages.SplitReferences.{is_among, is_between, is_same_address, last_split, or_later}
 use Rattle.sms_centre_rows.specs.declared.reports.report.ReportRow.{ReportRow}
 use Rattle.sms_centre_rows.specs.reports.Reports.{next_place, report_key, report_of}
 use Rattle.sms_centre_rows.proofs.reports.AllWaiting.{report_behind, report_here}
 use Rattle.sms_centre_spec.specs.declared.rows.Rows.{Rows}
 use Rattle.sms_centre_spec.specs.SoundRows.{IsSound}
-use Rattle.sms_centre_spec.specs.forgetting.Forgetting.{AreBare, IsLaterSplit, MayGo, bars_reference, going, going_from, goes_bare, has_own_wide, is_before, is_given, is_reported, is_split_on, last_submitted, leaves_number, leaves_split, may_go}
+use Rattle.sms_centre_spec.specs.forgetting.Forgetting.{IsLaterSplit, MayGo, going, going_from, is_before, is_given, is_reported, is_split_on, last_submitted, leaves_number, leaves_split, may_go}
 
 -- ---- each of them is the number of a message that passes the test
 
@@ -74,10 +73,6 @@ report_own r (x ∷ xs) a one = ⊎_elim
     (cases_eq x.id r.id)
 
 -- ---- what the tests say
-
-some_none : (o : Option ℕ) → is_some o ≡ false → o ≡ None
-some_none None e = refl
-some_none (Some n) e = let bad : true ≡ false = e in absurd cc
 
 -- what is between its own source and handset
 self_between : (m : MessageRow) → is_between m.source m.handset m ≡ true
@@ -136,7 +131,7 @@ given_or_later m n last (x ∷ xs) rises a e =
     ⊎_elim
     (λ (f : last_split m.source m.handset next xs ≡ next). let is : (last_split m.source m.handset next xs ≡ Some n) ⊎ LaterAmong m (x ∷ xs) = inl (f ∙ first) in is)
     (λ (s : SplitAmong m.source m.handset xs).
-    let high : m.id < s.0.id = subst (λ (y : MessageRow). y.id < s.0.id) (sym q) (above x.id s.0 xs rises.0 s.1.0) in
+    let high : m.id < s.0.id = subst (λ (y : MessageRow). y.id < s.0.id) (sym q) (above_among x.id s.0 xs rises.0 s.1.0) in
     let later : LaterAmong m (x ∷ xs) = (s.0, (inr s.1.0, (high, s.1.1))) in let is : (last_split m.source m.handset next xs ≡ Some n) ⊎ LaterAmong m (x ∷ xs) = inr later in is)
     (last_stays m.source m.handset next xs))
     (λ (b : Among m xs). ⊎_elim
@@ -154,18 +149,6 @@ later_of m ms n rises a leaves e = ⊎_elim
     (λ (s : LaterAmong m ms). s)
     (given_or_later m n None ms rises a e)
 
-no_wide : (m : MessageRow) (p : PartRow) (ps : List PartRow) → has_own_wide m ps ≡ false → Among p ps → p.id ≡ m.id → unless_split m.split_reference (wide_in p.key) ≡ None
-no_wide m p [] e a own = absurd a
-no_wide m p (x ∷ xs) e a own =
-    let parts = or_parts ((x.id == m.id) && is_some (unless_split m.split_reference (wide_in x.key))) (has_own_wide m xs) e in
-    ⊎_elim
-    (λ (q : p ≡ x).
-    let here : (x.id == m.id) ≡ true = eq-eqb x.id m.id (ap (λ (y : PartRow). y.id) (sym q) ∙ own) in
-    let none : is_some (unless_split m.split_reference (wide_in x.key)) ≡ false = sym (ap (λ (b : Bool). b && is_some (unless_split m.split_reference (wide_in x.key))) here) ∙ parts.0 in
-    ap (λ (y : PartRow). unless_split m.split_reference (wide_in y.key)) q ∙ some_none (unless_split m.split_reference (wide_in x.key)) none)
-    (λ (b : Among p xs). no_wide m p xs parts.1 b own)
-    a
-
 ended_some : (m : MessageRow) → is_some m.state ≡ true → is_pending m ≡ false
 ended_some m e = of m.state refl
   where
@@ -173,35 +156,25 @@ ended_some m e = of m.state refl
     of None q = let bad : false ≡ true = sym (ap is_some q) ∙ e in absurd cc
     of (Some f) q = refl
 
-untrue : (b : Bool) → not b ≡ true → b ≡ false
-untrue true t = let bad : false ≡ true = t in absurd cc
-untrue false t = refl
-
 record Tests (rows : Rows) (m : MessageRow) : Type 0 where
   ended : is_some m.state ≡ true
   reported : is_reported rows.reports (report_of m.id rows.reports) ≡ true
   leaves : leaves_split m rows.messages ≡ true
   number : m.id + 1 < next_id rows.messages
   submitted : m.submitted ≤ last_submitted 0 rows.messages
-  own : has_own_wide m rows.parts ≡ false
-  held : (is_some m.split_reference && not (is_delivered m.state)) ≡ false
 
-tests : (before : ℕ) (rows : Rows) (m : MessageRow) → goes_bare before rows m ≡ true → Tests rows m
+tests : (before : ℕ) (rows : Rows) (m : MessageRow) → may_go before rows m ≡ true → Tests rows m
 tests before rows m e =
-    let z = and_parts (may_go before rows m) (not (bars_reference m rows.parts)) e in
-    let a = and_parts (is_some m.state && is_before before m.done) _ z.0 in
+    let a = and_parts (is_some m.state && is_before before m.done) _ e in
     let b = and_parts (is_reported rows.reports (report_of m.id rows.reports)) _ a.1 in
     let c = and_parts (leaves_split m rows.messages) (leaves_number m rows.messages) b.1 in
     let d = and_parts (nat_lt (m.id + 1) (next_id rows.messages)) (nat_le m.submitted (last_submitted 0 rows.messages)) c.1 in
-    let o = or_parts (has_own_wide m rows.parts) (is_some m.split_reference && not (is_delivered m.state)) (untrue (bars_reference m rows.parts) z.1) in
     record {
       ended = (and_parts (is_some m.state) (is_before before m.done) a.0).0;
       reported = b.0;
       leaves = c.0;
       number = ltb-true (m.id + 1) (next_id rows.messages) d.0;
       submitted = leb-true m.submitted (last_submitted 0 rows.messages) d.1;
-      own = o.0;
-      held = o.1;
     }
 
 -- what goes has a closed report that is not the last, or none
@@ -215,18 +188,9 @@ reported_of rs o r e q =
     let p = and_parts r.progress.is_done (nat_lt (r.place + 1) (next_place rs)) f in
     record { done = p.0; place = ltb-true (r.place + 1) (next_place rs) p.1 }
 
-free_of : (m : MessageRow) → (is_some m.split_reference && not (is_delivered m.state)) ≡ false → (o : Option ℕ) → m.split_reference ≡ o
-    → (m.split_reference ≡ None) ⊎ (is_delivered m.state ≡ true)
-free_of m e None q = inl q
-free_of m e (Some n) q = inr (true_of (is_delivered m.state) (sym (ap (λ (o : Option ℕ). is_some o && not (is_delivered m.state)) q) ∙ e))
-  where
-    true_of : (b : Bool) → not b ≡ false → b ≡ true
-    true_of true t = refl
-    true_of false t = let bad : true ≡ false = t in absurd cc
-
 -- ---- all of it
 
-module _ (before from most : ℕ) (rows : Rows) (test : MessageRow → Bool) (bare : (m : MessageRow) → test m ≡ true → goes_bare before rows m ≡ true) (s : IsSound rows) where
+module _ (before from most : ℕ) (rows : Rows) (test : MessageRow → Bool) (may : (m : MessageRow) → test m ≡ true → may_go before rows m ≡ true) (s : IsSound rows) where
   abbrev goes : ℕ → Bool
   goes id = is_among id (going_from test from most rows.messages)
 
@@ -236,13 +200,13 @@ module _ (before from most : ℕ) (rows : Rows) (test : MessageRow → Bool) (ba
       subst (λ (x : MessageRow). test x ≡ true) (one_row message_key f.row m rows.messages s.messages.message_keys f.among a f.own) f.passes
 
   of : (m : MessageRow) → Among m rows.messages → goes m.id ≡ true → Tests rows m
-  of m a g = tests before rows m (bare m (passes m a g))
+  of m a g = tests before rows m (may m (passes m a g))
 
   report : (r : ReportRow) → Among r rows.reports → goes r.id ≡ true → Reported rows.reports r
   report r a g =
       let f = gone_from test from most rows.messages r.id g in
       let found : report_of r.id rows.reports ≡ Some r = report_own r rows.reports a (λ x b e. one_row report_key x r rows.reports s.reports.keys b a (s.reports.once x r b a e)) in
-      reported_of rows.reports (report_of f.row.id rows.reports) r (tests before rows f.row (bare f.row f.passes)).reported (ap (λ (n : ℕ). report_of n rows.reports) f.own ∙ found)
+      reported_of rows.reports (report_of f.row.id rows.reports) r (tests before rows f.row (may f.row f.passes)).reported (ap (λ (n : ℕ). report_of n rows.reports) f.own ∙ found)
 
   pub going_may : MayGo goes rows
   going_may = record {
@@ -256,19 +220,10 @@ module _ (before from most : ℕ) (rows : Rows) (test : MessageRow → Bool) (ba
   pub going_submitted : (m : MessageRow) → Among m rows.messages → goes m.id ≡ true → m.submitted ≤ last_submitted 0 rows.messages
   going_submitted m a g = (of m a g).submitted
 
-  pub going_bare : AreBare goes rows
-  going_bare = record {
-    free = λ m a g. free_of m (of m a g).held m.split_reference refl;
-    own = λ p m a g e.
-        let b : Among m rows.messages = found_among message_key p.id m rows.messages e in
-        let k : m.id ≡ p.id = found_key message_key p.id m rows.messages e in
-        no_wide m p rows.parts (of m b (ap goes k ∙ g)).own a (sym k);
-  }
-
   pub going_given : (id : ℕ) → goes id ≡ true → id + 1 < next_id rows.messages
   going_given id g =
       let f = gone_from test from most rows.messages id g in
-      let low : f.row.id + 1 < next_id rows.messages = (tests before rows f.row (bare f.row f.passes)).number in
+      let low : f.row.id + 1 < next_id rows.messages = (tests before rows f.row (may f.row f.passes)).number in
       let own : f.row.id ≡ id = f.own in
       omega (arith, low, own)
 

@@ -1,13 +1,18 @@
 -- Each move of a store is the same move without the messages that go.
-use Rattle.std.proofs.Common.{◌≡◌, ℕ, ◌+◌, ◌<◌, List, [], ◌∷◌, Bool, true, false, refl, sym, ◌∙◌, ap, inl, ⊎_elim, arith}
+use Rattle.std.proofs.Common.{◌≡◌, ℕ, ◌+◌, ◌*◌, ◌<◌, ◌≤◌, List, [], ◌∷◌, Bool, true, false, refl, sym, ◌∙◌, ap, inl, ⊎_elim, arith}
 use Rattle.std.specs.Prelude.{◌⊎◌, ◌==◌, if◌then◌else◌}
 use Rattle.std.proofs.lemmas.Bool.{cases_Bool, cases_eq}
 use Rattle.sms_base.specs.Among.{Among}
+use Rattle.sms_rows.specs.declared.table.change.Change.{Change}
+use Rattle.sms_rows.specs.table.Since.{rows_after}
 use Rattle.sms_rows.specs.table.Table.{Rises, put}
 use Rattle.sms_rows.proofs.table.Tables.{among_put, put_among, rises_put}
+use Rattle.sms_centre_rows.specs.declared.messages.bar.BarRow.{BarRow}
 use Rattle.sms_centre_rows.specs.declared.messages.message.MessageRow.{MessageRow}
 use Rattle.sms_centre_rows.specs.declared.messages.part.PartRow.{PartRow}
 use Rattle.sms_centre_rows.specs.declared.messages.priority.PriorityRow.{PriorityRow}
+use Rattle.sms_centre_rows.specs.declared.messages.claim.Claim.{Claim}
+use Rattle.sms_centre_rows.specs.messages.Bars.{bar_key, with_bars}
 use Rattle.sms_centre_rows.specs.messages.Messages.{message_at, message_key, part_key, part_reaching, priority_key}
 use Rattle.sms_centre_rows.specs.declared.reports.report.ReportRow.{ReportRow}
 use Rattle.sms_centre_rows.specs.reports.Reports.{next_place, place_after, put_report, report_key, report_of, report_reaching}
@@ -19,11 +24,12 @@ use Rattle.sms_centre_rows.specs.declared.waiting.progress.Progress.{Progress}
 use Rattle.sms_centre_rows.specs.declared.waiting.queued_part.QueuedPart.{QueuedPart}
 use Rattle.sms_centre_rows.specs.waiting.References.{next_reference}
 use Rattle.sms_centre_rows.specs.waiting.Revisions.{amended}
-use Rattle.sms_centre_spec.specs.Draft.{Core, Store, messages_in, parts_in, priorities_in, references_in, reports_in, store_of, waiting_in, with_given, with_message, with_part, with_part_at, with_priority, with_report_at, with_reports}
+use Rattle.sms_centre_spec.proofs.forgetting.Claims.{left_message, left_parts, parts_amended, parts_put}
+use Rattle.sms_centre_spec.specs.Draft.{Core, Store, bars_in, messages_in, parts_in, priorities_in, references_in, reports_in, store_of, waiting_in, with_given, with_message, with_part, with_part_at, with_priority, with_report_at, with_reports}
 use Rattle.sms_centre_spec.specs.SoundRows.{IsSound}
 use Rattle.sms_centre_spec.specs.Submitting.{reference_for}
 use Rattle.sms_centre_spec.proofs.NextNumbers.{among_amended, below_next_place}
-use Rattle.sms_centre_spec.specs.forgetting.Forgetting.{MayGo, kept, part_id, report_id}
+use Rattle.sms_centre_spec.specs.forgetting.Forgetting.{MayGo, claims_left, kept, part_id, report_id}
 use Rattle.sms_centre_spec.specs.forgetting.Forgot.{Stays, store_without}
 use Rattle.sms_centre_spec.proofs.forgetting.Kept.{amended_kept, kept_gone, kept_here, not_both, put_kept}
 use Rattle.sms_centre_spec.proofs.forgetting.Looks.{message_stays, waiting_same}
@@ -43,7 +49,7 @@ report_stays goes id (r ∷ rs) s = ⊎_elim
     (cases_eq r.id id))
     (cases_Bool (goes r.id))
 
-next_amended : (n k : ℕ) (q : Progress) (rs : List ReportRow) → place_after n (amended report_key report_reaching k q rs) ≡ place_after n rs
+pub next_amended : (n k : ℕ) (q : Progress) (rs : List ReportRow) → place_after n (amended report_key report_reaching k q rs) ≡ place_after n rs
 next_amended n k q [] = refl
 next_amended n k q (r ∷ rs) =
     ap (λ (j : ℕ). place_after (j + 1) (amended report_key report_reaching k q rs)) (either (r.place == k)) ∙ next_amended (r.place + 1) k q rs
@@ -67,7 +73,9 @@ module _ (goes : ℕ → Bool) where
     closed = may.closed;
     place = may.place;
     old = λ m a g. a;
-    old_part = λ p a g. (p, (a, (refl, refl)));
+    few = λ p a g. (s.messages.each_part p a).few;
+    left = refl;
+    bars = refl;
   }
 
   pub message_look : (n : ℕ) (s : Store) → Stays goes s → goes n ≡ false → message_at n (messages_in (store_without goes s)) ≡ message_at n (messages_in s)
@@ -91,6 +99,20 @@ module _ (goes : ℕ → Bool) where
   pub place_look : (s : Store) → Stays goes s → next_place (reports_in (store_without goes s)) ≡ next_place (reports_in s)
   place_look s k = ap (λ (l : List ReportRow). next_place l) k.reports ∙ next_place_same goes 1 (reports_in s) k.place
 
+  pub newer_stays : (id : ℕ) → ((n : ℕ) → goes n ≡ true → n < id) → goes id ≡ false
+  newer_stays id newer = ⊎_elim
+      (λ (t : goes id ≡ true). let low : id < id = newer id t in absurd (omega (arith, low)))
+      (λ (t : goes id ≡ false). t)
+      (cases_Bool (goes id))
+
+  -- the bars are those from before the event, and what goes lays claim to what it did then
+  pub bars_look : (s : Store) → Stays goes s → bars_in (store_without goes s) ≡ with_bars (claims_left goes (messages_in s) (parts_in s)) (bars_in s)
+  bars_look s k =
+      let base : List BarRow = with_bars (claims_left goes s.messages.messages.base s.messages.parts.base) s.bars.base in
+      ap (λ (l : List (Change BarRow)). rows_after bar_key l base) k.bars
+      ∙ ap (λ (l : List Claim). with_bars l s.bars.base) (sym k.left)
+      ∙ ap (λ (l : List (Change BarRow)). with_bars (claims_left goes (messages_in s) (parts_in s)) (rows_after bar_key l s.bars.base)) (sym k.bars)
+
   -- ---- moves
 
   pub message_move : (m : MessageRow) (s : Store) → Stays goes s → goes m.id ≡ false → Stays goes (with_message m s)
@@ -113,11 +135,14 @@ module _ (goes : ℕ → Bool) where
         (λ (e : x ≡ m). absurd (not_both (goes x.id) g (ap (λ (y : MessageRow). goes y.id) e ∙ stays)))
         (λ (b : Among x (messages_in s) × ¬ (x.id ≡ m.id)). k.old x b.0 g)
         (among_put message_key x m (messages_in s) a);
-    old_part = k.old_part;
+    few = k.few;
+    left = left_message goes m (messages_in s) (parts_in s) stays ∙ k.left;
+    bars = k.bars;
   }
 
-  pub part_move : (p : PartRow) (s : Store) → Stays goes s → goes p.id ≡ false → Stays goes (with_part p s)
-  part_move p s k stays = record {
+  -- a part is put whose message is newer than all that go
+  pub part_move : (p : PartRow) (s : Store) → Stays goes s → ((n : ℕ) → goes n ≡ true → n < p.id) → Stays goes (with_part p s)
+  part_move p s k newer = record {
     messages = k.messages;
     parts = ap (λ (l : List PartRow). put part_key p l) k.parts ∙ sym (put_kept part_id goes part_key p (parts_in s) k.part_keys stays);
     reports = k.reports;
@@ -130,11 +155,24 @@ module _ (goes : ℕ → Bool) where
     closed = k.closed;
     place = k.place;
     old = k.old;
-    old_part = λ x a g. ⊎_elim
+    few = λ x a g. ⊎_elim
         (λ (e : x ≡ p). absurd (not_both (goes x.id) g (ap (λ (y : PartRow). goes y.id) e ∙ stays)))
-        (λ (b : Among x (parts_in s) × ¬ (part_key x ≡ part_key p)). k.old_part x b.0 g)
+        (λ (b : Among x (parts_in s) × ¬ (part_key x ≡ part_key p)). k.few x b.0 g)
         (among_put part_key x p (parts_in s) a);
+    left = left_parts goes (messages_in s) (parts_in s) (put part_key p (parts_in s)) (λ m g.
+        parts_put m p (parts_in s) (λ e. other m g e)
+        (λ x a e f.
+        let small : x.number ≤ 20 = k.few x a (ap goes f ∙ g) in
+        let low : m.id < p.id = newer m.id g in
+        let key : 256 * x.id + x.number ≡ 256 * p.id + p.number = e in omega (arith, small, low, key, f))) ∙ k.left;
+    bars = k.bars;
   }
+    where
+      stays : goes p.id ≡ false
+      stays = newer_stays p.id newer
+
+      other : (m : MessageRow) → goes m.id ≡ true → p.id ≡ m.id → ⊥
+      other m g e = let low : m.id < p.id = newer m.id g in omega (arith, low, e)
 
   pub part_far : (p : PartRow) (q : Progress) (s : Store) → Stays goes s → Stays goes (with_part_at p q s)
   part_far p q s k = record {
@@ -151,17 +189,20 @@ module _ (goes : ℕ → Bool) where
     closed = k.closed;
     place = k.place;
     old = k.old;
-    old_part = λ x a g.
+    few = λ x a g.
         let f = among_amended part_key part_reaching (part_key p) q x (parts_in s) a in
         ⊎_elim
-        (λ (e : x ≡ f.0).
-        let b = k.old_part f.0 f.1.0 (ap (λ (y : PartRow). goes y.id) (sym e) ∙ g) in
-        let is : (b : PartRow) × (Among b s.messages.parts.base × ((b.id ≡ x.id) × (b.key ≡ x.key))) = (b.0, (b.1.0, (b.1.1.0 ∙ ap (λ (y : PartRow). y.id) (sym e), b.1.1.1 ∙ ap (λ (y : PartRow). y.key) (sym e)))) in is)
+        (λ (e : x ≡ f.0). ap_few (ap (λ (y : PartRow). y.number) e) (k.few f.0 f.1.0 (ap (λ (y : PartRow). goes y.id) (sym e) ∙ g)))
         (λ (e : (part_key f.0 ≡ part_key p) × (x ≡ part_reaching q f.0)).
-        let b = k.old_part f.0 f.1.0 (ap (λ (y : PartRow). goes y.id) (sym e.1) ∙ g) in
-        let is : (b : PartRow) × (Among b s.messages.parts.base × ((b.id ≡ x.id) × (b.key ≡ x.key))) = (b.0, (b.1.0, (b.1.1.0 ∙ ap (λ (y : PartRow). y.id) (sym e.1), b.1.1.1 ∙ ap (λ (y : PartRow). y.key) (sym e.1)))) in is)
+        ap_few (ap (λ (y : PartRow). y.number) e.1) (k.few f.0 f.1.0 (ap (λ (y : PartRow). goes y.id) (sym e.1) ∙ g)))
         f.1.1;
+    left = left_parts goes (messages_in s) (parts_in s) (amended part_key part_reaching (part_key p) q (parts_in s))
+        (λ m g. parts_amended m (part_key p) q (parts_in s)) ∙ k.left;
+    bars = k.bars;
   }
+    where
+      ap_few : {a b : ℕ} → a ≡ b → b ≤ 20 → a ≤ 20
+      ap_few e l = omega (arith, e, l)
 
   pub priority_move : (q : PriorityRow) (s : Store) → Stays goes s → goes q.id ≡ false → Stays goes (with_priority q s)
   priority_move q s k stays = record {
@@ -177,7 +218,9 @@ module _ (goes : ℕ → Bool) where
     closed = k.closed;
     place = k.place;
     old = k.old;
-    old_part = k.old_part;
+    few = k.few;
+    left = k.left;
+    bars = k.bars;
   }
 
   pub given_move : (h : HandsetRow) (r : ℕ) (s : Store) → Stays goes s → Stays goes (with_given h r s)
@@ -194,7 +237,9 @@ module _ (goes : ℕ → Bool) where
     closed = k.closed;
     place = k.place;
     old = k.old;
-    old_part = k.old_part;
+    few = k.few;
+    left = k.left;
+    bars = k.bars;
   }
 
   pub moment_move : (n : ℕ) (s : Store) → Stays goes s → Stays goes (record s { moment = n })
@@ -211,7 +256,9 @@ module _ (goes : ℕ → Bool) where
     closed = k.closed;
     place = k.place;
     old = k.old;
-    old_part = k.old_part;
+    few = k.few;
+    left = k.left;
+    bars = k.bars;
   }
 
   pub report_move : (r : ReportRow) (s : Store) → Stays goes s → goes r.id ≡ false → r.place ≡ next_place (reports_in s) → Stays goes (with_reports (put_report r s.reports) s)
@@ -231,7 +278,9 @@ module _ (goes : ℕ → Bool) where
         let high : r.place < next_place (put report_key r (reports_in s)) = below_next_place 1 r (put report_key r (reports_in s)) rises (put_among report_key r r (reports_in s) (inl refl)) in
         omega (arith, low, high, next);
     old = k.old;
-    old_part = k.old_part;
+    few = k.few;
+    left = k.left;
+    bars = k.bars;
   }
     where
       rises : Rises report_key (put report_key r (reports_in s))
@@ -276,5 +325,7 @@ module _ (goes : ℕ → Bool) where
         let own : x.place ≡ f.0.place = ap (λ (y : ReportRow). y.place) e.1 in omega (arith, low, own, same))
         f.1.1;
     old = k.old;
-    old_part = k.old_part;
+    few = k.few;
+    left = k.left;
+    bars = k.bars;
   }

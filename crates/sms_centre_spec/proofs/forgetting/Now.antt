@@ -1,7 +1,7 @@
 -- What goes now may be forgotten: no session has one's receipt unanswered, and nothing of one is under way.
 use Rattle.std.proofs.Common.{◌≡◌, ℕ, List, [], ◌∷◌, Bool, true, false, Option, Some, None, refl, sym, ◌∙◌, ap, subst, ⊎_elim, eq-eqb}
 use Rattle.std.specs.Prelude.{◌⊎◌, ◌==◌, ◌&&◌, ◌||◌, not}
-use Rattle.std.proofs.lemmas.Bool.{and_parts, cases_Bool, or_right}
+use Rattle.std.proofs.lemmas.Bool.{and_parts, cases_Bool, not-true, or_right}
 use Rattle.sms_base.specs.Among.{Among}
 use Rattle.sms_base.specs.declared.carried.Carried.{Carried}
 use Rattle.sms_base.specs.declared.holder.Holder.{Holder}
@@ -13,17 +13,13 @@ use Rattle.sms_centre_rows.specs.declared.waiting.handset_link.HandsetLink.{Hand
 use Rattle.sms_centre_spec.specs.Draft.{Core}
 use Rattle.sms_centre_spec.specs.SoundCore.{IsSoundCore}
 use Rattle.sms_centre_spec.specs.forgetting.Forget.{forget, is_carried, is_going_now, is_held_for, is_on_way, may_go_now}
-use Rattle.sms_centre_spec.specs.forgetting.Forgetting.{goes_bare}
+use Rattle.sms_centre_spec.specs.forgetting.Forgetting.{may_go}
 use Rattle.sms_centre_spec.specs.forgetting.Forgot.{AreAway, CanForget, Forgot, IsAway, IsAwayTag}
 use Rattle.sms_centre_spec.specs.Draft.{core_of}
 use Rattle.sms_centre_spec.proofs.forgetting.Begins.{begins}
-use Rattle.sms_centre_spec.proofs.forgetting.Going.{going_bare, going_given, going_may, gone_from, passes}
+use Rattle.sms_centre_spec.proofs.forgetting.Going.{going_given, going_may, gone_from, passes}
 use Rattle.sms_centre_spec.proofs.forgetting.Kept.{not_both}
 use Rattle.sms_centre_spec.proofs.forgetting.Removed.{forget_leaves}
-
-untrue : (b : Bool) → not b ≡ true → b ≡ false
-untrue true t = let bad : false ≡ true = t in absurd cc
-untrue false t = refl
 
 unanswered_there : (id : ℕ) (s : Session) (ss : List Session) → Among s ss → is_among id s.unanswered ≡ true → is_unanswered id ss ≡ true
 unanswered_there id s [] a e = absurd a
@@ -51,21 +47,20 @@ module _ (before from most : ℕ) (c : Core) (s : IsSoundCore c) where
   clear id g =
       let f = gone_from (may_go_now before c) from most c.rows.messages id g in
       let m : MessageRow = f.row in
-      let a = and_parts (goes_bare before c.rows m) (not (is_unanswered m.id c.sessions) && not (is_on_way m.id c.lines)) f.passes in
+      let a = and_parts (may_go before c.rows m) (not (is_unanswered m.id c.sessions) && not (is_on_way m.id c.lines)) f.passes in
       let b = and_parts (not (is_unanswered m.id c.sessions)) (not (is_on_way m.id c.lines)) a.1 in
       record {
-        answered = ap (λ (n : ℕ). is_unanswered n c.sessions) (sym f.own) ∙ untrue (is_unanswered m.id c.sessions) b.0;
-        away = ap (λ (n : ℕ). is_on_way n c.lines) (sym f.own) ∙ untrue (is_on_way m.id c.lines) b.1;
+        answered = ap (λ (n : ℕ). is_unanswered n c.sessions) (sym f.own) ∙ not-true (is_unanswered m.id c.sessions) b.0;
+        away = ap (λ (n : ℕ). is_on_way n c.lines) (sym f.own) ∙ not-true (is_on_way m.id c.lines) b.1;
       }
 
-  bare : (m : MessageRow) → may_go_now before c m ≡ true → goes_bare before c.rows m ≡ true
-  bare m t = (and_parts (goes_bare before c.rows m) (not (is_unanswered m.id c.sessions) && not (is_on_way m.id c.lines)) t).0
+  ended : (m : MessageRow) → may_go_now before c m ≡ true → may_go before c.rows m ≡ true
+  ended m t = (and_parts (may_go before c.rows m) (not (is_unanswered m.id c.sessions) && not (is_on_way m.id c.lines)) t).0
 
   pub can_now : CanForget goes c
   can_now = record {
-    may = going_may before from most c.rows (may_go_now before c) bare s.rows;
-    bare = going_bare before from most c.rows (may_go_now before c) bare s.rows;
-    given = going_given before from most c.rows (may_go_now before c) bare s.rows;
+    may = going_may before from most c.rows (may_go_now before c) ended s.rows;
+    given = going_given before from most c.rows (may_go_now before c) ended s.rows;
     answered = λ x id a e. ⊎_elim
         (λ (t : goes id ≡ true). absurd (not_both (is_unanswered id c.sessions) (unanswered_there id x c.sessions a e) (clear id t).answered))
         (λ (t : goes id ≡ false). t)
@@ -96,4 +91,4 @@ module _ (before from most : ℕ) (c : Core) (s : IsSoundCore c) where
   forgot_now = subst (λ (x : Core). Forgot goes x c) (sym (forget_leaves before from most c s.rows)) (begins goes c s can_now away_now)
 
   pub may_now : (m : MessageRow) → Among m c.rows.messages → goes m.id ≡ true → may_go_now before c m ≡ true
-  may_now m a g = passes before from most c.rows (may_go_now before c) bare s.rows m a g
+  may_now m a g = passes before from most c.rows (may_go_now before c) ended s.rows m a g

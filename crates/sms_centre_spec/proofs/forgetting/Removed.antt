@@ -1,17 +1,20 @@
 -- The stages that forget leave the rows without the messages of their numbers, and change nothing else.
 use Rattle.std.proofs.Common.{◌≡◌, ℕ, zero, suc, ◌+◌, ◌*◌, ◌<◌, ◌≤◌, arith, List, [], ◌∷◌, ◌++◌, map, Bool, true, false, Option, Some, None, refl, sym, ◌∙◌, ap, subst, inl, inr, ⊎_elim, append-nil, append_assoc, eq-eqb}
-use Rattle.std.specs.Prelude.{◌⊎◌, ◌==◌, ◌||◌, if◌then◌else◌}
+use Rattle.std.specs.Prelude.{◌⊎◌, ◌==◌, ◌||◌, nat_lt, if◌then◌else◌}
 use Rattle.std.proofs.lemmas.Bool.{cases_Bool, cases_eq, eqb-true, ne_eqb, or_right}
 use Rattle.sms_base.specs.Among.{Among}
 use Rattle.sms_rows.specs.declared.table.change.Change.TheVariants.{Remove as RemoveRow}
-use Rattle.sms_rows.specs.table.Since.{oldest_first as changes_of, take_out}
+use Rattle.sms_rows.specs.table.Since.{Since, oldest_first as changes_of, take_out, untouched}
 use Rattle.sms_rows.specs.table.Keys.{pair_key}
-use Rattle.sms_rows.specs.table.Table.{Rises, row_at, without}
+use Rattle.sms_rows.specs.table.Table.{AllAbove, Rises, row_at, rows_from, without}
 use Rattle.sms_rows.proofs.table.Tables.{found_key, row_behind, row_here, without_behind}
+use Rattle.sms_centre_rows.specs.declared.messages.bar.BarRow.{BarRow}
 use Rattle.sms_centre_rows.specs.declared.messages.message.MessageRow.{MessageRow}
 use Rattle.sms_centre_rows.specs.declared.messages.part.PartRow.{PartRow}
 use Rattle.sms_centre_rows.specs.declared.messages.priority.PriorityRow.{PriorityRow}
-use Rattle.sms_centre_rows.specs.messages.Messages.{Messages, message_key, part_at, part_key, part_reaching, priority_key}
+use Rattle.sms_centre_rows.specs.declared.messages.claim.Claim.{Claim}
+use Rattle.sms_centre_rows.specs.messages.Bars.{bars_of, claims_of, put_bars, with_bars}
+use Rattle.sms_centre_rows.specs.messages.Messages.{Messages, message_at, message_key, part_at, part_key, part_reaching, priority_key}
 use Rattle.sms_centre_rows.specs.messages.SplitReferences.{is_among}
 use Rattle.sms_centre_rows.specs.declared.reports.report.ReportRow.{ReportRow}
 use Rattle.sms_centre_rows.specs.reports.Reports.{report_key, report_of, reports_of}
@@ -23,16 +26,18 @@ use Rattle.sms_centre_spec.specs.declared.rows.Rows.{Rows}
 use Rattle.sms_centre_spec.specs.Draft.{Core, Store, changes_in, core_of, messages_in, parts_in, priorities_in, reports_in, rows_after, rows_of, store_of}
 use Rattle.sms_centre_spec.specs.Planning.{adopted, outcome_of}
 use Rattle.sms_centre_spec.specs.SoundRows.{IsSound}
-use Rattle.sms_centre_spec.specs.forgetting.Forget.{forget, going_now, is_going_now, message_gone, messages_gone, part_gone, part_out, parts_out, remove_in, report_gone, report_out, without_message, without_priority}
-use Rattle.sms_centre_spec.specs.forgetting.Forgetting.{kept, part_id, report_id, rows_without}
+use Rattle.sms_centre_spec.specs.forgetting.Forget.{claims_at, claims_by, forget, going_now, is_going_now, may_go_now, message_gone, messages_gone, part_gone, part_out, parts_out, remove_in, report_gone, report_out, without_message, without_priority}
+use Rattle.sms_centre_spec.specs.forgetting.Forgetting.{bars_beside, claims_left, going, going_from, kept, part_id, report_id, rows_cut, rows_without}
 use Rattle.sms_centre_spec.specs.forgetting.Forgot.{core_without}
 use Rattle.sms_centre_spec.proofs.Resting.{base_of, store_commits}
-use Rattle.sms_centre_spec.proofs.forgetting.Going.{one_row}
+use Rattle.sms_centre_spec.proofs.forgetting.Going.{gone, gone_from, one_row}
+use Rattle.sms_centre_spec.proofs.forgetting.BarsStand.{all_put, puts_base}
 use Rattle.sms_centre_spec.proofs.forgetting.Kept.{kept_among, rises_kept}
+use Rattle.sms_centre_spec.proofs.forgetting.Splits.{above_among}
 
 -- ---- tests of numbers
 
-turn : (a b : ℕ) → (a == b) ≡ (b == a)
+pub turn : (a b : ℕ) → (a == b) ≡ (b == a)
 turn a b = ⊎_elim
     (λ (e : a ≡ b). eq-eqb a b e ∙ sym (eq-eqb b a (sym e)))
     (λ (e : a ≡ b → ⊥). ne_eqb a b e ∙ sym (ne_eqb b a (λ f. e (sym f))))
@@ -219,7 +224,7 @@ record Sure (rows : Rows) : Type 0 where
   report_keys : Rises report_key rows.reports
   once : AreOnce rows.reports
 
-sure_left : (goes : ℕ → Bool) (rows : Rows) → Sure rows → Sure (rows_without goes rows)
+sure_left : (goes : ℕ → Bool) (rows : Rows) → Sure rows → Sure (rows_cut goes rows)
 sure_left goes rows s = record {
   numbers = λ p a. s.numbers p (kept_among part_id goes p rows.parts a).0;
   report_keys = rises_kept report_id goes report_key rows.reports s.report_keys;
@@ -239,11 +244,11 @@ left id s = record s {
 gone_is : (id : ℕ) (s : Store) → message_gone id s ≡ left id s
 gone_is id s = ap (λ (m : Messages). record s { messages = without_message id (without_priority id m); reports = report_out id s.reports }) (parts_only id 20 s.messages)
 
-one_left : (id : ℕ) (s : Store) → Sure (rows_of s) → rows_of (left id s) ≡ rows_without (λ (n : ℕ). n == id) (rows_of s)
+one_left : (id : ℕ) (s : Store) → Sure (rows_of s) → rows_of (left id s) ≡ rows_cut (λ (n : ℕ). n == id) (rows_of s)
 one_left id s sure =
     let is : ℕ → Bool = λ (n : ℕ). n == id in
     let z : Rows = rows_of (left id s) in
-    let w : Rows = rows_without is (rows_of s) in
+    let w : Rows = rows_cut is (rows_of s) in
     let parts : z.parts ≡ w.parts =
     parts_left id 20 s.messages.parts
     ∙ kept_same part_key part_id (λ (k : ℕ). is_among k (keys_to id 20)) is (parts_in s) (λ p a. let n = sure.numbers p a in part_test id p n.0 n.1) in
@@ -254,40 +259,40 @@ one_left id s sure =
 
 -- ---- all of them
 
-rows_same : (p q : ℕ → Bool) (rows : Rows) → ((n : ℕ) → p n ≡ q n) → rows_without p rows ≡ rows_without q rows
+rows_same : (p q : ℕ → Bool) (rows : Rows) → ((n : ℕ) → p n ≡ q n) → rows_cut p rows ≡ rows_cut q rows
 rows_same p q rows e =
-    let z : Rows = rows_without p rows in
-    let w : Rows = rows_without q rows in
+    let z : Rows = rows_cut p rows in
+    let w : Rows = rows_cut q rows in
     ap (λ (l : List MessageRow). record z { messages = l }) (kept_same message_key message_key p q rows.messages (λ x a. e x.id))
     ∙ ap (λ (l : List PartRow). record z { messages = w.messages; parts = l }) (kept_same part_id part_id p q rows.parts (λ x a. e x.id))
     ∙ ap (λ (l : List ReportRow). record z { messages = w.messages; parts = w.parts; reports = l }) (kept_same report_id report_id p q rows.reports (λ x a. e x.id))
     ∙ ap (λ (l : List PriorityRow). record z { messages = w.messages; parts = w.parts; reports = w.reports; priorities = l }) (kept_same priority_key priority_key p q rows.priorities (λ x a. e x.id))
 
-rows_twice : (p q : ℕ → Bool) (rows : Rows) → rows_without q (rows_without p rows) ≡ rows_without (λ (n : ℕ). p n || q n) rows
+rows_twice : (p q : ℕ → Bool) (rows : Rows) → rows_cut q (rows_cut p rows) ≡ rows_cut (λ (n : ℕ). p n || q n) rows
 rows_twice p q rows =
-    let z : Rows = rows_without q (rows_without p rows) in
-    let w : Rows = rows_without (λ (n : ℕ). p n || q n) rows in
+    let z : Rows = rows_cut q (rows_cut p rows) in
+    let w : Rows = rows_cut (λ (n : ℕ). p n || q n) rows in
     ap (λ (l : List MessageRow). record z { messages = l }) (kept_twice message_key p q rows.messages)
     ∙ ap (λ (l : List PartRow). record z { messages = w.messages; parts = l }) (kept_twice part_id p q rows.parts)
     ∙ ap (λ (l : List ReportRow). record z { messages = w.messages; parts = w.parts; reports = l }) (kept_twice report_id p q rows.reports)
     ∙ ap (λ (l : List PriorityRow). record z { messages = w.messages; parts = w.parts; reports = w.reports; priorities = l }) (kept_twice priority_key p q rows.priorities)
 
-rows_all : (rows : Rows) → rows_without (λ (n : ℕ). false) rows ≡ rows
+rows_all : (rows : Rows) → rows_cut (λ (n : ℕ). false) rows ≡ rows
 rows_all rows =
-    let z : Rows = rows_without (λ (n : ℕ). false) rows in
+    let z : Rows = rows_cut (λ (n : ℕ). false) rows in
     ap (λ (l : List MessageRow). record z { messages = l }) (kept_all message_key rows.messages)
     ∙ ap (λ (l : List PartRow). record z { messages = rows.messages; parts = l }) (kept_all part_id rows.parts)
     ∙ ap (λ (l : List ReportRow). record z { messages = rows.messages; parts = rows.parts; reports = l }) (kept_all report_id rows.reports)
     ∙ ap (λ (l : List PriorityRow). record z { messages = rows.messages; parts = rows.parts; reports = rows.reports; priorities = l }) (kept_all priority_key rows.priorities)
 
-all_left : (ids : List ℕ) (s : Store) → Sure (rows_of s) → rows_of (messages_gone ids s) ≡ rows_without (λ (n : ℕ). is_among n ids) (rows_of s)
+all_left : (ids : List ℕ) (s : Store) → Sure (rows_of s) → rows_of (messages_gone ids s) ≡ rows_cut (λ (n : ℕ). is_among n ids) (rows_of s)
 all_left [] s sure = sym (rows_all (rows_of s))
 all_left (id ∷ ids) s sure =
     let is : ℕ → Bool = λ (n : ℕ). n == id in
     let rest : ℕ → Bool = λ (n : ℕ). is_among n ids in
-    let one : rows_of (message_gone id s) ≡ rows_without is (rows_of s) = ap (λ (e : Store). rows_of e) (gone_is id s) ∙ one_left id s sure in
+    let one : rows_of (message_gone id s) ≡ rows_cut is (rows_of s) = ap (λ (e : Store). rows_of e) (gone_is id s) ∙ one_left id s sure in
     all_left ids (message_gone id s) (subst (λ (r : Rows). Sure r) (sym one) (sure_left is (rows_of s) sure))
-    ∙ ap (λ (r : Rows). rows_without rest r) one
+    ∙ ap (λ (r : Rows). rows_cut rest r) one
     ∙ rows_twice is rest (rows_of s)
     ∙ rows_same (λ (n : ℕ). is n || rest n) (λ (n : ℕ). is_among n (id ∷ ids)) (rows_of s) (λ n. ap (λ (b : Bool). b || rest n) (turn n id))
 
@@ -310,21 +315,124 @@ base_kept (id ∷ ids) s = base_kept ids (message_gone id s) ∙ ap (λ (e : Sto
 sure_rows : (rows : Rows) → IsSound rows → Sure rows
 sure_rows rows s = record { numbers = λ p a. let i = s.messages.each_part p a in (i.first, i.few); report_keys = s.reports.keys; once = s.reports.once }
 
-pub rows_left : (ids : List ℕ) (rows : Rows) (moment : ℕ) → IsSound rows → rows_of (messages_gone ids (store_of rows moment)) ≡ rows_without (λ (n : ℕ). is_among n ids) rows
+pub rows_left : (ids : List ℕ) (rows : Rows) (moment : ℕ) → IsSound rows → rows_of (messages_gone ids (store_of rows moment)) ≡ rows_cut (λ (n : ℕ). is_among n ids) rows
 rows_left ids rows moment s = all_left ids (store_of rows moment) (sure_rows rows s)
+
+pub bars_kept : (ids : List ℕ) (s : Store) → (messages_gone ids s).bars ≡ s.bars
+bars_kept [] s = refl
+bars_kept (id ∷ ids) s = bars_kept ids (message_gone id s)
+
+-- ---- what they lay claim to, by their numbers and by their messages
+
+-- none of these numbers is lower
+abbrev AreFrom : ℕ → List ℕ → Type 0
+AreFrom n ids = (id : ℕ) → is_among id ids ≡ true → n ≤ id
+
+going_above : (test : MessageRow → Bool) (most n : ℕ) (ms : List MessageRow) → AllAbove message_key n ms → AreFrom (suc n) (going test most ms)
+going_above test most n ms h id e =
+    let g = gone test most ms id e in
+    let low : n < g.row.id = above_among n g.row ms h g.among in
+    let own : g.row.id ≡ id = g.own in omega (arith, low, own)
+
+-- a message that is lower than all of them is none of them
+lower_out : (m : MessageRow) (ids : List ℕ) → AreFrom (suc m.id) ids → is_among m.id ids ≡ false
+lower_out m ids f = ⊎_elim
+    (λ (t : is_among m.id ids ≡ true). let low : suc m.id ≤ m.id = f m.id t in absurd (omega (arith, low)))
+    (λ (t : is_among m.id ids ≡ false). t)
+    (cases_Bool (is_among m.id ids))
+
+claims_behind : (m : MessageRow) (ms : List MessageRow) (ps : List PartRow) (ids : List ℕ) → AreFrom (suc m.id) ids → claims_by ids (m ∷ ms) ps ≡ claims_by ids ms ps
+claims_behind m ms ps [] f = refl
+claims_behind m ms ps (id ∷ ids) f =
+    let other : m.id ≡ id → ⊥ = λ e. let low : suc m.id ≤ id = f id (ap (λ (b : Bool). b || is_among id ids) (eq-eqb id id refl)) in omega (arith, low, e) in
+    ap (λ (o : Option MessageRow). claims_at o ps ++ claims_by ids (m ∷ ms) ps) (row_behind message_key id m ms other)
+    ∙ ap (λ (l : List Claim). claims_at (message_at id ms) ps ++ l) (claims_behind m ms ps ids (λ n e. f n (or_right (id == n) (is_among n ids) e)))
+
+left_same : (p q : ℕ → Bool) (ms : List MessageRow) (ps : List PartRow) → ((m : MessageRow) → Among m ms → p m.id ≡ q m.id) → claims_left p ms ps ≡ claims_left q ms ps
+left_same p q [] ps e = refl
+left_same p q (m ∷ ms) ps e =
+    ap (λ (b : Bool). (if b then claims_of m ps else []) ++ claims_left p ms ps) (e m (inl refl))
+    ∙ ap (λ (l : List Claim). (if q m.id then claims_of m ps else []) ++ l) (left_same p q ms ps (λ x a. e x (inr a)))
+
+none_left : (ms : List MessageRow) (ps : List PartRow) → claims_left (λ (n : ℕ). false) ms ps ≡ []
+none_left [] ps = refl
+none_left (m ∷ ms) ps = none_left ms ps
+
+by_message : (test : MessageRow → Bool) (most : ℕ) (ms : List MessageRow) (ps : List PartRow) → Rises message_key ms
+    → claims_by (going test most ms) ms ps ≡ claims_left (λ (n : ℕ). is_among n (going test most ms)) ms ps
+by_message test zero ms ps rises = sym (none_left ms ps)
+by_message test (suc most) [] ps rises = refl
+by_message test (suc most) (m ∷ ms) ps rises = of (by_message test most ms ps rises.1) (test m)
+  where
+    ids : List ℕ
+    ids = going test most ms
+
+    high : AreFrom (suc m.id) ids
+    high = going_above test most m.id ms rises.0
+
+    of : claims_by ids ms ps ≡ claims_left (λ (n : ℕ). is_among n ids) ms ps → (b : Bool)
+        → claims_by (if b then m.id ∷ ids else ids) (m ∷ ms) ps ≡ claims_left (λ (n : ℕ). is_among n (if b then m.id ∷ ids else ids)) (m ∷ ms) ps
+    of rest true =
+        ap (λ (o : Option MessageRow). claims_at o ps ++ claims_by ids (m ∷ ms) ps) (row_here message_key m.id m ms refl)
+        ∙ ap (λ (l : List Claim). claims_of m ps ++ l) (claims_behind m ms ps ids high ∙ rest
+        ∙ left_same (λ (n : ℕ). is_among n ids) (λ (n : ℕ). is_among n (m.id ∷ ids)) ms ps (λ x a.
+        let low : m.id < x.id = above_among m.id x ms rises.0 a in
+        sym (ap (λ (b : Bool). b || is_among x.id ids) (ne_eqb m.id x.id (λ e. absurd (omega (arith, low, e)))))))
+        ∙ ap (λ (b : Bool). (if b || is_among m.id ids then claims_of m ps else []) ++ claims_left (λ (n : ℕ). is_among n (m.id ∷ ids)) ms ps) (sym (eq-eqb m.id m.id refl))
+    of rest false =
+        claims_behind m ms ps ids high ∙ rest
+        ∙ ap (λ (b : Bool). (if b then claims_of m ps else []) ++ claims_left (λ (n : ℕ). is_among n ids) ms ps) (sym (lower_out m ids high))
+
+pub from_that : (test : MessageRow → Bool) (from most : ℕ) (ms : List MessageRow) (ps : List PartRow) → Rises message_key ms
+    → claims_by (going_from test from most ms) ms ps ≡ claims_left (λ (n : ℕ). is_among n (going_from test from most ms)) ms ps
+from_that test from most [] ps rises = by_message test most [] ps rises
+from_that test from most (m ∷ ms) ps rises = of (from_that test from most ms ps rises.1) (nat_lt m.id from)
+  where
+    ids : List ℕ
+    ids = going_from test from most ms
+
+    high : AreFrom (suc m.id) ids
+    high id t =
+        let g = gone_from test from most ms id t in
+        let low : m.id < g.row.id = above_among m.id g.row ms rises.0 g.among in
+        let own : g.row.id ≡ id = g.own in omega (arith, low, own)
+
+    of : claims_by ids ms ps ≡ claims_left (λ (n : ℕ). is_among n ids) ms ps → (b : Bool)
+        → claims_by (going test most (if b then rows_from message_key from ms else m ∷ ms)) (m ∷ ms) ps
+        ≡ claims_left (λ (n : ℕ). is_among n (going test most (if b then rows_from message_key from ms else m ∷ ms))) (m ∷ ms) ps
+    of rest false = by_message test most (m ∷ ms) ps rises
+    of rest true =
+        claims_behind m ms ps ids high ∙ rest
+        ∙ ap (λ (b : Bool). (if b then claims_of m ps else []) ++ claims_left (λ (n : ℕ). is_among n ids) ms ps) (sym (lower_out m ids high))
 
 pub forget_leaves : (before from most : ℕ) (c : Core) → IsSound c.rows → core_of (forget before from most c) ≡ core_without (is_going_now before from most c) c
 forget_leaves before from most c s =
     let ids : List ℕ = going_now before from most c in
-    let d : Store = messages_gone ids (store_of c.rows c.moment) in
-    ap (λ (r : Rows). record { rows = r; moment = d.moment; lines = c.lines; sessions = c.sessions }) (all_left ids (store_of c.rows c.moment) (sure_rows c.rows s))
-    ∙ ap (λ (n : ℕ). record { rows = rows_without (is_going_now before from most c) c.rows; moment = n; lines = c.lines; sessions = c.sessions }) (moment_kept ids (store_of c.rows c.moment))
+    let goes : ℕ → Bool = is_going_now before from most c in
+    let start : Store = store_of c.rows c.moment in
+    let d : Store = messages_gone ids start in
+    let claims : List Claim = claims_by ids c.rows.messages c.rows.parts in
+    let bars : bars_of (put_bars claims d.bars) ≡ bars_beside goes c.rows =
+    ap (λ (t : Since BarRow). bars_of (put_bars claims t)) (bars_kept ids start) ∙ all_put claims (untouched c.rows.bars)
+    ∙ ap (λ (l : List Claim). with_bars l c.rows.bars) (from_that (may_go_now before c) from most c.rows.messages c.rows.parts s.messages.message_keys) in
+    ap (λ (l : List BarRow). record { rows = record (rows_of d) { bars = l }; moment = d.moment; lines = c.lines; sessions = c.sessions }) bars
+    ∙ ap (λ (r : Rows). record { rows = record r { bars = bars_beside goes c.rows }; moment = d.moment; lines = c.lines; sessions = c.sessions }) (all_left ids start (sure_rows c.rows s))
+    ∙ ap (λ (n : ℕ). record { rows = rows_without goes c.rows; moment = n; lines = c.lines; sessions = c.sessions }) (moment_kept ids start)
 
 pub forget_commits : (before from most : ℕ) (c : Core) → adopted (outcome_of (forget before from most c)) c ≡ core_of (forget before from most c)
 forget_commits before from most c =
+    let ids : List ℕ = going_now before from most c in
     let s : Store = (forget before from most c).store in
-    let base : base_of s ≡ c.rows = base_kept (going_now before from most c) (store_of c.rows c.moment) in
+    let d : Store = messages_gone ids (store_of c.rows c.moment) in
+    let base : base_of s ≡ c.rows =
+    ap (λ (l : List BarRow). record (base_of d) { bars = l }) (puts_base (claims_by ids c.rows.messages c.rows.parts) d.bars) ∙ base_kept ids (store_of c.rows c.moment) in
     ap (λ (r : Rows). record { rows = r; moment = s.moment; lines = c.lines; sessions = c.sessions }) (ap (λ (r : Rows). rows_after (changes_in s) r) (sym base) ∙ store_commits s)
+
+pub forget_bars : (before from most : ℕ) (c : Core) → (changes_in (forget before from most c).store).bars
+    ≡ changes_of (put_bars (claims_by (going_now before from most c) c.rows.messages c.rows.parts) (untouched c.rows.bars)).news
+forget_bars before from most c =
+    let ids : List ℕ = going_now before from most c in
+    ap (λ (t : Since BarRow). changes_of (put_bars (claims_by ids c.rows.messages c.rows.parts) t).news) (bars_kept ids (store_of c.rows c.moment))
 
 -- ---- its changes
 

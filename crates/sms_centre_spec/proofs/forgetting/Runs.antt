@@ -10,24 +10,23 @@ use Rattle.sms_centre_spec.specs.Draft.{Core, Draft}
 use Rattle.sms_centre_spec.specs.SoundCore.{IsEvent}
 use Rattle.sms_centre_spec.proofs.EventLaws.{stays_sound}
 use Rattle.sms_centre_spec.specs.forgetting.Forgot.{AsksOther, CanForget, Forgot, InStep, core_without}
-use Rattle.sms_centre_spec.proofs.forgetting.Behind.{bare_behind, given_behind, may_behind}
+use Rattle.sms_centre_spec.proofs.forgetting.Behind.{given_behind, may_behind}
 use Rattle.sms_centre_spec.proofs.forgetting.Ended.{report_goes}
 use Rattle.sms_centre_spec.proofs.forgetting.Everywhere.{event_same}
 
-is_there : (id : ℕ) (ns : List ℕ) → is_among id ns ≡ true → Among id ns
-is_there id [] e = let bad : false ≡ true = e in absurd cc
-is_there id (n ∷ ns) e = ⊎_elim
+pub among_so : (id : ℕ) (ns : List ℕ) → is_among id ns ≡ true → Among id ns
+among_so id [] e = let bad : false ≡ true = e in absurd cc
+among_so id (n ∷ ns) e = ⊎_elim
     (λ (t : (n == id) ≡ true). inl (sym (eqb-true n id t)))
-    (λ (t : (n == id) ≡ false). inr (is_there id ns (sym (ap (λ (b : Bool). b || is_among id ns) t) ∙ e)))
+    (λ (t : (n == id) ≡ false). inr (among_so id ns (sym (ap (λ (b : Bool). b || is_among id ns) t) ∙ e)))
     (cases_Bool (n == id))
 
 can_forget : (goes : ℕ → Bool) (large : Core) → Forgot goes (core_without goes large) large → CanForget goes large
 can_forget goes large f = record {
   may = f.may;
-  bare = f.bare;
   given = f.given;
   answered = λ s id a e.
-      let r = (f.left.each_session s a).unanswered id (is_there id s.unanswered e) in
+      let r = (f.left.each_session s a).unanswered id (among_so id s.unanswered e) in
       ⊎_elim
       (λ (t : goes id ≡ true). let bad : None ≡ Some r.0 = sym (report_goes goes id large.rows.reports t) ∙ r.1.0 in absurd cc)
       (λ (t : goes id ≡ false). t)
@@ -48,7 +47,6 @@ step_of goes event large f is other =
         sound = stays_sound event large f.sound is;
         left = stays_sound event (core_without goes large) f.left is;
         may = may_behind goes event large f.sound is can other;
-        bare = bare_behind goes event large f.sound is can other;
         given = given_behind goes event large f.sound is can other;
       };
     }

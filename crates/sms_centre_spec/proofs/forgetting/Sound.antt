@@ -15,9 +15,10 @@ use Rattle.sms_centre_rows.specs.reports.SoundReports.{SoundReports}
 use Rattle.sms_centre_rows.specs.declared.waiting.queued_part.QueuedPart.{QueuedPart}
 use Rattle.sms_centre_rows.specs.waiting.References.{handset_at}
 use Rattle.sms_centre_rows.specs.waiting.SoundWaiting.{SoundWaiting}
+use Rattle.sms_centre_spec.proofs.forgetting.BarsStand.{bars_rise}
 use Rattle.sms_centre_spec.specs.declared.rows.Rows.{Rows}
 use Rattle.sms_centre_spec.specs.SoundRows.{IsSound}
-use Rattle.sms_centre_spec.specs.forgetting.Forgetting.{MayGo, kept, part_id, report_id, rows_without}
+use Rattle.sms_centre_spec.specs.forgetting.Forgetting.{MayGo, claims_left, kept, part_id, report_id, rows_without}
 use Rattle.sms_centre_spec.proofs.forgetting.Kept.{at_stays, kept_among, kept_gone, kept_here, not_both, rises_kept}
 use Rattle.sms_centre_spec.proofs.forgetting.Looks.{message_stays, priority_stays, waiting_same}
 
@@ -96,4 +97,5 @@ without_sound goes rows s may = record {
       (sym (waiting_same goes number rows.messages rows.priorities rows.parts rows.reports may.ended may.closed)) (s.waiting number);
   splits = λ m n reference a b.
       s.splits m n reference (kept_among message_key goes m rows.messages a).0 (kept_among message_key goes n rows.messages b).0;
+  bars = bars_rise (claims_left goes rows.messages rows.parts) rows.bars s.bars;
 }

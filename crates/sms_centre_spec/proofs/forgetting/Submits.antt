@@ -2,7 +2,6 @@
 use Rattle.std.proofs.Common.{◌≡◌, ℕ, ◌+◌, ◌<◌, List, [], ◌∷◌, Bool, true, false, Option, Some, None, Result, Ok, Err, refl, sym, ◌∙◌, ap, subst, inl, inr, ⊎_elim, arith}
 use Rattle.std.specs.Prelude.{◌-◌, ◌*◌, ◌⊎◌, max, nat_le, nat_lt, if◌then◌else◌}
 use Rattle.std.specs.Option.{option_and_then}
-use Rattle.std.proofs.lemmas.Bool.{false_from_ne_true}
 use Rattle.sms_base.specs.declared.address.Address.{Address}
 use Rattle.smpp_pdu.specs.declared.message.Message.{Message}
 use Rattle.smpp_pdu.specs.declared.status.CommandStatus.{CommandStatus}
@@ -14,7 +13,7 @@ use Rattle.sms_centre_rows.specs.declared.messages.message.MessageRow.{MessageRo
 use Rattle.sms_centre_rows.specs.messages.Messages.{message_at, message_key, next_id}
 use Rattle.sms_centre_rows.specs.messages.OpenParts.{parts_waiting}
 use Rattle.sms_centre_rows.specs.declared.waiting.queued_part.QueuedPart.{QueuedPart}
-use Rattle.sms_centre_rows.specs.messages.SplitReferences.{held_splits, is_taken, next_split}
+use Rattle.sms_centre_rows.specs.messages.SplitReferences.{held_references, is_taken, next_split}
 use Rattle.sms_centre_rows.specs.declared.waiting.handset.HandsetRow.{HandsetRow}
 use Rattle.sms_centre_rows.specs.waiting.References.{handset_of}
 use Rattle.sms_intake.specs.declared.submission.CentreAccount.{CentreAccount}
@@ -22,10 +21,11 @@ use Rattle.sms_intake.specs.declared.submission.SinglePart.{SinglePart}
 use Rattle.sms_intake.specs.declared.submission.Submission.{Submission}
 use Rattle.sms_intake.specs.PartBodies.{bodies_under, is_long}
 use Rattle.sms_intake.specs.SmppIntake.{from_pdu}
+use Rattle.sms_centre_spec.proofs.forgetting.BarsStand.{next_stands, taken_stands}
 use Rattle.sms_centre_spec.specs.declared.answer.CentreAnswer.TheVariants.{Submitted}
 use Rattle.sms_centre_spec.specs.declared.event.CentreEvent.TheVariants.{Submit}
 use Rattle.sms_centre_spec.specs.CentreEvent.{happened}
-use Rattle.sms_centre_spec.specs.Draft.{Core, Draft, Store, answer_with, draft_of, handsets_in, in_store, messages_in, parts_in, priorities_in, reports_in, rows_of, store_of, waiting_in, with_given}
+use Rattle.sms_centre_spec.specs.Draft.{Core, Draft, Store, answer_with, bars_in, draft_of, handsets_in, in_store, messages_in, parts_in, priorities_in, reports_in, rows_of, store_of, waiting_in, with_given}
 use Rattle.sms_centre_spec.specs.MessageNumbers.{next_number}
 use Rattle.sms_centre_spec.specs.Shares.{held_by, held_by_others, is_of_account, takes_too_much, unless_too_much}
 use Rattle.sms_centre_spec.specs.Requests.{account_at, accepted, refused, submission_received, submit_by}
@@ -36,22 +36,26 @@ use Rattle.sms_centre_spec.specs.forgetting.Forgot.{CanForget, Same, Stays, core
 use Rattle.sms_centre_spec.proofs.forgetting.Answers.{Alike, followed}
 use Rattle.sms_centre_spec.proofs.forgetting.Follow.{OfReport, of_parts, of_reports}
 use Rattle.sms_centre_spec.proofs.forgetting.Looks.{message_stays}
-use Rattle.sms_centre_spec.proofs.forgetting.Moves.{base_stays, given_move, message_move, part_move, priority_move, reference_look, waiting_look}
-use Rattle.sms_centre_spec.proofs.forgetting.Splits.{held_same, next_id_same, next_split_same}
+use Rattle.sms_centre_spec.proofs.forgetting.Moves.{base_stays, given_move, message_move, newer_stays, part_move, priority_move, reference_look, waiting_look}
+use Rattle.sms_centre_spec.proofs.forgetting.Splits.{next_id_same}
 
--- what comes next is the same, and goes not
+-- what comes next is the same, and is newer than all that go
 pub record Nexts (goes : ℕ → Bool) (s : Store) : Type 0 where
   pub id : next_number (rows_of (store_without goes s)) ≡ next_number (rows_of s)
-  pub fresh : goes (next_number (rows_of s)) ≡ false
-  pub split : (source : Address) (h : List ℕ) → next_split source h (messages_in (store_without goes s)) (parts_in (store_without goes s)) ≡ next_split source h (messages_in s) (parts_in s)
-  pub held : (source : Address) (h : List ℕ) → held_splits source h (messages_in (store_without goes s)) ≡ held_splits source h (messages_in s)
+  pub newer : (n : ℕ) → goes n ≡ true → n < next_number (rows_of s)
+  pub split : (source : Address) (h : List ℕ)
+      → next_split source h (bars_in (store_without goes s)) (messages_in (store_without goes s)) (parts_in (store_without goes s))
+      ≡ next_split source h (bars_in s) (messages_in s) (parts_in s)
+  pub taken : (source : Address) (h : List ℕ) (own : Option ℕ)
+      → is_taken own (held_references source h (bars_in (store_without goes s)) (messages_in (store_without goes s)))
+      ≡ is_taken own (held_references source h (bars_in s) (messages_in s))
 
 pub base_nexts : (goes : ℕ → Bool) (c : Core) → IsSound c.rows → CanForget goes c → Nexts goes (store_of c.rows c.moment)
 base_nexts goes c s can = record {
   id = ap (λ (n : ℕ). max c.rows.setup.first n) (next_id_same goes 1 c.rows.messages can.may.id);
-  fresh = false_from_ne_true (goes (next_number c.rows)) (λ t. let l : max c.rows.setup.first (next_id c.rows.messages) + 1 < next_id c.rows.messages = can.given (next_number c.rows) t in omega (arith, l));
-  split = λ source h. next_split_same goes source h c.rows.messages c.rows.parts s.messages.message_keys can.bare.free can.bare.own can.may.later;
-  held = λ source h. held_same goes source h c.rows.messages can.bare.free;
+  newer = λ n t. let l : n + 1 < next_id c.rows.messages = can.given n t in omega (arith, l);
+  split = λ source h. next_stands source h goes c.rows.bars c.rows.messages c.rows.parts s.bars s.messages.message_keys can.may.later;
+  taken = λ source h own. taken_stands source h goes own c.rows.bars c.rows.messages c.rows.parts s.bars;
 }
 
 -- stores that may not be there
@@ -74,16 +78,16 @@ module _ (goes : ℕ → Bool) where
 
   -- ---- parts
 
-  given_both : (id : ℕ) (u : Submission) (n : ℕ) (b : SinglePart) (h : HandsetRow) (o : Option ℕ) (s : Store) → Stays goes s → goes id ≡ false
+  given_both : (id : ℕ) (u : Submission) (n : ℕ) (b : SinglePart) (h : HandsetRow) (o : Option ℕ) (s : Store) → Stays goes s → ((n : ℕ) → goes n ≡ true → n < id)
       → Both goes (part_given id u n b h o (store_without goes s)) (part_given id u n b h o s)
   given_both id u n b h None s k f = tt
   given_both id u n b h (Some r) s k f = (refl, part_move goes _ (with_given h r s) (given_move goes h r s k) f)
 
-  give_both : (id : ℕ) (u : Submission) (n : ℕ) (b : SinglePart) (h : HandsetRow) (s : Store) → Stays goes s → goes id ≡ false → Both goes (give_part id u n b h (store_without goes s)) (give_part id u n b h s)
+  give_both : (id : ℕ) (u : Submission) (n : ℕ) (b : SinglePart) (h : HandsetRow) (s : Store) → Stays goes s → ((n : ℕ) → goes n ≡ true → n < id) → Both goes (give_part id u n b h (store_without goes s)) (give_part id u n b h s)
   give_both id u n b h s k f =
       subst (λ (o : Option ℕ). Both goes (part_given id u n b h o (store_without goes s)) (give_part id u n b h s)) (sym (reference_look goes h s k)) (given_both id u n b h (reference_for h s) s k f)
 
-  gives_both : (id : ℕ) (u : Submission) (n : ℕ) (bs : List SinglePart) (s : Store) → Stays goes s → goes id ≡ false → Both goes (give_parts id u n bs (store_without goes s)) (give_parts id u n bs s)
+  gives_both : (id : ℕ) (u : Submission) (n : ℕ) (bs : List SinglePart) (s : Store) → Stays goes s → ((n : ℕ) → goes n ≡ true → n < id) → Both goes (give_parts id u n bs (store_without goes s)) (give_parts id u n bs s)
   gives_both id u n [] s k f = (refl, k)
   gives_both id u n (b ∷ bs) s k f =
       let h : HandsetRow = handset_of u.handset (handsets_in s) in
@@ -91,20 +95,21 @@ module _ (goes : ℕ → Bool) where
 
   -- ---- the message
 
-  under_both : (id : ℕ) (split : Option ℕ) (bs : List SinglePart) (u : Submission) (s : Store) → Stays goes s → goes id ≡ false
+  under_both : (id : ℕ) (split : Option ℕ) (bs : List SinglePart) (u : Submission) (s : Store) → Stays goes s → ((n : ℕ) → goes n ≡ true → n < id)
       → Both goes (accept_under id split bs u (store_without goes s)) (accept_under id split bs u s)
   under_both id split bs u s k f =
-      gives_both id u 1 bs (enter id split u s) (priority_move goes _ _ (message_move goes (message_of id s.moment split u) s k f) f) f
+      let stays : goes id ≡ false = newer_stays goes id f in
+      gives_both id u 1 bs (enter id split u s) (priority_move goes _ _ (message_move goes (message_of id s.moment split u) s k stays) stays) f
 
-  split_both : (id : ℕ) (o : Option ℕ) (u : Submission) (s : Store) → Stays goes s → goes id ≡ false → Both goes (accept_split id o u (store_without goes s)) (accept_split id o u s)
+  split_both : (id : ℕ) (o : Option ℕ) (u : Submission) (s : Store) → Stays goes s → ((n : ℕ) → goes n ≡ true → n < id) → Both goes (accept_split id o u (store_without goes s)) (accept_split id o u s)
   split_both id None u s k f = tt
   split_both id (Some r) u s k f = under_both id (Some r) (bodies_under r u.text) u s k f
 
-  as_both : (id : ℕ) (u : Submission) (s : Store) → Stays goes s → Nexts goes s → goes id ≡ false → Both goes (accept_as id u (store_without goes s)) (accept_as id u s)
+  as_both : (id : ℕ) (u : Submission) (s : Store) → Stays goes s → Nexts goes s → ((n : ℕ) → goes n ≡ true → n < id) → Both goes (accept_as id u (store_without goes s)) (accept_as id u s)
   as_both id u s k n f =
       let z : Store = store_without goes s in
-      let o : Option ℕ = next_split u.source u.handset (messages_in s) (parts_in s) in
-      both_if (is_long u.text) (accept_split id (next_split u.source u.handset (messages_in z) (parts_in z)) u z) (accept_split id o u s)
+      let o : Option ℕ = next_split u.source u.handset (bars_in s) (messages_in s) (parts_in s) in
+      both_if (is_long u.text) (accept_split id (next_split u.source u.handset (bars_in z) (messages_in z) (parts_in z)) u z) (accept_split id o u s)
       (accept_under id None (bodies_under 0 u.text) u z) (accept_under id None (bodies_under 0 u.text) u s)
       (subst (λ (x : Option ℕ). Both goes (accept_split id x u z) (accept_split id o u s)) (sym (n.split u.source u.handset)) (split_both id o u s k f))
       (under_both id None (bodies_under 0 u.text) u s k f)
@@ -114,7 +119,7 @@ module _ (goes : ℕ → Bool) where
       let z : Store = store_without goes s in
       let i : ℕ = next_number (rows_of s) in
       subst (λ (j : ℕ). Both goes (if nat_le j 9999999999 then accept_as j u z else None) (accept u s)) (sym n.id)
-      (both_if (nat_le i 9999999999) (accept_as i u z) (accept_as i u s) None None (as_both i u s k n n.fresh) tt)
+      (both_if (nat_le i 9999999999) (accept_as i u z) (accept_as i u s) None None (as_both i u s k n n.newer) tt)
 
   -- ---- what an account holds
 
@@ -181,7 +186,7 @@ module _ (goes : ℕ → Bool) where
       let z : Store = store_without goes s in
       let e : Draft = draft_without goes d in
       let i : ℕ = next_number (rows_of s) in
-      let held : is_reference_taken u z ≡ is_reference_taken u s = ap (λ (l : List ℕ). is_taken (own_reference u.text) l) (n.held u.source u.handset) in
+      let held : is_reference_taken u z ≡ is_reference_taken u s = n.taken u.source u.handset (own_reference u.text) in
       subst (λ (b : Bool). Alike goes (if b then refused ESME_RSUBMITFAIL e else accepted (next_number (rows_of z)) (unless_too_much u (accept u z)) e) (submission_received (Ok u) d)) (sym held)
       (alike_if (is_reference_taken u s) (refused ESME_RSUBMITFAIL e) (refused ESME_RSUBMITFAIL d) (accepted (next_number (rows_of z)) (unless_too_much u (accept u z)) e) (accepted i (unless_too_much u (accept u s)) d) (refl, k)
       (subst (λ (j : ℕ). Alike goes (accepted j (unless_too_much u (accept u z)) e) (accepted i (unless_too_much u (accept u s)) d)) (sym n.id)

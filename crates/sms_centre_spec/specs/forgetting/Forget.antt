@@ -1,14 +1,18 @@
 -- Forgetting as stages of an event, with its changes. It looks at so many messages from a number on, and those that may go leave, each
--- with its report, its parts and its priority. Nothing is due by it, so nothing follows it.
-use Rattle.std.specs.Prelude.{ℕ, zero, suc, ◌==◌, ◌&&◌, ◌||◌, not, drop, List, [], ◌∷◌, Bool, false, Option, Some, None}
+-- with its report, its parts and its priority. What they lay claim to is kept as bars. Nothing is due by it, so nothing follows it.
+use Rattle.std.specs.Prelude.{ℕ, zero, suc, ◌==◌, ◌&&◌, ◌||◌, not, drop, List, [], ◌∷◌, ◌++◌, Bool, false, Option, Some, None}
 use Rattle.sms_base.specs.declared.carried.Carried.{Carried}
 use Rattle.sms_base.specs.declared.holder.Holder.{Holder}
 use Rattle.sms_base.specs.declared.holder.Holder.TheVariants.{Part, Report, Entry, Memory}
-use Rattle.sms_rows.specs.table.Since.{take_out}
+use Rattle.sms_rows.specs.declared.table.change.Change.{Change}
+use Rattle.sms_rows.specs.table.Since.{oldest_first as changes_of, take_out, untouched}
 use Rattle.sms_rows.specs.table.Table.{rows_from}
+use Rattle.sms_centre_rows.specs.declared.messages.bar.BarRow.{BarRow}
 use Rattle.sms_centre_rows.specs.declared.messages.message.MessageRow.{MessageRow}
 use Rattle.sms_centre_rows.specs.declared.messages.part.PartRow.{PartRow}
-use Rattle.sms_centre_rows.specs.messages.Messages.{Messages, message_key, part_at, part_key, parts_of}
+use Rattle.sms_centre_rows.specs.declared.messages.claim.Claim.{Claim}
+use Rattle.sms_centre_rows.specs.messages.Bars.{claims_of, put_bars}
+use Rattle.sms_centre_rows.specs.messages.Messages.{Messages, message_at, message_key, part_at, part_key, parts_of}
 use Rattle.sms_centre_rows.specs.messages.SplitReferences.{is_among}
 use Rattle.sms_centre_rows.specs.declared.reports.report.ReportRow.{ReportRow}
 use Rattle.sms_centre_rows.specs.reports.Receipts.{is_unanswered}
@@ -17,7 +21,7 @@ use Rattle.sms_centre_rows.specs.declared.waiting.handset_link.HandsetLink.{Hand
 use Rattle.sms_centre_rows.specs.declared.waiting.revision.Revision.TheVariants.{Remove}
 use Rattle.sms_centre_rows.specs.waiting.Revisions.{Revised}
 use Rattle.sms_centre_spec.specs.Draft.{Core, Draft, Store, draft_of, in_store, store_of}
-use Rattle.sms_centre_spec.specs.forgetting.Forgetting.{going_from, goes_bare}
+use Rattle.sms_centre_spec.specs.forgetting.Forgetting.{going_from, may_go}
 
 -- ---- which messages may go now: neither is a receipt of one unanswered, nor is anything of it under way
 
@@ -37,7 +41,7 @@ is_on_way id (l ∷ ls) = is_carried id l.link.under_way || is_on_way id ls
 
 abbrev pub may_go_now : ℕ → Core → MessageRow → Bool
 may_go_now before c m =
-    goes_bare before c.rows m && (not (is_unanswered m.id c.sessions) && not (is_on_way m.id c.lines))
+    may_go before c.rows m && (not (is_unanswered m.id c.sessions) && not (is_on_way m.id c.lines))
 
 abbrev pub going_now : ℕ → ℕ → ℕ → Core → List ℕ
 going_now before from most c = going_from (may_go_now before c) from most c.rows.messages
@@ -103,5 +107,25 @@ abbrev pub messages_gone : List ℕ → Store → Store
 messages_gone [] s = s
 messages_gone (id ∷ ids) s = messages_gone ids (message_gone id s)
 
+-- what the messages of these numbers lay claim to
+abbrev pub claims_at : Option MessageRow → List PartRow → List Claim
+claims_at None ps = []
+claims_at (Some m) ps = claims_of m ps
+
+abbrev pub claims_by : List ℕ → List MessageRow → List PartRow → List Claim
+claims_by [] ms ps = []
+claims_by (id ∷ ids) ms ps = claims_at (message_at id ms) ps ++ claims_by ids ms ps
+
+-- the bars that are put for it
+abbrev pub bars_put : List Claim → List BarRow → List (Change BarRow)
+bars_put claims bars = changes_of (put_bars claims (untouched bars)).news
+
+abbrev pub kept_as_bars : List Claim → Store → Store
+kept_as_bars claims s = record s { bars = put_bars claims s.bars }
+
 abbrev pub forget : ℕ → ℕ → ℕ → Core → Draft
-forget before from most c = in_store (messages_gone (going_now before from most c) (store_of c.rows c.moment)) (draft_of c)
+forget before from most c =
+    in_store
+    (kept_as_bars (claims_by (going_now before from most c) c.rows.messages c.rows.parts)
+    (messages_gone (going_now before from most c) (store_of c.rows c.moment)))
+    (draft_of c)

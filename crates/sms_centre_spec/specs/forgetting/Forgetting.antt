@@ -1,12 +1,17 @@
--- What a centre forgets: messages that ended long ago and were reported, with their parts, priorities and reports.
-use Rattle.std.specs.Prelude.{◌≡◌, ℕ, zero, suc, ◌+◌, ◌<◌, ◌≤◌, ◌==◌, ◌&&◌, ◌||◌, not, nat_le, nat_lt, is_some, List, [], ◌∷◌, Bool, true, false, if◌then◌else◌}
-use Rattle.std.specs.Prelude.{Option, Some, None, ◌⊎◌}
+-- What a centre forgets: messages that ended long ago and were reported, with their parts, priorities and reports. What they lay claim to
+-- stays barred (3GPP TS 23.040 9.2.3.24.8).
+use Rattle.std.specs.Prelude.{◌≡◌, ℕ, zero, suc, ◌+◌, ◌<◌, ◌≤◌, ◌==◌, ◌&&◌, not, nat_le, nat_lt, is_some, List, [], ◌∷◌, ◌++◌, Bool, true, false}
+use Rattle.std.specs.Prelude.{if◌then◌else◌, Option, Some, None}
 use Rattle.sms_base.specs.Among.{Among}
+use Rattle.sms_base.specs.declared.address.Address.{Address}
 use Rattle.sms_rows.specs.table.Table.{rows_from}
+use Rattle.sms_centre_rows.specs.declared.messages.bar.BarRow.{BarRow}
 use Rattle.sms_centre_rows.specs.declared.messages.message.MessageRow.{MessageRow}
 use Rattle.sms_centre_rows.specs.declared.messages.part.PartRow.{PartRow}
-use Rattle.sms_centre_rows.specs.messages.Messages.{is_pending, message_at, message_key, next_id, priority_key}
-use Rattle.sms_centre_rows.specs.messages.SplitReferences.{is_among, is_between, is_delivered, last_split, unless_split, wide_in}
+use Rattle.sms_centre_rows.specs.declared.messages.claim.Claim.{Claim}
+use Rattle.sms_centre_rows.specs.messages.Bars.{claims_of, with_bars}
+use Rattle.sms_centre_rows.specs.messages.Messages.{is_pending, message_key, next_id, priority_key}
+use Rattle.sms_centre_rows.specs.messages.SplitReferences.{held_references, is_among, is_between, last_split, next_split}
 use Rattle.sms_centre_rows.specs.declared.reports.report.ReportRow.{ReportRow}
 use Rattle.sms_centre_rows.specs.reports.Reports.{next_place, report_of}
 use Rattle.sms_centre_spec.specs.declared.rows.Rows.{Rows}
@@ -23,16 +28,30 @@ part_id p = p.id
 abbrev pub report_id : ReportRow → ℕ
 report_id r = r.id
 
-abbrev pub rows_without : (ℕ → Bool) → Rows → Rows
-rows_without goes rows = record {
+-- the bars stay
+abbrev pub rows_cut : (ℕ → Bool) → Rows → Rows
+rows_cut goes rows = record {
   messages = kept message_key goes rows.messages;
   parts = kept part_id goes rows.parts;
   references = rows.references;
   handsets = rows.handsets;
   reports = kept report_id goes rows.reports;
   priorities = kept priority_key goes rows.priorities;
+  bars = rows.bars;
   setup = rows.setup;
 }
+
+-- what those messages lay claim to
+abbrev pub claims_left : (ℕ → Bool) → List MessageRow → List PartRow → List Claim
+claims_left goes [] ps = []
+claims_left goes (m ∷ ms) ps = (if goes m.id then claims_of m ps else []) ++ claims_left goes ms ps
+
+-- it is kept as bars
+abbrev pub bars_beside : (ℕ → Bool) → Rows → List BarRow
+bars_beside goes rows = with_bars (claims_left goes rows.messages rows.parts) rows.bars
+
+abbrev pub rows_without : (ℕ → Bool) → Rows → Rows
+rows_without goes rows = record (rows_cut goes rows) { bars = bars_beside goes rows }
 
 -- ---- which message may go
 
@@ -77,22 +96,7 @@ may_go before rows m =
     && (is_reported rows.reports (report_of m.id rows.reports)
     && (leaves_split m rows.messages && leaves_number m rows.messages))
 
--- ---- which one bars a reference that must not be given again, for as long as its handset may hold some parts
-
--- it was submitted with a header of its own that has a 16-bit reference
-abbrev pub has_own_wide : MessageRow → List PartRow → Bool
-has_own_wide m [] = false
-has_own_wide m (p ∷ ps) = ((p.id == m.id) && is_some (unless_split m.split_reference (wide_in p.key))) || has_own_wide m ps
-
--- so it was, or the centre split it and not all of it was delivered
-abbrev pub bars_reference : MessageRow → List PartRow → Bool
-bars_reference m ps = has_own_wide m ps || (is_some m.split_reference && not (is_delivered m.state))
-
--- it may go, and leaves no bar
-abbrev pub goes_bare : ℕ → Rows → MessageRow → Bool
-goes_bare before rows m = may_go before rows m && not (bars_reference m rows.parts)
-
--- ---- which of so many messages from a number on may go and leave no bar
+-- ---- which of so many messages from a number on may go
 
 -- the numbers of those that pass, of the first so many
 abbrev pub going : (MessageRow → Bool) → ℕ → List MessageRow → List ℕ
@@ -105,7 +109,7 @@ abbrev pub going_from : (MessageRow → Bool) → ℕ → ℕ → List MessageRo
 going_from goes from most ms = going goes most (rows_from message_key from ms)
 
 abbrev pub is_going : ℕ → ℕ → ℕ → Rows → ℕ → Bool
-is_going before from most rows id = is_among id (going_from (goes_bare before rows) from most rows.messages)
+is_going before from most rows id = is_among id (going_from (may_go before rows) from most rows.messages)
 
 -- ---- what of these numbers must hold
 
@@ -127,8 +131,16 @@ pub record AreNoLater (goes : ℕ → Bool) (rows : Rows) : Type 0 where
   pub submitted : (m : MessageRow) → Among m rows.messages → goes m.id ≡ true → m.submitted ≤ last_submitted 0 rows.messages
   pub made : (r : ReportRow) → Among r rows.reports → goes r.id ≡ true → r.made ≤ last_made 0 rows.reports
 
--- none of them bars a reference
-pub record AreBare (goes : ℕ → Bool) (rows : Rows) : Type 0 where
-  pub free : (m : MessageRow) → Among m rows.messages → goes m.id ≡ true → (m.split_reference ≡ None) ⊎ (is_delivered m.state ≡ true)
-  pub own : (p : PartRow) (m : MessageRow) → Among p rows.parts → goes p.id ≡ true → message_at p.id rows.messages ≡ Some m
-      → unless_split m.split_reference (wide_in p.key) ≡ None
+-- ---- the references of a source and a handset that these rows bar
+
+abbrev pub held_in : Address → List ℕ → Rows → List ℕ
+held_in source handset rows = held_references source handset rows.bars rows.messages
+
+abbrev pub next_split_in : Address → List ℕ → Rows → Option ℕ
+next_split_in source handset rows = next_split source handset rows.bars rows.messages rows.parts
+
+-- ---- no reference is there twice
+
+abbrev pub NoneTwice : List ℕ → Type 0
+NoneTwice [] = Unit {0}
+NoneTwice (n ∷ ns) = (is_among n ns ≡ false) × NoneTwice ns

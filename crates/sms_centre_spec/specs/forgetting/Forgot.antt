@@ -1,5 +1,5 @@
 -- A centre without some messages, between two events and in the middle of one.
-use Rattle.std.specs.Prelude.{◌≡◌, ℕ, ◌+◌, ◌<◌, Bool, true, false, Option, Some, None}
+use Rattle.std.specs.Prelude.{◌≡◌, ℕ, ◌+◌, ◌<◌, ◌≤◌, List, [], Bool, true, false, Option, Some, None}
 use Rattle.sms_base.specs.declared.carried.Carried.{Carried}
 use Rattle.sms_base.specs.declared.holder.Holder.{Holder}
 use Rattle.sms_base.specs.declared.holder.Holder.TheVariants.{Part, Report, Entry, Memory}
@@ -13,18 +13,19 @@ use Rattle.sms_base.specs.Among.{Among}
 use Rattle.sms_rows.specs.table.Table.{Rises}
 use Rattle.sms_centre_rows.specs.declared.messages.message.MessageRow.{MessageRow}
 use Rattle.sms_centre_rows.specs.declared.messages.part.PartRow.{PartRow}
+use Rattle.sms_centre_rows.specs.messages.Bars.{with_bars}
 use Rattle.sms_centre_rows.specs.messages.Messages.{is_pending, message_key, next_id, part_key, priority_key}
 use Rattle.sms_centre_rows.specs.messages.SplitReferences.{is_among}
 use Rattle.sms_centre_rows.specs.declared.reports.report.ReportRow.{ReportRow}
 use Rattle.sms_centre_rows.specs.reports.Receipts.{Session}
 use Rattle.sms_centre_rows.specs.reports.Reports.{next_place, report_key}
 use Rattle.sms_centre_spec.specs.Draft.{Core, Draft, Store, core_of, messages_in, parts_in, priorities_in, reports_in}
-use Rattle.sms_centre_spec.specs.forgetting.Forgetting.{AreBare, MayGo, kept, part_id, report_id, rows_without}
+use Rattle.sms_centre_spec.specs.forgetting.Forgetting.{MayGo, claims_left, kept, part_id, report_id, rows_without}
 
 abbrev pub core_without : (ℕ → Bool) → Core → Core
 core_without goes c = record { rows = rows_without goes c.rows; moment = c.moment; lines = c.lines; sessions = c.sessions }
 
--- the changes are the same
+-- the changes are the same, and what goes is kept as bars
 abbrev pub store_without : (ℕ → Bool) → Store → Store
 store_without goes s = record {
   setup = s.setup;
@@ -36,6 +37,7 @@ store_without goes s = record {
   };
   allocations = s.allocations;
   reports = record { base = kept report_id goes s.reports.base; news = s.reports.news };
+  bars = record { base = with_bars (claims_left goes s.messages.messages.base s.messages.parts.base) s.bars.base; news = s.bars.news };
 }
 
 -- and so are frames, receipts and the answer
@@ -45,7 +47,6 @@ draft_without goes d = record { store = store_without goes d.store; links = d.li
 -- the messages of these numbers may be forgotten: no number is given later, and no session has yet to answer one's receipt
 pub record CanForget (goes : ℕ → Bool) (c : Core) : Type 0 where
   pub may : MayGo goes c.rows
-  pub bare : AreBare goes c.rows
   pub given : (id : ℕ) → goes id ≡ true → id + 1 < next_id c.rows.messages
   pub answered : (s : Session) (id : ℕ) → Among s c.sessions → is_among id s.unanswered ≡ true → goes id ≡ false
 
@@ -64,7 +65,10 @@ pub record Stays (goes : ℕ → Bool) (s : Store) : Type 0 where
   pub place : (r : ReportRow) → Among r (reports_in s) → goes r.id ≡ true → r.place + 1 < next_place (reports_in s)
   -- what goes was there before the event
   pub old : (m : MessageRow) → Among m (messages_in s) → goes m.id ≡ true → Among m s.messages.messages.base
-  pub old_part : (p : PartRow) → Among p (parts_in s) → goes p.id ≡ true → (b : PartRow) × (Among b s.messages.parts.base × ((b.id ≡ p.id) × (b.key ≡ p.key)))
+  pub few : (p : PartRow) → Among p (parts_in s) → goes p.id ≡ true → p.number ≤ 20
+  -- and so was what it lays claim to, and no bar was put since
+  pub left : claims_left goes (messages_in s) (parts_in s) ≡ claims_left goes s.messages.messages.base s.messages.parts.base
+  pub bars : s.bars.news ≡ []
 
 -- the same frames, receipts, answer and changes, and behind it the same centre without those messages
 pub record Same (goes : ℕ → Bool) (small large : Draft) : Type 0 where
@@ -92,7 +96,6 @@ pub record Forgot (goes : ℕ → Bool) (small large : Core) : Type 0 where
   pub sound : IsSoundCore large
   pub left : IsSoundCore small
   pub may : MayGo goes large.rows
-  pub bare : AreBare goes large.rows
   pub given : (id : ℕ) → goes id ≡ true → id + 1 < next_id large.rows.messages
 
 -- the same is sent and answered, and behind it one is still the other without those messages

@@ -1,14 +1,11 @@
 -- Parts joined with one more part among them.
-use Rattle.std.proofs.Common.{◌≡◌, ℕ, suc, ◌+◌, Bool, true, false, ◌&&◌, eqb, cond, List, [], ◌∷◌, ◌++◌, length, Some, None, refl, sym, ap, ◌∙◌, arith, append_assoc, Result, Ok, Err, ◌<◌, ◌≤◌, slice_index_or}
+use Rattle.std.proofs.Common.{◌≡◌, ℕ, suc, ◌+◌, Bool, true, ◌&&◌, eqb, cond, List, [], ◌∷◌, ◌++◌, length, Some, None, refl, sym, ap, ◌∙◌, arith, append_assoc, Result, Ok, Err, ◌<◌, ◌≤◌, slice_index_or}
 use Rattle.std.specs.Prelude.{OnErr}
+use Rattle.sms_base.proofs.Bools.{and_assoc}
 use Rattle.sms_alphabet.specs.declared.concat_key.ConcatReference.{ConcatReference}
 use Rattle.sms_concat.specs.declared.content.Content.{Content}
 use Rattle.sms_concat.specs.declared.content.Part.{Part}
 use Rattle.sms_concat.specs.Joining.{key_or_alone, bears, bear_from, is_whole, units_of, content_joined}
-
-and_assoc : (a b c : Bool) → ((a && b) && c) ≡ (a && (b && c))
-and_assoc true b c = refl
-and_assoc false b c = refl
 
 bear_append : (r : ConcatReference) (t d n : ℕ) (xs : List Part) (p : Part) (ys : List Part)
     → (bear_from r t d n xs && (bears r t d (n + length xs) p && bear_from r t d (n + length xs + 1) ys)) ≡ bear_from r t d n (xs ++ p ∷ ys)

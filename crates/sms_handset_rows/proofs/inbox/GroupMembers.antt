@@ -4,55 +4,29 @@ use Rattle.std.specs.Prelude.{◌==◌, ◌&&◌, nat_lt}
 use Rattle.std.proofs.lemmas.Bool.{and_parts, and_from, cases_Bool, false_from_ne_true, cond-true, cond-false, cases_eq, cond_both}
 use Rattle.std.proofs.lemmas.Slice.Eq.{bytes_eq-Decides}
 use Rattle.std.specs.List.{AllByRecursion}
-use Rattle.sms_base.specs.AddressKind.{type_number, type_of}
-use Rattle.sms_base.specs.declared.type_of_number.TypeOfNumber.{TypeOfNumber}
-use Rattle.sms_base.specs.declared.type_of_number.TypeOfNumber.TheVariants.{Unknown, International, National, NetworkSpecific, Subscriber, Alphanumeric, Abbreviated}
+use Rattle.sms_base.proofs.Addresses.{same_parts}
+use Rattle.sms_base.specs.AddressKind.{type_number}
 use Rattle.sms_base.specs.declared.address.Address.{Address}
 use Rattle.sms_base.specs.Among.{Among}
 use Rattle.sms_rows.specs.table.Table.{without, insert, put, Rises, row_at}
 use Rattle.sms_rows.proofs.table.Tables.{without_behind, without_here, among_found}
 use Rattle.sms_concat.specs.Joining.{is_same_reference}
 use Rattle.sms_alphabet.specs.declared.concat_key.ConcatReference.{ConcatReference}
-use Rattle.sms_alphabet.specs.declared.concat_key.ConcatReference.TheVariants.{EightBit, SixteenBit}
 use Rattle.sms_handset_rows.specs.inbox.Groups.{is_same_address, is_same_group, is_part_of, members}
 use Rattle.sms_handset_rows.specs.declared.inbox.entry.Group.{Group}
 use Rattle.sms_handset_rows.specs.declared.inbox.entry.Message.{Message}
 use Rattle.sms_handset_rows.specs.declared.inbox.entry.Message.TheVariants.{Single, Part, Joined}
 use Rattle.sms_handset_rows.specs.declared.inbox.entry.Entry.{Entry}
 use Rattle.sms_handset_rows.specs.inbox.Keys.{entry_key}
+use Rattle.sms_concat.proofs.References.{one_reference, same_reference}
 
 -- ---- groups that are one are equal
-
-type_is : (t : TypeOfNumber) → type_of (type_number t) ≡ Some t
-type_is Unknown = refl
-type_is International = refl
-type_is National = refl
-type_is NetworkSpecific = refl
-type_is Subscriber = refl
-type_is Alphanumeric = refl
-type_is Abbreviated = refl
-
-same_type : (t u : TypeOfNumber) → type_number t ≡ type_number u → t ≡ u
-same_type t u e =
-    let both : Some t ≡ Some u = sym (type_is t) ∙ ap (λ (n : ℕ). type_of n) e ∙ type_is u in
-    let q : t ≡ u = cc in q
 
 pub same_address : (a b : Address) → is_same_address a b ≡ true → a ≡ b
 same_address a b e =
     let p = and_parts ((type_number a.ton == type_number b.ton) && (a.npi == b.npi)) (bytes_eq a.digits b.digits) e in
     let q = and_parts (type_number a.ton == type_number b.ton) (a.npi == b.npi) p.0 in
-    let ton : a.ton ≡ b.ton = same_type a.ton b.ton (eqb-true (type_number a.ton) (type_number b.ton) q.0) in
-    let npi : a.npi ≡ b.npi = eqb-true a.npi b.npi q.1 in
-    let digits : a.digits ≡ b.digits = (bytes_eq-Decides a.digits b.digits).0 p.1 in
-    ap (λ (t : TypeOfNumber). record a { ton = t }) ton
-    ∙ ap (λ (n : ℕ). record b { npi = n; digits = a.digits }) npi
-    ∙ ap (λ (d : List ℕ). record b { digits = d }) digits
-
-same_reference : (a b : ConcatReference) → is_same_reference a b ≡ true → a ≡ b
-same_reference (EightBit a) (EightBit b) e = ap (λ (n : ℕ). EightBit n) (eqb-true a b e)
-same_reference (EightBit a) (SixteenBit b) e = absurd (true≢false (sym e))
-same_reference (SixteenBit a) (EightBit b) e = absurd (true≢false (sym e))
-same_reference (SixteenBit a) (SixteenBit b) e = ap (λ (n : ℕ). SixteenBit n) (eqb-true a b e)
+    same_parts a b (eqb-true (type_number a.ton) (type_number b.ton) q.0) (eqb-true a.npi b.npi q.1) ((bytes_eq-Decides a.digits b.digits).0 p.1)
 
 pub same_group : (a b : Group) → is_same_group a b ≡ true → a ≡ b
 same_group a b e =
@@ -64,10 +38,6 @@ same_group a b e =
     ap (λ (s : Address). record a { source = s }) source
     ∙ ap (λ (r : ConcatReference). record b { reference = r; total = a.total }) reference
     ∙ ap (λ (t : ℕ). record b { total = t }) total
-
-one_reference : (r : ConcatReference) → is_same_reference r r ≡ true
-one_reference (EightBit n) = eq-eqb n n refl
-one_reference (SixteenBit n) = eq-eqb n n refl
 
 pub one_address : (a : Address) → is_same_address a a ≡ true
 one_address a =

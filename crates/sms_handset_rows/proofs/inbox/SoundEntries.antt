@@ -169,7 +169,7 @@ put_free k x es q n l f e a = ⊎_elim
 
 -- ---- an entry leaves that is no part
 
-no_part : (g : Group) (m : Message) → is_open_part m ≡ false → is_part_of g m ≡ false
+pub no_part : (g : Group) (m : Message) → is_open_part m ≡ false → is_part_of g m ≡ false
 no_part g (Single tpdu) e = refl
 no_part g (Part h k tpdu) e = absurd cc
 no_part g (Joined source content) e = refl

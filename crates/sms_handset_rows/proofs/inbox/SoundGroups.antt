@@ -123,16 +123,16 @@ rises_ended : (g : Group) (xs : List Entry) (c : Option Content) (es : List Entr
 rises_ended g xs None es r = rises_freed xs es r
 rises_ended g xs (Some content) es r = rises_put entry_key (joined_entry g xs content) (all_without xs es) (rises_left xs es r)
 
-members_freed : (g : Group) (xs es : List Entry) → members g (all_freed xs es) ≡ all_without xs (members g es)
+pub members_freed : (g : Group) (xs es : List Entry) → members g (all_freed xs es) ≡ all_without xs (members g es)
 members_freed g [] es = refl
 members_freed g (x ∷ xs) es = members_freed g xs (put entry_key (alone x) es) ∙ ap (λ (l : List Entry). all_without xs l) (members_put g (alone x) es refl)
 
 -- the first of some
-first_of : (ms : List Entry) (e : Entry) → (f : Entry) × (Among f (ms ++ e ∷ []) × (first_number (ms ++ e ∷ []) ≡ f.number))
+pub first_of : (ms : List Entry) (e : Entry) → (f : Entry) × (Among f (ms ++ e ∷ []) × (first_number (ms ++ e ∷ []) ≡ f.number))
 first_of [] e = (e, (inl refl, refl))
 first_of (m ∷ ms) e = (m, (inl refl, refl))
 
-others_ended : (g h : Group) (c : Option Content) (fs : List Entry) (f : Entry) → Rises entry_key fs → ¬ (g ≡ h) → Among f (members g fs) → first_number (members g fs) ≡ f.number
+pub others_ended : (g h : Group) (c : Option Content) (fs : List Entry) (f : Entry) → Rises entry_key fs → ¬ (g ≡ h) → Among f (members g fs) → first_number (members g fs) ≡ f.number
     → members h (ended_entries g (members g fs) c fs) ≡ members h fs
 others_ended g h None fs f r ne a q = members_freed h (members g fs) fs ∙ others_stay g h fs r ne
 others_ended g h (Some content) fs f r ne a q =
@@ -141,7 +141,7 @@ others_ended g h (Some content) fs f r ne a q =
     ∙ ap (λ (l : List Entry). without entry_key (first_number xs) l) (members_all_without h xs fs ∙ others_stay g h fs r ne)
     ∙ without_apart (first_number xs) (members h fs) (all_from (λ (e : Entry). ¬ (e.number ≡ first_number xs)) (members h fs) (λ y b e. apart_groups g h fs f y r ne a b (e ∙ q)))
 
-own_ended : (g : Group) (c : Option Content) (fs : List Entry) → members g (ended_entries g (members g fs) c fs) ≡ []
+pub own_ended : (g : Group) (c : Option Content) (fs : List Entry) → members g (ended_entries g (members g fs) c fs) ≡ []
 own_ended g None fs = members_freed g (members g fs) fs ∙ all_without_self (members g fs)
 own_ended g (Some content) fs =
     let xs = members g fs in

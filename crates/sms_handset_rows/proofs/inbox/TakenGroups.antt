@@ -2,6 +2,7 @@
 use Rattle.std.proofs.Common.{◌≡◌, ℕ, zero, suc, ◌<◌, ◌≤◌, Bool, true, false, cond, ◌&&◌, ◌||◌, eqb, List, [], ◌∷◌, ◌++◌, Option, Some, None, refl, sym, ap, subst, ◌∙◌, arith, inl, inr, eqb-true, eq-eqb}
 use Rattle.std.specs.Prelude.{◌⊎◌}
 use Rattle.std.proofs.lemmas.Bool.{or_cases, and_parts, cases_eq, cond-true, cond-false}
+use Rattle.sms_base.proofs.Lists.{among_end}
 use Rattle.sms_base.specs.Among.{Among}
 use Rattle.sms_concat.specs.declared.content.Part.{Part as PartOf}
 use Rattle.sms_concat.specs.Joining.{content_joined}
@@ -130,13 +131,6 @@ number_there : (n : ℕ) (e : Entry) (es : List Entry) → Among e es → part_n
 number_there n e [] m q = absurd m
 number_there n e (x ∷ xs) m q = number_by n e x xs (eqb (part_number x.message) n) refl (λ k. number_there n e xs k q) m q
 
-among_push : (p q : PartOf) (ps : List PartOf) → Among p (ps ++ q ∷ []) → Among p ps ⊎ (p ≡ q)
-among_push p q [] m = elim m [ inl e ↦ inr e | inr k ↦ absurd k ]
-among_push p q (x ∷ xs) m = elim m [
-  | inl e ↦ inl (inl e)
-  | inr k ↦ elim (among_push p q xs k) [ inl a ↦ inl (inr a) | inr b ↦ inr b ]
-]
-
 among_front : (p q : PartOf) (ps : List PartOf) → Among p ps → Among p (ps ++ q ∷ [])
 among_front p q [] m = absurd m
 among_front p q (x ∷ xs) m = elim m [ inl e ↦ inl e | inr k ↦ inr (among_front p q xs k) ]
@@ -169,11 +163,11 @@ next_collected m t es e h found number has c =
           ∙ ap (λ (o : Option Entry). with_read (Some c.parts) (entry_part o)) found
           ∙ ap (λ (o : Option PartOf). with_read (Some c.parts) o) has.read;
       rise = rises_push 0 p c.parts c.rise (omega (arith, is)) (λ q k. let le = c.within q k in omega (arith, is, le));
-      within = λ q k. elim (among_push q p c.parts k) [
+      within = λ q k. elim (among_end q p c.parts k) [
         | inl a ↦ let le = c.within q a in omega (arith, le)
         | inr s ↦ let same : number_of q ≡ number_of p = ap (λ (y : PartOf). number_of y) s in omega (arith, same, is)
       ];
-      mine = λ q k. elim (among_push q p c.parts k) [
+      mine = λ q k. elim (among_end q p c.parts k) [
         | inl a ↦ c.mine q a
         | inr s ↦ subst (λ (y : PartOf). Among y t.parts) (sym s) has.there
       ];

@@ -30,7 +30,7 @@ up_submit : (octets : List ℕ) (s : SubmitOf) → up_at InData octets ≡ Ok (S
 unfolding up_at data_up_at
 up_submit octets s e = of_bind (submit_at octets) (up_at InData octets) refl s e
 
-submit_up : (octets : List ℕ) (s : SubmitOf) → submit_at octets ≡ Ok s → up_at InData octets ≡ Ok (Submit s)
+pub submit_up : (octets : List ℕ) (s : SubmitOf) → submit_at octets ≡ Ok s → up_at InData octets ≡ Ok (Submit s)
 unfolding up_at data_up_at
 submit_up octets s e = ap (λ (r : Result SubmitOf TpduFault). r >>= (λ (x : SubmitOf). Ok (Submit x))) e
 

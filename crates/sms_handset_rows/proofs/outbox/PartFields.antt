@@ -1,7 +1,9 @@
 -- The SUBMIT of a part: its user data are those of the part, and it is short.
-use Rattle.std.proofs.Common.{ℕ, ◌+◌, List, [], ◌∷◌, ◌++◌, ◌≡◌, ◌*◌, ◌/◌, ◌%◌, ◌<◌, length, refl, ap, ◌∙◌, arith, ◌^◌, sym, subst, drop, ◌-◌, ◌≤◌, length-append, Option, Some, None, suc, true, Bool, false}
+use Rattle.std.proofs.Common.{ℕ, ◌+◌, List, [], ◌∷◌, ◌++◌, ◌≡◌, ◌*◌, ◌<◌, length, refl, ap, ◌∙◌, arith, ◌^◌, sym, subst, drop, ◌-◌, ◌≤◌, length-append, Option, Some, None, suc, true, Bool, false}
 use Rattle.std.specs.Prelude.{nat_le}
 use Rattle.std.proofs.lemmas.Bool.{le-leb}
+use Rattle.sms_base.proofs.OctetLaws.{octets_behind}
+use Rattle.sms_base.proofs.Lists.{drop_behind}
 use Rattle.sms_base.specs.Reading.{AreOctets}
 use Rattle.sms_base.specs.declared.address.Address.{Address}
 use Rattle.sms_alphabet.specs.Packing.{digits_in, value_in, IsPacking, packed_len, AreSeptets}
@@ -20,22 +22,11 @@ use Rattle.sms_tpdu.specs.TpduGrammar.{IsSubmitData, IsWrittenSubmit, submit_fie
 use Rattle.sms_tpdu.specs.AddressGrammar.{address_field}
 use Rattle.sms_tpdu.specs.declared.validity_period.ValidityPeriod.{ValidityPeriod}
 use Rattle.sms_tpdu.proofs.NameValues.{field_short}
+use Rattle.sms_tpdu.proofs.Lengths.{few_octets}
 use Rattle.sms_handset_rows.specs.outbox.Submits.{packed_behind, submit_for, submit_octets}
+use Rattle.sms_alphabet.proofs.Packed.{digits_of_value}
 
 -- ---- octets are the digits of their value
-
-octets_behind : (xs ys : List ℕ) → AreOctets (xs ++ ys) → AreOctets ys
-octets_behind [] ys h = h
-octets_behind (x ∷ xs) ys h = octets_behind xs ys h.1
-
-digits_of_value : (o : List ℕ) → AreOctets o → digits_in 256 (length o) (value_in 256 o) ≡ o
-digits_of_value [] h = refl
-digits_of_value (x ∷ xs) h =
-    let small : x < 256 = h.0 in
-    let low : (x + 256 * value_in 256 xs) % 256 ≡ x = omega arith in
-    let high : (x + 256 * value_in 256 xs) / 256 ≡ value_in 256 xs = omega arith in
-    ap (λ (d : ℕ). d ∷ digits_in 256 (length xs) ((x + 256 * value_in 256 xs) / 256)) low
-    ∙ ap (λ (v : ℕ). x ∷ digits_in 256 (length xs) v) high ∙ ap (λ (ds : List ℕ). x ∷ ds) (digits_of_value xs h.1)
 
 packing_is : (units packed : List ℕ) (fill : ℕ) → AreOctets packed → IsPacking units fill packed
     → packed ≡ digits_in 256 (packed_len fill (length units)) (2 ^ fill * value_in 128 units)
@@ -54,10 +45,6 @@ body_is Ucs2 header units octets h b = b
 body_is Compressed header units octets h b = b
 
 -- ---- the fields of a part are user data
-
-drop_behind : (xs ys : List ℕ) → drop (length xs) (xs ++ ys) ≡ ys
-drop_behind [] ys = refl
-drop_behind (x ∷ xs) ys = drop_behind xs ys
 
 -- a body begins with its header
 begins : (coding : Coding) (header units octets : List ℕ) → IsBody coding header units octets → (body : List ℕ) × (octets ≡ header ++ body)
@@ -189,19 +176,13 @@ lent_is part user message_reference destination report octets text e are u w =
     submit_is part user message_reference destination report octets (subst AreOctets e are) u
     (subst (λ (t : List ℕ). IsWrittenSubmit octets (carrying_part message_reference destination report part (record user { octets = t }))) e w)
 
-few : (coding : Coding) (n : ℕ) → n ≤ greatest_length coding → octets_of coding n ≤ 140
-few Septets n h = omega arith
-few Octets n h = h
-few Ucs2 n h = h
-few Compressed n h = h
-
 short : (octets : List ℕ) (s : Submit) → s.validity_period ≡ NotPresent → IsWrittenSubmit octets s → (0 < length octets) × (length octets ≤ 200)
 short octets s v (period, is_address, is_period, is_text, e) =
     let to = address_field s.destination_address in
     let none : period ≡ [] = subst (λ (p : ValidityPeriod). IsWrittenValidityField period p) v is_period in
     let len : length period ≡ 0 = ap length none in
     let long = ap length e in
-    let text : length s.user_data.octets ≤ 140 = omega (arith, few (coding_of s.data_coding_scheme) s.user_data.length is_text.within, is_text.whole) in
+    let text : length s.user_data.octets ≤ 140 = omega (arith, few_octets (coding_of s.data_coding_scheme) s.user_data.length is_text.within, is_text.whole) in
     let one = field_short s.destination_address is_address in
     let two = length-append to (s.protocol_identifier ∷ s.data_coding_scheme ∷ (period ++ user_data_field s.user_data)) in
     let three = length-append period (user_data_field s.user_data) in

@@ -4,6 +4,7 @@ use Rattle.std.specs.Prelude.{◌==◌, if◌then◌else◌, ◌||◌}
 use Rattle.std.proofs.lemmas.Bool.{cond-true, eq-eqb, cond-false, ne_eqb, cases_eq, cases_Bool}
 use Rattle.sms_handset_rows.specs.inbox.Groups.{is_among}
 use Rattle.sms_handset_rows.specs.outbox.References.{free_from, next_free}
+use Rattle.sms_handset_rows.proofs.outbox.FreeReferences.{free_here}
 
 -- ---- a list without a number
 
@@ -69,11 +70,6 @@ free_next : (turns reference : ℕ) (held : List ℕ) → is_among reference hel
 unfolding free_from
 free_next turns reference held e = cond-true (is_among reference held) (free_from turns ((reference + 1) % 256) held) reference e
 
-free_first : (turns reference : ℕ) (held : List ℕ) → is_among reference held ≡ false → free_from turns reference held ≡ reference
-unfolding free_from
-free_first zero reference held e = refl
-free_first (suc turns) reference held e = cond-false (is_among reference held) (free_from turns ((reference + 1) % 256) held) reference e
-
 -- the walk ends at one of the places that it has
 record Ends (c i turns : ℕ) (held : List ℕ) : Type 0 where
   at : ℕ
@@ -93,7 +89,7 @@ ends c i (suc turns) held = ⊎_elim
       high = (let l = r.high in omega arith);
       is = free_next turns (place c i) held t ∙ ap (λ (p : ℕ). free_from turns p held) (next_place c i) ∙ r.is;
     })
-    (λ (f : is_among (place c i) held ≡ false). record { at = i; low = omega arith; high = omega arith; is = free_first (suc turns) (place c i) held f })
+    (λ (f : is_among (place c i) held ≡ false). record { at = i; low = omega arith; high = omega arith; is = free_here (suc turns) (place c i) held f })
     (cases_Bool (is_among (place c i) held))
 
 -- a number that the walk does not meet makes no difference
@@ -110,7 +106,7 @@ unmet c i (suc turns) n held h =
     (λ (t : is_among (place c i) held ≡ true).
     free_next turns (place c i) (without_number n held) (same ∙ t) ∙ later ∙ sym (free_next turns (place c i) held t))
     (λ (f : is_among (place c i) held ≡ false).
-    free_first (suc turns) (place c i) (without_number n held) (same ∙ f) ∙ sym (free_first (suc turns) (place c i) held f))
+    free_here (suc turns) (place c i) (without_number n held) (same ∙ f) ∙ sym (free_here (suc turns) (place c i) held f))
     (cases_Bool (is_among (place c i) held))
 
 -- where no more are held than turns are left, the walk finds one that is not
@@ -130,7 +126,7 @@ finds c i (suc turns) held few turn = ⊎_elim
     let gone : is_among (free_from turns (place c (suc i)) held) held ≡ false =
     sym (among_rest n (free_from turns (place c (suc i)) held) held other) ∙ ap (λ (r : ℕ). is_among r rest) (sym same) ∙ found in
     ap (λ (r : ℕ). is_among r held) (free_next turns n held t ∙ ap (λ (p : ℕ). free_from turns p held) (next_place c i)) ∙ gone)
-    (λ (f : is_among (place c i) held ≡ false). ap (λ (r : ℕ). is_among r held) (free_first (suc turns) (place c i) held f) ∙ f)
+    (λ (f : is_among (place c i) held ≡ false). ap (λ (r : ℕ). is_among r held) (free_here (suc turns) (place c i) held f) ∙ f)
     (cases_Bool (is_among (place c i) held))
 
 first_place : (reference : ℕ) → (reference + 1) % 256 ≡ place reference 1
@@ -142,5 +138,5 @@ next_is_free reference held few = ⊎_elim
     (λ (t : is_among reference held ≡ true).
     ap (λ (r : ℕ). is_among r held) (free_next 255 reference held t ∙ ap (λ (p : ℕ). free_from 255 p held) (first_place reference))
     ∙ finds reference 1 255 held few (omega arith))
-    (λ (f : is_among reference held ≡ false). ap (λ (r : ℕ). is_among r held) (free_first 256 reference held f) ∙ f)
+    (λ (f : is_among reference held ≡ false). ap (λ (r : ℕ). is_among r held) (free_here 256 reference held f) ∙ f)
     (cases_Bool (is_among reference held))

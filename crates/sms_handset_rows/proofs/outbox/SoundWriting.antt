@@ -1,6 +1,6 @@
 -- What the owner writes is a SUBMIT that is read again as it was meant.
-use Rattle.std.proofs.Common.{◌≡◌, ℕ, zero, suc, ◌/◌, ◌^◌, ◌<◌, arith, ◌+◌, ◌*◌, ◌≤◌, List, length, subst, refl, Bool, [], Ok, Result, Err, ◌∷◌}
-use Rattle.std.proofs.Math.Nat.{pow-succ', pow-zero, mul-lt-mul_of_pos_left, pow-le-pow_right}
+use Rattle.std.proofs.Common.{◌≡◌, ℕ, ◌^◌, ◌<◌, arith, ◌+◌, ◌*◌, ◌≤◌, List, length, subst, refl, Bool, [], Ok, Result, Err, ◌∷◌}
+use Rattle.std.proofs.Math.Nat.{mul-lt-mul_of_pos_left, pow-le-pow_right}
 use Rattle.std.proofs.lemmas.Nat.{pow-add, pow_pos}
 use Rattle.std.specs.List.{AllByRecursion}
 use Rattle.std.proofs.lemmas.List.Elements.{recursion_from_All}
@@ -10,6 +10,7 @@ use Rattle.sms_alphabet.specs.Packing.{digits_in, value_in, AreSeptets, packed_l
 use Rattle.sms_alphabet.proofs.Spellings.{below}
 use Rattle.sms_alphabet.proofs.Held.{octet_power, septet_power}
 use Rattle.sms_alphabet.proofs.RoundTrip.{value-below, length-digits}
+use Rattle.sms_alphabet.proofs.Packed.{value_in-digits}
 use Rattle.sms_alphabet.specs.declared.scheme.Coding.{Coding}
 use Rattle.sms_alphabet.specs.declared.scheme.Coding.TheVariants.{Septets, Octets, Ucs2, Compressed}
 use Rattle.sms_alphabet.specs.declared.spelling.SpellingError.{SpellingError}
@@ -36,12 +37,6 @@ use Rattle.sms_handset_rows.specs.outbox.SoundOutbox.{IsSubmitted}
 
 -- ---- packed units
 
-octets_value : (n v : ℕ) → v < 256 ^ n → value_in 256 (digits_in 256 n v) ≡ v
-octets_value zero v lt = omega (arith, pow-zero 256)
-octets_value (suc n) v lt =
-    let below : v / 256 < 256 ^ n = omega (arith, pow-succ' 256 n) in
-    omega (arith, octets_value n (v / 256) below)
-
 packed_fits : (units : List ℕ) (fill : ℕ) → AreSeptets units → 2 ^ fill * value_in 128 units < 256 ^ packed_len fill (length units)
 packed_fits units fill small =
     let n = packed_len fill (length units) in
@@ -57,7 +52,7 @@ packed_fits units fill small =
 packs : (units : List ℕ) (fill : ℕ) → AreSeptets units → IsPacking units fill (digits_in 256 (packed_len fill (length units)) (2 ^ fill * value_in 128 units))
 packs units fill small = record {
   length_is = length-digits 256 (packed_len fill (length units)) (2 ^ fill * value_in 128 units);
-  value_is = octets_value (packed_len fill (length units)) (2 ^ fill * value_in 128 units) (packed_fits units fill small);
+  value_is = value_in-digits (packed_len fill (length units)) (2 ^ fill * value_in 128 units) (packed_fits units fill small);
 }
 
 packed_body : (coding : Coding) (header units : List ℕ) → AreUnits coding units → IsBody coding header units (packed_behind header coding units)

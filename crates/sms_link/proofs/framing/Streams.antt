@@ -70,7 +70,7 @@ one_cut octets ps qs r s h g = cuts_are_one ps qs r s h.each g.each h.no_more g.
 
 -- ---- pieces
 
-joined_append : (ps qs : List (List ℕ)) → joined (ps ++ qs) ≡ joined ps ++ joined qs
+pub joined_append : (ps qs : List (List ℕ)) → joined (ps ++ qs) ≡ joined ps ++ joined qs
 joined_append [] qs = refl
 joined_append (p ∷ ps) qs = ap (λ (l : List ℕ). framed p ++ l) (joined_append ps qs) ∙ sym (append_assoc (framed p) (joined ps) (joined qs))
 

@@ -15,7 +15,7 @@ use Rattle.sms_control.specs.ControlGrammar.{spelled}
 use Rattle.sms_control.specs.ControlReading.{cp_at}
 use Rattle.sms_control.specs.LinkRuns.{step, IsNoAnswer as LinksNoAnswer, NoneAnswered as LinksNoneAnswered}
 use Rattle.sms_control.specs.LinkStep.{Step, quiet, in_transaction, is_busy, started as links_started, begin_step, is_same, has_begun, answer_taken, take_step, fire_step}
-use Rattle.sms_control.proofs.AnswerLaws.{acknowledged_alone}
+use Rattle.sms_control.proofs.AnswerLaws.{acknowledged_alone, answer_is}
 use Rattle.sms_control.proofs.ControlFrames.{spelled_again}
 use Rattle.sms_control.proofs.LinkLaws.{either}
 use Rattle.sms_control.proofs.TurnLaws.{by_test}
@@ -35,7 +35,6 @@ use Rattle.sms_link.specs.link_runs.UnderWay.{under_way_by, under_way_after}
 use Rattle.sms_link.proofs.link_runs.LinksBelow.{call_of, calls_of, turn_follows, run_follows}
 use Rattle.sms_link.proofs.link_runs.OwnSteps.{Moves, FitsFrame, FitsTimer, take_steps, fire_steps, reply_leaves}
 use Rattle.sms_link.proofs.link_runs.BegunUnderWay.{BegunAgrees, LinkAgrees, ended_told, turn_agrees, calls_agree}
-use Rattle.sms_link.proofs.link_runs.Endings.{answer_is}
 
 -- ---- an answer that is taken below comes up as one
 

@@ -5,7 +5,6 @@ use Rattle.std.proofs.lemmas.Bool.{eqb-true, eq-eqb}
 use Rattle.sms_base.specs.declared.carried.Carried.{Carried}
 use Rattle.sms_control.specs.declared.fault.CpFault.{CpFault}
 use Rattle.sms_control.specs.declared.link_state.Begun.{Begun}
-use Rattle.sms_control.specs.declared.link_state.LinkState.{LinkState}
 use Rattle.sms_control.specs.declared.message.Cp.{Cp}
 use Rattle.sms_control.specs.declared.message.Cp.TheVariants.{DataUnit}
 use Rattle.sms_control.specs.declared.out.Up.{Up}
@@ -13,9 +12,10 @@ use Rattle.sms_control.specs.declared.out.Up.TheVariants.{Unit as UnitUp, Failed
 use Rattle.sms_control.specs.declared.transaction.TransactionFlag.TheVariants.{FromOriginator, ToOriginator}
 use Rattle.sms_control.specs.ControlGrammar.{spelled}
 use Rattle.sms_control.specs.ControlReading.{cp_at}
-use Rattle.sms_control.specs.LinkStep.{Step, in_transaction, is_same, has_begun, answer_taken, frame_taken, take_step, fire_step}
+use Rattle.sms_control.specs.LinkStep.{Step, in_transaction, is_same, has_begun, answer_taken, take_step, fire_step}
 use Rattle.sms_control.proofs.LinkLaws.{either}
 use Rattle.sms_control.proofs.TurnLaws.{by_test}
+use Rattle.sms_control.proofs.AnswerLaws.{answer_is}
 use Rattle.sms_link.specs.declared.ending.Ending.{Ending}
 use Rattle.sms_link.specs.declared.ending.Ending.TheVariants.{Lost}
 use Rattle.sms_link.specs.declared.ending.Side.{Side}
@@ -75,10 +75,6 @@ module _ (side : Side) (frame : Result Cp CpFault) (before after : Option Begun)
       }
 
 -- ---- an answer
-
-pub answer_is : (frame unit : List ℕ) (i : ℕ) (s : LinkState) → cp_at frame ≡ Ok (DataUnit (in_transaction ToOriginator i) unit) → take_step frame s ≡ answer_taken frame unit (in_transaction ToOriginator i) s
-unfolding take_step
-answer_is frame unit i s e = ap (frame_taken frame s) e
 
 -- one identifier began it
 same_identifier : (i j : ℕ) (c : Option Carried) (w : Option Outgoing) (transfer : Carried) → IsUnderWay i transfer w → (b : Began j c w) → (i ≡ j) × (b.transfer ≡ transfer)

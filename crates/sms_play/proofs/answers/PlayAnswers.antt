@@ -45,20 +45,20 @@ use Rattle.sms_play.specs.Playing.{play_state_of, played_on, report_of}
 use Rattle.sms_play.specs.Setups.{beginning, can_be_played}
 use Rattle.sms_play.specs.answers.AnswerLaws.{HaveNoSystemError, IsNoSystemError, NoSystemErrorLaw}
 use Rattle.sms_play.proofs.answers.CentreAnswers.{IsOtherAnswer, account_there, cancel_other, query_other, submit_other}
-use Rattle.sms_play.proofs.answers.Unanswered.{frame_unanswered, tick_unanswered}
+use Rattle.sms_centre_spec.proofs.Unanswered.{frame_unanswered, tick_unanswered}
 
 abbrev Fine : PlayState → Type 0
 Fine c = HaveNoSystemError c.answers
 
-abbrev ok_play : PlayState → Result PlayState PlayFault
+abbrev pub ok_play : PlayState → Result PlayState PlayFault
 ok_play c = Ok c
 
-same_play : (x d : PlayState) → ok_play x ≡ ok_play d → x ≡ d
+pub same_play : (x d : PlayState) → ok_play x ≡ ok_play d → x ≡ d
 same_play x d e = cc
 
 -- ---- one answer more
 
-either_part : (a : Answer) (xs : List Answer) (y : Answer) → Among a (xs ++ y ∷ []) → Among a xs ⊎ (a ≡ y)
+pub either_part : (a : Answer) (xs : List Answer) (y : Answer) → Among a (xs ++ y ∷ []) → Among a xs ⊎ (a ≡ y)
 either_part a [] y i = ⊎_elim (λ (e : a ≡ y). inr e) (λ (none : ⊥). absurd none) i
 either_part a (x ∷ xs) y i = ⊎_elim (λ (e : a ≡ x). inl (inl e)) (λ (j : Among a (xs ++ y ∷ [])). ⊎_elim (λ (k : Among a xs). inl (inr k)) (λ (e : a ≡ y). inr e) (either_part a xs y j)) i
 

@@ -4,6 +4,8 @@ use Rattle.std.specs.Str.{bytes_eq}
 use Rattle.std.specs.Option.{option_map}
 use Rattle.std.proofs.lemmas.Bool.{cases_Bool, cases_eq, cond-false, cond-true, cond_both}
 use Rattle.std.proofs.lemmas.Slice.Eq.{bytes_eq-Decides}
+use Rattle.std.proofs.lemmas.List.{append-nil, append_assoc}
+use Rattle.std.proofs.lemmas.Option.{same_Some}
 use Rattle.sms_base.specs.Reading.{◌>>=◌}
 use Rattle.sms_base.specs.declared.holder.Holder.{Holder}
 use Rattle.sms_base.specs.declared.holder.Holder.TheVariants.{Part, Report, Entry as EntryHolder, Memory}
@@ -62,28 +64,13 @@ use Rattle.sms_play.specs.Meeting.{Meeting, AtCentre, AtHandset, by_account, by_
 use Rattle.sms_play.specs.PlayedEvent.{centre_restarted, handset_stored, handset_restarted, handset_restarts, stored, met, party_restarted, restart, restarted, stopped}
 use Rattle.sms_script.specs.declared.play_fault.PlayFault.{PlayFault}
 use Rattle.sms_play.specs.growth.Growth.{AcceptMore, Grows, GrowthLaw, HasPart, HaveParts, PartsStay, IsCentreEvent}
+use Rattle.sms_play.proofs.answers.PlayAnswers.{ok_play, same_play}
+use Rattle.sms_play.proofs.judging.Looking.{have_both}
 
-abbrev ok_play : PlayState → Result PlayState PlayFault
-ok_play c = Ok c
-
-abbrev ok_meeting : Meeting → Result Meeting PlayFault
+abbrev pub ok_meeting : Meeting → Result Meeting PlayFault
 ok_meeting m = Ok m
 
--- ---- lists
-
-appended : {A : Type 0} (xs ys zs : List A) → (xs ++ ys) ++ zs ≡ xs ++ (ys ++ zs)
-appended [] ys zs = refl
-appended (x ∷ xs) ys zs = ap (λ z. x ∷ z) (appended xs ys zs)
-
-none_behind : {A : Type 0} (xs : List A) → xs ++ [] ≡ xs
-none_behind [] = refl
-none_behind (x ∷ xs) = ap (λ z. x ∷ z) (none_behind xs)
-
 -- ---- parts that are there
-
-have_both : (parts : List PartRow) (xs ys : List GivenRow) → HaveParts parts xs → HaveParts parts ys → HaveParts parts (xs ++ ys)
-have_both parts [] ys a b = b
-have_both parts (x ∷ xs) ys a b = (a.0, have_both parts xs ys a.1 b)
 
 module _ (before after : List PartRow) (stay : PartsStay before after) where
   one_there : (h : Holder) → HasPart before h → HasPart after h
@@ -103,7 +90,7 @@ same_parts ps id n p e = (p, (e, refl))
 
 same_parties : (ps : List Party) → AcceptMore ps ps
 same_parties [] = tt
-same_parties (p ∷ ps) = (([], sym (none_behind p.accepted)), same_parties ps)
+same_parties (p ∷ ps) = (([], sym (append-nil p.accepted)), same_parties ps)
 
 more_parties : (ps qs rs : List Party) → AcceptMore ps qs → AcceptMore qs rs → AcceptMore ps rs
 more_parties [] [] [] a b = tt
@@ -112,18 +99,15 @@ more_parties [] (q ∷ qs) rs a b = absurd a
 more_parties (p ∷ ps) [] rs a b = absurd a
 more_parties (p ∷ ps) (q ∷ qs) [] a b = absurd b
 more_parties (p ∷ ps) (q ∷ qs) (r ∷ rs) a b = (
-  (a.0.0 ++ b.0.0, b.0.1 ∙ ap (λ (z : List AcceptedRow). z ++ b.0.0) a.0.1 ∙ appended p.accepted a.0.0 b.0.0),
+  (a.0.0 ++ b.0.0, b.0.1 ∙ ap (λ (z : List AcceptedRow). z ++ b.0.0) a.0.1 ∙ append_assoc p.accepted a.0.0 b.0.0),
   more_parties ps qs rs a.1 b.1,
 )
-
-some_party : (p q : Party) → Some p ≡ Some q → p ≡ q
-some_party p q e = cc
 
 party_number : (n : List ℕ) (ps : List Party) (p : Party) → party_at n ps ≡ Some p → p.number ≡ n
 party_number n [] p e = absurd cc
 party_number n (x ∷ xs) p e = ⊎_elim
     (λ (y : bytes_eq x.number n ≡ true).
-    let q : x ≡ p = some_party x p (sym (cond-true (bytes_eq x.number n) (Some x) (party_at n xs) y) ∙ e) in
+    let q : x ≡ p = same_Some x p (sym (cond-true (bytes_eq x.number n) (Some x) (party_at n xs) y) ∙ e) in
     ap (λ (z : Party). z.number) (sym q) ∙ (bytes_eq-Decides x.number n).0 y)
     (λ (y : bytes_eq x.number n ≡ false).
     party_number n xs p (sym (cond-false (bytes_eq x.number n) (Some x) (party_at n xs) y) ∙ e))
@@ -135,22 +119,22 @@ with_more z p more [] e is = absurd cc
 with_more z p more (x ∷ ps) e is =
     cond_both (bytes_eq x.number z.number) (z ∷ ps) (x ∷ with_party z ps) (λ (qs : List Party). AcceptMore (x ∷ ps) qs)
     (λ t.
-    let q : x ≡ p = some_party x p (sym (cond-true (bytes_eq x.number z.number) (Some x) (party_at z.number ps) t) ∙ e) in
+    let q : x ≡ p = same_Some x p (sym (cond-true (bytes_eq x.number z.number) (Some x) (party_at z.number ps) t) ∙ e) in
     ((more, is ∙ ap (λ (y : Party). y.accepted ++ more) (sym q)), same_parties ps))
     (λ f. (
-      ([], sym (none_behind x.accepted)),
+      ([], sym (append-nil x.accepted)),
       with_more z p more ps (sym (cond-false (bytes_eq x.number z.number) (Some x) (party_at z.number ps) f) ∙ e) is,
     ))
 
 -- ---- courses
 
 stays_so : (c : PlayState) → Grows c c
-stays_so c = record { more = []; given = sym (none_behind c.given); parts = same_parts c.centre.rows.parts; there = tt; parties = same_parties c.parties }
+stays_so c = record { more = []; given = sym (append-nil c.given); parts = same_parts c.centre.rows.parts; there = tt; parties = same_parties c.parties }
 
 grows_then : (a b c : PlayState) → Grows a b → Grows b c → Grows a c
 grows_then a b c x y = record {
   more = x.more ++ y.more;
-  given = y.given ∙ ap (λ (z : List GivenRow). z ++ y.more) x.given ∙ appended a.given x.more y.more;
+  given = y.given ∙ ap (λ (z : List GivenRow). z ++ y.more) x.given ∙ append_assoc a.given x.more y.more;
   parts = λ id n p e.
       let q = x.parts id n p e in
       let r = y.parts id n q.0 q.1.0 in
@@ -160,12 +144,6 @@ grows_then a b c x y = record {
 }
 
 -- ---- an event of the centre
-
-some_part : (a b : PartRow) → Some a ≡ Some b → a ≡ b
-some_part a b e = cc
-
-no_part : (a : PartRow) → None ≡ Some a → ⊥
-no_part a e = absurd cc
 
 abbrev IsThere : ℕ → List PartRow → Type 0
 IsThere k rows = (q : PartRow) × (row_at part_key k rows ≡ Some q)
@@ -267,7 +245,7 @@ centre_goes number event c sound is =
     (grows_then c (done d c) (whole d c) (done_grows event c sound is) (receipts_go d (length (core_of d).rows.reports) d.bindings.deliveries (done d c) (stays_sound event c.centre sound is)))
 
 centre_again : (c : PlayState) → Grows c (centre_restarted c)
-centre_again c = record { more = []; given = sym (none_behind c.given); parts = same_parts c.centre.rows.parts; there = tt; parties = same_parties c.parties }
+centre_again c = record { more = []; given = sym (append-nil c.given); parts = same_parts c.centre.rows.parts; there = tt; parties = same_parties c.parties }
 
 -- ---- an event of a handset: it gives no part a reference
 
@@ -343,10 +321,10 @@ module _ (party : Party) (c : PlayState) (at : party_at party.number c.parties �
 again : (p : Party) (c : PlayState) → party_at p.number c.parties ≡ Some p → Grows c (party_restarted p c)
 again p c at = record {
   more = [];
-  given = sym (none_behind c.given);
+  given = sym (append-nil c.given);
   parts = same_parts c.centre.rows.parts;
   there = tt;
-  parties = with_more _ p [] c.parties at (sym (none_behind p.accepted));
+  parties = with_more _ p [] c.parties at (sym (append-nil p.accepted));
 }
 
 own_number : (n : List ℕ) (ps : List Party) (p : Party) → party_at n ps ≡ Some p → party_at p.number ps ≡ Some p
@@ -386,7 +364,7 @@ stopped_event_grows number act s m c sound fits =
 
 -- ---- whom an act concerns
 
-some_meeting : (a b : Meeting) → ok_meeting a ≡ ok_meeting b → a ≡ b
+pub some_meeting : (a b : Meeting) → ok_meeting a ≡ ok_meeting b → a ≡ b
 some_meeting a b e = cc
 
 module _ (c : PlayState) where
@@ -431,9 +409,6 @@ module _ (c : PlayState) where
 after_meeting : (r : Result Meeting PlayFault) (f : Meeting → PlayState) (d : PlayState) → (r >>= λ (m : Meeting). ok_play (f m)) ≡ ok_play d → (m : Meeting) × ((r ≡ ok_meeting m) × (f m ≡ d))
 after_meeting (Ok m) f d e = let q : f m ≡ d = cc in (m, (refl, q))
 after_meeting (Err fault) f d e = absurd cc
-
-same_play : (a b : PlayState) → ok_play a ≡ ok_play b → a ≡ b
-same_play a b e = cc
 
 party_grows : (number : ℕ) (n : List ℕ) (c d : PlayState) (o : Option Party) → party_at n c.parties ≡ o → handset_restarts number o c ≡ ok_play d → Grows c d
 party_grows number n c d None at e = absurd cc

@@ -3,6 +3,8 @@ use Rattle.std.proofs.Common.{◌≡◌, ℕ, zero, suc, ◌<◌, ◌≤◌, ari
 use Rattle.std.specs.Prelude.{◌||◌, if◌then◌else◌, slice_index}
 use Rattle.std.proofs.lemmas.List.{get_or_past}
 use Rattle.std.proofs.lemmas.Bool.{cases_eq, cond-false, cond-true, eq-eqb, ne_eqb}
+use Rattle.sms_base.proofs.Bools.{or_turned}
+use Rattle.sms_base.proofs.Lists.{drop_behind}
 use Rattle.sms_play.specs.PlayState.{Party}
 use Rattle.sms_play.specs.Premises.{all_pairs, has_pair, is_same_pair, pairs_of}
 use Rattle.sms_script.specs.declared.report.rows.AcceptedRow.{AcceptedRow}
@@ -12,19 +14,13 @@ use Rattle.sms_play.specs.judging.Premises.{NoneAccepted, accepted_at}
 use Rattle.sms_play.specs.judging.Judging.{AreCounts, looked}
 use Rattle.sms_play.specs.judging.Watching.{HasAccepted, pair_accepted, pair_in}
 use Rattle.sms_play.specs.declared.judging.watch.Pair.{Pair}
-use Rattle.sms_play.proofs.judging.Looking.{dropped}
+use Rattle.sms_play.proofs.judging.Looking.{none_below, one_less}
 
 -- ---- pairs among others
 
 or_joined : (a b c : Bool) → ((a || b) || c) ≡ (a || (b || c))
 or_joined true b c = refl
 or_joined false b c = refl
-
-or_turned : (a b c : Bool) → (a || (b || c)) ≡ (b || (a || c))
-or_turned true true c = refl
-or_turned true false c = refl
-or_turned false true c = refl
-or_turned false false c = refl
 
 or_behind : (r s h : Bool) → (r || (s || h)) ≡ ((r || (s || false)) || h)
 or_behind true s h = refl
@@ -71,21 +67,15 @@ still_there (suc i) [] (q ∷ qs) more = absurd more
 still_there (suc i) (p ∷ ps) [] more = absurd more
 still_there (suc i) (p ∷ ps) (q ∷ qs) more = still_there i ps qs more.1
 
-none_less : (i : ℕ) → i < 0 → ⊥
-none_less i l = omega (arith, l)
-
-less : (i n : ℕ) → suc i < suc n → i < n
-less i n l = omega (arith, l)
-
 module _ (x : Accepted) where
   -- one place more
   pairs_on : (i : ℕ) (ps qs : List Party) → AcceptMore ps qs → i < length ps
       → has_pair x (pairs_of (all_pairs (looked i ps qs)) (drop (length (accepted_at i ps)) (accepted_at i qs))) ≡ has_pair x (all_pairs (looked (suc i) ps qs))
-  pairs_on i [] qs more l = absurd (none_less i l)
+  pairs_on i [] qs more l = absurd (none_below i l)
   pairs_on i (p ∷ ps) [] more l = absurd more
   pairs_on zero (p ∷ ps) (q ∷ qs) more l =
       let rows : List AcceptedRow = more.0.0 in
-      let new : drop (length p.accepted) q.accepted ≡ rows = ap (λ (z : List AcceptedRow). drop (length p.accepted) z) more.0.1 ∙ dropped p.accepted rows in
+      let new : drop (length p.accepted) q.accepted ≡ rows = ap (λ (z : List AcceptedRow). drop (length p.accepted) z) more.0.1 ∙ drop_behind p.accepted rows in
       let m : Bool = has_pair x (pairs_of [] rows) in
       let was : Bool = has_pair x (pairs_of [] p.accepted) in
       let rest : Bool = has_pair x (all_pairs ps) in
@@ -105,7 +95,7 @@ module _ (x : Accepted) where
       has_rows x (own ++ before) rows
       ∙ ap (λ (b : Bool). has_pair x (pairs_of [] rows) || b) (has_over x own before)
       ∙ or_turned (has_pair x (pairs_of [] rows)) (has_pair x own) (has_pair x before)
-      ∙ ap (λ (b : Bool). has_pair x own || b) (sym (has_rows x before rows) ∙ pairs_on i ps qs more.1 (less i (length ps) l))
+      ∙ ap (λ (b : Bool). has_pair x own || b) (sym (has_rows x before rows) ∙ pairs_on i ps qs more.1 (one_less i (length ps) l))
       ∙ sym (has_over x own after)
 
   -- by how much was looked at
@@ -118,18 +108,18 @@ module _ (x : Accepted) where
 -- ---- counts
 
 here_now : (i : ℕ) (ps qs : List Party) → AcceptMore ps qs → i < length ps → accepted_at i (looked (suc i) ps qs) ≡ accepted_at i qs
-here_now i [] qs more l = absurd (none_less i l)
+here_now i [] qs more l = absurd (none_below i l)
 here_now i (p ∷ ps) [] more l = absurd more
 here_now zero (p ∷ ps) (q ∷ qs) more l = refl
-here_now (suc i) (p ∷ ps) (q ∷ qs) more l = here_now i ps qs more.1 (less i (length ps) l)
+here_now (suc i) (p ∷ ps) (q ∷ qs) more l = here_now i ps qs more.1 (one_less i (length ps) l)
 
 others : (i k : ℕ) (ps qs : List Party) → AcceptMore ps qs → i < length ps → ¬ (i ≡ k) → accepted_at k (looked (suc i) ps qs) ≡ accepted_at k (looked i ps qs)
-others i k [] qs more l ne = absurd (none_less i l)
+others i k [] qs more l ne = absurd (none_below i l)
 others i k (p ∷ ps) [] more l ne = absurd more
 others zero zero (p ∷ ps) (q ∷ qs) more l ne = absurd (ne refl)
 others zero (suc k) (p ∷ ps) (q ∷ qs) more l ne = refl
 others (suc i) zero (p ∷ ps) (q ∷ qs) more l ne = refl
-others (suc i) (suc k) (p ∷ ps) (q ∷ qs) more l ne = others i k ps qs more.1 (less i (length ps) l) (λ e. ne (ap suc e))
+others (suc i) (suc k) (p ∷ ps) (q ∷ qs) more l ne = others i k ps qs more.1 (one_less i (length ps) l) (λ e. ne (ap suc e))
 
 pub counts_on : (i : ℕ) (ps qs : List Party) (old new : List ℕ) → AcceptMore ps qs → i < length ps → AreCounts old (looked i ps qs)
     → ((k : ℕ) → slice_index new k ≡ (if nat_eq i k then length (accepted_at i qs) else slice_index old k)) → AreCounts new (looked (suc i) ps qs)

@@ -1,7 +1,10 @@
 -- What an event gave and what it had accepted, row by row.
-use Rattle.std.proofs.Common.{◌≡◌, ℕ, zero, suc, ◌+◌, ◌≤◌, ◌<◌, arith, min, List, [], ◌∷◌, ◌++◌, length, drop, take, get_or, Bool, true, false, refl, sym, ◌∙◌, ap, subst, Option, Some, None}
+use Rattle.std.proofs.Common.{◌≡◌, ℕ, zero, suc, ◌+◌, ◌≤◌, ◌<◌, arith, min, List, [], ◌∷◌, ◌++◌, length, drop, take, get_or, Bool, refl, sym, ◌∙◌, ap, subst, Option, Some, None}
 use Rattle.std.specs.Prelude.{◌&&◌}
 use Rattle.std.specs.Option.{option_map}
+use Rattle.std.proofs.lemmas.List.{append-nil, append_assoc}
+use Rattle.sms_base.proofs.Bools.{and_assoc, and_true}
+use Rattle.sms_base.proofs.Lists.{drop_behind, drop_item}
 use Rattle.sms_base.specs.declared.holder.Holder.{Holder}
 use Rattle.sms_base.specs.declared.holder.Holder.TheVariants.{Part, Report, Entry, Memory}
 use Rattle.sms_centre_rows.specs.declared.messages.part.PartRow.{PartRow}
@@ -17,40 +20,22 @@ use Rattle.sms_play.specs.growth.Growth.{Grows, HasPart, HaveParts, PartsStay}
 use Rattle.sms_play.specs.judging.Watching.{IsPart, Offers, Watches}
 use Rattle.sms_play.specs.declared.judging.watch.Watch.{Watch}
 
--- ---- tests in a row
-
-and_joined : (a b c : Bool) → ((a && b) && c) ≡ (a && (b && c))
-and_joined true b c = refl
-and_joined false b c = refl
-
-and_true : (a : Bool) → (a && true) ≡ a
-and_true true = refl
-and_true false = refl
-
 -- ---- what was given, one after another
 
 pub fresh_over : (xs ys down : List Allocation) (accepted : List Accepted) → are_fresh (xs ++ ys) down accepted ≡ (are_fresh xs down accepted && are_fresh ys (newest_first down xs) accepted)
 fresh_over [] ys down accepted = refl
 fresh_over (x ∷ xs) ys down accepted =
     ap (λ (b : Bool). may_begin (pair_given x) down accepted && b) (fresh_over xs ys (x ∷ down) accepted)
-    ∙ sym (and_joined (may_begin (pair_given x) down accepted) (are_fresh xs (x ∷ down) accepted) (are_fresh ys (newest_first (x ∷ down) xs) accepted))
+    ∙ sym (and_assoc (may_begin (pair_given x) down accepted) (are_fresh xs (x ∷ down) accepted) (are_fresh ys (newest_first (x ∷ down) xs) accepted))
 
 pub newest_over : (gs xs ys : List Allocation) → newest_first gs (xs ++ ys) ≡ newest_first (newest_first gs xs) ys
 newest_over gs [] ys = refl
 newest_over gs (x ∷ xs) ys = newest_over (x ∷ gs) xs ys
 
-appended : {A : Type 0} (xs ys zs : List A) → (xs ++ ys) ++ zs ≡ xs ++ (ys ++ zs)
-appended [] ys zs = refl
-appended (x ∷ xs) ys zs = ap (λ z. x ∷ z) (appended xs ys zs)
-
-none_behind : {A : Type 0} (xs : List A) → xs ++ [] ≡ xs
-none_behind [] = refl
-none_behind (x ∷ xs) = ap (λ z. x ∷ z) (none_behind xs)
-
 pub allocations_over : (parts : List PartRow) (xs ys : List GivenRow) → part_allocations parts (xs ++ ys) ≡ part_allocations parts xs ++ part_allocations parts ys
 allocations_over parts [] ys = refl
 allocations_over parts (r ∷ xs) ys =
-    ap (λ (z : List Allocation). part_allocation parts r r.holder ++ z) (allocations_over parts xs ys) ∙ sym (appended (part_allocation parts r r.holder) (part_allocations parts xs) (part_allocations parts ys))
+    ap (λ (z : List Allocation). part_allocation parts r r.holder ++ z) (allocations_over parts xs ys) ∙ sym (append_assoc (part_allocation parts r r.holder) (part_allocations parts xs) (part_allocations parts ys))
 
 module _ (parts : List PartRow) (down : List Allocation) (accepted : List Accepted) where
   abbrev pub down_after : List GivenRow → List Allocation
@@ -59,7 +44,7 @@ module _ (parts : List PartRow) (down : List Allocation) (accepted : List Accept
   -- with one row more
   pub down_on : (done : List GivenRow) (row : GivenRow) → newest_first (down_after done) (part_allocation parts row row.holder) ≡ down_after (done ++ row ∷ [])
   down_on done row =
-      sym (ap (λ (z : List Allocation). newest_first down z) (allocations_over parts done (row ∷ []) ∙ ap (λ (z : List Allocation). part_allocations parts done ++ z) (none_behind (part_allocation parts row row.holder)))
+      sym (ap (λ (z : List Allocation). newest_first down z) (allocations_over parts done (row ∷ []) ∙ ap (λ (z : List Allocation). part_allocations parts done ++ z) (append-nil (part_allocation parts row row.holder)))
       ∙ newest_over down (part_allocations parts done) (part_allocation parts row row.holder))
 
   pub fresh_on : (done rest : List GivenRow) (row : GivenRow) (fresh may : Bool) → may ≡ are_fresh (part_allocation parts row row.holder) (down_after done) accepted
@@ -70,17 +55,17 @@ module _ (parts : List PartRow) (down : List Allocation) (accepted : List Accept
       ap (λ (b : Bool). fresh && b)
       (fresh_over (part_allocation parts row row.holder) (part_allocations parts rest) (down_after done) accepted
       ∙ (λ j. told j && are_fresh (part_allocations parts rest) (down_next j) accepted))
-      ∙ sym (and_joined fresh may (are_fresh (part_allocations parts rest) (down_after (done ++ row ∷ [])) accepted))
+      ∙ sym (and_assoc fresh may (are_fresh (part_allocations parts rest) (down_after (done ++ row ∷ [])) accepted))
 
 -- ---- a place in a list
 
 one_more : (i : ℕ) → i + 1 ≡ suc i
 one_more i = omega arith
 
-none_below : (i : ℕ) → i < 0 → ⊥
+pub none_below : (i : ℕ) → i < 0 → ⊥
 none_below i l = omega (arith, l)
 
-one_less : (i n : ℕ) → suc i < suc n → i < n
+pub one_less : (i n : ℕ) → suc i < suc n → i < n
 one_less i n l = omega (arith, l)
 
 taken_next : {A : Type 0} (xs : List A) (i : ℕ) (x : A) → i < length xs → x ≡ get_or xs i x → take (suc i) xs ≡ take i xs ++ x ∷ []
@@ -90,14 +75,6 @@ taken_next (y ∷ xs) (suc i) x l e = ap (λ z. y ∷ z) (taken_next xs i x (one
 
 pub taken_on : {A : Type 0} (xs : List A) (i : ℕ) (x : A) → i < length xs → x ≡ get_or xs i x → take (i + 1) xs ≡ take i xs ++ x ∷ []
 taken_on xs i x l e = ap (λ (k : ℕ). take k xs) (one_more i) ∙ taken_next xs i x l e
-
-left_next : {A : Type 0} (xs : List A) (i : ℕ) (x : A) → i < length xs → x ≡ get_or xs i x → drop i xs ≡ x ∷ drop (suc i) xs
-left_next [] i x l e = absurd (none_below i l)
-left_next (y ∷ xs) zero x l e = ap (λ z. z ∷ xs) (sym e)
-left_next (y ∷ xs) (suc i) x l e = left_next xs i x (one_less i (length xs) l) e
-
-pub left_on : {A : Type 0} (xs : List A) (i : ℕ) (x : A) → i < length xs → x ≡ get_or xs i x → drop i xs ≡ x ∷ drop (i + 1) xs
-left_on xs i x l e = left_next xs i x l e ∙ ap (λ (k : ℕ). x ∷ drop k xs) (sym (one_more i))
 
 none_less : (n : ℕ) → suc n ≤ 0 → ⊥
 none_less n l = omega (arith, l)
@@ -134,7 +111,7 @@ module _ (parts : List PartRow) (given : List GivenRow) (down : List Allocation)
         let rest : List GivenRow = drop (i + 1) rows in
         (λ j. joined j && are_fresh (part_allocations parts rest) (down_after parts down accepted (next_rows j)) accepted)
         ∙ sym (fresh_on parts down accepted (take i rows) rest row fresh may told)
-        ∙ ap (λ (z : List GivenRow). fresh && are_fresh (part_allocations parts z) (down_after parts down accepted (take i rows)) accepted) (sym (left_on rows i row under is))
+        ∙ ap (λ (z : List GivenRow). fresh && are_fresh (part_allocations parts z) (down_after parts down accepted (take i rows)) accepted) (sym (drop_item rows i row under is))
         ∙ so_far
 
     pub watch_on : (w : Watch) → Watches ((given ++ take i rows) ++ row ∷ []) (newest_first (down_after parts down accepted (take i rows)) (part_allocation parts row row.holder)) accepted w
@@ -143,7 +120,7 @@ module _ (parts : List PartRow) (given : List GivenRow) (down : List Allocation)
         let next = sym next_rows in
         subst (λ (z : List GivenRow). Watches (given ++ z) (down_after parts down accepted z) accepted w) next
         (subst (λ (z : List Allocation). Watches (given ++ (take i rows ++ row ∷ [])) z accepted w) (down_on parts down accepted (take i rows) row)
-        (subst (λ (z : List GivenRow). Watches z (newest_first (down_after parts down accepted (take i rows)) (part_allocation parts row row.holder)) accepted w) (appended given (take i rows) (row ∷ [])) told))
+        (subst (λ (z : List GivenRow). Watches z (newest_first (down_after parts down accepted (take i rows)) (part_allocation parts row row.holder)) accepted w) (append_assoc given (take i rows) (row ∷ [])) told))
 
   module _ (over : length rows ≤ i) where
     pub look_end : (fresh : Bool) → (fresh && are_fresh (part_allocations parts (drop i rows)) (down_after parts down accepted (take i rows)) accepted) ≡ all_fresh → fresh ≡ all_fresh
@@ -239,10 +216,6 @@ pub behind_all : (xs ys : List GivenRow) → behind xs (xs ++ ys) ≡ ys
 behind_all [] ys = refl
 behind_all (x ∷ xs) ys = behind_all xs ys
 
-pub dropped : {A : Type 0} (xs ys : List A) → drop (length xs) (xs ++ ys) ≡ ys
-dropped [] ys = refl
-dropped (x ∷ xs) ys = dropped xs ys
-
 zero_at_most : (k : ℕ) → 0 ≤ k
 zero_at_most k = omega arith
 
@@ -267,7 +240,7 @@ module _ (before after : PlayState) (goes : Grows before after) (have : HavePart
   same_down = ap (λ (gs : List Allocation). newest_first [] gs) (sym (allocations_stay before.centre.rows.parts parts_after goes.parts before.given have))
 
   pub rows_are : drop (length before.given) after.given ≡ goes.more
-  rows_are = ap (λ (z : List GivenRow). drop (length before.given) z) goes.given ∙ dropped before.given goes.more
+  rows_are = ap (λ (z : List GivenRow). drop (length before.given) z) goes.given ∙ drop_behind before.given goes.more
 
   pub fresh_is : are_fresh (part_allocations parts_after goes.more) (newest_first [] (part_allocations before.centre.rows.parts before.given)) (all_pairs before.parties) ≡ is_fresh_event before after
   fresh_is =

@@ -4,6 +4,7 @@ use Rattle.std.specs.Prelude.{◌==◌, ◌&&◌, ◌||◌}
 use Rattle.std.specs.Str.{bytes_eq}
 use Rattle.std.proofs.lemmas.Bool.{and_from, and_parts, both_ways, cases_Bool, cases_eq, cond-false, cond-true, eq-eqb, eqb-true}
 use Rattle.std.proofs.lemmas.Slice.Eq.{bytes_eq-Decides}
+use Rattle.sms_base.proofs.Bools.{or_false}
 use Rattle.sms_play.specs.Premises.{all_arrived, has_arrived, has_pair, is_same_pair}
 use Rattle.sms_world_model.specs.Groups.{is_among, is_for, number_in, numbers, of_key, Rounds, rounded, rounds}
 use Rattle.sms_world_model.specs.Place.{Key}
@@ -23,7 +24,7 @@ pair_same a b e =
     let tpdu : a.tpdu ≡ b.tpdu = (bytes_eq-Decides a.tpdu b.tpdu).0 q.1 in
     λ j. record { handset = handset j; reference = reference j; tpdu = tpdu j }
 
-one_pair : (a : Accepted) → is_same_pair a a ≡ true
+pub one_pair : (a : Accepted) → is_same_pair a a ≡ true
 one_pair a =
     and_from (bytes_eq a.handset a.handset) ((a.reference == a.reference) && bytes_eq a.tpdu a.tpdu) ((bytes_eq-Decides a.handset a.handset).1 refl)
     (and_from (a.reference == a.reference) (bytes_eq a.tpdu a.tpdu) (eq-eqb a.reference a.reference refl) ((bytes_eq-Decides a.tpdu a.tpdu).1 refl))
@@ -48,10 +49,6 @@ moved true false c = refl
 moved false true c = refl
 moved false false c = refl
 
-or_none : (a : Bool) → (a || false) ≡ a
-or_none true = refl
-or_none false = refl
-
 pub newest_last : (a : List Accepted) (ms : List Member) (m : Member) → newest a (ms ++ m ∷ []) ≡ pair_in m.pair ∷ newest a ms
 newest_last a [] m = refl
 newest_last a (x ∷ ms) m = newest_last (pair_in x.pair ∷ a) ms m
@@ -72,7 +69,7 @@ stands_over n a (m ∷ ms) =
 
 pub stands_newest : (n : ℕ) (ms : List Member) → AreNumbered ms → is_among n (numbers (newest [] ms)) ≡ is_among n (member_numbers ms)
 stands_newest n ms all =
-    stands_over n [] ms ∙ or_none (is_among n (numbers (pairs_in ms))) ∙ ap (λ (z : List ℕ). is_among n z) (sym (numbers_are ms all))
+    stands_over n [] ms ∙ or_false (is_among n (numbers (pairs_in ms))) ∙ ap (λ (z : List ℕ). is_among n z) (sym (numbers_are ms all))
 
 module _ (accepted : List Accepted) (entries : List (Pair × Unit {0})) (has : HasAccepted accepted entries) where
   arrived_over : (n : ℕ) (a : List Accepted) (ms : List Member) → AreNumbered ms → has_arrived n (newest a ms) accepted ≡ (arrived_in n ms entries || has_arrived n a accepted)
@@ -87,7 +84,7 @@ module _ (accepted : List Accepted) (entries : List (Pair × Unit {0})) (has : H
       ∙ (λ j. (((own j == n) && kept j) || arrived_in n ms entries) || has_arrived n a accepted)
 
   arrived_newest : (n : ℕ) (ms : List Member) → AreNumbered ms → has_arrived n (newest [] ms) accepted ≡ arrived_in n ms entries
-  arrived_newest n ms all = arrived_over n [] ms all ∙ or_none (arrived_in n ms entries)
+  arrived_newest n ms all = arrived_over n [] ms all ∙ or_false (arrived_in n ms entries)
 
   pub all_newest : (total : ℕ) (ms : List Member) → AreNumbered ms → all_arrived total (newest [] ms) accepted ≡ all_arrived_in total ms entries
   all_newest zero ms all = refl

@@ -5,6 +5,7 @@ use Rattle.std.specs.Bool.{beq}
 use Rattle.std.specs.Str.{bytes_eq}
 use Rattle.std.proofs.lemmas.Bool.{and_parts, cases_Bool, cond-false, cond-true}
 use Rattle.std.proofs.lemmas.Slice.Eq.{bytes_eq-Decides}
+use Rattle.sms_base.proofs.Bools.{and_assoc}
 use Rattle.sms_base.specs.AddressKind.{type_number}
 use Rattle.sms_base.specs.declared.holder.Holder.{Holder}
 use Rattle.sms_base.specs.declared.holder.Holder.TheVariants.{Part, Report, Entry, Memory}
@@ -26,10 +27,6 @@ use Rattle.sms_play.proofs.judging.Members.{all_newest, all_of_key, round_for, r
 
 -- ---- keys of rounds tell apart what keys and handsets tell apart
 
-joined : (a b c : Bool) → ((a && b) && c) ≡ (a && (b && c))
-joined true b c = refl
-joined false b c = refl
-
 same_number : (a b : ConcatReference) → (beq (is_wide a) (is_wide b) && nat_eq (number_of a) (number_of b)) ≡ is_same_reference a b
 same_number (EightBit a) (EightBit b) = refl
 same_number (EightBit a) (SixteenBit b) = refl
@@ -41,7 +38,7 @@ regrouped : (t n d w r e s : Bool) → (w && r) ≡ s → (t && (n && (d && (w &
 regrouped false n d w r e s q = refl
 regrouped true false d w r e s q = refl
 regrouped true true false w r e s q = refl
-regrouped true true true w r e s q = sym (joined w r e) ∙ ap (λ (z : Bool). z && e) q
+regrouped true true true w r e s q = sym (and_assoc w r e) ∙ ap (λ (z : Bool). z && e) q
 
 pub keys_apart : (h i : List ℕ) (k l : Key) → is_same_round (round_key h k) (round_key i l) ≡ (is_same_handset h i && is_same_key k l)
 keys_apart h i k l =

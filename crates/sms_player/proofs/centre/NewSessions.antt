@@ -7,14 +7,14 @@ use Rattle.sms_centre_rows.specs.reports.Receipts.{Session, session_key}
 use Rattle.sms_centre.specs.state.Recovering.{AreNew}
 use Rattle.sms_rows.specs.table.Table.{AllAbove, Rises}
 
-none_waits : (x : Session) (n : ℕ) (accounts : List CentreAccount) → Among x (sessions_from n accounts) → x.unanswered ≡ []
+pub none_waits : (x : Session) (n : ℕ) (accounts : List CentreAccount) → Among x (sessions_from n accounts) → x.unanswered ≡ []
 none_waits x n [] i = absurd i
 none_waits x n (a ∷ others) i = ⊎_elim (λ (e : x ≡ _). ap (λ (z : Session). z.unanswered) e) (λ j. none_waits x (n + 1) others j) i
 
 pub are_new : (accounts : List CentreAccount) → AreNew (sessions_from 0 accounts)
 are_new accounts = λ s i. none_waits s 0 accounts i
 
-sessions_above : (k n : ℕ) (accounts : List CentreAccount) → k < n → AllAbove session_key k (sessions_from n accounts)
+pub sessions_above : (k n : ℕ) (accounts : List CentreAccount) → k < n → AllAbove session_key k (sessions_from n accounts)
 sessions_above k n [] l = tt
 sessions_above k n (a ∷ others) l = (l, sessions_above k (n + 1) others (omega (arith, l)))
 

@@ -63,10 +63,6 @@ pub on_ok : {A E : Type 0} (res : Result A E) (P Q : Type 0) → (P → Q) → O
 on_ok (Ok x) P Q f p = f p
 on_ok (Err e) P Q f p = tt
 
-pub always : {A E : Type 0} (res : Result A E) (P : Type 0) → P → OnOk res P
-always (Ok x) P p = p
-always (Err e) P p = tt
-
 pub if_ok : {A E : Type 0} (res : Result A E) (P Q : A → Type 0) → ((x : A) → P x → Q x) → IfOk res P → IfOk res Q
 if_ok (Ok x) P Q f p = f x p
 if_ok (Err e) P Q f p = tt

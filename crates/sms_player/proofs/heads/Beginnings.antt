@@ -1,11 +1,12 @@
 -- What a head says that can be played.
-use Rattle.std.proofs.Common.{◌≡◌, ℕ, suc, ◌<◌, ◌≤◌, ◌+◌, get_or, drop, drop-cons, arith, List, [], ◌∷◌, length, Bool, true, false, refl, sym, ◌∙◌, ap, subst, ⊎_elim}
+use Rattle.std.proofs.Common.{◌≡◌, ℕ, suc, ◌<◌, ◌≤◌, ◌+◌, get_or, drop, arith, List, [], ◌∷◌, length, Bool, true, false, refl, sym, ap, subst, ⊎_elim}
 use Rattle.std.specs.List.{AllByRecursion, list_all}
-use Rattle.std.specs.Prelude.{◌&&◌, ◌||◌, nat_le, nat_lt, not}
+use Rattle.std.specs.Prelude.{◌&&◌, nat_le, nat_lt, not}
 use Rattle.std.specs.Str.{bytes_eq}
-use Rattle.std.proofs.lemmas.Bool.{and_parts, leb-true, ltb-true}
+use Rattle.std.proofs.lemmas.Bool.{and_parts, leb-true, ltb-true, or_left, or_right}
 use Rattle.std.proofs.lemmas.Bool.Decides.{nat_tests}
 use Rattle.std.proofs.lemmas.Slice.Eq.{bytes_eq-Decides}
+use Rattle.sms_base.proofs.Lists.{drop_item}
 use Rattle.sms_base.specs.Address.{IsAddress}
 use Rattle.sms_base.specs.Among.{Among}
 use Rattle.sms_base.specs.declared.address.Address.{Address}
@@ -23,20 +24,12 @@ use Rattle.sms_play.specs.PlayState.{numbers_of}
 use Rattle.sms_play.specs.Setups.{accounts_of, are_accounts, are_handsets, can_be_played, centre_setup, has_account, has_handset, is_handset, is_moment, is_number, parties_of}
 use Rattle.sms_player.specs.heads.Heads.{AreHandsets}
 
--- ---- lists
-
--- what is left of a list begins with the item at that place
-drop_one : {A : Type 0} (xs : List A) (i : ℕ) (x : A) → i < length xs → x ≡ get_or xs i x → drop i xs ≡ x ∷ drop (i + 1) xs
-drop_one xs i x low is =
-    let q : suc i ≡ i + 1 = omega arith in
-    drop-cons xs i x low ∙ ap (λ (y : _). y ∷ drop (suc i) xs) (sym is) ∙ ap (λ (n : ℕ). x ∷ drop n xs) q
-
 -- ---- numbers
 
-decimal_digit : (c : ℕ) → is_decimal c ≡ true → is_digit c ≡ true
+pub decimal_digit : (c : ℕ) → is_decimal c ≡ true → is_digit c ≡ true
 decimal_digit c h = grind (arith, nat_tests)
 
-all_digits : (text : List ℕ) → list_all is_decimal text ≡ true → AllByRecursion (λ c. is_digit c ≡ true) text
+pub all_digits : (text : List ℕ) → list_all is_decimal text ≡ true → AllByRecursion (λ c. is_digit c ≡ true) text
 all_digits [] e = tt
 all_digits (c ∷ cs) e = let p = and_parts (is_decimal c) (list_all is_decimal cs) e in (decimal_digit c p.0, all_digits cs p.1)
 
@@ -90,9 +83,9 @@ first_account a others e =
 
 -- the account at a place, and those behind it
 pub account_good : (accounts : List AccountSetup) (i : ℕ) (a : AccountSetup) → i < length accounts → a ≡ get_or accounts i a → are_accounts (drop i accounts) ≡ true → (is_number a.number ≡ true) × (are_accounts (drop (i + 1) accounts) ≡ true)
-account_good accounts i a low is good = first_account a (drop (i + 1) accounts) (subst (λ (rest : List AccountSetup). are_accounts rest ≡ true) (drop_one accounts i a low is) good)
+account_good accounts i a low is good = first_account a (drop (i + 1) accounts) (subst (λ (rest : List AccountSetup). are_accounts rest ≡ true) (drop_item accounts i a low is) good)
 
-accounts_are : (accounts : List AccountSetup) → are_accounts accounts ≡ true → (a : CentreAccount) → Among a (accounts_of accounts) → IsAddress a.address
+pub accounts_are : (accounts : List AccountSetup) → are_accounts accounts ≡ true → (a : CentreAccount) → Among a (accounts_of accounts) → IsAddress a.address
 accounts_are [] e a i = absurd i
 accounts_are (x ∷ xs) e a i =
     let p = first_account x xs e in
@@ -127,7 +120,7 @@ first_handset h others e =
 
 -- the handset at a place, and those behind it
 pub handset_good : (handsets : List HandsetSetup) (i : ℕ) (h : HandsetSetup) → i < length handsets → h ≡ get_or handsets i h → are_handsets (drop i handsets) ≡ true → (is_handset h ≡ true) × (are_handsets (drop (i + 1) handsets) ≡ true)
-handset_good handsets i h low is good = first_handset h (drop (i + 1) handsets) (subst (λ (rest : List HandsetSetup). are_handsets rest ≡ true) (drop_one handsets i h low is) good)
+handset_good handsets i h low is good = first_handset h (drop (i + 1) handsets) (subst (λ (rest : List HandsetSetup). are_handsets rest ≡ true) (drop_item handsets i h low is) good)
 
 pub record Slots (h : HandsetSetup) : Type 0 where
   pub number : is_number h.number ≡ true
@@ -140,24 +133,16 @@ handset_is h e =
     let b = and_parts (nat_lt 0 h.slots) (nat_le h.slots 255) a.1 in
     record { number = a.0; some = ltb-true 0 h.slots b.0; few = leb-true h.slots 255 b.1 }
 
-not_both : (b : Bool) → b ≡ true → not b ≡ true → ⊥
+pub not_both : (b : Bool) → b ≡ true → not b ≡ true → ⊥
 not_both true e f = absurd cc
 not_both false e f = absurd cc
-
-or_first : (a b : Bool) → a ≡ true → (a || b) ≡ true
-or_first true b e = refl
-or_first false b e = absurd cc
-
-or_second : (a b : Bool) → b ≡ true → (a || b) ≡ true
-or_second true b e = refl
-or_second false b e = e
 
 module _ (s : Setup) where
   number_had : (n : List ℕ) (hs : List HandsetSetup) → Among n (numbers_of (parties_of s hs)) → has_handset n hs ≡ true
   number_had n [] i = absurd i
   number_had n (h ∷ hs) i = ⊎_elim
-      (λ (q : n ≡ h.number). or_first (bytes_eq h.number n) (has_handset n hs) ((bytes_eq-Decides h.number n).1 (sym q)))
-      (λ (j : Among n (numbers_of (parties_of s hs))). or_second (bytes_eq h.number n) (has_handset n hs) (number_had n hs j))
+      (λ (q : n ≡ h.number). or_left (bytes_eq h.number n) (has_handset n hs) ((bytes_eq-Decides h.number n).1 (sym q)))
+      (λ (j : Among n (numbers_of (parties_of s hs))). or_right (bytes_eq h.number n) (has_handset n hs) (number_had n hs j))
       i
 
   numbers_apart : (hs : List HandsetSetup) → are_handsets hs ≡ true → AreDifferent (numbers_of (parties_of s hs))

@@ -1,6 +1,7 @@
 -- Frames that go out get the next numbers, and come from whom they come.
-use Rattle.std.proofs.Common.{◌≡◌, ℕ, suc, ◌+◌, List, [], ◌∷◌, ◌++◌, length, arith, refl, sym, ◌∙◌, subst, ap, inl, inr, ⊎_elim}
+use Rattle.std.proofs.Common.{◌≡◌, ℕ, suc, ◌+◌, List, [], ◌∷◌, ◌++◌, length, arith, refl, sym, ◌∙◌, subst, ap, ⊎_elim}
 use Rattle.std.specs.Prelude.{◌⊎◌}
+use Rattle.sms_base.proofs.Lists.{among_end}
 use Rattle.sms_base.specs.Among.{Among}
 use Rattle.sms_link.specs.declared.outgoing.Outgoing.{Outgoing}
 use Rattle.sms_play.specs.CentreSide.{all_sent as all_sent_down}
@@ -30,18 +31,11 @@ numbered_up handset (f ∷ fs) bag h = numbered_up handset fs (sent Up handset f
 
 -- ---- from whom
 
-among_behind : (f g : FrameRow) (bag : List FrameRow) → Among f (bag ++ g ∷ []) → Among f bag ⊎ (f ≡ g)
-among_behind f g [] i = ⊎_elim (λ (e : f ≡ g). inr e) (λ (n : ⊥). absurd n) i
-among_behind f g (b ∷ bag) i = ⊎_elim
-    (λ (e : f ≡ b). inl (inl e))
-    (λ (j : Among f (bag ++ g ∷ [])). ⊎_elim (λ (k : Among f bag). inl (inr k)) (λ (e : f ≡ g). inr e) (among_behind f g bag j))
-    i
-
 from_behind : (numbers : List (List ℕ)) (g : FrameRow) (bag : List FrameRow) → AreFrom numbers bag → (g.direction ≡ Up → Among g.handset numbers) → AreFrom numbers (bag ++ g ∷ [])
 from_behind numbers g bag h is = λ f i up. ⊎_elim
     (λ (k : Among f bag). h f k up)
     (λ (e : f ≡ g). subst (λ (x : FrameRow). Among x.handset numbers) (sym e) (is (ap (λ (x : FrameRow). x.direction) (sym e) ∙ up)))
-    (among_behind f g bag i)
+    (among_end f g bag i)
 
 not_up : Down ≡ Up → ⊥
 not_up e = absurd cc

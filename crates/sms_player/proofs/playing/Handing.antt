@@ -4,6 +4,7 @@ use Rattle.std.specs.Prelude.{◌==◌, OnOk}
 use Rattle.std.specs.Str.{bytes_eq}
 use Rattle.std.proofs.lemmas.Bool.{cases_Bool, cond-false, cond-true}
 use Rattle.std.proofs.lemmas.Slice.Eq.{bytes_eq-Decides}
+use Rattle.std.proofs.lemmas.Option.{none-some, same_Some}
 use Rattle.sms_base.specs.Among.{Among}
 use Rattle.sms_base.specs.Reading.{AreOctets}
 use Rattle.sms_base.specs.declared.holder.Holder.{Holder}
@@ -32,20 +33,14 @@ use Rattle.sms_centre_rows.specs.waiting.SoundAllocations.{IsNumber}
 
 -- ---- what the bag has of it
 
-some_is : {A : Type 0} (x y : A) → Some x ≡ Some y → x ≡ y
-some_is x y e = cc
-
-none_some : {A : Type 0} (x : A) → None ≡ Some x → ⊥
-none_some x e = absurd cc
-
 none_same : (x : Party) → Some x ≡ None → ⊥
 none_same x e = absurd cc
 
 -- what is found by its number is among the frames
 pub among_at : (number : ℕ) (bag : List FrameRow) (f : FrameRow) → frame_at number bag ≡ Some f → Among f bag
-among_at number [] f e = absurd (none_some f e)
+among_at number [] f e = absurd (none-some f e)
 among_at number (b ∷ bag) f e = ⊎_elim
-    (λ (t : b.number == number ≡ true). inl (sym (some_is b f (sym (cond-true (b.number == number) (Some b) (frame_at number bag) t) ∙ e))))
+    (λ (t : b.number == number ≡ true). inl (sym (same_Some b f (sym (cond-true (b.number == number) (Some b) (frame_at number bag) t) ∙ e))))
     (λ (t : b.number == number ≡ false). inr (among_at number bag f (sym (cond-false (b.number == number) (Some b) (frame_at number bag) t) ∙ e)))
     (cases_Bool (b.number == number))
 

@@ -1,6 +1,7 @@
 -- Who looks on event by event has seen what the definition decides.
-use Rattle.std.proofs.Common.{◌≡◌, ℕ, suc, ◌+◌, ◌<◌, ◌≤◌, arith, List, [], ◌∷◌, drop, drop-cons, get_or, length, Bool, true, false, refl, sym, ◌∙◌, ap, subst, Option, Some, None, Result, Ok, Err}
+use Rattle.std.proofs.Common.{◌≡◌, ℕ, ◌+◌, ◌<◌, ◌≤◌, List, [], ◌∷◌, drop, get_or, length, Bool, true, false, refl, sym, ◌∙◌, ap, subst, Option, Some, None, Result, Ok, Err}
 use Rattle.std.specs.Prelude.{OnOk, not, if◌then◌else◌}
+use Rattle.sms_base.proofs.Lists.{drop_item}
 use Rattle.sms_base.specs.Reading.{◌>>=◌}
 use Rattle.sms_play.specs.judging.Premises.{or_first, reused, untimely}
 use Rattle.sms_script.specs.declared.play_fault.PlayFault.{PlayFault}
@@ -12,13 +13,11 @@ use Rattle.sms_player.specs.playing.Plays.{Represents}
 use Rattle.sms_player.specs.playing.Looked.{FollowsAll, FollowsOne}
 use Rattle.sms_player.specs.playing.Played.{PlayingOf}
 use Rattle.sms_player.specs.playing.Playing.{or_no_memory}
-use Rattle.sms_player.proofs.playing.Outcomes.{none_behind}
 use Rattle.sms_script.specs.declared.report.Broken.{Broken}
 use Rattle.sms_script.specs.declared.report.Broken.TheVariants.{Reused, Timely}
 use Rattle.sms_script.specs.declared.event.WorldEvent.{WorldEvent}
-
-abbrev ok_play : PlayState → Result PlayState PlayFault
-ok_play c = Ok c
+use Rattle.sms_play.proofs.answers.PlayAnswers.{ok_play}
+use Rattle.sms_play.proofs.judging.Looking.{none_left}
 
 abbrev decided : Option Broken → Result (Option Broken) PlayFault
 decided b = Ok b
@@ -86,11 +85,6 @@ decides_all (Some x) number c all e = e
 leads_next : (number : ℕ) (e : WorldEvent) (es : List WorldEvent) (c d : PlayState) → played number e c ≡ ok_play d → played_on number (e ∷ es) c ≡ played_on (number + 1) es d
 leads_next number e es c d q = ap (λ (r : Result PlayState PlayFault). r >>= λ (x : PlayState). played_on (number + 1) es x) q
 
-split_at : (events : List WorldEvent) (place : ℕ) (e : WorldEvent) → place < length events → e ≡ get_or events place e → drop place events ≡ e ∷ drop (place + 1) events
-split_at events place e low is =
-    let q : suc place ≡ place + 1 = omega arith in
-    drop-cons events place e low ∙ ap (λ (y : WorldEvent). y ∷ drop (suc place) events) (sym is) ∙ ap (λ (n : ℕ). e ∷ drop n events) q
-
 same_play : (r : Result PlayState PlayFault) (c d : PlayState) (b later : Option Broken) (f : PlayState → Option Broken) → r ≡ ok_play d → (r >>= λ (x : PlayState). Ok (f x)) ≡ decided later → f d ≡ later
 same_play r c d b later f leads outputs =
     ok_same (f d) later (ap (λ (z : Result PlayState PlayFault). z >>= λ (x : PlayState). Ok (f x)) (sym leads) ∙ outputs)
@@ -127,7 +121,7 @@ module _ (before after : Option Broken → PlayState → Type 0) (events : List 
   next_looked q e low is (d, (later, (leads, outputs, shown, seen))) =
       let found : Option Broken = or_first a.found (broken_by (place + 1) e a.now d) in
       let rest = drop (place + 1) events in
-      let split = split_at events place e low is in
+      let split = drop_item events place e low is in
       let same = same_play (played (place + 1) e a.now) a.now d broken later (λ (x : PlayState). broken_by (place + 1) e a.now x) leads outputs in
       record {
         now = d;
@@ -143,7 +137,7 @@ module _ (before after : Option Broken → PlayState → Type 0) (events : List 
 
 pub all_looked : (seen : Option Broken → PlayState → Type 0) (events : List WorldEvent) (c : PlayState) (broken : Option Broken) (place : ℕ) (p : PlayingOf) → Looks seen events c broken place p → length events ≤ place → FollowsAll seen p broken events c
 all_looked seen events c broken place p a l =
-    let none = none_behind events place l in (
+    let none = none_left events place l in (
       a.now,
       (
         a.found,

@@ -26,6 +26,7 @@ use Rattle.sms_script.specs.declared.report.rows.GivenRow.{GivenRow}
 use Rattle.sms_centre_rows.specs.declared.reports.delivery.Delivery.{Delivery}
 use Rattle.sms_script.specs.declared.event.Act.{Act}
 use Rattle.sms_script.specs.declared.event.StopPoint.{StopPoint}
+use Rattle.sms_play.proofs.judging.Looking.{none_left}
 
 -- ---- the centre
 
@@ -59,15 +60,9 @@ pub none_waits : (d : Draft) (most : ℕ) (c : PlayState) → accepted_after d m
 none_waits d zero c = refl
 none_waits d (suc most) c = refl
 
-pub none_behind : {A : Type 0} (xs : List A) (n : ℕ) → length xs ≤ n → drop n xs ≡ []
-none_behind [] zero l = refl
-none_behind [] (suc n) l = refl
-none_behind (x ∷ xs) zero l = absurd (omega (arith, l))
-none_behind (x ∷ xs) (suc n) l = none_behind xs n (omega (arith, l))
-
 -- all that wait were accepted
 pub all_accepted : (d : Draft) (most place : ℕ) (waiting : List Delivery) (c : PlayState) → length waiting ≤ place → accepted_after d most (drop place waiting) c ≡ c
-all_accepted d most place waiting c l = ap (λ (xs : List Delivery). accepted_after d most xs c) (none_behind waiting place l) ∙ none_waits d most c
+all_accepted d most place waiting c l = ap (λ (xs : List Delivery). accepted_after d most xs c) (none_left waiting place l) ∙ none_waits d most c
 
 drop_append : {A : Type 0} (xs ys : List A) (n : ℕ) → n ≤ length xs → drop n (xs ++ ys) ≡ drop n xs ++ ys
 drop_append xs ys zero l = refl

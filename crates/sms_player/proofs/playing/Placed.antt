@@ -3,6 +3,7 @@ use Rattle.std.proofs.Common.{◌≡◌, ℕ, zero, suc, ◌+◌, List, [], ◌�
 use Rattle.std.specs.Str.{bytes_eq}
 use Rattle.std.proofs.lemmas.Bool.{cases_Bool, cond-false, cond-true}
 use Rattle.std.proofs.lemmas.Slice.Eq.{bytes_eq-Decides}
+use Rattle.std.proofs.lemmas.Option.{same_Some}
 use Rattle.sms_base.specs.Among.{Among}
 use Rattle.sms_play.specs.PlayState.{Party, numbers_of, party_at, with_party}
 use Rattle.sms_player.specs.playing.Places.{IsFirstAt, place_from}
@@ -71,9 +72,6 @@ pub record IsThere (k place : ℕ) (n : List ℕ) (ps : List Party) : Type 0 whe
   pub found : party_at n ps ≡ Some party
   pub first : IsFirstAt behind party ps
 
-some_same : (k place : ℕ) → Some k ≡ Some place → k ≡ place
-some_same k place e = cc
-
 pub there : (k place : ℕ) (n : List ℕ) (ps : List Party) → place_from k n ps ≡ Some place → IsThere k place n ps
 there k place n [] e = absurd (no e)
   where
@@ -81,7 +79,7 @@ there k place n [] e = absurd (no e)
     no e = absurd cc
 there k place n (p ∷ ps) e = ⊎_elim
     (λ (t : bytes_eq p.number n ≡ true).
-    let same : k ≡ place = some_same k place (sym (cond-true (bytes_eq p.number n) (Some k) (place_from (k + 1) n ps) t) ∙ e) in
+    let same : k ≡ place = same_Some k place (sym (cond-true (bytes_eq p.number n) (Some k) (place_from (k + 1) n ps) t) ∙ e) in
     record { party = p; behind = zero; place_is = omega (arith, same); number = (bytes_eq-Decides p.number n).0 t; found = cond-true (bytes_eq p.number n) (Some p) (party_at n ps) t; first = refl })
     (λ (t : bytes_eq p.number n ≡ false).
     let r : IsThere (k + 1) place n ps = there (k + 1) place n ps (sym (cond-false (bytes_eq p.number n) (Some k) (place_from (k + 1) n ps) t) ∙ e) in

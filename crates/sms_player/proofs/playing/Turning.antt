@@ -10,8 +10,9 @@ use Rattle.sms_player.specs.playing.Plays.{Represents}
 use Rattle.sms_player.specs.playing.Played.{PlayingOf}
 use Rattle.sms_player.specs.playing.Playing.{LeadsTo, or_no_memory}
 use Rattle.sms_player.proofs.playing.Fitting.{anyhow}
-use Rattle.sms_player.proofs.playing.Outcomes.{none_behind, or_none}
+use Rattle.sms_player.proofs.playing.Outcomes.{or_none}
 use Rattle.sms_script.specs.declared.event.WorldEvent.{WorldEvent}
+use Rattle.sms_play.proofs.judging.Looking.{none_left}
 
 -- ---- one event
 
@@ -62,4 +63,4 @@ module _ (events : List WorldEvent) (c : PlayState) (place : ℕ) (p : PlayingOf
   stops_there q e BadSetup low is leads = faulty e BadSetup low is leads
 
   pub all_played : length events ≤ place → (d : PlayState) × ((played_on 1 events c ≡ Ok d) × Represents d p)
-  all_played l = (a.now, (a.goes ∙ ap (λ (es : List WorldEvent). played_on (place + 1) es a.now) (none_behind events place l), a.represents))
+  all_played l = (a.now, (a.goes ∙ ap (λ (es : List WorldEvent). played_on (place + 1) es a.now) (none_left events place l), a.represents))

@@ -15,6 +15,7 @@ use Rattle.sms_base.specs.declared.carried.Kind.TheVariants.{Ack, Error}
 use Rattle.sms_base.specs.declared.holder.Holder.{Holder}
 use Rattle.sms_base.specs.declared.holder.Holder.TheVariants.{Entry}
 use Rattle.sms_base.proofs.UtcClocks.{stamp_is_written}
+use Rattle.sms_base.proofs.OctetLaws.{octets_themselves}
 use Rattle.sms_control.specs.declared.link_state.Opened.{Opened}
 use Rattle.sms_intake.specs.HandsetIntake.{from_read, from_submit, is_past, wish_of}
 use Rattle.sms_intake.specs.PartBodies.{deliver_octets, deliver_of, deliver_written, is_wish}
@@ -36,7 +37,7 @@ use Rattle.sms_tpdu.specs.TpduGrammar.{IsSubmit, IsWrittenDeliver, IsWrittenSubm
 use Rattle.sms_tpdu.specs.declared.deliver.Deliver.{Deliver}
 use Rattle.sms_tpdu.specs.declared.carrier.Carrier.TheVariants.{InData}
 use Rattle.sms_tpdu.specs.declared.fault.TpduFault.{TpduFault}
-use Rattle.sms_tpdu.specs.declared.fault.TpduFault.TheVariants.{Truncated, TrailingOctets, BadAddress, BadTime, UserDataTooLong, UnsupportedType, UnsupportedValidity, SpareBits, BadHeader}
+use Rattle.sms_tpdu.specs.declared.fault.TpduFault.TheVariants.{Truncated}
 use Rattle.sms_tpdu.specs.declared.submit.Submit.{Submit as SubmitOf}
 use Rattle.sms_tpdu.specs.declared.up.Up.{Up}
 use Rattle.sms_tpdu.specs.declared.up.Up.TheVariants.{Submit, DeliverReport}
@@ -56,7 +57,7 @@ use Rattle.sms_relay_run.specs.declared.relay_laws.refusal.Refusal.{Refusal}
 use Rattle.sms_relay_run.specs.declared.relay_laws.refusal.Refusal.TheVariants.{NoHandset as NoHandsetOf, PastLimit as PastLimitOf}
 use Rattle.sms_relay_run.specs.declared.relay_laws.relayed.Relayed.{Relayed}
 use Rattle.sms_relay_run.proofs.relay_laws.Accepting.{accepted_is, accepted_store, body, submitted}
-use Rattle.sms_relay_run.proofs.relay_laws.FirstFrame.{acknowledged, answered, links_answered, arrived_unit_is, drafted, itself, links_opened, replied_is, sender, store_for, replied_answer}
+use Rattle.sms_relay_run.proofs.relay_laws.FirstFrame.{acknowledged, answered, links_answered, arrived_unit_is, drafted, links_opened, replied_is, sender, store_for, replied_answer}
 use Rattle.sms_relay_run.proofs.relay_laws.Offered.{idle, offered_is, unit_down}
 
 -- ---- what is sent
@@ -108,14 +109,7 @@ IsAlike refusal own = (told_cause refusal ≡ cause_of own) × (cause_octet (fai
 
 fault_alike : (fault : TpduFault) → IsAlike (unread fault) (refusal_of fault)
 fault_alike Truncated = (refl, refl)
-fault_alike TrailingOctets = (refl, refl)
-fault_alike BadAddress = (refl, refl)
-fault_alike BadTime = (refl, refl)
-fault_alike UserDataTooLong = (refl, refl)
-fault_alike UnsupportedType = (refl, refl)
-fault_alike UnsupportedValidity = (refl, refl)
-fault_alike SpareBits = (refl, refl)
-fault_alike BadHeader = (refl, refl)
+fault_alike _ = (refl, refl)
 
 -- ---- each unit
 
@@ -183,7 +177,7 @@ module _ (centre : Address) (from : List ℕ) (now : ℕ) (unit : List ℕ) (tag
     accepted_sent false e =
         offered_there (to ∷ []) None None
         (ap (λ (o : Option HandsetLink). or_new_line to o)
-        (cond-false (bytes_eq from to) (Some line) (line_at to (sender to ∷ [])) e ∙ cond-true (bytes_eq to to) (Some (sender to)) None (itself to)))
+        (cond-false (bytes_eq from to) (Some line) (line_at to (sender to ∷ [])) e ∙ cond-true (bytes_eq to to) (Some (sender to)) None (octets_themselves to)))
 
     accepted_is_so : (octets : List ℕ) → IsNumber from → IsMoment now → IsSubmit octets s → IsAccepted centre (own_address from) now reference s accepted
     accepted_is_so octets number moment is =

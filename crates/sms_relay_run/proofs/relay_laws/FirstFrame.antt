@@ -3,6 +3,7 @@ use Rattle.std.proofs.Common.{◌≡◌, ℕ, ◌<◌, ◌≤◌, length, List, 
 use Rattle.std.specs.Str.{bytes_eq}
 use Rattle.std.proofs.lemmas.Bool.{cond-true}
 use Rattle.std.proofs.lemmas.Slice.Eq.{bytes_eq-Decides}
+use Rattle.sms_base.proofs.OctetLaws.{octets_themselves}
 use Rattle.sms_base.specs.declared.address.Address.{Address}
 use Rattle.sms_base.specs.declared.carried.Kind.{Kind}
 use Rattle.sms_base.specs.declared.holder.Holder.{Holder}
@@ -27,9 +28,6 @@ use Rattle.sms_centre_spec.specs.Draft.{Draft, Store, draft_of, on_links, store_
 use Rattle.sms_centre_spec.specs.Receiving.{reply, reply_on, unit_received}
 use Rattle.sms_centre_spec.specs.SoundRows.{first_rows}
 use Rattle.sms_relay_run.specs.relay_laws.Relaying.{frame_for, setup_for}
-
-pub itself : (digits : List ℕ) → bytes_eq digits digits ≡ true
-itself digits = (bytes_eq-Decides digits digits).1 refl
 
 -- ---- the sender's line: as it comes up, with the unit in, and answered
 
@@ -120,7 +118,7 @@ module _ (from unit : List ℕ) (rest : List HandsetLink) where
       let frames : List Sent = acknowledged from ∷ replied_answer from kind reference tag answer ∷ [] in
       ap (λ (l : HandsetLink). on_links (reply_on l s.moment kind reference tag answer links_opened) d) (found (opened from unit) refl)
       ∙ ap (λ (ls : List HandsetLink). drafted s (links_of ls frames))
-      (cond-true (bytes_eq from from) (line ∷ rest) (opened from unit ∷ with_line line rest) (itself from))
+      (cond-true (bytes_eq from from) (line ∷ rest) (opened from unit ∷ with_line line rest) (octets_themselves from))
 
 -- ---- the unit comes
 
@@ -141,4 +139,4 @@ arrived_unit_is centre from now unit others tag some few =
     ap (λ (l : HandsetLink). follow (frame_taken frame tag l d)) at
     ∙ ap (λ (t : Turn). follow (frame_heard (sender from) tag t d)) turned
     ∙ ap (λ (ls : List HandsetLink). follow (unit_received from tag unit (up_at unit) (drafted (store_for centre now) (links_of ls (acknowledged from ∷ [])))))
-    (cond-true (bytes_eq from from) (opened from unit ∷ rest) (sender from ∷ with_line (opened from unit) rest) (itself from))
+    (cond-true (bytes_eq from from) (opened from unit ∷ rest) (sender from ∷ with_line (opened from unit) rest) (octets_themselves from))

@@ -2,8 +2,6 @@
 use Rattle.std.proofs.Common.{◌≡◌, ℕ, ◌<◌, ◌≤◌, Bool, true, false, List, ◌∷◌, ◌++◌, length, refl, ap, subst, arith}
 use Rattle.std.proofs.lemmas.List.{length-append}
 use Rattle.sms_alphabet.specs.DataCodingScheme.{coding_of}
-use Rattle.sms_alphabet.specs.declared.scheme.Coding.{Coding}
-use Rattle.sms_alphabet.specs.declared.scheme.Coding.TheVariants.{Septets, Octets, Ucs2, Compressed}
 use Rattle.sms_base.specs.Address.{IsAddress}
 use Rattle.sms_base.specs.AddressKind.{is_name}
 use Rattle.sms_base.specs.declared.address.Address.{Address}
@@ -15,18 +13,13 @@ use Rattle.sms_tpdu.specs.TpduGrammar.{IsSubmit, IsUp, IsValidityField}
 use Rattle.sms_tpdu.specs.declared.carrier.Carrier.TheVariants.{InData}
 use Rattle.sms_tpdu.specs.declared.up.Up.{Up}
 use Rattle.sms_tpdu.specs.declared.up.Up.TheVariants.{Submit, DeliverReport}
-use Rattle.sms_tpdu.specs.UserDataGrammar.{greatest_length, octets_of, user_data_field}
+use Rattle.sms_tpdu.specs.UserDataGrammar.{user_data_field}
 use Rattle.sms_tpdu.specs.declared.submit.Submit.{Submit as SubmitOf}
 use Rattle.sms_tpdu.specs.declared.validity_period.ValidityPeriod.{ValidityPeriod}
 use Rattle.sms_tpdu.specs.declared.validity_period.ValidityPeriod.TheVariants.{NotPresent, Relative, Absolute}
 use Rattle.sms_tpdu.proofs.NameValues.{field_short}
 use Rattle.sms_tpdu.proofs.Times.{stamp_len}
-
-few_octets : (coding : Coding) (n : ℕ) → n ≤ greatest_length coding → octets_of coding n ≤ 140
-few_octets Septets n le = omega arith
-few_octets Octets n le = le
-few_octets Ucs2 n le = le
-few_octets Compressed n le = le
+use Rattle.sms_tpdu.proofs.Lengths.{few_octets}
 
 spelled_short : (b : Bool) (text : List ℕ) (a : Address) → is_name a.ton ≡ b → IsAddress a → IsSpelledAddress b text a → length text ≤ 12
 spelled_short false text a e valid is =

@@ -3,6 +3,7 @@ use Rattle.std.proofs.Common.{◌≡◌, ℕ, ◌+◌, List, [], ◌∷◌, Bool
 use Rattle.std.specs.Prelude.{nat_le, ◌&&◌}
 use Rattle.std.specs.Str.{bytes_eq}
 use Rattle.std.proofs.lemmas.Bool.{and_right, cond-true, le-leb, or_from}
+use Rattle.sms_base.proofs.OctetLaws.{octets_themselves}
 use Rattle.sms_base.specs.declared.address.Address.{Address}
 use Rattle.sms_base.specs.declared.carried.Carried.{Carried}
 use Rattle.sms_base.specs.declared.holder.Holder.TheVariants.{Part}
@@ -31,7 +32,7 @@ use Rattle.sms_centre_spec.specs.Draft.{Store, waiting_in}
 use Rattle.sms_centre_spec.specs.Offering.{offer_among, offer_queued, offer_on, read_of, unit_of}
 use Rattle.sms_relay_run.specs.relay_laws.Relaying.{outputs}
 use Rattle.sms_relay_run.proofs.relay_laws.Accepting.{accepted_store, body, submitted, tpdu}
-use Rattle.sms_relay_run.proofs.relay_laws.FirstFrame.{links_of, itself}
+use Rattle.sms_relay_run.proofs.relay_laws.FirstFrame.{links_of}
 
 -- it waits alone, and is due
 abbrev pub waiting_queued : ℕ → QueuedPart
@@ -80,7 +81,7 @@ module _ (centre : Address) (from : List ℕ) (now : ℕ) (s : SubmitOf) where
   store = accepted_store centre from now s
 
   waits : waiting_in to store ≡ waiting_queued now ∷ []
-  waits = cond-true (bytes_eq to to) (waiting_queued now ∷ []) [] (itself to)
+  waits = cond-true (bytes_eq to to) (waiting_queued now ∷ []) [] (octets_themselves to)
 
   abbrev pub unit_down : List ℕ
   unit_down = data_down 0 (relay_address centre) (tpdu centre from now s)

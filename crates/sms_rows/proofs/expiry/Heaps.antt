@@ -200,13 +200,6 @@ among_get (x ∷ xs) (suc k) d l = inr (among_get xs k d (omega (arith, l)))
 pub past_at : (heap : List (Reverse Deadline)) (place now n : ℕ) (r : Reverse Deadline) → place < length heap → r ≡ get_or heap place r → r.0.limit ≤ now → n ≡ (get_or heap place r).0.id → IsPastIn now heap n
 past_at heap place now n r within is due e = (get_or heap place r, among_get heap place r within, subst (λ (x : Reverse Deadline). x.0.limit ≤ now) is due, sym e)
 
-pub last_or_before : (n x : ℕ) (xs : List ℕ) → Among n (xs ++ x ∷ []) → Among n xs ⊎ (n ≡ x)
-last_or_before n x [] m = ⊎_elim (λ (e : n ≡ x). inr e) (λ (k : ⊥). elim k [ ]) m
-last_or_before n x (y ∷ ys) m = ⊎_elim
-    (λ (e : n ≡ y). inl (inl e))
-    (λ (r : Among n (ys ++ x ∷ [])). ⊎_elim (λ (k : Among n ys). inl (inr k)) (λ (e : n ≡ x). inr e) (last_or_before n x ys r))
-    m
-
 pub only_collected : (now : ℕ) (rs : List (Reverse Deadline)) (before ids sorted : List ℕ) → before ≡ [] → ((n : ℕ) → Among n ids → Among n before ⊎ IsPastIn now rs n) → IsPermutation ids sorted → HasOnlyPast now (map inside rs) sorted
 only_collected now rs before ids sorted none only p id m = ⊎_elim
     (λ (k : Among id before). let n : Among id [] = subst (λ (l : List ℕ). Among id l) none k in elim n [ ])

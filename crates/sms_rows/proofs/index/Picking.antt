@@ -4,14 +4,11 @@ use Rattle.std.proofs.lemmas.Bool.{cases_eq}
 use Rattle.sms_rows.specs.table.Table.{AllAbove, Rises, put, row_at}
 use Rattle.sms_rows.proofs.table.Tables.{rises_put, rises_without, row_at_put, row_at_put_other, row_at_without, row_at_without_other, row_behind, row_here}
 use Rattle.sms_rows.specs.index.Picked.{before_all, pick_of, picked, set_at}
+use Rattle.sms_rows.proofs.table.Places.{above_none}
 
 -- ---- rows in order are told by what stands under each key
 
 module _ {A : Type 0} (key : A → ℕ) where
-  none_above : (n : ℕ) (xs : List A) → AllAbove key n xs → row_at key n xs ≡ None
-  none_above n [] h = refl
-  none_above n (x ∷ xs) h = row_behind key n x xs (λ e. absurd (omega (arith, h.0))) ∙ none_above n xs h.1
-
   above_at_key : (n : ℕ) (x : A) (xs : List A) → AllAbove key n xs → row_at key (key x) xs ≡ Some x → n < key x
   above_at_key n x [] h e = absurd cc
   above_at_key n x (y ∷ ys) h e = ⊎_elim
@@ -31,7 +28,7 @@ module _ {A : Type 0} (key : A → ℕ) where
       let heads : x ≡ y = some_row x y (sym (row_here key (key x) x xs refl) ∙ same (key x) ∙ row_here key (key x) y ys e) in
       let tails : xs ≡ ys = alike xs ys h.1 k.1 (λ n. ⊎_elim
       (λ (f : key x ≡ n). subst (λ (m : ℕ). row_at key m xs ≡ row_at key m ys) f
-      (none_above (key x) xs h.0 ∙ sym (none_above (key x) ys (subst (λ (m : ℕ). AllAbove key m ys) e k.0))))
+      (above_none key (key x) xs h.0 ∙ sym (above_none key (key x) ys (subst (λ (m : ℕ). AllAbove key m ys) e k.0))))
       (λ (f : key x ≡ n → ⊥). sym (row_behind key n x xs f) ∙ same n ∙ row_behind key n y ys (λ g. f (sym e ∙ g)))
       (cases_eq (key x) n)) in
       ap (λ (z : A). z ∷ xs) heads ∙ ap (λ (zs : List A). y ∷ zs) tails)
@@ -93,7 +90,7 @@ module _ {A : Type 0} {B : Type 0} (key : A → ℕ) (own : B → ℕ) (pick : A
   picked_at n [] h = refl
   picked_at n (x ∷ xs) h = ⊎_elim
       (λ (e : key x ≡ n).
-      kept_here n x (pick x) (picked pick xs) refl e (none_above own n (picked pick xs) (subst (λ (m : ℕ). AllAbove own m (picked pick xs)) e (picked_above (key x) xs h.0)))
+      kept_here n x (pick x) (picked pick xs) refl e (above_none own n (picked pick xs) (subst (λ (m : ℕ). AllAbove own m (picked pick xs)) e (picked_above (key x) xs h.0)))
       ∙ ap (λ (o : Option A). pick_of pick o) (sym (row_here key n x xs e)))
       (λ (e : key x ≡ n → ⊥).
       kept_behind n x (pick x) (picked pick xs) refl e ∙ picked_at n xs h.1 ∙ ap (λ (o : Option A). pick_of pick o) (sym (row_behind key n x xs e)))

@@ -12,6 +12,7 @@ use Rattle.sms_rows.specs.index.First.{first_such, is_ahead_from, is_past_from}
 use Rattle.sms_rows.specs.index.Shapes.{TreeOf}
 use Rattle.sms_rows.specs.index.Trees.{tree_of}
 use Rattle.sms_rows.specs.declared.index.tree.Fork.{Fork}
+use Rattle.sms_rows.proofs.table.Places.{above_none}
 
 -- ---- the rows of a tree with a root
 
@@ -75,10 +76,6 @@ module _ {A : Type 0} (key : A → ℕ) where
   below_before [] x r h = tt
   below_before (y ∷ l) x r h = (above_right (key y) l x r h.0, below_before l x r h.1)
 
-  none_above : (n : ℕ) (xs : List A) → AllAbove key n xs → row_at key n xs ≡ None
-  none_above n [] h = refl
-  none_above n (x ∷ xs) h = row_behind key n x xs (λ e. absurd (omega (arith, h.0))) ∙ none_above n xs h.1
-
   same_above : (n : ℕ) (xs : List A) → AllAbove key n xs → without key n xs ≡ xs
   same_above n [] h = refl
   same_above n (x ∷ xs) h = without_behind key n x xs (λ e. absurd (omega (arith, h.0))) ∙ ap (λ (l : List A). x ∷ l) (same_above n xs h.1)
@@ -91,7 +88,7 @@ module _ {A : Type 0} (key : A → ℕ) where
 
   pub found_left : (n : ℕ) (l : List A) (x : A) (r : List A) → Rises key (l ++ x ∷ r) → n < key x → row_at key n l ≡ row_at key n (l ++ x ∷ r)
   found_left n [] x r h lt =
-      sym (row_behind key n x r (λ e. absurd (omega (arith, lt))) ∙ none_above n r (above_lower key n (key x) r (omega (arith, lt)) h.0))
+      sym (row_behind key n x r (λ e. absurd (omega (arith, lt))) ∙ above_none key n r (above_lower key n (key x) r (omega (arith, lt)) h.0))
   found_left n (y ∷ l) x r h lt = ⊎_elim
       (λ (e : key y ≡ n). row_here key n y l e ∙ sym (row_here key n y (l ++ x ∷ r) e))
       (λ (e : key y ≡ n → ⊥). row_behind key n y l e ∙ found_left n l x r h.1 lt ∙ sym (row_behind key n y (l ++ x ∷ r) e))

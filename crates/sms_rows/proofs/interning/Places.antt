@@ -4,7 +4,7 @@ use Rattle.std.specs.List.{AllByRecursion, IsDistinct, find, list_any, slice_get
 use Rattle.std.specs.Prelude.{◌||◌}
 use Rattle.std.specs.Option.{option_map}
 use Rattle.std.specs.Str.{bytes_eq}
-use Rattle.std.proofs.lemmas.Bool.{cases_Bool, cond-true, cond-false}
+use Rattle.std.proofs.lemmas.Bool.{cases_Bool, cond-true, cond-false, or_parts}
 use Rattle.std.proofs.lemmas.Option.{slice_get-map}
 use Rattle.std.proofs.lemmas.Slice.Eq.{bytes_eq-Decides}
 use Rattle.indexmap.specs.IndexSet.{insert_all, insert_key}
@@ -53,16 +53,12 @@ found_place v ks i k at found = own_place v ks i k at (passes ks found) where
       (λ (t : is_same v x ≡ false). passes xs (sym (cond-false (is_same v x) (Some x) (find (is_same v) xs) t) ∙ e))
       (cases_Bool (is_same v x))
 
-neither : (a b : Bool) → (a || b) ≡ false → (a ≡ false) × (b ≡ false)
-neither true b e = absurd cc
-neither false b e = (refl, e)
-
 pub no_place : (v : Number) (ks : List Number) → list_any (is_same v) ks ≡ false → (i : ℕ) → ¬ IsAt v.digits i (map digits_in ks)
 no_place v [] none i at = absurd cc
 no_place v (k ∷ ks) none zero at =
     let d : v.digits ≡ k.digits = sym cc in
-    absurd (true≢false (sym ((bytes_eq-Decides v.digits k.digits).1 d) ∙ (neither (is_same v k) (list_any (is_same v) ks) none).0))
-no_place v (k ∷ ks) none (suc i) at = no_place v ks (neither (is_same v k) (list_any (is_same v) ks) none).1 i at
+    absurd (true≢false (sym ((bytes_eq-Decides v.digits k.digits).1 d) ∙ (or_parts (is_same v k) (list_any (is_same v) ks) none).0))
+no_place v (k ∷ ks) none (suc i) at = no_place v ks (or_parts (is_same v k) (list_any (is_same v) ks) none).1 i at
 
 -- ---- moved into another memory, one after the other
 
@@ -75,7 +71,7 @@ other_way a b e = ⊎_elim
 any_append : (t : Number → Bool) (xs : List Number) (y : Number) → list_any t xs ≡ false → t y ≡ false → list_any t (xs ++ y ∷ []) ≡ false
 any_append t [] y e f = ap (λ (b : Bool). b || false) f
 any_append t (x ∷ xs) y e f =
-    let n = neither (t x) (list_any t xs) e in
+    let n = or_parts (t x) (list_any t xs) e in
     ap (λ (b : Bool). b || list_any t (xs ++ y ∷ [])) n.0 ∙ any_append t xs y n.1 f
 
 insert_each : (done xs : List Number) → AllByRecursion (λ (x : Number). list_any (is_same x) done ≡ false) xs → IsDistinct is_same xs → insert_all is_same done xs ≡ done ++ xs

@@ -27,7 +27,7 @@ module _ {A : Type 0} (key : A → ℕ) where
   found_at n zero (x ∷ xs) d h = row_here key n x xs h
   found_at n (suc place) (x ∷ xs) d h = row_behind key n x xs (λ e. absurd (omega (arith, h.0))) ∙ found_at n place xs d h.1
 
-  above_none : (n : ℕ) (xs : List A) → AllAbove key n xs → row_at key n xs ≡ None
+  pub above_none : (n : ℕ) (xs : List A) → AllAbove key n xs → row_at key n xs ≡ None
   above_none n [] h = refl
   above_none n (x ∷ xs) h = row_behind key n x xs (λ e. absurd (omega (arith, h.0))) ∙ above_none n xs h.1
 
@@ -78,7 +78,7 @@ module _ {A : Type 0} (key : A → ℕ) where
 
   -- ---- a search by halves
 
-  above_at : (a j : ℕ) (xs : List A) (d : A) → AllAbove key a xs → j < length xs → a < key (get_or xs j d)
+  pub above_at : (a j : ℕ) (xs : List A) (d : A) → AllAbove key a xs → j < length xs → a < key (get_or xs j d)
   above_at a j [] d h l = absurd (omega arith)
   above_at a zero (x ∷ xs) d h l = h.0
   above_at a (suc j) (x ∷ xs) d h l = above_at a j xs d h.1 (omega arith)

@@ -1,23 +1,16 @@
 -- Which references are held by what waits.
-use Rattle.std.proofs.Common.{◌≡◌, ℕ, ◌==◌, ◌||◌, Bool, true, false, List, [], ◌∷◌, ◌++◌, refl, ap, ◌∙◌}
+use Rattle.std.proofs.Common.{◌≡◌, ℕ, ◌==◌, ◌||◌, List, [], ◌∷◌, ◌++◌, ap, ◌∙◌}
+use Rattle.sms_base.proofs.Bools.{or_assoc, or_false}
 use Rattle.sms_centre_rows.specs.waiting.References.{is_held}
 use Rattle.sms_centre_rows.specs.declared.waiting.queued_part.QueuedPart.{QueuedPart}
-
-or_false : (a : Bool) → (a || false) ≡ a
-or_false true = refl
-or_false false = refl
-
-or_both : (a b c : Bool) → (a || (b || c)) ≡ ((a || b) || c)
-or_both true b c = refl
-or_both false b c = refl
 
 -- one more that waits
 is_held_push : (r : ℕ) (ls : List QueuedPart) (l : QueuedPart) → is_held r (ls ++ l ∷ []) ≡ (is_held r ls || l.reference == r)
 is_held_push r [] l = or_false (l.reference == r)
-is_held_push r (x ∷ ls) l = ap (λ b. x.reference == r || b) (is_held_push r ls l) ∙ or_both (x.reference == r) (is_held r ls) (l.reference == r)
+is_held_push r (x ∷ ls) l = ap (λ b. x.reference == r || b) (is_held_push r ls l) ∙ or_assoc (x.reference == r) (is_held r ls) (l.reference == r)
 
 -- one more behind others
 pub is_held_behind : (r : ℕ) (others ls : List QueuedPart) (l : QueuedPart) → is_held r (others ++ (ls ++ l ∷ [])) ≡ (is_held r (others ++ ls) || l.reference == r)
 is_held_behind r [] ls l = is_held_push r ls l
 is_held_behind r (x ∷ others) ls l =
-    ap (λ b. x.reference == r || b) (is_held_behind r others ls l) ∙ or_both (x.reference == r) (is_held r (others ++ ls)) (l.reference == r)
+    ap (λ b. x.reference == r || b) (is_held_behind r others ls l) ∙ or_assoc (x.reference == r) (is_held r (others ++ ls)) (l.reference == r)

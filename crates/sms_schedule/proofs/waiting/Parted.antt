@@ -1,8 +1,9 @@
 -- Rows in two parts: what is found, offered and held in both, and what is put or removed behind the first.
-use Rattle.std.proofs.Common.{◌≡◌, ℕ, suc, ◌-◌, ◌<◌, List, [], ◌∷◌, ◌++◌, length, Option, Some, Bool, true, false, refl, sym, ◌∙◌, ap, subst, arith, ⊎_elim}
+use Rattle.std.proofs.Common.{◌≡◌, ℕ, suc, ◌-◌, ◌<◌, List, [], ◌∷◌, ◌++◌, length, Option, Some, Bool, false, refl, sym, ◌∙◌, ap, subst, arith, ⊎_elim}
 use Rattle.std.specs.Prelude.{◌==◌, ◌&&◌, ◌||◌, not, slice_get}
 use Rattle.std.specs.Option.{option_or}
 use Rattle.std.proofs.lemmas.Bool.{cases_eq, cond-false, ne_eqb}
+use Rattle.sms_base.proofs.Bools.{or_assoc}
 use Rattle.sms_rows.specs.table.Keys.{pair_key}
 use Rattle.sms_rows.specs.table.Table.{Rises, insert, put, row_at, without}
 use Rattle.sms_rows.proofs.table.Tables.{insert_behind, rises_put, rises_without, row_behind, row_here, without_behind}
@@ -63,10 +64,6 @@ module _ {A : Type 0} (key : A → ℕ) where
   rises_without_parted n xs ys below rises = subst (λ (l : List A). Rises key l) (without_parted n xs ys below) (rises_without key n (xs ++ ys) rises)
 
 -- ---- what is offered
-
-or_assoc : (a b c : Bool) → (a || (b || c)) ≡ ((a || b) || c)
-or_assoc true b c = refl
-or_assoc false b c = refl
 
 pub beside_parted : (now : ℕ) (chosen : QueuedPart) (ls ks : List QueuedPart) → waits_beside now chosen (ls ++ ks) ≡ (waits_beside now chosen ls || waits_beside now chosen ks)
 beside_parted now chosen [] ks = refl

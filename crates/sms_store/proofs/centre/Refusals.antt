@@ -1,36 +1,40 @@
 -- Why a database is refused, step by step.
-use Rattle.std.proofs.Common.{◌≡◌, ◌≢◌, ◌⊎◌, refl, inl, inr, false, true, Bool, if◌then◌else◌, nat_lt, ℕ, List, [], ◌∷◌, arith, Result, Ok, Err}
+use Rattle.std.proofs.Common.{◌≡◌, ◌≢◌, ◌⊎◌, ◌<◌, refl, inl, inr, false, true, Bool, if◌then◌else◌, nat_lt, ℕ, List, [], ◌∷◌, arith, Result, Ok, Err}
 use Rattle.std.proofs.lemmas.Bool.Decides.{nat_tests}
 use Rattle.sqlite.specs.Effect.{Database}
 use Rattle.sms_rows.specs.declared.keep.error.KeepError.{KeepError}
 use Rattle.sms_rows.specs.declared.keep.error.KeepError.TheVariants.{OldVersion, NotThisStore}
 use Rattle.sms_store_sql.specs.declared.listing.meta.StoreKind.TheVariants.{Centre}
 use Rattle.sms_store_sql.specs.schema.Judged.{judged, same_kind}
-use Rattle.sms_store_tables.specs.centre.CentreSchema.{centre_schema, first_schema}
+use Rattle.sms_store_tables.specs.centre.CentreSchema.{centre_schema, first_schema, second_schema}
 use Rattle.sms_store_tables.specs.centre.MetaList.{meta_list}
 use Rattle.sms_store_tables.specs.centre.FirstMetaList.{meta_list as first_list}
+use Rattle.sms_store_tables.specs.centre.SecondMetaList.{meta_list as second_list}
 use Rattle.sms_store.specs.keeping.Refusing.{RefusesSaid}
-use Rattle.sms_store.specs.centre.Refusing.{SaysNow, SaysFirst, IsOldNow, IsOtherNow, RefusesNow, IsOld, IsOther, Refuses}
+use Rattle.sms_store.specs.centre.Refusing.{SaysNow, SaysFirst, SaysSecond, IsOldNow, IsOtherNow, RefusesNow, IsOld, IsOther, Refuses}
 use Rattle.sms_store.specs.centre.Types.{Meta}
 use Rattle.sms_store.proofs.keeping.Openings.{refuses_for}
 
--- ---- by one who wants version 2, of the tables of version 2
+-- ---- by one who wants version 3, of the tables of version 3
 
-pub refuses_now_said : (db : Database) (error : KeepError) → RefusesSaid centre_schema meta_list Centre 2 error db → RefusesNow error db
-refuses_now_said db error h = refuses_for (SaysNow 2 (Err OldVersion)) (SaysNow 2 (Err NotThisStore)) IsOldNow IsOtherNow db (λ says. says) (λ says. inr says) error h
+pub refuses_now_said : (db : Database) (error : KeepError) → RefusesSaid centre_schema meta_list Centre 3 error db → RefusesNow error db
+refuses_now_said db error h = refuses_for (SaysNow 3 (Err OldVersion)) (SaysNow 3 (Err NotThisStore)) IsOldNow IsOtherNow db (λ says. says) (λ says. inr says) error h
 
-pub refuses_now : (least : ℕ) (db : Database) (error : KeepError) → db.schema ≢ first_schema → RefusesNow error db → Refuses least error db
-refuses_now least db error other h = refuses_for IsOldNow IsOtherNow (IsOld least) IsOther db (λ says. inl says) foreign error h
+pub refuses_now : (least : ℕ) (db : Database) (error : KeepError) → db.schema ≢ first_schema → db.schema ≢ second_schema → RefusesNow error db → Refuses least error db
+refuses_now least db error other_first other_second h = refuses_for IsOldNow IsOtherNow (IsOld least) IsOther db (λ says. inl says) foreign error h
   where
     foreign : IsOtherNow db → IsOther db
-    foreign (inl others) = inl (record { some = others.0; other = others.1; other_first = other })
+    foreign (inl others) = inl (record { some = others.0; other = others.1; other_second = other_second; other_first = other_first })
     foreign (inr says) = inr (inl says)
 
--- what is refused of the tables of version 1 by one who wants that version
+-- what is refused of the tables of an earlier version by one who wants that version
 pub refuses_first : (db : Database) (error : KeepError) → RefusesSaid first_schema first_list Centre 1 error db → Refuses 1 error db
-refuses_first db error h = refuses_for (SaysFirst 1 (Err OldVersion)) (SaysFirst 1 (Err NotThisStore)) (IsOld 1) IsOther db (λ says. inr says) (λ says. inr (inr says)) error h
+refuses_first db error h = refuses_for (SaysFirst 1 (Err OldVersion)) (SaysFirst 1 (Err NotThisStore)) (IsOld 1) IsOther db (λ says. inr (inr says)) (λ says. inr (inr (inr says))) error h
 
--- ---- one who wants version 2 refuses of them what the other refuses, and version 2
+pub refuses_second : (db : Database) (error : KeepError) → RefusesSaid second_schema second_list Centre 2 error db → Refuses 1 error db
+refuses_second db error h = refuses_for (SaysSecond 2 (Err OldVersion)) (SaysSecond 2 (Err NotThisStore)) (IsOld 1) IsOther db (λ says. inr (inl says)) (λ says. inr (inr (inl says))) error h
+
+-- ---- one who wants version 3 refuses of them what the other refuses, and the later ones
 
 abbrev verdict : Bool → Bool → Bool → Result (Unit {0}) KeepError
 verdict ours above below = if ours then (if above then Err NotThisStore else if below then Err OldVersion else Ok tt) else Err NotThisStore
@@ -49,26 +53,37 @@ other_verdict true true b false d over says = let no : false ≡ true = over ref
 other_verdict true false true c d over says = absurd cc
 other_verdict true false false c d over says = absurd cc
 
-second_over : (v : ℕ) → nat_lt 2 v ≡ false → nat_lt v 2 ≡ false → nat_lt 1 v ≡ true
-second_over v above below = grind (arith, nat_tests, above, below)
+module _ (wanted least : ℕ) (less : least < wanted) where
+  one_over : (v : ℕ) → nat_lt wanted v ≡ false → nat_lt v wanted ≡ false → nat_lt least v ≡ true
+  one_over v above below = grind (arith, nat_tests, less, above, below)
 
-above_over : (v : ℕ) → nat_lt 2 v ≡ true → nat_lt 1 v ≡ true
-above_over v above = grind (arith, nat_tests, above)
+  above_over : (v : ℕ) → nat_lt wanted v ≡ true → nat_lt least v ≡ true
+  above_over v above = grind (arith, nat_tests, less, above)
 
-second_judged : (said : List Meta) → judged Centre 2 said ≡ Ok tt → judged Centre 1 said ≡ Err NotThisStore
-second_judged [] says = absurd cc
-second_judged (m ∷ []) says = second_verdict (same_kind m.kind Centre) (nat_lt 2 m.version) (nat_lt m.version 2) (nat_lt 1 m.version) (nat_lt m.version 1) (second_over m.version) says
-second_judged (m ∷ other ∷ more) says = absurd cc
+  one_judged : (said : List Meta) → judged Centre wanted said ≡ Ok tt → judged Centre least said ≡ Err NotThisStore
+  one_judged [] says = absurd cc
+  one_judged (m ∷ []) says = second_verdict (same_kind m.kind Centre) (nat_lt wanted m.version) (nat_lt m.version wanted) (nat_lt least m.version) (nat_lt m.version least) (one_over m.version) says
+  one_judged (m ∷ other ∷ more) says = absurd cc
 
-other_judged : (said : List Meta) → judged Centre 2 said ≡ Err NotThisStore → judged Centre 1 said ≡ Err NotThisStore
-other_judged [] says = refl
-other_judged (m ∷ []) says = other_verdict (same_kind m.kind Centre) (nat_lt 2 m.version) (nat_lt m.version 2) (nat_lt 1 m.version) (nat_lt m.version 1) (above_over m.version) says
-other_judged (m ∷ other ∷ more) says = refl
+  other_judged : (said : List Meta) → judged Centre wanted said ≡ Err NotThisStore → judged Centre least said ≡ Err NotThisStore
+  other_judged [] says = refl
+  other_judged (m ∷ []) says = other_verdict (same_kind m.kind Centre) (nat_lt wanted m.version) (nat_lt m.version wanted) (nat_lt least m.version) (nat_lt m.version least) (above_over m.version) says
+  other_judged (m ∷ other ∷ more) says = refl
 
-pub refuses_second : (db : Database) → SaysFirst 2 (Ok tt) db → Refuses 2 NotThisStore db
-refuses_second db says = inr (inr (record { tables = says.tables; said = λ said held. second_judged said (says.said said held) }))
+-- of the tables of version 1
+pub refuses_later_first : (db : Database) → SaysFirst 3 (Ok tt) db → Refuses 3 NotThisStore db
+refuses_later_first db says = inr (inr (inr (record { tables = says.tables; said = λ said held. one_judged 3 1 (omega arith) said (says.said said held) })))
 
-pub refuses_first_now : (db : Database) (error : KeepError) → RefusesSaid first_schema first_list Centre 2 error db → Refuses 2 error db
+pub refuses_first_now : (db : Database) (error : KeepError) → RefusesSaid first_schema first_list Centre 3 error db → Refuses 3 error db
 refuses_first_now db error h =
-    refuses_for (SaysFirst 2 (Err OldVersion)) (SaysFirst 2 (Err NotThisStore)) (IsOld 2) IsOther db (λ says. inr says)
-    (λ says. inr (inr (record { tables = says.tables; said = λ said held. other_judged said (says.said said held) }))) error h
+    refuses_for (SaysFirst 3 (Err OldVersion)) (SaysFirst 3 (Err NotThisStore)) (IsOld 3) IsOther db (λ says. inr (inr says))
+    (λ says. inr (inr (inr (record { tables = says.tables; said = λ said held. other_judged 3 1 (omega arith) said (says.said said held) })))) error h
+
+-- of those of version 2
+pub refuses_later_second : (db : Database) → SaysSecond 3 (Ok tt) db → Refuses 3 NotThisStore db
+refuses_later_second db says = inr (inr (inl (record { tables = says.tables; said = λ said held. one_judged 3 2 (omega arith) said (says.said said held) })))
+
+pub refuses_second_now : (db : Database) (error : KeepError) → RefusesSaid second_schema second_list Centre 3 error db → Refuses 3 error db
+refuses_second_now db error h =
+    refuses_for (SaysSecond 3 (Err OldVersion)) (SaysSecond 3 (Err NotThisStore)) (IsOld 3) IsOther db (λ says. inr (inl says))
+    (λ says. inr (inr (inl (record { tables = says.tables; said = λ said held. other_judged 3 2 (omega arith) said (says.said said held) })))) error h

@@ -17,12 +17,13 @@ use Rattle.sms_store_tables.specs.centre.PartList.{part_list}
 use Rattle.sms_store_tables.specs.centre.ReferenceList.{reference_list}
 use Rattle.sms_store_tables.specs.centre.HandsetList.{handset_list}
 use Rattle.sms_store_tables.specs.centre.ReportList.{report_list}
+use Rattle.sms_store_tables.specs.centre.BarList.{bar_list}
 use Rattle.sms_store_tables.specs.centre.PriorityList.{priority_list}
 use Rattle.sms_store_migration.specs.Versions.{centre_meta}
 use Rattle.sms_store.specs.keeping.Stores.{Founds}
 use Rattle.sms_store.specs.centre.CentreRows.{centre_stores}
 use Rattle.sms_store_tables.specs.centre.Completing.{Completes}
-use Rattle.sms_store_migration.proofs.Apart.{free_2, free_4, free_6, free_8, free_10, free_12}
+use Rattle.sms_store_migration.proofs.Apart.{free_2, free_4, free_6, free_8, free_10, free_12, free_15}
 use Rattle.sms_store.specs.centre.Founding.{HasFirst, HasNext, MakesFirst, MakesNext, Tabulates, Declares}
 use Rattle.sms_store.proofs.keeping.Lists.{holds_none, other_list}
 use Rattle.sms_store_tables.specs.TablePlan.{made}
@@ -67,7 +68,7 @@ tables_made a b c p q has =
       made.schema,
       record { meta = made.others.0 ∙ had.1.meta; messages = made.others.1.0 ∙ had.1.messages; parts = made.others.1.1.0 ∙ had.1.parts },
       record { references = made.others.1.1.1.0 ∙ had.2.references; handsets = made.others.1.1.1.1.0 ∙ had.2.handsets; reports = made.others.1.1.1.1.1.0 ∙ had.2.reports },
-      made.empty,
+      record { priorities = made.ranks; bars = made.bars },
     )
 
 module _ (a b : State) (p : Alters meta_list (put meta_list.key centre_meta) a b) (has : a.now.schema ≡ centre_schema) where
@@ -75,7 +76,7 @@ module _ (a b : State) (p : Alters meta_list (put meta_list.key centre_meta) a b
   blank_still m apart free none = other_list meta_list centre_schema refl (put meta_list.key centre_meta) a b p m [] has apart free (holds_none m _ none)
 
 pub declared : (a b : State) → Alters meta_list (put meta_list.key centre_meta) a b → Declares a.now b.now
-declared a b p has first next none setup = record {
+declared a b p has first next last setup = record {
   schema = p.schema has;
   meta = p.changed has [] (holds_none meta_list _ first.meta);
   messages = blank_still a b p has message_list (λ (e : 2 ≡ 0). omega (arith, e)) free_2 first.messages;
@@ -83,7 +84,8 @@ declared a b p has first next none setup = record {
   references = blank_still a b p has reference_list (λ (e : 6 ≡ 0). omega (arith, e)) free_6 next.references;
   handsets = blank_still a b p has handset_list (λ (e : 8 ≡ 0). omega (arith, e)) free_8 next.handsets;
   reports = blank_still a b p has report_list (λ (e : 10 ≡ 0). omega (arith, e)) free_10 next.reports;
-  priorities = blank_still a b p has priority_list (λ (e : 12 ≡ 0). omega (arith, e)) free_12 none;
+  priorities = blank_still a b p has priority_list (λ (e : 12 ≡ 0). omega (arith, e)) free_12 last.priorities;
+  bars = blank_still a b p has bar_list (λ (e : 15 ≡ 0). omega (arith, e)) free_15 last.bars;
 }
 
 pub founded : (a b c : Database) → Tabulates a b → Declares b c → Founds centre_stores a c

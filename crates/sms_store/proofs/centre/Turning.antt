@@ -3,8 +3,9 @@ use Rattle.std.proofs.Common.{◌≡◌, List, [], ◌∷◌, refl, arith}
 use Rattle.sqlite.specs.State.{State}
 use Rattle.sms_store_sql.specs.listing.Inside.{Alters}
 use Rattle.sms_store_sql.specs.listing.Transaction.{Leads}
-use Rattle.sms_store_migration.proofs.Apart.{free_0, free_2, free_4, free_6, free_8, free_10, free_12}
+use Rattle.sms_store_migration.proofs.Apart.{free_0, free_2, free_4, free_6, free_8, free_10, free_12, free_15}
 use Rattle.sms_store_tables.specs.centre.CentreSchema.{centre_schema}
+use Rattle.sms_store_tables.specs.centre.BarList.{bar_list}
 use Rattle.sms_store_tables.specs.centre.MetaList.{meta_list}
 use Rattle.sms_store_tables.specs.centre.MessageList.{message_list}
 use Rattle.sms_store_tables.specs.centre.PartList.{part_list}
@@ -16,7 +17,7 @@ use Rattle.sms_store_migration.specs.Versions.{centre_meta}
 use Rattle.sms_store.specs.keeping.Stores.{Turns}
 use Rattle.sms_store.proofs.keeping.Lists.{other_list}
 use Rattle.sms_store.specs.centre.CentreRows.{centre_stores}
-use Rattle.sms_store.specs.centre.Types.{MessageRow, PartRow, ReferenceRow, HandsetRow, ReportRow, PriorityRow}
+use Rattle.sms_store.specs.centre.Types.{BarRow, MessageRow, PartRow, ReferenceRow, HandsetRow, ReportRow, PriorityRow}
 
 pub messages_turn : (change : List MessageRow → List MessageRow) (old new : State) → Alters message_list change old new → Leads (Turns centre_stores (λ rows. record rows { messages = change rows.messages })) old new
 messages_turn change old new alters = record {
@@ -30,6 +31,7 @@ messages_turn change old new alters = record {
     handsets = other_list message_list centre_schema refl change old new alters handset_list rows.handsets h.schema (λ (e : 8 ≡ 2). omega (arith, e)) free_8 h.handsets;
     reports = other_list message_list centre_schema refl change old new alters report_list rows.reports h.schema (λ (e : 10 ≡ 2). omega (arith, e)) free_10 h.reports;
     priorities = other_list message_list centre_schema refl change old new alters priority_list rows.priorities h.schema (λ (e : 12 ≡ 2). omega (arith, e)) free_12 h.priorities;
+    bars = other_list message_list centre_schema refl change old new alters bar_list rows.bars h.schema (λ (e : 15 ≡ 2). omega (arith, e)) free_15 h.bars;
   };
 }
 
@@ -45,6 +47,7 @@ parts_turn change old new alters = record {
     handsets = other_list part_list centre_schema refl change old new alters handset_list rows.handsets h.schema (λ (e : 8 ≡ 4). omega (arith, e)) free_8 h.handsets;
     reports = other_list part_list centre_schema refl change old new alters report_list rows.reports h.schema (λ (e : 10 ≡ 4). omega (arith, e)) free_10 h.reports;
     priorities = other_list part_list centre_schema refl change old new alters priority_list rows.priorities h.schema (λ (e : 12 ≡ 4). omega (arith, e)) free_12 h.priorities;
+    bars = other_list part_list centre_schema refl change old new alters bar_list rows.bars h.schema (λ (e : 15 ≡ 4). omega (arith, e)) free_15 h.bars;
   };
 }
 
@@ -60,6 +63,7 @@ references_turn change old new alters = record {
     handsets = other_list reference_list centre_schema refl change old new alters handset_list rows.handsets h.schema (λ (e : 8 ≡ 6). omega (arith, e)) free_8 h.handsets;
     reports = other_list reference_list centre_schema refl change old new alters report_list rows.reports h.schema (λ (e : 10 ≡ 6). omega (arith, e)) free_10 h.reports;
     priorities = other_list reference_list centre_schema refl change old new alters priority_list rows.priorities h.schema (λ (e : 12 ≡ 6). omega (arith, e)) free_12 h.priorities;
+    bars = other_list reference_list centre_schema refl change old new alters bar_list rows.bars h.schema (λ (e : 15 ≡ 6). omega (arith, e)) free_15 h.bars;
   };
 }
 
@@ -75,6 +79,7 @@ handsets_turn change old new alters = record {
     handsets = alters.changed h.schema rows.handsets h.handsets;
     reports = other_list handset_list centre_schema refl change old new alters report_list rows.reports h.schema (λ (e : 10 ≡ 8). omega (arith, e)) free_10 h.reports;
     priorities = other_list handset_list centre_schema refl change old new alters priority_list rows.priorities h.schema (λ (e : 12 ≡ 8). omega (arith, e)) free_12 h.priorities;
+    bars = other_list handset_list centre_schema refl change old new alters bar_list rows.bars h.schema (λ (e : 15 ≡ 8). omega (arith, e)) free_15 h.bars;
   };
 }
 
@@ -90,6 +95,7 @@ reports_turn change old new alters = record {
     handsets = other_list report_list centre_schema refl change old new alters handset_list rows.handsets h.schema (λ (e : 8 ≡ 10). omega (arith, e)) free_8 h.handsets;
     reports = alters.changed h.schema rows.reports h.reports;
     priorities = other_list report_list centre_schema refl change old new alters priority_list rows.priorities h.schema (λ (e : 12 ≡ 10). omega (arith, e)) free_12 h.priorities;
+    bars = other_list report_list centre_schema refl change old new alters bar_list rows.bars h.schema (λ (e : 15 ≡ 10). omega (arith, e)) free_15 h.bars;
   };
 }
 
@@ -105,5 +111,22 @@ priorities_turn change old new alters = record {
     handsets = other_list priority_list centre_schema refl change old new alters handset_list rows.handsets h.schema (λ (e : 8 ≡ 12). omega (arith, e)) free_8 h.handsets;
     reports = other_list priority_list centre_schema refl change old new alters report_list rows.reports h.schema (λ (e : 10 ≡ 12). omega (arith, e)) free_10 h.reports;
     priorities = alters.changed h.schema rows.priorities h.priorities;
+    bars = other_list priority_list centre_schema refl change old new alters bar_list rows.bars h.schema (λ (e : 15 ≡ 12). omega (arith, e)) free_15 h.bars;
+  };
+}
+
+pub bars_turn : (change : List BarRow → List BarRow) (old new : State) → Alters bar_list change old new → Leads (Turns centre_stores (λ rows. record rows { bars = change rows.bars })) old new
+bars_turn change old new alters = record {
+  inside = alters.inside;
+  changed = λ rows h. record {
+    schema = alters.schema h.schema;
+    meta = other_list bar_list centre_schema refl change old new alters meta_list (centre_meta ∷ []) h.schema (λ (e : 0 ≡ 15). omega (arith, e)) free_0 h.meta;
+    messages = other_list bar_list centre_schema refl change old new alters message_list rows.messages h.schema (λ (e : 2 ≡ 15). omega (arith, e)) free_2 h.messages;
+    parts = other_list bar_list centre_schema refl change old new alters part_list rows.parts h.schema (λ (e : 4 ≡ 15). omega (arith, e)) free_4 h.parts;
+    references = other_list bar_list centre_schema refl change old new alters reference_list rows.references h.schema (λ (e : 6 ≡ 15). omega (arith, e)) free_6 h.references;
+    handsets = other_list bar_list centre_schema refl change old new alters handset_list rows.handsets h.schema (λ (e : 8 ≡ 15). omega (arith, e)) free_8 h.handsets;
+    reports = other_list bar_list centre_schema refl change old new alters report_list rows.reports h.schema (λ (e : 10 ≡ 15). omega (arith, e)) free_10 h.reports;
+    priorities = other_list bar_list centre_schema refl change old new alters priority_list rows.priorities h.schema (λ (e : 12 ≡ 15). omega (arith, e)) free_12 h.priorities;
+    bars = alters.changed h.schema rows.bars h.bars;
   };
 }

@@ -18,6 +18,11 @@ pub record HasNext (db : Database) : Type 0 where
   pub handsets : db.trees 8 ≡ []
   pub reports : db.trees 10 ≡ []
 
+-- the last two
+pub record HasLast (db : Database) : Type 0 where
+  pub priorities : db.trees 12 ≡ []
+  pub bars : db.trees 15 ≡ []
+
 abbrev pub MakesFirst : Database → Database → Type 0
 MakesFirst before after = before.schema ≡ no_tables → (after.schema ≡ with_part) × HasFirst after
 
@@ -25,9 +30,9 @@ abbrev pub MakesNext : Database → Database → Type 0
 MakesNext before after = before.schema ≡ with_part → HasFirst before → (after.schema ≡ first_schema) × HasFirst after × HasNext after
 
 abbrev pub Tabulates : Database → Database → Type 0
-Tabulates before after = before.schema ≡ no_tables → (after.schema ≡ centre_schema) × HasFirst after × HasNext after × (after.trees 12 ≡ [])
+Tabulates before after = before.schema ≡ no_tables → (after.schema ≡ centre_schema) × HasFirst after × HasNext after × HasLast after
 
 -- what the store is
 abbrev pub Declares : Database → Database → Type 0
 Declares before after =
-    before.schema ≡ centre_schema → HasFirst before → HasNext before → before.trees 12 ≡ [] → (setup : Setup) → IsStore after (first_rows setup)
+    before.schema ≡ centre_schema → HasFirst before → HasNext before → HasLast before → (setup : Setup) → IsStore after (first_rows setup)

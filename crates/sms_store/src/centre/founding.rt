@@ -11,7 +11,7 @@ use sms_store_tables::centre::{CentreStore, complete_tables};
 use sqlite::{Alter, Error, Transaction};
 use std::alloc::Global;
 
-/// Makes the seven tables and the index of reports.
+/// Makes the eight tables and the index of reports.
 pub(crate) fn make_tables<S: Alter>(tx: &mut Transaction<'_, S>) -> Result<(), Error>
     ensures same_reference { tx.new.conn.ghost_name ≡ tx.old.conn.ghost_name }
     ensures done { MakesStep S.Store tx.old.conn.now tx.new.conn.now (Leads Tabulates) result }
@@ -31,7 +31,7 @@ pub(crate) fn declare<S: Alter>(alloc: Global, tx: &mut Transaction<'_, S>) -> R
     ensures survives { Spares S.Store tx.old.conn.now tx.new.conn.now }
 {
     let meta = Meta {
-        version: 2,
+        version: 3,
         kind: StoreKind::Centre,
     };
     put::<CentreStore, Meta, S>(alloc, tx, &meta)

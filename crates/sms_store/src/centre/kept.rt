@@ -7,7 +7,7 @@ ghost use Rattle.sms_store.specs.centre.Lawful.{centre_lawful};
 use crate::centre::founding::{declare, make_tables};
 use crate::keeping::Kept;
 use sms_base::Listed;
-use sms_centre_rows::messages::{MessageRow, PartRow, PriorityRow};
+use sms_centre_rows::messages::{BarRow, MessageRow, PartRow, PriorityRow};
 use sms_centre_rows::reports::ReportRow;
 use sms_centre_rows::waiting::{HandsetRow, ReferenceRow};
 use sms_centre_spec::octets::copy_of_setup;
@@ -42,7 +42,8 @@ impl Kept for Setup {
         write::<CentreStore, ReferenceRow, S>(alloc, tx, changes.references.as_slice())?;
         write::<CentreStore, HandsetRow, S>(alloc, tx, changes.handsets.as_slice())?;
         write_revisions::<CentreStore, ReportRow, S>(alloc, tx, changes.reports.as_slice())?;
-        write::<CentreStore, PriorityRow, S>(alloc, tx, changes.priorities.as_slice())
+        write::<CentreStore, PriorityRow, S>(alloc, tx, changes.priorities.as_slice())?;
+        write::<CentreStore, BarRow, S>(alloc, tx, changes.bars.as_slice())
     }
 
     fn read<S: Alter>(&self, alloc: Global, tx: &mut Transaction<'_, S>) -> Result<Rows, Error> {
@@ -52,6 +53,7 @@ impl Kept for Setup {
         let handsets = load::<CentreStore, HandsetRow, S>(alloc, tx)?;
         let reports = load::<CentreStore, ReportRow, S>(alloc, tx)?;
         let priorities = load::<CentreStore, PriorityRow, S>(alloc, tx)?;
+        let bars = load::<CentreStore, BarRow, S>(alloc, tx)?;
         let setup = copy_of_setup(alloc, self)?;
         Ok(Rows {
             messages: Listed::from_vec(messages),
@@ -60,6 +62,7 @@ impl Kept for Setup {
             handsets: Listed::from_vec(handsets),
             reports: Listed::from_vec(reports),
             priorities: Listed::from_vec(priorities),
+            bars: Listed::from_vec(bars),
             setup,
         })
     }

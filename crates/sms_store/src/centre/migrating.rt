@@ -1,4 +1,4 @@
-//! A keep of a store of version 1, which becomes one of version 2.
+//! A keep of a store of an earlier version, which becomes one of version 3.
 ghost use Rattle.std.specs.Prelude.{◌≡◌, false, IfErr, IfOk, MatchOption, OnOk};
 ghost use Rattle.sqlite.specs.Files.{file_state};
 ghost use Rattle.sqlite.specs.Held.{state};
@@ -6,31 +6,32 @@ ghost use Rattle.sqlite.specs.Effect.{Database, IsDatabase};
 ghost use Rattle.sqlite.specs.State.{HasCleanDisk};
 ghost use Rattle.sqlite_wal.specs.Files.{image_at};
 ghost use Rattle.sms_store_sql.specs.listing.Transaction.{Committed};
-ghost use Rattle.sms_store_migration.specs.Migrating.{Migrates};
+ghost use Rattle.sms_store_migration.specs.Migrating.{Migrates, MigratesSecond};
 ghost use Rattle.sms_store.specs.centre.Migrating.{IsMigrated, Migrated};
-ghost use Rattle.sms_store_tables.specs.centre.CentreSchema.{first_schema};
+ghost use Rattle.sms_store_tables.specs.centre.CentreSchema.{first_schema, second_schema};
 ghost use Rattle.sms_store_tables.specs.centre.FirstMetaList.{meta_list as first_list};
+ghost use Rattle.sms_store_tables.specs.centre.SecondMetaList.{meta_list as second_list};
 ghost use Rattle.sms_store_sql.specs.declared.listing.meta.StoreKind.TheVariants.{Centre};
 ghost use Rattle.sms_store.specs.centre.CentreRows.{centre_stores};
-ghost use Rattle.sms_store.specs.centre.Refusing.{Refuses, SaysFirst};
+ghost use Rattle.sms_store.specs.centre.Refusing.{Refuses, SaysFirst, SaysSecond};
 ghost use Rattle.sms_store.specs.centre.Stopping.{LeavesRaised};
 ghost use Rattle.sms_store.specs.keeping.InKeep.{connection_in, setup_in, state_in};
 ghost use Rattle.sms_store.specs.keeping.Opened.{IsAsItWas, IsIn, IsOfNoStore, LeavesStore};
 ghost use Rattle.sms_store.specs.keeping.Refusing.{RefusesSaid};
 
 use crate::centre::CentreKeep;
-use crate::centre::kind::SaidFirst;
+use crate::centre::kind::{SaidFirst, SaidSecond};
 use crate::centre::readying::ready_current;
 use crate::keeping::{StoreKeep, judge_said};
 use sms_centre_spec::Setup;
 use sms_rows::keep::{KeepError, Refusals};
-use sms_store_migration::raise;
+use sms_store_migration::{raise, raise_second};
 use sms_store_sql::listing::{Health, write_cause_of};
-use sms_store_tables::centre::is_first_schema;
+use sms_store_tables::centre::{is_first_schema, is_second_schema};
 use sqlite::{Alter, Connection, File, FileFrom, FileStore, Start, Unknown};
 use std::alloc::Global;
 
-// Makes a store that says that it is of version 1 one of version 2.
+// Makes a store that says that it is of version 1 one of version 3.
 fn raise_first<S: Alter>(alloc: Global, conn: &mut Connection<S>) -> Result<(), KeepError>
     ensures mode { conn.old.in_transaction ≡ false → conn.new.in_transaction ≡ false }
     ensures clean { HasCleanDisk (state S.Store conn.new) → HasCleanDisk (state S.Store conn.old) }
@@ -47,7 +48,24 @@ fn raise_first<S: Alter>(alloc: Global, conn: &mut Connection<S>) -> Result<(), 
     }
 }
 
-// Makes a database ready as `ready` does, and a store of version 1 one of version 2.
+// Makes a store that says that it is of version 2 one of version 3.
+fn raise_second_said<S: Alter>(alloc: Global, conn: &mut Connection<S>) -> Result<(), KeepError>
+    ensures mode { conn.old.in_transaction ≡ false → conn.new.in_transaction ≡ false }
+    ensures clean { HasCleanDisk (state S.Store conn.new) → HasCleanDisk (state S.Store conn.old) }
+    ensures ok { HasCleanDisk (state S.Store conn.new) → (state S.Store conn.old).now.schema ≡ second_schema
+        → OnOk result (Committed MigratesSecond (state S.Store conn.old) (state S.Store conn.new) × SaysSecond 2 (Ok tt) (state S.Store conn.old).now) }
+    ensures err { HasCleanDisk (state S.Store conn.new) → (state S.Store conn.old).now.schema ≡ second_schema
+        → IfErr result (λ error. RefusesSaid second_schema second_list Centre 2 error (state S.Store conn.old).now
+        × IsAsItWas (state S.Store conn.old) (state S.Store conn.new)) }
+    ensures stop { (state S.Store conn.old).now.schema ≡ second_schema → LeavesStore centre_stores (state S.Store conn.old) (state S.Store conn.new) }
+{
+    match judge_said::<Setup, SaidSecond, S>(alloc, conn, &SaidSecond { version: 2 }) {
+        Ok(()) => raise_second(alloc, conn),
+        Err(error) => Err(error),
+    }
+}
+
+// Makes a database ready as `ready` does, and a store of an earlier version one of version 3.
 fn ready_raised<S: Alter>(alloc: Global, conn: &mut Connection<S>) -> Result<(), KeepError>
     ensures mode { conn.old.in_transaction ≡ false → conn.new.in_transaction ≡ false }
     ensures clean { HasCleanDisk (state S.Store conn.new) → HasCleanDisk (state S.Store conn.old) }
@@ -56,15 +74,18 @@ fn ready_raised<S: Alter>(alloc: Global, conn: &mut Connection<S>) -> Result<(),
         × IsAsItWas (state S.Store conn.old) (state S.Store conn.new)) }
     ensures stop { LeavesStore centre_stores (state S.Store conn.old) (state S.Store conn.new) }
 {
-    if !is_first_schema(conn.schema()) {
-        return ready_current(alloc, conn);
+    if is_first_schema(conn.schema()) {
+        return raise_first(alloc, conn);
     }
-    raise_first(alloc, conn)
+    if is_second_schema(conn.schema()) {
+        return raise_second_said(alloc, conn);
+    }
+    ready_current(alloc, conn)
 }
 
 impl<S: Alter + Drop> CentreKeep<S> {
-    /// Opens as `over` does, and makes a store of version 1 one of version 2 first. An error gives the connection back,
-    /// unchanged or closed. A stop inside the call leaves the store of version 1, or one of version 2 with its rows.
+    /// Opens as `over` does, and makes a store of version 1 or 2 one of version 3 first. An error gives the connection
+    /// back, unchanged or closed. A stop inside the call leaves the store of that version, or one of version 3 with its rows.
     /// Once the keep is there, a stop leaves what the keep has.
     pub fn migrate_over(
         alloc: Global,
@@ -96,7 +117,7 @@ impl<S: Alter + Drop> CentreKeep<S> {
 }
 
 impl<T: Start> CentreKeep<FileStore<FileFrom<T>>> {
-    /// Opens the file at the path as `open_from` does, and makes a store of version 1 one of version 2 first.
+    /// Opens the file at the path as `open_from` does, and makes a store of version 1 or 2 one of version 3 first.
     pub fn migrate_from(
         rt: &HostRuntime,
         path: &str,
@@ -125,7 +146,7 @@ impl<T: Start> CentreKeep<FileStore<FileFrom<T>>> {
 }
 
 impl CentreKeep<FileStore<File>> {
-    /// Opens the file at the path as `open` does, and makes a store of version 1 one of version 2 first.
+    /// Opens the file at the path as `open` does, and makes a store of version 1 or 2 one of version 3 first.
     pub fn migrate(
         rt: &HostRuntime,
         path: &str,

@@ -16,7 +16,7 @@ ghost use Rattle.sms_store.specs.keeping.InKeep.{setup_in, state_in};
 use crate::centre::CentreKeep;
 use sms_centre_spec::{Rows, Setup};
 use sms_rows::keep::{Keep, KeepError};
-use sms_store_tables::centre::{is_centre_schema, is_first_schema};
+use sms_store_tables::centre::{is_centre_schema, is_first_schema, is_second_schema};
 use sqlite::{Alter, Connection};
 use std::alloc::Global;
 
@@ -37,7 +37,10 @@ fn keep_over<S: Alter + Drop>(
     ensures setup { IfOk result (λ keep. setup_in keep ≡ setup) }
     ensures clean { IfOk result (λ keep. HasCleanDisk (state_in S.Store keep) → HasCleanDisk (state S.Store conn)) }
 {
-    if is_centre_schema(conn.schema()) || is_first_schema(conn.schema()) {
+    if is_centre_schema(conn.schema())
+        || is_second_schema(conn.schema())
+        || is_first_schema(conn.schema())
+    {
         match CentreKeep::over(alloc, conn, setup) {
             Ok(keep) => Ok(keep),
             Err((error, _)) => Err(error),
@@ -63,7 +66,7 @@ fn look_in<S: Alter + Drop>(keep: CentreKeep<S>) -> Result<Looked<S>, KeepError>
 }
 
 /// The rows of the centre's store that the connection is to. The setup is not stored: the one that is handed in is
-/// among the rows. A store of version 1 is `OldVersion`, and what is no store of a centre `NotThisStore`.
+/// among the rows. A store of version 1 or 2 is `OldVersion`, and what is no store of a centre `NotThisStore`.
 pub fn look_over<S: Alter + Drop>(
     alloc: Global,
     conn: Connection<S>,

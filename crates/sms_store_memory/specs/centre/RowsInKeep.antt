@@ -14,6 +14,7 @@ rows_in keep = record {
   handsets = keep.handsets.rows;
   reports = keep.reports.rows;
   priorities = keep.priorities.rows;
+  bars = keep.bars.rows;
   setup = keep.setup;
 }
 
@@ -25,6 +26,7 @@ pub record HasRoomFor (changes : Changes) (keep : MemoryKeep) : Type 0 where
   pub handsets : HasRoom (length changes.handsets) keep.handsets
   pub reports : HasRoom (length changes.reports) keep.reports
   pub priorities : HasRoom (length changes.priorities) keep.priorities
+  pub bars : HasRoom (length changes.bars) keep.bars
 
 -- What contracts see of it. It is honest at all times, and it is never closed.
 abbrev pub state_of : MemoryKeep → KeepState Rows

@@ -6,7 +6,7 @@ ghost use Rattle.sms_centre_rows.specs.reports.Reports.{report_reaching};
 use crate::centre::keep::MemoryKeep;
 use crate::revising::Reaching;
 use sms_base::Originator;
-use sms_centre_rows::messages::{MessageRow, PartRow, PriorityRow};
+use sms_centre_rows::messages::{BarRow, MessageRow, PartRow, PriorityRow};
 use sms_centre_rows::reports::{ReportKind, ReportRow};
 use sms_centre_rows::waiting::{HandsetRow, Progress, ReferenceRow};
 use sms_centre_spec::octets::copy_of_octets;
@@ -98,6 +98,18 @@ impl CopiedRow<MemoryKeep> for ReportRow {
             kind,
             made: self.made,
             progress: self.progress,
+        })
+    }
+}
+
+impl CopiedRow<MemoryKeep> for BarRow {
+    fn copied(&self, _alloc: Global) -> Result<BarRow, AllocError> {
+        Ok(BarRow {
+            place: self.place,
+            source: self.source,
+            handset: self.handset,
+            reference: self.reference,
+            is_own: self.is_own,
         })
     }
 }

@@ -11,7 +11,7 @@ use crate::centre::revisions::copy_of_changes;
 use crate::preparing::{copy_rows, make_room};
 use crate::revising::revise_all;
 use sms_base::Listed;
-use sms_centre_rows::messages::{MessageRow, PartRow, PriorityRow};
+use sms_centre_rows::messages::{BarRow, MessageRow, PartRow, PriorityRow};
 use sms_centre_rows::reports::ReportRow;
 use sms_centre_rows::waiting::{HandsetRow, ReferenceRow};
 use sms_centre_spec::octets::copy_of_setup;
@@ -29,6 +29,7 @@ pub struct MemoryKeep {
     pub(crate) handsets: Table<HandsetRow>,
     pub(crate) reports: Table<ReportRow>,
     pub(crate) priorities: Table<PriorityRow>,
+    pub(crate) bars: Table<BarRow>,
     // Handed in at the start.
     pub(crate) setup: Setup,
     pub(crate) alloc: Global,
@@ -45,6 +46,7 @@ fn no_rows(alloc: Global, setup: Setup) -> Rows
         handsets: Listed::new(alloc),
         reports: Listed::new(alloc),
         priorities: Listed::new(alloc),
+        bars: Listed::new(alloc),
         setup,
     }
 }
@@ -61,6 +63,7 @@ impl MemoryKeep {
             handsets: Table::new(alloc),
             reports: Table::new(alloc),
             priorities: Table::new(alloc),
+            bars: Table::new(alloc),
             setup,
             alloc,
             refusals: Refusals::none(),
@@ -109,6 +112,13 @@ impl MemoryKeep {
         &self.priorities
     }
 
+    /// The references that stay barred once their messages are forgotten.
+    pub fn bars(&self) -> &Table<BarRow>
+        ensures { result.now.rows ≡ (rows_in self.now).bars }
+    {
+        &self.bars
+    }
+
     /// The setup that was handed in at the start.
     pub fn setup(&self) -> &Setup
         ensures { result.now ≡ (rows_in self.now).setup }
@@ -128,7 +138,8 @@ impl MemoryKeep {
         make_room(alloc, &mut self.references, changes.references.len())?;
         make_room(alloc, &mut self.handsets, changes.handsets.len())?;
         make_room(alloc, &mut self.reports, changes.reports.len())?;
-        make_room(alloc, &mut self.priorities, changes.priorities.len())
+        make_room(alloc, &mut self.priorities, changes.priorities.len())?;
+        make_room(alloc, &mut self.bars, changes.bars.len())
     }
 
     // The changes, copied, with room for the rows that they bring.
@@ -153,6 +164,7 @@ impl MemoryKeep {
         self.handsets.apply_all(changes.handsets.into_vec());
         revise_all::<MemoryKeep, ReportRow>(&mut self.reports, changes.reports.into_vec());
         self.priorities.apply_all(changes.priorities.into_vec());
+        self.bars.apply_all(changes.bars.into_vec());
     }
 
     fn copy_lists(&self, rows: &mut Rows) -> Result<(), AllocError>
@@ -172,7 +184,8 @@ impl MemoryKeep {
             alloc,
             self.priorities.as_slice(),
             &mut rows.priorities,
-        )
+        )?;
+        copy_rows::<MemoryKeep, BarRow>(alloc, self.bars.as_slice(), &mut rows.bars)
     }
 
     fn copy_of_all(&self) -> Result<Rows, AllocError>

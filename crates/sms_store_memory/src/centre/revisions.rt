@@ -5,7 +5,7 @@ use crate::centre::keep::MemoryKeep;
 use crate::preparing::copy_changes;
 use sms_base::Listed;
 use sms_base::lending::put;
-use sms_centre_rows::messages::{MessageRow, PriorityRow};
+use sms_centre_rows::messages::{BarRow, MessageRow, PriorityRow};
 use sms_centre_rows::waiting::{HandsetRow, ReferenceRow, Revision};
 use sms_centre_spec::Changes;
 use sms_rows::memory::CopiedRow;
@@ -79,7 +79,8 @@ fn copy_lists(alloc: Global, changes: &Changes, copies: &mut Changes) -> Result<
         alloc,
         changes.priorities.as_slice(),
         &mut copies.priorities,
-    )
+    )?;
+    copy_changes::<MemoryKeep, BarRow>(alloc, changes.bars.as_slice(), &mut copies.bars)
 }
 
 /// The changes, copied.
@@ -93,6 +94,7 @@ pub(crate) fn copy_of_changes(alloc: Global, changes: &Changes) -> Result<Change
         handsets: Listed::new(alloc),
         reports: Listed::new(alloc),
         priorities: Listed::new(alloc),
+        bars: Listed::new(alloc),
     };
     copy_lists(alloc, changes, &mut copies)?;
     Ok(copies)

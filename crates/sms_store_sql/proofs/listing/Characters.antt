@@ -1,9 +1,10 @@
 -- Texts, character by character.
-use Rattle.std.proofs.Common.{◌≡◌, ℕ, ◌+◌, ◌<◌, ◌≤◌, List, [], ◌∷◌, ◌++◌, take, length, get_or, Bool, true, false, ◌&&◌, encode_utf8, encode_utf8_all, refl, sym, ap, ◌∙◌, arith, append-nil}
+use Rattle.std.proofs.Common.{◌≡◌, ℕ, ◌+◌, ◌<◌, ◌≤◌, List, [], ◌∷◌, ◌++◌, take, length, get_or, true, encode_utf8, encode_utf8_all, refl, sym, ap, ◌∙◌, arith, append-nil}
 use lib.Utf8.{scalar}
 use Rattle.std.specs.Str.{all_scalars}
 use Rattle.std.proofs.lemmas.List.{take_more, take_all, length_push}
 use Rattle.std.proofs.lemmas.Str.{encodes-append}
+use Rattle.std.proofs.lemmas.Bool.{and_from, and_parts}
 
 -- the characters so far
 pub record Gathered (all so_far : List ℕ) (n : ℕ) : Type 0 where
@@ -29,16 +30,9 @@ pub record Spelled (all text : List ℕ) (n : ℕ) : Type 0 where
   pub spells : text ≡ encode_utf8_all (take n all)
   pub are : all_scalars (take n all) ≡ true
 
-both_true : (a b : Bool) → a ≡ true → b ≡ true → (a && b) ≡ true
-both_true a b p q = rw (p, q) refl
-
-true_both : (a b : Bool) → (a && b) ≡ true → (a ≡ true) × (b ≡ true)
-true_both true b e = (refl, e)
-true_both false b e = absurd cc
-
 scalars_push : (cs : List ℕ) (c : ℕ) → all_scalars cs ≡ true → all_scalars (c ∷ []) ≡ true → all_scalars (cs ++ c ∷ []) ≡ true
 scalars_push [] c p q = q
-scalars_push (d ∷ cs) c p q = let both = true_both (scalar d) (all_scalars cs) p in both_true (scalar d) (all_scalars (cs ++ c ∷ [])) both.0 (scalars_push cs c both.1 q)
+scalars_push (d ∷ cs) c p q = let both = and_parts (scalar d) (all_scalars cs) p in and_from (scalar d) (all_scalars (cs ++ c ∷ [])) both.0 (scalars_push cs c both.1 q)
 
 pub spelled_more : (all text : List ℕ) (n c : ℕ) → Spelled all text n → n < length all → c ≡ get_or all n c → all_scalars (c ∷ []) ≡ true → Spelled all (text ++ encode_utf8 c) (n + 1)
 spelled_more all text n c s inside here scalar =

@@ -1,6 +1,7 @@
 -- A list of two columns whose key is both: what a list owes, in a few lines. It also shows that `IsList` can be met.
 use Rattle.std.proofs.Common.{◌≡◌, ℕ, ℤ, pos, ◌<◌, ◌/◌, ◌%◌, true, false, ◌&&◌, ◌==◌, [], ◌∷◌, codes, refl, ap, ap₂, ◌∙◌}
 use Rattle.std.specs.List.{list_all, list_any}
+use Rattle.sms_base.proofs.Bools.{and_true}
 use Rattle.sqlite.specs.declared.types.Value.TheVariants.{Null, Int}
 use Rattle.sqlite_value.specs.Order.{column}
 use Rattle.sqlite.specs.Schema.{Schema}
@@ -18,7 +19,7 @@ use Rattle.sqlite_tied.specs.Compute.{everything}
 use Rattle.sms_rows.specs.table.Keys.{pair_key}
 use Rattle.sms_store_sql.specs.listing.Columns.{number_in}
 use Rattle.sms_store_sql.specs.listing.Listing.{given, keyed_table, TableOf, ListOf, IsList, table_of, rowids_where, rows_where, whole_table, row_of, given_from, columns_of, equals, is_key_index}
-use Rattle.sms_store_sql.proofs.listing.Columns.{same_number, cast_null, cast_int, and_true, pair_found, pairs_agree}
+use Rattle.sms_store_sql.proofs.listing.Columns.{same_number, cast_null, cast_int, pair_found, pairs_agree}
 
 record Part : Type 0 where
   message : ℕ

@@ -2,7 +2,7 @@
 use Rattle.std.proofs.Common.{arith, ◌≡◌, ℕ, ℤ, ◌<ℤ◌, ◌==◌, List, [], ◌∷◌, ◌++◌, map, filter, length, Bool, true, false, not, ◌&&◌, ◌||◌, cond, refl, sym, ap, subst, ◌∙◌, int_eq}
 use Rattle.std.specs.List.{AllByRecursion, list_all, list_any}
 use Rattle.std.specs.Str.{bytes_eq}
-use Rattle.std.proofs.lemmas.Bool.{and_parts, eqb-true}
+use Rattle.std.proofs.lemmas.Bool.{and_parts, eqb-true, not-true}
 use Rattle.std.proofs.lemmas.Int.{ints}
 use Rattle.std.proofs.lemmas.List.Sorted.{length_permutation}
 use Rattle.std.proofs.lemmas.Slice.Eq.{bytes_eq-Decides}
@@ -72,10 +72,6 @@ mapped_all f P (x ∷ xs) h = (h.0, mapped_all f P xs h.1)
 apart : (a b : ℤ) → a <ℤ b → int_eq a b ≡ false
 apart a b low = grind (arith, ints, low)
 
-not_true : (b : Bool) → not b ≡ true → b ≡ false
-not_true true e = let bad : false ≡ true = e in absurd cc
-not_true false e = refl
-
 and_false : (a b : Bool) → a ≡ true → (a && b) ≡ false → b ≡ false
 and_false true b e f = f
 and_false false b e f = let bad : false ≡ true = e in absurd cc
@@ -116,13 +112,13 @@ module _ {X : Type 0} (l : ListOf X) (is : IsList l) (x : X) (fits : l.Fits x) w
         let q = and_parts (i.order.digits == 0) (bytes_eq i.columns l.table.key) p.1 in
         let order : i.order ≡ plain = ap (λ (n : ℕ). let o : Order = record { digits = n } in o) (eqb-true i.order.digits 0 q.0) in
         let columns : i.columns ≡ l.table.key = (bytes_eq-Decides i.columns l.table.key).0 q.1 in
-        let none = and_false (guards i (table_of l.table)) (clashes i.order i.columns (db l.table.tree) (row_of new)) p.0 (not_true _ found.1.1) in
+        let none = and_false (guards i (table_of l.table)) (clashes i.order i.columns (db l.table.tree) (row_of new)) p.0 (not-true _ found.1.1) in
         sym (ap (λ (o : Order). clashes o i.columns (db l.table.tree) (row_of new)) order ∙ ap (λ (ps : List ℕ). clashes plain ps (db l.table.tree) (row_of new)) columns) ∙ none
 
     none_like : AllByRecursion (λ (e : ℤ × X). (not (int_eq e.0 new.0) && same e new) ≡ false) all
     none_like =
         any_none (λ (e : ℤ × X). not (int_eq e.0 new.0) && same e new) all
-        (not_true _ (sym (clash_is db l.table.tree row_of id all stored (λ e. refl) l.table.key same (λ a b. refl) new) ∙ ap not no_clash))
+        (not-true _ (sym (clash_is db l.table.tree row_of id all stored (λ e. refl) l.table.key same (λ a b. refl) new) ∙ ap not no_clash))
 
     others : AllByRecursion (λ (e : ℤ × X). has l.key (l.key x) e.1 ≡ false) held.entries
     others =

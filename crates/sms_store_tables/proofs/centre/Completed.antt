@@ -6,9 +6,9 @@ use Rattle.sqlite.specs.State.{State}
 use Rattle.sms_store_sql.specs.listing.Inside.{Ran}
 use Rattle.sms_store_sql.specs.listing.Transaction.{Leads}
 use Rattle.sms_store_sql.proofs.listing.Making.{makes}
-use Rattle.sms_store_tables.specs.centre.CentreSchema.{first_schema, with_priority, centre_schema, adds_priority, create_report_message, report_message_made, adds_report_message, priority_plan, report_plan}
+use Rattle.sms_store_tables.specs.centre.CentreSchema.{first_schema, second_schema, with_priority, centre_schema, adds_bar, adds_priority, bar_plan, create_report_message, report_message_made, adds_report_message, priority_plan, report_plan}
 use Rattle.sms_store_tables.proofs.centre.Indexing.{indexes}
-use Rattle.sms_store_tables.specs.centre.Completing.{Completes, IndexesReports, MakesPriority}
+use Rattle.sms_store_tables.specs.centre.Completing.{Completes, IndexesReports, MakesBars, MakesPriority, MakesSecond}
 use Rattle.sms_store_tables.specs.TablePlan.{defined, made}
 use Rattle.sms_store_tables.specs.Texts.{create_text}
 
@@ -26,14 +26,28 @@ pub priority_table_made : (a b : State) → Ran (create_text priority_plan) [] a
 priority_table_made a b p has = makes (create_text priority_plan) (made priority_plan) first_schema with_priority adds_priority a b p has
 
 pub reports_indexed : (a b : State) → Ran create_report_message [] a b → IndexesReports a.now b.now
-reports_indexed a b p has = indexes create_report_message 5 (defined 10 report_plan) report_message_made with_priority centre_schema adds_report_message a b p has
+reports_indexed a b p has = indexes create_report_message 5 (defined 10 report_plan) report_message_made with_priority second_schema adds_report_message a b p has
 
-pub completed : (a b c : Database) → MakesPriority a b → IndexesReports b c → Completes a c
-completed a b c makes_table makes_index has =
+pub bar_table_made : (a b : State) → Ran (create_text bar_plan) [] a b → MakesBars a.now b.now
+bar_table_made a b p has = makes (create_text bar_plan) (made bar_plan) second_schema centre_schema adds_bar a b p has
+
+pub second_made : (a b c : Database) → MakesPriority a b → IndexesReports b c → MakesSecond a c
+second_made a b c makes_table makes_index has =
     let one = makes_table has in
     let two = makes_index one.schema in
     record {
       schema = two.schema;
       empty = two.rows.1.1.1.1.1.1.0 ∙ one.empty;
       others = (two.rows.0 ∙ one.others.0, (two.rows.1.0 ∙ one.others.1.0, (two.rows.1.1.0 ∙ one.others.1.1.0, (two.rows.1.1.1.0 ∙ one.others.1.1.1.0, (two.rows.1.1.1.1.0 ∙ one.others.1.1.1.1.0, (two.rows.1.1.1.1.1.0 ∙ one.others.1.1.1.1.1.0, tt))))));
+    }
+
+pub completed : (a b c : Database) → MakesSecond a b → MakesBars b c → Completes a c
+completed a b c makes_second makes_bars has =
+    let one = makes_second has in
+    let two = makes_bars one.schema in
+    record {
+      schema = two.schema;
+      ranks = two.others.1.1.1.1.1.1.0 ∙ one.empty;
+      bars = two.empty;
+      others = (two.others.0 ∙ one.others.0, (two.others.1.0 ∙ one.others.1.0, (two.others.1.1.0 ∙ one.others.1.1.0, (two.others.1.1.1.0 ∙ one.others.1.1.1.0, (two.others.1.1.1.1.0 ∙ one.others.1.1.1.1.0, (two.others.1.1.1.1.1.0 ∙ one.others.1.1.1.1.1.0, tt))))));
     }

@@ -1,5 +1,5 @@
 -- What a text that makes an index does.
-use Rattle.std.proofs.Common.{◌≡◌, ◌⊎◌, inl, inr, ℕ, List, [], None, Some, Ok, Err, Result, slice_get, sym, ap, subst, ◌∙◌}
+use Rattle.std.proofs.Common.{◌≡◌, ℕ, List, [], None, Some, Ok, slice_get, sym, ap, subst, ◌∙◌}
 use Rattle.sqlite.specs.Schema.{Schema}
 use Rattle.sqlite.specs.Table.{Table}
 use Rattle.sqlite_schema.specs.declared.schema.Index.{Index}
@@ -11,13 +11,7 @@ use Rattle.sqlite.specs.State.{State, Writes}
 use Rattle.sqlite.proofs.Callers.{runs_as}
 use Rattle.sms_store_sql.specs.listing.Inside.{Ran}
 use Rattle.sms_store_tables.specs.centre.Indexing.{AddsIndex, Indexes}
-
-went : {B E R : Type 0} {b : B} {Stops : E → Type 0} → ((stop : E) × Stops stop × (Ok b ≡ Err stop)) ⊎ R → R
-went (inl stopped) = absurd (let e = stopped.2 in cc)
-went (inr on) = on
-
-same_value : {B E : Type 0} {a b : B} → ◌≡◌ {A = Result B E} (Ok a) (Ok b) → a ≡ b
-same_value e = cc
+use Rattle.sms_store_sql.proofs.listing.Statements.{same_value, went}
 
 pub indexes : (text : List ℕ) (place : ℕ) (table : Table) (index : Index) (before after : Schema) → AddsIndex text place table index before after → (old new : State) → Ran text [] old new → old.now.schema ≡ before → Indexes before after old.now new.now
 indexes text place table index before after adds old new h has =

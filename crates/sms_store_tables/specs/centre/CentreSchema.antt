@@ -1,5 +1,5 @@
 -- The tables of a centre's store, in the order in which they are made. That of priorities is of version 2, and with it the index that
--- finds the reports of a message.
+-- finds the reports of a message. That of bars is of version 3.
 use Rattle.std.specs.Prelude.{◌≡◌, ℕ, false, List, [], ◌∷◌, codes, refl}
 use Rattle.sqlite.specs.Schema.{Schema}
 use Rattle.sqlite.specs.Table.{Table}
@@ -70,6 +70,15 @@ priority_plan = record {
   key = 1;
 }
 
+abbrev pub bar_plan : TablePlan
+bar_plan = record {
+  name = codes "bar";
+  columns =
+      given (codes "place") Integer ∷ given (codes "source_ton") Integer ∷ given (codes "source_npi") Integer ∷ given (codes "source") Text
+      ∷ given (codes "handset") Text ∷ given (codes "reference") Integer ∷ given (codes "is_own") Integer ∷ [];
+  key = 1;
+}
+
 -- ---- the schemas, in the order in which their tables are made
 
 abbrev pub with_meta : Schema
@@ -137,14 +146,27 @@ pub adds_report_message : AddsIndex create_report_message 5 (defined 10 report_p
 unfolding understood everything
 adds_report_message = record { creates = refl; whole = refl; alone = (refl, refl); there = refl; defines = refl; indexed_is = refl }
 
+-- ---- the bars
+
+abbrev pub with_bar : Schema
+with_bar = created with_report_message (made bar_plan)
+
+pub adds_bar : AddsPlan bar_plan with_report_message with_bar
+unfolding understood everything
+adds_bar = record { creates = refl; whole = refl; alone = (refl, refl); defines = refl; created_is = refl; unnumbered = refl }
+
 -- ---- all of them
 
 -- those of version 1
 abbrev pub first_schema : Schema
 first_schema = with_report
 
+-- of version 2
+abbrev pub second_schema : Schema
+second_schema = with_report_message
+
 abbrev pub centre_schema : Schema
-centre_schema = with_report_message
+centre_schema = with_bar
 
 -- ---- as the schema has them: each table with its tree, and the index that SQLite makes for its key
 
@@ -161,16 +183,27 @@ first_indexes =
     key_index 0 meta_plan ∷ key_index 2 message_plan ∷ key_index 4 part_plan ∷ key_index 6 reference_plan
     ∷ key_index 8 handset_plan ∷ key_index 10 report_plan ∷ []
 
--- and of version 2
+-- of version 2
+abbrev pub second_tables : List Table
+second_tables =
+    defined 0 meta_plan ∷ defined 2 message_plan ∷ defined 4 part_plan ∷ defined 6 reference_plan ∷ defined 8 handset_plan
+    ∷ defined 10 report_plan ∷ defined 12 priority_plan ∷ []
+
+abbrev pub second_indexes : List Index
+second_indexes =
+    key_index 0 meta_plan ∷ key_index 2 message_plan ∷ key_index 4 part_plan ∷ key_index 6 reference_plan
+    ∷ key_index 8 handset_plan ∷ key_index 10 report_plan ∷ key_index 12 priority_plan ∷ report_message_index ∷ []
+
+-- and of version 3
 abbrev pub centre_tables : List Table
 centre_tables =
     defined 0 meta_plan ∷ defined 2 message_plan ∷ defined 4 part_plan ∷ defined 6 reference_plan ∷ defined 8 handset_plan
-    ∷ defined 10 report_plan ∷ defined 12 priority_plan ∷ []
+    ∷ defined 10 report_plan ∷ defined 12 priority_plan ∷ defined 15 bar_plan ∷ []
 
 abbrev pub centre_indexes : List Index
 centre_indexes =
     key_index 0 meta_plan ∷ key_index 2 message_plan ∷ key_index 4 part_plan ∷ key_index 6 reference_plan
-    ∷ key_index 8 handset_plan ∷ key_index 10 report_plan ∷ key_index 12 priority_plan ∷ report_message_index ∷ []
+    ∷ key_index 8 handset_plan ∷ key_index 10 report_plan ∷ key_index 12 priority_plan ∷ report_message_index ∷ key_index 15 bar_plan ∷ []
 
 pub first_schema_is : first_schema ≡ record {
   tables = first_tables;
@@ -179,6 +212,14 @@ pub first_schema_is : first_schema ≡ record {
 }
 unfolding everything
 first_schema_is = refl
+
+pub second_schema_is : second_schema ≡ record {
+  tables = second_tables;
+  indexes = second_indexes;
+  views = [];
+}
+unfolding everything
+second_schema_is = refl
 
 pub schema_is : centre_schema ≡ record {
   tables = centre_tables;

@@ -6,6 +6,7 @@ pub use Rattle.sms_alphabet.specs.declared.concat_key.ConcatReference.{ConcatRef
 pub use Rattle.sms_alphabet.specs.declared.concat_key.ConcatReference.TheVariants.{EightBit, SixteenBit}
 pub use Rattle.sms_store_sql.specs.declared.listing.meta.Meta.{Meta}
 pub use Rattle.sms_store_sql.specs.declared.listing.meta.StoreKind.{StoreKind}
+pub use Rattle.sms_centre_rows.specs.declared.messages.bar.BarRow.{BarRow}
 pub use Rattle.sms_centre_rows.specs.declared.messages.message.MessageRow.{MessageRow}
 pub use Rattle.sms_base.specs.declared.originator.Originator.{Originator}
 pub use Rattle.sms_base.specs.declared.originator.Originator.TheVariants.{Application, Handset}

@@ -1,9 +1,9 @@
-//! The texts that make what version 1 lacks.
+//! The texts that make what an earlier version lacks.
 ghost use Rattle.std.specs.Prelude.{◌≡◌};
 ghost use Rattle.sqlite.specs.Held.{state};
 ghost use Rattle.sms_store_sql.specs.listing.Inside.{MakesStep, Keeps, Spares};
 ghost use Rattle.sms_store_sql.specs.listing.Transaction.{Leads};
-ghost use Rattle.sms_store_tables.specs.centre.Completing.{Completes, IndexesReports, MakesPriority};
+ghost use Rattle.sms_store_tables.specs.centre.Completing.{Completes, IndexesReports, MakesBars, MakesPriority, MakesSecond};
 
 use sms_store_sql::listing::run;
 use sqlite::{Alter, Error, Transaction};
@@ -31,10 +31,35 @@ fn index_reports<S: Alter>(tx: &mut Transaction<'_, S>) -> Result<(), Error>
     run(tx, "CREATE INDEX report_message ON report (message)", &[])
 }
 
-/// Makes what version 1 lacks: the table of priorities, and the index of the reports by their messages.
+/// Makes what version 2 lacks: the table of bars.
+pub fn make_bar_table<S: Alter>(tx: &mut Transaction<'_, S>) -> Result<(), Error>
+    ensures same_reference { tx.new.conn.ghost_name ≡ tx.old.conn.ghost_name }
+    ensures done { MakesStep S.Store tx.old.conn.now tx.new.conn.now (Leads MakesBars) result }
+    ensures uncommitted { Keeps S.Store tx.old.conn.now tx.new.conn.now }
+    ensures survives { Spares S.Store tx.old.conn.now tx.new.conn.now }
+{
+    run(
+        tx,
+        "CREATE TABLE bar (place INTEGER NOT NULL, source_ton INTEGER NOT NULL, source_npi INTEGER NOT NULL, source TEXT NOT NULL, handset TEXT NOT NULL, reference INTEGER NOT NULL, is_own INTEGER NOT NULL, UNIQUE (place)) STRICT",
+        &[],
+    )
+}
+
+/// Makes what version 1 lacks: the table of priorities, the index of the reports by their messages, and the table of bars.
 pub fn complete_tables<S: Alter>(tx: &mut Transaction<'_, S>) -> Result<(), Error>
     ensures same_reference { tx.new.conn.ghost_name ≡ tx.old.conn.ghost_name }
     ensures done { MakesStep S.Store tx.old.conn.now tx.new.conn.now (Leads Completes) result }
+    ensures uncommitted { Keeps S.Store tx.old.conn.now tx.new.conn.now }
+    ensures survives { Spares S.Store tx.old.conn.now tx.new.conn.now }
+{
+    make_second_tables(tx)?;
+    make_bar_table(tx)
+}
+
+// What version 2 has beyond version 1.
+fn make_second_tables<S: Alter>(tx: &mut Transaction<'_, S>) -> Result<(), Error>
+    ensures same_reference { tx.new.conn.ghost_name ≡ tx.old.conn.ghost_name }
+    ensures done { MakesStep S.Store tx.old.conn.now tx.new.conn.now (Leads MakesSecond) result }
     ensures uncommitted { Keeps S.Store tx.old.conn.now tx.new.conn.now }
     ensures survives { Spares S.Store tx.old.conn.now tx.new.conn.now }
 {

@@ -1,9 +1,9 @@
 //! Whether a database has the tables of a centre's store.
 ghost use Rattle.std.specs.Prelude.{◌≡◌, ◌≢◌, false, IsTrue, []};
 ghost use Rattle.sqlite_value.specs.Keys.{plain};
-ghost use Rattle.sms_store_tables.specs.centre.CentreSchema.{centre_indexes, centre_schema, centre_tables, first_indexes, first_schema, first_tables};
+ghost use Rattle.sms_store_tables.specs.centre.CentreSchema.{bar_plan, centre_indexes, centre_schema, centre_tables, first_indexes, first_schema, first_tables};
 ghost use Rattle.sms_store_tables.specs.centre.CentreSchema.{handset_plan, message_plan, part_plan, priority_plan, reference_plan, report_message_index};
-ghost use Rattle.sms_store_tables.specs.centre.CentreSchema.{report_plan};
+ghost use Rattle.sms_store_tables.specs.centre.CentreSchema.{report_plan, second_indexes, second_schema, second_tables};
 ghost use Rattle.sms_store_tables.specs.MetaTable.{meta_plan};
 ghost use Rattle.sms_store_tables.specs.TablePlan.{defined, key_index};
 
@@ -130,7 +130,23 @@ fn is_priority(table: &Table) -> bool
     is_table(table, "priority", 12, &columns, &[1])
 }
 
-// The six tables that both versions have.
+fn is_bar(table: &Table) -> bool
+    ensures yes { IsTrue result → table.now ≡ defined 15 bar_plan }
+    ensures always { table.now ≡ defined 15 bar_plan → IsTrue result }
+{
+    let columns = [
+        given("place", Kind::Integer),
+        given("source_ton", Kind::Integer),
+        given("source_npi", Kind::Integer),
+        given("source", Kind::Text),
+        given("handset", Kind::Text),
+        given("reference", Kind::Integer),
+        given("is_own", Kind::Integer),
+    ];
+    is_table(table, "bar", 15, &columns, &[1])
+}
+
+// The six tables that all versions have.
 fn are_first_tables(
     meta: &Table,
     message: &Table,
@@ -154,6 +170,15 @@ fn are_first_tables(
         return false;
     }
     is_reference(reference) && is_handset(handset) && is_report(report)
+}
+
+// Those of versions 2 and 3.
+fn are_last_tables(priority: &Table, bar: &Table) -> bool
+    ensures priority { IsTrue result → priority.now ≡ defined 12 priority_plan }
+    ensures bar { IsTrue result → bar.now ≡ defined 15 bar_plan }
+    ensures always { priority.now ≡ defined 12 priority_plan → bar.now ≡ defined 15 bar_plan → IsTrue result }
+{
+    is_priority(priority) && is_bar(bar)
 }
 
 fn are_first_indexes(meta: &Index, message: &Index, part: &Index) -> bool
@@ -184,14 +209,26 @@ fn are_next_indexes(reference: &Index, handset: &Index, report: &Index) -> bool
         && is_index(report, "sqlite_autoindex_report_1", 11, 10, &[1])
 }
 
-// Those of version 2: the second finds the reports of a message, and is for no key.
-fn are_last_indexes(priority: &Index, report_message: &Index) -> bool
+// Those that version 2 has too: the second finds the reports of a message, and is for no key.
+fn are_second_indexes(priority: &Index, report_message: &Index) -> bool
     ensures priority { IsTrue result → priority.now ≡ key_index 12 priority_plan }
     ensures report_message { IsTrue result → report_message.now ≡ report_message_index }
     ensures always { priority.now ≡ key_index 12 priority_plan → report_message.now ≡ report_message_index → IsTrue result }
 {
     is_index(priority, "sqlite_autoindex_priority_1", 13, 12, &[1])
         && is_plain_index(report_message, "report_message", 14, 10, &[2])
+}
+
+// Those of version 3.
+fn are_last_indexes(priority: &Index, report_message: &Index, bar: &Index) -> bool
+    ensures priority { IsTrue result → priority.now ≡ key_index 12 priority_plan }
+    ensures report_message { IsTrue result → report_message.now ≡ report_message_index }
+    ensures bar { IsTrue result → bar.now ≡ key_index 15 bar_plan }
+    ensures always { priority.now ≡ key_index 12 priority_plan → report_message.now ≡ report_message_index → bar.now ≡ key_index 15 bar_plan
+        → IsTrue result }
+{
+    are_second_indexes(priority, report_message)
+        && is_index(bar, "sqlite_autoindex_bar_1", 16, 15, &[1])
 }
 
 fn are_tables_of_first(tables: &[Table]) -> bool
@@ -217,9 +254,9 @@ fn are_indexes_of_first(indexes: &[Index]) -> bool
     are_next_indexes(reference, handset, report)
 }
 
-fn are_tables(tables: &[Table]) -> bool
-    ensures yes { IsTrue result → tables.now ≡ centre_tables }
-    ensures always { tables.now ≡ centre_tables → IsTrue result }
+fn are_tables_of_second(tables: &[Table]) -> bool
+    ensures yes { IsTrue result → tables.now ≡ second_tables }
+    ensures always { tables.now ≡ second_tables → IsTrue result }
 {
     let [meta, message, part, reference, handset, report, priority] = tables else {
         return false;
@@ -230,9 +267,9 @@ fn are_tables(tables: &[Table]) -> bool
     is_priority(priority)
 }
 
-fn are_indexes(indexes: &[Index]) -> bool
-    ensures yes { IsTrue result → indexes.now ≡ centre_indexes }
-    ensures always { indexes.now ≡ centre_indexes → IsTrue result }
+fn are_indexes_of_second(indexes: &[Index]) -> bool
+    ensures yes { IsTrue result → indexes.now ≡ second_indexes }
+    ensures always { indexes.now ≡ second_indexes → IsTrue result }
 {
     let [
         meta,
@@ -250,7 +287,54 @@ fn are_indexes(indexes: &[Index]) -> bool
     if !are_first_indexes(meta, message, part) || !are_next_indexes(reference, handset, report) {
         return false;
     }
-    are_last_indexes(priority, report_message)
+    are_second_indexes(priority, report_message)
+}
+
+fn are_tables(tables: &[Table]) -> bool
+    ensures yes { IsTrue result → tables.now ≡ centre_tables }
+    ensures always { tables.now ≡ centre_tables → IsTrue result }
+{
+    let [
+        meta,
+        message,
+        part,
+        reference,
+        handset,
+        report,
+        priority,
+        bar,
+    ] = tables
+    else {
+        return false;
+    };
+    if !are_first_tables(meta, message, part, reference, handset, report) {
+        return false;
+    }
+    are_last_tables(priority, bar)
+}
+
+fn are_indexes(indexes: &[Index]) -> bool
+    ensures yes { IsTrue result → indexes.now ≡ centre_indexes }
+    ensures always { indexes.now ≡ centre_indexes → IsTrue result }
+{
+    let [
+        meta,
+        message,
+        part,
+        reference,
+        handset,
+        report,
+        priority,
+        report_message,
+        bar,
+    ] = indexes
+    else {
+        return false;
+    };
+    if !are_first_indexes(meta, message, part) || !are_next_indexes(reference, handset, report) {
+        return false;
+    }
+    are_last_indexes(priority, report_message, bar)
 }
 
 // The tables of version 1 and their indexes, and no view.
@@ -272,6 +356,24 @@ pub fn is_first_schema(schema: &Schema) -> bool
 }
 
 // The tables of version 2 and their indexes, and no view.
+fn has_second_tables(schema: &Schema) -> bool
+    ensures yes { IsTrue result → schema.now ≡ record { tables = second_tables; indexes = second_indexes; views = [] } }
+    ensures always { schema.now ≡ record { tables = second_tables; indexes = second_indexes; views = [] } → IsTrue result }
+{
+    schema.views.is_empty()
+        && are_tables_of_second(schema.tables.as_slice())
+        && are_indexes_of_second(schema.indexes.as_slice())
+}
+
+/// Whether the tables are those of a centre's store of version 2, and no others are beside them.
+pub fn is_second_schema(schema: &Schema) -> bool
+    ensures yes { IsTrue result → schema.now ≡ second_schema }
+    ensures no { result ≡ false → schema.now ≢ second_schema }
+{
+    has_second_tables(schema)
+}
+
+// The tables of version 3 and their indexes, and no view.
 fn has_centre_tables(schema: &Schema) -> bool
     ensures yes { IsTrue result → schema.now ≡ record { tables = centre_tables; indexes = centre_indexes; views = [] } }
     ensures always { schema.now ≡ record { tables = centre_tables; indexes = centre_indexes; views = [] } → IsTrue result }
@@ -281,7 +383,7 @@ fn has_centre_tables(schema: &Schema) -> bool
         && are_indexes(schema.indexes.as_slice())
 }
 
-/// Whether the tables are those of a centre's store of version 2, and no others are beside them.
+/// Whether the tables are those of a centre's store of version 3, and no others are beside them.
 pub fn is_centre_schema(schema: &Schema) -> bool
     ensures yes { IsTrue result → schema.now ≡ centre_schema }
     ensures no { result ≡ false → schema.now ≢ centre_schema }

@@ -1,13 +1,13 @@
 -- PDUs of a script's run have room.
-use Rattle.std.proofs.Common.{◌≡◌, ◌<◌, ◌≤◌, ◌⊎◌, inl, inr, refl, sym, ◌∙◌, ℕ, Bool, true, false, ◌&&◌, List, [], ◌∷◌, length, arith, Option, Some, None}
+use Rattle.std.proofs.Common.{◌≡◌, ◌<◌, ◌≤◌, ◌⊎◌, inl, inr, refl, sym, ◌∙◌, ℕ, Bool, true, false, List, [], ◌∷◌, length, arith, Option, Some, None}
 use Rattle.std.specs.List.{AllByRecursion, list_all}
 use Rattle.std.specs.Prelude.{◌↔◌, nat_lt, nat_eq}
-use Rattle.std.proofs.lemmas.Bool.{and_from, eq-eqb, eqb-true, false≢true, lt-ltb, ltb-true}
+use Rattle.std.proofs.lemmas.Bool.{and_from, and_parts, eq-eqb, eqb-true, false≢true, lt-ltb, ltb-true}
 use Rattle.smpp_pdu.specs.BodyGrammar.{IsCancelValue, IsMessageValue, IsQueryRespValue, IsQueryValue}
 use Rattle.smpp_pdu.specs.Fields.{IsText, IsTimeText}
 use Rattle.smpp_pdu.specs.Writing.{IfThere, IsBodyValue, IsMessageRespValue, IsWritable, written_body, written_message, written_tlvs}
 use Rattle.smpp_pdu.specs.declared.body.Body.{Body}
-use Rattle.smpp_pdu.specs.declared.body.Body.TheVariants.{BindReceiver, BindTransmitter, BindTransceiver, SubmitSm, DeliverSm, QuerySm, CancelSm, Unbind, EnquireLink, GenericNack, BindReceiverResp, BindTransmitterResp, BindTransceiverResp, SubmitSmResp, DeliverSmResp, QuerySmResp, CancelSmResp, UnbindResp, EnquireLinkResp}
+use Rattle.smpp_pdu.specs.declared.body.Body.TheVariants.{SubmitSm, DeliverSm, QuerySm, CancelSm, SubmitSmResp, DeliverSmResp, QuerySmResp, CancelSmResp}
 use Rattle.smpp_pdu.specs.declared.cancel.CancelSm.{CancelSm as CancelSmOf}
 use Rattle.smpp_pdu.specs.declared.message.Message.{Message}
 use Rattle.smpp_pdu.specs.declared.message.MessageResp.{MessageResp}
@@ -20,14 +20,10 @@ use Rattle.sms_trace.specs.sessions.Writable.{AreShort, CanBeWritten}
 
 -- ---- texts
 
-both : (a b : Bool) → a && b ≡ true → (a ≡ true) × (b ≡ true)
-both true b e = (refl, e)
-both false b e = absurd cc
-
 each_octet : (octets : List ℕ) → list_all (λ octet. nat_lt 0 octet) octets ≡ true → AllByRecursion (λ octet. 0 < octet) octets
 each_octet [] h = tt
 each_octet (octet ∷ octets) h =
-    let b = both (nat_lt 0 octet) (list_all (λ o. nat_lt 0 o) octets) h in
+    let b = and_parts (nat_lt 0 octet) (list_all (λ o. nat_lt 0 o) octets) h in
     (ltb-true 0 octet b.0, each_octet octets b.1)
 
 octets_each : (octets : List ℕ) → AllByRecursion (λ octet. 0 < octet) octets → list_all (λ octet. nat_lt 0 octet) octets ≡ true
@@ -116,17 +112,7 @@ is_small (SubmitSmResp body) v = (v, resp_has_room body v)
 is_small (DeliverSmResp body) v = (v, delivered_has_room body v)
 is_small (QuerySmResp body) v = (v, queried_has_room body v)
 is_small CancelSmResp v = (tt, omega arith)
-is_small (BindReceiver body) v = absurd v
-is_small (BindTransmitter body) v = absurd v
-is_small (BindTransceiver body) v = absurd v
-is_small Unbind v = absurd v
-is_small EnquireLink v = absurd v
-is_small GenericNack v = absurd v
-is_small (BindReceiverResp body) v = absurd v
-is_small (BindTransmitterResp body) v = absurd v
-is_small (BindTransceiverResp body) v = absurd v
-is_small UnbindResp v = absurd v
-is_small EnquireLinkResp v = absurd v
+is_small _ v = absurd v
 
 pub is_writable : (pdu : Pdu) → CanBeWritten pdu.body → IsWritable pdu
 is_writable pdu v =

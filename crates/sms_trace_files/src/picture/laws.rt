@@ -2,8 +2,8 @@
 ghost use Rattle.std.specs.Prelude.{◌≡◌, ◌≢◌, ◌<◌, ℕ, List, map, true};
 ghost use Rattle.sms_trace_files.specs.picture.Columns.{drawn_before, is_touched};
 ghost use Rattle.sms_base.specs.Markup.{escaped};
+ghost use Rattle.sms_base.specs.MarkupReading.{IsRead, legible};
 ghost use Rattle.sms_trace_files.specs.picture.Places.{cross_at, lane_x, names_y, note_at, row_y};
-ghost use Rattle.sms_trace_files.specs.picture.Reading.{IsRead, legible};
 ghost use Rattle.sms_trace_files.specs.declared.picture.rows.PictureRow.{PictureRow as RowOf};
 
 /// A reader of XML gets each text of a picture as it was, with `?` for what is no printable ASCII. So no name and no note is

@@ -2,13 +2,15 @@
 use Rattle.std.proofs.Common.{◌≡◌, ℕ, List, [], ◌∷◌, Bool, true, false, refl, sym, ◌∙◌, ap, subst, inl, ⊎_elim, Option, Some, None}
 use Rattle.std.specs.Prelude.{◌&&◌, not}
 use Rattle.std.proofs.lemmas.Bool.{and_parts, cond_both}
+use Rattle.sms_base.proofs.OctetLaws.{cases_octets}
 use Rattle.sms_base.specs.Among.{Among}
 use Rattle.sms_control.specs.LinkStep.{Step, begin_step, is_busy}
 use Rattle.sms_control.specs.declared.link_state.LinkState.{LinkState}
 use Rattle.sms_link.specs.LinkTurn.{LinkOf, Turn, begun, of_kind, started as turn_started, still}
 use Rattle.sms_base.specs.declared.carried.Kind.TheVariants.{Data}
 use Rattle.sms_base.specs.declared.holder.Holder.{Holder}
-use Rattle.sms_centre_rows.proofs.waiting.Mentions.{cases_number, number_found}
+use Rattle.sms_centre_rows.proofs.waiting.Mentions.{number_found}
+use Rattle.sms_centre_rows.proofs.waiting.LinksRepresented.{line_of_handset, line_put, line_put_other}
 use Rattle.sms_centre_rows.specs.waiting.Links.{Links, is_ready, line_at, line_of, or_new_line, turn_line, turned}
 use Rattle.sms_centre_rows.specs.waiting.References.{handset_at}
 use Rattle.sms_centre_rows.specs.waiting.SoundWaiting.{SoundWaiting}
@@ -18,7 +20,6 @@ use Rattle.sms_centre_rows.specs.declared.waiting.handset_link.HandsetLink.{Hand
 use Rattle.sms_centre_rows.specs.declared.waiting.queued_part.QueuedPart.{QueuedPart}
 use Rattle.sms_centre_rows.specs.declared.waiting.reference.ReferenceRow.{ReferenceRow}
 use Rattle.sms_centre_spec.proofs.EventLaws.{keeps_apart}
-use Rattle.sms_centre_spec.proofs.SoundLinks.{line_of_handset}
 use Rattle.sms_centre_spec.specs.CentreEvent.{aged, at_moment, fired, follow, frame_taken, happened, lines_awaited, lower, raise, raised, tag_of}
 use Rattle.sms_centre_spec.specs.Draft.{Core, Draft, Store, core_of, draft_of, handsets_in, references_in, waiting_in}
 use Rattle.sms_centre_spec.specs.Held.{SoundHeld}
@@ -30,7 +31,6 @@ use Rattle.sms_centre_spec.specs.declared.event.CentreEvent.{CentreEvent}
 use Rattle.sms_centre_spec.specs.declared.event.CentreEvent.TheVariants.{Submit, Query, Cancel, Bound, Unbound, DeliverAnswered, Frame, LinkUp, LinkDown, Ordered, Tick}
 use Rattle.sms_world.specs.centre_runs_are_steps.Offered.{HasOffered, IsOffered}
 use Rattle.sms_world.specs.centre_runs_are_steps.OfferedLaws.{BackLaw, EventLaw, FirstLaw}
-use Rattle.sms_world.proofs.centre_runs_are_steps.LinesOf.{other_line, own_line}
 
 -- nothing is due at that handset, or its line isn't ready
 abbrev IsOfferedTo : Store → List HandsetLink → List ℕ → Type 0
@@ -67,7 +67,7 @@ module _ (s : Store) (links : Links) (number : List ℕ) where
       let t : Turn = begun s.moment l.reference (holder_of l) (unit_of l (waits_beside s.moment l (waiting_in line.handset s)) s) line.link in
       let now : HandsetLink = turned t line in
       let own : line_of number (turn_line line t (read_of l s links)).lines ≡ now =
-      ap (λ (n : List ℕ). line_of n (turn_line line t (read_of l s links)).lines) (sym (line_of_handset number links.lines)) ∙ own_line now (read_of l s links).lines in
+      ap (λ (n : List ℕ). line_of n (turn_line line t (read_of l s links)).lines) (sym (line_of_handset number links.lines)) ∙ line_put now (read_of l s links).lines in
       absurd (busy_unready now (begun_busy s.moment l.reference (holder_of l) (unit_of l (waits_beside s.moment l (waiting_in line.handset s)) s) line.link)
       (sym (ap is_ready own) ∙ ready))
 
@@ -86,7 +86,7 @@ module _ (s : Store) (links : Links) (number : List ℕ) where
   queued_apart None other ne = refl
   queued_apart (Some l) other ne =
       let t : Turn = begun s.moment l.reference (holder_of l) (unit_of l (waits_beside s.moment l (waiting_in line.handset s)) s) line.link in
-      other_line other (turned t line) (read_of l s links).lines (λ e. ne (sym (line_of_handset number links.lines) ∙ e))
+      line_put_other other (turned t line) (read_of l s links).lines (λ e. ne (sym (line_of_handset number links.lines) ∙ e))
       ∙ ap (λ (ls : List HandsetLink). line_of other ls) (read_lines l)
 
   pub offer_apart : (other : List ℕ) → ¬ (number ≡ other) → line_of other (offer_to number s links).lines ≡ line_of other links.lines
@@ -100,7 +100,7 @@ stays_offered : (s : Store) (links : Links) (number other : List ℕ) → IsOffe
 stays_offered s links number other k = ⊎_elim
     (λ (e : number ≡ other). subst (λ (n : List ℕ). IsOfferedTo s (offer_to number s links).lines n) e (offered_to s links number))
     (λ (ne : number ≡ other → ⊥). λ ready. k (sym (ap is_ready (offer_apart s links number other ne)) ∙ ready))
-    (cases_number number other)
+    (cases_octets number other)
 
 still_offered : (hs : List HandsetRow) (s : Store) (links : Links) (number : List ℕ) → IsOfferedTo s links.lines number → IsOfferedTo s (offer_all hs s links).lines number
 still_offered [] s links number k = k

@@ -1,14 +1,16 @@
 -- All parts of a message are done exactly where the world has all their numbers.
-use Rattle.std.proofs.Common.{◌≡◌, ℕ, zero, suc, ◌<◌, ◌≤◌, arith, List, [], ◌∷◌, Bool, true, false, refl, sym, ◌∙◌, ap, inl, inr, ⊎_elim, Some, length, eq-eqb}
-use Rattle.std.specs.Prelude.{◌==◌, ◌&&◌, ◌||◌, not, slice_get}
+use Rattle.std.proofs.Common.{◌≡◌, ℕ, zero, suc, ◌<◌, ◌≤◌, arith, List, [], ◌∷◌, Bool, true, false, refl, sym, ◌∙◌, ap, inl, inr, ⊎_elim, length}
+use Rattle.std.specs.Prelude.{◌==◌, ◌&&◌, not}
 use Rattle.std.proofs.lemmas.Bool.{and_from, and_parts, cases_Bool, eqb-true}
 use Rattle.std.proofs.lemmas.Option.{slice_get_within}
+use Rattle.sms_base.proofs.Lists.{item_at}
 use Rattle.sms_base.specs.Among.{Among}
 use Rattle.sms_centre_rows.specs.messages.Messages.{all_done, is_undone}
 use Rattle.sms_centre_rows.specs.declared.messages.part.PartRow.{PartRow}
 use Rattle.sms_tpdu.specs.declared.user_data.UserData.{UserData}
 use Rattle.sms_world_model.specs.Groups.{all_numbers, is_among}
 use Rattle.sms_world_model.specs.Submission.{HasPart, Submission}
+use Rattle.sms_world_model.proofs.Rounds.{test_from_among}
 
 -- a message with a part undone has one
 pub some_undone : (id : ℕ) (ps : List PartRow) → all_done id ps ≡ false → (p : PartRow) × (Among p ps × (p.id ≡ id) × (p.progress.is_done ≡ false))
@@ -24,33 +26,17 @@ some_undone id (p ∷ ps) e = ⊎_elim
     not_true true e = absurd cc
     not_true false e = refl
 
-among_test : (n : ℕ) (ns : List ℕ) → Among n ns → is_among n ns ≡ true
-among_test n [] i = absurd i
-among_test n (x ∷ xs) i = ⊎_elim
-    (λ (e : n ≡ x). ap (λ (b : Bool). b || is_among n xs) (eq-eqb n x e))
-    (λ (a : Among n xs). ap (λ (b : Bool). (n == x) || b) (among_test n xs a) ∙ or_true (n == x))
-    i
-  where
-    or_true : (b : Bool) → (b || true) ≡ true
-    or_true true = refl
-    or_true false = refl
-
 -- the numbers from 1 on are all there, where each is
 pub numbers_all : (n : ℕ) (ns : List ℕ) → ((k : ℕ) → 0 < k → k ≤ n → Among k ns) → all_numbers n ns ≡ true
 numbers_all zero ns f = refl
 numbers_all (suc n) ns f =
-    and_from (is_among (suc n) ns) (all_numbers n ns) (among_test (suc n) ns (f (suc n) (omega arith) (omega arith))) (numbers_all n ns (λ k some l. f k some (omega (arith, l))))
+    and_from (is_among (suc n) ns) (all_numbers n ns) (test_from_among (suc n) ns (f (suc n) (omega arith) (omega arith))) (numbers_all n ns (λ k some l. f k some (omega (arith, l))))
 
 -- the submission's parts have the numbers from 1 on
 pub has_numbers : (u : Submission) (n : ℕ) (part : UserData) → HasPart u n part → (0 < n) × (n ≤ length u.parts)
 has_numbers u zero part has = absurd cc
 has_numbers u (suc n) part has = let l : n < length u.parts = slice_get_within u.parts n part has in ((let f : 0 < suc n = omega arith in f), (let g : suc n ≤ length u.parts = omega (arith, l) in g))
 
-got : {A : Type 0} (xs : List A) (i : ℕ) → i < length xs → (x : A) × (slice_get xs i ≡ Some x)
-got [] i few = absurd (let l : ⊥ = omega (arith, few) in l)
-got (x ∷ xs) zero few = (x, refl)
-got (x ∷ xs) (suc i) few = got xs i (omega (arith, few))
-
 pub numbers_have : (u : Submission) (n : ℕ) → 0 < n → n ≤ length u.parts → (part : UserData) × HasPart u n part
 numbers_have u zero some few = absurd (let l : ⊥ = omega (arith, some) in l)
-numbers_have u (suc n) some few = got u.parts n (omega (arith, few))
+numbers_have u (suc n) some few = item_at u.parts n (omega (arith, few))

@@ -1,7 +1,7 @@
 -- A transfer to a handset has ended by the frame that was handed over: what it was for is done, can't be delivered, or waits on.
-use Rattle.std.proofs.Common.{◌≡◌, ℕ, ◌<◌, List, Bool, true, false, refl, sym, ◌∙◌, ap, subst, Option, Some, None}
+use Rattle.std.proofs.Common.{◌≡◌, ℕ, ◌<◌, List, true, false, refl, sym, ◌∙◌, ap, subst, Option, Some, None}
 use Rattle.std.specs.Prelude.{◌==◌, not, if◌then◌else◌}
-use Rattle.std.proofs.lemmas.Bool.{and_parts, cond_both}
+use Rattle.std.proofs.lemmas.Bool.{and_parts, cond_both, not-true}
 use Rattle.sms_base.specs.declared.carried.Carried.{Carried}
 use Rattle.sms_base.specs.declared.carried.Kind.TheVariants.{Ack, Error}
 use Rattle.sms_base.specs.declared.final_state.FinalState.{FinalState}
@@ -68,10 +68,6 @@ full_refines (Memory n) s w k = k
 
 -- ---- what is answered for good
 
-not_false : (b : Bool) → not b ≡ true → b ≡ false
-not_false true e = absurd cc
-not_false false e = refl
-
 module _ (s : Store) (w : World) (sound : SoundStore s) (refines : StoreRefines s w) (handed : ℕ) (b : World) (u : Frame) (was : WasHanded handed b u) where
   module _ (id number : ℕ) (p : PartRow) (m : MessageRow) (at : part_at id number (parts_in s) ≡ Some p) (small : number < 256) (of : message_at id (messages_in s) ≡ Some m)
       (waits : is_open_part_at (part_at id number (parts_in s)) s ≡ true) where
@@ -94,7 +90,7 @@ module _ (s : Store) (w : World) (sound : SoundStore s) (refines : StoreRefines 
     pending = (and_parts (not p.progress.is_done) (is_pending m) open_one).1
 
     undone : p.progress.is_done ≡ false
-    undone = not_false p.progress.is_done (and_parts (not p.progress.is_done) (is_pending m) open_one).0
+    undone = not-true p.progress.is_done (and_parts (not p.progress.is_done) (is_pending m) open_one).0
 
     -- the row and its message are those
     found : (v : Verdict) → Settles handed s.moment b (part_ended_of v p (Some m) s) w → Settles handed s.moment b (part_ended_at v (part_at id number (parts_in s)) s) w

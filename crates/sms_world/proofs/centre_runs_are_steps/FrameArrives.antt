@@ -42,7 +42,6 @@ use Rattle.sms_centre_spec.specs.Receiving.{unit_received}
 use Rattle.sms_centre_spec.specs.SoundCore.{IsLine, IsSentFor, IsUnderWay}
 use Rattle.sms_centre_spec.specs.Submitted.{UnitGives, UpGives}
 use Rattle.sms_centre_spec.specs.Transfers.{conclude}
-use Rattle.sms_world.proofs.centre_runs_are_steps.LinesOf.{own_line}
 use Rattle.sms_world.proofs.frames_pass_between_sides.Linking.{Awaits, data_is, taken_is}
 use Rattle.sms_world.specs.frames_pass_between_sides.Between.{IsCarriedUp, IsUnitUp}
 use Rattle.sms_world.specs.frames_pass_between_sides.FramesUp.{IsBare}
@@ -58,6 +57,7 @@ use Rattle.sms_world.proofs.centre_runs_are_steps.Stepping.{WasHanded, begins_st
 use Rattle.sms_world.proofs.centre_runs_are_steps.UnitsArrive.{data_law, memory_law}
 use Rattle.sms_world.proofs.handset_runs_are_steps.Offering.{data_sent as data_up}
 use Rattle.sms_world.proofs.handset_runs_are_steps.FrameArrives.{bare_rejection, bare_ack}
+use Rattle.sms_centre_rows.proofs.waiting.LinksRepresented.{line_put}
 
 -- what the link did of its own accord, and what went up
 abbrev pub frame_reported : Holder → HandsetLink → Step → Draft → Draft
@@ -127,7 +127,7 @@ module _ (number : ℕ) (tag : Holder) (d : Draft) (w : World) (sound : SoundSto
       heard_refines = hears_bare w line d w s opened_links (Some (UnitUp FromOriginator unit)) new_line_refines (acknowledgement t) (bare_ack t low)
 
       line_now : line_of line.handset (hears line opening_step d).links.lines ≡ with_links opened_links line.link.under_way line
-      line_now = own_line (with_links opened_links line.link.under_way line) d.links.lines
+      line_now = line_put (with_links opened_links line.link.under_way line) d.links.lines
 
       awaits : Awaits (line_of line.handset (hears line opening_step d).links.lines).link.links opening
       awaits = (ap (λ (x : HandsetLink). x.link.links.opened) line_now, refl)

@@ -3,7 +3,7 @@ use Rattle.std.proofs.Common.{◌≡◌, ℕ, List, sym, subst}
 use Rattle.sms_centre_rows.specs.waiting.Links.{line_of}
 use Rattle.sms_centre_rows.specs.declared.waiting.handset_link.HandsetLink.{HandsetLink}
 use Rattle.sms_centre_spec.proofs.PduFits.{event_gives}
-use Rattle.sms_centre_spec.proofs.SoundLinks.{SoundLinks, line_of_handset, line_sound}
+use Rattle.sms_centre_spec.proofs.SoundLinks.{SoundLinks, line_sound}
 use Rattle.sms_centre_spec.proofs.SoundEvents.{event_after}
 use Rattle.sms_centre_spec.specs.CentreEvent.{frame_taken, tag_of}
 use Rattle.sms_centre_spec.specs.Draft.{Draft, draft_of}
@@ -15,6 +15,7 @@ use Rattle.sms_world.specs.centre_runs_are_steps.Stages.{Begins}
 use Rattle.sms_world.proofs.centre_runs_are_steps.FrameArrives.{handed_law}
 use Rattle.sms_world.proofs.centre_runs_are_steps.Stepping.{frame_leads}
 use Rattle.sms_world.proofs.centres_refine_the_world.QuietEvents.{start}
+use Rattle.sms_centre_rows.proofs.waiting.LinksRepresented.{line_of_handset}
 
 pub frame_event : FrameLaw
 frame_event number handset octets tag c w sound is are s handed =

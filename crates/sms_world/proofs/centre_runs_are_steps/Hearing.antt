@@ -1,13 +1,10 @@
 -- Frames of the links' own: CP-ACK and CP-ERROR are control, and so is what is sent again.
-use Rattle.std.proofs.Common.{◌≡◌, ℕ, ◌+◌, List, [], ◌∷◌, ◌++◌, refl, sym, ◌∙◌, ap, subst, inr, Option, Some, None, Result, Ok, Err, length}
-use Rattle.std.proofs.lemmas.List.{append-nil}
+use Rattle.std.proofs.Common.{◌≡◌, ℕ, ◌+◌, List, [], ◌∷◌, ◌++◌, refl, sym, ◌∙◌, ap, subst, inr, Option, Some, None, length}
+use Rattle.std.proofs.lemmas.List.{append-nil, append_assoc}
 use Rattle.sms_base.specs.declared.carried.Carried.{Carried}
 use Rattle.sms_control.specs.ControlReading.{cp_at}
 use Rattle.sms_control.specs.LinkStep.{Step}
-use Rattle.sms_control.specs.declared.fault.CpFault.{CpFault}
 use Rattle.sms_control.specs.declared.link_state.LinkState.{LinkState}
-use Rattle.sms_control.specs.declared.message.Cp.{Cp}
-use Rattle.sms_control.specs.declared.message.Cp.TheVariants.{DataUnit as CpData, AckUnit as CpAck, ErrorUnit as CpError}
 use Rattle.sms_control.specs.declared.out.Up.{Up}
 use Rattle.sms_control.specs.declared.transaction.TransactionFlag.{TransactionFlag}
 use Rattle.sms_link.specs.LinkTurn.{carried_by, carried_in, from_links, heard, of_links, still_under_way}
@@ -23,11 +20,12 @@ use Rattle.sms_world_model.specs.WorldStep.{Again, Control}
 use Rattle.sms_world.specs.centres_refine_the_world.CentreRefinement.{CentreRefines}
 use Rattle.sms_world.specs.centres_refine_the_world.FramesOut.{IsWholeDown}
 use Rattle.sms_world.specs.centres_refine_the_world.RefinesLines.{RefinesLine, WasSentDown}
-use Rattle.sms_world.proofs.centres_refine_the_world.Firing.{again_carries, appended}
+use Rattle.sms_world.proofs.centres_refine_the_world.Firing.{again_carries}
 use Rattle.sms_world.proofs.centres_refine_the_world.Offers.{lines_with, stacked_both, whole_both}
 use Rattle.sms_world.proofs.centres_refine_the_world.Staying.{line_still}
 use Rattle.sms_world.specs.centre_runs_are_steps.Stages.{AnswersInEvent, Begins}
 use Rattle.sms_world.proofs.centre_runs_are_steps.Stepping.{still}
+use Rattle.sms_world.proofs.handset_runs_are_steps.Hearing.{bare_carries}
 
 -- what the links of a line do of their own accord
 abbrev pub hears : HandsetLink → Step → Draft → Draft
@@ -59,13 +57,6 @@ sends_frame b h x d w whole s =
       lines = λ y i. line_still w.bag v.bag (λ z j. inr j) y (s.lines y i);
       rows = record { table = s.rows.table; reports = s.rows.reports; holders = s.rows.holders; seconds = s.rows.seconds };
     }
-
--- what carries nothing
-pub bare_carries : (frame : List ℕ) (under_way answered : Option Carried) (r : Result Cp CpFault) → cp_at frame ≡ r → IsBare r → carried_in (cp_at frame) under_way answered ≡ None
-bare_carries frame under_way answered (Ok (CpData t unit)) e i = absurd i
-bare_carries frame under_way answered (Ok (CpAck t)) e i = ap (λ (z : Result Cp CpFault). carried_in z under_way answered) e
-bare_carries frame under_way answered (Ok (CpError t cause)) e i = ap (λ (z : Result Cp CpFault). carried_in z under_way answered) e
-bare_carries frame under_way answered (Err fault) e i = absurd i
 
 -- ---- what the links answer
 
@@ -111,7 +102,7 @@ module _ (b : World) (line : HandsetLink) (d : Draft) (w : World) (s : CentreRef
           let g : SentRow = record { handset = h; frame = of_links again (Some c) } in
           let two : CentreRefines b (sending g (sending f e)) with_both = sends_frame b h (of_links again (Some c)) (sending f e) with_bare sent.0 bare_sent in
           let fs : (d.links.frames ++ f ∷ []) ++ g ∷ [] ≡ d.links.frames ++ to_handset h (from_links line.link.under_way line.link.answered (frame ∷ again ∷ [])) =
-          appended d.links.frames (f ∷ []) (g ∷ [])
+          append_assoc d.links.frames (f ∷ []) (g ∷ [])
           ∙ ap (λ (z : Option Carried). d.links.frames ++ record { handset = h; frame = of_links frame z } ∷ g ∷ []) (sym carries)
           ∙ ap (λ (z : Option Carried). d.links.frames ++ record { handset = h; frame = of_links frame (carried_in (cp_at frame) line.link.under_way line.link.answered) } ∷ record { handset = h; frame = of_links again z } ∷ [])
           (sym (again_carries h w.bag flag again c line.link.under_way line.link.answered sent ∙ is)) in

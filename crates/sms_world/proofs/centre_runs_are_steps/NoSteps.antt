@@ -12,12 +12,12 @@ use Rattle.sms_centre_spec.specs.Requests.{account_at, queried, query_by}
 use Rattle.sms_centre_spec.specs.SoundCore.{IsSoundCore}
 use Rattle.sms_centre_spec.specs.declared.event.CentreEvent.TheVariants.{DeliverAnswered, Query}
 use Rattle.sms_world.specs.centre_runs_are_steps.Offered.{HasOffered}
-use Rattle.sms_world.proofs.centre_runs_are_steps.NothingOffered.{answered_nothing, query_nothing}
+use Rattle.sms_world.proofs.centre_runs_are_steps.NothingOffered.{answered_nothing, query_nothing, receipt_there}
 use Rattle.sms_world_model.specs.World.{World}
 use Rattle.sms_world.specs.centres_refine_the_world.CentreRefinement.{CentreRefines, StoreRefines}
 use Rattle.sms_world.specs.centres_refine_the_world.FramesOut.{AreWholeDown, stacked_down}
 use Rattle.sms_world.specs.centres_refine_the_world.RefinesLines.{RefinesLines}
-use Rattle.sms_world.proofs.centres_refine_the_world.SessionsChange.{answered_refines, receipt_there}
+use Rattle.sms_world.proofs.centres_refine_the_world.SessionsChange.{answered_refines}
 use Rattle.sms_world.proofs.centres_refine_the_world.QuietEvents.{start}
 
 -- nothing was sent, and the lines are as they were

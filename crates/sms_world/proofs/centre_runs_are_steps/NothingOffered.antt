@@ -1,7 +1,7 @@
 -- Events that change nothing that waits offer nothing.
-use Rattle.std.proofs.Common.{◌≡◌, ℕ, List, [], ◌∷◌, Bool, true, false, refl, sym, ◌∙◌, ap, inl, inr, ⊎_elim, Option, Some, None}
+use Rattle.std.proofs.Common.{◌≡◌, ℕ, List, [], ◌∷◌, Bool, false, refl, sym, ◌∙◌, ap, inl, inr, Option, Some, None}
 use Rattle.std.specs.Prelude.{◌==◌, ◌&&◌, not, if◌then◌else◌}
-use Rattle.std.proofs.lemmas.Bool.{cond_both, cond-false, eqb-true, or_cases}
+use Rattle.std.proofs.lemmas.Bool.{cond_both, cond-false, eqb-true}
 use Rattle.std.specs.Str.{bytes_eq}
 use Rattle.sms_base.specs.Among.{Among}
 use Rattle.smpp_pdu.specs.declared.query.QuerySm.{QuerySm}
@@ -11,12 +11,12 @@ use Rattle.sms_centre_rows.specs.messages.OpenParts.{parts_waiting}
 use Rattle.sms_centre_rows.specs.messages.SplitReferences.{is_among}
 use Rattle.sms_centre_rows.specs.declared.messages.message.MessageRow.{MessageRow}
 use Rattle.sms_centre_rows.specs.reports.Receipts.{Session, answered_in, receipt_ended, receipt_tried, session_key}
-use Rattle.sms_centre_rows.specs.reports.Reports.{is_receipt, is_status, report_key, report_of, report_reaching}
+use Rattle.sms_centre_rows.specs.reports.Reports.{is_status, report_key, report_of, report_reaching}
 use Rattle.sms_centre_rows.specs.reports.Waiting.{report_queued, reports_to, with_reports as with_queued}
-use Rattle.sms_centre_rows.specs.declared.reports.report.ReportKind.{ReportKind}
-use Rattle.sms_centre_rows.specs.declared.reports.report.ReportKind.TheVariants.{Receipt, Status, Unsent}
 use Rattle.sms_centre_rows.specs.declared.reports.report.ReportRow.{ReportRow}
 use Rattle.sms_centre_rows.proofs.reports.AllWaiting.{report_found}
+use Rattle.sms_centre_rows.proofs.waiting.LinksRepresented.{line_of_handset}
+use Rattle.sms_centre_rows.proofs.reports.Kinds.{no_status}
 use Rattle.sms_rows.specs.table.Table.{Rises, put, row_at}
 use Rattle.sms_rows.proofs.table.Tables.{among_found, found_among}
 use Rattle.sms_centre_rows.specs.waiting.Keys.{queued_key}
@@ -28,7 +28,7 @@ use Rattle.sms_centre_rows.specs.declared.waiting.handset.HandsetRow.{HandsetRow
 use Rattle.sms_centre_rows.specs.declared.waiting.handset_link.HandsetLink.{HandsetLink}
 use Rattle.sms_centre_rows.specs.declared.waiting.queued_part.QueuedPart.{QueuedPart}
 use Rattle.sms_centre_rows.specs.declared.waiting.progress.Progress.{Progress}
-use Rattle.sms_centre_spec.proofs.SoundLinks.{line_of_handset}
+use Rattle.sms_centre_spec.proofs.forgetting.Runs.{among_so}
 use Rattle.sms_centre_spec.specs.CentreEvent.{follow}
 use Rattle.sms_centre_spec.specs.Draft.{Core, Draft, Store, draft_of, handsets_in, messages_in, priorities_in, parts_in, reports_in, waiting_in, with_reports}
 use Rattle.sms_centre_spec.specs.Offering.{offer_all, offer_among, offer_queued, offer_to}
@@ -101,18 +101,8 @@ waits_alike handset ms key q (r ∷ rs) all_queued f =
     (λ t. refl) in
     head (with_queued handset ms (amended report_key report_reaching key q rs) all_queued) ∙ ap (λ (ls : List QueuedPart). more r ls) rest
 
-among_is : (n : ℕ) (ns : List ℕ) → is_among n ns ≡ true → Among n ns
-among_is n [] e = absurd cc
-among_is n (x ∷ xs) e =
-    ⊎_elim (λ (t : (x == n) ≡ true). inl (sym (eqb-true x n t))) (λ (t : is_among n xs ≡ true). inr (among_is n xs t)) (or_cases (x == n) (is_among n xs) e)
-
-pub no_status : (k : ReportKind) → is_receipt k ≡ true → is_status k ≡ false
-no_status Receipt e = refl
-no_status (Status reference tpdu) e = absurd cc
-no_status Unsent e = absurd cc
-
 -- what was sent in a session is a receipt
-receipt_there : (c : Core) (session : Session) (number : ℕ) → IsSoundCore c → row_at session_key number c.sessions ≡ Some session → (n : ℕ) → Among n session.unanswered
+pub receipt_there : (c : Core) (session : Session) (number : ℕ) → IsSoundCore c → row_at session_key number c.sessions ≡ Some session → (n : ℕ) → Among n session.unanswered
     → (r : ReportRow) → report_of n c.rows.reports ≡ Some r → is_status r.kind ≡ false
 receipt_there c session number sound e n i r q =
     let x : IsReceiptRow c.rows n = (sound.each_session session (found_among session_key number session c.sessions e)).unanswered n i in
@@ -140,7 +130,7 @@ answered_offered id accepted (Some session) d f keys k =
     let e : Draft = record d { store = receipt_answered id accepted d.store; bindings = answered_in id session d.bindings } in
     cond_both (is_among id session.unanswered) e d (λ (x : Draft). (follow x).links ≡ d.links)
     (λ t. nothing_offered (handsets_in d.store) (receipt_answered id accepted d.store) d.links
-    (ended_offered accepted d.store.moment id (report_of id (reports_in d.store)) d.store d.links.lines keys refl (λ r q. f session refl id (among_is id session.unanswered t) r q) k))
+    (ended_offered accepted d.store.moment id (report_of id (reports_in d.store)) d.store d.links.lines keys refl (λ r q. f session refl id (among_so id session.unanswered t) r q) k))
     (λ t. nothing_offered (handsets_in d.store) d.store d.links k)
 
 pub answered_nothing : AnsweredLaw

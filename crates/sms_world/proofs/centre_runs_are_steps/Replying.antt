@@ -25,7 +25,6 @@ use Rattle.sms_intake.specs.declared.refusal.SubmitRefusal.{SubmitRefusal}
 use Rattle.sms_centre_rows.specs.waiting.Links.{line_of, turn_line, turned}
 use Rattle.sms_centre_rows.specs.declared.waiting.handset_link.HandsetLink.{HandsetLink}
 use Rattle.sms_centre_rows.specs.declared.waiting.handset_link.Sent.{Sent as SentRow}
-use Rattle.sms_centre_spec.proofs.SoundLinks.{line_of_handset}
 use Rattle.sms_centre_spec.specs.Draft.{Draft, on_links}
 use Rattle.sms_centre_spec.specs.Receiving.{reply}
 use Rattle.sms_world.proofs.frames_pass_between_sides.Linking.{Awaits, data_framed, reply_is}
@@ -39,6 +38,7 @@ use Rattle.sms_world.proofs.centres_refine_the_world.Offers.{line_refines, lines
 use Rattle.sms_world.proofs.centres_refine_the_world.Staying.{line_still}
 use Rattle.sms_world.proofs.handset_runs_are_steps.Replying.{answer_frame}
 use Rattle.sms_centre_draft.proofs.AnswerLengths.{refusal_cause}
+use Rattle.sms_centre_rows.proofs.waiting.LinksRepresented.{line_of_handset}
 
 opened_below : (h : List ℕ) (bag : List Sent) (a : Option Carried) (s : Option Opened) (o : Opened) → s ≡ Some o → RefinesOpenedDown h bag a s → o.identifier < 7
 opened_below h bag a None o e s = absurd cc

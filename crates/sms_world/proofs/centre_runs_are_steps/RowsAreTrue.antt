@@ -1,5 +1,5 @@
 -- What the claims of the world say of the centre's rows.
-use Rattle.std.proofs.Common.{◌≡◌, ℕ, ◌<◌, [], true, false, refl, sym, ◌∙◌, ap, subst, Option, Some, None}
+use Rattle.std.proofs.Common.{◌≡◌, ℕ, ◌<◌, [], true, false, refl, sym, ◌∙◌, ap, subst, Option, Some}
 use Rattle.sms_base.specs.Among.{Among}
 use Rattle.sms_base.specs.declared.final_state.FinalState.{FinalState}
 use Rattle.sms_base.specs.declared.final_state.FinalState.TheVariants.{Delivered}
@@ -18,12 +18,13 @@ use Rattle.sms_world_model.specs.Groups.{OccursOnce}
 use Rattle.sms_world_model.specs.WorldStep.{end}
 use Rattle.sms_world_model.specs.ScriptRun.{items}
 use Rattle.sms_world_model.specs.Submission.{IsDeliverOf}
-use Rattle.sms_world_model.specs.World.{Accepted, Final, Allocation, Pending, IsRecorded, State, World, empty, pair_given}
+use Rattle.sms_world_model.specs.World.{Accepted, Final, Allocation, IsRecorded, State, World, empty, pair_given}
 use Rattle.sms_world.specs.centres_refine_the_world.CentreRefinement.{CentreRefines}
 use Rattle.sms_world.specs.centres_refine_the_world.RefinesGiven.{given_part}
 use Rattle.sms_world.specs.headline.SeenWorld.{IsStateOf, PartSeen, part_seen, parts_by}
 use Rattle.sms_world.specs.centres_refine_the_world.RefinesReports.{report_seen}
 use Rattle.sms_world.proofs.centres_refine_the_world.ByOctets.{by_octet_is}
+use Rattle.sms_world.proofs.headline.Tables.{same_end}
 use Rattle.sms_world.specs.centre_runs_are_steps.Run.{Others, Restart, Stopped, Whole}
 use Rattle.sms_world.specs.centre_runs_are_steps.RunEvents.{moment_at}
 use Rattle.sms_world.specs.centre_runs_are_steps.TruthfulRows.{DeliveredLaw, EpisodeLaw, OnceLaw, ReportedLaw, ReportedRows}
@@ -38,13 +39,6 @@ episode_runs (Restart handsets sessions) c w v may same = ([], (tt, same))
 episode_runs (Others handset m b steps) c w v may same = (items m b steps, (may.1, same))
 
 -- ---- rows
-
-same_state : (o : Option FinalState) (f : FinalState) (parts : ℕ → Option PartSeen) (st : State) → IsStateOf o parts st → st ≡ Final f → o ≡ Some f
-same_state None f parts st is e =
-    let bad : Pending is.0 ≡ Final f = sym is.1.0 ∙ e in absurd cc
-same_state (Some g) f parts st is e =
-    let both : Final g ≡ Final f = sym is ∙ e in
-    let same : g ≡ f = cc in ap (λ (x : FinalState). Some x) same
 
 module _ (c : Core) (w : World) (s : CentreRefines w (draft_of c) w) where
   module _ (id number : ℕ) (m : MessageRow) (p : PartRow) (there : message_at id c.rows.messages ≡ Some m) (at : part_at id number c.rows.parts ≡ Some p) (small : number < 256) where
@@ -92,7 +86,7 @@ module _ (c : Core) (w : World) (s : CentreRefines w (draft_of c) w) where
       let z = s.rows.table.there id m.0 m.1 in
       let own : m.0.id ≡ id = found_key message_key id m.0 c.rows.messages m.1 in
       let both = same_message w.table id z.0 y.1.0 z.1 (Final x.0) (subst (λ (k : ℕ). IsRecorded w.table k z.0 z.1) own z.2.0) y.1.1 in
-      (m.0, x.0, (m.1, same_state m.0.state x.0 (parts_by c.rows.parts id) z.1 z.2.2 both.1, y.0))
+      (m.0, x.0, (m.1, same_end m.0.state x.0 (parts_by c.rows.parts id) z.1 z.2.2 both.1, y.0))
 
 -- ---- wherever a run led
 

@@ -20,6 +20,7 @@ use Rattle.sms_centre_spec.proofs.SoundMessagesStay.{AreRows, StatesItsParts, fi
 use Rattle.sms_centre_spec.proofs.SoundEnds.{CanEnd}
 use Rattle.sms_centre_spec.proofs.SoundStores.{SoundStore}
 use Rattle.sms_centre_spec.proofs.StagesConsistent.{part_far_consistent}
+use Rattle.sms_centre_spec.proofs.SoundSteady.{rows_map}
 use Rattle.sms_centre_spec.specs.Draft.{Store, messages_in, parts_in, priorities_in, reports_in, with_message, with_part_at}
 use Rattle.sms_centre_spec.specs.Ends.{end as end_message}
 use Rattle.sms_centre_spec.specs.Consistent.{IsConsistent as StandsStore}
@@ -30,7 +31,7 @@ use Rattle.sms_world_model.specs.Submission.{Submission}
 use Rattle.sms_world_model.specs.World.{Down, Final, Frame, Allocation, IsUnanswered, Message, Pending, IsRecorded, State, World, changed}
 use Rattle.sms_world_model.specs.WorldStep.{HasReference, IsSent, Settle, marked, settled}
 use Rattle.sms_world.proofs.centres_refine_the_world.ByOctets.{by_octet_is, by_octet_some}
-use Rattle.sms_world.proofs.centres_refine_the_world.Ending.{end_is_reached, ended_refines, rows_map}
+use Rattle.sms_world.proofs.centres_refine_the_world.Ending.{end_is_reached, ended_refines}
 use Rattle.sms_world.proofs.centres_refine_the_world.Allocations.{seen_part}
 use Rattle.sms_world.proofs.centres_refine_the_world.QueuedParts.{none_of}
 use Rattle.sms_world.specs.centres_refine_the_world.CentreRefinement.{StoreRefines}
@@ -242,6 +243,7 @@ module _ (s : Store) (w : World) (sound : SoundStore s) (refines : StoreRefines 
         told = sym all;
         reports = sound.reports;
         splits = sound.splits;
+        bars = sound.bars;
         setup = sound.setup;
         times = record { now = sound.times.now; start = sound.times.start; submitted = sound.times.submitted; given = sound.times.given; made = sound.times.made };
         there = there;

@@ -1,5 +1,6 @@
 -- Stages one after another.
 use Rattle.std.proofs.Common.{◌≡◌, ℕ, List, [], ◌∷◌, ◌++◌, false, refl, sym, subst, inl, inr}
+use Rattle.std.proofs.lemmas.List.{append_assoc}
 use Rattle.sms_base.specs.Among.{Among}
 use Rattle.sms_centre_spec.proofs.SoundStores.{SoundStore}
 use Rattle.sms_centre_spec.specs.CentreEvent.{follow}
@@ -11,7 +12,6 @@ use Rattle.sms_world_model.specs.Sides.{AllOfCentre, IsOfCentre}
 use Rattle.sms_world_model.specs.World.{Carried, Frame, World}
 use Rattle.sms_world.specs.centres_refine_the_world.CentreRefinement.{CentreRefines}
 use Rattle.sms_world.proofs.centres_refine_the_world.Ending.{AllReportEnds}
-use Rattle.sms_world.proofs.centres_refine_the_world.Firing.{appended}
 use Rattle.sms_world.proofs.centres_refine_the_world.Offers.{follow_law}
 use Rattle.sms_world.proofs.centres_refine_the_world.Playing.{centre_both, follow_both, offers_follow, store_is_reached, agrees_follow}
 use Rattle.sms_world.specs.centre_runs_are_steps.Stages.{AnswersInEvent, AreOfFrame, Begins, Reaches, Settles}
@@ -60,7 +60,7 @@ frame_leads number m d w (control, (is_control, control_centre, control_runs, (o
     let o = follow_law m w d x sound refines in
     let offers = offers_follow (Handed number) (λ y z. z) o.0 o.1.0 in
     let after : List Step = own ++ (follows ++ o.0) in
-    let same : heads ++ o.0 ≡ after = appended own follows o.0 in
+    let same : heads ++ o.0 ≡ after = append_assoc own follows o.0 in
     let runs : Run v (items m false after) = subst (λ (z : List Step). Run v (items m false z)) same (run_both m v heads o.0 run o.1.1) in
     let seen : CentreRefines w (follow d) (end v (items m false after)) =
     subst (λ (z : List Step). CentreRefines w (follow d) (end v (items m false z))) same (subst (λ (z : World). CentreRefines w (follow d) z) (sym (end_both m v heads o.0)) o.1.2) in (

@@ -1,12 +1,9 @@
 -- Messages expire, each telling its end, and status reports that are too old are dropped.
-use Rattle.std.proofs.Common.{◌≡◌, ℕ, ◌<◌, ◌≤◌, arith, List, [], ◌∷◌, ◌++◌, Bool, true, false, refl, sym, ◌∙◌, ap, subst, inl, inr, ⊎_elim, Option, Some, None, eq-eqb}
+use Rattle.std.proofs.Common.{◌≡◌, ℕ, ◌<◌, ◌≤◌, arith, List, [], ◌∷◌, ◌++◌, Bool, true, false, refl, sym, ◌∙◌, ap, subst, inl, inr, ⊎_elim, Option, Some, eq-eqb}
 use Rattle.std.specs.Prelude.{◌==◌, ◌&&◌, not, nat_le, if◌then◌else◌}
 use Rattle.std.proofs.lemmas.Bool.{and_parts, both_ways, cases_eq, cond_both, eqb-true, leb-true}
 use Rattle.sms_base.specs.Among.{Among}
-use Rattle.sms_base.specs.declared.final_state.FinalState.{FinalState}
 use Rattle.sms_base.specs.declared.final_state.FinalState.TheVariants.{Expired}
-use Rattle.sms_base.specs.declared.originator.Originator.{Originator}
-use Rattle.sms_base.specs.declared.originator.Originator.TheVariants.{Application, Handset}
 use Rattle.sms_centre_rows.specs.messages.Messages.{ended, is_pending, message_at, message_key}
 use Rattle.sms_centre_rows.specs.declared.messages.message.MessageRow.{MessageRow}
 use Rattle.sms_centre_rows.proofs.reports.ReportRows.{amended_other, amended_own}
@@ -14,17 +11,14 @@ use Rattle.sms_centre_rows.specs.reports.Reports.{is_open_status, is_status, rep
 use Rattle.sms_centre_rows.specs.declared.reports.report.ReportRow.{ReportRow}
 use Rattle.sms_rows.specs.table.Table.{Rises}
 use Rattle.sms_rows.proofs.table.Tables.{among_found}
-use Rattle.sms_centre_rows.specs.waiting.References.{handset_of}
 use Rattle.sms_centre_rows.specs.waiting.Revisions.{amended}
 use Rattle.sms_centre_rows.specs.waiting.Trying.{finished, later}
-use Rattle.sms_centre_rows.specs.declared.waiting.handset.HandsetRow.{HandsetRow}
 use Rattle.sms_centre_spec.proofs.SoundAccepted.{sound_steady, sound_still}
 use Rattle.sms_centre_spec.proofs.SoundStores.{SoundStore}
-use Rattle.sms_centre_spec.proofs.SteadyTimes.{MessagesInStore, ReportsInStore, above_among, end_leaves, stand_all}
+use Rattle.sms_centre_spec.proofs.SteadyTimes.{MessagesInStore, ReportsInStore, above_among, end_leaves, far_leaves, stand_all}
 use Rattle.sms_centre_spec.specs.CentreEvent.{drop_all, dropped, expire_all, expired, report_limit}
-use Rattle.sms_centre_spec.specs.Draft.{Store, handsets_in, messages_in, parts_in, reports_in, with_message}
-use Rattle.sms_centre_spec.specs.Ends.{end as end_message, is_wished, report_to, status_given}
-use Rattle.sms_centre_spec.specs.Submitting.{reference_for}
+use Rattle.sms_centre_spec.specs.Draft.{Store, messages_in, parts_in, reports_in, with_message}
+use Rattle.sms_centre_spec.specs.Ends.{end as end_message}
 use Rattle.sms_centre_spec.specs.Transfers.{report_closed}
 use Rattle.sms_world.proofs.frames_pass_between_sides.RunsOn.{end_both, run_both}
 use Rattle.sms_world_model.proofs.Tables.{among_without}
@@ -39,7 +33,7 @@ use Rattle.sms_world.specs.headline.SeenWorld.{messages_by, parts_by}
 use Rattle.sms_world.specs.centres_refine_the_world.RefinesReports.{ReportSeen, RefinesReports, report_seen, reports_by}
 use Rattle.sms_world.proofs.centres_refine_the_world.Ending.{IsReached, can_end, end_is_reached, ended_refines, pending_in_world}
 use Rattle.sms_world.proofs.centres_refine_the_world.Playing.{centre_both, follow_both, agrees_follow}
-use Rattle.sms_world.proofs.centres_refine_the_world.SessionsBound.{far_leaves}
+use Rattle.sms_centre_draft.proofs.walks.MomentStays.{end_moment}
 
 -- ---- steps of a tick
 
@@ -63,21 +57,6 @@ reached_then n e f w (xs, (kx, rx, sx, bx)) further =
 
 pub reached_still : (n : ℕ) (s : Store) (w : World) → StoreRefines s w → IsReached InTick n s w
 reached_still n s w refines = ([], ((tt, tt), tt, refines, refl))
-
--- ---- an end takes no time
-
-given_moment : (f : FinalState) (m : MessageRow) (h : HandsetRow) (o : Option ℕ) (s : Store) → (status_given f m h o s).moment ≡ s.moment
-given_moment f m h None s = refl
-given_moment f m h (Some r) s = refl
-
-report_moment : (o : Originator) (f : FinalState) (m : MessageRow) (s : Store) → (report_to o f m s).moment ≡ s.moment
-report_moment (Application account) f m s = refl
-report_moment (Handset n) f m s = let h : HandsetRow = handset_of m.source.digits (handsets_in s) in given_moment f m h (reference_for h s) s
-
-end_moment : (f : FinalState) (m : MessageRow) (s : Store) → (end_message f m s).moment ≡ s.moment
-end_moment f m s =
-    let e : Store = with_message (ended f s.moment m) s in
-    cond_both (is_wished m.wish f) (report_to m.originator f m e) e (λ (x : Store). x.moment ≡ s.moment) (λ t. report_moment m.originator f m e) (λ t. refl)
 
 -- ---- messages expire
 

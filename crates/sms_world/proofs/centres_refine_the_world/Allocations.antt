@@ -6,6 +6,7 @@ use Rattle.std.specs.Option.{option_map}
 use Rattle.std.specs.Str.{bytes_eq}
 use Rattle.std.proofs.lemmas.Bool.{cases_Bool, cond-true, eqb-true, leb-false, leb-true, or_cases}
 use Rattle.std.proofs.lemmas.Slice.Eq.{bytes_eq-Decides}
+use Rattle.sms_base.proofs.OctetLaws.{cases_octets}
 use Rattle.sms_base.specs.Among.{Among}
 use Rattle.sms_base.specs.declared.final_state.FinalState.{FinalState}
 use Rattle.sms_base.specs.declared.holder.Holder.{Holder}
@@ -24,7 +25,7 @@ use Rattle.sms_rows.specs.table.Keys.{pair_key}
 use Rattle.sms_rows.specs.table.Table.{put, row_at}
 use Rattle.sms_rows.proofs.table.Tables.{found_among, found_key, row_at_put, row_at_put_other}
 use Rattle.sms_tpdu.specs.MoreMessages.{compared}
-use Rattle.sms_centre_rows.proofs.waiting.Mentions.{Fits, below_next_place, cases_number, number_found, put_number, put_number_other, row_fits}
+use Rattle.sms_centre_rows.proofs.waiting.Mentions.{Fits, below_next_place, number_found, put_number, put_number_other, row_fits}
 use Rattle.sms_centre_rows.proofs.waiting.Passing.{passing_later, passing_there}
 use Rattle.sms_centre_rows.proofs.waiting.WaitingSound.{next_is_free, none_holds, not_held}
 use Rattle.sms_centre_rows.specs.waiting.Keys.{handset_key, queued_key, reference_key}
@@ -360,5 +361,5 @@ module _ (s : Store) (held : SoundHeld s) (g : Allocation) (now : g.moment ≡ s
     there = λ a q ne. by_octet_same q (second_at (handset_at a after_hs) q after_rs) (second_at (handset_at a hs) q (references_in s)) (λ few. ⊎_elim
         (λ (e : g.handset ≡ a). other_reference a q e (λ r. ne (sym e, sym r)))
         (λ (e : g.handset ≡ a → ⊥). other_handset a q e few)
-        (cases_number g.handset a));
+        (cases_octets g.handset a));
   }

@@ -24,19 +24,18 @@ use Rattle.sms_centre_rows.specs.declared.reports.report.ReportKind.{ReportKind}
 use Rattle.sms_centre_rows.specs.declared.reports.report.ReportKind.TheVariants.{Receipt as ReceiptKind, Status as StatusKind, Unsent}
 use Rattle.sms_centre_rows.specs.declared.reports.report.ReportRow.{ReportRow}
 use Rattle.sms_rows.specs.table.Table.{put}
-use Rattle.sms_rows.proofs.table.Tables.{among_put, found_among, found_key, row_at_put, row_at_put_other}
+use Rattle.sms_rows.proofs.table.Tables.{found_among, found_key, row_at_put, row_at_put_other}
 use Rattle.sms_tpdu.specs.Codes.{status_octet}
 use Rattle.sms_tpdu.specs.MoreMessages.{compared}
 use Rattle.sms_centre_rows.proofs.waiting.WaitingSound.{next_is_free}
 use Rattle.sms_centre_rows.specs.waiting.References.{handset_of}
 use Rattle.sms_centre_rows.specs.declared.waiting.handset.HandsetRow.{HandsetRow}
-use Rattle.sms_centre_spec.proofs.SoundMessagesStay.{AreRows, StatesItsParts, ended_rows, pending_undelivered, rows_are, rows_sound}
-use Rattle.sms_centre_spec.proofs.SoundReportsStay.{end_reports}
-use Rattle.sms_centre_spec.proofs.SoundEnds.{CanEnd}
-use Rattle.sms_centre_spec.proofs.SoundStores.{IsPast, SoundStore}
-use Rattle.sms_centre_spec.proofs.SplitsStayApart.{end_apart}
+use Rattle.sms_centre_spec.proofs.SoundMessagesStay.{StatesItsParts, pending_undelivered, rows_are}
+use Rattle.sms_centre_spec.proofs.SoundEnds.{CanEnd, ended_sound}
+use Rattle.sms_centre_spec.proofs.SoundStores.{SoundStore}
 use Rattle.sms_centre_spec.proofs.StagesConsistent.{CanReport, can_report, next_is_new}
 use Rattle.sms_centre_spec.proofs.TpdusRead.{status_reads}
+use Rattle.sms_centre_spec.proofs.SoundSteady.{rows_map}
 use Rattle.sms_centre_spec.specs.Draft.{Store, handsets_in, messages_in, parts_in, priorities_in, references_in, reports_in, waiting_in, with_message}
 use Rattle.sms_centre_spec.specs.Ends.{end as end_message, is_wished, make_report, report_to, status_given}
 use Rattle.sms_centre_spec.specs.Finals.{final_of}
@@ -480,18 +479,6 @@ module _ (f : FinalState) (n : ℕ) (m : MessageRow) (s : Store) (w : World) (ca
 
 -- ---- a message ends
 
-pub rows_map : (D E : MessageRow → Type 0) (s : Store) → AreRows D (messages_in s) (parts_in s) (priorities_in s) → ((x : MessageRow) → Among x (messages_in s) → D x → E x)
-    → AreRows E (messages_in s) (parts_in s) (priorities_in s)
-rows_map D E s r f = record {
-  message_keys = r.message_keys;
-  part_keys = r.part_keys;
-  priority_keys = r.priority_keys;
-  each = r.each;
-  told = λ x among. f x among (r.told x among);
-  each_part = r.each_part;
-  each_priority = r.each_priority;
-}
-
 -- a message that is pending is so in the world
 pub pending_in_world : (m : MessageRow) (s : Store) (w : World) → StoreRefines s w → message_at m.id (messages_in s) ≡ Some m → is_pending m ≡ true
     → (u : Submission) × (done : List ℕ) × (IsRecorded w.table m.id u (Pending done) × IsRowOf m u)
@@ -510,34 +497,11 @@ can_end f m s k there pending partly =
       told = partly ∙ sym (pending_undelivered m.state pending) ∙ rows.told m (found_among message_key m.id m (messages_in s) there);
       reports = k.reports;
       splits = k.splits;
+      bars = k.bars;
       setup = k.setup;
       times = k.times;
       there = there;
       pending = pending;
-    }
-
-ended_sound : (f : FinalState) (m : MessageRow) (s : Store) → CanEnd f m s → SoundStore (with_message (ended f s.moment m) s)
-ended_sound f m s c =
-    let x : MessageRow = ended f s.moment m in
-    let can = can_report f m s c.consistent c.there c.pending in
-    let ps = parts_in s in
-    record {
-      consistent = can.consistent;
-      messages = rows_sound (put message_key x (messages_in s)) ps (priorities_in s)
-          (ended_rows (λ y. ¬ (y.id ≡ m.id) → StatesItsParts ps y) (StatesItsParts ps) (messages_in s) ps (priorities_in s) m f s.moment c.rows c.there c.told (λ y among ne told. told ne));
-      reports = end_reports (messages_in s) (reports_in s) m f s.moment c.reports c.there c.pending;
-      splits = end_apart (messages_in s) m f s.moment c.splits c.there c.pending;
-      setup = c.setup;
-      times = record {
-        now = c.times.now;
-        start = c.times.start;
-        submitted = λ y among. ⊎_elim
-            (λ (e : y ≡ x). subst (λ (z : MessageRow). IsPast s.moment z.submitted) (sym e) (c.times.submitted m (found_among message_key m.id m (messages_in s) c.there)))
-            (λ (a : Among y (messages_in s) × ¬ (y.id ≡ m.id)). c.times.submitted y a.0)
-            (among_put message_key y x (messages_in s) among);
-        given = c.times.given;
-        made = c.times.made;
-      };
     }
 
 -- the world in which the message has ended comes to what is told of it

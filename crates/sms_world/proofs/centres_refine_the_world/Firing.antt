@@ -3,12 +3,13 @@ use Rattle.std.proofs.Common.{◌≡◌, ℕ, ◌+◌, List, [], ◌∷◌, ◌+
 use Rattle.std.specs.Prelude.{if◌then◌else◌}
 use Rattle.std.specs.Option.{option_map}
 use Rattle.std.proofs.lemmas.Bool.{cond_both}
+use Rattle.std.proofs.lemmas.List.{append-nil, append_assoc}
 use Rattle.sms_base.specs.Among.{Among}
 use Rattle.sms_base.specs.declared.carried.Carried.{Carried}
 use Rattle.sms_control.proofs.ControlFrames.{cp_again}
 use Rattle.sms_control.proofs.FiringCases.{firing_cases}
 use Rattle.sms_control.specs.ControlReading.{cp_at}
-use Rattle.sms_control.specs.LinkStep.{Step, answer_frames, begun_fired, begun_frames, failed_by, fire_step, frames_of, if_again, opened_fired}
+use Rattle.sms_control.specs.LinkStep.{Step, answer_frames, begun_fired, begun_frames, failed_by, frames_of, if_again, opened_fired}
 use Rattle.sms_control.specs.Timers.{begun_firing, opened_firing, sent_again}
 use Rattle.sms_control.specs.declared.fault.CpFault.{CpFault}
 use Rattle.sms_control.specs.declared.link_state.Answer.{Answer}
@@ -19,11 +20,11 @@ use Rattle.sms_control.specs.declared.message.Cp.{Cp}
 use Rattle.sms_control.specs.declared.message.Cp.TheVariants.{DataUnit as CpData}
 use Rattle.sms_control.specs.declared.transaction.TransactionFlag.{TransactionFlag}
 use Rattle.sms_control.specs.declared.transaction.TransactionFlag.TheVariants.{FromOriginator, ToOriginator}
-use Rattle.sms_link.specs.LinkTurn.{Turn, passed_up, carried_by, carried_in, from_links, heard, of_links, still_under_way}
+use Rattle.sms_link.specs.LinkTurn.{passed_up, carried_by, carried_in, from_links, heard, of_links, still_under_way}
+use Rattle.sms_link.specs.declared.ending.Ending.{Ending}
 use Rattle.sms_link.specs.declared.ending.Ending.TheVariants.{Lost as LostEnd}
 use Rattle.sms_link.specs.declared.ending.Side.{Side}
-use Rattle.sms_link.specs.declared.ending.Upward.{Upward}
-use Rattle.sms_link.specs.declared.ending.Upward.TheVariants.{Ended, Opened as OpenedUp}
+use Rattle.sms_link.specs.declared.ending.Upward.TheVariants.{Ended}
 use Rattle.sms_centre_rows.specs.waiting.Links.{line_at, line_of, to_handset, turn_line, turned}
 use Rattle.sms_centre_rows.specs.waiting.References.{handset_at}
 use Rattle.sms_centre_rows.specs.declared.waiting.handset.HandsetRow.{HandsetRow}
@@ -33,6 +34,8 @@ use Rattle.sms_centre_spec.proofs.SoundAccepted.{sound_still}
 use Rattle.sms_centre_spec.proofs.SoundLinks.{line_found}
 use Rattle.sms_centre_spec.proofs.SoundStores.{SoundStore}
 use Rattle.sms_centre_spec.proofs.Steady.{concluded_steady, due_now_steady}
+use Rattle.sms_centre_spec.specs.Transfers.{conclude}
+use Rattle.sms_centre_spec.proofs.Ticking.{fire_at_says, fire_mentioned_says, fired_says}
 use Rattle.sms_centre_spec.specs.CentreEvent.{fire_at, fire_line, fire_mentioned, fire_others, fired, is_mentioned, raise, raise_all, timed_out}
 use Rattle.sms_centre_spec.specs.Draft.{Draft, handsets_in, on_links}
 use Rattle.sms_world.proofs.frames_pass_between_sides.RunsOn.{end_both, run_both}
@@ -60,14 +63,6 @@ steps_then m b e f w (xs, (kx, rx, sx)) further =
 
 pub steps_still : (m : ℕ) (b : World) (d : Draft) (w : World) → CentreRefines b d w → StageIsSteps m b d w
 steps_still m b d w s = ([], ((tt, tt), tt, s))
-
-pub appended : {A : Type 0} (xs ys zs : List A) → (xs ++ ys) ++ zs ≡ xs ++ (ys ++ zs)
-appended {A = A} [] ys zs = refl
-appended {A = A} (x ∷ xs) ys zs = ap (λ (l : List A). x ∷ l) (appended xs ys zs)
-
-nothing_more : {A : Type 0} (xs : List A) → xs ++ [] ≡ xs
-nothing_more {A = A} [] = refl
-nothing_more {A = A} (x ∷ xs) = ap (λ (l : List A). x ∷ l) (nothing_more xs)
 
 -- ---- frames that were sent are sent again
 
@@ -97,7 +92,7 @@ again_list : (m : ℕ) (h : List ℕ) (u a : Option Carried) (b : World) (fs : L
     → StageIsSteps m b (record d { links = record d.links { frames = d.links.frames ++ to_handset h (from_links u a fs) } }) w
 again_list m h u a b [] d w k s =
     steps_still m b (record d { links = record d.links { frames = d.links.frames ++ [] } }) w
-    (subst (λ (z : List SentRow). CentreRefines b (record d { links = record d.links { frames = z } }) w) (sym (nothing_more d.links.frames)) s)
+    (subst (λ (z : List SentRow). CentreRefines b (record d { links = record d.links { frames = z } }) w) (sym (append-nil d.links.frames)) s)
 again_list m h u a b (f ∷ fs) d w k s =
     let flag = k.0.0 in
     let c = k.0.1 in
@@ -114,7 +109,7 @@ again_list m h u a b (f ∷ fs) d w k s =
     } in
     let y = again_list m h u a b fs e v (all_more h w.bag new u a fs k.1) refines in
     let q : (d.links.frames ++ x ∷ []) ++ to_handset h (from_links u a fs) ≡ d.links.frames ++ to_handset h (from_links u a (f ∷ fs)) =
-    appended d.links.frames (x ∷ []) (to_handset h (from_links u a fs))
+    append_assoc d.links.frames (x ∷ []) (to_handset h (from_links u a fs))
     ∙ ap (λ (z : Option Carried). d.links.frames ++ record { handset = h; frame = of_links f z } ∷ to_handset h (from_links u a fs)) (sym (again_carries h w.bag flag f c u a sent ∙ k.0.2.1)) in
     let z : StageIsSteps m b (record d { links = record d.links { frames = (d.links.frames ++ x ∷ []) ++ to_handset h (from_links u a fs) } }) w =
     (Again (frame_down h sent.2.0 f c) ∷ y.0, (((inl tt, y.1.0.0), (tt, y.1.0.1)), (sent.2.1, y.1.1), y.1.2)) in
@@ -216,32 +211,22 @@ fire_line_is_steps m b line d w among sound s =
     (steps_then m b e (timed_out line.handset (heard z line.link).out.up e) w (line_fires m b line d w now among s)
     (λ v y. steps_still m b (timed_out line.handset (heard z line.link).out.up e) v (timed_law b line.handset line.link.side line.link.under_way now line.link.links.begun e v sound y)))
 
-timed_out_sound : (h : List ℕ) (u : Option Upward) (d : Draft) → SoundStore d.store → SoundStore (timed_out h u d).store
-timed_out_sound h None d k = k
-timed_out_sound h (Some (OpenedUp unit)) d k = k
-timed_out_sound h (Some (Ended transfer ending)) d k = concluded_steady SoundStore sound_still transfer.tag ending d.store k
-
 -- ---- one line after another
 
-at_sound : (o : Option HandsetLink) (d : Draft) → SoundStore d.store → SoundStore (fire_at o d).store
-at_sound None d k = k
-at_sound (Some line) d k =
-    let t : Turn = heard (fire_step d.store.moment line.link.links) line.link in timed_out_sound line.handset t.out.up (on_links (turn_line line t d.links) d) k
+abbrev Sound : Draft → Type 0
+Sound d = SoundStore d.store
 
-mentioned_sound : (hs : List HandsetRow) (d : Draft) → SoundStore d.store → SoundStore (fire_mentioned hs d).store
-mentioned_sound [] d k = k
-mentioned_sound (h ∷ hs) d k = let o : Option HandsetLink = line_at h.number d.links.lines in mentioned_sound hs (fire_at o d) (at_sound o d k)
+ended_sound : (h : List ℕ) (t : Carried) (e : Ending) (d : Draft) → Sound d → Sound (conclude h t e d)
+ended_sound h t e d k = concluded_steady SoundStore sound_still t.tag e d.store k
 
-others_sound : (hs : List HandsetRow) (ls : List HandsetLink) (d : Draft) → SoundStore d.store → SoundStore (fire_others hs ls d).store
-others_sound hs [] d k = k
-others_sound hs (l ∷ ls) d k =
-    let o : Option HandsetLink = line_at l.handset d.links.lines in
-    let e : Draft = if is_mentioned (handset_at l.handset hs) then d else fire_at o d in
-    others_sound hs ls e (cond_both (is_mentioned (handset_at l.handset hs)) d (fire_at o d) (λ (x : Draft). SoundStore x.store) (λ t. k) (λ t. at_sound o d k))
+at_sound : (o : Option HandsetLink) (d : Draft) → Sound d → Sound (fire_at o d)
+at_sound o d k = fire_at_says Sound ended_sound (λ links e kept. kept) o d k
+
+mentioned_sound : (hs : List HandsetRow) (d : Draft) → Sound d → Sound (fire_mentioned hs d)
+mentioned_sound hs d k = fire_mentioned_says Sound ended_sound (λ links e kept. kept) hs d k
 
 pub fired_sound : (d : Draft) → SoundStore d.store → SoundStore (fired d).store
-fired_sound d k =
-    let hs : List HandsetRow = handsets_in d.store in others_sound hs d.links.lines (fire_mentioned hs d) (mentioned_sound hs d k)
+fired_sound d k = fired_says Sound ended_sound (λ links e kept. kept) d k
 
 fire_at_is_steps : (m : ℕ) (b : World) (number : List ℕ) (o : Option HandsetLink) (d : Draft) (w : World) → line_at number d.links.lines ≡ o → SoundStore d.store → CentreRefines b d w → StageIsSteps m b (fire_at o d) w
 fire_at_is_steps m b number None d w e sound s = steps_still m b d w s

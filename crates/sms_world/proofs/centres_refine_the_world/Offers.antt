@@ -1,7 +1,6 @@
 -- What is offered to a handset is one step: the data of what waits there.
-use Rattle.std.proofs.Common.{◌≡◌, ◌⊎◌, ℕ, suc, ◌+◌, ◌<◌, ◌≤◌, arith, List, [], ◌∷◌, ◌++◌, Bool, true, false, refl, sym, ◌∙◌, ap, subst, inl, inr, ⊎_elim, length, length-append, Option, Some, None, Result, Ok}
+use Rattle.std.proofs.Common.{◌≡◌, ◌⊎◌, ℕ, ◌+◌, ◌<◌, ◌≤◌, arith, List, [], ◌∷◌, ◌++◌, Bool, true, false, refl, sym, ◌∙◌, ap, subst, inl, inr, ⊎_elim, length, Option, Some, None, Result, Ok}
 use Rattle.std.specs.Prelude.{◌&&◌, not}
-use Rattle.std.specs.Str.{bytes_eq}
 use Rattle.std.proofs.lemmas.Bool.{and_parts, cond_both, cond-false}
 use Rattle.sms_base.specs.Among.{Among}
 use Rattle.sms_base.specs.declared.carried.Carried.{Carried}
@@ -15,6 +14,7 @@ use Rattle.sms_control.specs.declared.message.Cp.TheVariants.{DataUnit as CpData
 use Rattle.sms_control.specs.declared.transaction.TransactionFlag.TheVariants.{FromOriginator}
 use Rattle.sms_link.specs.LinkTurn.{Turn, begun, carrying, of_kind, started as turn_started, still}
 use Rattle.sms_relay.proofs.UnitLaws.{down_again}
+use Rattle.sms_relay.proofs.UnitLengths.{down_long}
 use Rattle.sms_relay.specs.RelayGrammar.{IsCentre, data_down}
 use Rattle.sms_relay.specs.RelayReading.{down_at}
 use Rattle.sms_relay.specs.declared.fault.RelayFault.{RelayFault}
@@ -24,19 +24,21 @@ use Rattle.sms_tpdu.proofs.MoreBits.{more_messages_same}
 use Rattle.sms_tpdu.specs.AddressGrammar.{relay_address}
 use Rattle.sms_tpdu.specs.MoreMessages.{with_more_messages}
 use Rattle.sms_centre_rows.specs.waiting.Links.{Links, is_ready, line_of, or_new_line, line_at, read_for, to_handset, turn_line, turned as line_turned, with_line}
-use Rattle.sms_centre_rows.specs.waiting.Waiting.{if_due, is_due, next, preceding, precedes, waits_beside}
+use Rattle.sms_centre_rows.specs.waiting.Waiting.{next, waits_beside}
 use Rattle.sms_centre_rows.specs.declared.waiting.handset.HandsetRow.{HandsetRow}
 use Rattle.sms_centre_rows.specs.declared.waiting.handset_link.HandsetLink.{HandsetLink}
 use Rattle.sms_centre_rows.specs.declared.waiting.handset_link.Sent.{Sent as SentRow}
 use Rattle.sms_centre_rows.specs.declared.waiting.queued_part.QueuedPart.{QueuedPart}
-use Rattle.sms_centre_spec.proofs.SoundLinks.{line_found}
+use Rattle.sms_centre_spec.proofs.SoundLinks.{among_with, line_found}
 use Rattle.sms_centre_spec.proofs.SoundStores.{SoundStore}
+use Rattle.sms_centre_spec.proofs.SoundOffers.{next_waits}
 use Rattle.sms_centre_spec.specs.Draft.{Draft, handsets_in, waiting_in}
 use Rattle.sms_centre_spec.specs.CentreEvent.{follow}
 use Rattle.sms_centre_spec.specs.Sessions.{send}
 use Rattle.sms_world.proofs.frames_pass_between_sides.RunsOn.{end_both, run_both}
 use Rattle.sms_centre_rows.specs.waiting.Keys.{queued_key}
 use Rattle.sms_centre_spec.specs.Offering.{holder_of, is_made, offer_all, offer_among, offer_queued, offer_on, offer_to, read_of, tpdu_of, unit_of}
+use Rattle.sms_centre_spec.proofs.CentreAddresses.{centre_is}
 use Rattle.sms_world.proofs.frames_pass_between_sides.Linking.{begin_is, data_framed, next_below}
 use Rattle.sms_world.specs.frames_pass_between_sides.Between.{CarriesDown, IsOfKindDown}
 use Rattle.sms_world.specs.headline.SeenFrames.{frame_tpdu_down, unit_tpdu, sent_down}
@@ -49,16 +51,8 @@ use Rattle.sms_world.specs.centres_refine_the_world.FramesOut.{AreWholeDown, sta
 use Rattle.sms_world.specs.centres_refine_the_world.RefinesLines.{RefinesLine, RefinesLines}
 use Rattle.sms_world.proofs.centres_refine_the_world.QueuedParts.{IsOffered, allocation_at, queued_offered}
 use Rattle.sms_world.proofs.centres_refine_the_world.Staying.{line_still}
-use Rattle.sms_world.proofs.handset_runs_are_steps.Submitting.{centre_is}
 
 -- ---- octets
-
-down_long : (r : ℕ) (centre unit : List ℕ) → length (data_down r centre unit) ≡ 5 + length centre + length unit
-down_long r centre unit =
-    let q : length (data_down r centre unit) ≡ suc (suc (suc (length (centre ++ (0 ∷ length unit ∷ unit))))) = refl in
-    let a : length (centre ++ (0 ∷ length unit ∷ unit)) ≡ length centre + length (0 ∷ length unit ∷ unit) = length-append centre (0 ∷ length unit ∷ unit) in
-    let e : length (0 ∷ length unit ∷ unit) ≡ suc (suc (length unit)) = refl in
-    omega (arith, q, a, e)
 
 down_read : (r : ℕ) (centre unit : List ℕ) → IsCentre centre → length unit ≤ 200 → down_at (data_down r centre unit) ≡ Ok (DataUnit r centre unit)
 down_read r centre unit c u = down_again (data_down r centre unit) (DataUnit r centre unit) (c, (let l : length unit < 256 = omega (arith, u) in l), refl)
@@ -77,17 +71,6 @@ pub whole_both : (fs gs : List SentRow) → AreWholeDown fs → AreWholeDown gs 
 whole_both [] gs a b = b
 whole_both (f ∷ fs) gs a b = (a.0, whole_both fs gs a.1 b)
 
-among_with : (x line : HandsetLink) (ls : List HandsetLink) → Among x (with_line line ls) → (x ≡ line) ⊎ Among x ls
-among_with x line [] among = among
-among_with x line (l ∷ ls) among =
-    cond_both (bytes_eq l.handset line.handset) (line ∷ ls) (l ∷ with_line line ls) (λ (ys : List HandsetLink). Among x ys → (x ≡ line) ⊎ Among x (l ∷ ls))
-    (λ t a. ⊎_elim (λ (e : x ≡ line). inl e) (λ (b : Among x ls). inr (inr b)) a)
-    (λ t a. ⊎_elim
-    (λ (e : x ≡ l). inr (inl e))
-    (λ (b : Among x (with_line line ls)). ⊎_elim (λ (e : x ≡ line). inl e) (λ (d : Among x ls). inr (inr d)) (among_with x line ls b))
-    a)
-    among
-
 pub lines_with : (bag : List Sent) (line : HandsetLink) (ls : List HandsetLink) → RefinesLine bag line → RefinesLines bag ls → RefinesLines bag (with_line line ls)
 lines_with bag line ls s refines x i =
     ⊎_elim (λ (e : x ≡ line). subst (λ (z : HandsetLink). RefinesLine bag z) (sym e) s) (λ (a : Among x ls). refines x a) (among_with x line ls i)
@@ -98,22 +81,6 @@ line_refines bag number ls refines = at (line_at number ls) refl
     at : (o : Option HandsetLink) → line_at number ls ≡ o → RefinesLine bag (or_new_line number o)
     at None e = record { next = (let l : 0 < 7 = omega arith in l); opened = tt; begun = tt }
     at (Some l) e = refines l (line_found number l ls e).0
-
--- ---- what is next waits there
-
-next_waits : (now : ℕ) (l : QueuedPart) (ls : List QueuedPart) → next now ls ≡ Some l → Among l ls
-next_waits now l [] e = absurd cc
-next_waits now l (x ∷ xs) e = which (if_due now x) (next now xs) (λ y q. due y q) (λ q. next_waits now l xs q) e
-  where
-    due : (y : QueuedPart) → if_due now x ≡ Some y → y ≡ x
-    due y q = cond_both (is_due now x) (Some x) None (λ o. o ≡ Some y → y ≡ x) (λ t f. let same : y ≡ x = cc in same) (λ t f. absurd cc) q
-
-    which : (a b : Option QueuedPart) → ((y : QueuedPart) → a ≡ Some y → y ≡ x) → (b ≡ Some l → Among l xs) → preceding a b ≡ Some l → Among l (x ∷ xs)
-    which None b f g q = inr (g q)
-    which (Some y) None f g q = let same : l ≡ y = cc in inl (same ∙ f y refl)
-    which (Some y) (Some z) f g q =
-        cond_both (precedes z y) z y (λ w. Some w ≡ Some l → Among l (x ∷ xs))
-        (λ t h. inr (g h)) (λ t h. let same : l ≡ y = cc in inl (same ∙ f y refl)) q
 
 -- ---- a transaction begins
 

@@ -1,23 +1,21 @@
 -- A session that is bound: a receipt that waits for its minute is due now, and the world shows of receipts only that they are.
-use Rattle.std.proofs.Common.{◌≡◌, ℕ, ◌<◌, List, [], ◌∷◌, Bool, Option, Some, None, refl, sym, ◌∙◌, ap, inl, inr, arith}
+use Rattle.std.proofs.Common.{ℕ, List, [], ◌∷◌, Bool, Option, Some, None, refl, inl, inr}
 use Rattle.std.specs.Prelude.{if◌then◌else◌}
 use Rattle.std.proofs.lemmas.Bool.{cond_both}
 use Rattle.sms_centre_rows.specs.declared.messages.message.MessageRow.{MessageRow}
 use Rattle.sms_centre_rows.specs.messages.Messages.{message_at}
-use Rattle.sms_centre_rows.proofs.reports.ReportRows.{amended_other}
 use Rattle.sms_centre_rows.specs.reports.Receipts.{Session, is_put_off, receipts_due, session_key}
-use Rattle.sms_centre_rows.specs.reports.Reports.{amend_report, report_key, report_of}
+use Rattle.sms_centre_rows.specs.reports.Reports.{amend_report, report_key}
 use Rattle.sms_centre_rows.specs.declared.reports.report.ReportRow.{ReportRow}
 use Rattle.sms_rows.specs.table.Table.{Rises, row_at}
 use Rattle.sms_centre_rows.specs.waiting.Revisions.{Revised}
 use Rattle.sms_centre_rows.specs.waiting.Trying.{due_at}
-use Rattle.sms_centre_rows.specs.declared.waiting.progress.Progress.{Progress}
 use Rattle.sms_intake.specs.declared.submission.CentreAccount.{CentreAccount}
 use Rattle.sms_centre_spec.proofs.SoundAccepted.{sound_still}
 use Rattle.sms_centre_spec.proofs.SoundEvents.{event_after}
 use Rattle.sms_centre_spec.proofs.SoundStores.{SoundStore}
-use Rattle.sms_centre_spec.proofs.SteadyTimes.{ReportsInStore, above_among, all_tried_steady, stand_all}
-use Rattle.sms_centre_spec.specs.Draft.{Draft, Store, draft_of, messages_in, reports_in, with_report_at, with_reports}
+use Rattle.sms_centre_spec.proofs.SteadyTimes.{ReportsInStore, all_tried_steady, far_leaves, stand_all}
+use Rattle.sms_centre_spec.specs.Draft.{Draft, Store, draft_of, messages_in, reports_in, with_reports}
 use Rattle.sms_centre_spec.specs.Requests.{account_at}
 use Rattle.sms_centre_spec.specs.Sessions.{bind, bound_as, due_for, unbind, unbound_from}
 use Rattle.sms_centre_spec.specs.declared.event.CentreEvent.TheVariants.{Bound}
@@ -28,18 +26,6 @@ use Rattle.sms_world.proofs.centres_refine_the_world.LinksChange.{Both}
 use Rattle.sms_world.proofs.centres_refine_the_world.Offers.{follow_law}
 use Rattle.sms_world.proofs.centres_refine_the_world.SessionsChange.{receipt_both, unbound_refines}
 use Rattle.sms_world.proofs.centres_refine_the_world.QuietEvents.{start}
-
--- one report's progress leaves those behind it
-pub far_leaves : (r : ReportRow) (q : Progress) (rs : List ReportRow) (s : Store) → Rises report_key (reports_in s) → Rises report_key (r ∷ rs) → ReportsInStore (r ∷ rs) s
-    → ReportsInStore rs (with_report_at r q s)
-far_leaves r q rs s keys rises stand x among =
-    let there : report_of r.id (reports_in s) ≡ Some r = stand r (inl refl) in
-    let was : report_of x.id (reports_in s) ≡ Some x = stand x (inr among) in
-    let above : r.place < x.place = above_among report_key r.place x rs rises.0 among in
-    amended_other x.id r q (reports_in s) keys there (λ e. apart above (sym there ∙ ap (λ (id : ℕ). report_of id (reports_in s)) e ∙ was)) ∙ was
-  where
-    apart : r.place < x.place → Some r ≡ Some x → ⊥
-    apart above e = let same : r ≡ x = cc in let places : r.place ≡ x.place = ap (λ (y : ReportRow). y.place) same in omega (arith, above, places)
 
 module _ (w : World) where
   receipts_due_both : (n : ℕ) (a : List ℕ) (ms : List MessageRow) (rs : List ReportRow) (t : Revised ReportRow) (s : Store) → Both w (with_reports t s) → Rises report_key rs

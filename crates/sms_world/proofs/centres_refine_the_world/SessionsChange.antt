@@ -1,14 +1,12 @@
 -- Sessions that end or are bound, and answers to receipts: the world shows of receipts only that they are.
-use Rattle.std.proofs.Common.{◌≡◌, ℕ, List, [], ◌∷◌, Bool, true, false, refl, sym, ◌∙◌, ap, inl, inr, Option, Some, None}
-use Rattle.std.specs.Prelude.{◌==◌, ◌||◌}
-use Rattle.std.proofs.lemmas.Bool.{both_ways, cond_both, eqb-true}
+use Rattle.std.proofs.Common.{◌≡◌, ℕ, List, [], ◌∷◌, Bool, true, false, refl, Option, Some, None}
+use Rattle.std.proofs.lemmas.Bool.{both_ways, cond_both}
 use Rattle.sms_base.specs.Among.{Among}
 use Rattle.sms_centre_rows.specs.reports.Receipts.{Session, all_tried, answered_in, receipt_ended, receipt_tried, session_key}
 use Rattle.sms_centre_rows.specs.messages.SplitReferences.{is_among}
 use Rattle.sms_centre_rows.specs.reports.Reports.{amend_report, is_status, report_of, reports_of}
 use Rattle.sms_centre_rows.specs.declared.reports.report.ReportRow.{ReportRow}
 use Rattle.sms_rows.specs.table.Table.{row_at}
-use Rattle.sms_rows.proofs.table.Tables.{found_among}
 use Rattle.sms_centre_rows.specs.waiting.Revisions.{Revised}
 use Rattle.sms_centre_rows.specs.waiting.Trying.{finished}
 use Rattle.sms_centre_rows.specs.declared.waiting.progress.Progress.{Progress}
@@ -16,9 +14,9 @@ use Rattle.sms_centre_spec.proofs.SoundAccepted.{sound_steady}
 use Rattle.sms_centre_spec.proofs.SoundEvents.{event_after}
 use Rattle.sms_centre_spec.proofs.SoundStores.{SoundStore}
 use Rattle.sms_centre_spec.proofs.Steady.{report_own}
-use Rattle.sms_centre_spec.specs.Draft.{Core, Draft, Store, draft_of, reports_in, with_report_at, with_reports}
+use Rattle.sms_centre_spec.proofs.forgetting.Runs.{among_so}
+use Rattle.sms_centre_spec.specs.Draft.{Draft, Store, draft_of, reports_in, with_report_at, with_reports}
 use Rattle.sms_centre_spec.specs.Sessions.{answered_by, deliver_answered, unbind, unbound_from}
-use Rattle.sms_centre_spec.specs.SoundCore.{IsReceiptRow, IsSoundCore}
 use Rattle.sms_centre_spec.specs.declared.event.CentreEvent.TheVariants.{DeliverAnswered, Unbound}
 use Rattle.sms_world_model.specs.World.{World}
 use Rattle.sms_world.specs.centres_refine_the_world.CentreLaws.{AnsweredLaw, UnboundLaw}
@@ -26,8 +24,7 @@ use Rattle.sms_world.specs.centres_refine_the_world.CentreRefinement.{CentreRefi
 use Rattle.sms_world.proofs.centres_refine_the_world.LinksChange.{Both}
 use Rattle.sms_world.proofs.centres_refine_the_world.Offers.{follow_law}
 use Rattle.sms_world.proofs.centres_refine_the_world.Unseen.{report_far_unseen}
-use Rattle.sms_world.proofs.Options.{some_is}
-use Rattle.sms_world.proofs.centre_runs_are_steps.NothingOffered.{no_status}
+use Rattle.sms_world.proofs.centre_runs_are_steps.NothingOffered.{receipt_there}
 use Rattle.sms_world.proofs.centres_refine_the_world.QuietEvents.{start}
 
 module _ (w : World) where
@@ -65,14 +62,6 @@ unbound_event m session c w sound s =
 
 -- ---- an answer to a receipt
 
-among_is : (n : ℕ) (ns : List ℕ) → is_among n ns ≡ true → Among n ns
-among_is n [] e = absurd cc
-among_is n (x ∷ xs) e = which (x == n) (λ t. sym (eqb-true x n t)) (λ t. among_is n xs t) e
-  where
-    which : (b : Bool) → (b ≡ true → n ≡ x) → (is_among n xs ≡ true → Among n xs) → (b || is_among n xs) ≡ true → Among n (x ∷ xs)
-    which true f g e = inl (f refl)
-    which false f g e = inr (g e)
-
 pub answered_refines : (b : World) (id : ℕ) (accepted : Bool) (o : Option Session) (d : Draft) (w : World) → ((session : Session) → o ≡ Some session → (n : ℕ) → Among n session.unanswered
     → (r : ReportRow) → report_of n (reports_in d.store) ≡ Some r → is_status r.kind ≡ false)
     → SoundStore d.store → CentreRefines b d w → CentreRefines b (answered_by id accepted o d) w
@@ -84,16 +73,9 @@ answered_refines b id accepted (Some session) d w f sound s =
       whole = s.whole;
       lines = s.lines;
       rows = (ended_both w accepted d.store.moment id (report_of id (reports_in d.store)) d.store.reports d.store (sound, s.rows) refl
-          (λ e r q. f session refl id (among_is id session.unanswered t) r q)).1;
+          (λ e r q. f session refl id (among_so id session.unanswered t) r q)).1;
     })
     (λ t. s)
-
-pub receipt_there : (c : Core) (session : Session) (number : ℕ) → IsSoundCore c → row_at session_key number c.sessions ≡ Some session → (n : ℕ) → Among n session.unanswered
-    → (r : ReportRow) → report_of n c.rows.reports ≡ Some r → is_status r.kind ≡ false
-receipt_there c session number sound e n i r q =
-    let x : IsReceiptRow c.rows n = (sound.each_session session (found_among session_key number session c.sessions e)).unanswered n i in
-    let same : x.0 ≡ r = some_is x.0 r (sym x.1.0 ∙ q) in
-    ap (λ (z : ReportRow). is_status z.kind) (sym same) ∙ no_status x.0.kind x.1.1
 
 pub answered_event : AnsweredLaw
 answered_event m session id accepted c w sound s =

@@ -26,7 +26,7 @@ use Rattle.sms_centre_spec.proofs.NextNumbers.{below_next_number}
 use Rattle.sms_centre_spec.proofs.PduFits.{event_gives}
 use Rattle.sms_centre_spec.proofs.SoundEvents.{event_after}
 use Rattle.sms_centre_spec.proofs.SoundStores.{SoundStore}
-use Rattle.sms_centre_spec.specs.Draft.{Draft, Store, answer_with, draft_of, in_store, messages_in, parts_in, rows_of}
+use Rattle.sms_centre_spec.specs.Draft.{Draft, Store, answer_with, bars_in, draft_of, in_store, messages_in, parts_in, rows_of}
 use Rattle.sms_centre_spec.specs.MessageNumbers.{next_number}
 use Rattle.sms_centre_spec.proofs.Stages.{unless_kept}
 use Rattle.sms_centre_spec.specs.Requests.{account_at, accepted, refused, submission_received, submit, submit_by}
@@ -100,8 +100,8 @@ module _ (u : SubmissionRow) (fit : IsSubmission u) (s : Store) (w : World) (sou
   pub accept_submits : Submits w s.moment (accept u s)
   accept_submits =
       cond_both (nat_le id 9999999999) (accept_as id u s) None (λ (o : Option Store). Submits w s.moment o)
-      (λ t. cond_both (is_long u.text) (accept_split id (next_split u.source u.handset (messages_in s) (parts_in s)) u s) (accept_under id None (bodies_under 0 u.text) u s) (λ (o : Option Store). Submits w s.moment o)
-      (λ e. splits (next_split u.source u.handset (messages_in s) (parts_in s))) (λ e. under None 0))
+      (λ t. cond_both (is_long u.text) (accept_split id (next_split u.source u.handset (bars_in s) (messages_in s) (parts_in s)) u s) (accept_under id None (bodies_under 0 u.text) u s) (λ (o : Option Store). Submits w s.moment o)
+      (λ e. splits (next_split u.source u.handset (bars_in s) (messages_in s) (parts_in s))) (λ e. under None 0))
       (λ t. tt)
 
 -- ---- the event

@@ -1,10 +1,10 @@
 -- A tick of the centre: messages expire, old status reports are dropped, timers fire, and links that were up come up.
 use Rattle.std.proofs.Common.{◌≡◌, ℕ, ◌≤◌, arith, max, [], false, refl, sym, subst, inl}
-use Rattle.sms_base.specs.TimeStamp.{IsMoment}
 use Rattle.sms_centre_spec.proofs.SoundAccepted.{sound_steady, sound_still}
 use Rattle.sms_centre_spec.proofs.SoundEvents.{event_after}
 use Rattle.sms_centre_spec.proofs.SoundStores.{SoundStore}
 use Rattle.sms_centre_spec.proofs.SteadyTimes.{dropped_steady, expired_steady}
+use Rattle.sms_centre_spec.proofs.SoundBegins.{greatest}
 use Rattle.sms_centre_spec.specs.CentreEvent.{aged, at_moment, dropped, expired, fired, raised}
 use Rattle.sms_centre_spec.specs.Draft.{Draft, Store, draft_of, handsets_in, references_in}
 use Rattle.sms_centre_spec.specs.declared.event.CentreEvent.TheVariants.{Tick}
@@ -20,10 +20,6 @@ use Rattle.sms_world.proofs.centres_refine_the_world.Ending.{IsReached}
 use Rattle.sms_world.proofs.centres_refine_the_world.Firing.{StageIsSteps, fired_goes, fired_sound, steps_still, steps_then, raise_all_refines}
 use Rattle.sms_world.proofs.centres_refine_the_world.Playing.{Acts, acts_lead, store_is_reached}
 use Rattle.sms_world.proofs.centres_refine_the_world.QuietEvents.{start}
-
-later_moment : (m n : ℕ) → IsMoment m → IsMoment n → IsMoment (max m n)
-later_moment m n was is =
-    record { from_2000 = (let w = was.from_2000 in omega (arith, w)); to_2099 = (let w = was.to_2099 in let i = is.to_2099 in omega (arith, w, i)) }
 
 later_refines : (n : ℕ) (s : Store) (w : World) → StoreRefines s w → s.moment ≤ n → StoreRefines (record s { moment = n }) w
 later_refines n s w refines past = record {
@@ -46,7 +42,7 @@ tick_event now c w sound is s =
     let n : ℕ = max c.moment now in
     let past : c.moment ≤ n = omega arith in
     let d : Draft = at_moment now (draft_of c) in
-    let k : SoundStore d.store = sound_steady.later n (draft_of c).store (start c sound) past (later_moment c.moment now sound.now is) in
+    let k : SoundStore d.store = sound_steady.later n (draft_of c).store (start c sound) past (greatest c.moment now sound.now is) in
     let refines : CentreRefines w d w = record { frames = s.frames; whole = s.whole; lines = s.lines; rows = later_refines n (draft_of c).store w s.rows past } in
     let a : Draft = aged d in
     let ka : SoundStore a.store = dropped_steady SoundStore sound_still (expired d.store) (expired_steady SoundStore sound_still d.store k) in

@@ -1,71 +1,39 @@
 -- Every stage of an event leaves told to whom the references of unfinished entries were given last.
-use Rattle.std.proofs.Common.{◌≡◌, ℕ, ◌+◌, ◌-◌, ◌%◌, ◌<◌, ◌≤◌, arith, List, [], ◌∷◌, ◌++◌, length, Bool, true, false, cond, refl, sym, ◌∙◌, ap, subst, inl, inr, ⊎_elim, Option, Some, None, Result, Ok, Err}
-use Rattle.std.specs.Prelude.{◌==◌, ◌||◌, min, nat_le, nat_lt, ◌⊎◌}
+use Rattle.std.proofs.Common.{◌≡◌, ℕ, ◌+◌, ◌-◌, ◌%◌, ◌<◌, ◌≤◌, arith, List, [], ◌∷◌, ◌++◌, length, Bool, true, false, cond, refl, sym, ◌∙◌, ap, subst, inl, inr, ⊎_elim, Option, Some, None, Result, Ok, Err, suc}
+use Rattle.std.specs.Prelude.{min, nat_le, nat_lt, ◌⊎◌}
 use Rattle.std.proofs.lemmas.Bool.{both_ways, cond-false, cond-true, cond_both, leb-true, cases_eq, le-leb}
-use Rattle.sms_base.specs.Address.{address_of}
 use Rattle.sms_base.specs.Among.{Among}
 use Rattle.sms_base.specs.declared.address.Address.{Address}
-use Rattle.sms_base.specs.declared.address_error.AddressError.{AddressError}
 use Rattle.sms_base.specs.declared.carried.Carried.{Carried}
 use Rattle.sms_base.specs.declared.carried.Kind.{Kind}
 use Rattle.sms_base.specs.declared.carried.Kind.TheVariants.{Data, Ack, Error}
 use Rattle.sms_base.specs.declared.holder.Holder.{Holder}
-use Rattle.sms_base.specs.declared.holder.Holder.TheVariants.{Part as PartHolder, Report, Entry as EntryHolder, Memory}
+use Rattle.sms_base.specs.declared.holder.Holder.TheVariants.{Entry as EntryHolder, Memory}
 use Rattle.sms_rows.specs.declared.table.change.Change.{Change}
 use Rattle.sms_rows.specs.declared.table.change.Change.TheVariants.{Put, Remove}
-use Rattle.sms_rows.specs.table.Table.{Rises, all_applied, latest, put, row_at, without}
+use Rattle.sms_rows.specs.table.Table.{Rises, all_applied, put, row_at, without}
 use Rattle.sms_rows.proofs.table.Tables.{all_applied_push, among_found, among_put, among_without, found_among, found_key, length_put, rises_put, rises_without, row_at_put_other, row_at_put}
-use Rattle.sms_concat.specs.Splitting.{split_of}
-use Rattle.sms_concat.specs.TextContent.{content_of_text}
-use Rattle.sms_alphabet.specs.declared.concat_key.ConcatKey.{ConcatKey}
-use Rattle.sms_concat.specs.declared.content.Content.{Content}
 use Rattle.sms_concat.specs.declared.content.Part.{Part as PartOf}
-use Rattle.sms_concat.specs.declared.split_error.SplitError.{SplitError}
 use Rattle.sms_control.specs.declared.out.Up.{Up as UpFrom}
 use Rattle.sms_control.specs.declared.out.Up.TheVariants.{Unit as UnitUp, Failed as FailedUp}
 use Rattle.sms_control.specs.declared.transaction.TransactionFlag.TheVariants.{FromOriginator, ToOriginator}
 use Rattle.sms_control.specs.LinkStep.{Step, awaits_reply, begin_step, fire_step, is_busy, reply_step, take_step, in_transaction}
-use Rattle.sms_control.specs.Timers.{later}
 use Rattle.sms_relay.specs.RelayGrammar.{ack_up, data_up, error_up, smma_up}
-use Rattle.sms_relay.specs.RelayReading.{down_at as unit_at}
 use Rattle.sms_relay.specs.declared.cause.RpCause.{RpCause}
 use Rattle.sms_relay.specs.declared.cause.RpCause.TheVariants.{InvalidMandatoryInformation, MemoryCapacityExceeded}
-use Rattle.sms_relay.specs.declared.fault.RelayFault.{RelayFault}
-use Rattle.sms_relay.specs.declared.frame.Rp.{Rp}
-use Rattle.sms_relay.specs.declared.frame.Rp.TheVariants.{AckUnit, DataUnit, ErrorUnit, Smma}
-use Rattle.sms_link.specs.Timers.{tram}
-use Rattle.sms_link.specs.Ending.{ended_by, unit_at as unit_for}
 use Rattle.sms_link.specs.LinkTurn.{Turn, answering, passed_up, carrying, fired, of_kind, started, still, taken}
 use Rattle.sms_link.specs.declared.ending.Ending.{Ending}
-use Rattle.sms_link.specs.declared.ending.Ending.TheVariants.{Acknowledged as AcknowledgedEnd, Lost as LostEnd, Refused as RefusedEnd, Wrong as WrongEnd}
 use Rattle.sms_link.specs.declared.ending.Side.TheVariants.{Handset as HandsetSide}
 use Rattle.sms_link.specs.declared.outgoing.Outgoing.{Outgoing}
 use Rattle.sms_tpdu.specs.AddressGrammar.{relay_address}
-use Rattle.sms_tpdu.specs.TpduReading.{down_at}
-use Rattle.sms_tpdu.specs.declared.carrier.Carrier.TheVariants.{InData}
-use Rattle.sms_tpdu.specs.declared.deliver.Deliver.{Deliver as DeliverOf}
-use Rattle.sms_tpdu.specs.declared.down.Down.{Down}
-use Rattle.sms_tpdu.specs.declared.down.Down.TheVariants.{Deliver, StatusReport, SubmitReport}
-use Rattle.sms_tpdu.specs.declared.fault.TpduFault.{TpduFault}
-use Rattle.sms_tpdu.specs.declared.status_report.StatusReport.{StatusReport as StatusReportOf}
-use Rattle.sms_handset_rows.specs.inbox.Doubles.{is_double}
-use Rattle.sms_handset_rows.specs.inbox.Groups.{all_numbers, alone, group_of, is_among, is_open_part, joined_content, key_of, mark_of, members, part_entry, part_numbers, first_number}
-use Rattle.sms_handset_rows.specs.inbox.Keys.{entry_key, last_key}
-use Rattle.sms_handset_rows.specs.declared.inbox.discarded_group.DiscardedGroup.{DiscardedGroup}
-use Rattle.sms_handset_rows.specs.declared.inbox.entry.Entry.{Entry}
-use Rattle.sms_handset_rows.specs.declared.inbox.entry.Group.{Group}
-use Rattle.sms_handset_rows.specs.declared.inbox.entry.Message.{Message}
-use Rattle.sms_handset_rows.specs.declared.inbox.entry.Message.TheVariants.{Joined, Part, Single}
+use Rattle.sms_handset_rows.specs.inbox.Groups.{is_among}
 use Rattle.sms_handset_rows.proofs.inbox.SoundMarks.{above_at}
 use Rattle.sms_handset_rows.specs.outbox.Answers.{verdict_of}
 use Rattle.sms_handset_rows.specs.outbox.Keys.{notice_key, out_key}
-use Rattle.sms_handset_rows.specs.outbox.Offers.{first_due, first_fired, submit_of}
+use Rattle.sms_handset_rows.specs.outbox.Offers.{submit_of}
 use Rattle.sms_handset_rows.specs.outbox.References.{held_by_entries, held_message_references, held_references, is_unfinished, next_free}
-use Rattle.sms_handset_rows.specs.outbox.Reports.{is_reported, reported}
-use Rattle.sms_handset_rows.specs.outbox.Settling.{is_sending, lost, most_tries, put_back, retry_delay, settled}
+use Rattle.sms_handset_rows.specs.outbox.Settling.{is_sending, lost, settled}
 use Rattle.sms_handset_rows.specs.outbox.Submits.{written_entry}
-use Rattle.sms_handset_rows.specs.declared.outbox.answers.TransferEnd.{TransferEnd}
-use Rattle.sms_handset_rows.specs.declared.outbox.answers.TransferEnd.TheVariants.{Acknowledged, Duplicate, Lost, Refused, Temporary}
 use Rattle.sms_handset_rows.specs.declared.outbox.notice.Notice.{Notice}
 use Rattle.sms_handset_rows.specs.declared.outbox.out_entry.EntryState.{EntryState}
 use Rattle.sms_handset_rows.specs.declared.outbox.out_entry.EntryState.TheVariants.{Failed, Queued, Sending, Sent, Unsure}
@@ -74,35 +42,33 @@ use Rattle.sms_handset_rows.proofs.outbox.SoundOutbox.{held_among, held_entries}
 use Rattle.sms_handset_rows.proofs.outbox.SoundReferences.{next_is_free}
 use Rattle.sms_script.specs.declared.report.rows.Direction.TheVariants.{Up}
 use Rattle.sms_script.specs.declared.report.rows.GivenRow.{GivenRow}
-use Rattle.sms_handset_draft.specs.Draft.{Core, Draft, begin, draft_of, link_of, put_counters, put_entry, put_last, put_mark, put_out, remove_entry, remove_mark, remove_out, reply, with_turn}
-use Rattle.sms_handset_draft.specs.FramesAndTicks.{at_moment, frame_heard, timed_out, timers_fired, went_up}
-use Rattle.sms_handset_draft.specs.MemoryAvailable.{first_notice, flag, freed, has_room, most_notices, notice_concluded, notice_ended, notice_failed, put_notice, remove_notice, send_notice, want_notice}
-use Rattle.sms_handset_draft.specs.Outbox.{entry_concluded, follow, holder_concluded, is_notice_next, lapse, lapse_rows, offer, offer_after, offer_entry, offer_message, offer_wanted}
-use Rattle.sms_handset_draft.specs.Receiving.{accept, acknowledge, data_received, deliver_received, member_received, new_part_received, no_room, note, part_received, refuse, reject, single_received, tpdu_received, unit_received}
-use Rattle.sms_relay.specs.Rejecting.{fault_cause, reference_octet}
-use Rattle.sms_handset_draft.specs.Storing.{completed, drop_all, ended, free_all, keep, marked, store_part, store_single}
+use Rattle.sms_handset_draft.specs.Draft.{Core, Draft, begin, draft_of, link_of, put_counters, put_out, remove_out, reply, with_turn}
+use Rattle.sms_handset_draft.specs.FramesAndTicks.{at_moment, frame_heard, timers_fired}
+use Rattle.sms_handset_draft.specs.MemoryAvailable.{first_notice, most_notices, put_notice, remove_notice, send_notice}
+use Rattle.sms_handset_draft.specs.Outbox.{follow, lapse, lapse_rows, offer_entry}
+use Rattle.sms_handset_draft.specs.Receiving.{acknowledge, refuse, reject}
+use Rattle.sms_relay.specs.Rejecting.{fault_cause}
 use Rattle.sms_handset.specs.HandsetEvent.{acted, frame_received, tag_of, ticked}
-use Rattle.sms_handset.specs.OwnersActs.{count_split, delete, delete_in, delete_out, discard, discard_at, discard_group, discard_in, discard_members, fits_outbox, write, write_part, write_parts, write_split, write_to, written}
+use Rattle.sms_handset.specs.OwnersActs.{count_split, delete, discard, write, write_part}
 use Rattle.sms_handset.specs.SoundCore.{IsSentFor, IsSoundCore, IsUnderWay}
 use Rattle.sms_handset.specs.declared.event.HandsetEvent.{HandsetEvent}
 use Rattle.sms_handset.specs.declared.event.HandsetEvent.TheVariants.{Frame, Tick, Write, Delete, Discard}
 use Rattle.sms_handset.specs.declared.refusal.Refusal.{Refusal}
-use Rattle.sms_handset.specs.declared.refusal.Refusal.TheVariants.{NoEntry, OutboxFull, StillOpen, TooManyDiscarded}
 use Rattle.sms_handset.proofs.SoundActs.{SoundIfDone, delete_sound, discard_sound, few_references, not_by_entries, write_sound}
 use Rattle.sms_handset.proofs.SoundDrafts.{SoundAt, sound_from}
 use Rattle.sms_handset.proofs.SoundEvents.{timed_out_sound, went_up_sound}
-use Rattle.sms_handset.proofs.SoundTransfers.{IsDue, first_due_is, lapse_settles}
+use Rattle.sms_handset.proofs.SoundTransfers.{IsDue, lapse_settles}
 use Rattle.sms_play.specs.HandsetSide.{entries_given, happened, memories_given}
 use Rattle.sms_play.specs.Premises.{last_holder}
 use Rattle.sms_world.specs.entries_keep_references.ReportedEntries.{AreBelow, EventLaw, EntriesAgree}
 use Rattle.sms_world.proofs.entries_keep_references.RowsGiven.{all_reference, appended, carrying_reported, copies_reported, entries_new, entries_old, entries_removed, last_other, last_over, last_own, memories_over, nothing_more, numbered_reported}
 use Rattle.sms_world.proofs.scripts_are_runs.Growing.{either_part, in_front, in_rest}
 use Rattle.sms_world.proofs.Options.{some_is}
-use Rattle.sms_world.proofs.handsets_send_octets.StageOctets.{fired_among}
 use Rattle.sms_link.proofs.Known.{begin_is}
 use Rattle.sms_play.specs.PlayState.{Party}
 use Rattle.sms_control.specs.declared.message.Cp.TheVariants.{DataUnit as CpData}
 use Rattle.sms_control.specs.ControlGrammar.{spelled}
+use Rattle.sms_world.proofs.HandsetStages.{AnyReference, AnyUnit, IfDone, IsKnownFirst, IsKnownUp, IsSameEntry, KeptByEnds, KeptByMoves, KeptByOffers, KeptByWriting, delete_keeps, discard_keeps, frame_keeps, lapse_keeps, lost_same, offer_keeps, settled_same, timers_keep, write_keeps}
 
 -- ---- plain facts of rows
 
@@ -121,37 +87,6 @@ is_sending_state Sending e = refl
 is_sending_state Sent e = absurd cc
 is_sending_state Failed e = absurd cc
 is_sending_state Unsure e = absurd cc
-
--- it is the entry, but for how it stands
-abbrev IsEntry : OutEntry → OutEntry → Type 0
-IsEntry o x = (x.number ≡ o.number) × (x.reference ≡ o.reference)
-
-lost_is : (o : OutEntry) → IsEntry o (lost o)
-lost_is o =
-    cond_both (o.is_long || nat_le most_tries o.tries) (record o { state = Unsure }) (record o { state = Queued; rejects_duplicates = true; due = None }) (λ (z : OutEntry). IsEntry o z)
-    (λ t. (refl, refl)) (λ t. (refl, refl))
-
-put_back_is : (moment : ℕ) (o : OutEntry) → IsEntry o (put_back moment o)
-put_back_is moment o =
-    cond_both (nat_le most_tries o.tries) (record o { state = Failed }) (record o { state = Queued; due = Some (later moment retry_delay) }) (λ (z : OutEntry). IsEntry o z) (λ t. (refl, refl)) (λ t. (refl, refl))
-
-settled_is : (moment : ℕ) (v : TransferEnd) (o : OutEntry) → IsEntry o (settled moment v o)
-settled_is moment Acknowledged o = (refl, refl)
-settled_is moment Temporary o = put_back_is moment o
-settled_is moment Duplicate o = (refl, refl)
-settled_is moment Refused o = (refl, refl)
-settled_is moment Lost o = lost_is o
-
-latest_one : (a b : Option OutEntry) (x : OutEntry) (P : Type 0) → latest a b ≡ Some x → (a ≡ Some x → P) → (b ≡ Some x → P) → P
-latest_one a None x P e f g = f e
-latest_one a (Some o) x P e f g = g e
-
-reported_among : (r : StatusReportOf) (os : List OutEntry) (x : OutEntry) → reported r os ≡ Some x → Among x os
-reported_among r [] x e = absurd cc
-reported_among r (o ∷ os) x e =
-    latest_one (cond (is_reported r o) (Some o) None) (reported r os) x (Among x (o ∷ os)) e
-    (cond_both (is_reported r o) (Some o) None (λ (z : Option OutEntry). z ≡ Some x → Among x (o ∷ os)) (λ t q. inl (sym (some_is o x q))) (λ t q. absurd cc))
-    (λ q. inr (reported_among r os x q))
 
 -- a reference that no unfinished entry holds is none of theirs
 not_held : (r : ℕ) (os : List OutEntry) → is_among r (held_by_entries os) ≡ false → (o : OutEntry) → Among o os → is_unfinished o.state ≡ true → ¬ (r ≡ o.reference)
@@ -201,7 +136,7 @@ put_rest x y os order i ne = found_among out_key y.number y (put out_key x os) (
 
 module _ (h : List ℕ) (base : List OutEntry) (W : OutEntry → Type 0) where
   -- an entry stands another way
-  news_put : (o x : OutEntry) (os : List OutEntry) (rows : List GivenRow) → Rises out_key os → row_at out_key o.number os ≡ Some o → IsEntry o x → (W o → W x) → News h base W os rows → News h base W (put out_key x os) rows
+  news_put : (o x : OutEntry) (os : List OutEntry) (rows : List GivenRow) → Rises out_key os → row_at out_key o.number os ≡ Some o → IsSameEntry o x → (W o → W x) → News h base W os rows → News h base W (put out_key x os) rows
   news_put o x os rows order at is keeps n = record {
     to = λ y i new. ⊎_elim
         (λ (e : y ≡ x).
@@ -301,17 +236,13 @@ module _ (h : List ℕ) (given : List GivenRow) (base : List OutEntry) (next fir
   abbrev pub HoldsAt : Draft → Type 0
   HoldsAt d = Holds d.rows.outbox d.moment d.changes.outbox d.frames
 
-  either : (b : Bool) (x y : Draft) → AgreesAt x → AgreesAt y → AgreesAt (cond b x y)
-  either true x y p q = p
-  either false x y p q = q
-
   same_reported : (moment : ℕ) (cs ds : List (Change OutEntry)) (fs : List Outgoing) → entries_given h moment base ds ≡ entries_given h moment base cs → told moment ds fs ≡ told moment cs fs
   same_reported moment cs ds fs e = ap (λ (z : List GivenRow). given ++ (z ++ memories_given h moment next fs)) e
 
   -- ---- moves
 
   -- an entry stands another way
-  out_put : (W : OutEntry → Type 0) (o x : OutEntry) (d : Draft) → row_at out_key o.number d.rows.outbox ≡ Some o → IsEntry o x → (is_unfinished x.state ≡ true → is_unfinished o.state ≡ true) → (W o → W x) → AgreesBy W d
+  out_put : (W : OutEntry → Type 0) (o x : OutEntry) (d : Draft) → row_at out_key o.number d.rows.outbox ≡ Some o → IsSameEntry o x → (is_unfinished x.state ≡ true → is_unfinished o.state ≡ true) → (W o → W x) → AgreesBy W d
       → AgreesBy W (put_out x d)
   out_put W o x d at is un keeps s =
       let cs : List (Change OutEntry) = d.changes.outbox in
@@ -417,124 +348,16 @@ module _ (h : List ℕ) (given : List GivenRow) (base : List OutEntry) (next fir
   rejects : (reference : ℕ) (tag : Holder) (cause : RpCause) (d : Draft) → AgreesAt d → AgreesAt (reject reference tag cause d)
   rejects reference tag cause d s = answers Error reference tag (error_up reference cause None) d (λ fs. carrying_reported h d.moment next (of_kind Error reference tag) fs refl) s
 
-  accepts : (reference : ℕ) (tag : Holder) (tpdu : List ℕ) (d : Draft) → AgreesAt d → AgreesAt (accept reference tag tpdu d)
-  accepts reference tag tpdu d s =
-      acknowledges reference tag (put_last (record { reference = reference; tpdu = tpdu }) d) (record { rests = s.rests; order = s.order; below = s.below; held = s.held; quiet = s.quiet; counter = s.counter; news = s.news })
+  -- a transfer that ended found its entry Sending
+  abbrev IsSentIn : ℕ → Holder → Draft → Type 0
+  IsSentIn reference x d = IsSentFor reference x d.rows.outbox
 
-  no_room_reported : (reference : ℕ) (tag : Holder) (d : Draft) → AgreesAt d → AgreesAt (no_room reference tag d)
-  no_room_reported reference tag d s = refuses reference tag MemoryCapacityExceeded 211 (flag d) (record { rests = s.rests; order = s.order; below = s.below; held = s.held; quiet = s.quiet; counter = s.counter; news = s.news })
-
-  -- ---- storing
-
-  drops : (es : List Entry) (d : Draft) → AgreesAt d → AgreesAt (drop_all es d)
-  drops [] d s = s
-  drops (e ∷ es) d s = drops es (remove_entry e.number d) s
-
-  frees : (es : List Entry) (d : Draft) → AgreesAt d → AgreesAt (free_all es d)
-  frees [] d s = s
-  frees (e ∷ es) d s = frees es (put_entry (alone e) d) s
-
-  ends_group : (g : Group) (es : List Entry) (o : Option Content) (d : Draft) → AgreesAt d → AgreesAt (ended g es o d)
-  ends_group g es None d s = frees es d s
-  ends_group g es (Some content) d s = drops es d s
-
-  completes : (g : Group) (es : List Entry) (d : Draft) → AgreesAt d → AgreesAt (completed g es d)
-  completes g es d s = either (all_numbers g.total (part_numbers es)) (ended g es (joined_content g es) d) d (ends_group g es (joined_content g es) d s) s
-
-  stores_part : (g : Group) (n : ℕ) (tpdu : List ℕ) (es : List Entry) (d : Draft) → AgreesAt d → AgreesAt (store_part g n tpdu es d)
-  stores_part g n tpdu es d s =
-      let e : Entry = part_entry d.rows.counters.entry g n tpdu in
-      completes g (es ++ e ∷ []) (keep e d) s
-
-  marks : (n : ℕ) (m : DiscardedGroup) (d : Draft) → AgreesAt d → AgreesAt (marked n m d)
-  marks n m d s = either (all_numbers m.group.total (m.seen ++ n ∷ [])) (remove_mark m.number d) (put_mark (record m { seen = m.seen ++ n ∷ [] }) d) s s
-
-  -- ---- what comes
-
-  module _ (reference : ℕ) (tag : Holder) (tpdu : List ℕ) where
-    single : (d : Draft) → AgreesAt d → AgreesAt (single_received reference tag tpdu d)
-    single d s = either (has_room d) _ _ (accepts reference tag tpdu (store_single tpdu d) s) (no_room_reported reference tag d s)
-
-    new_part : (g : Group) (n : ℕ) (es : List Entry) (d : Draft) → AgreesAt d → AgreesAt (new_part_received reference tag tpdu g n es d)
-    new_part g n es d s = either (has_room d) _ _ (accepts reference tag tpdu (store_part g n tpdu es d) (stores_part g n tpdu es d s)) (no_room_reported reference tag d s)
-
-    member : (g : Group) (n : ℕ) (es : List Entry) (d : Draft) → AgreesAt d → AgreesAt (member_received reference tag tpdu g n es d)
-    member g n es d s = either (is_among n (part_numbers es)) _ _ (single d s) (new_part g n es d s)
-
-    part : (g : Group) (n : ℕ) (m : Option DiscardedGroup) (d : Draft) → AgreesAt d → AgreesAt (part_received reference tag tpdu g n m d)
-    part g n None d s = member g n (members g d.rows.entries) d s
-    part g n (Some m) d s = either (is_among n m.seen) _ _ (single d s) (accepts reference tag tpdu (marked n m d) (marks n m d s))
-
-    deliver : (m : DeliverOf) (k : Option ConcatKey) (d : Draft) → AgreesAt d → AgreesAt (deliver_received reference tag tpdu m k d)
-    deliver m None d s = single d s
-    deliver m (Some key) d s = part (group_of m.originating_address key) key.number (mark_of (group_of m.originating_address key) d.rows.marks) d s
-
-    notes : (status : ℕ) (r : StatusReportOf) (o : Option OutEntry) (d : Draft) → reported r d.rows.outbox ≡ o → AgreesAt d → AgreesAt (note status o d)
-    notes status r None d e s = s
-    notes status r (Some o) d e s =
-        out_put (Waits first) o (record o { status = Some status }) d (among_found out_key o d.rows.outbox s.order (reported_among r d.rows.outbox o e)) (refl, refl) (λ u. u) (λ q. q) s
-
-    tpdu_is_reached : (t : Result Down TpduFault) (d : Draft) → AgreesAt d → AgreesAt (tpdu_received reference tag tpdu t d)
-    tpdu_is_reached (Ok (Deliver m)) d s = deliver m (key_of m) d s
-    tpdu_is_reached (Ok (StatusReport p)) d s = accepts reference tag tpdu (note p.status (reported p d.rows.outbox) d) (notes p.status p (reported p d.rows.outbox) d refl s)
-    tpdu_is_reached (Ok (SubmitReport p)) d s = refuses reference tag InvalidMandatoryInformation 255 d s
-    tpdu_is_reached (Err fault) d s = refuses reference tag InvalidMandatoryInformation 255 d s
-
-    data_is_reached : (d : Draft) → AgreesAt d → AgreesAt (data_received reference tag tpdu d)
-    data_is_reached d s = either (is_double tpdu (row_at last_key reference d.rows.last)) _ _ (acknowledges reference tag d s) (tpdu_is_reached (down_at InData tpdu) d s)
-
-  unit_is_reached : (tag : Holder) (unit : List ℕ) (r : Result Rp RelayFault) (d : Draft) → AgreesAt d → AgreesAt (unit_received tag unit r d)
-  unit_is_reached tag unit (Ok (DataUnit reference centre tpdu)) d s = data_is_reached reference tag tpdu d s
-  unit_is_reached tag unit (Ok (AckUnit reference tpdu)) d s = s
-  unit_is_reached tag unit (Ok (ErrorUnit reference cause tpdu)) d s = s
-  unit_is_reached tag unit (Ok (Smma reference)) d s = s
-  unit_is_reached tag unit (Err fault) d s = rejects (reference_octet unit) tag (fault_cause fault) d s
-
-  -- ---- a transfer ends
-
-  notice_fails : (n : Notice) (d : Draft) → n.number < next → AgreesAt d → AgreesAt (notice_failed n d)
-  notice_fails n d l s =
-      either n.is_second (remove_notice n.number d) _ (notice_removed n.number d s) (notice_put (record n { is_second = true; due = Some (later d.moment tram) }) d l s)
-
-  notice_ends : (v : Ending) (n : Notice) (d : Draft) → n.number < next → AgreesAt d → AgreesAt (notice_ended v n d)
-  notice_ends AcknowledgedEnd n d l s = notice_removed n.number d s
-  notice_ends (RefusedEnd cause tpdu) n d l s = notice_fails n d l s
-  notice_ends WrongEnd n d l s = notice_fails n d l s
-  notice_ends LostEnd n d l s = notice_fails n d l s
-
-  notice_concludes : (v : Ending) (k : ℕ) (o : Option Notice) (d : Draft) → row_at notice_key k d.notices ≡ o → AgreesAt d → AgreesAt (notice_concluded v o d)
-  notice_concludes v k None d e s = s
-  notice_concludes v k (Some n) d e s = notice_ends v n d (s.below n (found_among notice_key k n d.notices e)) s
-
-  entry_concludes : (v : Ending) (n : ℕ) (o : OutEntry) (f : Option OutEntry) (d : Draft) → f ≡ Some o → row_at out_key n d.rows.outbox ≡ Some o → o.state ≡ Sending → AgreesAt d → AgreesAt (entry_concluded v f d)
-  entry_concludes v n o f d q e sending s =
+  settles : (v : Ending) (reference n : ℕ) (o : OutEntry) (d : Draft) → IsSentIn reference (EntryHolder n) d → row_at out_key n d.rows.outbox ≡ Some o → AgreesAt d → AgreesAt (put_out (settled d.moment (verdict_of v) o) d)
+  settles v reference n o d is e s =
+      let same : is.0 ≡ o = some_is is.0 o (sym is.1.0 ∙ e) in
+      let sending : o.state ≡ Sending = subst (λ (z : OutEntry). z.state ≡ Sending) same is.1.1.0 in
       let own : row_at out_key o.number d.rows.outbox ≡ Some o = ap (λ (k : ℕ). row_at out_key k d.rows.outbox) (found_key out_key n o d.rows.outbox e) ∙ e in
-      subst (λ (z : Option OutEntry). AgreesAt (entry_concluded v z d)) (sym q)
-      (out_put (Waits first) o (settled d.moment (verdict_of v) o) d own (settled_is d.moment (verdict_of v) o) (λ u. is_open o.state sending) (λ q. absurd (not_both o.state q.0 sending)) s)
-
-  holder_concludes : (v : Ending) (r : ℕ) (x : Holder) (d : Draft) → IsSentFor r x d.rows.outbox → AgreesAt d → AgreesAt (holder_concluded v x d)
-  holder_concludes v r (PartHolder id number) d is s = s
-  holder_concludes v r (Report id) d is s = s
-  holder_concludes v r (EntryHolder n) d is s = entry_concludes v n is.0 (row_at out_key n d.rows.outbox) d is.1.0 is.1.0 is.1.1.0 s
-  holder_concludes v r (Memory n) d is s = notice_concludes v n (row_at notice_key n d.notices) d refl s
-
-  goes_up : (tag : Holder) (up : Option UpFrom) (w : Option Carried) (d : Draft) → IsUnderWay w d.rows.outbox → AgreesAt d → AgreesAt (went_up tag (passed_up HandsetSide w up) d)
-  goes_up tag None w d u s = s
-  goes_up tag (Some (UnitUp FromOriginator unit)) w d u s = unit_is_reached tag unit (unit_at unit) d s
-  goes_up tag (Some (UnitUp ToOriginator unit)) None d u s = s
-  goes_up tag (Some (UnitUp ToOriginator unit)) (Some c) d u s = holder_concludes (ended_by c.reference (unit_for HandsetSide unit)) c.reference c.tag d u s
-  goes_up tag (Some FailedUp) None d u s = s
-  goes_up tag (Some FailedUp) (Some c) d u s = holder_concludes LostEnd c.reference c.tag d u s
-
-  times_out : (up : Option UpFrom) (w : Option Carried) (d : Draft) → IsUnderWay w d.rows.outbox → AgreesAt d → AgreesAt (timed_out (passed_up HandsetSide w up) d)
-  times_out None w d u s = s
-  times_out (Some (UnitUp FromOriginator unit)) w d u s = s
-  times_out (Some (UnitUp ToOriginator unit)) None d u s = s
-  times_out (Some (UnitUp ToOriginator unit)) (Some c) d u s = holder_concludes (ended_by c.reference (unit_for HandsetSide unit)) c.reference c.tag d u s
-  times_out (Some FailedUp) None d u s = s
-  times_out (Some FailedUp) (Some c) d u s = holder_concludes LostEnd c.reference c.tag d u s
-
-  -- ---- what follows
+      out_put (Waits first) o (settled d.moment (verdict_of v) o) d own (settled_same d.moment (verdict_of v) o) (λ u. is_open o.state sending) (λ q. absurd (not_both o.state q.0 sending)) s
 
   lapses : (os : List OutEntry) (d : Draft) → Rises out_key os → ((o : OutEntry) → Among o os → row_at out_key o.number d.rows.outbox ≡ Some o) → AgreesAt d → AgreesAt (lapse_rows os d)
   lapses [] d r there s = s
@@ -542,15 +365,48 @@ module _ (h : List ℕ) (given : List GivenRow) (base : List OutEntry) (next fir
       cond_both (is_sending o.state) (put_out (lost o) d) d (λ (z : Draft). AgreesAt (lapse_rows os z))
       (λ t. lapses os (put_out (lost o) d) r.1
       (λ x i. row_at_put_other out_key x.number (lost o) d.rows.outbox
-      (λ e. let above = above_at out_key o.number os r.0 x i in let n = (lost_is o).0 in absurd (omega (arith, n, e, above)))
+      (λ e. let above = above_at out_key o.number os r.0 x i in let n = (lost_same o).0 in absurd (omega (arith, n, e, above)))
       ∙ there x (inr i))
-      (out_put (Waits first) o (lost o) d (there o (inl refl)) (lost_is o) (λ u. is_open o.state (is_sending_state o.state t)) (λ q. absurd (not_both o.state q.0 (is_sending_state o.state t))) s))
+      (out_put (Waits first) o (lost o) d (there o (inl refl)) (lost_same o) (λ u. is_open o.state (is_sending_state o.state t)) (λ q. absurd (not_both o.state q.0 (is_sending_state o.state t))) s))
       (λ t. lapses os d r.1 (λ x i. there x (inr i)) s)
 
-  lapse_reported : (d : Draft) → AgreesAt d → AgreesAt (lapse d)
-  lapse_reported d s =
-      either d.is_recovered (lapse_rows d.rows.outbox (record d { is_recovered = false })) d
-      (lapses d.rows.outbox (record d { is_recovered = false }) s.order (λ o i. among_found out_key o d.rows.outbox s.order i) s) s
+  ends_kept : KeptByEnds AgreesAt IsSentIn
+  ends_kept = record {
+    entry_settled = settles;
+    notice_put = λ n is_second due d i s. notice_put (record n { is_second = is_second; due = due }) d (s.below n i) s;
+    notice_removed = notice_removed;
+  }
+
+  agrees_kept : KeptByMoves AgreesAt AnyReference AnyUnit IsSentIn
+  agrees_kept = record {
+    ends = ends_kept;
+    entry_put = λ e d s. s;
+    entry_removed = λ n d s. s;
+    last_put = λ l d a s. s;
+    mark_put = λ m d s. s;
+    mark_removed = λ n d s. s;
+    entry_counted = λ d s. s;
+    memory_flagged = λ b d s. s;
+    data_answered = λ unit reference centre tpdu a. tt;
+    fault_answered = λ unit fault a. tt;
+    acknowledged = λ reference tag d a s. acknowledges reference tag d s;
+    full = λ reference tag d a s. refuses reference tag MemoryCapacityExceeded 211 d s;
+    unreadable = λ reference tag d a s. refuses reference tag InvalidMandatoryInformation 255 d s;
+    rejected = λ reference tag fault d a s. rejects reference tag (fault_cause fault) d s;
+    status_noted = λ o status d i s. out_put (Waits first) o (record o { status = Some status }) d (among_found out_key o d.rows.outbox s.order i) (refl, refl, refl) (λ u. u) (λ q. q) s;
+    notice_wanted = λ d s. s;
+  }
+
+  -- what is passed up of a transfer is of one that was under way
+  sent_up : (up : Option UpFrom) (w : Option Carried) (d : Draft) → IsUnderWay w d.rows.outbox → IsKnownUp AnyUnit IsSentIn (passed_up HandsetSide w up) d
+  sent_up None w d u = tt
+  sent_up (Some (UnitUp FromOriginator unit)) w d u = tt
+  sent_up (Some (UnitUp ToOriginator unit)) None d u = tt
+  sent_up (Some (UnitUp ToOriginator unit)) (Some c) d u = u
+  sent_up (Some FailedUp) None d u = tt
+  sent_up (Some FailedUp) (Some c) d u = u
+
+  -- ---- what follows
 
   abbrev begun_now : ℕ → Holder → List ℕ → Draft → Turn
   begun_now reference tag unit d = started (of_kind Data reference tag) (begin_step d.moment unit d.links) (link_of d)
@@ -615,18 +471,13 @@ module _ (h : List ℕ) (given : List GivenRow) (base : List OutEntry) (next fir
       (λ g j q. free y i u (sym (all_reference h d.moment next reference n fs g j) ∙ q))
       ∙ s y i u)
 
-  offers_entry : (f : Option OutEntry) (d : Draft) → ((o : OutEntry) → f ≡ Some o → IsDue d.rows.outbox o) → AgreesAt d → Ends (offer_entry f d)
-  offers_entry None d due s = ends d (opens d s)
-  offers_entry (Some o) d due s =
-      let i = due o refl in
+  offers_entry : (o : OutEntry) (d : Draft) → IsDue d.rows.outbox o → AgreesAt d → Ends (offer_entry (Some o) d)
+  offers_entry o d i s =
       let x : OutEntry = record o { state = Sending; tries = min (o.tries + 1) 255; due = None } in
       ends (begin o.reference (EntryHolder o.number) (data_up o.reference (relay_address d.rows.setup.centre) (submit_of o)) (put_out x d))
       (begins (IsOpen first) o.reference (EntryHolder o.number) (data_up o.reference (relay_address d.rows.setup.centre) (submit_of o)) (put_out x d)
       (λ fs. carrying_reported h d.moment next (of_kind Data o.reference (EntryHolder o.number)) fs refl)
-      (out_put (IsOpen first) o x d (among_found out_key o d.rows.outbox s.order i.among) (refl, refl) (λ u. was_queued o.state i.queued) (λ q. (refl, q.1)) (opens d s)))
-
-  offers_message : (d : Draft) → AgreesAt d → Ends (offer_message d)
-  offers_message d s = offers_entry (first_due d.moment d.rows.outbox) d (λ o e. first_due_is d.moment d.rows.outbox o e) s
+      (out_put (IsOpen first) o x d (among_found out_key o d.rows.outbox s.order i.among) (refl, refl, refl) (λ u. was_queued o.state i.queued) (λ q. (refl, q.1)) (opens d s)))
 
   sends_again : (n : Notice) (d : Draft) → n.number < next → AgreesAt d → Ends (send_notice n d)
   sends_again n d l s =
@@ -674,22 +525,23 @@ module _ (h : List ℕ) (given : List GivenRow) (base : List OutEntry) (next fir
       let few = few_references d.notices d.rows.outbox in
       not_by_entries d.notices d.rows.outbox r (next_is_free d.rows.counters.reference (held_references d.notices d.rows.outbox) (omega (arith, few, sound.outbox.few, sound.few_notices)))
 
-  offers_wanted : (d : Draft) → SoundAt d → is_busy d.links ≡ false → AgreesAt d → Ends (offer_wanted d)
-  offers_wanted d sound idle s =
-      let r = next_free d.rows.counters.reference (held_references d.notices d.rows.outbox) in
-      cond_both (is_notice_next d) (first_notice d.rows.counters.notice r d) (offer_message d) (λ (z : Draft). Ends z)
-      (λ t. sends_first r d idle (free_next d sound) s) (λ t. offers_message d s)
+  lapsed : (d : Draft) → AgreesAt d → AgreesAt (lapse_rows d.rows.outbox (record d { is_recovered = false }))
+  lapsed d s = lapses d.rows.outbox (record d { is_recovered = false }) s.order (λ o i. among_found out_key o d.rows.outbox s.order i) s
 
-  offers_after : (n : Option Notice) (d : Draft) → first_fired d.moment d.notices ≡ n → SoundAt d → is_busy d.links ≡ false → AgreesAt d → Ends (offer_after n d)
-  offers_after None d e sound idle s = offers_wanted d sound idle s
-  offers_after (Some n) d e sound idle s = sends_again n d (s.below n (fired_among d.moment d.notices n e)) s
+  abbrev AgreesSound : Draft → Type 0
+  AgreesSound d = SoundAt d × AgreesAt d
 
-  offers : (d : Draft) → SoundAt d → AgreesAt d → Ends (offer d)
-  offers d sound s =
-      cond_both (is_busy d.links) d (offer_after (first_fired d.moment d.notices) d) (λ (z : Draft). Ends z) (λ t. ends d (opens d s)) (λ t. offers_after (first_fired d.moment d.notices) d refl sound t s)
+  offers_kept : KeptByOffers AgreesSound Ends
+  offers_kept = record {
+    nothing = λ d s. ends d (opens d s.1);
+    entry = λ o d i idle s. offers_entry o d i s.1;
+    notice_again = λ n d i idle s. sends_again n d (s.1.below n i) s.1;
+    notice_first = λ d next idle s. sends_first (next_free d.rows.counters.reference (held_references d.notices d.rows.outbox)) d idle (free_next d s.0) s.1;
+  }
 
   follows : (d : Draft) → SoundAt d → AgreesAt d → Ends (follow d)
-  follows d sound s = offers (lapse d) (lapse_settles d sound).sound (lapse_reported d s)
+  follows d sound s =
+      offer_keeps AgreesSound Ends offers_kept (lapse d) ((lapse_settles d sound).sound, lapse_keeps AgreesAt lapsed d s)
 
   -- ---- writing: nothing was sent yet
 
@@ -756,15 +608,6 @@ module _ (h : List ℕ) (given : List GivenRow) (base : List OutEntry) (next fir
         few = w.few;
       }
 
-  writes_parts : (to : Address) (report is_long : Bool) (ps : List PartOf) (d : Draft) → length d.rows.outbox + length ps ≤ 20 → Writes d → Writes (write_parts to report is_long ps d)
-  writes_parts to report is_long [] d room w = w
-  writes_parts to report is_long (p ∷ ps) d room w =
-      let m = next_free d.rows.counters.message_reference (held_message_references d.rows.outbox) in
-      let r = next_free d.rows.counters.reference (held_references d.notices d.rows.outbox) in
-      let x : OutEntry = written_entry d.rows.counters.entry m r to report is_long p in
-      let l = length_put out_key x d.rows.outbox in
-      writes_parts to report is_long ps (write_part to report is_long p d) (omega (arith, l, room)) (writes_part to report is_long p d (omega (arith, room)) w)
-
   counts_split : (is_long : Bool) (d : Draft) → Writes d → Writes (count_split is_long d)
   counts_split false d w = w
   counts_split true d w =
@@ -775,79 +618,41 @@ module _ (h : List ℕ) (given : List GivenRow) (base : List OutEntry) (next fir
   split_outbox false d = refl
   split_outbox true d = refl
 
-  abbrev IfAgrees : Result Draft Refusal → Type 0
-  IfAgrees (Ok d) = AgreesAt d
-  IfAgrees (Err refusal) = Unit {0}
-
   first_test : (a b : Bool) → cond a b false ≡ true → a ≡ true
   first_test true b e = refl
   first_test false b e = absurd cc
 
-  writes_to : (report : Bool) (ps : List PartOf) (to : Result Address AddressError) (d : Draft) → Writes d → IfAgrees (write_to report ps to d)
-  writes_to report ps (Err fault) d w = tt
-  writes_to report ps (Ok to) d w =
+  -- and the outbox has room for the parts that are still to be written
+  abbrev WritesRest : Address → Bool → Bool → List PartOf → Draft → Type 0
+  WritesRest to report is_long ps d = Writes d × (length d.rows.outbox + length ps ≤ 20)
+
+  writes_one : (to : Address) (report is_long : Bool) (p : PartOf) (ps : List PartOf) (d : Draft) → WritesRest to report is_long (p ∷ ps) d → WritesRest to report is_long ps (write_part to report is_long p d)
+  writes_one to report is_long p ps d w =
+      let m = next_free d.rows.counters.message_reference (held_message_references d.rows.outbox) in
+      let r = next_free d.rows.counters.reference (held_references d.notices d.rows.outbox) in
+      let x : OutEntry = written_entry d.rows.counters.entry m r to report is_long p in
+      let l = length_put out_key x d.rows.outbox in
+      let room : length d.rows.outbox + suc (length ps) ≤ 20 = w.1 in
+      let now : length d.rows.outbox ≤ 20 = omega (arith, room) in
+      let left : length (put out_key x d.rows.outbox) + length ps ≤ 20 = omega (arith, l, room) in
+      (writes_part to report is_long p d now w.0, left)
+
+  parts_kept : KeptByWriting AgreesAt WritesRest
+  parts_kept = record { one = writes_one; all = λ to report is_long d w. w.0.tells }
+
+  begins_writing : (to : Address) (report : Bool) (ps : List PartOf) (d : Draft) → Writes d → IsKnownFirst WritesRest to report ps d
+  begins_writing to report ps d w t =
       let is_long = nat_lt 1 (length ps) in
-      cond_both (fits_outbox (length ps) d) (Ok (written to report ps d)) (Err OutboxFull) (λ (r : Result Draft Refusal). IfAgrees r)
-      (λ t.
       let l = leb-true (length d.rows.outbox + length ps) 20 (first_test (nat_le (length d.rows.outbox + length ps) 20) (nat_le (d.rows.counters.entry + length ps) 4294967295) t) in
       let room : length (count_split is_long d).rows.outbox + length ps ≤ 20 = subst (λ (z : List OutEntry). length z + length ps ≤ 20) (sym (split_outbox is_long d)) l in
-      (writes_parts to report is_long ps (count_split is_long d) room (counts_split is_long d w)).tells)
-      (λ t. tt)
-
-  writes_split : (to : List ℕ) (report : Bool) (ps : Result (List PartOf) SplitError) (d : Draft) → Writes d → IfAgrees (write_split to report ps d)
-  writes_split to report (Err fault) d w = tt
-  writes_split to report (Ok ps) d w = writes_to report ps (address_of 1 1 to) d w
-
-  -- ---- deleting and discarding
-
-  either_done : (b : Bool) (x y : Result Draft Refusal) → IfAgrees x → IfAgrees y → IfAgrees (cond b x y)
-  either_done true x y p q = p
-  either_done false x y p q = q
-
-  frees_slot : (d : Draft) → AgreesAt d → AgreesAt (freed d)
-  frees_slot d s = either d.rows.counters.is_memory_full (want_notice (put_counters (record d.rows.counters { is_memory_full = false }) d)) d s s
-
-  abbrev NoneNew : Draft → Type 0
-  NoneNew d = entries_given h d.moment base d.changes.outbox ≡ []
-
-  deletes_out : (n : ℕ) (o : Option OutEntry) (d : Draft) → NoneNew d → AgreesAt d → IfAgrees (delete_out n o d)
-  deletes_out n None d none s = tt
-  deletes_out n (Some o) d none s = either_done (is_unfinished o.state) (Err StillOpen) (Ok (remove_out n d)) tt (out_removed n d none s)
-
-  deletes_in : (n : ℕ) (x : Option Entry) (d : Draft) → NoneNew d → AgreesAt d → IfAgrees (delete_in n x d)
-  deletes_in n None d none s = deletes_out n (row_at out_key n d.rows.outbox) d none s
-  deletes_in n (Some x) d none s = either_done (is_open_part x.message) (Err StillOpen) (Ok (freed (remove_entry n d))) tt (frees_slot (remove_entry n d) s)
-
-  deletes : (n : ℕ) (d : Draft) → NoneNew d → AgreesAt d → IfAgrees (delete n d)
-  deletes n d none s = deletes_in n (row_at entry_key n d.rows.entries) d none s
-
-  discards_group : (n : ℕ) (g : Group) (es : List Entry) (d : Draft) → AgreesAt d → AgreesAt (discard_group n g es d)
-  discards_group n g es d s = frees_slot (put_mark (record { number = n; group = g; seen = part_numbers es }) (drop_all es d)) (drops es d s)
-
-  discards_members : (n : ℕ) (g : Group) (es : List Entry) (d : Draft) → AgreesAt d → IfAgrees (discard_members n g es d)
-  discards_members n g es d s =
-      either_done (first_number es == n) (cond (nat_lt (length d.rows.marks) 64) (Ok (discard_group n g es d)) (Err TooManyDiscarded)) (Err NoEntry)
-      (either_done (nat_lt (length d.rows.marks) 64) (Ok (discard_group n g es d)) (Err TooManyDiscarded) (discards_group n g es d s) tt) tt
-
-  discards_in : (n : ℕ) (m : Message) (d : Draft) → AgreesAt d → IfAgrees (discard_in n m d)
-  discards_in n (Single tpdu) d s = tt
-  discards_in n (Part g k tpdu) d s = discards_members n g (members g d.rows.entries) d s
-  discards_in n (Joined source content) d s = tt
-
-  discards_at : (n : ℕ) (x : Option Entry) (d : Draft) → AgreesAt d → IfAgrees (discard_at n x d)
-  discards_at n None d s = tt
-  discards_at n (Some x) d s = discards_in n x.message d s
-
-  discards : (n : ℕ) (d : Draft) → AgreesAt d → IfAgrees (discard n d)
-  discards n d s = discards_at n (row_at entry_key n d.rows.entries) d s
+      (counts_split is_long d w, room)
 
   -- ---- every event
 
   abbrev pub IfHeld : Result Draft Refusal → Type 0
-  IfHeld (Ok d) = Ends d
-  IfHeld (Err refusal) = Unit {0}
+  IfHeld r = IfDone Ends r
 
-  acts : (r : Result Draft Refusal) → SoundIfDone r → IfAgrees r → IfHeld (acted r)
+  acts : (r : Result Draft Refusal) → SoundIfDone r → IfDone AgreesAt r → IfHeld (acted r)
   acts (Ok d) sound s = follows d sound s
   acts (Err refusal) sound s = tt
 
@@ -868,7 +673,8 @@ module _ (h : List ℕ) (given : List GivenRow) (base : List OutEntry) (next fir
         let turn : Turn = taken octets (link_of (draft_of c)) in
         let step : Step = take_step octets c.links in
         follows (frame_heard tag turn (draft_of c)) (went_up_sound tag step.out.up c.under_way (with_turn turn (draft_of c)) refl (sound_from c sound))
-        (goes_up tag step.out.up c.under_way (with_turn turn (draft_of c)) sound.under_way (turned turn (draft_of c) (copies_reported h c.moment next c.under_way c.answered step.out.frames) (start c.moment)))
+        (frame_keeps AgreesAt AnyReference AnyUnit IsSentIn agrees_kept tag turn (draft_of c) (sent_up step.out.up c.under_way (with_turn turn (draft_of c)) sound.under_way)
+        (turned turn (draft_of c) (copies_reported h c.moment next c.under_way c.answered step.out.frames) (start c.moment)))
 
     ticks : (now : ℕ) → Ends (ticked now c)
     ticks now =
@@ -876,7 +682,8 @@ module _ (h : List ℕ) (given : List GivenRow) (base : List OutEntry) (next fir
         let turn : Turn = fired d.moment (link_of d) in
         let step : Step = fire_step d.moment c.links in
         follows (timers_fired turn d) (timed_out_sound step.out.up c.under_way (with_turn turn d) refl (sound_from c sound))
-        (times_out step.out.up c.under_way (with_turn turn d) sound.under_way (turned turn d (copies_reported h d.moment next c.under_way c.answered step.out.frames) (start d.moment)))
+        (timers_keep AgreesAt IsSentIn ends_kept turn d (sent_up step.out.up c.under_way (with_turn turn d) sound.under_way)
+        (turned turn d (copies_reported h d.moment next c.under_way c.answered step.out.frames) (start d.moment)))
 
     writing : Writes (draft_of c)
     writing = record {
@@ -893,9 +700,12 @@ module _ (h : List ℕ) (given : List GivenRow) (base : List OutEntry) (next fir
     event_holds (Tick now) = ticks now
     event_holds (Write text to report) =
         acts (write text to report (draft_of c)) (write_sound text to report (draft_of c) (sound_from c sound))
-        (writes_split to report (split_of (content_of_text text) c.rows.counters.concat_reference) (draft_of c) writing)
-    event_holds (Delete entry) = acts (delete entry (draft_of c)) (delete_sound entry (draft_of c) (sound_from c sound)) (deletes entry (draft_of c) refl (start c.moment))
-    event_holds (Discard entry) = acts (discard entry (draft_of c)) (discard_sound entry (draft_of c) (sound_from c sound)) (discards entry (draft_of c) (start c.moment))
+        (write_keeps AgreesAt WritesRest parts_kept text to report (draft_of c) (λ ps a e to_is. begins_writing a report ps (draft_of c) writing))
+    event_holds (Delete entry) =
+        acts (delete entry (draft_of c)) (delete_sound entry (draft_of c) (sound_from c sound))
+        (delete_keeps AgreesAt AnyReference AnyUnit IsSentIn agrees_kept entry (draft_of c) (out_removed entry (draft_of c) refl (start c.moment)) (start c.moment))
+    event_holds (Discard entry) =
+        acts (discard entry (draft_of c)) (discard_sound entry (draft_of c) (sound_from c sound)) (discard_keeps AgreesAt AnyReference AnyUnit IsSentIn agrees_kept entry (draft_of c) (start c.moment))
 
 -- What an event leads to: the rows that it tells, and whom it gave references to.
 pub event_ends : (event : HandsetEvent) (p : Party) (d : Draft) (given : List GivenRow) → IsSoundCore p.core → AreBelow p.core.rows.counters.notice p.core.notices → happened event p.core ≡ Ok d

@@ -1,8 +1,8 @@
 -- RP-DATA that comes is one step that reads it.
-use Rattle.std.proofs.Common.{◌≡◌, ◌⊎◌, ℕ, List, [], ◌∷◌, cond, refl, sym, ◌∙◌, ap, subst, inl, inr, ⊎_elim, Option, Some, None, Result, Ok, Err}
-use Rattle.std.proofs.lemmas.Bool.{cond_both, cases_cond}
+use Rattle.std.proofs.Common.{◌≡◌, ℕ, List, refl, sym, ◌∙◌, ap, subst, Option, Some, None, Result, Ok, Err}
+use Rattle.std.proofs.lemmas.Bool.{cond_both}
 use Rattle.sms_base.specs.Among.{Among}
-use Rattle.sms_rows.specs.table.Table.{row_at, latest, put}
+use Rattle.sms_rows.specs.table.Table.{row_at, put}
 use Rattle.sms_rows.proofs.table.Tables.{among_found}
 use Rattle.sms_base.specs.declared.holder.Holder.{Holder}
 use Rattle.sms_alphabet.specs.declared.concat_key.ConcatKey.{ConcatKey}
@@ -12,7 +12,6 @@ use Rattle.sms_tpdu.specs.declared.deliver.Deliver.{Deliver as DeliverOf}
 use Rattle.sms_tpdu.specs.declared.down.Down.{Down}
 use Rattle.sms_tpdu.specs.declared.down.Down.TheVariants.{Deliver, StatusReport, SubmitReport}
 use Rattle.sms_tpdu.specs.declared.fault.TpduFault.{TpduFault}
-use Rattle.sms_tpdu.specs.declared.status_report.StatusReport.{StatusReport as StatusReportOf}
 use Rattle.sms_tpdu.specs.TpduReading.{down_at}
 use Rattle.sms_handset_rows.specs.declared.inbox.entry.Group.{Group}
 use Rattle.sms_handset_rows.specs.declared.inbox.discarded_group.DiscardedGroup.{DiscardedGroup}
@@ -23,9 +22,10 @@ use Rattle.sms_handset_rows.specs.inbox.Keys.{last_key}
 use Rattle.sms_handset_rows.specs.outbox.Keys.{out_key}
 use Rattle.sms_handset_draft.specs.Receiving.{accept, acknowledge, data_received, deliver_received, note, part_received, tpdu_received}
 use Rattle.sms_handset_rows.specs.inbox.Doubles.{is_double}
-use Rattle.sms_handset_rows.specs.outbox.Reports.{is_reported, reported}
+use Rattle.sms_handset_rows.specs.outbox.Reports.{reported}
 use Rattle.sms_handset_rows.specs.inbox.SoundInbox.{IsPartOf}
 use Rattle.sms_handset.proofs.SoundDrafts.{SoundAt}
+use Rattle.sms_handset.proofs.SoundReceiving.{reported_among}
 use Rattle.sms_handset_rows.proofs.inbox.SoundMarks.{mark_found}
 use Rattle.sms_tpdu.specs.MoreMessages.{compared}
 use Rattle.sms_world_model.specs.Place.{place_in, place_of, place_read}
@@ -42,20 +42,6 @@ use Rattle.sms_world.proofs.handset_runs_are_steps.PartsArrive.{arrived_as, memb
 use Rattle.sms_world.proofs.handset_runs_are_steps.Taking.{AwaitsAnswer, doubles, last_is, last_isn't, refuses, taken, takes}
 
 -- ---- the entry that a status report is about
-
-latest_is : (x y : Option OutRow) (o : OutRow) → latest x y ≡ Some o → (x ≡ Some o) ⊎ (y ≡ Some o)
-latest_is x None o e = inl e
-latest_is x (Some y) o e = inr e
-
-reported_among : (r : StatusReportOf) (os : List OutRow) (o : OutRow) → reported r os ≡ Some o → Among o os
-reported_among r [] o e = absurd cc
-reported_among r (x ∷ xs) o e = ⊎_elim
-    (λ (h : cond (is_reported r x) (Some x) None ≡ Some o). ⊎_elim
-    (λ (t : Some o ≡ Some x). let q : o ≡ x = cc in inl q)
-    (λ (t : Some o ≡ None). absurd cc)
-    (cases_cond (is_reported r x) (Some x) None (Some o) (sym h)))
-    (λ (h : reported r xs ≡ Some o). inr (reported_among r xs o h))
-    (latest_is (cond (is_reported r x) (Some x) None) (reported r xs) o e)
 
 module _ (m : ℕ) (h : List ℕ) (number r : ℕ) (tag : Holder) (octets : List ℕ) (b : World) (d : Draft) (w : World)
     (c : AwaitsAnswer h number r tag octets d w) (new : ¬ IsLast (pair h r octets) w.accepted) (sound : SoundAt d) (s : Refines h b d w) where

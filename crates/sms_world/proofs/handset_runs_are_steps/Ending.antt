@@ -3,16 +3,16 @@ use Rattle.std.proofs.Common.{◌≡◌, ℕ, List, [], ◌∷◌, ◌++◌, fal
 use Rattle.sms_base.specs.Among.{Among}
 use Rattle.sms_rows.specs.declared.table.change.Change.{Change}
 use Rattle.sms_rows.specs.declared.table.change.Change.TheVariants.{Put, Remove}
-use Rattle.sms_rows.specs.table.Table.{Rises, put, without}
+use Rattle.sms_rows.specs.table.Table.{put, without}
 use Rattle.sms_concat.specs.declared.content.Content.{Content}
 use Rattle.sms_handset_rows.specs.declared.inbox.entry.Entry.{Entry}
 use Rattle.sms_handset_rows.specs.declared.inbox.entry.Group.{Group}
 use Rattle.sms_handset_rows.specs.declared.inbox.discarded_group.DiscardedGroup.{DiscardedGroup}
 use Rattle.sms_handset_draft.specs.Draft.{Draft}
-use Rattle.sms_handset_rows.specs.inbox.Groups.{alone, first_number, is_part_of, joined_entry, mark_of, members}
+use Rattle.sms_handset_rows.specs.inbox.Groups.{alone, is_part_of, joined_entry, mark_of, members}
 use Rattle.sms_handset_draft.specs.Storing.{drop_all, ended, free_all}
 use Rattle.sms_handset_rows.specs.inbox.Keys.{entry_key}
-use Rattle.sms_handset_rows.proofs.inbox.GroupMembers.{all_without, all_without_self, apart_groups, members_all_without, members_among, members_put, others_stay, without_apart}
+use Rattle.sms_handset_rows.proofs.inbox.GroupMembers.{all_without, members_among, members_put, without_apart}
 use Rattle.sms_handset_rows.proofs.inbox.SoundEntries.{Inbox, all_from, new_apart}
 use Rattle.sms_handset_rows.proofs.inbox.SoundGroups.{all_freed, ended_entries}
 use Rattle.sms_world.specs.headline.SeenWorld.{JoinedText}
@@ -59,30 +59,6 @@ pub discarded_as : (xs : List Entry) (d : Draft)
 discarded_as xs d = dropped_as xs d d.rows.entries d.changes.entries
 
 -- ---- the members of groups (as in SoundGroups, where these are private)
-
-members_freed : (g : Group) (xs es : List Entry) → members g (all_freed xs es) ≡ all_without xs (members g es)
-members_freed g [] es = refl
-members_freed g (x ∷ xs) es = members_freed g xs (put entry_key (alone x) es) ∙ ap (λ (l : List Entry). all_without xs l) (members_put g (alone x) es refl)
-
-pub first_of : (ms : List Entry) (e : Entry) → (f : Entry) × (Among f (ms ++ e ∷ []) × (first_number (ms ++ e ∷ []) ≡ f.number))
-first_of [] e = (e, (inl refl, refl))
-first_of (m ∷ ms) e = (m, (inl refl, refl))
-
-pub others_ended : (g h : Group) (c : Option Content) (fs : List Entry) (f : Entry) → Rises entry_key fs → ¬ (g ≡ h) → Among f (members g fs) → first_number (members g fs) ≡ f.number
-    → members h (ended_entries g (members g fs) c fs) ≡ members h fs
-others_ended g h None fs f r ne a q = members_freed h (members g fs) fs ∙ others_stay g h fs r ne
-others_ended g h (Some content) fs f r ne a q =
-    let xs = members g fs in
-    members_put h (joined_entry g xs content) (all_without xs fs) refl
-    ∙ ap (λ (l : List Entry). without entry_key (first_number xs) l) (members_all_without h xs fs ∙ others_stay g h fs r ne)
-    ∙ without_apart (first_number xs) (members h fs) (all_from (λ (e : Entry). ¬ (e.number ≡ first_number xs)) (members h fs) (λ y b e. apart_groups g h fs f y r ne a b (e ∙ q)))
-
-pub own_ended : (g : Group) (c : Option Content) (fs : List Entry) → members g (ended_entries g (members g fs) c fs) ≡ []
-own_ended g None fs = members_freed g (members g fs) fs ∙ all_without_self (members g fs)
-own_ended g (Some content) fs =
-    let xs = members g fs in
-    members_put g (joined_entry g xs content) (all_without xs fs) refl
-    ∙ ap (λ (l : List Entry). without entry_key (first_number xs) l) (members_all_without g xs fs ∙ all_without_self xs)
 
 -- an entry of its own under the next number changes no group
 pub single_members : (k : ℕ) (x : Entry) (es : List Entry) (ms : List DiscardedGroup) → Inbox k es ms → x.number ≡ k → ((g : Group) → is_part_of g x.message ≡ false)

@@ -21,12 +21,9 @@ use Rattle.sms_world_model.proofs.Rounds.{passed as is_passed, ends as is_full, 
 use Rattle.sms_world.specs.handset_runs_are_steps.RefinesInbox.{Matches, RefinesGroups, groups_at, key_seen}
 use Rattle.sms_world.proofs.handset_runs_are_steps.OutboxRows.{same_digits}
 use Rattle.sms_world.proofs.handset_runs_are_steps.Placing.{joined_alike, with_alike}
+use Rattle.sms_centre_spec.proofs.forgetting.Removed.{turn}
 
 -- ---- one more number, one more part
-
-eq_turned : (a b : ℕ) → (a == b) ≡ (b == a)
-eq_turned a b =
-    ⊎_elim (λ (e : a ≡ b). eq-eqb a b e ∙ sym (eq-eqb b a (sym e))) (λ (ne : a ≡ b → ⊥). ne_eqb a b ne ∙ sym (ne_eqb b a (λ q. ne (sym q)))) (cases_eq a b)
 
 pub among_push : (n m : ℕ) (ns : List ℕ) → is_among n (ns ++ m ∷ []) ≡ ((m == n) || is_among n ns)
 among_push n m [] = refl
@@ -124,7 +121,7 @@ module _ (p : Accepted) (s : Segment) (seg : place_in p.tpdu ≡ Some (record { 
   pub numbers_more : (xs : List ℕ) → ((n : ℕ) → is_among n xs ≡ is_in n (numbers g.present)) → (n : ℕ) → is_among n (xs ++ s.number ∷ []) ≡ is_in n (numbers (p ∷ g.present))
   numbers_more xs e n =
       among_push n s.number xs ∙ ap (λ (z : Bool). (s.number == n) || z) (e n) ∙ ap (λ (z : ℕ). (z == n) || is_in n (numbers g.present)) (sym number_is)
-      ∙ ap (λ (z : Bool). z || is_in n (numbers g.present)) (eq_turned (number_in p) n)
+      ∙ ap (λ (z : Bool). z || is_in n (numbers g.present)) (turn (number_in p) n)
 
   module _ (ms : List Entry) (e : Entry) (part : part_number e.message ≡ s.number) (text : carried_part (down_at InData (part_tpdu e.message)) ≡ carried_in p.tpdu) (m : Matches ms None g) (new : is_among s.number (part_numbers ms) ≡ false) where
     pub parts_more : (n : ℕ) → is_among n (part_numbers (ms ++ e ∷ [])) ≡ is_in n (numbers (p ∷ g.present))

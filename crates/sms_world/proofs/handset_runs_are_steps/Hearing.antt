@@ -1,5 +1,6 @@
 -- Frames of the links' own: CP-ACK and CP-ERROR are control, what is sent again is a copy.
 use Rattle.std.proofs.Common.{◌≡◌, ℕ, ◌+◌, List, [], ◌∷◌, ◌++◌, refl, sym, ◌∙◌, ap, subst, inl, inr, Option, Some, None, Result, Ok, Err, length}
+use Rattle.std.proofs.lemmas.List.{append-nil, append_assoc}
 use Rattle.sms_base.specs.Among.{Among}
 use Rattle.sms_control.specs.declared.fault.CpFault.{CpFault}
 use Rattle.sms_control.specs.declared.link_state.LinkState.{LinkState}
@@ -22,7 +23,7 @@ use Rattle.sms_world.specs.headline.SeenFrames.{line_up, octets_of, sent_as}
 use Rattle.sms_world.specs.handset_runs_are_steps.RefinesLink.{RefinesLinks, WasSent}
 use Rattle.sms_world.specs.handset_runs_are_steps.Refinement.{Refines}
 use Rattle.sms_world.specs.handset_runs_are_steps.Stages.{AllMine, Moves, ReadsOne}
-use Rattle.sms_world.proofs.handset_runs_are_steps.Moving.{Begins, appended, frames_more, links_more, nothing_more, whole_both}
+use Rattle.sms_world.proofs.handset_runs_are_steps.Moving.{Begins, frames_more, links_more, whole_both}
 
 -- what the link does of its own accord
 abbrev pub hears : Step → Draft → Draft
@@ -32,7 +33,7 @@ hears step d = with_turn (heard step (link_of d)) d
 pub hears_nothing : (h : List ℕ) (b : World) (d : Draft) (w : World) (l : LinkState) (u : Option Carries) → RefinesLinks h w.bag l u d.answered → Refines h b d w
     → Refines h b (record d { links = l; under_way = u; frames = d.frames ++ [] }) w
 hears_nothing h b d w l u k s =
-    subst (λ (z : List Outgoing). Refines h b (record d { links = l; under_way = u; frames = z }) w) (sym (nothing_more d.frames))
+    subst (λ (z : List Outgoing). Refines h b (record d { links = l; under_way = u; frames = z }) w) (sym (append-nil d.frames))
     (record { frames = s.frames; whole = s.whole; links = k; last = s.last; accepted = s.accepted; joined = s.joined; out = s.out; notices = s.notices; groups = s.groups })
 
 -- a bare frame
@@ -113,7 +114,7 @@ bare_and_again m h b d w l frame again up flag c bare sent is k s =
     let y = again_moves m h b e v flag again c (sent.0, sent.1, (sent.2.0, inr sent.2.1)) (hears_bare h b d w l u frame bare k s) in
     (Control h ∷ y.0, ((tt, refl, y.1.0), (tt, y.1.1), y.1.2)) in
     let fs : (d.frames ++ f ∷ []) ++ g ∷ [] ≡ d.frames ++ from_links d.under_way d.answered (frame ∷ again ∷ []) =
-    appended d.frames (f ∷ []) (g ∷ [])
+    append_assoc d.frames (f ∷ []) (g ∷ [])
     ∙ ap (λ (z : Option Carries). d.frames ++ of_links frame z ∷ g ∷ []) (sym (bare_carries frame d.under_way d.answered (cp_at frame) refl bare))
     ∙ ap (λ (z : Option Carries). d.frames ++ of_links frame (carried_in (cp_at frame) d.under_way d.answered) ∷ of_links again z ∷ [])
     (sym (again_carries h w.bag flag again c d.under_way d.answered sent ∙ is)) in

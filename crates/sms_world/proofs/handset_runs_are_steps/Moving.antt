@@ -1,5 +1,6 @@
 -- Runs one after another, frames on top of frames, and what stays true while the bag grows.
 use Rattle.std.proofs.Common.{◌≡◌, ℕ, ◌+◌, List, [], ◌∷◌, ◌++◌, false, refl, sym, ◌∙◌, ap, subst, inl, inr, Option, Some, None, length}
+use Rattle.std.proofs.lemmas.List.{append_assoc}
 use Rattle.sms_control.specs.declared.link_state.Answer.{Answer}
 use Rattle.sms_control.specs.declared.link_state.Begun.{Begun}
 use Rattle.sms_control.specs.declared.link_state.LinkState.{LinkState}
@@ -66,17 +67,13 @@ pub record Ordered (m : ℕ) (event : Event) (h : List ℕ) (b : World) (new : D
 abbrev pub Begins : ℕ → Event → List ℕ → World → Draft → World → Type 0
 Begins m event h b new w = Ordered m event h b new w
 
-pub appended : {A : Type 0} (xs ys zs : List A) → (xs ++ ys) ++ zs ≡ xs ++ (ys ++ zs)
-appended [] ys zs = refl
-appended (x ∷ xs) ys zs = ap (λ z. x ∷ z) (appended xs ys zs)
-
 pub begins_then : (m : ℕ) (h : List ℕ) (event : Event) (b : World) (e f : Draft) (w : World)
     → Begins m event h b e w → ((v : World) → Refines h b e v → Moves (AllMine h) m h b f v) → Begins m event h b f w
 begins_then m h event b e f w x next =
     let heads : List Step = x.control ++ (x.own ++ x.follows) in
     let y : Moves (AllMine h) m h b f (end w (items m false heads)) = next (end w (items m false heads)) x.refines in
     let q : heads ++ y.0 ≡ x.control ++ (x.own ++ (x.follows ++ y.0)) =
-    appended x.control (x.own ++ x.follows) y.0 ∙ ap (λ (z : List Step). x.control ++ z) (appended x.own x.follows y.0) in
+    append_assoc x.control (x.own ++ x.follows) y.0 ∙ ap (λ (z : List Step). x.control ++ z) (append_assoc x.own x.follows y.0) in
     record {
       control = x.control;
       own = x.own;
@@ -126,10 +123,6 @@ frames_more h fs gs b bag e = ap (λ (z : List Sent). stacked h gs z) e ∙ sym 
 pub whole_both : (fs gs : List Outgoing) → AreWhole fs → AreWhole gs → AreWhole (fs ++ gs)
 whole_both [] gs a b = b
 whole_both (f ∷ fs) gs a b = (a.0, whole_both fs gs a.1 b)
-
-pub nothing_more : {A : Type 0} (xs : List A) → xs ++ [] ≡ xs
-nothing_more [] = refl
-nothing_more (x ∷ xs) = ap (λ z. x ∷ z) (nothing_more xs)
 
 -- ---- what links may send again stays sent
 

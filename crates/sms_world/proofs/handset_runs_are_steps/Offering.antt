@@ -21,6 +21,7 @@ use Rattle.sms_relay.specs.RelayGrammar.{data_up, smma_up}
 use Rattle.sms_relay.specs.RelayReading.{up_at}
 use Rattle.sms_relay.proofs.UnitLaws.{up_again}
 use Rattle.sms_tpdu.specs.AddressGrammar.{relay_address}
+use Rattle.sms_centre_spec.proofs.CentreAddresses.{centre_is}
 use Rattle.sms_handset_rows.specs.declared.outbox.notice.Notice.{Notice}
 use Rattle.sms_handset_rows.specs.declared.outbox.out_entry.EntryState.{EntryState as State_of}
 use Rattle.sms_handset_rows.specs.declared.outbox.out_entry.EntryState.TheVariants.{Queued, Sending, Sent as Is_sent, Failed, Unsure}
@@ -42,7 +43,7 @@ use Rattle.sms_handset_rows.proofs.inbox.SoundMarks.{above_at}
 use Rattle.sms_handset_rows.proofs.outbox.SoundOutbox.{held_among, held_entries}
 use Rattle.sms_handset_rows.proofs.outbox.SoundReferences.{next_is_free}
 use Rattle.sms_handset.proofs.SoundActs.{few_references, not_by_entries}
-use Rattle.sms_handset.proofs.SoundTransfers.{IsDue, first_due_is, lapse_settles}
+use Rattle.sms_handset.proofs.SoundTransfers.{IsDue, first_due_is, is_sending_state, lapse_settles}
 use Rattle.sms_world_model.specs.World.{World, Up, Frame, Sent, Carried, Allocation, OutEntry, IsUnfinished}
 use Rattle.sms_world_model.specs.WorldStep.{Offer_up, Offer_memory, Repeat_memory, replaced}
 use Rattle.sms_world_model.specs.References.{IsFreeUp, IsNewHolder}
@@ -55,8 +56,9 @@ use Rattle.sms_world.specs.handset_runs_are_steps.Stages.{AllMine, Moves}
 use Rattle.sms_world.proofs.handset_runs_are_steps.Concluding.{lost_law, notice_put, turned}
 use Rattle.sms_world.proofs.frames_pass_between_sides.Linking.{begin_is, data_framed, next_below}
 use Rattle.sms_world.proofs.handset_runs_are_steps.Moving.{frames_more, links_more, moves_then, stays, whole_both}
-use Rattle.sms_world.proofs.handset_runs_are_steps.Submitting.{centre_is, data_fits, data_read, data_some, submit_fits, submit_is}
-use Rattle.sms_world.proofs.handsets_send_octets.StageOctets.{fired_among}
+use Rattle.sms_world.proofs.handset_runs_are_steps.Submitting.{data_fits, data_read, data_some, submit_fits, submit_is}
+use Rattle.sms_world.proofs.HandsetStages.{fired_among}
+use Rattle.sms_world.proofs.scripts_are_runs.UpGrown.{no_memory}
 
 -- ---- a transaction begins
 
@@ -167,14 +169,11 @@ noticed h b d w n moment a s = record {
 same_memory : (n k : ℕ) → Memory n ≡ Memory k → n ≡ k
 same_memory n k q = cc
 
-memory_entry : (n k : ℕ) → Memory n ≡ EntryHolder k → ⊥
-memory_entry n k q = absurd cc
-
 new_memory : (h : List ℕ) (n : ℕ) (up : List Allocation) → ((g : Allocation) → Among g up → g.handset ≡ h → g.holder ≡ Memory n → ⊥) → IsNewHolder up h (Memory n)
 new_memory h n [] f = tt
 new_memory h n (g ∷ gs) f = ((λ (a, e). f g (inl refl) a e), new_memory h n gs (λ x i. f x (inr i)))
 
-is_open : (p : State_of) → IsUnfinished (state_of p) → is_unfinished p ≡ true
+pub is_open : (p : State_of) → IsUnfinished (state_of p) → is_unfinished p ≡ true
 is_open Queued u = refl
 is_open Sending u = refl
 is_open Is_sent u = absurd u
@@ -199,10 +198,10 @@ out_noticed h next r n moment outbox entries up s = record {
   only = s.only;
   given = λ k o q. let g = s.given k o q in (g.0, inr g.1);
   same = λ k o v q i a e. ⊎_elim
-      (λ (z : v ≡ record { handset = h; reference = r; holder = Memory n; moment = moment; tpdu = [] }). absurd (memory_entry n k (ap (λ (t : Allocation). t.holder) (sym z) ∙ e)))
+      (λ (z : v ≡ record { handset = h; reference = r; holder = Memory n; moment = moment; tpdu = [] }). absurd (no_memory n k (ap (λ (t : Allocation). t.holder) (sym z) ∙ e)))
       (λ (z : Among v up). s.same k o v q z a e) i;
   used = λ k v i a e. ⊎_elim
-      (λ (z : v ≡ record { handset = h; reference = r; holder = Memory n; moment = moment; tpdu = [] }). absurd (memory_entry n k (ap (λ (t : Allocation). t.holder) (sym z) ∙ e)))
+      (λ (z : v ≡ record { handset = h; reference = r; holder = Memory n; moment = moment; tpdu = [] }). absurd (no_memory n k (ap (λ (t : Allocation). t.holder) (sym z) ∙ e)))
       (λ (z : Among v up). s.used k v z a e) i;
 }
 
@@ -280,13 +279,6 @@ module _ (m : ℕ) (h : List ℕ) (b : World) (d : Draft) (w : World) (sound : S
   offer_law = cond_both (is_busy d.links) d (offer_after (first_fired d.moment d.notices) d) (λ (z : Draft). Moves (AllMine h) m h b z w) (λ t. stays m h b d w s) (λ t. after_law t (first_fired d.moment d.notices) refl)
 
 -- ---- after a restart
-
-is_sending_state : (p : State_of) → is_sending p ≡ true → p ≡ Sending
-is_sending_state Queued e = absurd cc
-is_sending_state Sending e = refl
-is_sending_state Is_sent e = absurd cc
-is_sending_state Failed e = absurd cc
-is_sending_state Unsure e = absurd cc
 
 lost_number : (o : OutRow) → (lost o).number ≡ o.number
 lost_number o =

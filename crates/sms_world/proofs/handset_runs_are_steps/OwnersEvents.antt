@@ -2,6 +2,7 @@
 use Rattle.std.proofs.Common.{◌≡◌, ℕ, ◌<◌, arith, List, [], ◌∷◌, true, false, cond, refl, sym, ◌∙◌, ap, subst, inl, inr, ⊎_elim, Option, Some, None, Result, Ok, Err, length, eq-eqb}
 use Rattle.std.specs.Prelude.{◌==◌, ◌&&◌, nat_lt}
 use Rattle.std.proofs.lemmas.Bool.{and_from, and_parts, both_ways, cases_Bool, cond-true, cond-false, cond_both, eqb-true, ltb-true}
+use Rattle.std.proofs.lemmas.Option.{none-some}
 use Rattle.sms_base.specs.Among.{Among}
 use Rattle.sms_rows.specs.table.Table.{row_at, put, without}
 use Rattle.sms_rows.proofs.table.Tables.{among_found, among_put, found_among, found_key, put_among, row_at_without, row_at_without_other}
@@ -48,7 +49,7 @@ use Rattle.sms_world.proofs.handset_runs_are_steps.Ending.{discarded_as, with_en
 use Rattle.sms_world.proofs.handset_runs_are_steps.Moving.{Begins, begins_then, removes}
 use Rattle.sms_world.proofs.handset_runs_are_steps.Offering.{follow_law}
 use Rattle.sms_world.proofs.handset_runs_are_steps.OutboxRows.{SameEntry, digits_same, same_digits}
-use Rattle.sms_world.proofs.Options.{some_is, none_some}
+use Rattle.sms_world.proofs.Options.{some_is}
 
 -- no mark has that number
 abbrev IsApart : ℕ → List DiscardedGroup → Type 0
@@ -102,7 +103,7 @@ out_removed h next n outbox entries up o at s =
     let key : o.number ≡ n = found_key out_key n o outbox at in
     let back : (k : ℕ) (y : OutRow) → row_at out_key k (without out_key n outbox) ≡ Some y → (¬ (n ≡ k)) × (row_at out_key k outbox ≡ Some y) =
     λ k y q.
-    let ne : n ≡ k → ⊥ = λ e. none_some y (sym (row_at_without out_key n outbox) ∙ ap (λ (z : ℕ). row_at out_key z (without out_key n outbox)) e ∙ q) in
+    let ne : n ≡ k → ⊥ = λ e. none-some y (sym (row_at_without out_key n outbox) ∙ ap (λ (z : ℕ). row_at out_key z (without out_key n outbox)) e ∙ q) in
     (ne, sym (row_at_without_other out_key n k outbox ne) ∙ q) in
     record {
       there = λ k y q.

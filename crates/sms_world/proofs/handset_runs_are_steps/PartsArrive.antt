@@ -19,7 +19,7 @@ use Rattle.sms_handset_draft.specs.MemoryAvailable.{flag, has_room}
 use Rattle.sms_handset_draft.specs.Receiving.{accept, member_received, new_part_received, no_room, single_received}
 use Rattle.sms_handset_rows.specs.inbox.SoundInbox.{IsPartOf}
 use Rattle.sms_handset.proofs.SoundDrafts.{SoundAt}
-use Rattle.sms_handset_rows.proofs.inbox.SoundGroups.{Arrived, arrives, ended_entries}
+use Rattle.sms_handset_rows.proofs.inbox.SoundGroups.{Arrived, arrives, ended_entries, first_of, others_ended, own_ended}
 use Rattle.sms_world_model.specs.Place.{Key, place_in}
 use Rattle.sms_tpdu.specs.MoreMessages.{compared}
 use Rattle.sms_world_model.specs.World.{World, Accepted, Joined, IsLast}
@@ -32,7 +32,7 @@ use Rattle.sms_world.specs.handset_runs_are_steps.RefinesInbox.{Matches, Refines
 use Rattle.sms_world.specs.handset_runs_are_steps.Refinement.{Refines}
 use Rattle.sms_world.specs.handset_runs_are_steps.Stages.{ReadsOne}
 use Rattle.sms_world.proofs.handset_runs_are_steps.Putting.{joined_here, joined_push}
-use Rattle.sms_world.proofs.handset_runs_are_steps.Ending.{with_entries, ended_as, first_of, others_ended, own_ended, single_members}
+use Rattle.sms_world.proofs.handset_runs_are_steps.Ending.{with_entries, ended_as, single_members}
 use Rattle.sms_world.proofs.handset_runs_are_steps.Placing.{text_seen}
 use Rattle.sms_world.proofs.handset_runs_are_steps.Grouping.{Segment, pair, by_group, closed, entered, groups_preserved, here, joins_alike, matches_more, matches_none, numbers_alike, parts_more, passing, places_more, texts_more}
 use Rattle.sms_world.proofs.handset_runs_are_steps.Taking.{AwaitsAnswer, refuses, taken, takes, takes_and_joins, used_more}

@@ -1,5 +1,5 @@
 -- A handset's course is steps of the world, episode by episode.
-use Rattle.std.proofs.Common.{◌≡◌, ℕ, ◌≤◌, ◌<◌, arith, List, [], ◌∷◌, Bool, true, false, refl, sym, ◌∙◌, ap, subst, ⊎_elim, Ok}
+use Rattle.std.proofs.Common.{◌≡◌, ℕ, ◌≤◌, arith, List, [], ◌∷◌, Bool, true, false, refl, sym, ◌∙◌, ap, subst, ⊎_elim, Ok}
 use Rattle.sms_handset.specs.declared.event.HandsetEvent.{HandsetEvent}
 use Rattle.sms_handset_draft.specs.declared.rows.Rows.{Rows}
 use Rattle.sms_handset_draft.specs.declared.setup.Setup.{Setup}
@@ -9,6 +9,7 @@ use Rattle.sms_handset_draft.specs.Outcome.{Outcome}
 use Rattle.sms_handset.specs.SoundCore.{IsSoundCore}
 use Rattle.sms_handset.specs.SoundRows.{IsSetup, IsSound}
 use Rattle.sms_handset_draft.specs.FirstRows.{first_rows}
+use Rattle.sms_handset.proofs.SoundBeginnings.{first_sound, other_setup}
 use Rattle.sms_handset.proofs.SoundEvents.{event_sound}
 use Rattle.sms_world_model.specs.WorldStep.{end, Step}
 use Rattle.sms_world_model.specs.ScriptRun.{items}
@@ -26,46 +27,6 @@ use Rattle.sms_world.proofs.handset_runs_are_steps.Restarts.{start_seen, stop_ev
 
 adopts_sound : (event : HandsetEvent) (s : HandsetOf) (plan : PlanOf) → IsPlanned plan s event → IsSoundCore s.core → IsSoundCore (adopted plan.outcome s.core)
 adopts_sound event s plan p sound = event_sound event (Ok plan) s p.frame p.tick p.write p.delete p.discard sound
-
-other_setup : (rows : Rows) (setup : Setup) → IsSound rows → IsSetup setup → IsSound (record rows { setup = setup })
-other_setup rows setup s t = record {
-  setup = t;
-  entry_keys = s.entry_keys;
-  last_keys = s.last_keys;
-  out_keys = s.out_keys;
-  mark_keys = s.mark_keys;
-  counted = s.counted;
-  few_stored = s.few_stored;
-  entries = s.entries;
-  groups = s.groups;
-  last = s.last;
-  outbox = s.outbox;
-  few_entries = s.few_entries;
-  message_references = s.message_references;
-  references = s.references;
-  marks = s.marks;
-  few_marks = s.few_marks;
-}
-
-first_sound : (setup : Setup) → IsSetup setup → IsSound (first_rows setup)
-first_sound setup t = record {
-  setup = t;
-  entry_keys = tt;
-  last_keys = tt;
-  out_keys = tt;
-  mark_keys = tt;
-  counted = (let l : 0 < 1 = omega arith in l);
-  few_stored = (let l : 0 ≤ 255 = omega arith in l);
-  entries = tt;
-  groups = tt;
-  last = tt;
-  outbox = tt;
-  few_entries = (let l : 0 ≤ 20 = omega arith in l);
-  message_references = tt;
-  references = tt;
-  marks = tt;
-  few_marks = (let l : 0 ≤ 64 = omega arith in l);
-}
 
 pub recovered_sound : (rows : Rows) → IsSound rows → IsSoundCore (recovered rows)
 recovered_sound rows s = record { rows = s; recovered = λ e. refl; under_way = tt; few_notices = (let l : 0 ≤ 200 = omega arith in l) }

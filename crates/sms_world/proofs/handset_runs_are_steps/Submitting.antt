@@ -2,7 +2,6 @@
 use Rattle.std.proofs.Common.{◌≡◌, ℕ, suc, ◌+◌, ◌*◌, ◌/◌, ◌%◌, ◌<◌, ◌≤◌, arith, List, [], ◌∷◌, ◌++◌, Bool, true, not, eqb, refl, sym, ◌∙◌, ap, subst, Result, Ok, length, length-append}
 use Rattle.std.specs.Prelude.{◌==◌}
 use Rattle.std.proofs.lemmas.Bool.{cond_both}
-use Rattle.sms_base.specs.Address.{IsAddress}
 use Rattle.sms_base.specs.declared.address.Address.{Address}
 use Rattle.sms_base.specs.Reading.{only_if, octet_in, end_in}
 use Rattle.sms_base.proofs.Steps.{bind_ok, passes, ok_is}
@@ -11,7 +10,6 @@ use Rattle.sms_relay.specs.declared.frame.Rp.TheVariants.{DataUnit}
 use Rattle.sms_relay.specs.RelayGrammar.{IsCentre, data_up}
 use Rattle.sms_relay.specs.RelayReading.{up_at}
 use Rattle.sms_relay.proofs.UnitLaws.{up_again}
-use Rattle.sms_tpdu.specs.AddressGrammar.{relay_address}
 use Rattle.sms_tpdu.specs.AddressReading.{address_in}
 use Rattle.sms_tpdu.specs.Bits.{bit}
 use Rattle.sms_tpdu.specs.declared.fault.TpduFault.{TpduFault}
@@ -19,24 +17,14 @@ use Rattle.sms_tpdu.specs.declared.fault.TpduFault.TheVariants.{Truncated, Trail
 use Rattle.sms_tpdu.specs.declared.submit.Submit.{Submit}
 use Rattle.sms_tpdu.specs.declared.user_data.UserData.{UserData}
 use Rattle.sms_tpdu.specs.declared.validity_period.ValidityPeriod.{ValidityPeriod}
-use Rattle.sms_tpdu.specs.TpduReading.{data_up_at, submit_at, submit_rest_in, up_at as tpdu_up_at, validity_in}
+use Rattle.sms_tpdu.specs.TpduReading.{submit_at, submit_rest_in, validity_in}
 use Rattle.sms_tpdu.specs.UserDataReading.{user_data_in}
-use Rattle.sms_tpdu.proofs.NameValues.{relay_short}
 use Rattle.sms_handset_rows.specs.declared.outbox.out_entry.OutEntry.{OutEntry as OutRow}
 use Rattle.sms_handset_rows.specs.outbox.Offers.{rejecting_duplicates, submit_of}
 use Rattle.sms_handset_rows.specs.outbox.SoundOutbox.{IsSubmitted}
-use Rattle.sms_handset_rows.proofs.outbox.CentreAddresses.{relay_some}
-use Rattle.std.specs.declared.alloc.AllocError.{AllocError}
-use Rattle.sms_tpdu.specs.declared.carrier.Carrier.TheVariants.{InData}
-use Rattle.sms_tpdu.specs.declared.up.Up.TheVariants.{Submit as Submit_up}
+use Rattle.sms_handset_rows.proofs.outbox.OutboxDecided.{submit_up}
 use Rattle.sms_world_model.specs.Submission.{IsSubmitTo}
 use Rattle.sms_world.specs.headline.SeenWorld.{entry_seen, user_data_in as data_in}
-
-pub centre_is : (a : Address) → IsAddress a → IsCentre (relay_address a)
-centre_is a i =
-    let r : Result (List ℕ) AllocError = Ok (relay_address a) in
-    let few : length (relay_address a) < 12 = relay_short r a i refl in
-    (relay_some a i, omega (arith, few))
 
 -- RP-DATA fits a frame
 pub data_fits : (r : ℕ) (centre unit : List ℕ) → length centre ≤ 11 → length unit ≤ 200 → length (data_up r centre unit) ≤ 248
@@ -122,11 +110,6 @@ rejecting_fits (first ∷ rest) l = l
 pub submit_fits : (o : OutRow) → length o.tpdu ≤ 200 → length (submit_of o) ≤ 200
 submit_fits o l = cond_both o.rejects_duplicates (rejecting_duplicates o.tpdu) o.tpdu (λ (z : List ℕ). length z ≤ 200) (λ t. rejecting_fits o.tpdu l) (λ t. l)
 
--- what is read as a SUBMIT is a TPDU that goes up
-up_is : (t : List ℕ) (s : Submit) → submit_at t ≡ Ok s → tpdu_up_at InData t ≡ Ok (Submit_up s)
-unfolding tpdu_up_at data_up_at
-up_is t s e = rw e refl
-
 pub submit_is : (h : List ℕ) (o : OutRow) → IsSubmitted o → IsSubmitTo (entry_seen h o).destination (entry_seen h o).user_data (submit_of o)
 submit_is h o i =
     let s : Submit = i.0 in
@@ -134,8 +117,8 @@ submit_is h o i =
     cond_both o.rejects_duplicates (rejecting_duplicates o.tpdu) o.tpdu (λ (z : List ℕ). IsSubmitTo (entry_seen h o).destination (entry_seen h o).user_data z)
     (λ t. record {
       submit = record s { reject_duplicates = true };
-      reads = up_is (rejecting_duplicates o.tpdu) (record s { reject_duplicates = true }) (submit_rejects o.tpdu s i.1.0);
+      reads = submit_up (rejecting_duplicates o.tpdu) (record s { reject_duplicates = true }) (submit_rejects o.tpdu s i.1.0);
       destination_is = i.1.1;
       user_data_is = same;
     })
-    (λ t. record { submit = s; reads = up_is o.tpdu s i.1.0; destination_is = i.1.1; user_data_is = same })
+    (λ t. record { submit = s; reads = submit_up o.tpdu s i.1.0; destination_is = i.1.1; user_data_is = same })

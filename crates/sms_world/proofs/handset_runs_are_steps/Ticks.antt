@@ -1,6 +1,7 @@
 -- A tick of a handset: what its links send again, what has failed, and what follows.
 use Rattle.std.proofs.Common.{◌≡◌, ℕ, ◌+◌, max, List, [], ◌∷◌, ◌++◌, refl, sym, ◌∙◌, ap, subst, inr, Option, Some, None, length}
 use Rattle.std.specs.Option.{option_map}
+use Rattle.std.proofs.lemmas.List.{append-nil, append_assoc}
 use Rattle.sms_control.specs.declared.link_state.Answer.{Answer}
 use Rattle.sms_control.specs.declared.link_state.Begun.{Begun}
 use Rattle.sms_control.specs.declared.link_state.LinkState.{LinkState}
@@ -32,7 +33,7 @@ use Rattle.sms_world.specs.handset_runs_are_steps.Refinement.{Refines}
 use Rattle.sms_world.specs.handset_runs_are_steps.Stages.{AllMine, Happens, Moves}
 use Rattle.sms_world.proofs.handset_runs_are_steps.Concluding.{failed_law}
 use Rattle.sms_world.proofs.handset_runs_are_steps.Hearing.{again_carries, hears, hears_again}
-use Rattle.sms_world.proofs.handset_runs_are_steps.Moving.{appended, moves_then, nothing_more, stays, ticks}
+use Rattle.sms_world.proofs.handset_runs_are_steps.Moving.{moves_then, stays, ticks}
 use Rattle.sms_world.proofs.handset_runs_are_steps.Offering.{follow_law}
 
 -- ---- frames that were sent are sent again
@@ -55,7 +56,7 @@ all_both h bag u a (f ∷ fs) gs k l = (k.0, all_both h bag u a fs gs k.1 l)
 again_list : (m : ℕ) (h : List ℕ) (b : World) (fs : List (List ℕ)) (d : Draft) (w : World) → AllAgain h w.bag d.under_way d.answered fs → Refines h b d w
     → Moves (AllMine h) m h b (record d { frames = d.frames ++ from_links d.under_way d.answered fs }) w
 again_list m h b [] d w k s =
-    ([], (tt, tt, subst (λ (z : List Outgoing). Refines h b (record d { frames = z }) w) (sym (nothing_more d.frames)) s))
+    ([], (tt, tt, subst (λ (z : List Outgoing). Refines h b (record d { frames = z }) w) (sym (append-nil d.frames)) s))
 again_list m h b (f ∷ fs) d w k s =
     let flag = k.0.0 in
     let c = k.0.1 in
@@ -67,7 +68,7 @@ again_list m h b (f ∷ fs) d w k s =
     let v : World = record w { bag = new ∷ w.bag } in
     let y = again_list m h b fs e v (all_more h w.bag new d.under_way d.answered fs k.1) (hears_again h b d w flag f c sent s) in
     let q : (d.frames ++ x ∷ []) ++ from_links d.under_way d.answered fs ≡ d.frames ++ from_links d.under_way d.answered (f ∷ fs) =
-    appended d.frames (x ∷ []) (from_links d.under_way d.answered fs)
+    append_assoc d.frames (x ∷ []) (from_links d.under_way d.answered fs)
     ∙ ap (λ (z : Option Carries). d.frames ++ of_links f z ∷ from_links d.under_way d.answered fs) (sym (again_carries h w.bag flag f c d.under_way d.answered sent ∙ k.0.2.1)) in
     let z : Moves (AllMine h) m h b (record d { frames = (d.frames ++ x ∷ []) ++ from_links d.under_way d.answered fs }) w =
     (Again u ∷ y.0, ((tt, refl, y.1.0), (sent.2.1, y.1.1), y.1.2)) in

@@ -3,6 +3,7 @@ use Rattle.std.proofs.Common.{◌≡◌, ℕ, ◌+◌, ◌<◌, ◌≤◌, arith
 use Rattle.std.specs.Prelude.{nat_le, nat_lt}
 use Rattle.std.specs.List.{AllByRecursion}
 use Rattle.std.proofs.lemmas.Bool.{cases_eq, cond_both, leb-true}
+use Rattle.std.proofs.lemmas.List.{append-nil}
 use Rattle.sms_base.specs.Address.{IsAddress, address_of}
 use Rattle.sms_base.specs.declared.address.Address.{Address}
 use Rattle.sms_base.specs.declared.address_error.AddressError.{AddressError}
@@ -28,10 +29,11 @@ use Rattle.sms_handset.specs.OwnersActs.{count_split, fits_outbox, write, write_
 use Rattle.sms_handset_rows.specs.outbox.Submits.{written_entry}
 use Rattle.sms_handset_rows.specs.outbox.References.{held_by_entries, held_message_references, held_references, next_free}
 use Rattle.sms_handset.specs.SoundCore.{IsSoundCore}
-use Rattle.sms_handset.proofs.SoundActs.{count_split_outbox, count_split_sound, few_references, first_test, not_by_entries, write_part_sound, write_sound}
+use Rattle.sms_handset.proofs.SoundActs.{count_split_outbox, count_split_sound, few_references, not_by_entries, write_part_sound, write_sound}
 use Rattle.sms_handset.proofs.SoundDrafts.{SoundAt, sound_from}
 use Rattle.sms_handset_rows.proofs.outbox.SoundReferences.{next_is_free}
 use Rattle.sms_handset_rows.proofs.outbox.SoundWriting.{IsWritable, split_is_writable}
+use Rattle.sms_handset_rows.proofs.inbox.SoundRoom.{tested}
 use Rattle.sms_world_model.specs.World.{World, Allocation, OutEntry}
 use Rattle.sms_world_model.specs.WorldStep.{Step, Write, Run, end}
 use Rattle.sms_world_model.specs.References.{IsNewHolder}
@@ -42,18 +44,16 @@ use Rattle.sms_world.specs.handset_runs_are_steps.RefinesOutbox.{RefinesNotices,
 use Rattle.sms_world.specs.headline.SeenWorld.{entry_seen}
 use Rattle.sms_world.specs.handset_runs_are_steps.Refinement.{Refines}
 use Rattle.sms_world.specs.handset_runs_are_steps.Stages.{Happens, Moves}
-use Rattle.sms_world.proofs.handset_runs_are_steps.Moving.{Begins, begins_then, nothing_more, writes}
+use Rattle.sms_world.proofs.handset_runs_are_steps.Moving.{Begins, begins_then, writes}
 use Rattle.sms_world.proofs.handset_runs_are_steps.Offering.{follow_law, free_up}
 use Rattle.sms_world.proofs.handset_runs_are_steps.OwnersEvents.{HappensIfDone, acts_then, both_done, done_sound}
 use Rattle.sms_world.proofs.Options.{some_is}
+use Rattle.sms_world_model.proofs.Upward.{entry_number}
 
 -- ---- one more entry
 
 some_none : (o : OutRow) → Some o ≡ None → ⊥
 some_none o q = absurd cc
-
-same_entry : (n k : ℕ) → EntryHolder n ≡ EntryHolder k → n ≡ k
-same_entry n k q = cc
 
 entry_memory : (n k : ℕ) → EntryHolder n ≡ Memory k → ⊥
 entry_memory n k q = absurd cc
@@ -94,14 +94,14 @@ module _ (h : List ℕ) (m : ℕ) (outbox : List OutRow) (entries : List OutEntr
         (cases_eq o.number k);
     same = λ k x v q i a e. ⊎_elim
         (λ (z : v ≡ record { handset = h; reference = o.reference; holder = EntryHolder o.number; moment = m; tpdu = [] }).
-        let g : o.number ≡ k = same_entry o.number k (ap (λ (t : Allocation). t.holder) (sym z) ∙ e) in
+        let g : o.number ≡ k = entry_number o.number k (ap (λ (t : Allocation). t.holder) (sym z) ∙ e) in
         ap (λ (t : Allocation). t.reference) z ∙ ap (λ (t : OutRow). t.reference) (is_new k x q g))
         (λ (z : Among v up).
         let l : k < o.number = s.used k v z a e in
         s.same k x v (sym (there k (λ g. absurd (omega arith))) ∙ q) z a e) i;
     used = λ k v i a e. ⊎_elim
         (λ (z : v ≡ record { handset = h; reference = o.reference; holder = EntryHolder o.number; moment = m; tpdu = [] }).
-        let g : o.number ≡ k = same_entry o.number k (ap (λ (t : Allocation). t.holder) (sym z) ∙ e) in omega arith)
+        let g : o.number ≡ k = entry_number o.number k (ap (λ (t : Allocation). t.holder) (sym z) ∙ e) in omega arith)
         (λ (z : Among v up). let l : k < o.number = s.used k v z a e in omega arith) i;
   }
 
@@ -193,7 +193,7 @@ module _ (m : ℕ) (h : List ℕ) (b : World) (d : Draft) (w : World) (sound : S
       let is_long = nat_lt 1 (length ps) in
       cond_both (fits_outbox (length ps) d) (Ok (written to report ps d)) (Err OutboxFull) (λ (z : Result Draft Refusal). IfDone (λ (y : Draft). Moves (AllWritten h) m h b y w) z)
       (λ t.
-      let fits = leb-true (length d.rows.outbox + length ps) 20 (first_test (nat_le (length d.rows.outbox + length ps) 20) (nat_le (d.rows.counters.entry + length ps) 4294967295) t) in
+      let fits = leb-true (length d.rows.outbox + length ps) 20 (tested (nat_le (length d.rows.outbox + length ps) 20) (nat_le (d.rows.counters.entry + length ps) 4294967295) t) in
       let room : length (count_split is_long d).rows.outbox + length ps ≤ 20 = subst (λ (os : List OutRow). length os + length ps ≤ 20) (sym (count_split_outbox is_long d)) fits in
       parts_law m h b to report is_long (address_found 1 1 text to q).valid ps (count_split is_long d) w i room (count_split_sound is_long d sound) (split_seen h b is_long d w s))
       (λ t. tt)
@@ -223,6 +223,6 @@ write_event m h text to report c w sound s =
       is_own = all_write h steps a;
       own_mine = all_own h steps a;
       is_mine = tt;
-      runs = subst (λ (x : List Step). Run w (items m false x)) (sym (nothing_more steps)) r;
-      refines = subst (λ (x : List Step). Refines h w z (end w (items m false x))) (sym (nothing_more steps)) k;
+      runs = subst (λ (x : List Step). Run w (items m false x)) (sym (append-nil steps)) r;
+      refines = subst (λ (x : List Step). Refines h w z (end w (items m false x))) (sym (append-nil steps)) k;
     }

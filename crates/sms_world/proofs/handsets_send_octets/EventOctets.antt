@@ -15,7 +15,7 @@ use Rattle.sms_relay.specs.RelayReading.{down_at}
 use Rattle.sms_relay.proofs.FieldLaws.{IsBytes-octets}
 use Rattle.sms_relay.proofs.UnitLaws.{down_takes}
 use Rattle.sms_link.specs.LinkTurn.{Turn, fired, taken}
-use Rattle.sms_handset_draft.specs.Draft.{Core, Draft, core_of, draft_of, link_of, recovered, with_turn}
+use Rattle.sms_handset_draft.specs.Draft.{Core, Draft, core_of, draft_of, link_of, recovered}
 use Rattle.sms_handset_draft.specs.FirstRows.{first_rows}
 use Rattle.sms_handset_draft.specs.FramesAndTicks.{at_moment, frame_heard, timers_fired}
 use Rattle.sms_relay.specs.Rejecting.{reference_octet}
@@ -29,7 +29,8 @@ use Rattle.sms_world.specs.handsets_send_octets.Arriving.{BringsInOctets, Arrive
 use Rattle.sms_world.specs.handsets_send_octets.Keeping.{CoreKeepsOctets}
 use Rattle.sms_world.specs.handsets_send_octets.OctetLaws.{AllSendOctets, AreInOctets, ArrivalLaw, RunLaw, Episode, EventLaw, IfDone, RestartLaw, Restart, SendsOctets, StartLaw, Stopped, Whole, again, happened}
 use Rattle.sms_world.proofs.handsets_send_octets.LinkOctets.{fired_fits, taken_fits}
-use Rattle.sms_world.proofs.handsets_send_octets.StageOctets.{IfDoneOctets, OctetsAt, deletes, discards, follows, goes_up, times_out, turn_fits, writes}
+use Rattle.sms_world.proofs.handsets_send_octets.StageOctets.{IfDoneOctets, OctetsAt, deletes, discards, fires, follows, heard, turn_fits, writes}
+use Rattle.sms_world.proofs.HandsetStages.{acted_keeps}
 
 -- ---- one event
 
@@ -37,18 +38,17 @@ comes : (octets : List ℕ) (tag : Holder) (c : Core) → CoreKeepsOctets c → 
 comes octets tag c k o =
     let turn : Turn = taken octets (link_of (draft_of c)) in
     let t = taken_fits octets (link_of (draft_of c)) o k.link in
-    follows (frame_heard tag turn (draft_of c)) (goes_up tag turn.out.up (with_turn turn (draft_of c)) t.up (turn_fits turn (draft_of c) t (k, tt)))
+    follows (frame_heard tag turn (draft_of c)) (heard tag turn (draft_of c) t.up (turn_fits turn (draft_of c) t (k, tt)))
 
 ticks : (now : ℕ) (c : Core) → CoreKeepsOctets c → OctetsAt (ticked now c)
 ticks now c k =
     let d : Draft = at_moment now (draft_of c) in
     let turn : Turn = fired d.moment (link_of d) in
     let t = fired_fits d.moment (link_of d) k.link in
-    follows (timers_fired turn d) (times_out turn.out.up (with_turn turn d) (turn_fits turn d t (k, tt)))
+    follows (timers_fired turn d) (fires turn d (turn_fits turn d t (k, tt)))
 
 acts : (r : Result Draft Refusal) → IfDoneOctets r → IfDoneOctets (acted r)
-acts (Ok d) s = follows d s
-acts (Err refusal) s = tt
+acts r s = acted_keeps OctetsAt OctetsAt follows r s
 
 event_keeps : (event : HandsetEvent) (c : Core) → CoreKeepsOctets c → EventInOctets event → IfDoneOctets (happened event c)
 event_keeps (Frame octets tag) c k e = comes octets (tag_of tag) c k e

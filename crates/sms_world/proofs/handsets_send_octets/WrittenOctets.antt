@@ -1,11 +1,12 @@
 -- The units that a handset writes are octets.
-use Rattle.std.proofs.Common.{◌≡◌, ℕ, zero, suc, ◌+◌, ◌-◌, ◌*◌, ◌/◌, ◌%◌, ◌<◌, ◌≤◌, arith, List, [], ◌∷◌, ◌++◌, length, Bool, true, false, refl, sym, ap, subst, Result, Ok, Err, flat_map}
+use Rattle.std.proofs.Common.{◌≡◌, ℕ, zero, suc, ◌+◌, ◌-◌, ◌*◌, ◌/◌, ◌%◌, ◌<◌, ◌≤◌, arith, List, [], ◌∷◌, length, Bool, true, false, refl, sym, ap, subst, Result, Ok, Err, flat_map}
 use Rattle.std.specs.Prelude.{nat_lt}
 use Rattle.std.specs.List.{AllByRecursion}
 use Rattle.std.specs.Str.{all_scalars}
 use Rattle.std.proofs.lemmas.Bool.{and_parts, cond_both, ltb-true}
 use Rattle.std.proofs.lemmas.Bool.Decides.{nat_tests}
 use Rattle.std.proofs.lemmas.List.Elements.{recursion_from_All}
+use Rattle.sms_base.proofs.OctetLaws.{octets_before, octets_behind}
 use Rattle.sms_base.specs.Address.{IsAddress}
 use Rattle.sms_base.specs.AddressKind.{is_name, type_number}
 use Rattle.sms_base.specs.Reading.{AreOctets}
@@ -29,17 +30,13 @@ use Rattle.sms_concat.proofs.Numbering.{cut, found_is, length_numbered, lone, un
 use Rattle.sms_tpdu.specs.AddressGrammar.{AreDigits, address_field, address_length, address_value, name_septets, relay_address, semi_octet, semi_octets, type_of_address}
 use Rattle.sms_tpdu.specs.Bits.{bit_value}
 use Rattle.sms_tpdu.specs.TpduGrammar.{submit_head}
-use Rattle.sms_tpdu.proofs.Addresses.{character_back, suffix_fits}
+use Rattle.sms_tpdu.proofs.Addresses.{character_back}
 use Rattle.sms_tpdu.proofs.FaultSteps.{joined_fits}
 use Rattle.sms_tpdu.proofs.NameValues.{name_few}
 use Rattle.sms_handset_rows.specs.outbox.Submits.{packed_behind, submit_for, submit_octets}
 use lib.Utf8.{scalar, scalars}
 
 -- ---- lists
-
-pub front_fits : (xs ys : List ℕ) → AreOctets (xs ++ ys) → AreOctets xs
-front_fits [] ys h = tt
-front_fits (x ∷ xs) ys h = (h.0, front_fits xs ys h.1)
 
 -- digits in base 256 are octets
 digits_fit : (n v : ℕ) → AreOctets (digits_in 256 n v)
@@ -161,8 +158,8 @@ numbered_fit content reference total number (piece ∷ pieces) d r t n h =
     let high : reference / 256 < 256 = omega (arith, r) in
     let low : reference % 256 < 256 = omega arith in
     let own : number < 256 = omega (arith, t, n) in (
-      record { units = front_fits piece (joined pieces) h; dcs = d; header = (size, (kind, (long, (high, (low, (t, (own, tt))))))) },
-      numbered_fit content reference total (number + 1) pieces d r t (let l : number + 1 + length pieces ≤ total + 1 = omega (arith, n) in l) (suffix_fits piece (joined pieces) h),
+      record { units = octets_before piece (joined pieces) h; dcs = d; header = (size, (kind, (long, (high, (low, (t, (own, tt))))))) },
+      numbered_fit content reference total (number + 1) pieces d r t (let l : number + 1 + length pieces ≤ total + 1 = omega (arith, n) in l) (octets_behind piece (joined pieces) h),
     )
 
 pub split_fits : (content : Content) (reference : ℕ) (parts : List Part) → split_of content reference ≡ Ok parts → ContentInOctets content → reference < 65536 → AllByRecursion (λ (p : Part). PartInOctets p) parts

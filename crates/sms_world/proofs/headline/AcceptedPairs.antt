@@ -3,6 +3,7 @@ use Rattle.std.proofs.Common.{◌≡◌, ℕ, List, [], ◌∷◌, ◌++◌, tru
 use Rattle.std.specs.Str.{bytes_eq}
 use Rattle.std.proofs.lemmas.Bool.{both_ways, cases_Bool, cond-false, cond-true}
 use Rattle.std.proofs.lemmas.Slice.Eq.{bytes_eq-Decides}
+use Rattle.std.proofs.lemmas.List.{append-nil}
 use Rattle.sms_base.specs.Among.{Among}
 use Rattle.sms_centre_spec.specs.SoundCore.{AreDifferent}
 use Rattle.sms_play.specs.PlayState.{PlayState, Party, numbers_of}
@@ -26,10 +27,6 @@ key_over h k (x ∷ xs) ys = ⊎_elim
     (λ (t : is_for h k x ≡ false).
     of_key_out h k x (xs ++ ys) t ∙ key_over h k xs ys ∙ ap (λ (z : List Accepted). z ++ of_key h k ys) (sym (of_key_out h k x xs t)))
     (cases_Bool (is_for h k x))
-
-nothing_more : (xs : List Accepted) → xs ++ [] ≡ xs
-nothing_more [] = refl
-nothing_more (x ∷ xs) = ap (λ (z : List Accepted). x ∷ z) (nothing_more xs)
 
 -- ---- of one handset
 
@@ -97,7 +94,7 @@ module _ (h : List ℕ) (k : Key) (accepted : List Accepted) where
       (ap (λ (z : List Accepted). of_key h k z) (sym (seen p (inl refl))) ∙ subst (λ (g : List ℕ). of_key h k (accepted_at g accepted) ≡ of_key h k accepted) e (own_key h k accepted))
       ∙ ap (λ (z : List Accepted). of_key h k accepted ++ z)
       (of_others ps (λ q j. seen q (inr j)) (λ j. apart.0 (subst (λ (g : List ℕ). Among g (numbers_of ps)) e j)))
-      ∙ nothing_more (of_key h k accepted))
+      ∙ append-nil (of_key h k accepted))
       (λ (j : Among h (numbers_of ps)).
       key_over h k (pairs_of [] p.accepted) (all_pairs ps)
       ∙ ap (λ (z : List Accepted). z ++ of_key h k (all_pairs ps))

@@ -6,26 +6,29 @@ use Rattle.std.proofs.lemmas.Bool.{and_parts}
 use Rattle.std.proofs.lemmas.Slice.Eq.{bytes_eq-Decides}
 use Rattle.sms_base.specs.Among.{Among}
 use Rattle.sms_base.specs.declared.carried.Kind.TheVariants.{Ack, Data, Error}
-use Rattle.sms_base.specs.declared.holder.Holder.TheVariants.{Entry, Memory}
-use Rattle.sms_tpdu.specs.TpduReading.{data_up_at, submit_at, up_at}
+use Rattle.sms_base.specs.declared.holder.Holder.TheVariants.{Entry}
+use Rattle.sms_tpdu.specs.TpduReading.{up_at}
 use Rattle.sms_tpdu.specs.declared.carrier.Carrier.TheVariants.{InData}
 use Rattle.sms_tpdu.specs.declared.fault.TpduFault.TheVariants.{Truncated}
 use Rattle.sms_tpdu.specs.declared.up.Up.TheVariants.{Submit as SubmitUp}
 use Rattle.sms_world_model.specs.Premises.{IsTimely, ReadsTimely, allocations}
 use Rattle.sms_world_model.specs.References.{Ticket}
-use Rattle.sms_world_model.specs.ScriptRun.{After, AllControl, AllMayFollow, AllWrite, Asked, Before, Belongs, Cancelled, Event, Follows, Handed, IsExpiry, IsInOrder, IsOwn, MayFollow, Reads, Removed, Restarted, Submitted, Tick_centre, Tick_handset, Went, Whole, Wrote, is_stopped, items}
+use Rattle.sms_world_model.specs.ScriptRun.{After, AllControl, AllMayFollow, AllWrite, Asked, Before, Belongs, Cancelled, Event, Follows, Handed, IsExpiry, IsInOrder, IsOwn, Reads, Removed, Restarted, Submitted, Tick_centre, Tick_handset, Went, Whole, Wrote, is_stopped, items}
 use Rattle.sms_world_model.specs.Submission.{IsSubmitTo, Submission}
-use Rattle.sms_world_model.specs.World.{Allocation, Bare, Carried, Down, EntryState, Failed, Frame, IsLatest, IsRecorded, Line, OutEntry, Pending, Queued, Sending, Sent, Sent_up, State, Unsure, Up, World, answer, is_same_handset, next_number}
+use Rattle.sms_world_model.specs.World.{Allocation, Bare, Carried, Down, EntryState, Frame, IsLatest, IsRecorded, Line, OutEntry, Pending, Queued, Sending, Sent, Sent_up, State, Unsure, Up, World, answer, is_same_handset, next_number}
 use Rattle.sms_world_model.specs.WorldStep.{Acknowledged, Again, Can, Control, Delete, Expire, Item, Lapse, Memory_free, Offer, Offer_memory, Offer_up, Receive, Refuse, Refused, Reject, Remove, Repeat_memory, Run, Settle, Step, Submit, Take, Take_again, Write, after, after_item, data_of, end, is_entry, memory_of, removed, replaced}
 use Rattle.sms_world_model.proofs.Runs.{bag_grows, latest_same, messages_stay, table_grows}
 use Rattle.sms_world_model.proofs.Tables.{entered_here, new_not_found}
-use Rattle.sms_world_model.proofs.Upward.{IsUpward, removed_from, up_item}
+use Rattle.sms_world_model.proofs.Upward.{IsUpward, removed_from, up_item, empty_submit, not_sent_3}
 use Rattle.sms_world.proofs.headline.AnswersTimely.{HandsAnswers}
-use Rattle.sms_world.proofs.headline.FaithfulRuns.{HandsDown, end_parts, run_parts, stays_timely}
+use Rattle.sms_world.proofs.headline.FaithfulRuns.{HandsDown, end_parts, run_parts}
 use Rattle.sms_world.proofs.headline.UpwardRuns.{control_leaves, reads_timely}
 use Rattle.sms_world.proofs.scripts_are_runs.Growing.{in_front, in_rest}
 use Rattle.sms_world.proofs.headline.DecidedTimely.{same_frame}
 use Rattle.sms_world.proofs.headline.FreshRuns.{HandsOne}
+use Rattle.sms_world.proofs.scripts_are_runs.UpGrown.{no_memory}
+use Rattle.sms_world_model.proofs.Scripts.{stays_timely}
+use Rattle.sms_world_model.proofs.Followers.{said_of_followers}
 
 -- ---- plain facts
 
@@ -44,9 +47,6 @@ error_data e = absurd cc
 down_up : Down ≡ Up → ⊥
 down_up e = absurd cc
 
-memory_entry : (k n : ℕ) → Memory k ≡ Entry n → ⊥
-memory_entry k n e = absurd cc
-
 queued_sent : Queued ≡ Sent_up → ⊥
 queued_sent e = absurd cc
 
@@ -56,27 +56,12 @@ sending_sent e = absurd cc
 unsure_sent : Unsure ≡ Sent_up → ⊥
 unsure_sent e = absurd cc
 
-failed_sent : Failed ≡ Sent_up → ⊥
-failed_sent e = absurd cc
-
 lapsed_sent : (st : EntryState) → (st ≡ Queued) ⊎ (st ≡ Unsure) → st ≡ Sent_up → ⊥
 lapsed_sent st c e = ⊎_elim (λ (d : st ≡ Queued). queued_sent (sym d ∙ e)) (λ (d : st ≡ Unsure). unsure_sent (sym d ∙ e)) c
 
-refused_sent : (st : EntryState) → (st ≡ Queued) ⊎ (st ≡ Failed) ⊎ (st ≡ Unsure) → st ≡ Sent_up → ⊥
-refused_sent st c e =
-    ⊎_elim
-    (λ (d : st ≡ Queued). queued_sent (sym d ∙ e))
-    (λ (d : (st ≡ Failed) ⊎ (st ≡ Unsure)). ⊎_elim (λ (f : st ≡ Failed). failed_sent (sym f ∙ e)) (λ (f : st ≡ Unsure). unsure_sent (sym f ∙ e)) d)
-    c
-
--- no SUBMIT is empty
-no_submit : up_at InData [] ≡ Err Truncated
-unfolding up_at data_up_at submit_at
-no_submit = refl
-
 submit_is_something : (e : OutEntry) (tpdu : List ℕ) → IsSubmitTo e.destination e.user_data tpdu → tpdu ≡ [] → ⊥
 submit_is_something e tpdu x none =
-    let bad : Ok (SubmitUp x.submit) ≡ Err Truncated = sym x.reads ∙ ap (λ (o : List ℕ). up_at InData o) none ∙ no_submit in absurd cc
+    let bad : Ok (SubmitUp x.submit) ≡ Err Truncated = sym x.reads ∙ ap (λ (o : List ℕ). up_at InData o) none ∙ empty_submit in absurd cc
 
 -- ---- steps that read nothing which matters here
 
@@ -102,20 +87,9 @@ expiry_calm : (s : Step) → IsExpiry s → IsCalm s
 expiry_calm (Expire id) f = tt
 expiry_calm _ f = absurd f
 
-may_calm : (event : Event) (s : Step) → MayFollow event s → IsCalm s
-may_calm Tick_centre s f = ⊎_elim (λ (x : Follows s). follows_calm s x) (λ (x : IsExpiry s). expiry_calm s x) f
-may_calm Submitted s f = follows_calm s f
-may_calm Cancelled s f = follows_calm s f
-may_calm Asked s f = follows_calm s f
-may_calm (Handed n) s f = follows_calm s f
-may_calm Tick_handset s f = follows_calm s f
-may_calm Wrote s f = follows_calm s f
-may_calm Removed s f = follows_calm s f
-may_calm Restarted s f = follows_calm s f
-
 all_may_calm : (event : Event) (ss : List Step) → AllMayFollow event ss → AllCalm ss
 all_may_calm event [] f = tt
-all_may_calm event (s ∷ ss) f = (may_calm event s f.0, all_may_calm event ss f.1)
+all_may_calm event (s ∷ ss) f = (said_of_followers IsCalm follows_calm expiry_calm event s f.0, all_may_calm event ss f.1)
 
 control_calm : (ss : List Step) → AllControl ss → AllCalm ss
 control_calm [] c = tt
@@ -292,9 +266,9 @@ module _ (Known : List ℕ → ℕ → Type 0) where
       (with_outbox w.outbox w.bag h (replaced e Sending w.outbox) (replaced_sent e Sending (λ q. absurd (sending_sent q)) w.outbox h.sent))
       (data_of w g Up o) (λ n l k t. absurd (data_ack k)) (λ n l k t none. submit_is_something e o can.1 none)
   step_answered w m (Offer_memory a n r) up h can timely takes =
-      with_frame w.outbox w.bag h (memory_of w a n r) (λ i l k t. absurd (data_ack k)) (λ i l k t none. memory_entry n i t)
+      with_frame w.outbox w.bag h (memory_of w a n r) (λ i l k t. absurd (data_ack k)) (λ i l k t none. no_memory n i t)
   step_answered w m (Repeat_memory g n) up h can timely takes =
-      with_frame w.outbox w.bag h (memory_of w g.handset n g.reference) (λ i l k t. absurd (data_ack k)) (λ i l k t none. memory_entry n i t)
+      with_frame w.outbox w.bag h (memory_of w g.handset n g.reference) (λ i l k t. absurd (data_ack k)) (λ i l k t none. no_memory n i t)
   step_answered w m (Receive u s rs) up h can timely takes =
       with_frame w.outbox w.bag h (answer u Ack (next_number w)) (λ n l k t. takes n t) (λ n l k t none. ack_data k)
   step_answered w m (Reject u) up h can timely takes =
@@ -312,7 +286,7 @@ module _ (Known : List ℕ → ℕ → Type 0) where
       with_outbox w.outbox w.bag h (replaced e Sent_up w.outbox)
       (replaced_sent e Sent_up (λ q. subst (λ (z : List ℕ). Known z e.number) (sym can.1.1 ∙ can.1.0.2) known) w.outbox h.sent)
   step_answered w m (Refused u g e st) up h can timely takes =
-      with_outbox w.outbox w.bag h (replaced e st w.outbox) (replaced_sent e st (λ q. absurd (refused_sent st can.2 q)) w.outbox h.sent)
+      with_outbox w.outbox w.bag h (replaced e st w.outbox) (replaced_sent e st (λ q. absurd (not_sent_3 st can.2 q)) w.outbox h.sent)
   step_answered w m (Again u) up h can timely takes =
       with_frame w.outbox w.bag h (record u { number = next_number w }) (λ n l k t. h.acks u n can l k t) (λ n l k t none. h.full u n can l k t none)
   step_answered w m (Control a) up h can timely takes = with_bare w.outbox w.bag h (next_number w) a

@@ -32,10 +32,10 @@ use Rattle.sms_play.specs.Meeting.{AtCentre, Meeting, account_from, by_account}
 use Rattle.sms_script.specs.Requests.{submit_of}
 use Rattle.sms_play.specs.PlayedEvent.{met, played}
 use Rattle.sms_rows.proofs.table.Tables.{found_among, found_key, row_at_put, row_at_put_other}
-use Rattle.sms_script.specs.declared.event.Act.TheVariants.{Cancel, Delete, Deliver, Discard, Query, Submit, Tick, Write}
+use Rattle.sms_script.specs.declared.event.Act.TheVariants.{Submit}
 use Rattle.sms_script.specs.declared.event.Submission.{Submission as ScriptSubmission}
 use Rattle.sms_script.specs.declared.event.WorldEvent.{WorldEvent}
-use Rattle.sms_script.specs.declared.event.WorldEvent.TheVariants.{Restart, Stopped, Whole}
+use Rattle.sms_script.specs.declared.event.WorldEvent.TheVariants.{Whole}
 use Rattle.sms_script.specs.declared.report.answers.Answer.{Answer}
 use Rattle.sms_script.specs.declared.report.answers.Answered.TheVariants.{Accepted}
 use Rattle.sms_world.proofs.headline.FaithfulRuns.{end_parts, run_parts}
@@ -56,6 +56,7 @@ use Rattle.sms_world.proofs.split_messages_stay.MadeParts.{Accepts, IsAccepted, 
 use Rattle.std.proofs.Common.{ap, arith, inl, inr, refl, subst, sym, ⊎_elim, ◌∙◌}
 use Rattle.std.proofs.lemmas.Bool.{cases_eq, cond-true, cond_both, eq-eqb}
 use Rattle.std.specs.Prelude.{Bool, Err, List, None, Ok, Option, Result, Some, [], false, suc, true, zero, ℕ, ◌++◌, ◌==◌, ◌∷◌, ◌≡◌, ◌⊎◌}
+use Rattle.sms_base.proofs.Lists.{among_back, among_front, among_parts}
 
 -- ---- what the definition answers
 
@@ -118,7 +119,7 @@ one_longer [] x e = absurd cc
 one_longer (a ∷ xs) x e = one_longer xs x (let q : xs ≡ xs ++ x ∷ [] = cc in q)
 
 -- its answer is the number, where it is told so
-named_by : (a : CentreAnswer) (id : ℕ) → answered_as a ≡ Accepted id → a ≡ Submitted id
+pub named_by : (a : CentreAnswer) (id : ℕ) → answered_as a ≡ Accepted id → a ≡ Submitted id
 named_by (Submitted n) id e = let same : n ≡ id = cc in ap (λ (k : ℕ). Submitted k) same
 named_by (Queried n state moment) id e = absurd cc
 named_by Cancelled id e = absurd cc
@@ -141,19 +142,6 @@ none_taken : (ss : List Step) (u : Submission) (ts : List Ticket) → AllQuiet s
 none_taken [] u ts q i = i
 none_taken (s ∷ ss) u ts q i = ⊎_elim (λ (e : SubmitStep u ts ≡ s). subst (λ (z : Step). IsQuiet z) (sym e) q.0) (λ (j : Among (SubmitStep u ts) ss). none_taken ss u ts q.1 j) i
 
--- among these, or those
-part_of : (s : Step) (xs ys : List Step) → Among s (xs ++ ys) → Among s xs ⊎ Among s ys
-part_of s [] ys i = inr i
-part_of s (x ∷ xs) ys i = ⊎_elim (λ (e : s ≡ x). inl (inl e)) (λ (j : Among s (xs ++ ys)). ⊎_elim (λ (k : Among s xs). inl (inr k)) (λ (k : Among s ys). inr k) (part_of s xs ys j)) i
-
-in_first : (s : Step) (xs ys : List Step) → Among s xs → Among s (xs ++ ys)
-in_first s [] ys i = absurd i
-in_first s (x ∷ xs) ys i = ⊎_elim (λ (e : s ≡ x). inl e) (λ (j : Among s xs). inr (in_first s xs ys j)) i
-
-in_last : (s : Step) (xs ys : List Step) → Among s ys → Among s (xs ++ ys)
-in_last s [] ys i = i
-in_last s (x ∷ xs) ys i = inr (in_last s xs ys i)
-
 -- what an event of an application that submits takes in
 module _ (w : World) (m : ℕ) (b : Bool) (steps : List Step) (order : IsInOrder w SubmitEvent steps) (run : Run w (items m b steps)) where
   abbrev One : List Step → Type 0
@@ -166,15 +154,15 @@ module _ (w : World) (m : ℕ) (b : Bool) (steps : List Step) (order : IsInOrder
   own_is u ts i =
       ⊎_elim (λ (j : Among (SubmitStep u ts) order.0). absurd (none_taken order.0 u ts parts_quiet.0 j))
       (λ (j : Among (SubmitStep u ts) (order.1 ++ order.2)). ⊎_elim (λ (k : Among (SubmitStep u ts) order.1). k) (λ (k : Among (SubmitStep u ts) order.2). absurd (none_taken order.2 u ts parts_quiet.1 k))
-      (part_of (SubmitStep u ts) order.1 order.2 j))
-      (part_of (SubmitStep u ts) order.0 (order.1 ++ order.2) (subst (λ (ss : List Step). Among (SubmitStep u ts) ss) order.3.3 i))
+      (among_parts (SubmitStep u ts) order.1 order.2 j))
+      (among_parts (SubmitStep u ts) order.0 (order.1 ++ order.2) (subst (λ (ss : List Step). Among (SubmitStep u ts) ss) order.3.3 i))
 
   -- the step in the middle
   module _ (u : Submission) (ts : List Ticket) (own : order.1 ≡ SubmitStep u ts ∷ []) where
     there : Among (SubmitStep u ts) steps
     there =
         subst (λ (ss : List Step). Among (SubmitStep u ts) ss) (sym order.3.3)
-        (in_last (SubmitStep u ts) order.0 (order.1 ++ order.2) (in_first (SubmitStep u ts) order.1 order.2 (subst (λ (ss : List Step). Among (SubmitStep u ts) ss) (sym own) (inl refl))))
+        (among_back (SubmitStep u ts) order.0 (order.1 ++ order.2) (among_front (SubmitStep u ts) order.1 order.2 (subst (λ (ss : List Step). Among (SubmitStep u ts) ss) (sym own) (inl refl))))
 
     abbrev before : World
     before = end w (items m b order.0)
@@ -327,12 +315,4 @@ module _ (n : ℕ) (x : ScriptSubmission) (c d : PlayState) (w : World) (s : Pla
 pub submits_as : (n : ℕ) (e : WorldEvent) (c d : PlayState) (w : World) → PlayRefines c w → (steps : List Step) → played n e c ≡ ok_play d → Belongs w (happening_of e c.centre.moment) (happening_of e c.centre.moment).went steps
     → Run w (happened_in (happening_of e c.centre.moment) steps) → PlayRefines d (end w (happened_in (happening_of e c.centre.moment) steps)) → SubmitsAsAnswered n e c steps d
 submits_as n (Whole (Submit x)) c d w s steps is belongs run t = λ id. (to_steps n x c d w s steps is belongs run t id, from_steps n x c d w s steps is belongs run t id)
-submits_as n (Whole (Query name id)) c d w s steps is belongs run t = tt
-submits_as n (Whole (Cancel name id)) c d w s steps is belongs run t = tt
-submits_as n (Whole (Write handset to report text)) c d w s steps is belongs run t = tt
-submits_as n (Whole (Delete handset entry)) c d w s steps is belongs run t = tt
-submits_as n (Whole (Discard handset entry)) c d w s steps is belongs run t = tt
-submits_as n (Whole (Deliver number)) c d w s steps is belongs run t = tt
-submits_as n (Whole (Tick side now)) c d w s steps is belongs run t = tt
-submits_as n (Stopped stop act) c d w s steps is belongs run t = tt
-submits_as n (Restart side) c d w s steps is belongs run t = tt
+submits_as n _ c d w s steps is belongs run t = tt

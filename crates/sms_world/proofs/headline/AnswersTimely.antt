@@ -8,8 +8,6 @@ use Rattle.sms_base.specs.declared.carried.Kind.TheVariants.{Data, Ack, Error}
 use Rattle.sms_base.specs.declared.holder.Holder.TheVariants.{Entry}
 use Rattle.sms_handset_rows.specs.outbox.Keys.{out_key}
 use Rattle.sms_handset_rows.specs.outbox.References.{is_unfinished}
-use Rattle.sms_handset_rows.specs.declared.outbox.out_entry.EntryState.{EntryState}
-use Rattle.sms_handset_rows.specs.declared.outbox.out_entry.EntryState.TheVariants.{Failed, Queued, Sending, Sent as WasSent, Unsure}
 use Rattle.sms_handset_rows.specs.declared.outbox.out_entry.OutEntry.{OutEntry as OutRow}
 use Rattle.sms_script.specs.declared.report.rows.Direction.{Direction}
 use Rattle.sms_script.specs.declared.report.rows.Direction.TheVariants.{Up as UpRow, Down as DownRow}
@@ -34,28 +32,23 @@ use Rattle.sms_world_model.specs.WorldStep.{HasReferenceUp}
 use Rattle.sms_world_model.proofs.Upward.{IsUpward}
 use Rattle.sms_world.specs.headline.SeenFrames.{frame_down, line_up}
 use Rattle.sms_world.specs.frames_pass_between_sides.Between.{frame_up}
-use Rattle.sms_world.specs.headline.SeenWorld.{state_of, sent_by, sent_row}
+use Rattle.sms_world.specs.headline.SeenWorld.{sent_by, sent_row}
 use Rattle.sms_world.specs.scripts_are_runs.PlayRefinement.{PlayRefines}
 use Rattle.sms_world.specs.headline.OneRun.{event_of, happening_of}
 use Rattle.sms_world.proofs.scripts_are_runs.Bags.{frame_found, row_seen}
 use Rattle.sms_world.proofs.scripts_are_runs.Events.{ok_play}
 use Rattle.sms_world.proofs.scripts_are_runs.Parties.{party_found}
-use Rattle.sms_world.proofs.headline.DecidedTimely.{number_by, number_sent, numbered_there, one_number, same_frame}
+use Rattle.sms_world.proofs.headline.DecidedTimely.{number_by, numbered_there, same_frame}
 use Rattle.sms_world.proofs.headline.HeldReferences.{AllPartiesAgree}
 use Rattle.sms_world.proofs.Options.{some_is}
+use Rattle.sms_world.proofs.handset_runs_are_steps.Offering.{is_open}
+use Rattle.sms_world_model.proofs.Frames.{number_sent, one_number}
 
 -- an acknowledgement that is handed over, under a reference that an entry holds, is timely
 abbrev pub HandsAnswers : World → Event → Type 0
 HandsAnswers w (Handed n) =
     (u : Frame) → Among (Carried u) w.bag → u.number ≡ n → u.line ≡ Up → u.kind ≡ Ack → (g : Allocation) (e : OutEntry) → HasReferenceUp w u g e → IsTimely w u
 HandsAnswers w _ = Unit {0}
-
-is_open : (p : EntryState) → IsUnfinished (state_of p) → is_unfinished p ≡ true
-is_open Queued u = refl
-is_open Sending u = refl
-is_open WasSent u = absurd u
-is_open Failed u = absurd u
-is_open Unsure u = absurd u
 
 module _ (c : PlayState) (w : World) (s : PlayRefines c w) (tells : AllPartiesAgree c) (upward : IsUpward w) (u : Frame) (line : u.line ≡ Up) (kind : u.kind ≡ Ack) (g : Allocation) (e : OutEntry) (has : HasReferenceUp w u g e) where
   up_allocations : (l : Line) → l ≡ Up → w.up ≡ allocations w l

@@ -2,6 +2,7 @@
 use Rattle.std.proofs.Common.{◌≡◌, ℕ, suc, ◌+◌, arith, List, [], ◌∷◌, ◌++◌, length, Bool, true, refl, sym, ◌∙◌, ap, subst, inl, inr, ⊎_elim}
 use Rattle.std.specs.Prelude.{◌⊎◌}
 use Rattle.std.proofs.lemmas.Bool.{and_from, and_parts}
+use Rattle.std.proofs.lemmas.List.{append_assoc}
 use Rattle.sms_base.specs.Among.{Among}
 use Rattle.sms_base.specs.declared.holder.Holder.{Holder}
 use Rattle.sms_base.specs.declared.holder.Holder.TheVariants.{Part, Report, Entry, Memory}
@@ -22,8 +23,9 @@ use Rattle.sms_world.specs.scripts_are_runs.AllocationLaws.{NoneSubmits, OneSubm
 use Rattle.sms_world.proofs.scripts_are_runs.Growing.{GrownOnce, in_rest, steps_grow}
 use Rattle.sms_world.specs.scripts_are_runs.PlayRefinement.{PlayRefines}
 use Rattle.sms_world.proofs.headline.AcceptedPairs.{same_accepted}
-use Rattle.sms_world.proofs.headline.PairsReported.{newest_over, pairs_reported}
+use Rattle.sms_world.proofs.headline.PairsReported.{pairs_reported}
 use Rattle.sms_world.proofs.headline.Takers.{TakersThere}
+use Rattle.sms_play.proofs.judging.Looking.{newest_over, behind_all}
 
 -- ---- pairs that are submitted one after another
 
@@ -124,18 +126,10 @@ all_parts : (rows : List PartRow) (given : List GivenRow) → AreParts (part_all
 all_parts rows [] = tt
 all_parts rows (r ∷ given) = both_parts (allocation_told rows r r.holder) (part_allocations rows given) (reported_parts rows r r.holder refl) (all_parts rows given)
 
-appended : (xs ys zs : List Allocation) → (xs ++ ys) ++ zs ≡ xs ++ (ys ++ zs)
-appended [] ys zs = refl
-appended (x ∷ xs) ys zs = ap (λ (z : List Allocation). x ∷ z) (appended xs ys zs)
-
 allocations_over : (rows : List PartRow) (xs ys : List GivenRow) → part_allocations rows (xs ++ ys) ≡ part_allocations rows xs ++ part_allocations rows ys
 allocations_over rows [] ys = refl
 allocations_over rows (r ∷ xs) ys =
-    ap (λ (z : List Allocation). allocation_told rows r r.holder ++ z) (allocations_over rows xs ys) ∙ sym (appended (allocation_told rows r r.holder) (part_allocations rows xs) (part_allocations rows ys))
-
-behind_all : (xs ys : List GivenRow) → behind xs (xs ++ ys) ≡ ys
-behind_all [] ys = refl
-behind_all (x ∷ xs) ys = behind_all xs ys
+    ap (λ (z : List Allocation). allocation_told rows r r.holder ++ z) (allocations_over rows xs ys) ∙ sym (append_assoc (allocation_told rows r r.holder) (part_allocations rows xs) (part_allocations rows ys))
 
 -- ---- submissions
 

@@ -1,5 +1,5 @@
 -- A frame of the centre's line that is decided timely is so in the world.
-use Rattle.std.proofs.Common.{◌≡◌, ℕ, ◌+◌, ◌≤◌, List, [], ◌∷◌, true, false, length, refl, sym, ◌∙◌, ap, subst, inl, inr, ⊎_elim, Option, Some, None, arith}
+use Rattle.std.proofs.Common.{◌≡◌, ℕ, List, [], ◌∷◌, true, false, refl, sym, ◌∙◌, ap, subst, inl, inr, ⊎_elim, Option, Some, None}
 use Rattle.std.specs.Prelude.{◌⊎◌, ◌==◌}
 use Rattle.std.proofs.lemmas.Bool.{both_ways, cases_Bool, cond-false, cond-true, eq-eqb}
 use Rattle.sms_base.specs.Among.{Among}
@@ -19,10 +19,10 @@ use Rattle.sms_play.specs.Premises.{giver, hands_timely, is_held_by, is_timely, 
 use Rattle.sms_world.proofs.premises_are_decided.TimelyFrames.{held_is}
 use Rattle.sms_world_model.specs.ScriptRun.{Handed}
 use Rattle.sms_world_model.specs.Premises.{IsTimely, allocations}
-use Rattle.sms_world_model.specs.World.{Bare, Carried, Down, Frame, Allocation, IsLatest, Line, Sent, Up, World, empty}
+use Rattle.sms_world_model.specs.World.{Carried, Down, Frame, Allocation, IsLatest, Line, Sent, Up, World, empty}
 use Rattle.sms_world.specs.headline.SeenFrames.{frame_down, line_down, line_up}
 use Rattle.sms_world.specs.frames_pass_between_sides.Between.{frame_up}
-use Rattle.sms_world_model.proofs.Frames.{Numbered, numbered_run}
+use Rattle.sms_world_model.proofs.Frames.{Numbered, numbered_run, number_sent, one_number}
 use Rattle.sms_world.specs.scripts_are_runs.PlayRefinement.{PlayRefines}
 use Rattle.sms_world.specs.headline.SeenWorld.{all_seen, sent_by, sent_row}
 use Rattle.sms_world.specs.headline.OneRun.{event_of, happening_of}
@@ -32,32 +32,6 @@ use Rattle.sms_world.proofs.scripts_are_runs.Latest.{latest_is}
 use Rattle.sms_world.proofs.headline.FaithfulRuns.{HandsDown}
 
 -- ---- a number names one frame
-
-abbrev pub number_sent : Sent → ℕ
-number_sent (Carried u) = u.number
-number_sent (Bare n a) = n
-
-below : (xs : List Sent) (x : Sent) → Numbered xs → Among x xs → number_sent x ≤ length xs
-below [] x h i = absurd i
-below (y ∷ ys) x h i = ⊎_elim
-    (λ (e : x ≡ y). let q : number_sent x ≡ length ys + 1 = ap (λ (z : Sent). number_sent z) e ∙ h.0 in omega (arith, q))
-    (λ (j : Among x ys). let l = below ys x h.1 j in omega (arith, l))
-    i
-
-pub one_number : (xs : List Sent) (x y : Sent) → Numbered xs → Among x xs → Among y xs → number_sent x ≡ number_sent y → x ≡ y
-one_number [] x y h i j e = absurd i
-one_number (z ∷ zs) x y h i j e = ⊎_elim
-    (λ (a : x ≡ z). ⊎_elim
-    (λ (b : y ≡ z). a ∙ sym b)
-    (λ (b : Among y zs).
-    let l = below zs y h.1 b in
-    let q : number_sent x ≡ length zs + 1 = ap (λ (v : Sent). number_sent v) a ∙ h.0 in absurd (omega (arith, l, q, e))) j)
-    (λ (a : Among x zs). ⊎_elim
-    (λ (b : y ≡ z).
-    let l = below zs x h.1 a in
-    let q : number_sent y ≡ length zs + 1 = ap (λ (v : Sent). number_sent v) b ∙ h.0 in absurd (omega (arith, l, q, e)))
-    (λ (b : Among y zs). one_number zs x y h.1 a b e) j)
-    i
 
 pub numbered_there : (w : World) → IsReached w → Numbered w.bag
 numbered_there w (is, (run, at)) = subst (λ (v : World). Numbered v.bag) at (numbered_run empty is tt)

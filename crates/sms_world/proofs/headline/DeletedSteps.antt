@@ -15,7 +15,8 @@ use Rattle.sms_world.specs.headline.OneRun.{happening_of}
 use Rattle.sms_world.specs.headline.PlainScript.{Does}
 use Rattle.sms_world.proofs.Options.{some_is}
 use Rattle.sms_world_model.proofs.Tables.{entered_back}
-use Rattle.sms_world_model.specs.ScriptRun.{AllControl, AllMayFollow, AllWrite, Asked, Belongs, Cancelled, Event, Follows, Handed, IsControl, IsExpiry, IsInOrder, IsOwn, IsPlayed, MayFollow, Reads, Removed, Restarted, Submitted, Tick_centre, Tick_handset, Wrote, items}
+use Rattle.sms_world_model.proofs.Followers.{said_of_followers}
+use Rattle.sms_world_model.specs.ScriptRun.{AllControl, AllMayFollow, AllWrite, Asked, Belongs, Cancelled, Event, Follows, Handed, IsControl, IsExpiry, IsInOrder, IsOwn, IsPlayed, Reads, Removed, Restarted, Submitted, Tick_centre, Tick_handset, Wrote, items}
 use Rattle.sms_world_model.specs.Submission.{Submission}
 use Rattle.sms_world_model.specs.World.{Carried, Final, Frame, IsRecorded, Message, OutEntry, Pending, State, World, changed, find}
 use Rattle.sms_world_model.specs.WorldStep.{Delete, Expire, Fail, Receive, Remove, Settle, Step, Submit, after, after_item, end, marked}
@@ -118,20 +119,9 @@ reading_none : (f : Frame) (s : Step) → Reads f s → DeletesNone s
 reading_none f (Delete id) r = absurd r
 reading_none f _ r = tt
 
-may_follow_none : (event : Event) (s : Step) → MayFollow event s → DeletesNone s
-may_follow_none Tick_centre s f = ⊎_elim (λ (x : Follows s). follow_none s x) (λ (x : IsExpiry s). expiry_none s x) f
-may_follow_none Submitted s f = follow_none s f
-may_follow_none Cancelled s f = follow_none s f
-may_follow_none Asked s f = follow_none s f
-may_follow_none (Handed n) s f = follow_none s f
-may_follow_none Tick_handset s f = follow_none s f
-may_follow_none Wrote s f = follow_none s f
-may_follow_none Removed s f = follow_none s f
-may_follow_none Restarted s f = follow_none s f
-
 follows_none : (event : Event) (ss : List Step) → AllMayFollow event ss → DeleteNone ss
 follows_none event [] f = tt
-follows_none event (s ∷ ss) f = (may_follow_none event s f.0, follows_none event ss f.1)
+follows_none event (s ∷ ss) f = (said_of_followers DeletesNone follow_none expiry_none event s f.0, follows_none event ss f.1)
 
 writes_none : (ss : List Step) → AllWrite ss → DeleteNone ss
 writes_none [] a = tt

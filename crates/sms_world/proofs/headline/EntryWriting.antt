@@ -1,5 +1,5 @@
 -- What an owner writes: its first entry has the next number, and each SUBMIT is read as it was meant.
-use Rattle.std.proofs.Common.{◌≡◌, ℕ, zero, suc, ◌+◌, List, [], ◌∷◌, length, Bool, true, false, cond, refl, sym, ◌∙◌, ap, subst, ⊎_elim, Option, Some, None, Result, Ok, Err}
+use Rattle.std.proofs.Common.{◌≡◌, ℕ, zero, suc, ◌+◌, List, [], ◌∷◌, length, Bool, true, false, refl, sym, ◌∙◌, ap, subst, ⊎_elim, Some, None, Result, Ok, Err}
 use Rattle.std.specs.Prelude.{nat_lt, min, slice_get}
 use Rattle.std.specs.List.{AllByRecursion}
 use Rattle.std.proofs.lemmas.Bool.{cases_eq, cond_both}
@@ -16,7 +16,6 @@ use Rattle.sms_concat.specs.declared.content.UserData.{UserData}
 use Rattle.sms_concat.specs.declared.split_error.SplitError.{SplitError}
 use Rattle.sms_concat.proofs.Bodies.{user_data_is}
 use Rattle.sms_intake.specs.PartBodies.{bodies_of, body_of}
-use Rattle.sms_control.specs.LinkStep.{is_busy}
 use Rattle.sms_rows.specs.table.Table.{put, row_at}
 use Rattle.sms_rows.proofs.table.Tables.{row_at_put, row_at_put_other}
 use Rattle.sms_tpdu.specs.TpduGrammar.{IsSubmitData, IsWrittenSubmit}
@@ -26,23 +25,20 @@ use Rattle.sms_tpdu.specs.declared.submit.Submit.{Submit as SubmitOf}
 use Rattle.sms_tpdu.specs.declared.up.Up.TheVariants.{Submit}
 use Rattle.sms_tpdu.proofs.Submits.{submit_again}
 use Rattle.sms_tpdu.proofs.WrittenUnits.{written_up}
-use Rattle.sms_handset_rows.specs.declared.outbox.notice.Notice.{Notice}
 use Rattle.sms_handset_rows.specs.declared.outbox.out_entry.EntryState.TheVariants.{Sending}
 use Rattle.sms_handset_rows.specs.declared.outbox.out_entry.OutEntry.{OutEntry}
 use Rattle.sms_handset_rows.specs.outbox.Keys.{out_key}
-use Rattle.sms_handset_rows.specs.outbox.Offers.{first_due, first_fired}
 use Rattle.sms_handset_rows.specs.outbox.References.{held_message_references, held_references, next_free}
-use Rattle.sms_handset_rows.specs.outbox.Settling.{is_sending, lost}
 use Rattle.sms_handset_rows.specs.outbox.Submits.{packed_behind, submit_for, submit_octets, written_entry}
 use Rattle.sms_handset_rows.proofs.outbox.PartFields.{carries}
 use Rattle.sms_handset_rows.proofs.outbox.SoundWriting.{IsWritable}
-use Rattle.sms_handset_draft.specs.Draft.{Core, Draft, draft_of, put_out}
-use Rattle.sms_handset_draft.specs.MemoryAvailable.{first_notice}
-use Rattle.sms_handset_draft.specs.Outbox.{follow, is_notice_next, lapse, lapse_rows, offer_after, offer_entry, offer_message, offer_wanted}
-use Rattle.sms_handset.specs.HandsetEvent.{acted, wrote}
+use Rattle.sms_handset_draft.specs.Draft.{Core, Draft, draft_of}
+use Rattle.sms_handset_draft.specs.Outbox.{follow, lapse, lapse_rows}
+use Rattle.sms_handset.specs.HandsetEvent.{wrote}
 use Rattle.sms_handset.specs.OwnersActs.{count_split, fits_outbox, write, write_part, write_parts, write_split, write_to, written}
 use Rattle.sms_handset.specs.declared.refusal.Refusal.{Refusal}
 use Rattle.sms_handset.specs.declared.refusal.Refusal.TheVariants.{OutboxFull}
+use Rattle.sms_world.proofs.HandsetStages.{AnyEntry, IfDone, KeptByOffers, acted_keeps, lapse_keeps, lapses_each, offer_keeps}
 
 -- ---- the outbox has an entry of that number
 
@@ -63,39 +59,23 @@ module _ (n : ℕ) where
   HasIn d = Has n d.rows.outbox
 
   abbrev IfHas : Result Draft Refusal → Type 0
-  IfHas (Ok d) = HasIn d
-  IfHas (Err refusal) = Unit {0}
+  IfHas r = IfDone HasIn r
 
   -- ---- what follows
 
-  lapses : (os : List OutEntry) (d : Draft) → HasIn d → HasIn (lapse_rows os d)
-  lapses [] d k = k
-  lapses (o ∷ os) d k =
-      lapses os (cond (is_sending o.state) (put_out (lost o) d) d)
-      (cond_both (is_sending o.state) (put_out (lost o) d) d (λ (z : Draft). HasIn z) (λ t. put_has n (lost o) d.rows.outbox k) (λ t. k))
+  lapsed : (d : Draft) → HasIn d → HasIn (lapse_rows d.rows.outbox (record d { is_recovered = false }))
+  lapsed d k = lapses_each HasIn AnyEntry (λ o known. tt) (λ x e known here. put_has n x e.rows.outbox here) d.rows.outbox (record d { is_recovered = false }) (λ o i. tt) k
 
-  lapse_has : (d : Draft) → HasIn d → HasIn (lapse d)
-  lapse_has d k =
-      cond_both d.is_recovered (lapse_rows d.rows.outbox (record d { is_recovered = false })) d (λ (z : Draft). HasIn z) (λ t. lapses d.rows.outbox (record d { is_recovered = false }) k) (λ t. k)
-
-  offers_entry : (o : Option OutEntry) (d : Draft) → HasIn d → HasIn (offer_entry o d)
-  offers_entry None d k = k
-  offers_entry (Some o) d k = put_has n (record o { state = Sending; tries = min (o.tries + 1) 255; due = None }) d.rows.outbox k
-
-  offers_wanted : (d : Draft) → HasIn d → HasIn (offer_wanted d)
-  offers_wanted d k =
-      cond_both (is_notice_next d) (first_notice d.rows.counters.notice (next_free d.rows.counters.reference (held_references d.notices d.rows.outbox)) d) (offer_message d) (λ (z : Draft). HasIn z)
-      (λ t. k) (λ t. offers_entry (first_due d.moment d.rows.outbox) d k)
-
-  offers_after : (x : Option Notice) (d : Draft) → HasIn d → HasIn (offer_after x d)
-  offers_after None d k = offers_wanted d k
-  offers_after (Some x) d k = k
+  offers_kept : KeptByOffers HasIn HasIn
+  offers_kept = record {
+    nothing = λ d k. k;
+    entry = λ o d due idle k. put_has n (record o { state = Sending; tries = min (o.tries + 1) 255; due = None }) d.rows.outbox k;
+    notice_again = λ x d i idle k. k;
+    notice_first = λ d next idle k. k;
+  }
 
   follow_has : (d : Draft) → HasIn d → HasIn (follow d)
-  follow_has d k =
-      let e : Draft = lapse d in
-      let l : HasIn e = lapse_has d k in
-      cond_both (is_busy e.links) e (offer_after (first_fired e.moment e.notices) e) (λ (z : Draft). HasIn z) (λ t. l) (λ t. offers_after (first_fired e.moment e.notices) e l)
+  follow_has d k = offer_keeps HasIn HasIn offers_kept (lapse d) (lapse_keeps HasIn lapsed d k)
 
   -- ---- writing
 
@@ -124,17 +104,13 @@ module _ (n : ℕ) where
       cond_both (fits_outbox (length ps) d) (Ok (written a report ps d)) (Err OutboxFull) (λ (z : Result Draft Refusal). IfHas z)
       (λ t. first_has a report is_long ps (count_split is_long d) i p e (split_counts is_long d ∙ q)) (λ t. tt)
 
-  acted_has : (r : Result Draft Refusal) → IfHas r → IfHas (acted r)
-  acted_has (Ok d) k = follow_has d k
-  acted_has (Err refusal) k = tt
-
   pub wrote_has : (text to : List ℕ) (report : Bool) (c : Core) (d : Draft) (ps : List PartOf) (a : Address) (i : ℕ) (p : PartOf) → split_of (content_of_text text) c.rows.counters.concat_reference ≡ Ok ps
       → address_of 1 1 to ≡ Ok a → slice_get ps i ≡ Some p → c.rows.counters.entry ≡ n → wrote text to report c ≡ Ok d → HasIn d
   wrote_has text to report c d ps a i p split address e q is =
       let wrote_to : IfHas (write_to report ps (address_of 1 1 to) (draft_of c)) =
       subst (λ (z : Result Address AddressError). IfHas (write_to report ps z (draft_of c))) (sym address) (to_has report ps a (draft_of c) i p e q) in
       let wrote_split : IfHas (write text to report (draft_of c)) = subst (λ (z : Result (List PartOf) SplitError). IfHas (write_split to report z (draft_of c))) (sym split) wrote_to in
-      subst (λ (z : Result Draft Refusal). IfHas z) is (acted_has (write text to report (draft_of c)) wrote_split)
+      subst (λ (z : Result Draft Refusal). IfHas z) is (acted_keeps HasIn HasIn follow_has (write text to report (draft_of c)) wrote_split)
 
 -- ---- the SUBMIT of a part
 

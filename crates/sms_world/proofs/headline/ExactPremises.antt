@@ -91,7 +91,7 @@ after_played : {A : Type 0} (r : Result PlayState PlayFault) (f : PlayState → 
 after_played (Ok d) f y e = (d, (refl, e))
 after_played (Err fault) f y e = absurd cc
 
-if_played : (r : Result PlayState PlayFault) (P : PlayState → Type 0) → ((d : PlayState) → r ≡ ok_play d → P d) → IfPlayed r P
+pub if_played : (r : Result PlayState PlayFault) (P : PlayState → Type 0) → ((d : PlayState) → r ≡ ok_play d → P d) → IfPlayed r P
 if_played (Ok d) P g = g d refl
 if_played (Err fault) P g = tt
 

@@ -1,14 +1,14 @@
 -- While frames come in time on the centre's line, what counts as delivered was accepted. Nothing is asked of the handsets' own line.
 use Rattle.std.proofs.Common.{◌≡◌, ℕ, List, [], ◌∷◌, ◌++◌, Bool, true, false, refl, sym, ◌∙◌, ap, subst, ⊎_elim}
 use Rattle.sms_base.specs.Among.{Among}
-use Rattle.sms_world_model.specs.WorldStep.{Run, after_item, end, Acknowledged, Again, Can, Control, Fail, Memory_free, Receive, Refuse, Refused, Reject, Settle, Step, Take, Take_again}
-use Rattle.sms_world_model.specs.ScriptRun.{After, AllControl, AllMayFollow, Asked, Before, Belongs, Cancelled, Event, Follows, Handed, Happening, IsInOrder, Reads, Removed, Restarted, Submitted, Tick_centre, Tick_handset, Went, Whole, Wrote, happened, is_stopped, items}
+use Rattle.sms_world_model.specs.WorldStep.{Run, after_item, end, Acknowledged, Can, Fail, Memory_free, Receive, Refuse, Refused, Reject, Settle, Step, Take, Take_again}
+use Rattle.sms_world_model.specs.ScriptRun.{After, AllMayFollow, Asked, Before, Belongs, Cancelled, Event, Handed, Happening, IsInOrder, Reads, Removed, Restarted, Submitted, Tick_centre, Tick_handset, Went, Whole, Wrote, happened, is_stopped, items}
 use Rattle.std.specs.Prelude.{◌⊎◌}
-use Rattle.sms_world_model.specs.Premises.{HandsTimely, IsTimely, ReadsTimely, Timely, allocations}
-use Rattle.sms_world_model.specs.World.{Carried, Down, Frame, Allocation, IsLatest, Line, Sent, Up, World, with_frames}
+use Rattle.sms_world_model.specs.Premises.{HandsTimely, IsTimely, Timely}
+use Rattle.sms_world_model.specs.World.{Carried, Down, Frame, World}
 use Rattle.sms_world_model.proofs.Faithful.{IsFaithful, faithful_run, faithful_step}
 use Rattle.sms_world_model.proofs.Runs.{sound_run}
-use Rattle.sms_world_model.proofs.Scripts.{script_timely}
+use Rattle.sms_world_model.proofs.Scripts.{script_timely, follow_timely, control_timely, stays_timely}
 use Rattle.sms_world_model.proofs.Sound.{IsSound}
 
 -- a frame that is handed over and is of the centre's line is timely
@@ -18,36 +18,9 @@ HandsDown w _ = Unit {0}
 
 -- ---- steps that read no frame
 
-follow_timely : (w : World) (s : Step) → Follows s → ReadsTimely w s
-follow_timely w (Take u) f = absurd f
-follow_timely w (Settle u g id n) f = absurd f
-follow_timely w (Acknowledged u g e) f = absurd f
-follow_timely w _ f = tt
-
 pub follows_timely : (w : World) (m n : ℕ) (b : Bool) (ss : List Step) → AllMayFollow (Handed n) ss → Timely w (items m b ss)
 follows_timely w m n b [] f = tt
 follows_timely w m n b (s ∷ ss) f = (follow_timely w s f.0, follows_timely (after_item w (record { step = s; moment = m; stopped = b })) m n b ss f.1)
-
-pub control_timely : (w : World) (m : ℕ) (b : Bool) (ss : List Step) → AllControl ss → Timely w (items m b ss)
-control_timely w m b [] c = tt
-control_timely w m b (Again u ∷ ss) c = (tt, control_timely (after_item w (record { step = Again u; moment = m; stopped = b })) m b ss c.1)
-control_timely w m b (Control a ∷ ss) c = (tt, control_timely (after_item w (record { step = Control a; moment = m; stopped = b })) m b ss c.1)
-control_timely w m b (_ ∷ ss) c = absurd c.0
-
-same_allocations : (w : World) (bag : List Sent) (l : Line) → allocations w l ≡ allocations (with_frames bag w) l
-same_allocations w bag Down = refl
-same_allocations w bag Up = refl
-
-timely_frames : (w : World) (bag : List Sent) (u : Frame) → IsTimely w u → IsTimely (with_frames bag w) u
-timely_frames w bag u (g, x) = (g, (subst (λ (gs : List Allocation). IsLatest g gs) (same_allocations w bag u.line) x.0, x.1, x.2, x.3))
-
-pub stays_timely : (w : World) (m : ℕ) (b : Bool) (ss : List Step) (u : Frame) → AllControl ss → IsTimely w u → IsTimely (end w (items m b ss)) u
-stays_timely w m b [] u c t = t
-stays_timely w m b (Again v ∷ ss) u c t =
-    let x = after_item w (record { step = Again v; moment = m; stopped = b }) in stays_timely x m b ss u c.1 (timely_frames w x.bag u t)
-stays_timely w m b (Control a ∷ ss) u c t =
-    let x = after_item w (record { step = Control a; moment = m; stopped = b }) in stays_timely x m b ss u c.1 (timely_frames w x.bag u t)
-stays_timely w m b (_ ∷ ss) u c t = absurd c.0
 
 -- ---- the step that reads the frame
 

@@ -1,93 +1,92 @@
 -- Each message that a handset joined is one round that was submitted to it, while frames are decided timely and references fresh.
-use Rattle.std.proofs.Common.{◌≡◌, ℕ, ◌+◌, List, [], ◌∷◌, ◌++◌, Bool, true, false, refl, sym, ◌∙◌, ap, subst, inl, inr, ⊎_elim, Result, Ok, Err}
+use Rattle.std.proofs.Common.{◌≡◌, ℕ, ◌+◌, List, [], ◌∷◌, ◌++◌, Bool, true, false, refl, sym, ◌∙◌, ap, subst, inl, inr, ⊎_elim}
 use Rattle.std.specs.Str.{bytes_eq}
 use Rattle.std.proofs.lemmas.Bool.{cases_Bool, cond-false, cond-true}
 use Rattle.std.proofs.lemmas.Slice.Eq.{bytes_eq-Decides}
 use Rattle.sms_base.specs.Among.{Among}
-use Rattle.sms_base.specs.Reading.{◌>>=◌}
 use Rattle.sms_script.specs.declared.report.rows.JoinedRow.{JoinedRow}
 use Rattle.sms_script.specs.declared.event.WorldEvent.{WorldEvent}
-use Rattle.sms_script.specs.declared.play_fault.PlayFault.{PlayFault}
 use Rattle.sms_play.specs.PlayState.{PlayState, Party}
 use Rattle.sms_play.specs.PlayedEvent.{played}
-use Rattle.sms_play.specs.Playing.{played_on}
-use Rattle.sms_play.specs.Premises.{is_fresh_event, is_timely_event}
+use Rattle.sms_play.specs.Premises.{is_fresh_event}
 use Rattle.sms_world_model.specs.Place.{Key}
 use Rattle.sms_world_model.specs.Groups.{Rounds, SameItems, rounds, rounds_of, of_key}
-use Rattle.sms_world_model.specs.WorldStep.{end, Step}
-use Rattle.sms_world_model.specs.ScriptRun.{After, Before, Belongs, Happening, Went, Whole, happened, is_stopped}
-use Rattle.sms_world_model.specs.World.{Accepted, Joined, World}
-use Rattle.sms_world_model.proofs.Faithful.{IsFaithful}
-use Rattle.sms_world_model.proofs.Joins.{IsMatched, joined_submitted}
+use Rattle.sms_world_model.specs.WorldStep.{Step}
+use Rattle.sms_world_model.specs.ScriptRun.{After, Before, Belongs, Happening, Went, Whole, is_stopped}
+use Rattle.sms_world_model.specs.World.{Accepted, Joined, World, empty}
+use Rattle.sms_world_model.proofs.Joins.{IsMatched, joined_submitted, joins_empty}
 use Rattle.sms_world_model.proofs.Sound.{IsSound}
-use Rattle.sms_world_model.proofs.Wholes.{AllWhole, splits_whole}
-use Rattle.sms_world.specs.headline.Claims.{pair_in_row, IfPlayed, AllTimely, AreJoinedRounds, HaveNoneInCommon, IsJoinedRound, JoinedWhole, rounds_submitted, AllFresh}
+use Rattle.sms_world_model.proofs.Wholes.{AllWhole, splits_whole, whole_empty}
+use Rattle.sms_world.specs.headline.Claims.{pair_in_row, AllTimely, AreJoinedRounds, HaveNoneInCommon, IsJoinedRound, JoinedWhole, rounds_submitted, AllFresh}
 use Rattle.sms_world.specs.headline.SeenWorld.{JoinedText, joined_at, text_of, row_joined, rows_joined}
 use Rattle.sms_world.specs.scripts_are_runs.AllocationLaws.{OneSubmits}
 use Rattle.sms_world.proofs.scripts_are_runs.Agreeing.{sound_there}
-use Rattle.sms_world.specs.scripts_are_runs.PlayRuns.{AllHandOctets, AreGood}
 use Rattle.sms_world.specs.scripts_are_runs.PlayRefinement.{PlayRefines}
 use Rattle.sms_world.specs.scripts_are_runs.Happening.{HandsOctets, IsGoodEvent}
-use Rattle.sms_world.specs.headline.OneRun.{happening_of}
-use Rattle.sms_world.proofs.scripts_are_runs.Events.{event_leads, ok_play, same_play}
+use Rattle.sms_world.specs.headline.OneRun.{happening_of, world_after}
+use Rattle.sms_world.proofs.scripts_are_runs.Events.{ok_play}
 use Rattle.sms_world.proofs.scripts_are_runs.OneSubmission.{played_once}
 use Rattle.sms_world.proofs.headline.DecidedFresh.{decided_fresh}
 use Rattle.sms_world.proofs.headline.DecidedTimely.{hands_down}
-use Rattle.sms_world.proofs.headline.FaithfulRuns.{event_faithful}
 use Rattle.sms_world.proofs.headline.FreshRuns.{event_matched}
 use Rattle.sms_world.proofs.headline.GivenGrows.{given_grows}
 use Rattle.sms_world.proofs.headline.JoinedClaims.{all_apart, group_part, groups_at, placed_there}
 use Rattle.sms_world.proofs.headline.LongMessages.{long_split}
 use Rattle.sms_world.proofs.headline.PairsReported.{pairs_reported}
-use Rattle.sms_world.proofs.headline.Takers.{TakersThere, takers_stay}
 use Rattle.sms_world.proofs.headline.WholeRuns.{event_whole}
+use Rattle.sms_world.proofs.headline.TimelyClaims.{IsTrusted, timely_on, trusted_first, trusted_kept}
+use Rattle.sms_world.proofs.scripts_are_runs.Courses.{KeptByEvents, when_played}
+use Rattle.sms_world.specs.scripts_are_runs.PlayRuns.{LeadsTo}
+use Rattle.sms_script.specs.declared.setup.Setup.{Setup}
+use Rattle.sms_play.specs.Setups.{beginning}
 
--- ---- one event, and then the others
+-- ---- what each event keeps
 
-abbrev pub Matches : PlayState → Type 0
-Matches d = (v : World) × (PlayRefines d v × IsFaithful v × TakersThere d v × IsMatched v × AllWhole v.table v.down)
+-- each group that was joined is a round, and holds each message that was split whole
+pub record IsMatchedWhole (c : PlayState) (w : World) : Type 0 where
+  pub trusted : IsTrusted c w
+  pub matched : IsMatched w
+  pub whole : AllWhole w.table w.down
+
+-- each frame is timely, and each round is begun where it may be
+abbrev pub TimelyAndFresh : ℕ → List WorldEvent → PlayState → Type 0
+TimelyAndFresh n es c = AllTimely n es c × AllFresh n es c
+
+abbrev FreshTo : ℕ → List WorldEvent → PlayState → PlayState → Type 0
+FreshTo n es c d = (is_fresh_event c d ≡ true) × AllFresh (n + 1) es d
+
+fresh_to : (n : ℕ) (e : WorldEvent) (es : List WorldEvent) (c d : PlayState) → AllFresh n (e ∷ es) c → played n e c ≡ ok_play d → FreshTo n es c d
+fresh_to n e es c d fresh q = when_played (played n e c) (λ x. FreshTo n es c x) d q fresh
 
 pub belongs_once : (w : World) (h : Happening) (went : Went) (steps : List Step) → Belongs w h went steps → OneSubmits steps
 belongs_once w h Whole steps b = played_once w h.event steps b
 belongs_once w h After steps b = played_once w h.event steps b
 belongs_once w h Before steps b = subst (λ (ss : List Step). OneSubmits ss) (sym b) tt
 
-event_matches : (n : ℕ) (e : WorldEvent) (c d : PlayState) (w : World) → PlayRefines c w → IsGoodEvent e → HandsOctets e c → is_timely_event e c ≡ true → is_fresh_event c d ≡ true → played n e c ≡ ok_play d
-    → IsFaithful w → TakersThere c w → IsMatched w → AllWhole w.table w.down → Matches d
-event_matches n e c d w s good octets timely fresh q f takers matched whole =
-    let l = event_leads n e c d w s good octets q in
+event_matches : (n : ℕ) (e : WorldEvent) (es : List WorldEvent) (c d : PlayState) (w : World) → PlayRefines c w → IsGoodEvent e → HandsOctets e c → TimelyAndFresh n (e ∷ es) c → played n e c ≡ ok_play d
+    → (l : LeadsTo e c w d) → IsMatchedWhole c w → IsMatchedWhole d (world_after w e c l.0)
+event_matches n e es c d w s good octets asked q l k =
     let h : Happening = happening_of e c.centre.moment in
     let b : Bool = is_stopped h.went in
     let sound : IsSound w = sound_there w s.reached in
-    let hands = hands_down e c w c.centre.moment s timely in
+    let fresh : is_fresh_event c d ≡ true = (fresh_to n e es c d asked.1 q).0 in
+    let hands = hands_down e c w c.centre.moment s asked.0.0 in
     let grows = given_grows n e c d q in
-    let at = decided_fresh c d w h.moment b l.0 grows.0 s l.1.2 takers (belongs_once w h h.went l.0 l.1.0) grows.1 fresh in (
-      end w (happened h l.0),
-      (
-        l.1.2,
-        event_faithful w h.event h.went h.moment l.0 l.1.0 hands l.1.1 sound f,
-        takers_stay n e c d w c.centre.moment l.0 s q l.1.0 l.1.1 takers,
-        event_matched w h.moment b l.0 sound f matched l.1.1 at h h.went l.1.0 hands,
-        event_whole w h.moment b l.0 h h.went l.1.0 at sound whole l.1.1,
-      ),
-    )
+    let at = decided_fresh c d w h.moment b l.0 grows.0 s l.1.2 k.trusted.takers (belongs_once w h h.went l.0 l.1.0) grows.1 fresh in
+    record {
+      trusted = trusted_kept.keeps n e es c d w s good octets asked.0 q l k.trusted;
+      matched = event_matched w h.moment b l.0 sound k.trusted.faithful k.matched l.1.1 at h h.went l.1.0 hands;
+      whole = event_whole w h.moment b l.0 h h.went l.1.0 at sound k.whole l.1.1;
+    }
 
-then_matches : (n : ℕ) (e : WorldEvent) (c d : PlayState) (w : World) (more : PlayState → Result PlayState PlayFault) (Octets Timely Fresh : PlayState → Type 0)
-    → ((x : PlayState) (v : World) → PlayRefines x v → IsFaithful v → TakersThere x v → IsMatched v → AllWhole v.table v.down → Octets x → Timely x → Fresh x → more x ≡ ok_play d → Matches d)
-    → PlayRefines c w → IsGoodEvent e → HandsOctets e c → is_timely_event e c ≡ true → IsFaithful w → TakersThere c w → IsMatched w → AllWhole w.table w.down → (r : Result PlayState PlayFault) → played n e c ≡ r
-    → IfPlayed r Octets → IfPlayed r Timely → IfPlayed r (λ x. (is_fresh_event c x ≡ true) × Fresh x) → (r >>= λ (x : PlayState). more x) ≡ ok_play d → Matches d
-then_matches n e c d w more Octets Timely Fresh go s good octets timely f takers matched whole (Ok x) is later in_time fresh q =
-    let y = event_matches n e c x w s good octets timely fresh.0 is f takers matched whole in go x y.0 y.1.0 y.1.1 y.1.2 y.1.3 y.1.4 later in_time fresh.1 q
-then_matches n e c d w more Octets Timely Fresh go s good octets timely f takers matched whole (Err fault) is later in_time fresh q = absurd cc
+pub matches_kept : KeptByEvents TimelyAndFresh IsMatchedWhole
+matches_kept = record {
+  keeps = event_matches;
+  rest = λ n e es c d asked q. (timely_on n e es c d asked.0 q, (fresh_to n e es c d asked.1 q).1);
+}
 
-pub all_match : (n : ℕ) (es : List WorldEvent) (c d : PlayState) (w : World) → PlayRefines c w → AreGood es → AllHandOctets n es c → AllTimely n es c → AllFresh n es c → IsFaithful w → TakersThere c w → IsMatched w
-    → AllWhole w.table w.down → played_on n es c ≡ ok_play d → Matches d
-all_match n [] c d w s good octets timely fresh f takers matched whole q =
-    let same : c ≡ d = same_play c d q in (w, (subst (λ (z : PlayState). PlayRefines z w) same s, f, subst (λ (z : PlayState). TakersThere z w) same takers, matched, whole))
-all_match n (e ∷ es) c d w s good octets timely fresh f takers matched whole q =
-    then_matches n e c d w (λ x. played_on (n + 1) es x) (λ x. AllHandOctets (n + 1) es x) (λ x. AllTimely (n + 1) es x) (λ x. AllFresh (n + 1) es x)
-    (λ x v k g h i u o t r p. all_match (n + 1) es x d v k good.1 o t r g h i u p)
-    s good.0 octets.0 timely.0 f takers matched whole (played n e c) refl octets.1 timely.1 fresh q
+pub matches_first : (s : Setup) → PlayRefines (beginning s) empty → IsMatchedWhole (beginning s) empty
+matches_first s shows = record { trusted = trusted_first s shows; matched = joins_empty; whole = whole_empty }
 
 -- ---- each joined message is one round
 
@@ -192,13 +191,13 @@ module _ (c : PlayState) (w : World) (s : PlayRefines c w) (matched : IsMatched 
     rounds_apart gs rs all.1 o.1,
   )
 
-pub joined_whole : (c : PlayState) (w : World) → PlayRefines c w → IsFaithful w → IsMatched w → AllWhole w.table w.down → JoinedWhole c
-joined_whole c w s f matched whole q there =
-    let all = all_rounds c w s matched whole q there w.joined (λ j i. i) in
+pub joined_whole : (c : PlayState) (w : World) → PlayRefines c w → IsMatchedWhole c w → JoinedWhole c
+joined_whole c w s k q there =
+    let all = all_rounds c w s k.matched k.whole q there w.joined (λ j i. i) in
     let placed = placed_there w s.reached in (
       all.0,
       (
         subst (λ (rows : List JoinedRow). AreJoinedRounds c q rows all.0) (sym (s.parties q there).joined) all.1.0,
-        rounds_apart c w s matched whole q there (groups_at q.number w.joined) all.0 all.1.1 (all_apart w placed f q.number w.joined (λ j i. i) placed.once),
+        rounds_apart c w s k.matched k.whole q there (groups_at q.number w.joined) all.0 all.1.1 (all_apart w placed k.trusted.faithful q.number w.joined (λ j i. i) placed.once),
       ),
     )

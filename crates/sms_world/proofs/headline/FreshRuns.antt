@@ -1,17 +1,20 @@
 -- While frames come in time and rounds begin only where they may, what ends at a handset is one round.
-use Rattle.std.proofs.Common.{◌≡◌, ℕ, List, [], ◌∷◌, ◌++◌, Bool, refl, sym, ◌∙◌, subst, inl, inr, ⊎_elim}
+use Rattle.std.proofs.Common.{◌≡◌, ℕ, List, [], ◌∷◌, ◌++◌, Bool, refl, sym, ◌∙◌, subst, inl, ⊎_elim}
+use Rattle.sms_base.proofs.Lists.{among_back, among_front}
 use Rattle.sms_base.specs.Among.{Among}
 use Rattle.sms_world_model.specs.Premises.{FreshParts, SubmitsFresh, IsTimely}
 use Rattle.sms_world_model.specs.References.{Ticket}
 use Rattle.sms_world_model.specs.WorldStep.{Run, after_item, end, Can, Delete, Receive, Remove, Status, Step, Submit, Take, after}
-use Rattle.sms_world_model.specs.ScriptRun.{After, AllControl, AllMayFollow, AllWrite, Asked, Before, Belongs, Cancelled, Event, Follows, Handed, Happening, IsControl, IsExpiry, IsInOrder, IsOwn, IsPlayed, MayFollow, Reads, Removed, Restarted, Submitted, Tick_centre, Tick_handset, Went, Whole, Wrote, items}
+use Rattle.sms_world_model.specs.ScriptRun.{After, AllControl, AllMayFollow, AllWrite, Asked, Before, Belongs, Cancelled, Event, Follows, Handed, Happening, IsControl, IsExpiry, IsInOrder, IsOwn, IsPlayed, Reads, Removed, Restarted, Submitted, Tick_centre, Tick_handset, Went, Whole, Wrote, items}
 use Rattle.sms_world_model.specs.Submission.{Submission}
 use Rattle.sms_world_model.specs.World.{Accepted, Carried, Frame, Allocation, OutEntry, World}
 use Rattle.sms_world_model.proofs.Faithful.{IsFaithful, faithful_run, faithful_step}
 use Rattle.sms_world_model.proofs.Joins.{IsMatched, joins_step}
 use Rattle.sms_world_model.proofs.Runs.{sound_run}
 use Rattle.sms_world_model.proofs.Sound.{IsSound}
-use Rattle.sms_world.proofs.headline.FaithfulRuns.{HandsDown, control_timely, end_parts, one_faithful, run_parts, stays_timely}
+use Rattle.sms_world.proofs.headline.FaithfulRuns.{HandsDown, end_parts, one_faithful, run_parts}
+use Rattle.sms_world_model.proofs.Scripts.{control_timely, stays_timely}
+use Rattle.sms_world_model.proofs.Followers.{said_of_followers}
 
 -- ---- steps that neither submit nor accept
 
@@ -61,20 +64,9 @@ expiry_quiet (Receive u x ts) f = absurd f
 expiry_quiet (Take u) f = absurd f
 expiry_quiet _ f = tt
 
-may_follow_quiet : (event : Event) (s : Step) → MayFollow event s → IsQuiet s
-may_follow_quiet Tick_centre s f = ⊎_elim (λ (x : Follows s). follow_quiet s x) (λ (x : IsExpiry s). expiry_quiet s x) f
-may_follow_quiet Submitted s f = follow_quiet s f
-may_follow_quiet Cancelled s f = follow_quiet s f
-may_follow_quiet Asked s f = follow_quiet s f
-may_follow_quiet (Handed n) s f = follow_quiet s f
-may_follow_quiet Tick_handset s f = follow_quiet s f
-may_follow_quiet Wrote s f = follow_quiet s f
-may_follow_quiet Removed s f = follow_quiet s f
-may_follow_quiet Restarted s f = follow_quiet s f
-
 pub follows_quiet : (event : Event) (ss : List Step) → AllMayFollow event ss → AllQuiet ss
 follows_quiet event [] f = tt
-follows_quiet event (s ∷ ss) f = (may_follow_quiet event s f.0, follows_quiet event ss f.1)
+follows_quiet event (s ∷ ss) f = (said_of_followers IsQuiet follow_quiet expiry_quiet event s f.0, follows_quiet event ss f.1)
 
 pub writes_quiet : (ss : List Step) → AllWrite ss → AllQuiet ss
 writes_quiet [] a = tt
@@ -144,14 +136,6 @@ module _ (w v : World) (m : ℕ) (b : Bool) (same : (v.down ≡ w.down) × (v.ac
 
 -- ---- an event
 
-pub in_front : (x : Step) (xs ys : List Step) → Among x xs → Among x (xs ++ ys)
-in_front x [] ys i = absurd i
-in_front x (z ∷ zs) ys i = ⊎_elim (λ (e : x ≡ z). inl e) (λ (j : Among x zs). inr (in_front x zs ys j)) i
-
-pub in_rest : (x : Step) (xs ys : List Step) → Among x ys → Among x (xs ++ ys)
-in_rest x [] ys i = i
-in_rest x (z ∷ zs) ys i = inr (in_rest x zs ys i)
-
 -- each of these begins rounds only where it may
 abbrev pub AllFreshAt : World → ℕ → List Step → Type 0
 AllFreshAt w m steps = (s : Step) → Among s steps → SubmitsFresh w m s
@@ -168,7 +152,7 @@ order_matched w m b event steps (control, own, follows, x) hands fresh sound fai
     let faithful_v : IsFaithful v = faithful_run w (items m b control) sound faithful first.0 (control_timely w m b control x.0) in
     let at_v : IsMatched v = quiet_steps w m b control (control_quiet control x.0) matched in
     let at_z : IsMatched z = own_matched w v m b (control_leaves w m b control x.0) sound_v faithful_v at_v event own x.1 (λ u t. stays_timely w m b control u x.0 t) hands second.0
-    (λ s i. fresh s (subst (λ (ss : List Step). Among s ss) (sym x.3) (in_rest s control (own ++ follows) (in_front s own follows i)))) in
+    (λ s i. fresh s (subst (λ (ss : List Step). Among s ss) (sym x.3) (among_back s control (own ++ follows) (among_front s own follows i)))) in
     let at_end : IsMatched (end z (items m b follows)) = quiet_steps z m b follows (follows_quiet event follows x.2) at_z in
     subst (λ (ss : List Step). IsMatched (end w (items m b ss))) (sym x.3)
     (subst (λ (y : World). IsMatched y) (sym (end_parts w m b control (own ++ follows) ∙ end_parts v m b own follows)) at_end)

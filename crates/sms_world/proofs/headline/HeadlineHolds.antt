@@ -4,18 +4,16 @@ use Rattle.sms_base.specs.Reading.{◌>>=◌}
 use Rattle.sms_centre_rows.specs.messages.Messages.{message_key}
 use Rattle.sms_play.proofs.answers.PlayAnswers.{no_system_error}
 use Rattle.sms_play.specs.PlayState.{PlayState}
-use Rattle.sms_play.specs.Playing.{play_state_of, played_on, report_of}
-use Rattle.sms_play.specs.Setups.{beginning, can_be_played}
+use Rattle.sms_play.specs.Playing.{play_state_of, report_of}
+use Rattle.sms_play.specs.Setups.{beginning}
 use Rattle.sms_script.specs.declared.play_fault.PlayFault.{PlayFault}
 use Rattle.sms_rows.proofs.table.Tables.{found_among, found_key}
 use Rattle.sms_script.specs.declared.event.WorldEvent.{WorldEvent}
 use Rattle.sms_script.specs.declared.report.Report.{Report}
 use Rattle.sms_script.specs.declared.script.Script.{Script}
 use Rattle.sms_script.specs.declared.setup.Setup.{Setup}
-use Rattle.sms_world.proofs.headline.Claimed.{can_play, delivered_is, final_is, given_is, held_is, joined_whole_is, once_is, reaches, receipts_are, run_is, script_hands, sent_is}
-use Rattle.sms_world.proofs.headline.NamedAnswers.{AllNamed, all_named}
+use Rattle.sms_world.proofs.headline.Claimed.{delivered_is, final_is, given_is, held_is, joined_whole_is, once_is, reaches, receipts_are, run_is, sent_is}
 use Rattle.sms_world.proofs.headline.OneRuns.{run_on}
-use Rattle.sms_world.proofs.headline.Parting.{others_good, parted}
 use Rattle.sms_world.proofs.headline.PlainTables.{lines_ascend}
 use Rattle.sms_world.proofs.headline.SentReceipts.{listed_on, reported_on}
 use Rattle.sms_world.proofs.headline.SplitClaimed.{split_joined_is}
@@ -27,27 +25,29 @@ use Rattle.sms_world.proofs.headline.TimelyClaims.{parts_once}
 use Rattle.sms_world.proofs.messages_have_origins.DeliveredClaims.{delivered_from}
 use Rattle.sms_world.proofs.messages_have_origins.OriginClaims.{origin_is}
 use Rattle.sms_world.proofs.messages_have_origins.TextClaims.{split_text_is}
-use Rattle.sms_world.proofs.scripts_are_runs.Beginnings.{begins}
 use Rattle.sms_world.proofs.scripts_are_runs.Events.{ok_play}
 use Rattle.sms_world.specs.headline.Claims.{AllTimely}
 use Rattle.sms_world.specs.headline.Headline.{FinalStates, Headline, Stay, WasDelivered}
 use Rattle.sms_world.specs.headline.HeadlineLaws.{ConfirmedLaw, HeadlineLaw, IsScript, LeadsOn, OneRunLaw, PartsLaw, ReceiptsStayLaw, ReportsSayLaw, StatusLaw, StayLaw}
 use Rattle.sms_world.specs.headline.PlainReport.{AreAscending}
 use Rattle.sms_world.specs.headline.TypedEvents.{AreTyped}
-use Rattle.sms_world.specs.scripts_are_runs.PlayRuns.{AllHandOctets, AreGood, happenings}
+use Rattle.sms_world.specs.scripts_are_runs.PlayRuns.{happenings}
 use Rattle.sms_world.specs.scripts_are_runs.PlayRefinement.{PlayRefines}
 use Rattle.sms_world_model.proofs.Runs.{final_stays, messages_stay}
 use Rattle.sms_world_model.proofs.Scripts.{script_steps}
 use Rattle.sms_world_model.specs.Agreement.{FinalForGood, MessagesStay}
 use Rattle.sms_world_model.specs.World.{ReceiptOf, World, empty}
 use Rattle.std.proofs.Common.{ap, refl, subst, sym}
-use Rattle.std.specs.Prelude.{Err, List, Ok, Result, [], length, true, ◌++◌, ◌+◌, ◌∷◌, ◌≡◌}
+use Rattle.std.specs.Prelude.{Err, List, Ok, Result, [], length, ◌++◌, ◌+◌, ◌∷◌, ◌≡◌}
+use Rattle.sms_world.proofs.headline.NamedAnswers.{HasNamed, named_kept}
+use Rattle.sms_world.proofs.scripts_are_runs.Courses.{NothingAsked}
+use Rattle.sms_world.proofs.headline.ScriptCourses.{claimed, course_of}
 
 pub nothing_more : (es : List WorldEvent) → es ≡ es ++ []
 nothing_more [] = refl
 nothing_more (e ∷ es) = ap (λ (z : List WorldEvent). e ∷ z) (nothing_more es)
 
-abbrev ok_report : Report → Result Report PlayFault
+abbrev pub ok_report : Report → Result Report PlayFault
 ok_report r = Ok r
 
 same_report : (a b : Report) → ok_report a ≡ ok_report b → a ≡ b
@@ -81,56 +81,36 @@ receipts_stay_is script some others c d is on =
 
 -- ---- one run
 
--- what the events of a script hand over, and that they lead there
-record Plays (script : Script) (some : List WorldEvent) (c : PlayState) : Type 0 where
-  can : can_be_played script.setup ≡ true
-  good : AreGood some
-  octets : AllHandOctets 1 some (beginning script.setup)
-  leads : played_on 1 some (beginning script.setup) ≡ ok_play c
-
-plays : (script : Script) (some others : List WorldEvent) (c d : PlayState) → IsScript script some others → LeadsOn script some c d → Plays script some c
-plays script some others c d is on =
-    let s : Setup = script.setup in
-    let start : PlayState = beginning s in
-    let goods = others_good some others (subst (λ (es : List WorldEvent). AreGood es) is.events is.typed.good) in
-    let here = can_play s some c on.here in
-    let there = can_play s script.events d on.there in
-    let p = parted some others 1 start d (subst (λ (es : List WorldEvent). AllHandOctets 1 es start) is.events (script_hands script is.typed there.can))
-    (subst (λ (es : List WorldEvent). played_on 1 es start ≡ ok_play d) is.events there.leads) in
-    record { can = here.can; good = goods.0; octets = p.first_octets; leads = here.leads }
-
 pub one_run_is : OneRunLaw
 one_run_is script some others c d is on =
-    let p : Plays script some c = plays script some others c d is on in
-    run_on 1 some (beginning script.setup) c empty (begins script.setup p.can) (λ a i. absurd i) p.good p.octets p.leads
+    let k = course_of script some others c d is on in
+    run_on 1 some (beginning script.setup) c empty k.start (λ a i. absurd i) k.good k.octets k.leads
 
 -- ---- no part is accepted twice
 
 pub parts_once_is : PartsLaw
 parts_once_is script some others c d is on timely =
-    let r = reaches script some others c d is on timely in parts_once c r.0 r.1.0 r.1.1
+    let r = reaches script some others c d is on timely in parts_once c r.0 r.1.0 r.1.1.faithful
 
 -- ---- what is confirmed
 
 pub confirmed_is : ConfirmedLaw
 confirmed_is script some others c d is on a id i e =
-    let p : Plays script some c = plays script some others c d is on in
-    let none : AllNamed (beginning script.setup) = λ x n j q. absurd j in
-    let m = all_named 1 some (beginning script.setup) c empty (begins script.setup p.can) none p.good p.octets p.leads a id i e in
+    let r = claimed NothingAsked HasNamed named_kept script some others c d is on tt (λ shows x n j q. absurd j) in
+    let m = r.1.1 a id i e in
     (line_of m.0, (line_there m.0 c.centre.rows.messages (found_among message_key id m.0 c.centre.rows.messages m.1), found_key message_key id m.0 c.centre.rows.messages m.1))
 
 pub status_is : StatusLaw
 status_is script some others c d is on =
-    let x = run_is script some others c d is on in
-    status_listed c x.0 x.2.1
+    let k = course_of script some others c d is on in
+    status_listed c k.world k.refines
 
 pub reports_say_is : ReportsSayLaw
 reports_say_is script some others c d is on =
-    let p : Plays script some c = plays script some others c d is on in
-    let x = run_is script some others c d is on in
+    let k = course_of script some others c d is on in
     let rows : StatusRows c.centre.rows =
-    rows_preserved StatusRows status_holds 1 some (beginning script.setup) c empty (begins script.setup p.can) (λ r reference tpdu i. absurd i) p.good p.octets p.leads in
-    reports_say c x.0 x.2.1 rows
+    rows_preserved StatusRows status_holds 1 some (beginning script.setup) c empty k.start (λ r reference tpdu i. absurd i) k.good k.octets k.leads in
+    reports_say c k.world k.refines rows
 
 -- ---- all of it
 
@@ -146,9 +126,8 @@ module _ (setup : Setup) (events : List WorldEvent) (typed : AreTyped events) (c
 
   ascending : AreAscending (report_of c).table
   ascending =
-      let x = run_is script events [] c c is on in
-      let k : PlayRefines c x.0 = x.2.1 in
-      lines_ascend c.centre.rows.messages k.sound.rows.messages.message_keys
+      let k = course_of script events [] c c is on in
+      lines_ascend c.centre.rows.messages k.refines.sound.rows.messages.message_keys
 
   states : FinalStates setup events (report_of c)
   states = record {

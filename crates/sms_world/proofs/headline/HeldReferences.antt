@@ -1,19 +1,13 @@
 -- To which entry of its outbox each handset gave a reference last, the course tells, of each entry that has not ended.
-use Rattle.std.proofs.Common.{◌≡◌, ℕ, zero, suc, List, [], ◌∷◌, ◌++◌, true, refl, sym, subst, ⊎_elim, Option, Some, None, Result, Ok, Err}
-use Rattle.std.proofs.lemmas.Bool.{cond_both}
+use Rattle.std.proofs.Common.{◌≡◌, ℕ, zero, suc, List, [], ◌∷◌, ◌++◌, true, refl, sym, subst, ⊎_elim, Option, Some, None, Ok}
 use Rattle.sms_base.specs.Among.{Among}
-use Rattle.sms_base.specs.Reading.{◌>>=◌}
-use Rattle.sms_script.specs.declared.report.answers.Answered.TheVariants.{Stopped as AnsweredStopped}
 use Rattle.sms_script.specs.declared.report.rows.Direction.{Direction}
 use Rattle.sms_script.specs.declared.report.rows.Direction.TheVariants.{Up as UpRow, Down as DownRow}
 use Rattle.sms_script.specs.declared.report.rows.FrameRow.{FrameRow}
 use Rattle.sms_centre_rows.specs.declared.reports.delivery.Delivery.{Delivery}
 use Rattle.sms_script.specs.declared.event.Act.{Act}
 use Rattle.sms_script.specs.declared.event.Act.TheVariants.{Submit as SubmitAct, Query, Cancel, Write as WriteAct, Delete as DeleteAct, Discard as DiscardAct, Deliver, Tick as TickAct}
-use Rattle.sms_script.specs.declared.event.EventSide.{EventSide}
 use Rattle.sms_script.specs.declared.event.EventSide.TheVariants.{Centre, Handset}
-use Rattle.sms_script.specs.declared.event.StopPoint.{StopPoint}
-use Rattle.sms_script.specs.declared.event.StopPoint.TheVariants.{Before, After}
 use Rattle.sms_script.specs.declared.event.WorldEvent.{WorldEvent}
 use Rattle.sms_script.specs.declared.event.WorldEvent.TheVariants.{Whole, Stopped, Restart}
 use Rattle.sms_centre_spec.specs.CentreEvent.{happened as centre_happened}
@@ -24,22 +18,22 @@ use Rattle.sms_centre_spec.specs.declared.event.CentreEvent.{CentreEvent}
 use Rattle.sms_centre_spec.specs.declared.event.CentreEvent.TheVariants.{DeliverAnswered, Frame as CentreFrame, Tick as CentreTick}
 use Rattle.sms_handset.specs.SoundCore.{IsSoundCore}
 use Rattle.sms_handset.specs.declared.event.HandsetEvent.{HandsetEvent}
-use Rattle.sms_handset.specs.declared.refusal.Refusal.{Refusal}
 use Rattle.sms_handset_draft.specs.Draft.{Draft, recovered}
-use Rattle.sms_script.specs.declared.play_fault.PlayFault.{PlayFault}
 use Rattle.sms_play.specs.CentreSide.{accepted_after, centre_meets, done as centre_done, given_by as centre_given, with_answer as centre_told, whole as centre_whole}
-use Rattle.sms_play.specs.PlayState.{PlayState, Party, answer, frame_at, numbers_of, party_at, with_party}
-use Rattle.sms_play.specs.HandsetSide.{committed, given_by, handset_meets, happened, is_owners, party_after, with_answer, whole}
-use Rattle.sms_play.specs.Meeting.{AtCentre, AtHandset, Meeting, by_account, by_handset, delivered, handed_over, is_answered, meeting_of, tag_in}
-use Rattle.sms_play.specs.PlayedEvent.{handset_stored, handset_restarted, handset_restarts, stored, met, party_restarted, played, restart, restarted, stopped}
+use Rattle.sms_play.specs.PlayState.{PlayState, Party, frame_at, numbers_of, party_at, with_party}
+use Rattle.sms_play.specs.HandsetSide.{committed, given_by, happened, party_after}
+use Rattle.sms_play.specs.Meeting.{AtCentre, AtHandset, Meeting, by_account, by_handset, delivered, handed_over, meeting_of, tag_in}
+use Rattle.sms_play.specs.PlayedEvent.{party_restarted, played}
 use Rattle.sms_world_model.specs.World.{World}
 use Rattle.sms_world.specs.scripts_are_runs.PlayRefinement.{PlayRefines}
-use Rattle.sms_world.proofs.scripts_are_runs.Events.{ok_play, same_play}
-use Rattle.sms_world.proofs.scripts_are_runs.Parties.{party_found, with_among, with_numbers}
+use Rattle.sms_world.proofs.scripts_are_runs.Events.{ok_play}
+use Rattle.sms_world.proofs.scripts_are_runs.Parties.{party_found, with_among}
 use Rattle.sms_world.specs.entries_keep_references.ReportedEntries.{AreBelow, EntriesAgree}
 use Rattle.sms_world.proofs.entries_keep_references.EntriesAgreeing.{event_reported}
 use Rattle.sms_world.proofs.entries_keep_references.Elsewhere.{centre_elsewhere, other_elsewhere, agrees_still}
-use Rattle.sms_world.proofs.scripts_are_runs.Meetings.{ok_meeting}
+use Rattle.sms_play.proofs.growth.Growing.{some_meeting}
+use Rattle.sms_player.proofs.playing.Placed.{numbers_preserved}
+use Rattle.sms_world.proofs.scripts_are_runs.PlayedParts.{IsMetSo, KeptByParts, event_keeps}
 
 -- ---- a course
 
@@ -54,10 +48,7 @@ abbrev IsReady : Party → Type 0
 IsReady p = IsSoundCore p.core × AreBelow p.core.rows.counters.notice p.core.notices
 
 still_apart : (z : Party) (c : PlayState) → AreDifferent (numbers_of c.parties) → AreDifferent (numbers_of (with_party z c.parties))
-still_apart z c apart = subst (λ (ns : List (List ℕ)). AreDifferent ns) (sym (with_numbers z c.parties)) apart
-
-same_meeting : (a b : Meeting) → ok_meeting a ≡ ok_meeting b → a ≡ b
-same_meeting a b e = cc
+still_apart z c apart = subst (λ (ns : List (List ℕ)). AreDifferent ns) (sym (numbers_preserved z c.parties)) apart
 
 -- of whom a meeting is
 abbrev IsOfParties : PlayState → Meeting → Type 0
@@ -99,25 +90,7 @@ module _ (n : ℕ) where
             (with_among z c.parties k.0 x i),
       )
 
-  whole_apart : (p : Party) (e : HandsetEvent) (r : Result Draft Refusal) (c : PlayState) → Among p c.parties → IsReady p → happened e p.core ≡ r → Apart c → Apart (whole p r c)
-  whole_apart p e (Ok d) c there ready q k = commits p e d c there ready q k
-  whole_apart p e (Err refusal) c there ready q k = k
-
-  preserved_apart : (p : Party) (e : HandsetEvent) (r : Result Draft Refusal) (c : PlayState) → Among p c.parties → IsReady p → happened e p.core ≡ r → Apart c → Apart (handset_stored p r c)
-  preserved_apart p e (Ok d) c there ready q k = commits p e d c there ready q k
-  preserved_apart p e (Err refusal) c there ready q k = k
-
-  reported_apart : (r : Result Draft Refusal) (c : PlayState) → Apart c → Apart (with_answer n r c)
-  reported_apart (Ok d) c k = k
-  reported_apart (Err refusal) c k = k
-
-  handset_apart : (p : Party) (e : HandsetEvent) (c : PlayState) → Among p c.parties → IsReady p → Apart c → Apart (handset_meets n p e c)
-  handset_apart p e c there ready k =
-      let r : Result Draft Refusal = happened e p.core in
-      let w : Apart (whole p r c) = whole_apart p e r c there ready refl k in
-      cond_both (is_owners e) (with_answer n r (whole p r c)) (whole p r c) (λ (z : PlayState). Apart z) (λ t. reported_apart r (whole p r c) w) (λ t. w)
-
-  -- ---- restarts and stops
+  -- ---- restarts
 
   party_apart : (p : Party) (c : PlayState) → Among p c.parties → Apart c → Apart (party_restarted p c)
   party_apart p c there k =
@@ -129,30 +102,7 @@ module _ (n : ℕ) where
             (with_among z c.parties k.0 x i),
       )
 
-  restarted_apart : (h : List ℕ) (o : Option Party) (c : PlayState) → party_at h c.parties ≡ o → Apart c → Apart (handset_restarted o c)
-  restarted_apart h None c e k = k
-  restarted_apart h (Some p) c e k = party_apart p c (party_found h c.parties p e).0 k
-
-  back_apart : (m : Meeting) (c : PlayState) → Apart c → Apart (restarted m c)
-  back_apart (AtCentre e) c k = k
-  back_apart (AtHandset p e) c k = restarted_apart p.number (party_at p.number c.parties) c refl k
-
   module _ (c : PlayState) (ready : (p : Party) → Among p c.parties → IsReady p) (k : Apart c) where
-    stop_apart : (stop : StopPoint) (m : Meeting) → IsOfParties c m → Apart (stored stop m c)
-    stop_apart Before m is = k
-    stop_apart After (AtCentre e) is = centre_gives (centre_happened e c.centre) c k
-    stop_apart After (AtHandset p e) is = preserved_apart p e (happened e p.core) c is (ready p is) refl k
-
-    stopped_apart : (act : Act) (stop : StopPoint) (m : Meeting) → IsOfParties c m → Apart (stopped n act stop m c)
-    stopped_apart act stop m is =
-        let d : PlayState = restarted m (stored stop m c) in
-        let o : Apart d = back_apart m (stored stop m c) (stop_apart stop m is) in
-        cond_both (is_answered act) (answer n AnsweredStopped d) d (λ (z : PlayState). Apart z) (λ t. o) (λ t. o)
-
-    met_apart : (m : Meeting) → IsOfParties c m → Apart (met n m c)
-    met_apart (AtCentre e) is = centre_apart e c k
-    met_apart (AtHandset p e) is = handset_apart p e c is (ready p is) k
-
     -- ---- whom an act meets
 
     of_account : (request : ℕ → CentreEvent) (o : Option ℕ) (m : Meeting) → by_account n request o ≡ Ok m → IsOfParties c m
@@ -167,7 +117,7 @@ module _ (n : ℕ) where
 
     of_row : (d : Direction) (f : FrameRow) (m : Meeting) → handed_over n d f c ≡ Ok m → IsOfParties c m
     of_row UpRow f m q =
-        let x : Meeting = AtCentre (CentreFrame f.handset f.octets (tag_in f.carried)) in subst (λ (z : Meeting). IsOfParties c z) (same_meeting x m q) tt
+        let x : Meeting = AtCentre (CentreFrame f.handset f.octets (tag_in f.carried)) in subst (λ (z : Meeting). IsOfParties c z) (some_meeting x m q) tt
     of_row DownRow f m q = of_handset f.handset _ (party_at f.handset c.parties) m refl q
 
     of_frame : (o : Option FrameRow) (m : Meeting) → delivered n o c ≡ Ok m → IsOfParties c m
@@ -182,27 +132,33 @@ module _ (n : ℕ) where
     of_act (DeleteAct h entry) m q = of_handset h _ (party_at h c.parties) m refl q
     of_act (DiscardAct h entry) m q = of_handset h _ (party_at h c.parties) m refl q
     of_act (Deliver number) m q = of_frame (frame_at number c.bag) m q
-    of_act (TickAct Centre now) m q = let x : Meeting = AtCentre (CentreTick now) in subst (λ (z : Meeting). IsOfParties c z) (same_meeting x m q) tt
+    of_act (TickAct Centre now) m q = let x : Meeting = AtCentre (CentreTick now) in subst (λ (z : Meeting). IsOfParties c z) (some_meeting x m q) tt
     of_act (TickAct (Handset h) now) m q = of_handset h _ (party_at h c.parties) m refl q
 
     -- ---- each event
 
-    then_apart : (r : Result Meeting PlayFault) (f : Meeting → PlayState) (d : PlayState) → ((m : Meeting) → r ≡ Ok m → Apart (f m)) → (r >>= λ (m : Meeting). ok_play (f m)) ≡ ok_play d → Apart d
-    then_apart (Ok m) f d g e = subst (λ (z : PlayState). Apart z) (same_play (f m) d e) (g m refl)
-    then_apart (Err fault) f d g e = absurd cc
+    abbrev OfParties : Act → Meeting → Type 0
+    OfParties act m = IsOfParties c m
 
-    handset_back : (h : List ℕ) (o : Option Party) (d : PlayState) → party_at h c.parties ≡ o → handset_restarts n o c ≡ Ok d → Apart d
-    handset_back h None d e q = absurd cc
-    handset_back h (Some p) d e q = subst (λ (z : PlayState). Apart z) (same_play _ d q) (party_apart p c (party_found h c.parties p e).0 k)
+    parts_apart : KeptByParts Apart OfParties n c
+    parts_apart = record {
+      begins = k;
+      centre_met = λ act e t. centre_apart e c k;
+      centre_stored = λ act e t. centre_gives (centre_happened e c.centre) c k;
+      handset_met = λ act p e d there q. commits p e d c there (ready p there) q k;
+      handset_stored_it = λ act p e d there q. commits p e d c there (ready p there) q k;
+      centre_back = λ x h. h;
+      handset_back = party_apart;
+      noted = λ a x h. h;
+    }
 
-    side_back : (side : EventSide) (d : PlayState) → restart n side c ≡ Ok d → Apart d
-    side_back Centre d q = subst (λ (z : PlayState). Apart z) (same_play _ d q) k
-    side_back (Handset h) d q = handset_back h (party_at h c.parties) d refl q
+    met_there : (e : WorldEvent) → IsMetSo OfParties n c e
+    met_there (Whole act) = λ m q. of_act act m q
+    met_there (Stopped stop act) = λ m q. of_act act m q
+    met_there (Restart side) = tt
 
     event_apart : (e : WorldEvent) (d : PlayState) → played n e c ≡ ok_play d → Apart d
-    event_apart (Whole act) d q = then_apart (meeting_of n act c) (λ m. met n m c) d (λ m i. met_apart m (of_act act m i)) q
-    event_apart (Stopped stop act) d q = then_apart (meeting_of n act c) (λ m. stopped n act stop m c) d (λ m i. stopped_apart act stop m (of_act act m i)) q
-    event_apart (Restart side) d q = side_back side d q
+    event_apart e d q = event_keeps Apart OfParties n c parts_apart e d (met_there e) q
 
 all_ready : (c : PlayState) (w : World) → PlayRefines c w → (p : Party) → Among p c.parties → IsReady p
 all_ready c w s p i =

@@ -4,6 +4,7 @@ use Rattle.std.specs.Prelude.{if◌then◌else◌}
 use Rattle.std.specs.Str.{bytes_eq}
 use Rattle.std.proofs.lemmas.Bool.{both_ways, cases_Bool, cond-false, cond-true}
 use Rattle.std.proofs.lemmas.Slice.Eq.{bytes_eq-Decides}
+use Rattle.sms_base.proofs.Lists.{among_end}
 use Rattle.sms_base.specs.Among.{Among}
 use Rattle.sms_base.specs.declared.holder.Holder.{Holder}
 use Rattle.sms_base.specs.declared.holder.Holder.TheVariants.{Part, Report, Entry, Memory}
@@ -19,10 +20,9 @@ use Rattle.sms_world_model.specs.Groups.{Groups, IsEndedAt, groups, groups_of, i
 use Rattle.sms_world_model.specs.Place.{Key, Place, place_in}
 use Rattle.sms_world_model.specs.Submission.{HasPart, Submission, IsDeliverOf}
 use Rattle.sms_world_model.specs.World.{Accepted, Allocation, Joined, IsRecorded, World, empty, pair_given}
-use Rattle.sms_world_model.specs.WorldStep.{HasNotJoined}
-use Rattle.sms_world_model.proofs.Faithful.{DeliversOnce, IsDeliver, IsFaithful, one_deliver}
+use Rattle.sms_world_model.proofs.Faithful.{IsDeliver, IsFaithful, one_deliver}
 use Rattle.sms_world_model.proofs.Keys.{deliver_for, for_is, report_place}
-use Rattle.sms_world_model.proofs.Places.{IsPlaced, PlacesOnce, among_of_key, group_ended, of_key_in, of_key_out, placed_empty, placed_run}
+use Rattle.sms_world_model.proofs.Places.{IsPlaced, PlacesOnce, among_of_key, group_ended, placed_empty, placed_run, at_among, NoneTwice, not_joined, key_once}
 use Rattle.sms_world_model.proofs.Rounds.{by_cases, within}
 use Rattle.sms_world_model.proofs.Sound.{IsKnown, IsSound}
 use Rattle.sms_world_model.proofs.Tables.{same_message}
@@ -34,7 +34,6 @@ use Rattle.sms_world.proofs.scripts_are_runs.Agreeing.{sound_there}
 use Rattle.sms_world.specs.scripts_are_runs.PlayRefinement.{PlayRefines}
 use Rattle.sms_world.proofs.Options.{some_is}
 use Rattle.sms_world.proofs.SeenParts.{seen_of}
-use Rattle.sms_world.proofs.scripts_are_runs.Growing.{among_last}
 
 pub placed_there : (w : World) → IsReached w → IsPlaced w
 placed_there w (is, (run, at)) = subst (λ (v : World). IsPlaced v) at (placed_run empty is placed_empty run)
@@ -176,19 +175,6 @@ joined_of_parts c w s q there = (groups_at q.number w.joined, are_joined c w s q
 
 -- ---- no part stands in two groups, while none was accepted twice
 
-abbrev NoneTwice : List Accepted → Type 0
-NoneTwice [] = Unit {0}
-NoneTwice (p ∷ ps) = ¬ Among p ps × NoneTwice ps
-
-key_once : (h : List ℕ) (k : Key) (ps : List Accepted) → DeliversOnce ps → NoneTwice (of_key h k ps)
-key_once h k [] o = tt
-key_once h k (p ∷ ps) o = ⊎_elim
-    (λ (t : is_for h k p ≡ true).
-    let d = deliver_for h k p t in
-    subst (λ (l : List Accepted). NoneTwice l) (sym (of_key_in h k p ps t)) ((λ i. o.0 d.0 d.1.0 (among_of_key h k p ps i).0), key_once h k ps o.1))
-    (λ (t : is_for h k p ≡ false). subst (λ (l : List Accepted). NoneTwice l) (sym (of_key_out h k p ps t)) (key_once h k ps o.1))
-    (cases_Bool (is_for h k p))
-
 -- the list has nothing in common with any of these
 abbrev IsApart : List Accepted → List (List Accepted) → Type 0
 IsApart ps es = (e : List Accepted) (x : Accepted) → Among e es → Among x ps → Among x e → ⊥
@@ -209,10 +195,6 @@ groups_apart total (p ∷ ps) o =
     let more = with_new total p ps o.0 old.0 in
     by_cases GroupsApart total p (groups total ps) (λ a. old) (λ a b. ((λ e x j i k. absurd i), (more, old.1))) (λ a b. (more, old.1))
 
-at_among : (place : ℕ) (group : List Accepted) (es : List (List Accepted)) → IsEndedAt place group es → Among group es
-at_among place group [] i = i
-at_among place group (e ∷ es) i = ⊎_elim (λ (c : (place ≡ length es) × (group ≡ e)). inl c.1) (λ (j : IsEndedAt place group es). inr (at_among place group es j)) i
-
 places_apart : (es : List (List Accepted)) (a b : ℕ) (e f : List Accepted) (x : Accepted) → HaveNoneInCommon es → IsEndedAt a e es → IsEndedAt b f es → ¬ (a ≡ b) → Among x e → Among x f → ⊥
 places_apart [] a b e f x o i j n k l = i
 places_apart (y ∷ es) a b e f x o i j n k l = ⊎_elim
@@ -224,13 +206,6 @@ places_apart (y ∷ es) a b e f x o i j n k l = ⊎_elim
     (λ (d : (b ≡ length es) × (f ≡ y)). o.0 e x (at_among a e es c) (subst (λ (z : List Accepted). Among x z) d.1 l) k)
     (λ (d : IsEndedAt b f es). places_apart es a b e f x o.1 c d n k l)
     j)
-    i
-
-not_joined : (js : List Joined) (x : Joined) (h : List ℕ) (k : Key) (place : ℕ) → HasNotJoined js h k place → Among x js → x.handset ≡ h → x.key ≡ k → x.place ≡ place → ⊥
-not_joined [] x h k place n i a b c = i
-not_joined (y ∷ js) x h k place n i a b c = ⊎_elim
-    (λ (e : x ≡ y). n.0 (subst (λ (z : Joined). (z.handset ≡ h) × (z.key ≡ k) × (z.place ≡ place)) e (a, b, c)))
-    (λ (t : Among x js). not_joined js x h k place n.1 t a b c)
     i
 
 module _ (w : World) (placed : IsPlaced w) (f : IsFaithful w) where
@@ -252,7 +227,7 @@ module _ (w : World) (placed : IsPlaced w) (f : IsFaithful w) where
 last_apart : (gs : List (List Accepted)) (g : List Accepted) → HaveNoneInCommon gs → ((h : List Accepted) (x : Accepted) → Among h gs → Among x h → Among x g → ⊥) → HaveNoneInCommon (gs ++ g ∷ [])
 last_apart [] g o n = ((λ h x i j k. absurd i), tt)
 last_apart (y ∷ gs) g o n = (
-  (λ h x i j k. ⊎_elim (λ (a : Among h gs). o.0 h x a j k) (λ (e : h ≡ g). n y x (inl refl) j (subst (λ (z : List Accepted). Among x z) e k)) (among_last h g gs i)),
+  (λ h x i j k. ⊎_elim (λ (a : Among h gs). o.0 h x a j k) (λ (e : h ≡ g). n y x (inl refl) j (subst (λ (z : List Accepted). Among x z) e k)) (among_end h g gs i)),
   last_apart gs g o.1 (λ h x i j k. n h x (inr i) j k),
 )
 
@@ -262,7 +237,7 @@ from_group h (j ∷ js) g i = ⊎_elim
     (λ (t : bytes_eq j.handset h ≡ true). ⊎_elim
     (λ (a : Among g (groups_at h js)). let x = from_group h js g a in (x.0, (inr x.1.0, x.1.1, x.1.2)))
     (λ (e : g ≡ j.group). (j, (inl refl, (bytes_eq-Decides j.handset h).0 t, e)))
-    (among_last g j.group (groups_at h js) (subst (λ (z : List (List Accepted)). Among g z) (cond-true (bytes_eq j.handset h) (groups_at h js ++ j.group ∷ []) (groups_at h js) t) i)))
+    (among_end g j.group (groups_at h js) (subst (λ (z : List (List Accepted)). Among g z) (cond-true (bytes_eq j.handset h) (groups_at h js ++ j.group ∷ []) (groups_at h js) t) i)))
     (λ (t : bytes_eq j.handset h ≡ false).
     let x = from_group h js g (subst (λ (z : List (List Accepted)). Among g z) (cond-false (bytes_eq j.handset h) (groups_at h js ++ j.group ∷ []) (groups_at h js) t) i) in
     (x.0, (inr x.1.0, x.1.1, x.1.2)))

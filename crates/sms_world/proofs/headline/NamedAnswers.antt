@@ -13,7 +13,7 @@ use Rattle.sms_centre_spec.specs.Draft.{Core, Draft as CentreDraft, answer_with,
 use Rattle.sms_centre_spec.specs.Ends.{end}
 use Rattle.sms_centre_spec.specs.Requests.{account_at, cancel_by, cancelled, queried, query_by, refused, to_cancel}
 use Rattle.sms_centre_spec.specs.declared.answer.CentreAnswer.{CentreAnswer}
-use Rattle.sms_centre_spec.specs.declared.answer.CentreAnswer.TheVariants.{Cancelled, Queried, Refused, Submitted}
+use Rattle.sms_centre_spec.specs.declared.answer.CentreAnswer.TheVariants.{Cancelled, Submitted}
 use Rattle.sms_centre_spec.specs.declared.event.CentreEvent.{CentreEvent}
 use Rattle.sms_centre_spec.specs.declared.event.CentreEvent.TheVariants.{Cancel as CentreCancel, Query as CentreQuery, Submit as CentreSubmit}
 use Rattle.sms_handset.specs.FaultCodes.{refusal_code}
@@ -22,14 +22,13 @@ use Rattle.sms_handset.specs.declared.refusal.Refusal.{Refusal}
 use Rattle.sms_handset_draft.specs.Draft.{Draft}
 use Rattle.sms_intake.specs.SmppIntake.{is_empty}
 use Rattle.sms_intake.specs.declared.submission.CentreAccount.{CentreAccount}
-use Rattle.sms_play.proofs.answers.Unanswered.{frame_unanswered, tick_unanswered}
+use Rattle.sms_centre_spec.proofs.Unanswered.{frame_unanswered, tick_unanswered}
 use Rattle.sms_play.specs.CentreSide.{answered_as, with_answer as centre_told, whole as centre_whole}
 use Rattle.sms_play.specs.PlayState.{PlayState, Party, answer, frame_at, party_at}
 use Rattle.sms_play.specs.HandsetSide.{handset_meets, happened as handset_happened, is_owners, with_answer, whole}
 use Rattle.sms_play.specs.Meeting.{AtCentre, AtHandset, Meeting, account_from, by_account, by_handset, delivered, handed_over, is_answered, meeting_of, tag_in}
 use Rattle.sms_script.specs.Requests.{cancel_of, query_of, submit_of}
 use Rattle.sms_play.specs.PlayedEvent.{handset_stored, handset_restarted, handset_restarts, stored, met, played, restarted, stopped}
-use Rattle.sms_play.specs.Playing.{played_on}
 use Rattle.sms_script.specs.declared.play_fault.PlayFault.{PlayFault}
 use Rattle.sms_rows.proofs.table.Tables.{found_key}
 use Rattle.sms_script.specs.declared.event.Act.{Act}
@@ -45,23 +44,23 @@ use Rattle.sms_script.specs.declared.report.answers.Answered.TheVariants.{Accept
 use Rattle.sms_script.specs.declared.report.rows.Direction.{Direction}
 use Rattle.sms_script.specs.declared.report.rows.Direction.TheVariants.{Down, Up}
 use Rattle.sms_script.specs.declared.report.rows.FrameRow.{FrameRow}
-use Rattle.sms_world.proofs.headline.AnsweredSubmits.{whole_answers}
+use Rattle.sms_world.proofs.headline.AnsweredSubmits.{named_by, whole_answers}
 use Rattle.sms_world.proofs.messages_have_origins.EventsMake.{WasStoredIn}
 use Rattle.sms_world.proofs.messages_have_origins.Unmoved.{Rows, whole_leaves}
-use Rattle.sms_world.proofs.scripts_are_runs.Events.{event_leads, ok_play, same_play}
-use Rattle.sms_world.specs.scripts_are_runs.PlayRuns.{AllHandOctets, AreGood}
-use Rattle.sms_world.specs.headline.Claims.{IfPlayed}
+use Rattle.sms_world.proofs.scripts_are_runs.Events.{ok_play, same_play}
 use Rattle.sms_world.specs.scripts_are_runs.PlayRefinement.{PlayRefines}
 use Rattle.sms_world.specs.scripts_are_runs.Happening.{HandsOctets, IsGoodEvent}
-use Rattle.sms_world.specs.headline.OneRun.{happening_of}
+use Rattle.sms_world.specs.headline.OneRun.{happening_of, world_after}
 use Rattle.sms_world_model.proofs.Runs.{messages_stay}
 use Rattle.sms_world_model.specs.Agreement.{MessagesStay}
-use Rattle.sms_world_model.specs.WorldStep.{end as end_of}
-use Rattle.sms_world_model.specs.ScriptRun.{Happening, happened as happened_in}
+use Rattle.sms_world_model.specs.ScriptRun.{happened as happened_in}
 use Rattle.sms_world_model.specs.World.{IsRecorded, World}
 use Rattle.std.proofs.Common.{ap, inl, inr, refl, subst, sym, ⊎_elim, ◌∙◌}
 use Rattle.std.proofs.lemmas.Bool.{cond_both}
-use Rattle.std.specs.Prelude.{Err, List, None, Ok, Option, Result, Some, [], ℕ, ◌++◌, ◌+◌, ◌∷◌, ◌≡◌, ◌⊎◌}
+use Rattle.std.specs.Prelude.{Err, List, None, Ok, Option, Result, Some, [], ℕ, ◌++◌, ◌∷◌, ◌≡◌, ◌⊎◌}
+use Rattle.sms_play.proofs.answers.PlayAnswers.{either_part}
+use Rattle.sms_world.proofs.scripts_are_runs.Courses.{KeptByEvents, NothingAsked}
+use Rattle.sms_world.specs.scripts_are_runs.PlayRuns.{LeadsTo}
 
 -- ---- what the centre answers
 
@@ -151,12 +150,6 @@ IsNamed K d x = (id : ℕ) → x ≡ Accepted id → K × WasStoredIn d id
 abbrev pub GrowsNamed : Type 0 → ℕ → PlayState → PlayState → Type 0
 GrowsNamed K n c d = (d.answers ≡ c.answers) ⊎ ((x : Answered) × ((d.answers ≡ c.answers ++ record { event = n; answered = x } ∷ []) × IsNamed K d x))
 
-numbered : (a : CentreAnswer) (id : ℕ) → answered_as a ≡ Accepted id → a ≡ Submitted id
-numbered (Submitted n) id e = let same : n ≡ id = cc in ap (λ (k : ℕ). Submitted k) same
-numbered (Queried n state moment) id e = absurd cc
-numbered Cancelled id e = absurd cc
-numbered (Refused status) id e = absurd cc
-
 centre_reported_grows : (K : Type 0) (n : ℕ) (e : CentreEvent) (c : PlayState) (o : Option CentreAnswer) → (happened e c.centre).answer ≡ o → NamesOne K e c.centre
     → GrowsNamed K n c (centre_told n o (centre_whole (happened e c.centre) c))
 centre_reported_grows K n e c None is names = inl (whole_answers (happened e c.centre) c)
@@ -168,7 +161,7 @@ centre_reported_grows K n e c (Some a) is names =
       (
         ap (λ (rest : List Answer). rest ++ record { event = n; answered = answered_as a } ∷ []) (whole_answers d c),
         λ id e_id.
-            let m = names id (is ∙ ap (λ (z : CentreAnswer). Some z) (numbered a id e_id)) in
+            let m = names id (is ∙ ap (λ (z : CentreAnswer). Some z) (named_by a id e_id)) in
             (m.0, (m.1.0, ap (λ (ms : List MessageRow). message_at id ms) (sym same) ∙ m.1.1)),
       ),
     )
@@ -240,16 +233,12 @@ event_grows n (Restart (Handset h)) c d q = handset_back n (party_at h c.parties
 abbrev pub AllNamed : PlayState → Type 0
 AllNamed c = (a : Answer) (id : ℕ) → Among a c.answers → a.answered ≡ Accepted id → WasStoredIn c id
 
-pub last_or : (a : Answer) (xs : List Answer) (y : Answer) → Among a (xs ++ y ∷ []) → Among a xs ⊎ (a ≡ y)
-last_or a [] y i = ⊎_elim (λ (e : a ≡ y). inr e) (λ none. absurd none) i
-last_or a (x ∷ xs) y i = ⊎_elim (λ (e : a ≡ x). inl (inl e)) (λ (j : Among a (xs ++ y ∷ [])). ⊎_elim (λ (k : Among a xs). inl (inr k)) (λ (e : a ≡ y). inr e) (last_or a xs y j)) i
-
 still_named : (K : Type 0) (n : ℕ) (c d : PlayState) → ((id : ℕ) → WasStoredIn c id → WasStoredIn d id) → GrowsNamed K n c d → AllNamed c → AllNamed d
 still_named K n c d stays (inl same) all a id i e = stays id (all a id (subst (λ (rest : List Answer). Among a rest) same i) e)
 still_named K n c d stays (inr (x, (more, new))) all a id i e = ⊎_elim
     (λ (j : Among a c.answers). stays id (all a id j e))
     (λ (q : a ≡ record { event = n; answered = x }). (new id (ap (λ (z : Answer). z.answered) (sym q) ∙ e)).1)
-    (last_or a c.answers (record { event = n; answered = x }) (subst (λ (rest : List Answer). Among a rest) more i))
+    (either_part a c.answers (record { event = n; answered = x }) (subst (λ (rest : List Answer). Among a rest) more i))
 
 -- a message of the one course is one of the other
 module _ (c d : PlayState) (w v : World) (s : PlayRefines c w) (t : PlayRefines d v) (stay : MessagesStay w v) where
@@ -261,19 +250,16 @@ module _ (c d : PlayState) (w v : World) (s : PlayRefines c w) (t : PlayRefines 
       let later = stay id x.0 x.1 here in
       t.centre.rows.table.only id x.0 later.0 later.1
 
-then_named : (n : ℕ) (e : WorldEvent) (es : List WorldEvent) (c d : PlayState) (w : World)
-    → ((x : PlayState) (v : World) → PlayRefines x v → AllNamed x → AllHandOctets (n + 1) es x → played_on (n + 1) es x ≡ ok_play d → AllNamed d)
-    → PlayRefines c w → AllNamed c → IsGoodEvent e → HandsOctets e c → (r : Result PlayState PlayFault) → played n e c ≡ r → IfPlayed r (λ x. AllHandOctets (n + 1) es x)
-    → (r >>= λ (x : PlayState). played_on (n + 1) es x) ≡ ok_play d → AllNamed d
-then_named n e es c d w go s all good octets (Ok x) is later q =
-    let l = event_leads n e c x w s good octets is in
-    let h : Happening = happening_of e c.centre.moment in
-    let v : World = end_of w (happened_in h l.0) in
-    let stay : MessagesStay w v = messages_stay w (happened_in h l.0) l.1.1 in
-    go x v l.1.2 (still_named (IsSubmitting e) n c x (stored_on c x w v s l.1.2 stay) (event_grows n e c x is) all) later q
-then_named n e es c d w go s all good octets (Err fault) is later q = absurd cc
+-- what each event keeps, whatever is asked
+abbrev pub HasNamed : PlayState → World → Type 0
+HasNamed c w = AllNamed c
 
-pub all_named : (n : ℕ) (es : List WorldEvent) (c d : PlayState) (w : World) → PlayRefines c w → AllNamed c → AreGood es → AllHandOctets n es c → played_on n es c ≡ ok_play d → AllNamed d
-all_named n [] c d w s all good octets q = subst (λ (z : PlayState). AllNamed z) (same_play c d q) all
-all_named n (e ∷ es) c d w s all good octets q =
-    then_named n e es c d w (λ x v t k o p. all_named (n + 1) es x d v t k good.1 o p) s all good.0 octets.0 (played n e c) refl octets.1 q
+event_named : (n : ℕ) (e : WorldEvent) (es : List WorldEvent) (c d : PlayState) (w : World) → PlayRefines c w → IsGoodEvent e → HandsOctets e c → NothingAsked n (e ∷ es) c → played n e c ≡ ok_play d → (l : LeadsTo e c w d) → HasNamed c w
+    → HasNamed d (world_after w e c l.0)
+event_named n e es c d w s good octets asked q l all =
+    let v : World = world_after w e c l.0 in
+    let stay : MessagesStay w v = messages_stay w (happened_in (happening_of e c.centre.moment) l.0) l.1.1 in
+    still_named (IsSubmitting e) n c d (stored_on c d w v s l.1.2 stay) (event_grows n e c d q) all
+
+pub named_kept : KeptByEvents NothingAsked HasNamed
+named_kept = record { keeps = event_named; rest = λ n e es c d asked q. tt }

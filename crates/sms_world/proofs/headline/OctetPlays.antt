@@ -1,12 +1,12 @@
 -- What goes up in a course is octets.
-use Rattle.std.proofs.Common.{◌≡◌, ℕ, ◌+◌, ◌<◌, zero, suc, List, [], ◌∷◌, ◌++◌, length, true, refl, sym, ap, subst, inl, inr, ⊎_elim, Option, Some, None, Result, Ok, Err}
+use Rattle.std.proofs.Common.{◌≡◌, ℕ, ◌+◌, ◌<◌, zero, suc, List, [], ◌∷◌, ◌++◌, length, true, refl, sym, ap, subst, inl, inr, ⊎_elim, Option, Some, None, Result, Ok, Err, ◌∙◌}
 use Rattle.std.specs.Prelude.{◌⊎◌}
 use Rattle.std.specs.Str.{bytes_eq, chars}
 use Rattle.std.proofs.lemmas.Str.{IsUtf8-from_is_utf8, scalars-chars}
 use Rattle.std.proofs.lemmas.Bool.{cond_both}
+use Rattle.sms_base.proofs.Lists.{among_end}
 use Rattle.sms_base.specs.Address.{IsAddress}
 use Rattle.sms_base.specs.Among.{Among}
-use Rattle.sms_base.specs.Reading.{◌>>=◌}
 use Rattle.sms_base.specs.declared.carried.Carried.{Carried}
 use Rattle.sms_base.specs.declared.carried.Kind.{Kind}
 use Rattle.sms_base.specs.declared.carried.Kind.TheVariants.{Data, Ack, Error}
@@ -22,17 +22,13 @@ use Rattle.sms_relay.specs.declared.frame.Rp.TheVariants.{DataUnit, AckUnit, Err
 use Rattle.sms_link.specs.declared.outgoing.Outgoing.{Outgoing}
 use Rattle.sms_centre_rows.specs.declared.waiting.handset_link.Sent.{Sent as SentDown}
 use Rattle.sms_script.specs.declared.report.answers.Answered.{Answered}
-use Rattle.sms_script.specs.declared.report.answers.Answered.TheVariants.{Done, Refused, Stopped as AnsweredStopped}
 use Rattle.sms_script.specs.declared.report.rows.Direction.{Direction}
 use Rattle.sms_script.specs.declared.report.rows.Direction.TheVariants.{Up, Down}
 use Rattle.sms_script.specs.declared.report.rows.FrameRow.{FrameRow}
 use Rattle.sms_centre_rows.specs.declared.reports.delivery.Delivery.{Delivery}
 use Rattle.sms_script.specs.declared.event.Act.{Act}
 use Rattle.sms_script.specs.declared.event.Act.TheVariants.{Submit, Query, Cancel, Write, Delete, Discard, Deliver, Tick}
-use Rattle.sms_script.specs.declared.event.EventSide.{EventSide}
 use Rattle.sms_script.specs.declared.event.EventSide.TheVariants.{Centre, Handset}
-use Rattle.sms_script.specs.declared.event.StopPoint.{StopPoint}
-use Rattle.sms_script.specs.declared.event.StopPoint.TheVariants.{Before, After}
 use Rattle.sms_script.specs.declared.event.WorldEvent.{WorldEvent}
 use Rattle.sms_script.specs.declared.event.WorldEvent.TheVariants.{Whole, Stopped, Restart}
 use Rattle.sms_centre_spec.specs.CentreEvent.{happened as centre_happened}
@@ -40,11 +36,9 @@ use Rattle.sms_centre_spec.specs.Draft.{Draft as CentreDraft}
 use Rattle.sms_centre_spec.specs.declared.answer.CentreAnswer.{CentreAnswer}
 use Rattle.sms_centre_spec.specs.declared.event.CentreEvent.{CentreEvent}
 use Rattle.sms_centre_spec.specs.declared.event.CentreEvent.TheVariants.{Submit as CentreSubmit, Query as CentreQuery, Cancel as CentreCancel, Frame as CentreFrame, Tick as CentreTick, DeliverAnswered}
-use Rattle.sms_handset.specs.FaultCodes.{refusal_code}
 use Rattle.sms_handset.specs.declared.event.HandsetEvent.{HandsetEvent}
 use Rattle.sms_handset.specs.declared.event.HandsetEvent.TheVariants.{Frame as HandsetFrame, Tick as HandsetTick, Write as HandsetWrite, Delete as HandsetDelete, Discard as HandsetDiscard}
-use Rattle.sms_handset.specs.declared.refusal.Refusal.{Refusal}
-use Rattle.sms_handset_draft.specs.Draft.{Core, Draft, recovered}
+use Rattle.sms_handset_draft.specs.Draft.{Core, recovered}
 use Rattle.sms_world.specs.handsets_send_octets.Arriving.{BringsInOctets, ArrivesInOctets, EventInOctets, IsAnsweredInOctet}
 use Rattle.sms_world.specs.handsets_send_octets.Keeping.{CoreKeepsOctets, SentInOctets}
 use Rattle.sms_world.specs.handsets_send_octets.OctetLaws.{SendsOctets, happened as octets_happened}
@@ -55,27 +49,27 @@ use Rattle.sms_play.specs.Setups.{beginning, handset_setup, parties_of}
 use Rattle.sms_script.specs.declared.play_fault.PlayFault.{PlayFault}
 use Rattle.sms_play.specs.CentreSide.{accepted_after, all_sent as all_sent_down, answered_as, centre_meets, done as centre_done, with_answer as centre_told, whole as centre_whole}
 use Rattle.sms_play.specs.PlayState.{PlayState, Party, answer, frame_at, party_at, with_party}
-use Rattle.sms_play.specs.HandsetSide.{all_sent as all_sent_up, handset_meets, happened, is_owners, party_after, with_answer, whole}
-use Rattle.sms_play.specs.Meeting.{AtCentre, AtHandset, Meeting, account_from, by_account, by_handset, delivered, handed_over, is_answered, meeting_of, tag_in}
+use Rattle.sms_play.specs.HandsetSide.{all_sent as all_sent_up, happened, party_after, whole}
+use Rattle.sms_play.specs.Meeting.{AtCentre, AtHandset, Meeting, account_from, by_account, by_handset, delivered, handed_over, meeting_of, tag_in}
 use Rattle.sms_script.specs.Requests.{cancel_of, query_of, submit_of}
-use Rattle.sms_play.specs.PlayedEvent.{handset_stored, handset_restarted, handset_restarts, stored, met, party_restarted, played, restart, restarted, stopped}
+use Rattle.sms_play.specs.PlayedEvent.{party_restarted, played}
 use Rattle.sms_world_model.specs.World.{Sent, World, empty, Carried as Carried_frame, Down as Down_line}
 use Rattle.sms_world.specs.frames_pass_between_sides.Between.{CarriesDown, IsOfKindDown}
 use Rattle.sms_world.specs.headline.SeenFrames.{frame_down, line_down, sent_down}
 use Rattle.sms_world.specs.frames_pass_between_sides.FramesUp.{IsBare}
 use Rattle.sms_world.specs.centres_refine_the_world.FramesOut.{IsWholeDown}
 use Rattle.sms_world.specs.scripts_are_runs.PlayRuns.{AllHandOctets, AreGood}
-use Rattle.sms_world.specs.headline.Claims.{IfPlayed}
 use Rattle.sms_world.specs.scripts_are_runs.PlayRefinement.{PlayRefines, IsWholeBy}
 use Rattle.sms_world.specs.headline.SeenWorld.{sent_by, sent_row}
 use Rattle.sms_world.specs.scripts_are_runs.Happening.{ActHandsOctets, HandsOctets, IsOctetsAt, IsOctetsUp}
 use Rattle.sms_world.proofs.scripts_are_runs.Bags.{frame_found, row_seen}
-use Rattle.sms_world.proofs.scripts_are_runs.Events.{event_leads, ok_play, same_play}
+use Rattle.sms_world.proofs.scripts_are_runs.Events.{event_leads, ok_play}
 use Rattle.sms_world.proofs.scripts_are_runs.Parties.{party_found}
 use Rattle.sms_world.proofs.headline.SmallReferences.{data_small}
+use Rattle.sms_world.proofs.headline.ExactPremises.{if_played}
 use Rattle.sms_world.specs.headline.TypedEvents.{AreTexts, IsTextAct, IsTextEvent}
-use Rattle.sms_world.proofs.scripts_are_runs.Growing.{among_last}
 use Rattle.sms_player.specs.heads.Heads.{party_of}
+use Rattle.sms_world.proofs.scripts_are_runs.PlayedParts.{IsMetSo, KeptByParts, event_keeps}
 
 -- each handset keeps octets, and each frame that goes up is octets
 pub record PlayKeepsOctets (c : PlayState) : Type 0 where
@@ -88,7 +82,7 @@ abbrev AllUpOctets : List FrameRow → Type 0
 AllUpOctets bag = (f : FrameRow) → Among f bag → IsOctetsUp f.direction f
 
 more_rows : (row : FrameRow) (bag : List FrameRow) → IsOctetsUp row.direction row → AllUpOctets bag → AllUpOctets (bag ++ row ∷ [])
-more_rows row bag is all f i = ⊎_elim (λ (j : Among f bag). all f j) (λ (e : f ≡ row). subst (λ (z : FrameRow). IsOctetsUp z.direction z) (sym e) is) (among_last f row bag i)
+more_rows row bag is all f i = ⊎_elim (λ (j : Among f bag). all f j) (λ (e : f ≡ row). subst (λ (z : FrameRow). IsOctetsUp z.direction z) (sym e) is) (among_end f row bag i)
 
 sent_up : (h : List ℕ) (fs : List Outgoing) (bag : List FrameRow) → SentInOctets fs → AllUpOctets bag → AllUpOctets (all_sent_up h fs bag)
 sent_up h [] bag o all = all
@@ -144,11 +138,6 @@ parties_keep : (z : Party) (c : PlayState) → CoreKeepsOctets z.core → PlayKe
 parties_keep z c o k q i =
     ⊎_elim (λ (e : q ≡ z). subst (λ (x : Party). CoreKeepsOctets x.core) (sym e) o) (λ (j : Among q c.parties). k.parties q j) (with_among z c.parties q i)
 
--- the event leads there
-abbrev IfSends : Result Draft Refusal → Type 0
-IfSends (Ok d) = SendsOctets d
-IfSends (Err refusal) = Unit {0}
-
 same_event : (e : HandsetEvent) (c : Core) → happened e c ≡ octets_happened e c
 same_event (HandsetFrame octets tag) c = refl
 same_event (HandsetTick now) c = refl
@@ -156,43 +145,10 @@ same_event (HandsetWrite text to report) c = refl
 same_event (HandsetDelete entry) c = refl
 same_event (HandsetDiscard entry) c = refl
 
-sends_if : (e : HandsetEvent) (c : Core) (r : Result Draft Refusal) → octets_happened e c ≡ r → CoreKeepsOctets c → EventInOctets e → IfSends r
-sends_if e c (Ok d) q k o = event_sends e c d k o q
-sends_if e c (Err refusal) q k o = tt
-
-event_if : (e : HandsetEvent) (c : Core) → CoreKeepsOctets c → EventInOctets e → IfSends (happened e c)
-event_if e c k o = subst (λ (r : Result Draft Refusal). IfSends r) (sym (same_event e c)) (sends_if e c (octets_happened e c) refl k o)
-
-module _ (c : PlayState) (k : PlayKeepsOctets c) (p : Party) where
-  whole_keeps : (r : Result Draft Refusal) → IfSends r → PlayKeepsOctets (whole p r c)
-  whole_keeps (Ok d) s = record { parties = parties_keep (party_after p d) c s.core k; bag = sent_up p.number d.frames c.bag s.sent k.bag }
-  whole_keeps (Err refusal) s = k
-
-  committed_keeps : (r : Result Draft Refusal) → IfSends r → PlayKeepsOctets (handset_stored p r c)
-  committed_keeps (Ok d) s = record { parties = parties_keep (party_after p d) c s.core k; bag = k.bag }
-  committed_keeps (Err refusal) s = k
-
-reported_keeps : (n : ℕ) (r : Result Draft Refusal) (c : PlayState) → PlayKeepsOctets c → PlayKeepsOctets (with_answer n r c)
-reported_keeps n (Ok d) c k = answer_keeps n Done c k
-reported_keeps n (Err refusal) c k = answer_keeps n (Refused (refusal_code refusal)) c k
-
-handset_keeps : (n : ℕ) (p : Party) (e : HandsetEvent) (c : PlayState) → PlayKeepsOctets c → IfSends (happened e p.core) → PlayKeepsOctets (handset_meets n p e c)
-handset_keeps n p e c k s =
-    let r : Result Draft Refusal = happened e p.core in
-    cond_both (is_owners e) (with_answer n r (whole p r c)) (whole p r c) (λ (z : PlayState). PlayKeepsOctets z) (λ t. reported_keeps n r (whole p r c) (whole_keeps c k p r s)) (λ t. whole_keeps c k p r s)
-
 -- ---- restarts
 
 party_keeps : (p : Party) (c : PlayState) → PlayKeepsOctets c → CoreKeepsOctets p.core → PlayKeepsOctets (party_restarted p c)
 party_keeps p c k o = record { parties = parties_keep (record p { core = recovered p.core.rows }) c (restart_keeps p.core p.core.rows.setup o o.centre) k; bag = k.bag }
-
-restarted_keeps : (n : List ℕ) (o : Option Party) (c : PlayState) → party_at n c.parties ≡ o → PlayKeepsOctets c → PlayKeepsOctets (handset_restarted o c)
-restarted_keeps n None c e k = k
-restarted_keeps n (Some p) c e k = party_keeps p c k (k.parties p (party_found n c.parties p e).0)
-
-back_keeps : (m : Meeting) (c : PlayState) → PlayKeepsOctets c → PlayKeepsOctets (restarted m c)
-back_keeps (AtCentre e) c k = record { parties = k.parties; bag = k.bag }
-back_keeps (AtHandset p e) c k = restarted_keeps p.number (party_at p.number c.parties) c refl k
 
 -- ---- frames that go down
 
@@ -303,43 +259,34 @@ module _ (c : PlayState) (w : World) (s : PlayRefines c w) (k : PlayKeepsOctets 
 
   -- ---- each event keeps octets
 
-  met_keeps : (m : Meeting) → MeetsInOctets m → PlayKeepsOctets (met n m c)
-  met_keeps (AtCentre e) i = centre_keeps n e c k
-  met_keeps (AtHandset p e) i = handset_keeps n p e c k (event_if e p.core i.0 i.1)
+  abbrev MetInOctets : Act → Meeting → Type 0
+  MetInOctets act m = MeetsInOctets m
 
-  stop_keeps : (stop : StopPoint) (m : Meeting) → MeetsInOctets m → PlayKeepsOctets (stored stop m c)
-  stop_keeps Before m i = k
-  stop_keeps After (AtCentre e) i = record { parties = k.parties; bag = k.bag }
-  stop_keeps After (AtHandset p e) i = committed_keeps c k p (happened e p.core) (event_if e p.core i.0 i.1)
+  parts_keep : KeptByParts PlayKeepsOctets MetInOctets n c
+  parts_keep = record {
+    begins = k;
+    centre_met = λ act e i. centre_keeps n e c k;
+    centre_stored = λ act e i. record { parties = k.parties; bag = k.bag };
+    handset_met = λ act p e d i q.
+        let sends : SendsOctets d = event_sends e p.core d i.0 i.1 (sym (same_event e p.core) ∙ q) in
+        record { parties = parties_keep (party_after p d) c sends.core k; bag = sent_up p.number d.frames c.bag sends.sent k.bag };
+    handset_stored_it = λ act p e d i q.
+        let sends : SendsOctets d = event_sends e p.core d i.0 i.1 (sym (same_event e p.core) ∙ q) in
+        record { parties = parties_keep (party_after p d) c sends.core k; bag = k.bag };
+    centre_back = λ x y. record { parties = y.parties; bag = y.bag };
+    handset_back = λ p x i y. party_keeps p x y (y.parties p i);
+    noted = λ a x y. answer_keeps n a x y;
+  }
 
-  stopped_keeps : (act : Act) (stop : StopPoint) (m : Meeting) → MeetsInOctets m → PlayKeepsOctets (stopped n act stop m c)
-  stopped_keeps act stop m i =
-      let d : PlayState = restarted m (stored stop m c) in
-      let o : PlayKeepsOctets d = back_keeps m (stored stop m c) (stop_keeps stop m i) in
-      cond_both (is_answered act) (answer n AnsweredStopped d) d (λ (z : PlayState). PlayKeepsOctets z) (λ t. answer_keeps n AnsweredStopped d o) (λ t. o)
+  met_in : (e : WorldEvent) → IsTextEvent e → IsMetSo MetInOctets n c e
+  met_in (Whole act) t = λ m q. meets act t m q
+  met_in (Stopped stop act) t = λ m q. meets act t m q
+  met_in (Restart side) t = tt
 
-  then_keeps : (r : Result Meeting PlayFault) (f : Meeting → PlayState) (d : PlayState) → ((m : Meeting) → r ≡ Ok m → PlayKeepsOctets (f m)) → (r >>= λ (m : Meeting). ok_play (f m)) ≡ ok_play d → PlayKeepsOctets d
-  then_keeps (Ok m) f d g e = subst (λ (z : PlayState). PlayKeepsOctets z) (same_play (f m) d e) (g m refl)
-  then_keeps (Err fault) f d g e = absurd cc
-
-  handset_back : (h : List ℕ) (o : Option Party) (d : PlayState) → party_at h c.parties ≡ o → handset_restarts n o c ≡ Ok d → PlayKeepsOctets d
-  handset_back h None d e q = absurd cc
-  handset_back h (Some p) d e q = subst (λ (z : PlayState). PlayKeepsOctets z) (same_play _ d q) (party_keeps p c k (k.parties p (party_found h c.parties p e).0))
-
-  side_back : (side : EventSide) (d : PlayState) → restart n side c ≡ Ok d → PlayKeepsOctets d
-  side_back Centre d q = subst (λ (z : PlayState). PlayKeepsOctets z) (same_play _ d q) (record { parties = k.parties; bag = k.bag })
-  side_back (Handset h) d q = handset_back h (party_at h c.parties) d refl q
-
-  event_keeps : (e : WorldEvent) (d : PlayState) → IsTextEvent e → played n e c ≡ ok_play d → PlayKeepsOctets d
-  event_keeps (Whole act) d t q = then_keeps (meeting_of n act c) (λ m. met n m c) d (λ m e. met_keeps m (meets act t m e)) q
-  event_keeps (Stopped stop act) d t q = then_keeps (meeting_of n act c) (λ m. stopped n act stop m c) d (λ m e. stopped_keeps act stop m (meets act t m e)) q
-  event_keeps (Restart side) d t q = side_back side d q
+  event_kept : (e : WorldEvent) (d : PlayState) → IsTextEvent e → played n e c ≡ ok_play d → PlayKeepsOctets d
+  event_kept e d t q = event_keeps PlayKeepsOctets MetInOctets n c parts_keep e d (met_in e t) q
 
 -- ---- all of them
-
-if_played : (r : Result PlayState PlayFault) (P : PlayState → Type 0) → ((d : PlayState) → r ≡ ok_play d → P d) → IfPlayed r P
-if_played (Ok d) P f = f d refl
-if_played (Err fault) P f = tt
 
 pub all_hand : (n : ℕ) (es : List WorldEvent) (c : PlayState) (w : World) → PlayRefines c w → PlayKeepsOctets c → AreGood es → AreTexts es → AllHandOctets n es c
 all_hand n [] c w s k good texts = tt
@@ -349,7 +296,7 @@ all_hand n (e ∷ es) c w s k good texts =
       if_played (played n e c) (λ d. AllHandOctets (n + 1) es d)
           (λ d q.
           let l = event_leads n e c d w s good.0 octets q in
-          all_hand (n + 1) es d _ l.1.2 (event_keeps c w s k n e d texts.0 q) good.1 texts.1),
+          all_hand (n + 1) es d _ l.1.2 (event_kept c w s k n e d texts.0 q) good.1 texts.1),
     )
 
 -- ---- from the beginning

@@ -1,6 +1,6 @@
 -- The parts that a course tells were given references are, with the octets that their rows have, the pairs that the world submitted, in
 -- order.
-use Rattle.std.proofs.Common.{◌≡◌, ℕ, List, [], ◌∷◌, ◌++◌, refl, sym, ◌∙◌, ap, inl, inr, Option, Some, None}
+use Rattle.std.proofs.Common.{◌≡◌, ℕ, List, [], ◌∷◌, refl, sym, ◌∙◌, ap, inl, inr, Option, Some, None}
 use Rattle.sms_base.specs.Among.{Among}
 use Rattle.sms_base.specs.declared.holder.Holder.{Holder}
 use Rattle.sms_base.specs.declared.holder.Holder.TheVariants.{Part, Report, Entry, Memory}
@@ -17,6 +17,7 @@ use Rattle.sms_world.specs.headline.SeenWorld.{PartSeen, part_seen, PartGiven, p
 use Rattle.sms_world.specs.scripts_are_runs.PlayRefinement.{PlayRefines}
 use Rattle.sms_world.proofs.Options.{some_is}
 use Rattle.sms_world.proofs.SeenParts.{none_seen}
+use Rattle.sms_play.proofs.judging.Looking.{newest_over}
 
 -- ---- what is offered for a part, as its row has it
 
@@ -40,10 +41,6 @@ one_reported rows r (Part id n) e gs ps k =
 one_reported rows r (Report id) e gs ps k = k
 one_reported rows r (Entry n) e gs ps k = k
 one_reported rows r (Memory n) e gs ps k = k
-
-pub newest_over : (gs xs ys : List Allocation) → newest_first gs (xs ++ ys) ≡ newest_first (newest_first gs xs) ys
-newest_over gs [] ys = refl
-newest_over gs (x ∷ xs) ys = newest_over (x ∷ gs) xs ys
 
 pub rows_reported : (rows : List PartRow) (given : List GivenRow) (gs : List Allocation) (ps : List PartGiven) → ReportedPairs rows gs ps → ReportedPairs rows (newest_first gs (part_allocations rows given)) (parts_reported ps given)
 rows_reported rows [] gs ps k = k

@@ -30,6 +30,7 @@ use Rattle.std.proofs.lemmas.Bool.{cases_Bool, cond-false, cond-true, eqb-true}
 use Rattle.std.proofs.lemmas.Slice.Eq.{bytes_eq-Decides}
 use Rattle.std.specs.Str.{bytes_eq}
 use Rattle.std.specs.Prelude.{◌==◌, ◌⊎◌}
+use Rattle.sms_base.proofs.Lists.{among_parts}
 
 -- ---- a STATUS-REPORT is no DELIVER
 
@@ -104,17 +105,10 @@ pub compared_over : (xs ys : List AcceptedRow) → compared_lines (xs ++ ys) ≡
 compared_over [] ys = refl
 compared_over (x ∷ xs) ys = ap (λ (z : List AcceptedRow). compared_line x ∷ z) (compared_over xs ys)
 
-pub in_either : (a : AcceptedRow) (xs ys : List AcceptedRow) → Among a (xs ++ ys) → Among a xs ⊎ Among a ys
-in_either a [] ys i = inr i
-in_either a (x ∷ xs) ys i = ⊎_elim
-    (λ (e : a ≡ x). inl (inl e))
-    (λ (j : Among a (xs ++ ys)). ⊎_elim (λ (k : Among a xs). inl (inr k)) (λ (k : Among a ys). inr k) (in_either a xs ys j))
-    i
-
 none_in_both : (xs ys : List AcceptedRow) → NoneTwice xs → NoneTwice ys → ((a : AcceptedRow) → Among a xs → ¬ Among a ys) → NoneTwice (xs ++ ys)
 none_in_both [] ys one other apart = other
 none_in_both (x ∷ xs) ys one other apart = (
-  λ is i. ⊎_elim (λ (j : Among x xs). one.0 is j) (λ (j : Among x ys). apart x (inl refl) j) (in_either x xs ys i),
+  λ is i. ⊎_elim (λ (j : Among x xs). one.0 is j) (λ (j : Among x ys). apart x (inl refl) j) (among_parts x xs ys i),
   none_in_both xs ys one.1 other (λ a i. apart a (inr i)),
 )
 
@@ -130,7 +124,7 @@ of_one a [] own i = absurd i
 of_one a (p ∷ ps) own i = ⊎_elim
     (λ (j : Among a (compared_lines p.accepted)). inl ((own p (inl refl)).0 a j))
     (λ (j : Among a (compared_lines (accepted_lines ps))). inr (of_one a ps (λ q k. own q (inr k)) j))
-    (in_either a (compared_lines p.accepted) (compared_lines (accepted_lines ps)) (subst (λ (z : List AcceptedRow). Among a z) (compared_over p.accepted (accepted_lines ps)) i))
+    (among_parts a (compared_lines p.accepted) (compared_lines (accepted_lines ps)) (subst (λ (z : List AcceptedRow). Among a z) (compared_over p.accepted (accepted_lines ps)) i))
 
 all_once : (ps : List Party) → AreDifferent (numbers_of ps) → EachOwn ps → NoneTwice (compared_lines (accepted_lines ps))
 all_once [] apart own = tt

@@ -5,21 +5,19 @@ use Rattle.sms_play.specs.PlayState.{PlayState}
 use Rattle.sms_play.specs.Playing.{report_of}
 use Rattle.sms_play.specs.Setups.{beginning}
 use Rattle.sms_script.specs.declared.play_fault.PlayFault.{PlayFault}
-use Rattle.sms_world.proofs.headline.Claimed.{can_play, final_is, given_is, once_is, reaches, receipts_are, run_is}
-use Rattle.sms_world.proofs.headline.HeadlineHolds.{lines_stay_is, receipts_stay_is}
+use Rattle.sms_world.proofs.headline.Claimed.{final_is, given_is, once_is, reaches, receipts_are}
+use Rattle.sms_world.proofs.headline.ScriptCourses.{can_play, course_of}
+use Rattle.sms_world.proofs.headline.HeadlineHolds.{lines_stay_is, ok_report, receipts_stay_is}
 use Rattle.sms_world.proofs.headline.PlainAccepted.{lines_once}
 use Rattle.sms_world.proofs.headline.PlainTables.{answers_ascend, lines_ascend}
 use Rattle.sms_world.proofs.headline.StatusFrames.{tags_listed}
-use Rattle.sms_world.proofs.headline.PlainReports.{ok_report}
 use Rattle.sms_world.specs.headline.PlainLaws.{AscendLaw, AscendingLaw, LongerLaw, NoErrorLaw, NoneTwiceLaw, ReceiptsLaw, ReferencesLaw}
-use Rattle.sms_world.specs.scripts_are_runs.PlayRefinement.{PlayRefines}
 use Rattle.std.proofs.Common.{Result, ap, refl}
 
 pub ascending_is : AscendingLaw
 ascending_is script some others c d is on =
-    let x = run_is script some others c d is on in
-    let k : PlayRefines c x.0 = x.2.1 in
-    lines_ascend c.centre.rows.messages k.sound.rows.messages.message_keys
+    let k = course_of script some others c d is on in
+    lines_ascend c.centre.rows.messages k.refines.sound.rows.messages.message_keys
 
 pub longer_is : LongerLaw
 longer_is script some others c d is on = record {
@@ -30,8 +28,8 @@ longer_is script some others c d is on = record {
 
 pub receipts_is : ReceiptsLaw
 receipts_is script some others c d is on =
-    let x = run_is script some others c d is on in
-    record { state = receipts_are script some others c d is on; one = once_is script some others c d is on; frames = tags_listed c x.0 x.2.1 }
+    let k = course_of script some others c d is on in
+    record { state = receipts_are script some others c d is on; one = once_is script some others c d is on; frames = tags_listed c k.world k.refines }
 
 pub references_is : ReferencesLaw
 references_is = given_is
@@ -46,4 +44,4 @@ no_error_is script some others c d is on =
 pub plain_once_is : NoneTwiceLaw
 plain_once_is script some others c d is on timely =
     let r = reaches script some others c d is on timely in
-    lines_once c r.0 r.1.0 r.1.1
+    lines_once c r.0 r.1.0 r.1.1.faithful

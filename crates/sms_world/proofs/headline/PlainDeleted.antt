@@ -27,7 +27,7 @@ use Rattle.sms_script.specs.declared.report.Report.{Report}
 use Rattle.sms_centre_rows.specs.declared.report_lines.MessageState.TheVariants.{Final as FinalLine}
 use Rattle.sms_centre_rows.specs.declared.report_lines.ReportedMessage.{ReportedMessage}
 use Rattle.sms_world.proofs.headline.DeletedSteps.{Cancels, EventDeletesNone, event_case, steps_were}
-use Rattle.sms_world.proofs.headline.PlainSteps.{IsStep, one_at, parted_at, step_of}
+use Rattle.sms_world.proofs.headline.PlainSteps.{IsStep, parted_at, step_of}
 use Rattle.sms_world.proofs.headline.Tables.{line_of, line_stays, line_there, one_line, row_of_line, same_end, state_final}
 use Rattle.sms_world.proofs.headline.TrueRequests.{Cancels as CancelsAt, Deletes, Refuses, cancel_is}
 use Rattle.sms_world.proofs.messages_have_origins.Unmoved.{Rows, meets_leaves}
@@ -50,6 +50,7 @@ use Rattle.std.proofs.Common.{List, None, Option, Some, [], ap, inl, inr, length
 use Rattle.std.proofs.lemmas.Bool.{cases_eq}
 use Rattle.std.specs.Prelude.{◌&&◌, ◌==◌, ◌⊎◌, if◌then◌else◌, nat_lt}
 use Rattle.std.specs.List.{list_all}
+use Rattle.sms_base.proofs.Lists.{item_at}
 use Rattle.sms_base.specs.HandsetNumber.{is_decimal}
 
 -- ---- ids, in the words of the plain headline
@@ -167,7 +168,7 @@ module _ (n : ℕ) (e : WorldEvent) (c d : PlayState) (w : World) (s : PlayRefin
 
 pub deleted_is : DeletedLaw
 deleted_is script after typed reports n m l i q new =
-    let e = one_at script.events n l in
+    let e = item_at script.events n l in
     let p = parted_at script.events n e.0 e.1 in
     let st : IsStep script after p.some e.0 p.others = step_of script after typed reports p.some e.0 p.others p.parts in
     let now : Among m (report_of st.next).table =

@@ -2,6 +2,7 @@
 use Rattle.std.proofs.Common.{◌≡◌, false, ℕ, zero, suc, ◌+◌, ◌*◌, ◌<◌, ◌≤◌, arith, List, [], ◌∷◌, ◌++◌, length, true, refl, sym, ◌∙◌, ap, subst, inl, inr, ⊎_elim, Some}
 use Rattle.std.proofs.lemmas.Bool.{cond-true}
 use Rattle.std.specs.Prelude.{◌==◌, ◌⊎◌, slice_get}
+use Rattle.sms_base.proofs.Lists.{among_parts}
 use Rattle.sms_base.specs.Among.{Among}
 use Rattle.sms_base.specs.declared.final_state.FinalState.{FinalState}
 use Rattle.sms_base.specs.declared.final_state.FinalState.TheVariants.{Delivered}
@@ -46,15 +47,17 @@ use Rattle.sms_world_model.specs.Groups.{OccursOnce as PairOnce}
 use Rattle.sms_world_model.specs.World.{Accepted, Allocation, World, pair_given}
 use Rattle.sms_world.proofs.centres_refine_the_world.ByOctets.{by_octet_is, by_octet_some}
 use Rattle.sms_world.proofs.headline.AskedWords.{as_written}
-use Rattle.sms_world.proofs.headline.Claimed.{can_play, delivered_is, reaches, run_is}
-use Rattle.sms_world.proofs.headline.PlainAccepted.{EachOwn, as_any_pair, compared_over, each_own, in_either, of_line, of_one, pairs, since_there, status_is_other}
+use Rattle.sms_world.proofs.headline.Claimed.{delivered_is, reaches, run_is}
+use Rattle.sms_world.proofs.headline.ScriptCourses.{can_play}
+use Rattle.sms_world.proofs.headline.PlainAccepted.{EachOwn, as_any_pair, compared_over, each_own, of_line, of_one, pairs, since_there, status_is_other}
 use Rattle.sms_world.proofs.headline.PlainEvents.{IsTraced, traced}
 use Rattle.sms_world.proofs.headline.PlainSteps.{all_of, last_of, on_last}
 use Rattle.sms_world.proofs.headline.ReceiptLines.{from_report}
-use Rattle.sms_world.proofs.headline.SplitClaimed.{between}
+use Rattle.sms_world.proofs.headline.SplitClaimed.{all_split as split_under}
+use Rattle.sms_world.proofs.headline.ScriptCourses.{course_of}
 use Rattle.sms_world.proofs.headline.SplitPlays.{all_preserved}
 use Rattle.sms_world.proofs.headline.Tables.{line_of, line_there, row_of_line, state_final}
-use Rattle.sms_world.proofs.headline.TimelyClaims.{Reaches, among_own}
+use Rattle.sms_world.proofs.headline.TimelyClaims.{IsTrusted, among_own}
 use Rattle.sms_world.proofs.scripts_are_runs.Agreeing.{sound_there}
 use Rattle.sms_world.proofs.submissions_stay.WrittenParts.{AllWritten, writings_hold}
 use Rattle.sms_world.proofs.Options.{some_is}
@@ -62,6 +65,7 @@ use Rattle.sms_world.proofs.SeenParts.{small, seen_of}
 use Rattle.sms_world.proofs.headline.JoinedClaims.{some_part, same_number, same_id}
 use Rattle.sms_play.specs.judging.Watching.{pair_accepted as pair}
 use Rattle.sms_world.proofs.scripts_are_runs.Runs.{unplayed}
+use Rattle.sms_world.proofs.scripts_are_runs.Parties.{number_there}
 
 -- ---- once, in the order of the lines
 
@@ -95,17 +99,13 @@ once_of_pairs x rows once = ⊎_elim
 once_left : (x : AcceptedRow) (xs ys : List AcceptedRow) → OccursOnce x xs → ¬ Among x ys → OccursOnce x (xs ++ ys)
 once_left x [] ys once none = absurd once
 once_left x (a ∷ xs) ys once none = ⊎_elim
-    (λ (k : (x ≡ a) × ¬ Among x xs). inl (k.0, λ i. ⊎_elim k.1 none (in_either x xs ys i)))
+    (λ (k : (x ≡ a) × ¬ Among x xs). inl (k.0, λ i. ⊎_elim k.1 none (among_parts x xs ys i)))
     (λ (k : ¬ (x ≡ a) × OccursOnce x xs). inr (k.0, once_left x xs ys k.1 none))
     once
 
 once_right : (x : AcceptedRow) (xs ys : List AcceptedRow) → ¬ Among x xs → OccursOnce x ys → OccursOnce x (xs ++ ys)
 once_right x [] ys none once = once
 once_right x (a ∷ xs) ys none once = inr (λ e. none (inl e), once_right x xs ys (λ i. none (inr i)) once)
-
-number_among : (q : Party) (ps : List Party) → Among q ps → Among q.number (numbers_of ps)
-number_among q [] i = absurd i
-number_among q (p ∷ ps) i = ⊎_elim (λ (e : q ≡ p). inl (ap (λ (z : Party). z.number) e)) (λ (j : Among q ps). inr (number_among q ps j)) i
 
 -- of all handsets, too
 once_over : (x : AcceptedRow) (q : Party) (ps : List Party) → Among q ps → AreDifferent (numbers_of ps) → EachOwn ps → x.handset ≡ q.number → OccursOnce x (compared_lines q.accepted)
@@ -119,7 +119,7 @@ once_over x q (p ∷ ps) i apart own at once =
     (λ j. apart.0 (subst (λ (n : List ℕ). Among n (numbers_of ps)) (at ∙ ap (λ (z : Party). z.number) e) (of_one x ps (λ r k. own r (inr k)) j))))
     (λ (j : Among q ps).
     once_right x (compared_lines p.accepted) (compared_lines (accepted_lines ps))
-    (λ k. apart.0 (subst (λ (n : List ℕ). Among n (numbers_of ps)) (sym at ∙ (own p (inl refl)).0 x k) (number_among q ps j)))
+    (λ k. apart.0 (subst (λ (n : List ℕ). Among n (numbers_of ps)) (sym at ∙ (own p (inl refl)).0 x k) (number_there q ps j)))
     (once_over x q ps j apart.1 (λ r k. own r (inr k)) at once))
     i)
 
@@ -129,7 +129,7 @@ taken_by a [] i = absurd i
 taken_by a (p ∷ ps) i = ⊎_elim
     (λ (j : Among a p.accepted). (p, (inl refl, j)))
     (λ (j : Among a (accepted_lines ps)). let k = taken_by a ps j in (k.0, (inr k.1.0, k.1.1)))
-    (in_either a p.accepted (accepted_lines ps) i)
+    (among_parts a p.accepted (accepted_lines ps) i)
 
 among_pairs : (a : AcceptedRow) (rows : List AcceptedRow) → Among a rows → Among (pair a) (pairs rows)
 among_pairs a [] i = absurd i
@@ -192,21 +192,21 @@ module _ (script : Script) (after : ℕ → Report) (typed : AreTyped script.eve
   -- ---- each part is written as the centre writes
 
   pub all_split : AllSplitUnder c.centre.rows.messages c.centre.rows.parts
-  all_split = (between script script.events [] c c its on).split_under
+  all_split = split_under script script.events [] c c its on
 
   written : AllWritten c.centre.rows.messages c.centre.rows.parts
   written =
       let there = can_play script.setup script.events c on.here in
       let first : LeadsOn script [] (beginning script.setup) c = record { here = cond-true (can_be_played script.setup) (played_on 1 [] (beginning script.setup)) unplayed there.can; there = on.here } in
-      let b = between script [] script.events (beginning script.setup) c (record { typed = typed; events = refl }) first in
-      all_preserved AllWritten writings_hold 1 script.events (beginning script.setup) c b.first_world b.first_refines (λ m p i. absurd i) b.goods b.octets b.leads
+      let b = course_of script [] script.events (beginning script.setup) c (record { typed = typed; events = refl }) first in
+      all_preserved AllWritten writings_hold 1 script.events (beginning script.setup) c b.world b.refines (λ m p i. absurd i) b.then_good b.then_octets b.then_leads
 
   module _ (timely : AllTimely 1 script.events (beginning script.setup)) where
-    abbrev pub reached : Reaches c
+    abbrev pub reached : (v : World) × (PlayRefines c v × IsTrusted c v)
     reached = reaches script script.events [] c c its on timely
 
     own : EachOwn c.parties
-    own = each_own c reached.0 reached.1.0 reached.1.1
+    own = each_own c reached.0 reached.1.0 reached.1.1.faithful
 
     -- ---- what counts as delivered
 

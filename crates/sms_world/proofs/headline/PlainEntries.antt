@@ -3,6 +3,7 @@ use Rattle.std.proofs.Common.{◌≡◌, ℕ, zero, suc, ◌+◌, ◌<◌, ◌�
 use Rattle.std.specs.Prelude.{◌⊎◌, if◌then◌else◌, slice_get}
 use Rattle.std.specs.Str.{chars}
 use Rattle.std.proofs.lemmas.Bool.{cond_both}
+use Rattle.std.proofs.lemmas.List.{append-nil}
 use Rattle.sms_base.specs.Among.{Among}
 use Rattle.sms_base.specs.Reading.{◌>>=◌}
 use Rattle.sms_base.specs.declared.carried.Carried.{Carried as Carries}
@@ -11,6 +12,7 @@ use Rattle.sms_base.specs.declared.carried.Kind.TheVariants.{Ack, Data, Error}
 use Rattle.sms_base.specs.declared.holder.Holder.{Holder}
 use Rattle.sms_base.specs.declared.holder.Holder.TheVariants.{Entry, Memory}
 use Rattle.sms_base.proofs.Addresses.{address_found}
+use Rattle.sms_base.proofs.Lists.{among_end}
 use Rattle.sms_concat.specs.UserData.{data_length, header_of}
 use Rattle.sms_concat.specs.declared.content.Part.{Part as PartOf}
 use Rattle.sms_concat.specs.declared.split_error.SplitError.{SplitError}
@@ -94,22 +96,24 @@ use Rattle.sms_world.specs.scripts_are_runs.PlayRefinement.{PlayRefines}
 use Rattle.sms_world.proofs.entries_keep_references.EntriesAgreeing.{Ends, event_ends}
 use Rattle.sms_world.proofs.handset_runs_are_steps.Hearing.{again_carries}
 use Rattle.sms_world.proofs.handset_runs_are_steps.Submitting.{submit_rejects}
-use Rattle.sms_world.proofs.headline.Claimed.{can_play}
+use Rattle.sms_world.proofs.headline.ScriptCourses.{can_play}
 use Rattle.sms_world.proofs.headline.DecidedTimely.{row_from, same_frame}
 use Rattle.sms_world.proofs.headline.EntryFrames.{AllSay, AnswerSays, BegunSays, Brings, HolderSays, LinkSays, OpenedSays, Says}
 use Rattle.sms_world.proofs.headline.EntryStages.{EventBrings, IfDoneAt, WritesKnown, event_says}
 use Rattle.sms_world.proofs.headline.EntryWriting.{Has, body_at, same_octets, submit_reads, writable_at, wrote_has}
 use Rattle.sms_world.proofs.headline.HeadlineHolds.{of_play}
-use Rattle.sms_world.proofs.headline.PlainSteps.{IsStep, at_place, step_of}
+use Rattle.sms_world.proofs.headline.PlainSteps.{IsStep, at_place, moved, step_of}
 use Rattle.sms_world.proofs.scripts_are_runs.Events.{ok_play, same_play}
-use Rattle.sms_world.proofs.scripts_are_runs.Growing.{either_part, in_front, in_rest, among_last}
-use Rattle.sms_world.proofs.scripts_are_runs.Meetings.{Meets, meets, number_of, same_meeting}
-use Rattle.sms_world.proofs.scripts_are_runs.Parties.{number_there, party_found, with_numbers}
+use Rattle.sms_world.proofs.scripts_are_runs.Growing.{either_part, in_front, in_rest}
+use Rattle.sms_world.proofs.scripts_are_runs.Meetings.{Meets, meets, number_of}
+use Rattle.sms_world.proofs.scripts_are_runs.Parties.{number_there, party_found}
 use Rattle.sms_world.proofs.Options.{some_is}
 use Rattle.sms_world.proofs.headline.OctetPlays.{with_among}
-use Rattle.sms_world.proofs.scripts_are_runs.UpGrown.{entry_number}
 use Rattle.sms_world.proofs.scripts_are_runs.Falling.{not_itself}
 use Rattle.sms_player.specs.heads.Heads.{party_of}
+use Rattle.sms_player.proofs.playing.Placed.{numbers_preserved}
+use Rattle.sms_world_model.proofs.Upward.{entry_number}
+use Rattle.sms_play.proofs.growth.Growing.{some_meeting}
 
 -- ---- plain facts
 
@@ -158,14 +162,6 @@ module _ (f : FrameRow) (v : Frame) (line : v.line ≡ UpLine) (is_data : v.kind
   row_by Down (Some x) at of e =
       let q : frame_down f.handset f.number f.octets x ≡ v = same_frame (frame_down f.handset f.number f.octets x) v e in
       absurd (not_down x.kind (ap (λ (z : Frame). z.kind) q ∙ is_data) (ap (λ (z : Frame). z.line) q ∙ line))
-
-moved : (some others : List WorldEvent) (e : WorldEvent) → some ++ e ∷ others ≡ (some ++ e ∷ []) ++ others
-moved [] others e = refl
-moved (x ∷ some) others e = ap (λ (z : List WorldEvent). x ∷ z) (moved some others e)
-
-no_more : (some : List WorldEvent) → some ++ [] ≡ some
-no_more [] = refl
-no_more (x ∷ some) = ap (λ (z : List WorldEvent). x ∷ z) (no_more some)
 
 -- ---- of a frame that is handed over
 
@@ -232,7 +228,7 @@ module _ (script : Script) (after : ℕ → Report) where
   more_rows row bag is all f i = ⊎_elim
       (λ (j : Among f bag). all f j)
       (λ (e : f ≡ row). subst (λ (z : FrameRow). z.direction ≡ Up → Says (Owners z.handset) z.carried z.octets) (sym e) is)
-      (among_last f row bag i)
+      (among_end f row bag i)
 
   sent_up : (h : List ℕ) (fs : List Outgoing) (bag : List FrameRow) → AllSay (Owners h) fs → BagKnown bag → BagKnown (all_sent_up h fs bag)
   sent_up h [] bag k all = all
@@ -281,11 +277,11 @@ module _ (script : Script) (after : ℕ → Report) where
       ⊎_elim (λ (e : q ≡ z). subst (λ (x : Party). OutboxKnown x) (sym e) o) (λ (j : Among q c.parties). k.parties q j) (with_among z c.parties q i)
 
   whole_known : (p : Party) (r : Result Draft Refusal) (c : PlayState) → OwnersKnown c → IfKnown p.number r → OwnersKnown (whole p r c)
-  whole_known p (Ok d) c k s = record { parties = parties_known (party_after p d) c s.0 k; bag = sent_up p.number d.frames c.bag s.1 k.bag; numbers = with_numbers (party_after p d) c.parties ∙ k.numbers }
+  whole_known p (Ok d) c k s = record { parties = parties_known (party_after p d) c s.0 k; bag = sent_up p.number d.frames c.bag s.1 k.bag; numbers = numbers_preserved (party_after p d) c.parties ∙ k.numbers }
   whole_known p (Err refusal) c k s = k
 
   stored_known : (p : Party) (r : Result Draft Refusal) (c : PlayState) → OwnersKnown c → IfKnown p.number r → OwnersKnown (handset_stored p r c)
-  stored_known p (Ok d) c k s = record { parties = parties_known (party_after p d) c s.0 k; bag = k.bag; numbers = with_numbers (party_after p d) c.parties ∙ k.numbers }
+  stored_known p (Ok d) c k s = record { parties = parties_known (party_after p d) c s.0 k; bag = k.bag; numbers = numbers_preserved (party_after p d) c.parties ∙ k.numbers }
   stored_known p (Err refusal) c k s = k
 
   reported_known : (n : ℕ) (r : Result Draft Refusal) (c : PlayState) → OwnersKnown c → OwnersKnown (with_answer n r c)
@@ -299,7 +295,7 @@ module _ (script : Script) (after : ℕ → Report) where
       cond_both (is_owners e) (with_answer n r (whole p r c)) (whole p r c) (λ (z : PlayState). OwnersKnown z) (λ t. reported_known n r (whole p r c) w) (λ t. w)
 
   party_known : (p : Party) (c : PlayState) → OwnersKnown c → OutboxKnown p → OwnersKnown (party_restarted p c)
-  party_known p c k o = record { parties = parties_known (record p { core = recovered p.core.rows }) c o k; bag = k.bag; numbers = with_numbers (record p { core = recovered p.core.rows }) c.parties ∙ k.numbers }
+  party_known p c k o = record { parties = parties_known (record p { core = recovered p.core.rows }) c o k; bag = k.bag; numbers = numbers_preserved (record p { core = recovered p.core.rows }) c.parties ∙ k.numbers }
 
   restarted_known : (n : List ℕ) (o : Option Party) (c : PlayState) → party_at n c.parties ≡ o → OwnersKnown c → OwnersKnown (handset_restarted o c)
   restarted_known n None c e k = k
@@ -488,7 +484,7 @@ module _ (script : Script) (after : ℕ → Report) where
           → IsWriting (Write h own request text) p words to report
       written_by h own request text m None found q is = absurd cc
       written_by h own request text m (Some x) found q is =
-          let both : AtHandset x (HandsetWrite (chars text) own request) ≡ AtHandset p (HandsetWrite words to report) = same_meeting (AtHandset x (HandsetWrite (chars text) own request)) m q ∙ is in
+          let both : AtHandset x (HandsetWrite (chars text) own request) ≡ AtHandset p (HandsetWrite words to report) = some_meeting (AtHandset x (HandsetWrite (chars text) own request)) m q ∙ is in
           let party : x ≡ p = cc in
           let spelled : chars text ≡ words = cc in
           let destination : own ≡ to = cc in
@@ -608,7 +604,7 @@ module _ (script : Script) (after : ℕ → Report) where
   module _ (typed : AreTyped script.events) (reports : AreReports script after) where
     all_known : (es some others : List WorldEvent) (c d : PlayState) → script.events ≡ some ++ (es ++ others) → play_state_of script.setup some ≡ ok_play c → OwnersKnown c → play_state_of script.setup (some ++ es) ≡ ok_play d → OwnersKnown d
     all_known [] some others c d parts leads k q =
-        subst (λ (z : PlayState). OwnersKnown z) (same_play c d (sym leads ∙ ap (λ (es : List WorldEvent). play_state_of script.setup es) (sym (no_more some)) ∙ q)) k
+        subst (λ (z : PlayState). OwnersKnown z) (same_play c d (sym leads ∙ ap (λ (es : List WorldEvent). play_state_of script.setup es) (sym (append-nil some)) ∙ q)) k
     all_known (e ∷ es) some others c d parts leads k q =
         let x : IsStep script after some e (es ++ others) = step_of script after typed reports some e (es ++ others) parts in
         let first : c ≡ x.first = same_play c x.first (sym leads ∙ x.leads) in

@@ -85,7 +85,7 @@ use Rattle.sms_world.specs.headline.SentRows.{IsWholeBy}
 use Rattle.sms_world.specs.headline.TypedEvents.{AreTyped}
 use Rattle.sms_world.proofs.headline.AnsweredSubmits.{account_met, submit_next}
 use Rattle.sms_world.proofs.headline.AskedWords.{account_of, read_is}
-use Rattle.sms_world.proofs.headline.Claimed.{can_play}
+use Rattle.sms_world.proofs.headline.ScriptCourses.{can_play}
 use Rattle.sms_world.proofs.headline.EntryFrames.{HolderSays}
 use Rattle.sms_world.proofs.headline.HeadlineHolds.{of_play}
 use Rattle.sms_world.proofs.headline.PlainEntries.{IsOwners, owners_known}

@@ -1,6 +1,7 @@
 -- What handsets joined is whole and joined once, as the lines of a report say it.
 use Rattle.std.proofs.Common.{◌≡◌, ℕ, zero, suc, ◌<◌, List, [], ◌∷◌, ◌++◌, length, refl, sym, ◌∙◌, ap, subst, inl, inr, ⊎_elim, Option, Some, None, Result, Ok, Err}
 use Rattle.std.specs.Prelude.{◌⊎◌}
+use Rattle.sms_base.proofs.Lists.{among_parts}
 use Rattle.sms_alphabet.specs.declared.scheme.Coding.{Coding}
 use Rattle.sms_alphabet.specs.declared.scheme.Coding.TheVariants.{Compressed, Octets, Septets, Ucs2}
 use Rattle.sms_alphabet.specs.declared.unpacking.UnpackError.{UnpackError}
@@ -51,10 +52,11 @@ use Rattle.sms_world.proofs.headline.Claimed.{joined_whole_is}
 use Rattle.sms_world.proofs.headline.GivenRows.{given_once}
 use Rattle.sms_world.proofs.headline.PlainDelivered.{accepted_part, all_split, c, given_to, is_told, its, of_row, on, reached, refined, told}
 use Rattle.sms_world.proofs.headline.PlainEvents.{IsTraced}
-use Rattle.sms_world.proofs.headline.SplitJoins.{carried_from, one_key_of, parts_there, split_long}
+use Rattle.sms_world.proofs.headline.SplitJoins.{carried_from, parts_there, split_long}
 use Rattle.sms_world.proofs.headline.Tables.{line_of, line_there, one_row}
 use Rattle.sms_world.proofs.headline.TimelyClaims.{parts_once}
 use Rattle.sms_world.proofs.Options.{some_is}
+use Rattle.sms_world_model.proofs.Contents.{one_key_of}
 
 -- ---- plain facts
 
@@ -94,13 +96,6 @@ last_piece x (z ∷ xs) y i = ⊎_elim
 contents_last : (xs : List Piece) (y : Piece) → contents (xs ++ y ∷ []) ≡ contents xs ++ y.content ∷ []
 contents_last [] y = refl
 contents_last (x ∷ xs) y = ap (λ (z : List PartOf). x.content ∷ z) (contents_last xs y)
-
-in_one : (h : List Piece) (xs ys : List (List Piece)) → Among h (xs ++ ys) → Among h xs ⊎ Among h ys
-in_one h [] ys i = inr i
-in_one h (x ∷ xs) ys i = ⊎_elim
-    (λ (e : h ≡ x). inl (inl e))
-    (λ (j : Among h (xs ++ ys)). ⊎_elim (λ (k : Among h xs). inl (inr k)) (λ (k : Among h ys). inr k) (in_one h xs ys j))
-    i
 
 no_parts : (ps : List PartOf) → Some [] ≡ Some ps → [] ≡ ps
 no_parts ps e = cc
@@ -377,7 +372,7 @@ module _ (script : Script) (after : ℕ → Report) (typed : AreTyped script.eve
       → HaveNoneInCommon (xss ++ yss)
   none_over [] yss k l apart = l
   none_over (xs ∷ xss) yss k l apart = (
-    λ h x y i j m. ⊎_elim (λ (a : Among h xss). k.0 h x y a j m) (λ (a : Among h yss). apart xs h x y (inl refl) a j m) (in_one h xss yss i),
+    λ h x y i j m. ⊎_elim (λ (a : Among h xss). k.0 h x y a j m) (λ (a : Among h yss). apart xs h x y (inl refl) a j m) (among_parts h xss yss i),
     none_over xss yss k.1 l (λ g h x y i. apart g h x y (inr i)),
   )
 
@@ -411,7 +406,7 @@ module _ (script : Script) (after : ℕ → Report) (typed : AreTyped script.eve
           λ h x i j. ⊎_elim
               (λ (l : Among h own.0). let r = round_of p k.0 own.0 own.1.1 h l in let a = r.1.1 x j in (p, a.0, (inl refl, a.1.1)))
               (λ (l : Among h more.0). let b = more.1.2 h x l j in (b.0, b.1, (inr b.2.0, b.2.1)))
-              (in_one h own.0 more.0 i),
+              (among_parts h own.0 more.0 i),
         ),
       )
 

@@ -17,10 +17,10 @@ use Rattle.sms_play.specs.Playing.{play_state_of, report_of}
 use Rattle.sms_play.specs.Setups.{beginning}
 use Rattle.sms_rows.proofs.table.Tables.{among_found, found_among, found_key}
 use Rattle.sms_script.specs.Requests.{submit_of}
-use Rattle.sms_script.specs.declared.event.Act.TheVariants.{Cancel, Delete, Deliver, Discard, Query, Submit, Tick, Write}
+use Rattle.sms_script.specs.declared.event.Act.TheVariants.{Submit}
 use Rattle.sms_script.specs.declared.event.Submission.{Submission as ScriptSubmission}
 use Rattle.sms_script.specs.declared.event.WorldEvent.{WorldEvent}
-use Rattle.sms_script.specs.declared.event.WorldEvent.TheVariants.{Restart, Stopped, Whole}
+use Rattle.sms_script.specs.declared.event.WorldEvent.TheVariants.{Whole}
 use Rattle.sms_script.specs.declared.report.Report.{Report}
 use Rattle.sms_script.specs.declared.report.answers.Answer.{Answer}
 use Rattle.sms_script.specs.declared.report.answers.Answered.{Answered}
@@ -28,10 +28,10 @@ use Rattle.sms_script.specs.declared.report.answers.Answered.TheVariants.{Accept
 use Rattle.sms_centre_rows.specs.declared.report_lines.ReportedMessage.{ReportedMessage}
 use Rattle.sms_script.specs.declared.script.Script.{Script}
 use Rattle.sms_world.proofs.headline.AnsweredSubmits.{account_met, reported_named, submit_next, whole_answers}
-use Rattle.sms_world.proofs.headline.Claimed.{can_play}
+use Rattle.sms_world.proofs.headline.ScriptCourses.{can_play}
 use Rattle.sms_world.proofs.headline.HeadlineHolds.{of_play}
-use Rattle.sms_world.proofs.headline.NamedAnswers.{IsNamed, IsSubmitting, event_grows, last_or}
-use Rattle.sms_world.proofs.headline.PlainSteps.{IsStep, at_place, one_at, parted_at, step_of}
+use Rattle.sms_world.proofs.headline.NamedAnswers.{IsNamed, IsSubmitting, event_grows}
+use Rattle.sms_world.proofs.headline.PlainSteps.{IsStep, at_place, parted_at, step_of}
 use Rattle.sms_world.proofs.headline.Tables.{line_of, line_there, row_of_line}
 use Rattle.sms_world.proofs.messages_have_origins.EventsMake.{WasStoredIn}
 use Rattle.sms_world.proofs.scripts_are_runs.Events.{ok_play, same_play}
@@ -45,6 +45,8 @@ use Rattle.sms_world.specs.scripts_are_runs.PlayRefinement.{PlayRefines}
 use Rattle.sms_world_model.specs.World.{World}
 use Rattle.std.proofs.Common.{List, Some, [], ap, arith, inl, inr, length, refl, subst, suc, sym, zero, ⊎_elim, ℕ, ◌+◌, ◌++◌, ◌<◌, ◌≤◌, ◌∙◌, ◌∷◌, ◌≡◌}
 use Rattle.std.specs.Prelude.{◌⊎◌}
+use Rattle.sms_base.proofs.Lists.{item_at}
+use Rattle.sms_play.proofs.answers.PlayAnswers.{either_part}
 
 -- ---- a line is a row
 
@@ -113,12 +115,12 @@ module _ (script : Script) (after : ℕ → Report) (typed : AreTyped script.eve
         more = more ∙ ap (λ (z : Answer). st.first.answers ++ z ∷ []) (sym q);
         names = subst (λ (y : Answered). IsNamed (IsSubmitting e) st.next y) (sym (ap (λ (z : Answer). z.answered) q)) names;
       }) in found)
-      (last_or a st.first.answers (record { event = 1 + length some; answered = x }) (subst (λ (rest : List Answer). Among a rest) more i))
+      (either_part a st.first.answers (record { event = 1 + length some; answered = x }) (subst (λ (rest : List Answer). Among a rest) more i))
 
   pub answer_at : (k : ℕ) → k ≤ length script.events → (a : Answer) → Among a (after k).answers → IsAnswerAt script after a
   answer_at zero l a i = absurd (none_first a i)
   answer_at (suc k) l a i =
-      let e = one_at script.events k (sooner k (length script.events) l) in
+      let e = item_at script.events k (sooner k (length script.events) l) in
       let p = parted_at script.events k e.0 e.1 in
       let st : IsStep script after p.some e.0 p.others = step_of script after typed reports p.some e.0 p.others p.parts in
       let now : Among a st.next.answers =
@@ -151,15 +153,7 @@ answered_next n x c d w s is id answered =
 
 pub submitting : (e : WorldEvent) → IsSubmitting e → (x : ScriptSubmission) × (e ≡ Whole (Submit x))
 submitting (Whole (Submit x)) is = (x, refl)
-submitting (Whole (Query name id)) is = absurd is
-submitting (Whole (Cancel name id)) is = absurd is
-submitting (Whole (Write handset to report text)) is = absurd is
-submitting (Whole (Delete handset entry)) is = absurd is
-submitting (Whole (Discard handset entry)) is = absurd is
-submitting (Whole (Deliver number)) is = absurd is
-submitting (Whole (Tick side now)) is = absurd is
-submitting (Stopped stop act) is = absurd is
-submitting (Restart side) is = absurd is
+submitting _ is = absurd is
 
 pub named_is : NamedLaw
 named_is script after typed reports a id i e =

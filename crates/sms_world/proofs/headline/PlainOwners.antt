@@ -1,7 +1,4 @@
 -- A message of an account was submitted by an event of that account, at which it came.
-use Rattle.smpp_pdu.specs.declared.message.Message.{Message as Pdu}
-use Rattle.smpp_pdu.specs.declared.status.CommandStatus.{CommandStatus}
-use Rattle.sms_base.proofs.Steps.{bind_ok, ok_is}
 use Rattle.sms_base.specs.Among.{Among}
 use Rattle.sms_base.specs.declared.originator.Originator.{Originator}
 use Rattle.sms_base.specs.declared.originator.Originator.TheVariants.{Application, Handset}
@@ -11,9 +8,7 @@ use Rattle.sms_centre_rows.specs.messages.Messages.{message_at}
 use Rattle.sms_centre_rows.specs.reports.Receipts.{is_account}
 use Rattle.sms_centre_spec.specs.MessageNumbers.{next_number}
 use Rattle.sms_centre_spec.specs.Requests.{account_at}
-use Rattle.sms_intake.specs.SmppIntake.{from_pdu, judged_in, submission_for}
 use Rattle.sms_intake.specs.declared.submission.CentreAccount.{CentreAccount}
-use Rattle.sms_intake.specs.declared.submission.Submission.{Submission}
 use Rattle.sms_play.specs.Meeting.{account_from}
 use Rattle.sms_play.specs.PlayState.{PlayState}
 use Rattle.sms_play.specs.Playing.{play_state_of}
@@ -38,7 +33,8 @@ use Rattle.sms_world.specs.headline.PlainScript.{Does}
 use Rattle.sms_world.specs.headline.PlainWords.{numbered}
 use Rattle.sms_world.specs.headline.TypedEvents.{AreTyped}
 use Rattle.sms_world.proofs.Options.{some_is}
-use Rattle.std.proofs.Common.{List, Ok, Result, Some, [], ap, arith, false, inl, inr, length, refl, subst, suc, sym, true, ⊎_elim, ℕ, ◌+◌, ◌++◌, ◌∙◌, ◌∷◌, ◌≡◌}
+use Rattle.sms_world.proofs.references_are_shared.LeftToOthers.{of_account}
+use Rattle.std.proofs.Common.{List, Result, Some, [], ap, arith, false, inl, inr, length, refl, subst, suc, sym, true, ⊎_elim, ℕ, ◌+◌, ◌++◌, ◌∙◌, ◌∷◌, ◌≡◌}
 use Rattle.std.proofs.lemmas.Bool.{cases_Bool, cond-false, cond-true}
 use Rattle.std.proofs.lemmas.Slice.Eq.{bytes_eq-Decides}
 use Rattle.std.specs.Str.{bytes_eq}
@@ -73,12 +69,6 @@ account_named p name accounts a e at =
     ap (λ (z : CentreAccount). z.name) (sym (some_is x.1 a both)) ∙ x.2.2
 
 -- ---- whose a message is
-
-originator_of : (account : CentreAccount) (now : ℕ) (m : Pdu) (u : Submission) → from_pdu account now m ≡ Ok u → u.originator ≡ Application account.name
-unfolding from_pdu
-originator_of account now m u e =
-    let judged = bind_ok (judged_in account now m) _ u e in
-    ap (λ (z : Submission). z.originator) (sym (ok_is {E = CommandStatus} (submission_for account m judged.0) u judged.2))
 
 -- an application's submission made it, which its event does
 abbrev IsMade : List ℕ → WorldEvent → PlayState → MessageRow → List PartRow → Type 0
@@ -117,7 +107,7 @@ module _ (name : List ℕ) (before : PlayState) (m : MessageRow) (parts : List P
   -- so the account's name is that of the submission
   pub named_so : (s : ScriptSubmission) → IsOfApplication s before m parts → s.name ≡ name
   named_so s k =
-      let is : m.originator ≡ Application k.account.name = k.is.originator ∙ originator_of k.account before.centre.moment _ k.submission k.reads in
+      let is : m.originator ≡ Application k.account.name = k.is.originator ∙ of_account k.account before.centre.moment _ k.submission k.reads in
       let eq : bytes_eq k.account.name name ≡ true = ap (λ (z : Originator). is_account name z) (sym is) ∙ own in
       sym (account_named k.place s.name before.centre.rows.setup.accounts k.account k.named k.its) ∙ (bytes_eq-Decides k.account.name name).0 eq
 

@@ -8,8 +8,8 @@ use Rattle.sms_script.specs.declared.play_fault.PlayFault.{PlayFault}
 use Rattle.sms_script.specs.declared.report.Report.{Report}
 use Rattle.sms_script.specs.declared.script.Script.{Script}
 use Rattle.sms_script.specs.declared.setup.Setup.{Setup}
-use Rattle.sms_world.proofs.headline.Claimed.{can_play, script_hands}
-use Rattle.sms_world.proofs.headline.HeadlineHolds.{nothing_more, of_play}
+use Rattle.sms_world.proofs.headline.ScriptCourses.{can_play, script_hands}
+use Rattle.sms_world.proofs.headline.HeadlineHolds.{nothing_more, of_play, ok_report}
 use Rattle.sms_world.proofs.headline.Parting.{parted}
 use Rattle.sms_world.proofs.scripts_are_runs.Events.{ok_play}
 use Rattle.sms_world.specs.headline.PlainLaws.{AreReports, ReportsLaw}
@@ -25,9 +25,6 @@ no_report = record { answers = []; table = []; accepted = []; joined = []; recei
 abbrev or_none : Result Report PlayFault → Report
 or_none (Ok r) = r
 or_none (Err fault) = no_report
-
-abbrev pub ok_report : Report → Result Report PlayFault
-ok_report r = Ok r
 
 first_of_them : (some others : List WorldEvent) → take (length some) (some ++ others) ≡ some
 first_of_them [] others = refl

@@ -1,7 +1,9 @@
 -- While frames come in time, each entry that counts as sent is a message: the event that made it handed over a frame of that entry.
-use Rattle.std.proofs.Common.{◌≡◌, ℕ, zero, suc, ◌+◌, ◌<◌, ◌≤◌, arith, List, [], ◌∷◌, ◌++◌, length, length-append, Bool, true, false, cond, refl, sym, ◌∙◌, ap, subst, inl, inr, ⊎_elim, Option, Some, Result}
+use Rattle.std.proofs.Common.{◌≡◌, ℕ, zero, suc, ◌+◌, ◌<◌, ◌≤◌, arith, List, [], ◌∷◌, ◌++◌, length, length-append, Bool, true, refl, sym, ◌∙◌, ap, subst, inl, inr, ⊎_elim, Option, Some, Result}
 use Rattle.std.specs.Prelude.{◌⊎◌, slice_get}
 use Rattle.std.proofs.lemmas.Bool.{cases_lt}
+use Rattle.std.proofs.lemmas.List.{append-nil}
+use Rattle.sms_base.proofs.Lists.{among_parts}
 use Rattle.sms_base.specs.Among.{Among}
 use Rattle.sms_base.specs.declared.carried.Carried.{Carried as Carries}
 use Rattle.sms_base.specs.declared.holder.Holder.TheVariants.{Entry}
@@ -33,11 +35,10 @@ use Rattle.sms_play.specs.Playing.{all_outbox_lines, entry_state, outbox_lines, 
 use Rattle.sms_play.specs.Premises.{is_timely_event}
 use Rattle.sms_play.specs.Setups.{beginning}
 use Rattle.sms_world_model.specs.References.{Ticket}
-use Rattle.sms_world_model.specs.ScriptRun.{Asked, Belongs, Cancelled, Event, Handed, Happening, Removed, Restarted, Submitted, Tick_centre, Tick_handset, Wrote, happened, is_stopped, items}
+use Rattle.sms_world_model.specs.ScriptRun.{Belongs, Event, Handed, Happening, happened, is_stopped, items}
 use Rattle.sms_world_model.specs.Submission.{Submission}
 use Rattle.sms_world_model.specs.World.{Carried, Frame, IsRecorded, Sent as Sent_frame, World, empty}
-use Rattle.sms_world_model.specs.WorldStep.{Receive, Run, Step, after as after_step, after_item, end}
-use Rattle.sms_world_model.proofs.Runs.{bag_grows}
+use Rattle.sms_world_model.specs.WorldStep.{Receive, Run, Step, end}
 use Rattle.sms_world_model.proofs.Upward.{up_empty}
 use Rattle.sms_world.specs.frames_pass_between_sides.Between.{frame_up}
 use Rattle.sms_world.specs.headline.Claims.{AllTimely, IfPlayed}
@@ -51,15 +52,15 @@ use Rattle.sms_world.specs.headline.TypedEvents.{AreTyped}
 use Rattle.sms_world.specs.scripts_are_runs.PlayRefinement.{PlayRefines}
 use Rattle.sms_world.proofs.headline.AnsweredFrames.{Stands, TakesIn, event_stands, none_answered, taken_there}
 use Rattle.sms_world.proofs.headline.AnswersTimely.{hands_answers}
-use Rattle.sms_world.proofs.headline.Claimed.{can_play}
-use Rattle.sms_world.proofs.headline.DecidedTimely.{hands_down, number_by, number_sent, numbered_there, one_number, same_frame}
+use Rattle.sms_world.proofs.headline.ScriptCourses.{can_play}
+use Rattle.sms_world.proofs.headline.DecidedTimely.{hands_down, number_by, numbered_there, same_frame}
 use Rattle.sms_world.proofs.headline.HeadlineHolds.{of_play}
 use Rattle.sms_world.proofs.headline.HeldReferences.{AllPartiesAgree, held_reported}
 use Rattle.sms_world.proofs.headline.PlainDelivered.{of_row}
 use Rattle.sms_world.proofs.headline.PlainEvents.{IsTraced}
 use Rattle.sms_world.proofs.headline.PlainNamed.{has_line, line_stored, sooner as soon}
 use Rattle.sms_world.proofs.headline.PlainStays.{each_stays_is}
-use Rattle.sms_world.proofs.headline.PlainSteps.{IsPartedAt, IsStep, at_place, last_of, parted_at, step_of}
+use Rattle.sms_world.proofs.headline.PlainSteps.{IsPartedAt, IsStep, at_place, last_of, moved, parted_at, step_of}
 use Rattle.sms_world.proofs.headline.SentClaims.{none_tell}
 use Rattle.sms_world.proofs.headline.Tables.{line_of, row_of_line}
 use Rattle.sms_world.proofs.scripts_are_runs.Bags.{row_seen}
@@ -68,16 +69,10 @@ use Rattle.sms_world.proofs.scripts_are_runs.Events.{event_leads, ok_play, same_
 use Rattle.sms_world.proofs.Options.{some_is}
 use Rattle.sms_world.proofs.scripts_are_runs.Growing.{none_less}
 use Rattle.sms_world.proofs.headline.LongMessages.{as_many}
+use Rattle.sms_world.proofs.handset_runs_are_steps.Others.{items_grow}
+use Rattle.sms_world_model.proofs.Frames.{number_sent, one_number}
 
 -- ---- plain facts
-
-moved : (some others : List WorldEvent) (e : WorldEvent) → some ++ e ∷ others ≡ (some ++ e ∷ []) ++ others
-moved [] others e = refl
-moved (x ∷ some) others e = ap (λ (z : List WorldEvent). x ∷ z) (moved some others e)
-
-no_more : (some : List WorldEvent) → some ++ [] ≡ some
-no_more [] = refl
-no_more (x ∷ some) = ap (λ (z : List WorldEvent). x ∷ z) (no_more some)
 
 next_place : (some : List WorldEvent) (e : WorldEvent) → (1 + length some) + 1 ≡ 1 + length (some ++ e ∷ [])
 next_place some e = let l : length (some ++ e ∷ []) ≡ length some + 1 = length-append some (e ∷ []) in omega (arith, l)
@@ -137,13 +132,6 @@ one_of h x (o ∷ os) i = ⊎_elim
     (λ (j : Among x (outbox_lines h os)). let r = one_of h x os j in (r.0, (inr r.1.0, r.1.1)))
     i
 
-either_row : (x : OutboxRow) (xs ys : List OutboxRow) → Among x (xs ++ ys) → Among x xs ⊎ Among x ys
-either_row x [] ys i = inr i
-either_row x (y ∷ xs) ys i = ⊎_elim
-    (λ (e : x ≡ y). inl (inl e))
-    (λ (j : Among x (xs ++ ys)). ⊎_elim (λ (k : Among x xs). inl (inr k)) (λ (k : Among x ys). inr k) (either_row x xs ys j))
-    i
-
 abbrev RowOf : OutboxRow → List Party → Type 0
 RowOf x ps = (q : Party) × (o : OutRow) × (Among q ps × Among o q.core.rows.outbox × (x ≡ record { handset = q.number; entry = o.number; state = entry_state o.state }))
 
@@ -152,16 +140,7 @@ row_of x [] i = absurd i
 row_of x (p ∷ ps) i = ⊎_elim
     (λ (j : Among x (outbox_lines p.number p.core.rows.outbox)). let r = one_of p.number x p.core.rows.outbox j in (p, r.0, (inl refl, r.1.0, r.1.1)))
     (λ (j : Among x (all_outbox_lines ps)). let r = row_of x ps j in (r.0, r.1, (inr r.2.0, r.2.1, r.2.2)))
-    (either_row x (outbox_lines p.number p.core.rows.outbox) (all_outbox_lines ps) i)
-
--- no frame leaves the bag
-bag_stays : (w : World) (m : ℕ) (b : Bool) (ss : List Step) (x : Sent_frame) → Among x w.bag → Among x (end w (items m b ss)).bag
-bag_stays w m b [] x i = i
-bag_stays w m b (s ∷ ss) x i = bag_stays (after_item w (record { step = s; moment = m; stopped = b })) m b ss x (now b)
-  where
-    now : (c : Bool) → Among x (cond c w.bag (after_step w m s).bag)
-    now true = i
-    now false = bag_grows w m s x i
+    (among_parts x (outbox_lines p.number p.core.rows.outbox) (all_outbox_lines ps) i)
 
 -- what a row's frame is
 by_row : (f : FrameRow) (x : Carries) (u : Frame) → f.direction ≡ UpRow → f.carried ≡ Some x → sent_row f ≡ Carried u → (f.handset ≡ u.handset) × (x.tag ≡ u.tag)
@@ -191,14 +170,7 @@ module _ (script : Script) (after : ℕ → Report) where
 
   nothing_takes : (w : World) (event : Event) (ss : List Step) → ss ≡ [] → TakesIn IsTakenIn w event ss
   nothing_takes w (Handed n) ss e = λ u s t there own i. absurd (subst (λ (z : List Step). Among (Receive u s t) z) e i)
-  nothing_takes w Submitted ss e = tt
-  nothing_takes w Cancelled ss e = tt
-  nothing_takes w Asked ss e = tt
-  nothing_takes w Tick_centre ss e = tt
-  nothing_takes w Tick_handset ss e = tt
-  nothing_takes w Wrote ss e = tt
-  nothing_takes w Removed ss e = tt
-  nothing_takes w Restarted ss e = tt
+  nothing_takes w _ ss e = tt
 
   module _ (typed : AreTyped script.events) (reports : AreReports script after) where
     module _ (some : List WorldEvent) (e : WorldEvent) (others : List WorldEvent) (parts : script.events ≡ some ++ e ∷ others) where
@@ -227,7 +199,7 @@ module _ (script : Script) (after : ℕ → Report) where
               frame = λ f y among is up carries.
                   let f_there : Among f st.next.bag = subst (λ (r : Report). Among f r.bag) st.behind among in
                   let f_seen : Among (sent_row f) v.bag = subst (λ (bag : List Sent_frame). Among (sent_row f) bag) (sym next.bag) (row_seen [] st.next.bag f f_there) in
-                  let u_seen : Among (Carried u) v.bag = bag_stays w m b steps (Carried u) there in
+                  let u_seen : Among (Carried u) v.bag = items_grow w m b steps (Carried u) there in
                   let one : number_sent (sent_row f) ≡ u.number = number_by f.direction f.number f.handset f.octets f.carried ∙ is ∙ sym own in
                   let same : sent_row f ≡ Carried u = one_number v.bag (sent_row f) (Carried u) (numbered_there v next.reached) f_seen u_seen one in
                   let row = by_row f y u up carries same in
@@ -273,7 +245,7 @@ module _ (script : Script) (after : ℕ → Report) where
     all_stand : (es some others : List WorldEvent) (c d : PlayState) → script.events ≡ some ++ (es ++ others) → play_state_of script.setup some ≡ ok_play c → AllTimely (1 + length some) es c → Standing c
         → play_state_of script.setup (some ++ es) ≡ ok_play d → Standing d
     all_stand [] some others c d parts leads timely k q =
-        subst (λ (z : PlayState). Standing z) (same_play c d (sym leads ∙ ap (λ (es : List WorldEvent). play_state_of script.setup es) (sym (no_more some)) ∙ q)) k
+        subst (λ (z : PlayState). Standing z) (same_play c d (sym leads ∙ ap (λ (es : List WorldEvent). play_state_of script.setup es) (sym (append-nil some)) ∙ q)) k
     all_stand (e ∷ es) some others c d parts leads timely k q =
         let x : IsStep script after some e (es ++ others) = step_of script after typed reports some e (es ++ others) parts in
         let first : c ≡ x.first = same_play c x.first (sym leads ∙ x.leads) in
@@ -298,7 +270,7 @@ module _ (script : Script) (after : ℕ → Report) where
         let is : beginning script.setup ≡ start.0 = same_play (beginning script.setup) start.0 there.leads in
         let refines : PlayRefines (beginning script.setup) empty = begins script.setup there.can in
         let first : Standing (beginning script.setup) = (empty, (refines, (up_empty, none_answered IsTakenIn), none_tell (beginning script.setup) refines)) in
-        all_stand script.events [] [] (beginning script.setup) last (sym (no_more script.events)) (start.1.0 ∙ ap (λ (z : PlayState). ok_play z) (sym is)) timely first last_leads
+        all_stand script.events [] [] (beginning script.setup) last (sym (append-nil script.events)) (start.1.0 ∙ ap (λ (z : PlayState). ok_play z) (sym is)) timely first last_leads
 
     -- ---- a message has one event
 

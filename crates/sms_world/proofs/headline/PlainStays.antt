@@ -5,7 +5,7 @@ use Rattle.sms_play.specs.PlayedEvent.{played}
 use Rattle.sms_play.specs.Playing.{report_of}
 use Rattle.sms_script.specs.declared.event.WorldEvent.{WorldEvent}
 use Rattle.sms_script.specs.declared.report.Report.{Report}
-use Rattle.sms_world.proofs.headline.PlainSteps.{IsStep, one_at, parted_at, step_of}
+use Rattle.sms_world.proofs.headline.PlainSteps.{IsStep, parted_at, step_of}
 use Rattle.sms_world.proofs.headline.SentReceipts.{listed_on, reported_on}
 use Rattle.sms_world.proofs.headline.Tables.{line_stays, message_stays}
 use Rattle.sms_world.proofs.scripts_are_runs.Events.{event_leads, ok_play}
@@ -20,6 +20,7 @@ use Rattle.sms_world_model.specs.ScriptRun.{happened as happened_in}
 use Rattle.sms_world_model.specs.World.{ReceiptOf, World}
 use Rattle.sms_world_model.specs.WorldStep.{Item, end}
 use Rattle.std.proofs.Common.{List, length, subst, suc, sym, ℕ, ◌+◌, ◌≡◌}
+use Rattle.sms_base.proofs.Lists.{item_at}
 
 event_stays : (n : ℕ) (e : WorldEvent) (c d : PlayState) (w : World) → PlayRefines c w → IsGoodEvent e → HandsOctets e c → played n e c ≡ ok_play d → Stays (report_of c) (report_of d)
 event_stays n e c d w s good octets is =
@@ -37,7 +38,7 @@ event_stays n e c d w s good octets is =
 
 pub each_stays_is : EachStaysLaw
 each_stays_is script after typed reports n l =
-    let e = one_at script.events n l in
+    let e = item_at script.events n l in
     let p = parted_at script.events n e.0 e.1 in
     let st : IsStep script after p.some e.0 p.others = step_of script after typed reports p.some e.0 p.others p.parts in
     let stays : Stays (report_of st.first) (report_of st.next) = event_stays (1 + length p.some) e.0 st.first st.next st.sees st.refines st.good st.octets st.is in

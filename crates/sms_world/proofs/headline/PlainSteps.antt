@@ -8,9 +8,10 @@ use Rattle.sms_script.specs.declared.event.WorldEvent.{WorldEvent}
 use Rattle.sms_script.specs.declared.play_fault.PlayFault.{PlayFault}
 use Rattle.sms_script.specs.declared.report.Report.{Report}
 use Rattle.sms_script.specs.declared.script.Script.{Script}
-use Rattle.sms_world.proofs.headline.Claimed.{can_play}
+use Rattle.sms_world.proofs.headline.ScriptCourses.{can_play}
 use Rattle.sms_world.proofs.headline.HeadlineHolds.{nothing_more, of_play}
-use Rattle.sms_world.proofs.headline.SplitClaimed.{between, first_of}
+use Rattle.sms_world.proofs.headline.ScriptCourses.{course_of}
+use Rattle.sms_world.proofs.scripts_are_runs.Courses.{first_of}
 use Rattle.sms_world.proofs.scripts_are_runs.Events.{ok_play, same_play}
 use Rattle.sms_world.specs.headline.HeadlineLaws.{IsScript, LeadsOn}
 use Rattle.sms_world.specs.headline.PlainLaws.{AreReports}
@@ -18,7 +19,7 @@ use Rattle.sms_world.specs.headline.TypedEvents.{AreTyped}
 use Rattle.sms_world.specs.scripts_are_runs.Happening.{HandsOctets, IsGoodEvent}
 use Rattle.sms_world.specs.scripts_are_runs.PlayRefinement.{PlayRefines}
 use Rattle.sms_world_model.specs.World.{World}
-use Rattle.std.proofs.Common.{Err, List, Ok, Result, Some, [], ap, arith, length, refl, subst, suc, sym, zero, ℕ, ◌+◌, ◌++◌, ◌<◌, ◌∙◌, ◌∷◌, ◌≡◌}
+use Rattle.std.proofs.Common.{Err, List, Ok, Result, Some, [], ap, arith, length, refl, subst, suc, sym, zero, ℕ, ◌+◌, ◌++◌, ◌∙◌, ◌∷◌, ◌≡◌}
 use Rattle.std.proofs.lemmas.Bool.{cond-true}
 use Rattle.std.specs.Prelude.{slice_get}
 use Rattle.sms_world.proofs.scripts_are_runs.Runs.{unplayed}
@@ -43,22 +44,11 @@ pub at_place : (some others : List WorldEvent) (e : WorldEvent) → slice_get (s
 at_place [] others e = refl
 at_place (x ∷ some) others e = at_place some others e
 
-none_below : (n : ℕ) → n < 0 → ⊥
-none_below n l = omega (arith, l)
-
-one_less : (n k : ℕ) → suc n < suc k → n < k
-one_less n k l = omega (arith, l)
-
-pub one_at : (events : List WorldEvent) (n : ℕ) → n < length events → (e : WorldEvent) × (slice_get events n ≡ Some e)
-one_at [] n l = absurd (none_below n l)
-one_at (x ∷ xs) zero l = (x, refl)
-one_at (x ∷ xs) (suc n) l = one_at xs n (one_less n (length xs) l)
-
 one_longer : (some : List WorldEvent) (e : WorldEvent) → length (some ++ e ∷ []) ≡ suc (length some)
 one_longer [] e = refl
 one_longer (x ∷ some) e = ap (λ (k : ℕ). suc k) (one_longer some e)
 
-moved : (some others : List WorldEvent) (e : WorldEvent) → some ++ e ∷ others ≡ (some ++ e ∷ []) ++ others
+pub moved : (some others : List WorldEvent) (e : WorldEvent) → some ++ e ∷ others ≡ (some ++ e ∷ []) ++ others
 moved [] others e = refl
 moved (x ∷ some) others e = ap (λ (z : List WorldEvent). x ∷ z) (moved some others e)
 
@@ -135,8 +125,8 @@ module _ (script : Script) (after : ℕ → Report) (typed : AreTyped script.eve
         let c : PlayState = first_part.0 in
         let d : PlayState = with_one.0 in
         let on_there : LeadsOn script some c last_of.0 = record { here = first_part.1.0; there = last_of.1.0 } in
-        let b = between script some (e ∷ others) c last_of.0 is_script on_there in
-        let f = first_of (1 + length some) e c last_of.0 others (played (1 + length some) e c) refl b.octets.1 b.leads in
+        let b = course_of script some (e ∷ others) c last_of.0 is_script on_there in
+        let f = first_of (1 + length some) e c last_of.0 others (played (1 + length some) e c) refl b.then_octets.1 b.then_leads in
         let here = can_play script.setup some c first_part.1.0 in
         let on = one_on 1 some e (beginning script.setup) c f.next here.leads f.is in
         let same : f.next ≡ d = same_play f.next d (sym (cond-true (can_be_played script.setup) (played_on 1 (some ++ e ∷ []) (beginning script.setup)) unplayed here.can ∙ on) ∙ with_one.1.0) in
@@ -151,8 +141,8 @@ module _ (script : Script) (after : ℕ → Report) (typed : AreTyped script.eve
           then = with_one.1.0;
           at_end = last_of.1.0;
           is = f.is ∙ ap (λ (z : PlayState). ok_play z) same;
-          sees = b.first_world;
-          refines = b.first_refines;
-          good = b.goods.0;
-          octets = b.octets.0;
+          sees = b.world;
+          refines = b.refines;
+          good = b.then_good.0;
+          octets = b.then_octets.0;
         }

@@ -12,11 +12,12 @@ use Rattle.sms_script.specs.declared.event.WorldEvent.{WorldEvent}
 use Rattle.sms_script.specs.declared.play_fault.PlayFault.{PlayFault}
 use Rattle.sms_script.specs.declared.report.answers.Answer.{Answer}
 use Rattle.sms_centre_rows.specs.declared.report_lines.ReportedMessage.{ReportedMessage}
-use Rattle.sms_world.proofs.headline.NamedAnswers.{GrowsNamed, IsSubmitting, event_grows, last_or}
+use Rattle.sms_world.proofs.headline.NamedAnswers.{GrowsNamed, IsSubmitting, event_grows}
 use Rattle.sms_world.proofs.headline.Tables.{row_of_line}
 use Rattle.sms_world.proofs.scripts_are_runs.Events.{ok_play, same_play}
 use Rattle.sms_world.specs.headline.PlainReport.{AnswersAscend, AreAscending}
 use Rattle.std.proofs.Common.{Err, List, Ok, Result, [], ap, arith, inl, inr, refl, subst, sym, ⊎_elim, ℕ, ◌+◌, ◌++◌, ◌<◌, ◌∷◌, ◌≡◌}
+use Rattle.sms_play.proofs.answers.PlayAnswers.{either_part}
 
 -- ---- messages
 
@@ -42,7 +43,7 @@ one_more (x ∷ xs) y ascend before = (
   λ a i. ⊎_elim
       (λ (j : Among a xs). ascend.0 a j)
       (λ (e : a ≡ y). subst (λ (z : Answer). x.event < z.event) (sym e) (before x (inl refl)))
-      (last_or a xs y i),
+      (either_part a xs y i),
   one_more xs y ascend.1 (λ a j. before a (inr j)),
 )
 
@@ -62,7 +63,7 @@ still_before K n c d (inr (x, (more, names))) b = record {
   before = λ a i. ⊎_elim
       (λ (j : Among a c.answers). sooner a.event n (b.before a j))
       (λ (e : a ≡ record { event = n; answered = x }). subst (λ (z : Answer). z.event < n + 1) (sym e) (next n))
-      (last_or a c.answers (record { event = n; answered = x }) (subst (λ (rest : List Answer). Among a rest) more i));
+      (either_part a c.answers (record { event = n; answered = x }) (subst (λ (rest : List Answer). Among a rest) more i));
 }
 
 then_ascend : (n : ℕ) (e : WorldEvent) (es : List WorldEvent) (c d : PlayState) → ((x : PlayState) → AreBefore (n + 1) x → played_on (n + 1) es x ≡ ok_play d → AnswersAscend d.answers) → AreBefore n c

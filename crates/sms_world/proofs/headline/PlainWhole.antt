@@ -20,7 +20,7 @@ use Rattle.sms_world.specs.headline.PlainHeadline.{Receipts}
 use Rattle.sms_world.specs.headline.PlainLaws.{AreReports, PlainLaw, PlainReportLaw}
 use Rattle.sms_world.specs.headline.PlainReports.{IsPlain}
 use Rattle.sms_world.specs.headline.PlainReport.{AnswersAscend, AreAscending, GivenOnce, NoSystemError, NoneTwice, compared_lines}
-use Rattle.sms_world.proofs.headline.Claimed.{can_play}
+use Rattle.sms_world.proofs.headline.ScriptCourses.{can_play}
 use Rattle.sms_world.proofs.headline.ExactPremises.{none_is, premises_are, reported_plays, to_head}
 use Rattle.sms_world.proofs.headline.EntryFrames.{HolderSays}
 use Rattle.sms_world.proofs.headline.HeadlineHolds.{nothing_more, of_play}

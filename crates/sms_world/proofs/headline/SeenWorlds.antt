@@ -34,6 +34,7 @@ use Rattle.sms_world.specs.centres_refine_the_world.CentreRefinement.{CentreRefi
 use Rattle.sms_world.specs.centres_refine_the_world.RefinesReports.{ReportSeen, report_seen}
 use Rattle.sms_world.specs.centre_runs_are_steps.TruthfulRows.{ReportedRows}
 use Rattle.sms_world.proofs.Options.{some_is}
+use Rattle.sms_world.proofs.scripts_are_runs.Parties.{number_there}
 use Rattle.std.proofs.Common.{ap, inl, inr, refl, subst, sym, ⊎_elim, ◌∙◌}
 use Rattle.std.proofs.lemmas.Bool.{cases_eq}
 use Rattle.std.specs.Prelude.{List, None, Option, Some, [], ℕ, ◌∷◌, ◌≡◌}
@@ -83,10 +84,6 @@ alone n (x ∷ xs) apart i = ⊎_elim
     (λ (e : n ≡ x). inl (e, λ j. apart.0 (subst (λ (z : List ℕ). Among z xs) e j)))
     (λ (j : Among n xs). inr (λ e. apart.0 (subst (λ (z : List ℕ). Among z xs) e j), alone n xs apart.1 j))
     i
-
-numbered : (q : Party) (ps : List Party) → Among q ps → Among q.number (numbers_of ps)
-numbered q [] i = absurd i
-numbered q (p ∷ ps) i = ⊎_elim (λ (e : q ≡ p). inl (ap (λ (z : Party). z.number) e)) (λ (j : Among q ps). inr (numbered q ps j)) i
 
 module _ (c : PlayState) (w : World) (s : PlayRefines c w) where
   abbrev messages : List MessageRow
@@ -158,7 +155,7 @@ module _ (c : PlayState) (w : World) (s : PlayRefines c w) where
     receipts = record { there = receipts_listed; only = receipts_of_world };
     reports = s.centre.rows.reports;
     handsets = handset_seen;
-    apart = λ q i. alone q.number (numbers_of c.parties) s.apart (numbered q c.parties i);
+    apart = λ q i. alone q.number (numbers_of c.parties) s.apart (number_there q c.parties i);
     takers = λ a i. of_number a.handset c.parties (takers a i);
     given = s.down;
     holders = s.centre.rows.holders;

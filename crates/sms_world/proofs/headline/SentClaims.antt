@@ -1,7 +1,6 @@
 -- What handsets count as sent the centre has, while frames are decided timely.
-use Rattle.std.proofs.Common.{◌≡◌, ℕ, ◌+◌, ◌≤◌, List, [], ◌∷◌, length, true, refl, sym, ◌∙◌, ap, subst, Some, Result, Ok, Err}
+use Rattle.std.proofs.Common.{◌≡◌, ℕ, ◌≤◌, List, [], ◌∷◌, length, sym, ◌∙◌, ap, subst, Some}
 use Rattle.sms_base.specs.Among.{Among}
-use Rattle.sms_base.specs.Reading.{◌>>=◌}
 use Rattle.sms_base.specs.declared.address.Address.{Address}
 use Rattle.sms_base.specs.declared.holder.Holder.TheVariants.{Part}
 use Rattle.sms_centre_rows.specs.messages.Messages.{message_at, message_key, part_at, part_key}
@@ -18,67 +17,54 @@ use Rattle.sms_rows.proofs.table.Tables.{among_found, found_among, found_key}
 use Rattle.sms_tpdu.specs.MoreMessages.{compared}
 use Rattle.sms_tpdu.specs.TpduReading.{submit_at}
 use Rattle.sms_tpdu.specs.declared.user_data.UserData.{UserData}
-use Rattle.sms_script.specs.declared.play_fault.PlayFault.{PlayFault}
 use Rattle.sms_play.specs.PlayState.{PlayState, Party}
 use Rattle.sms_play.specs.PlayedEvent.{played}
-use Rattle.sms_play.specs.Playing.{played_on}
-use Rattle.sms_play.specs.Premises.{is_timely_event}
-use Rattle.sms_world_model.specs.WorldStep.{end}
-use Rattle.sms_world_model.specs.ScriptRun.{Happening, happened}
+use Rattle.sms_world_model.specs.ScriptRun.{Happening}
 use Rattle.sms_world_model.specs.Submission.{HasPart, Submission, part_at as user_data_at, IsDeliverOf}
 use Rattle.sms_world_model.specs.World.{Allocation, IsRecorded, State, World, empty}
 use Rattle.sms_world_model.proofs.Faithful.{part_within}
 use Rattle.sms_world_model.proofs.Sound.{IsKnown, IsSound}
 use Rattle.sms_world_model.proofs.Tables.{same_message}
-use Rattle.sms_world_model.proofs.Upward.{IsUpward}
+use Rattle.sms_world_model.proofs.Upward.{IsUpward, up_empty}
 use Rattle.sms_world.proofs.centres_refine_the_world.ByOctets.{by_octet_is, by_octet_some}
 use Rattle.sms_world.specs.centres_refine_the_world.RefinesGiven.{given_part}
 use Rattle.sms_world.specs.headline.SeenWorld.{IsRowOf, PartSeen, part_seen, entry_seen, state_of, user_data_in}
 use Rattle.sms_world.proofs.scripts_are_runs.Agreeing.{sound_there}
-use Rattle.sms_world.specs.scripts_are_runs.PlayRuns.{AllHandOctets, AreGood}
-use Rattle.sms_world.specs.headline.Claims.{IfPlayed, AllTimely, IsMessageOf, SentSubmitted}
+use Rattle.sms_world.specs.headline.Claims.{AllTimely, IsMessageOf, SentSubmitted}
 use Rattle.sms_world.specs.scripts_are_runs.PlayRefinement.{PlayRefines}
 use Rattle.sms_world.specs.scripts_are_runs.Happening.{HandsOctets, IsGoodEvent}
-use Rattle.sms_world.specs.headline.OneRun.{happening_of}
-use Rattle.sms_world.proofs.scripts_are_runs.Events.{event_leads, ok_play, same_play}
+use Rattle.sms_world.specs.headline.OneRun.{happening_of, world_after}
+use Rattle.sms_world.proofs.scripts_are_runs.Events.{ok_play}
 use Rattle.sms_world.proofs.headline.AnswersTimely.{hands_answers}
 use Rattle.sms_world.proofs.headline.DecidedTimely.{hands_down}
 use Rattle.sms_world.proofs.headline.HeldReferences.{AllPartiesAgree, held_reported}
 use Rattle.sms_world.proofs.headline.UpwardRuns.{event_upward}
 use Rattle.sms_world.proofs.Options.{some_is}
-use Rattle.sms_world.proofs.SeenParts.{small, one_is_small, only_one, none_seen, seen_of, row_seen}
+use Rattle.sms_world.proofs.SeenParts.{small, one_is_small, only_one, seen_of, row_seen}
+use Rattle.sms_world.proofs.scripts_are_runs.Courses.{KeptByEvents}
+use Rattle.sms_world.specs.scripts_are_runs.PlayRuns.{LeadsTo}
+use Rattle.sms_script.specs.declared.setup.Setup.{Setup}
+use Rattle.sms_play.specs.Setups.{beginning}
+use Rattle.sms_world.proofs.headline.TimelyClaims.{timely_on}
 
--- ---- one event, and then the others
+-- ---- what each event keeps
 
-abbrev pub Sends : PlayState → Type 0
-Sends d = (v : World) × (PlayRefines d v × IsUpward v × AllPartiesAgree d)
+-- what counts as sent has its message, and each handset's references are those of its entries
+pub record IsToldUp (c : PlayState) (w : World) : Type 0 where
+  pub up : IsUpward w
+  pub tells : AllPartiesAgree c
 
-event_sends : (n : ℕ) (e : WorldEvent) (c d : PlayState) (w : World) → PlayRefines c w → IsGoodEvent e → HandsOctets e c → is_timely_event e c ≡ true → played n e c ≡ ok_play d → IsUpward w → AllPartiesAgree c → Sends d
-event_sends n e c d w s good octets timely q up tells =
-    let l = event_leads n e c d w s good octets q in
-    let h : Happening = happening_of e c.centre.moment in (
-      end w (happened h l.0),
-      (
-        l.1.2,
-        event_upward w h.event h.went h.moment l.0 l.1.0 (hands_down e c w c.centre.moment s timely) (hands_answers n e c d w c.centre.moment s tells up timely q) l.1.1 up,
-        held_reported n e c d w s q tells,
-      ),
-    )
+event_told_up : (n : ℕ) (e : WorldEvent) (es : List WorldEvent) (c d : PlayState) (w : World) → PlayRefines c w → IsGoodEvent e → HandsOctets e c → AllTimely n (e ∷ es) c → played n e c ≡ ok_play d → (l : LeadsTo e c w d)
+    → IsToldUp c w → IsToldUp d (world_after w e c l.0)
+event_told_up n e es c d w s good octets timely q l k =
+    let h : Happening = happening_of e c.centre.moment in
+    record {
+      up = event_upward w h.event h.went h.moment l.0 l.1.0 (hands_down e c w c.centre.moment s timely.0) (hands_answers n e c d w c.centre.moment s k.tells k.up timely.0 q) l.1.1 k.up;
+      tells = held_reported n e c d w s q k.tells;
+    }
 
-then_sends : (n : ℕ) (e : WorldEvent) (c d : PlayState) (w : World) (more : PlayState → Result PlayState PlayFault) (Octets Timely : PlayState → Type 0)
-    → ((x : PlayState) (v : World) → PlayRefines x v → IsUpward v → AllPartiesAgree x → Octets x → Timely x → more x ≡ ok_play d → Sends d)
-    → PlayRefines c w → IsGoodEvent e → HandsOctets e c → is_timely_event e c ≡ true → IsUpward w → AllPartiesAgree c → (r : Result PlayState PlayFault) → played n e c ≡ r → IfPlayed r Octets → IfPlayed r Timely
-    → (r >>= λ (x : PlayState). more x) ≡ ok_play d → Sends d
-then_sends n e c d w more Octets Timely go s good octets timely up tells (Ok x) is later in_time q =
-    let y = event_sends n e c x w s good octets timely is up tells in go x y.0 y.1.0 y.1.1 y.1.2 later in_time q
-then_sends n e c d w more Octets Timely go s good octets timely up tells (Err fault) is later in_time q = absurd cc
-
-pub all_send : (n : ℕ) (es : List WorldEvent) (c d : PlayState) (w : World) → PlayRefines c w → AreGood es → AllHandOctets n es c → AllTimely n es c → IsUpward w → AllPartiesAgree c → played_on n es c ≡ ok_play d → Sends d
-all_send n [] c d w s good octets timely up tells q =
-    let same : c ≡ d = same_play c d q in (w, (subst (λ (z : PlayState). PlayRefines z w) same s, up, subst (λ (z : PlayState). AllPartiesAgree z) same tells))
-all_send n (e ∷ es) c d w s good octets timely up tells q =
-    then_sends n e c d w (λ x. played_on (n + 1) es x) (λ x. AllHandOctets (n + 1) es x) (λ x. AllTimely (n + 1) es x) (λ x v k u t o r p. all_send (n + 1) es x d v k good.1 o r u t p)
-    s good.0 octets.0 timely.0 up tells (played n e c) refl octets.1 timely.1 q
+pub told_up_kept : KeptByEvents AllTimely IsToldUp
+told_up_kept = record { keeps = event_told_up; rest = timely_on }
 
 -- ---- the message of an entry
 
@@ -153,3 +139,6 @@ sent_submitted c w s up q o there i sent = message_there c w s up q o there i se
 pub none_tell : (c : PlayState) → PlayRefines c empty → AllPartiesAgree c
 none_tell c s q i o j u =
     absurd ((s.parties q i).refines.out.there o.number o (among_found out_key o q.core.rows.outbox (s.parties q i).sound.rows.out_keys j))
+
+pub told_up_first : (s : Setup) → PlayRefines (beginning s) empty → IsToldUp (beginning s) empty
+told_up_first s shows = record { up = up_empty; tells = none_tell (beginning s) shows }

@@ -8,6 +8,7 @@ use Rattle.sms_centre_rows.specs.declared.reports.report.ReportRow.{ReportRow}
 use Rattle.sms_centre_rows.specs.messages.Messages.{message_at, message_key}
 use Rattle.sms_centre_rows.specs.messages.SoundMessages.{EndsAt}
 use Rattle.sms_centre_rows.specs.reports.Receipts.{is_account}
+use Rattle.sms_centre_spec.proofs.BoundSessions.{Goes}
 use Rattle.sms_centre_spec.proofs.EventLaws.{sends_receipts, stays_sound}
 use Rattle.sms_centre_spec.specs.CentreEvent.{happened}
 use Rattle.sms_centre_spec.specs.Draft.{Core, core_of}
@@ -23,7 +24,7 @@ use Rattle.sms_script.specs.declared.event.WorldEvent.TheVariants.{Restart, Stop
 use Rattle.sms_centre_rows.specs.declared.report_lines.ReceiptRow.{ReceiptRow}
 use Rattle.sms_world.proofs.headline.SeenWorlds.{receipt_there, receipts_listed, receipts_of_world}
 use Rattle.sms_world.proofs.scripts_are_runs.Meetings.{Meets, meets}
-use Rattle.sms_world.proofs.headline.SentSessions.{Goes, goes_to}
+use Rattle.sms_world.proofs.headline.SentSessions.{goes_to}
 use Rattle.sms_world.specs.headline.Claims.{DeliversReceipts, happened_then}
 use Rattle.sms_world.specs.headline.ReportClaims.{IsReceiptSent}
 use Rattle.sms_world.specs.scripts_are_runs.Happening.{HandsOctets, IsGoodEvent}

@@ -2,6 +2,7 @@
 use Rattle.std.proofs.Common.{◌≡◌, ℕ, zero, suc, ◌+◌, ◌*◌, ◌<◌, ◌≤◌, arith, inl, inr, List, [], ◌∷◌, ◌++◌, length, refl, sym, ◌∙◌, ap, subst, ⊎_elim, Option, Some, None}
 use Rattle.std.specs.Prelude.{◌==◌, slice_get}
 use Rattle.std.proofs.lemmas.Bool.{cases_eq, cond-false, cond-true, ne_eqb, eq-eqb}
+use Rattle.sms_base.proofs.Lists.{item_at}
 use Rattle.sms_base.specs.Among.{Among}
 use Rattle.sms_concat.specs.declared.content.Content.{Content}
 use Rattle.sms_concat.specs.declared.content.Part.{Part as PartOf}
@@ -15,30 +16,18 @@ use Rattle.sms_rows.specs.table.Keys.{pair_key}
 use Rattle.sms_rows.proofs.table.Tables.{among_found, found_among, found_key}
 use Rattle.sms_play.specs.PlayState.{PlayState, Party}
 use Rattle.sms_play.specs.HandsetSide.{coding_of}
-use Rattle.sms_world_model.specs.Place.{carried_in, joined_parts, with_part, Key, Place, place_in}
+use Rattle.sms_world_model.specs.Place.{carried_in, joined_parts, with_part, Key, place_in}
 use Rattle.sms_world_model.specs.Groups.{carried_by, parts_to, number_in}
 use Rattle.sms_world_model.specs.World.{Accepted, World}
 use Rattle.sms_world_model.proofs.Alike.{carried_alike, place_alike}
 use Rattle.sms_world_model.proofs.Keys.{for_is, number_placed}
+use Rattle.sms_world_model.proofs.Contents.{one_key_of, piece_old, piece_new, length_new}
 use Rattle.sms_world.specs.headline.Claims.{pair_in_row, AreJoinedRounds, IsJoinedRound, IsLongMessage, JoinedWhole}
 use Rattle.sms_world.specs.scripts_are_runs.PlayRefinement.{PlayRefines}
 use Rattle.sms_world.specs.headline.SplitClaims.{IsSplitOf, IsSplitUnder, split_key, AllSaySplit, SaysSplit, SplitsJoined}
 use Rattle.sms_world.proofs.Options.{some_is}
 
 -- ---- lists of parts, piece by piece
-
-piece_old : (ps : List PartOf) (p : PartOf) (i : ℕ) → i < length ps → slice_get (ps ++ p ∷ []) i ≡ slice_get ps i
-piece_old [] p i l = absurd (omega arith)
-piece_old (x ∷ ps) p zero l = refl
-piece_old (x ∷ ps) p (suc i) l = piece_old ps p i (omega arith)
-
-piece_new : (ps : List PartOf) (p : PartOf) → slice_get (ps ++ p ∷ []) (length ps) ≡ Some p
-piece_new [] p = refl
-piece_new (x ∷ ps) p = piece_new ps p
-
-length_new : (ps : List PartOf) (p : PartOf) → length (ps ++ p ∷ []) ≡ suc (length ps)
-length_new [] p = refl
-length_new (x ∷ ps) p = let e = length_new ps p in omega (arith, e)
 
 -- each number's part is there
 abbrev Carry : List Accepted → ℕ → List PartOf → Type 0
@@ -74,11 +63,6 @@ carried_from n (p ∷ ps) x e = ⊎_elim
     let found : (z : Accepted) × (Among z (p ∷ ps) × (number_in z ≡ n) × (carried_in z.tpdu ≡ Some x)) = (y.0, (inr y.1.0, y.1.1, y.1.2)) in found)
     (cases_eq (number_in p) n)
 
-some_piece : (ps : List PartOf) (i : ℕ) → i < length ps → (p : PartOf) × (slice_get ps i ≡ Some p)
-some_piece [] i l = absurd (omega arith)
-some_piece (x ∷ ps) zero l = (x, refl)
-some_piece (x ∷ ps) (suc i) l = some_piece ps i (omega arith)
-
 same_pieces : (ps qs : List PartOf) → length ps ≡ length qs → ((i : ℕ) → i < length ps → slice_get ps i ≡ slice_get qs i) → ps ≡ qs
 same_pieces [] [] e all = refl
 same_pieces [] (q ∷ qs) e all = absurd (let l : ⊥ = omega (arith, e) in l)
@@ -93,12 +77,6 @@ same_pieces (p ∷ ps) (q ∷ qs) e all =
 pub parts_there : (o : Option (List PartOf)) (content : Content) → joined_parts o ≡ Some content → (ps : List PartOf) × ((o ≡ Some ps) × (content_joined ps ≡ Some content))
 parts_there None content e = absurd cc
 parts_there (Some ps) content e = (ps, (refl, e))
-
-pub one_key_of : (k l : Key) (a b : ℕ) (o : Option Place) → o ≡ Some (record { key = k; number = a }) → o ≡ Some (record { key = l; number = b }) → k ≡ l
-one_key_of k l a b o x y = same (record { key = k; number = a }) (record { key = l; number = b }) (sym x ∙ y)
-  where
-    same : (p q : Place) → Some p ≡ Some q → p.key ≡ q.key
-    same p q e = let f : p ≡ q = cc in ap (λ (z : Place). z.key) f
 
 -- ---- one round
 
@@ -165,8 +143,8 @@ module _ (c : PlayState) (w : World) (s : PlayRefines c w) where
         let long = all.0 in
         let same : ps.0 ≡ of.pieces =
         same_pieces ps.0 of.pieces (long ∙ sym total) (λ i l.
-        let x = some_piece ps.0 i l in
-        let f = some_piece of.pieces i (omega (arith, l, long, total)) in
+        let x = item_at ps.0 i l in
+        let f = item_at of.pieces i (omega (arith, l, long, total)) in
         x.1 ∙ ap (λ (z : PartOf). Some z) (piece_is i x.0 f.0 (all.1 i (omega (arith, l, long)) ∙ x.1) f.1) ∙ sym f.1) in
         some_is is.joined.content content (sym ps.1.1 ∙ ap (λ (z : List PartOf). content_joined z) same ∙ split_joins content reference of.pieces of.split)
 

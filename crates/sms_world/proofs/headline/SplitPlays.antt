@@ -1,18 +1,9 @@
 -- A fact of the centre's rows that each of its events keeps is kept along a course.
-use Rattle.std.proofs.Common.{◌≡◌, ℕ, zero, suc, ◌+◌, List, [], ◌∷◌, ◌++◌, true, refl, subst, Option, Some, None, Result, Ok, Err}
-use Rattle.std.proofs.lemmas.Bool.{cond_both}
-use Rattle.sms_base.specs.Reading.{◌>>=◌}
+use Rattle.std.proofs.Common.{◌≡◌, ℕ, zero, suc, List, [], ◌∷◌, ◌++◌, true, Option, Some, None}
 use Rattle.sms_centre_rows.specs.declared.messages.message.MessageRow.{MessageRow}
 use Rattle.sms_centre_rows.specs.declared.messages.part.PartRow.{PartRow}
-use Rattle.sms_script.specs.declared.report.answers.Answered.TheVariants.{Stopped as AnsweredStopped}
 use Rattle.sms_centre_rows.specs.declared.reports.delivery.Delivery.{Delivery}
-use Rattle.sms_script.specs.declared.event.Act.{Act}
-use Rattle.sms_script.specs.declared.event.EventSide.{EventSide}
-use Rattle.sms_script.specs.declared.event.EventSide.TheVariants.{Centre, Handset}
-use Rattle.sms_script.specs.declared.event.StopPoint.{StopPoint}
-use Rattle.sms_script.specs.declared.event.StopPoint.TheVariants.{Before, After}
 use Rattle.sms_script.specs.declared.event.WorldEvent.{WorldEvent}
-use Rattle.sms_script.specs.declared.event.WorldEvent.TheVariants.{Whole, Stopped, Restart}
 use Rattle.sms_centre_spec.specs.CentreEvent.{happened as centre_happened}
 use Rattle.sms_centre_spec.specs.Draft.{Core, Draft as CentreDraft, messages_in, parts_in, rows_of}
 use Rattle.sms_centre_spec.specs.declared.rows.Rows.{Rows}
@@ -21,26 +12,17 @@ use Rattle.sms_centre_spec.specs.declared.answer.CentreAnswer.{CentreAnswer}
 use Rattle.sms_centre_spec.specs.declared.event.CentreEvent.{CentreEvent}
 use Rattle.sms_centre_spec.specs.declared.event.CentreEvent.TheVariants.{DeliverAnswered}
 use Rattle.sms_centre_spec.proofs.EventLaws.{stays_sound}
-use Rattle.sms_handset.specs.declared.event.HandsetEvent.{HandsetEvent}
-use Rattle.sms_handset.specs.declared.refusal.Refusal.{Refusal}
-use Rattle.sms_handset_draft.specs.Draft.{Draft}
-use Rattle.sms_script.specs.declared.play_fault.PlayFault.{PlayFault}
 use Rattle.sms_play.specs.CentreSide.{accepted_after, centre_meets, done as centre_done, with_answer as centre_told, whole as centre_whole}
-use Rattle.sms_play.specs.PlayState.{PlayState, Party, answer, party_at}
-use Rattle.sms_play.specs.HandsetSide.{handset_meets, happened, is_owners, with_answer, whole}
-use Rattle.sms_play.specs.Meeting.{AtCentre, AtHandset, Meeting, is_answered, meeting_of}
-use Rattle.sms_play.specs.PlayedEvent.{handset_stored, handset_restarted, handset_restarts, stored, met, played, restart, restarted, stopped}
+use Rattle.sms_play.specs.PlayState.{PlayState}
+use Rattle.sms_play.specs.PlayedEvent.{played}
 use Rattle.sms_play.specs.Playing.{played_on}
-use Rattle.sms_world_model.specs.WorldStep.{end}
-use Rattle.sms_world_model.specs.ScriptRun.{happened as happened_in}
 use Rattle.sms_world_model.specs.World.{World}
 use Rattle.sms_world.specs.scripts_are_runs.PlayRuns.{AllHandOctets, AreGood}
-use Rattle.sms_world.specs.headline.Claims.{IfPlayed}
 use Rattle.sms_world.specs.scripts_are_runs.PlayRefinement.{PlayRefines}
 use Rattle.sms_world.specs.scripts_are_runs.Happening.{HandsOctets, IsGoodEvent}
-use Rattle.sms_world.specs.headline.OneRun.{happening_of}
-use Rattle.sms_world.proofs.scripts_are_runs.Events.{event_leads, ok_play, same_play}
-use Rattle.sms_world.proofs.scripts_are_runs.Meetings.{Meets, meets}
+use Rattle.sms_world.proofs.scripts_are_runs.Events.{ok_play}
+use Rattle.sms_world.proofs.scripts_are_runs.Courses.{KeptByEvents, NothingAsked, kept_along}
+use Rattle.sms_world.proofs.scripts_are_runs.PlayedParts.{KeptByParts, MeetsIn, event_keeps, met_well}
 
 module _ (Q : Rows → Type 0) (keeps : (event : CentreEvent) (c : Core) → IsSoundCore c → IsEvent event → Q c.rows → Q (rows_of (centre_happened event c).store)) where
   abbrev Has : PlayState → Type 0
@@ -66,82 +48,31 @@ module _ (Q : Rows → Type 0) (keeps : (event : CentreEvent) (c : Core) → IsS
         let d : CentreDraft = centre_happened e c.centre in
         centre_reported_preserved d.answer (centre_whole d c) (accepted_preserved d _ d.bindings.deliveries (centre_done d c) (stays_sound e c.centre sound is) (keeps e c.centre sound is k))
 
-    -- ---- a handset
+  -- ---- each event
 
-    whole_preserved : (p : Party) (r : Result Draft Refusal) (c : PlayState) → Has c → Has (whole p r c)
-    whole_preserved p (Ok d) c k = k
-    whole_preserved p (Err refusal) c k = k
+  abbrev HasRows : PlayState → World → Type 0
+  HasRows c w = Has c
 
-    handset_left : (p : Party) (r : Result Draft Refusal) (c : PlayState) → Has c → Has (handset_stored p r c)
-    handset_left p (Ok d) c k = k
-    handset_left p (Err refusal) c k = k
+  parts_keep : (n : ℕ) (c : PlayState) (w : World) → PlayRefines c w → Has c → KeptByParts Has (MeetsIn c w) n c
+  parts_keep n c w s k = record {
+    begins = k;
+    centre_met = λ act e t. centre_preserved n e c s.sound t.is k;
+    centre_stored = λ act e t. keeps e c.centre s.sound t.is k;
+    handset_met = λ act p e d t q. k;
+    handset_stored_it = λ act p e d t q. k;
+    centre_back = λ x h. h;
+    handset_back = λ p x i h. h;
+    noted = λ a x h. h;
+  }
 
-    reported_preserved : (r : Result Draft Refusal) (c : PlayState) → Has c → Has (with_answer n r c)
-    reported_preserved (Ok d) c k = k
-    reported_preserved (Err refusal) c k = k
+  event_preserved : (n : ℕ) (e : WorldEvent) (c d : PlayState) (w : World) → PlayRefines c w → IsGoodEvent e → HandsOctets e c → played n e c ≡ ok_play d → Has c → Has d
+  event_preserved n e c d w s good octets q k = event_keeps Has (MeetsIn c w) n c (parts_keep n c w s k) e d (met_well n c w s e good octets) q
 
-    handset_met : (p : Party) (e : HandsetEvent) (c : PlayState) → Has c → Has (handset_meets n p e c)
-    handset_met p e c k =
-        let r : Result Draft Refusal = happened e p.core in
-        let w : Has (whole p r c) = whole_preserved p r c k in
-        cond_both (is_owners e) (with_answer n r (whole p r c)) (whole p r c) (λ (z : PlayState). Has z) (λ t. reported_preserved r (whole p r c) w) (λ t. w)
-
-    -- ---- restarts and stops
-
-    restarted_preserved : (o : Option Party) (c : PlayState) → Has c → Has (handset_restarted o c)
-    restarted_preserved None c k = k
-    restarted_preserved (Some p) c k = k
-
-    back_preserved : (m : Meeting) (c : PlayState) → Has c → Has (restarted m c)
-    back_preserved (AtCentre e) c k = k
-    back_preserved (AtHandset p e) c k = restarted_preserved (party_at p.number c.parties) c k
-
-    module _ (c : PlayState) (w : World) (s : PlayRefines c w) (k : Has c) where
-      stop_preserved : (act : Act) (stop : StopPoint) (m : Meeting) → Meets act c w m → Has (stored stop m c)
-      stop_preserved act Before m x = k
-      stop_preserved act After (AtCentre e) x = keeps e c.centre s.sound x.is k
-      stop_preserved act After (AtHandset p e) x = handset_left p (happened e p.core) c k
-
-      stopped_preserved : (act : Act) (stop : StopPoint) (m : Meeting) → Meets act c w m → Has (stopped n act stop m c)
-      stopped_preserved act stop m x =
-          let d : PlayState = restarted m (stored stop m c) in
-          let o : Has d = back_preserved m (stored stop m c) (stop_preserved act stop m x) in
-          cond_both (is_answered act) (answer n AnsweredStopped d) d (λ (z : PlayState). Has z) (λ t. o) (λ t. o)
-
-      met_preserved : (act : Act) (m : Meeting) → Meets act c w m → Has (met n m c)
-      met_preserved act (AtCentre e) x = centre_preserved e c s.sound x.is k
-      met_preserved act (AtHandset p e) x = handset_met p e c k
-
-      -- ---- each event
-
-      then_preserved : (r : Result Meeting PlayFault) (f : Meeting → PlayState) (d : PlayState) → ((m : Meeting) → r ≡ Ok m → Has (f m)) → (r >>= λ (m : Meeting). ok_play (f m)) ≡ ok_play d → Has d
-      then_preserved (Ok m) f d g e = subst (λ (z : PlayState). Has z) (same_play (f m) d e) (g m refl)
-      then_preserved (Err fault) f d g e = absurd cc
-
-      handset_back : (o : Option Party) (d : PlayState) → handset_restarts n o c ≡ Ok d → Has d
-      handset_back None d q = absurd cc
-      handset_back (Some p) d q = subst (λ (z : PlayState). Has z) (same_play _ d q) k
-
-      side_back : (side : EventSide) (d : PlayState) → restart n side c ≡ Ok d → Has d
-      side_back Centre d q = subst (λ (z : PlayState). Has z) (same_play _ d q) k
-      side_back (Handset h) d q = handset_back (party_at h c.parties) d q
-
-      event_preserved : (e : WorldEvent) (d : PlayState) → IsGoodEvent e → HandsOctets e c → played n e c ≡ ok_play d → Has d
-      event_preserved (Whole act) d good octets q = then_preserved (meeting_of n act c) (λ m. met n m c) d (λ m e. met_preserved act m (meets c w s n act good octets m e)) q
-      event_preserved (Stopped stop act) d good octets q = then_preserved (meeting_of n act c) (λ m. stopped n act stop m c) d (λ m e. stopped_preserved act stop m (meets c w s n act good octets m e)) q
-      event_preserved (Restart side) d good octets q = side_back side d q
-
-  then_all : (n : ℕ) (e : WorldEvent) (c d : PlayState) (w : World) (more : PlayState → Result PlayState PlayFault) (Octets : PlayState → Type 0) → ((x : PlayState) (v : World) → PlayRefines x v → Has x → Octets x → more x ≡ ok_play d → Has d)
-      → PlayRefines c w → Has c → IsGoodEvent e → HandsOctets e c → (r : Result PlayState PlayFault) → played n e c ≡ r → IfPlayed r Octets → (r >>= λ (x : PlayState). more x) ≡ ok_play d → Has d
-  then_all n e c d w more Octets go s k good octets (Ok x) is later q =
-      let l = event_leads n e c x w s good octets is in
-      go x (end w (happened_in (happening_of e c.centre.moment) l.0)) l.1.2 (event_preserved n c w s k e x good octets is) later q
-  then_all n e c d w more Octets go s k good octets (Err fault) is later q = absurd cc
+  rows_kept : KeptByEvents NothingAsked HasRows
+  rows_kept = record { keeps = λ n e es c d w s good octets asked q l k. event_preserved n e c d w s good octets q k; rest = λ n e es c d asked q. tt }
 
   pub rows_preserved : (n : ℕ) (es : List WorldEvent) (c d : PlayState) (w : World) → PlayRefines c w → Has c → AreGood es → AllHandOctets n es c → played_on n es c ≡ ok_play d → Has d
-  rows_preserved n [] c d w s k good octets q = subst (λ (z : PlayState). Has z) (same_play c d q) k
-  rows_preserved n (e ∷ es) c d w s k good octets q =
-      then_all n e c d w (λ x. played_on (n + 1) es x) (λ x. AllHandOctets (n + 1) es x) (λ x v t h o p. rows_preserved (n + 1) es x d v t h good.1 o p) s k good.0 octets.0 (played n e c) refl octets.1 q
+  rows_preserved n es c d w s k good octets q = (kept_along NothingAsked HasRows rows_kept n es c d w s good octets tt k q).1.1
 
 -- of the messages and their parts alone
 module _ (P : List MessageRow → List PartRow → Type 0)

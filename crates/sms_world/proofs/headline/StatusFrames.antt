@@ -31,7 +31,6 @@ use Rattle.sms_tpdu.specs.declared.fault.TpduFault.{TpduFault}
 use Rattle.sms_tpdu.specs.declared.status_report.StatusReport.{StatusReport as StatusReportOf}
 use Rattle.sms_world.proofs.headline.SeenWorlds.{receipts_of_world}
 use Rattle.sms_world.proofs.headline.StatusRows.{AllStatus, IsStatusOf}
-use Rattle.sms_world.specs.centres_refine_the_world.RefinesReports.{ReportSeen, report_seen}
 use Rattle.sms_world.specs.headline.ReportClaims.{SaysOf, StatusReportsSay}
 use Rattle.sms_world.proofs.scripts_are_runs.Bags.{row_seen}
 use Rattle.sms_world.proofs.scripts_are_runs.Agreeing.{sound_there}
@@ -43,8 +42,9 @@ use Rattle.sms_world_model.proofs.Sound.{IsKnown, Says}
 use Rattle.sms_world_model.specs.World.{Allocation, Carried, Down, Frame, Sent, World}
 use Rattle.sms_world.specs.headline.SeenFrames.{sent_down, frame_down, octets_down, line_down}
 use Rattle.sms_world.proofs.Options.{some_is}
+use Rattle.sms_world.proofs.scripts_are_runs.GivenBy.{seen_report_row}
 use Rattle.std.proofs.Common.{ap, refl, subst, sym, ◌∙◌}
-use Rattle.std.specs.Prelude.{List, None, Ok, Option, Result, Some, [], false, true, ℕ, ◌≡◌}
+use Rattle.std.specs.Prelude.{List, Ok, Option, Result, Some, [], false, true, ℕ, ◌≡◌}
 
 not_deliver : (d : DeliverOf) (s : StatusReportOf) (r : Result DownTpdu TpduFault) → r ≡ Ok (Deliver d) → r ≡ Ok (StatusReport s) → ⊥
 not_deliver d s r a b =
@@ -52,14 +52,6 @@ not_deliver d s r a b =
 
 one_status : (a b : StatusReportOf) → ◌≡◌ {A = Result DownTpdu TpduFault} (Ok (StatusReport a)) (Ok (StatusReport b)) → a ≡ b
 one_status a b e = cc
-
-abbrev seen_of : ReportRow → ReportSeen
-seen_of r = record { kind = r.kind; is_done = r.progress.is_done }
-
--- the row that was seen
-some_report : (o : Option ReportRow) (x : ReportSeen) → report_seen o ≡ Some x → (r : ReportRow) × ((o ≡ Some r) × (r.kind ≡ x.kind))
-some_report None x e = absurd cc
-some_report (Some r) x e = let same : seen_of r ≡ x = cc in (r, (refl, ap (λ (z : ReportSeen). z.kind) same))
 
 module _ (c : PlayState) (w : World) (s : PlayRefines c w) (f : FrameRow) (x : Carries) (i : Among f c.bag) (down : f.direction ≡ DownRow) (carried : f.carried ≡ Some x) (kind : x.kind ≡ Data) where
   abbrev frame : Frame
@@ -110,7 +102,7 @@ module _ (c : PlayState) (w : World) (s : PlayRefines c w) (f : FrameRow) (x : C
         let y = s.centre.rows.holders.of_report says.0 id says.1.0 e in
         let m : MessageRow = y.0 in
         let tpdu : List ℕ = y.3 in
-        let found = some_report (report_at id c.centre.rows.reports) y.1 y.4.1 in
+        let found = seen_report_row (report_at id c.centre.rows.reports) y.1 y.4.1 in
         let row : ReportRow = found.0 in
         let there = report_found id row c.centre.rows.reports found.1.0 in
         let k : IsStatusOf c.centre.rows.messages row.id tpdu = rows row y.2 tpdu there.0 (found.1.1 ∙ y.4.2) in

@@ -32,7 +32,7 @@ use Rattle.sms_centre_rows.specs.waiting.Revisions.{Revised}
 use Rattle.sms_centre_rows.specs.waiting.SoundAllocations.{IsNumber}
 use Rattle.sms_centre_rows.specs.waiting.Trying.{finished}
 use Rattle.sms_centre_spec.specs.CentreEvent.{happened}
-use Rattle.sms_centre_spec.specs.Draft.{Core, Store, handsets_in, messages_in, parts_in, reports_in, rows_of, with_given, with_message, with_part_at, with_report_at}
+use Rattle.sms_centre_spec.specs.Draft.{Core, Store, bars_in, handsets_in, messages_in, parts_in, reports_in, rows_of, with_given, with_message, with_part_at, with_report_at}
 use Rattle.sms_centre_spec.specs.Ends.{end, is_wished, make_report, report_to, status_given}
 use Rattle.sms_centre_spec.specs.Finals.{final_of}
 use Rattle.sms_centre_spec.specs.MessageNumbers.{next_number}
@@ -47,11 +47,10 @@ use Rattle.sms_centre_spec.proofs.PduFits.{event_gives}
 use Rattle.sms_centre_spec.proofs.SoundAccepted.{sound_steady}
 use Rattle.sms_centre_spec.proofs.SoundStores.{SoundStore, store_sound}
 use Rattle.sms_centre_spec.proofs.Stages.{IfThere}
-use Rattle.sms_centre_spec.proofs.Steady.{IsSteady}
+use Rattle.sms_centre_spec.proofs.Steady.{IsSteady, message_own}
 use Rattle.sms_centre_spec.proofs.SteadyEvents.{steady_event}
 use Rattle.sms_centre_spec.proofs.TpdusRead.{status_reads}
 use Rattle.sms_world.proofs.split_messages_stay.MadeParts.{Accepts, IsAccepted, accept_leads}
-use Rattle.sms_world.proofs.split_messages_stay.SplitSteady.{own_number}
 use Rattle.sms_world.proofs.centres_refine_the_world.Ending.{row_made}
 
 -- Its message is a handset's and has ended, and the octets read as the STATUS-REPORT of that end.
@@ -211,7 +210,7 @@ module _ (t : Revised ReportRow) where
   accept_left : (u : Submission) (s : Store) → Left s → IfThere Left (accept u s)
   accept_left u s k =
       let id : ℕ = next_number (rows_of s) in
-      let split : Option ℕ = next_split u.source u.handset (messages_in s) (parts_in s) in
+      let split : Option ℕ = next_split u.source u.handset (bars_in s) (messages_in s) (parts_in s) in
       cond_both (nat_le id 9999999999) (accept_as id u s) None (λ o. IfThere Left o)
       (λ t. cond_both (is_long u.text) (accept_split id split u s) (accept_under id None (bodies_under 0 u.text) u s) (λ o. IfThere Left o)
       (λ long. split_left id split u s k)
@@ -258,7 +257,7 @@ status_steady =
       );
       settled = λ p m s k there of pending undone. (
         c.settled p m s k.0 there of pending undone,
-        settled_holds p m s k.0 k.1 (own_number (messages_in s) p.id m of) pending,
+        settled_holds p m s k.0 k.1 (message_own p.id m s of) pending,
       );
       part_far = λ p q s k there same. (c.part_far p q s k.0 there same, k.1);
       report_far = λ r q s k there stays. (c.report_far r q s k.0 there stays, far_holds r q s k.1);

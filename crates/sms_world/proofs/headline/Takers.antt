@@ -21,7 +21,7 @@ use Rattle.sms_play.specs.Meeting.{Meeting, by_handset, delivered, handed_over, 
 use Rattle.sms_play.specs.PlayedEvent.{met, played, stopped}
 use Rattle.sms_world_model.specs.Groups.{OccursOnce}
 use Rattle.sms_world_model.specs.WorldStep.{Run, after_item, end, Can, Delete, Remove, Step, Submit, Take, after}
-use Rattle.sms_world_model.specs.ScriptRun.{After, AllControl, AllMayFollow, AllWrite, Asked, Before, Belongs, Cancelled, Event, Follows, Handed, Happening, IsControl, IsExpiry, IsInOrder, IsOwn, IsPlayed, MayFollow, Reads, Removed, Restarted, Submitted, Tick_centre, Tick_handset, Went, Whole, Wrote, happened, is_stopped, items}
+use Rattle.sms_world_model.specs.ScriptRun.{After, AllControl, AllMayFollow, AllWrite, Asked, Before, Belongs, Cancelled, Event, Follows, Handed, Happening, IsControl, IsExpiry, IsInOrder, IsOwn, IsPlayed, Reads, Removed, Restarted, Submitted, Tick_centre, Tick_handset, Went, Whole, Wrote, happened, is_stopped, items}
 use Rattle.sms_world_model.specs.World.{Accepted, Carried, Down, Frame, OutEntry, Sent, Up, World, pair_of}
 use Rattle.sms_world_model.specs.References.{Ticket}
 use Rattle.sms_world_model.specs.Submission.{Submission}
@@ -33,8 +33,10 @@ use Rattle.sms_world.specs.headline.OneRun.{event_of, happening_of}
 use Rattle.sms_world.proofs.scripts_are_runs.Bags.{frame_found, row_seen}
 use Rattle.sms_world.proofs.scripts_are_runs.Events.{ok_play}
 use Rattle.sms_world.proofs.scripts_are_runs.Parties.{number_there, party_found}
-use Rattle.sms_world.proofs.headline.DecidedTimely.{number_by, number_sent, numbered_there, one_number, same_frame}
+use Rattle.sms_world.proofs.headline.DecidedTimely.{number_by, numbered_there, same_frame}
 use Rattle.sms_world.proofs.headline.SameHandsets.{handsets_stay}
+use Rattle.sms_world_model.proofs.Frames.{number_sent, one_number}
+use Rattle.sms_world_model.proofs.Followers.{said_of_followers}
 
 -- ---- steps that accept
 
@@ -74,20 +76,9 @@ expiry_none : (s : Step) → IsExpiry s → ¬ Takes s
 expiry_none (Take u) f = absurd f
 expiry_none _ f = λ t. t
 
-may_follow_none : (event : Event) (s : Step) → MayFollow event s → ¬ Takes s
-may_follow_none Tick_centre s f = ⊎_elim (λ (x : Follows s). follow_none s x) (λ (x : IsExpiry s). expiry_none s x) f
-may_follow_none Submitted s f = follow_none s f
-may_follow_none Cancelled s f = follow_none s f
-may_follow_none Asked s f = follow_none s f
-may_follow_none (Handed n) s f = follow_none s f
-may_follow_none Tick_handset s f = follow_none s f
-may_follow_none Wrote s f = follow_none s f
-may_follow_none Removed s f = follow_none s f
-may_follow_none Restarted s f = follow_none s f
-
 follows_take : (P : Frame → Type 0) (event : Event) (ss : List Step) → AllMayFollow event ss → AllMayTake P ss
 follows_take P event [] f = tt
-follows_take P event (s ∷ ss) f = (inl (may_follow_none event s f.0), follows_take P event ss f.1)
+follows_take P event (s ∷ ss) f = (inl (said_of_followers (λ (z : Step). ¬ Takes z) follow_none expiry_none event s f.0), follows_take P event ss f.1)
 
 -- ---- what an event accepts
 

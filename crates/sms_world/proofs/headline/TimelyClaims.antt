@@ -1,10 +1,9 @@
 -- What counts as delivered was accepted, while frames are decided timely.
-use Rattle.std.proofs.Common.{◌≡◌, ℕ, ◌+◌, List, [], ◌∷◌, true, false, refl, sym, ◌∙◌, ap, subst, inl, inr, ⊎_elim, Option, Some, Result, Ok, Err}
+use Rattle.std.proofs.Common.{◌≡◌, ℕ, ◌+◌, List, [], ◌∷◌, true, false, refl, sym, ◌∙◌, ap, subst, inl, inr, ⊎_elim, Option, Some}
 use Rattle.std.proofs.lemmas.Bool.{both_ways, cases_Bool, cond-false, cond-true}
 use Rattle.std.proofs.lemmas.Slice.Eq.{bytes_eq-Decides}
 use Rattle.std.specs.Str.{bytes_eq}
 use Rattle.sms_base.specs.Among.{Among}
-use Rattle.sms_base.specs.Reading.{◌>>=◌}
 use Rattle.sms_base.specs.declared.final_state.FinalState.{FinalState}
 use Rattle.sms_base.specs.declared.final_state.FinalState.TheVariants.{Delivered}
 use Rattle.sms_base.specs.declared.holder.Holder.TheVariants.{Part}
@@ -12,28 +11,24 @@ use Rattle.sms_centre_rows.specs.messages.Messages.{message_at, message_key, par
 use Rattle.sms_centre_rows.specs.declared.messages.message.MessageRow.{MessageRow}
 use Rattle.sms_centre_rows.specs.declared.messages.part.PartRow.{PartRow}
 use Rattle.sms_script.specs.declared.event.WorldEvent.{WorldEvent}
-use Rattle.sms_script.specs.declared.play_fault.PlayFault.{PlayFault}
 use Rattle.sms_play.specs.PlayState.{PlayState}
 use Rattle.sms_play.specs.PlayedEvent.{played}
-use Rattle.sms_play.specs.Playing.{played_on}
-use Rattle.sms_play.specs.Premises.{is_timely_event, is_same_side}
+use Rattle.sms_play.specs.Premises.{is_same_side}
 use Rattle.sms_rows.proofs.table.Tables.{among_found}
 use Rattle.sms_world_model.specs.Agreement.{DeliveredAccepted}
 use Rattle.sms_world_model.specs.Groups.{OccursOnce}
-use Rattle.sms_world_model.specs.WorldStep.{end}
-use Rattle.sms_world_model.specs.ScriptRun.{Happening, happened}
+use Rattle.sms_world_model.specs.ScriptRun.{Happening}
 use Rattle.sms_world_model.specs.Submission.{IsDeliverOf, Submission}
-use Rattle.sms_world_model.specs.World.{Accepted, Final, Allocation, IsRecorded, State, World, pair_given}
-use Rattle.sms_world_model.proofs.Faithful.{IsFaithful, delivered_accepted, no_part_twice}
+use Rattle.sms_world_model.specs.World.{Accepted, Final, Allocation, IsRecorded, State, World, pair_given, empty}
+use Rattle.sms_world_model.proofs.Faithful.{IsFaithful, delivered_accepted, no_part_twice, faithful_empty}
 use Rattle.sms_world.specs.headline.SeenWorld.{IsStateOf, part_seen, parts_by, accepted_at}
 use Rattle.sms_world.proofs.centres_refine_the_world.ByOctets.{by_octet_is}
-use Rattle.sms_world.specs.headline.Claims.{IsAsSubmitted, pair_in_row, IfPlayed, AllTimely, DeliveredOnce, IsGivenTo, IsStamped, PartsOnce}
+use Rattle.sms_world.specs.headline.Claims.{IsAsSubmitted, pair_in_row, AllTimely, DeliveredOnce, IsGivenTo, IsStamped, PartsOnce}
 use Rattle.sms_world.proofs.scripts_are_runs.Agreeing.{sound_there}
-use Rattle.sms_world.specs.scripts_are_runs.PlayRuns.{AllHandOctets, AreGood}
 use Rattle.sms_world.specs.scripts_are_runs.PlayRefinement.{PlayRefines, PartyRefines}
 use Rattle.sms_world.specs.scripts_are_runs.Happening.{HandsOctets, IsGoodEvent}
-use Rattle.sms_world.specs.headline.OneRun.{happening_of}
-use Rattle.sms_world.proofs.scripts_are_runs.Events.{event_leads, ok_play, same_play}
+use Rattle.sms_world.specs.headline.OneRun.{happening_of, world_after}
+use Rattle.sms_world.proofs.scripts_are_runs.Events.{ok_play}
 use Rattle.sms_world.proofs.headline.DecidedTimely.{hands_down}
 use Rattle.sms_world.proofs.headline.FaithfulRuns.{event_faithful}
 use Rattle.sms_world.proofs.headline.Takers.{TakersThere, of_number, stored_among, takers_stay}
@@ -44,38 +39,36 @@ use Rattle.sms_world.specs.centres_refine_the_world.RefinesGiven.{given_part}
 use Rattle.sms_world.proofs.Options.{some_is}
 use Rattle.sms_world.proofs.SeenParts.{small, seen_of}
 use Rattle.sms_tpdu.specs.declared.user_data.UserData.{UserData}
+use Rattle.sms_world.proofs.scripts_are_runs.Courses.{KeptByEvents, when_played}
+use Rattle.sms_world.specs.scripts_are_runs.PlayRuns.{LeadsTo}
+use Rattle.sms_script.specs.declared.setup.Setup.{Setup}
+use Rattle.sms_play.specs.Setups.{beginning}
 
--- ---- one event, and then the others
+-- ---- what each event keeps
 
-abbrev pub Reaches : PlayState → Type 0
-Reaches d = (v : World) × (PlayRefines d v × IsFaithful v × TakersThere d v)
+-- what counts as delivered was accepted, and each handset that accepts is one of the course
+pub record IsTrusted (c : PlayState) (w : World) : Type 0 where
+  pub faithful : IsFaithful w
+  pub takers : TakersThere c w
 
-event_reaches : (n : ℕ) (e : WorldEvent) (c d : PlayState) (w : World) → PlayRefines c w → IsGoodEvent e → HandsOctets e c → is_timely_event e c ≡ true → played n e c ≡ ok_play d → IsFaithful w → TakersThere c w → Reaches d
-event_reaches n e c d w s good octets timely q f takers =
-    let l = event_leads n e c d w s good octets q in
-    let h : Happening = happening_of e c.centre.moment in (
-      end w (happened h l.0),
-      (
-        l.1.2,
-        event_faithful w h.event h.went h.moment l.0 l.1.0 (hands_down e c w c.centre.moment s timely) l.1.1 (sound_there w s.reached) f,
-        takers_stay n e c d w c.centre.moment l.0 s q l.1.0 l.1.1 takers,
-      ),
-    )
+event_trusted : (n : ℕ) (e : WorldEvent) (es : List WorldEvent) (c d : PlayState) (w : World) → PlayRefines c w → IsGoodEvent e → HandsOctets e c → AllTimely n (e ∷ es) c → played n e c ≡ ok_play d → (l : LeadsTo e c w d)
+    → IsTrusted c w → IsTrusted d (world_after w e c l.0)
+event_trusted n e es c d w s good octets timely q l k =
+    let h : Happening = happening_of e c.centre.moment in
+    record {
+      faithful = event_faithful w h.event h.went h.moment l.0 l.1.0 (hands_down e c w c.centre.moment s timely.0) l.1.1 (sound_there w s.reached) k.faithful;
+      takers = takers_stay n e c d w c.centre.moment l.0 s q l.1.0 l.1.1 k.takers;
+    }
 
-then_reaches : (n : ℕ) (e : WorldEvent) (c d : PlayState) (w : World) (more : PlayState → Result PlayState PlayFault) (Octets Timely : PlayState → Type 0)
-    → ((x : PlayState) (v : World) → PlayRefines x v → IsFaithful v → TakersThere x v → Octets x → Timely x → more x ≡ ok_play d → Reaches d)
-    → PlayRefines c w → IsGoodEvent e → HandsOctets e c → is_timely_event e c ≡ true → IsFaithful w → TakersThere c w → (r : Result PlayState PlayFault) → played n e c ≡ r → IfPlayed r Octets → IfPlayed r Timely
-    → (r >>= λ (x : PlayState). more x) ≡ ok_play d → Reaches d
-then_reaches n e c d w more Octets Timely go s good octets timely f takers (Ok x) is later in_time q =
-    let y = event_reaches n e c x w s good octets timely is f takers in go x y.0 y.1.0 y.1.1 y.1.2 later in_time q
-then_reaches n e c d w more Octets Timely go s good octets timely f takers (Err fault) is later in_time q = absurd cc
+-- the others are timely
+pub timely_on : (n : ℕ) (e : WorldEvent) (es : List WorldEvent) (c d : PlayState) → AllTimely n (e ∷ es) c → played n e c ≡ ok_play d → AllTimely (n + 1) es d
+timely_on n e es c d timely q = when_played (played n e c) (λ x. AllTimely (n + 1) es x) d q timely.1
 
-pub all_reach : (n : ℕ) (es : List WorldEvent) (c d : PlayState) (w : World) → PlayRefines c w → AreGood es → AllHandOctets n es c → AllTimely n es c → IsFaithful w → TakersThere c w → played_on n es c ≡ ok_play d → Reaches d
-all_reach n [] c d w s good octets timely f takers q =
-    (w, (subst (λ (z : PlayState). PlayRefines z w) (same_play c d q) s, f, subst (λ (z : PlayState). TakersThere z w) (same_play c d q) takers))
-all_reach n (e ∷ es) c d w s good octets timely f takers q =
-    then_reaches n e c d w (λ x. played_on (n + 1) es x) (λ x. AllHandOctets (n + 1) es x) (λ x. AllTimely (n + 1) es x) (λ x v k g h o t p. all_reach (n + 1) es x d v k good.1 o t g h p)
-    s good.0 octets.0 timely.0 f takers (played n e c) refl octets.1 timely.1 q
+pub trusted_kept : KeptByEvents AllTimely IsTrusted
+trusted_kept = record { keeps = event_trusted; rest = timely_on }
+
+pub trusted_first : (s : Setup) → PlayRefines (beginning s) empty → IsTrusted (beginning s) empty
+trusted_first s shows = record { faithful = faithful_empty; takers = λ a i. absurd i }
 
 -- ---- of one handset
 

@@ -1,5 +1,4 @@
 -- What a query_sm finds is true, and a cancel_sm cancels what it says.
-use Rattle.smpp_pdu.specs.declared.address.SmeAddress.{SmeAddress}
 use Rattle.smpp_pdu.specs.declared.cancel.CancelSm.{CancelSm}
 use Rattle.smpp_pdu.specs.declared.query.QuerySm.{QuerySm}
 use Rattle.smpp_pdu.specs.declared.status.CommandStatus.{CommandStatus}
@@ -12,11 +11,12 @@ use Rattle.sms_centre_rows.specs.declared.messages.message.MessageRow.{MessageRo
 use Rattle.sms_centre_rows.specs.messages.Messages.{ended, is_pending, message_at, message_key}
 use Rattle.sms_centre_rows.specs.reports.Receipts.{is_account}
 use Rattle.sms_centre_spec.proofs.SteadyTimes.{end_messages}
+use Rattle.sms_centre_spec.proofs.Steady.{only_there}
 use Rattle.sms_centre_spec.specs.CentreEvent.{happened}
 use Rattle.sms_centre_spec.specs.Draft.{Draft, answer_with, draft_of, in_store, messages_in}
 use Rattle.sms_centre_spec.specs.Ends.{end}
 use Rattle.sms_centre_spec.specs.Numbers.{id_in}
-use Rattle.sms_centre_spec.specs.Requests.{account_at, cancel_by, cancelled, is_from, is_to, message_numbered, only_to, own_message, queried, query_by, refused, to_cancel}
+use Rattle.sms_centre_spec.specs.Requests.{account_at, cancel_by, cancelled, is_from, message_numbered, own_message, queried, query_by, refused, to_cancel}
 use Rattle.sms_centre_spec.specs.declared.answer.CentreAnswer.{CentreAnswer}
 use Rattle.sms_centre_spec.specs.declared.answer.CentreAnswer.TheVariants.{Cancelled, Queried, Refused, Submitted}
 use Rattle.sms_centre_spec.specs.declared.event.CentreEvent.{CentreEvent}
@@ -41,9 +41,10 @@ use Rattle.sms_world.proofs.messages_have_origins.Unmoved.{Rows, meets_leaves}
 use Rattle.sms_world.proofs.scripts_are_runs.Events.{ok_play, same_play}
 use Rattle.sms_world.specs.headline.RequestClaims.{IsAnswered, IsCancelled, IsQueried, RequestsAreTrue}
 use Rattle.sms_world.proofs.Options.{some_is}
+use Rattle.sms_world.proofs.centres_refine_the_world.QueuedParts.{none_of}
 use Rattle.std.proofs.Common.{Bool, List, None, Option, Some, ap, cond, false, inl, inr, refl, subst, sym, true, ⊎_elim, ℕ, ◌&&◌, ◌∙◌, ◌≡◌}
 use Rattle.std.proofs.lemmas.Bool.{cond_both}
-use Rattle.std.specs.Prelude.{is_none, ◌⊎◌}
+use Rattle.std.specs.Prelude.{◌⊎◌}
 
 -- ---- the message that is asked for
 
@@ -130,31 +131,19 @@ fails_id e = absurd cc
 fails_system : ESME_RSYSERR ≡ ESME_ROK → ⊥
 fails_system e = absurd cc
 
-no_state : (o : Option FinalState) → is_none o ≡ true → o ≡ None
-no_state None e = refl
-no_state (Some f) e = absurd cc
-
-kept_by : (b : Bool) (x m : MessageRow) → cond b (Some x) no_row ≡ Some m → Some x ≡ Some m
-kept_by true x m e = e
-kept_by false x m e = absurd cc
-
-only_kept : (destination : SmeAddress) (r : Option MessageRow) (m : MessageRow) → only_to destination r ≡ Some m → r ≡ Some m
-only_kept destination None m e = absurd cc
-only_kept destination (Some x) m e = kept_by (is_to destination x) x m e
-
 cancelled_is : (a : CentreAccount) (q : CancelSm) (d : Draft) (r : Option MessageRow) → to_cancel a q (messages_in d.store) ≡ r → Cancels (Some a) q.message_id d (cancelled r d)
 cancelled_is a q d None e = inr (record { status = ESME_RINVMSGID; answers = refl; fails = fails_id; same = refl })
 cancelled_is a q d (Some m) e =
     let source : Option Address = source_in a.address q.source in
     let own : own_message a source (message_numbered (id_in q.message_id) (messages_in d.store)) ≡ Some m =
-    only_kept q.destination (own_message a source (message_numbered (id_in q.message_id) (messages_in d.store))) m e in
+    only_there q.destination (own_message a source (message_numbered (id_in q.message_id) (messages_in d.store))) m e in
     cond_both (is_pending m) (answer_with Cancelled (in_store (end Deleted m d.store) d)) (refused ESME_RCANCELFAIL d) (λ (x : Draft). Cancels (Some a) q.message_id d x)
     (λ t. inl (record {
       account = a;
       is = refl;
       message = m;
       own = own_found a source (id_in q.message_id) (messages_in d.store) m own;
-      pending = no_state m.state t;
+      pending = none_of m.state t;
       answers = refl;
       deleted = end_messages Deleted m d.store;
     }))

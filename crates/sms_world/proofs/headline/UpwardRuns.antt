@@ -7,10 +7,10 @@ use Rattle.sms_world_model.specs.WorldStep.{Run, after_item, end, Acknowledged, 
 use Rattle.sms_world_model.specs.ScriptRun.{After, AllControl, Asked, Before, Belongs, Cancelled, Event, Handed, Happening, IsInOrder, Reads, Removed, Restarted, Submitted, Tick_centre, Tick_handset, Went, Whole, Wrote, happened, is_stopped, items}
 use Rattle.sms_world_model.specs.Premises.{HandsTimely, IsTimely, ReadsTimely}
 use Rattle.sms_world_model.specs.World.{Down, Frame, Allocation, OutEntry, Up, World}
-use Rattle.sms_world_model.proofs.Scripts.{script_timely}
+use Rattle.sms_world_model.proofs.Scripts.{script_timely, control_timely, stays_timely}
 use Rattle.sms_world_model.proofs.Upward.{IsUpward, up_run}
 use Rattle.sms_world.proofs.headline.AnswersTimely.{HandsAnswers}
-use Rattle.sms_world.proofs.headline.FaithfulRuns.{HandsDown, control_timely, end_parts, follows_timely, run_parts, stays_timely}
+use Rattle.sms_world.proofs.headline.FaithfulRuns.{HandsDown, end_parts, follows_timely, run_parts}
 use Rattle.sms_world.proofs.headline.FreshRuns.{HandsOne}
 
 -- control frames leave the outboxes, and what handsets gave

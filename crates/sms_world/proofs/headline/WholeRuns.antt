@@ -1,5 +1,6 @@
 -- While rounds begin only where they may, a long message that was submitted at once stands in one round alone.
 use Rattle.std.proofs.Common.{◌≡◌, ℕ, List, [], ◌∷◌, ◌++◌, Bool, refl, sym, subst, inl, ⊎_elim}
+use Rattle.sms_base.proofs.Lists.{among_back, among_front}
 use Rattle.sms_base.specs.Among.{Among}
 use Rattle.sms_world_model.specs.Premises.{Fresh, SubmitsFresh}
 use Rattle.sms_world_model.specs.References.{Ticket}
@@ -9,7 +10,7 @@ use Rattle.sms_world_model.specs.Submission.{Submission}
 use Rattle.sms_world_model.specs.World.{OutEntry, World}
 use Rattle.sms_world_model.proofs.Sound.{IsSound}
 use Rattle.sms_world_model.proofs.Wholes.{AllWhole, whole_run}
-use Rattle.sms_world.proofs.headline.FreshRuns.{AllFreshAt, AllQuiet, HandsOne, IsQuiet, control_leaves, control_quiet, follows_quiet, in_front, in_rest, still_fresh, writes_quiet}
+use Rattle.sms_world.proofs.headline.FreshRuns.{AllFreshAt, AllQuiet, HandsOne, IsQuiet, control_leaves, control_quiet, follows_quiet, still_fresh, writes_quiet}
 
 -- ---- steps that begin rounds only where they may
 
@@ -52,7 +53,7 @@ order_fresh w m b event steps (control, own, follows, x) fresh =
     subst (λ (ss : List Step). Fresh w (items m b ss)) (sym x.3)
     (fresh_both w m b control (own ++ follows) (quiet_fresh w m b control (control_quiet control x.0))
     (fresh_both v m b own follows
-    (own_fresh w v m b (control_leaves w m b control x.0) event own x.1 (λ s i. fresh s (subst (λ (ss : List Step). Among s ss) (sym x.3) (in_rest s control (own ++ follows) (in_front s own follows i)))))
+    (own_fresh w v m b (control_leaves w m b control x.0) event own x.1 (λ s i. fresh s (subst (λ (ss : List Step). Among s ss) (sym x.3) (among_back s control (own ++ follows) (among_front s own follows i)))))
     (quiet_fresh (end v (items m b own)) m b follows (follows_quiet event follows x.2))))
 
 played_fresh : (w : World) (m : ℕ) (b : Bool) (event : Event) (steps : List Step) → IsPlayed w event steps → AllFreshAt w m steps → Fresh w (items m b steps)

@@ -1,5 +1,5 @@
 -- What counts as delivered was accepted as it was submitted.
-use Rattle.std.proofs.Common.{◌≡◌, ℕ, ◌+◌, ◌<◌, ◌≤◌, arith, List, length, Option, Some, None, sym, ◌∙◌, ap, subst}
+use Rattle.std.proofs.Common.{◌≡◌, ℕ, ◌+◌, ◌<◌, ◌≤◌, arith, List, length, Some, sym, ◌∙◌, ap, subst}
 use Rattle.sms_base.specs.Among.{Among}
 use Rattle.sms_base.specs.declared.final_state.FinalState.{FinalState}
 use Rattle.sms_base.specs.declared.final_state.FinalState.TheVariants.{Delivered}
@@ -13,7 +13,6 @@ use Rattle.sms_intake.specs.PartBodies.{bodies_under}
 use Rattle.sms_centre_rows.specs.messages.Messages.{message_key, part_at, part_key}
 use Rattle.sms_centre_rows.specs.declared.messages.message.MessageRow.{MessageRow}
 use Rattle.sms_centre_rows.specs.declared.messages.part.PartRow.{PartRow}
-use Rattle.sms_centre_rows.specs.declared.report_lines.MessageState.TheVariants.{Final}
 use Rattle.sms_centre_rows.specs.declared.report_lines.ReportedMessage.{ReportedMessage}
 use Rattle.sms_script.specs.declared.event.Act.{Act}
 use Rattle.sms_script.specs.declared.event.Act.TheVariants.{Submit, Query, Cancel, Write, Delete, Discard, Deliver, Tick}
@@ -21,13 +20,12 @@ use Rattle.sms_script.specs.declared.event.StopPoint.TheVariants.{After, Before}
 use Rattle.sms_script.specs.declared.event.WorldEvent.{WorldEvent}
 use Rattle.sms_script.specs.declared.event.WorldEvent.TheVariants.{Whole, Stopped, Restart}
 use Rattle.sms_script.specs.declared.setup.Setup.{Setup}
-use Rattle.sms_play.specs.CentreSide.{state_of}
 use Rattle.sms_play.specs.PlayState.{PlayState}
 use Rattle.sms_world.specs.scripts_are_runs.PlayRefinement.{PlayRefines}
 use Rattle.sms_world.specs.headline.Claims.{pair_in_row, DeliveredOnce, IsAcceptedOnce, IsGivenTo}
 use Rattle.sms_world.proofs.headline.Claimed.{delivered_is, run_is}
 use Rattle.sms_world.proofs.headline.ReceiptLines.{from_report}
-use Rattle.sms_world.proofs.headline.Tables.{row_of_line}
+use Rattle.sms_world.proofs.headline.Tables.{row_of_line, state_final}
 use Rattle.sms_world.specs.headline.Origins.{IsDeliverFor, part_numbered, ActAccepted, ActMakes, AllAccepted, AreFromEvents, IsDeliveredFrom, MakesMessage, SubmitAccepted, WasAccepted}
 use Rattle.sms_world.proofs.submissions_stay.Delivers.{same_number, within}
 use Rattle.sms_world.specs.messages_have_origins.OriginLaws.{DeliveredLaw}
@@ -78,11 +76,6 @@ module _ (c : PlayState) (m : MessageRow) (few : (p : PartRow) → Among p c.cen
   was_accepted (Stopped After act) before makes = act_accepted act before makes
   was_accepted (Restart side) before makes = absurd makes
 
-ended_so : (o : Option FinalState) (f : FinalState) → state_of o ≡ Final f → o ≡ Some f
-ended_so None f e = absurd cc
-ended_so (Some g) f e =
-    let same : g ≡ f = cc in ap (λ (z : FinalState). Some z) same
-
 delivered_of : (s : Setup) (events : List WorldEvent) (c : PlayState) (m : MessageRow) → ((p : PartRow) → Among p c.centre.rows.parts → p.number < 256) → DeliveredOnce c → AreFromEvents s events c
     → Among m c.centre.rows.messages → m.state ≡ Some Delivered → IsDeliveredFrom s events c m
 delivered_of s events c m few once come i e =
@@ -101,5 +94,5 @@ delivered_from script some others c d is on timely =
           (f.message, (among, f.id, delivered_of script.setup some c f.message few once come among (f.state ∙ ap (λ (z : FinalState). Some z) e))),
       λ l i e.
           let r = row_of_line l c.centre.rows.messages i in
-          (r.0, (r.1.0, sym (ap (λ (z : ReportedMessage). z.id) r.1.1), delivered_of script.setup some c r.0 few once come r.1.0 (ended_so r.0.state Delivered (sym (ap (λ (z : ReportedMessage). z.state) r.1.1) ∙ e)))),
+          (r.0, (r.1.0, sym (ap (λ (z : ReportedMessage). z.id) r.1.1), delivered_of script.setup some c r.0 few once come r.1.0 (state_final r.0.state Delivered (sym (ap (λ (z : ReportedMessage). z.state) r.1.1) ∙ e)))),
     )

@@ -16,7 +16,7 @@ use Rattle.sms_centre_rows.specs.declared.messages.part.PartRow.{PartRow}
 use Rattle.sms_centre_spec.specs.declared.event.CentreEvent.{CentreEvent}
 use Rattle.sms_centre_spec.specs.declared.event.CentreEvent.TheVariants.{Frame as CentreFrame, Submit as CentreSubmit}
 use Rattle.sms_centre_spec.specs.CentreEvent.{happened}
-use Rattle.sms_centre_spec.specs.Draft.{Core, core_of, messages_in, parts_in}
+use Rattle.sms_centre_spec.specs.Draft.{core_of, messages_in, parts_in}
 use Rattle.sms_handset.specs.declared.event.HandsetEvent.{HandsetEvent}
 use Rattle.sms_handset.specs.declared.event.HandsetEvent.TheVariants.{Frame as HandsetFrame}
 use Rattle.sms_script.specs.declared.report.rows.Direction.{Direction}
@@ -24,7 +24,6 @@ use Rattle.sms_script.specs.declared.report.rows.Direction.TheVariants.{Down, Up
 use Rattle.sms_script.specs.declared.report.rows.FrameRow.{FrameRow}
 use Rattle.sms_centre_spec.specs.MessageNumbers.{next_number}
 use Rattle.sms_centre_spec.specs.Requests.{account_at}
-use Rattle.sms_centre_spec.specs.SoundCore.{IsEvent, IsSoundCore}
 use Rattle.sms_script.specs.declared.event.Act.TheVariants.{Submit, Query, Cancel, Write, Delete, Discard, Deliver, Tick}
 use Rattle.sms_script.specs.declared.event.EventSide.TheVariants.{Centre, Handset}
 use Rattle.sms_script.specs.declared.event.StopPoint.TheVariants.{After, Before}
@@ -50,24 +49,15 @@ use Rattle.sms_world.proofs.scripts_are_runs.Events.{event_leads, ok_play, same_
 use Rattle.sms_world.proofs.scripts_are_runs.Runs.{run_leads}
 use Rattle.sms_world.specs.headline.Origins.{IsSubmitted, IsOfApplication, IsOfHandset, MakesMessage}
 use Rattle.sms_world.proofs.submissions_stay.NewMessages.{made_is}
-use Rattle.sms_world.proofs.submissions_stay.StaysSubmitted.{HasSubmitted, stays_submitted}
+use Rattle.sms_world.proofs.submissions_stay.StaysSubmitted.{submitted_lasts}
 use Rattle.sms_world.proofs.headline.SplitPlays.{all_preserved}
 use Rattle.sms_world.proofs.messages_have_origins.Entered.{Enters, EntersAs, IsInTable, event_was}
 use Rattle.sms_world.proofs.messages_have_origins.EventNumbers.{EventSays, new_ones_say, next_is}
 use Rattle.sms_world.proofs.messages_have_origins.HandsetOriginators.{IsAsked, frame_brings}
-use Rattle.sms_world.proofs.messages_have_origins.KeptRows.{HasRow, row_kept}
+use Rattle.sms_world.proofs.split_messages_stay.KeptMessages.{IsSaid, OfRow, row_lasts, said_on}
 use Rattle.sms_world.proofs.messages_have_origins.HandsetMessages.{of_handset}
 use Rattle.sms_world.proofs.messages_have_origins.Unmoved.{Rows, meets_leaves, rows_in, rows_of}
 use Rattle.sms_world.proofs.Options.{some_is}
-
--- ---- what was submitted stays so
-
-pub submitted_preserved : (id : ℕ) (u : Submitted) (event : CentreEvent) (c : Core) → IsSoundCore c → IsEvent event → HasSubmitted id u c.rows.messages c.rows.parts
-    → HasSubmitted id u (messages_in (happened event c).store) (parts_in (happened event c).store)
-submitted_preserved id u event c sound is (x, (at, k)) =
-    let own : x.id ≡ id = found_key message_key id x c.rows.messages at in
-    subst (λ (n : ℕ). HasSubmitted n u (messages_in (happened event c).store) (parts_in (happened event c).store)) own
-    (stays_submitted event c x u sound is (subst (λ (n : ℕ). message_at n c.rows.messages ≡ Some x) (sym own) at) k)
 
 -- ---- a submit_sm, that went to its end or was stopped behind its store call
 
@@ -146,8 +136,8 @@ module _ (n : ℕ) (e : WorldEvent) (es : List WorldEvent) (c next d : PlayState
       × ((account_at k.place c.centre.rows.setup.accounts ≡ Some account) × (from_pdu account c.centre.moment (submit_of x) ≡ Ok u) × IsSubmitted u y (parts_in (happened event c.centre).store))).
       let u : Submitted = z.1 in
       let l = event_leads n e c next w s good octets is in
-      let now : HasSubmitted m.id u next.centre.rows.messages next.centre.rows.parts = (y, (there, subst (λ (qs : List PartRow). IsSubmitted u y qs) (sym ps) z.2.2)) in
-      let last = all_preserved (HasSubmitted m.id u) (submitted_preserved m.id u) (n + 1) es next d (end w (happened_in h l.0)) l.1.2 now goods more leads in
+      let now : IsSaid m.id (IsSubmitted u) next.centre.rows.messages next.centre.rows.parts = (y, (there, subst (λ (qs : List PartRow). IsSubmitted u y qs) (sym ps) z.2.2)) in
+      let last = all_preserved (IsSaid m.id (IsSubmitted u)) (said_on m.id (IsSubmitted u) (submitted_lasts u)) (n + 1) es next d (end w (happened_in h l.0)) l.1.2 now goods more leads in
       let same : last.0 ≡ m = some_is last.0 m (sym last.1.0 ∙ at) in
       let found : WasStoredIn c m.id ⊎ IsOfApplication x c m d.centre.rows.parts =
       inr (record { number = number; place = k.place; account = z.0; submission = u; named = k.named; its = z.2.0; reads = z.2.1; is = subst (λ (y : MessageRow). IsSubmitted u y d.centre.rows.parts) same last.1.1 }) in found)
@@ -160,9 +150,9 @@ module _ (n : ℕ) (e : WorldEvent) (es : List WorldEvent) (c next d : PlayState
       let new : IsAskedAt number c x =
       new_ones_say n c w s (IsAskedAt number c) e next says good octets is x (found_among message_key m.id x next.centre.rows.messages there)
       (ap (λ (i : ℕ). message_at i c.centre.rows.messages) own ∙ none) in
-      let now : HasRow m.id (IsAskedAt number c) next.centre.rows.messages next.centre.rows.parts = (x, (there, new)) in
+      let now : IsSaid m.id (OfRow (IsAskedAt number c)) next.centre.rows.messages next.centre.rows.parts = (x, (there, new)) in
       let l = event_leads n e c next w s good octets is in
-      let last = all_preserved (HasRow m.id (IsAskedAt number c)) (row_kept m.id (IsAskedAt number c) (asked_ends number c)) (n + 1) es next d (end w (happened_in h l.0)) l.1.2 now goods more leads in
+      let last = all_preserved (IsSaid m.id (OfRow (IsAskedAt number c))) (said_on m.id (OfRow (IsAskedAt number c)) (row_lasts (IsAskedAt number c) (asked_ends number c))) (n + 1) es next d (end w (happened_in h l.0)) l.1.2 now goods more leads in
       subst (λ (z : MessageRow). IsAskedAt number c z) (some_is last.0 m (sym last.1.0 ∙ at)) last.1.1
 
   -- it is a handset's

@@ -40,12 +40,13 @@ use Rattle.sms_tpdu.specs.declared.fault.TpduFault.{TpduFault}
 use Rattle.sms_tpdu.specs.declared.submit.Submit.{Submit as SubmitOf}
 use Rattle.sms_tpdu.specs.declared.up.Up.{Up as UpUnit}
 use Rattle.sms_tpdu.specs.declared.up.Up.TheVariants.{Submit as SubmitUp}
-use Rattle.sms_world.proofs.headline.DecidedTimely.{number_by, numbered_there, one_number, same_frame}
+use Rattle.sms_world.proofs.headline.DecidedTimely.{number_by, numbered_there, same_frame}
 use Rattle.sms_world.proofs.messages_have_origins.HandsetOriginators.{IsAsked}
 use Rattle.sms_world.proofs.scripts_are_runs.Bags.{frame_found, row_seen as bag_seen}
 use Rattle.sms_world.specs.headline.Origins.{IsOfHandset}
 use Rattle.sms_world.proofs.Options.{some_is}
 use Rattle.sms_world.proofs.SeenParts.{small, only_one, seen_of, none_seen, row_seen}
+use Rattle.sms_world_model.proofs.Frames.{one_number}
 
 -- ---- the frame, by its row
 

@@ -3,13 +3,11 @@ use Rattle.std.proofs.Common.{◌≡◌, ℕ, ◌+◌, List, [], ◌∷◌, Opti
 use Rattle.std.specs.Prelude.{if◌then◌else◌, is_some, nat_le, not, ◌&&◌}
 use Rattle.std.specs.Option.{option_map}
 use Rattle.std.proofs.lemmas.Bool.{cond_both}
+use Rattle.std.proofs.lemmas.Option.{none-some}
 use Rattle.sms_base.specs.Among.{Among}
-use Rattle.sms_base.specs.declared.final_state.FinalState.{FinalState}
-use Rattle.sms_base.specs.declared.final_state.FinalState.TheVariants.{Delivered}
 use Rattle.sms_base.specs.declared.holder.Holder.{Holder}
-use Rattle.sms_base.specs.declared.originator.Originator.{Originator}
-use Rattle.sms_base.specs.declared.originator.Originator.TheVariants.{Application, Handset}
-use Rattle.sms_rows.proofs.table.Tables.{among_found, among_put, found_among}
+use Rattle.sms_base.specs.declared.originator.Originator.TheVariants.{Handset}
+use Rattle.sms_rows.proofs.table.Tables.{among_found, among_put}
 use Rattle.sms_link.specs.declared.ending.Upward.{Upward}
 use Rattle.sms_link.specs.declared.ending.Upward.TheVariants.{Opened, Ended}
 use Rattle.sms_base.specs.declared.carried.Carried.{Carried}
@@ -48,32 +46,27 @@ use Rattle.sms_intake.specs.declared.submission.SinglePart.{SinglePart}
 use Rattle.sms_intake.specs.declared.submission.Submission.{Submission}
 use Rattle.sms_intake.specs.declared.submission.CentreAccount.{CentreAccount}
 use Rattle.sms_centre_rows.specs.declared.messages.message.MessageRow.{MessageRow}
-use Rattle.sms_centre_rows.specs.declared.messages.part.PartRow.{PartRow}
 use Rattle.sms_centre_rows.specs.declared.waiting.handset.HandsetRow.{HandsetRow}
 use Rattle.sms_centre_rows.specs.declared.waiting.handset_link.HandsetLink.{HandsetLink}
-use Rattle.sms_centre_rows.specs.messages.Messages.{all_done, ended, message_at, message_key}
+use Rattle.sms_centre_rows.specs.messages.Messages.{message_at, message_key}
 use Rattle.sms_centre_rows.specs.messages.SplitReferences.{next_split}
 use Rattle.sms_centre_rows.specs.waiting.Links.{line_of, turn_line}
 use Rattle.sms_centre_rows.specs.waiting.References.{handset_of}
-use Rattle.sms_centre_rows.specs.waiting.Trying.{finished}
 use Rattle.sms_centre_spec.specs.declared.event.CentreEvent.TheVariants.{Frame}
 use Rattle.sms_centre_spec.specs.declared.rows.Rows.{Rows}
 use Rattle.sms_centre_spec.specs.CentreEvent.{happened, tag_of, went_up}
-use Rattle.sms_centre_spec.specs.Draft.{Core, Draft, Store, draft_of, handsets_in, messages_in, on_links, parts_in, rows_of, with_message, with_part_at}
-use Rattle.sms_centre_spec.specs.Ends.{end, is_wished, report_to, status_given}
+use Rattle.sms_centre_spec.specs.Draft.{Core, Draft, Store, bars_in, draft_of, handsets_in, messages_in, on_links, parts_in, rows_of}
 use Rattle.sms_centre_spec.specs.MessageNumbers.{next_number}
 use Rattle.sms_centre_spec.specs.Receiving.{due_now, is_duplicate, refuse, submit_accepted, submit_received, unit_received}
 use Rattle.sms_centre_spec.specs.SoundCore.{IsSoundCore}
 use Rattle.sms_centre_spec.specs.Submitting.{accept, accept_as, accept_split, accept_under, enter, give_part, give_parts, is_reference_taken, message_of, part_given, reference_for}
-use Rattle.sms_centre_spec.specs.Transfers.{complete}
 use Rattle.sms_centre_spec.proofs.AcceptedConsistent.{then_there}
-use Rattle.sms_centre_spec.proofs.KeepingSteady.{SoundSince, since_steady}
-use Rattle.sms_centre_spec.proofs.NumbersSteady.{AreOld}
+use Rattle.sms_centre_spec.proofs.KeepingSteady.{SoundSince}
+use Rattle.sms_centre_spec.proofs.NumbersSteady.{AreOld, old_still}
 use Rattle.sms_centre_spec.proofs.SoundEvents.{begins}
 use Rattle.sms_centre_spec.proofs.Stages.{IfThere}
-use Rattle.sms_centre_spec.proofs.Steady.{IsSteady, IsStill, concluded_steady, due_now_steady, message_own}
+use Rattle.sms_centre_spec.proofs.Steady.{IsStill, concluded_steady, due_now_steady}
 use Rattle.sms_world.specs.headline.SeenFrames.{frame_tpdu, unit_tpdu}
-use Rattle.sms_world.proofs.Options.{none_some}
 
 -- A SUBMIT of those octets asked for it: it has that handset's reference for originator, its address for source, and its wish.
 pub record IsAsked (tpdu : List ℕ) (m : MessageRow) : Type 0 where
@@ -140,7 +133,7 @@ module _ (Says : MessageRow → Type 0) (base : Rows) where
   accept_new : (u : Submission) (s : Store) → AreOld base s → IsFor Says u → IfThere (AreNew Says base) (accept u s)
   accept_new u s are up =
       let id : ℕ = next_number (rows_of s) in
-      let split : Option ℕ = next_split u.source u.handset (messages_in s) (parts_in s) in
+      let split : Option ℕ = next_split u.source u.handset (bars_in s) (messages_in s) (parts_in s) in
       cond_both (nat_le id 9999999999) (accept_as id u s) None (λ (o : Option Store). IfThere (AreNew Says base) o)
       (λ t. cond_both (is_long u.text) (accept_split id split u s) (accept_under id None (bodies_under 0 u.text) u s) (λ (o : Option Store). IfThere (AreNew Says base) o)
       (λ e. split_new id split u s are up) (λ e. under_new id None (bodies_under 0 u.text) u s are up))
@@ -148,51 +141,11 @@ module _ (Says : MessageRow → Type 0) (base : Rows) where
 
   -- ---- no other stage enters a message
 
-  status_old : (f : FinalState) (m : MessageRow) (h : HandsetRow) (o : Option ℕ) (s : Store) → AreOld base s → AreOld base (status_given f m h o s)
-  status_old f m h None s k = record { first = k.first; old = k.old }
-  status_old f m h (Some r) s k = record { first = k.first; old = k.old }
-
-  report_old : (o : Originator) (f : FinalState) (m : MessageRow) (s : Store) → AreOld base s → AreOld base (report_to o f m s)
-  report_old (Application account) f m s k = record { first = k.first; old = k.old }
-  report_old (Handset n) f m s k =
-      let h : HandsetRow = handset_of m.source.digits (handsets_in s) in status_old f m h (reference_for h s) s k
-
-  end_old : (f : FinalState) (m : MessageRow) (s : Store) → AreOld base s → message_at m.id (messages_in s) ≡ Some m → AreOld base (end f m s)
-  end_old f m s k there =
-      let w : MessageRow = ended f s.moment m in
-      let e : Store = with_message w s in
-      let still : AreOld base e = record {
-        first = k.first;
-        old = λ x among. ⊎_elim
-            (λ (q : x ≡ w).
-            let y = k.old m (found_among message_key m.id m (messages_in s) there) in
-            let own : x.id ≡ m.id = ap (λ (z : MessageRow). z.id) q in
-            let found : (z : MessageRow) × (message_at x.id base.messages ≡ Some z) = (y.0, ap (λ (n : ℕ). message_at n base.messages) own ∙ y.1) in found)
-            (λ (a : Among x (messages_in s) × ¬ (x.id ≡ m.id)). k.old x a.0)
-            (among_put message_key x w (messages_in s) among);
-      } in
-      cond_both (is_wished m.wish f) (report_to m.originator f m e) e (λ (x : Store). AreOld base x) (λ t. report_old m.originator f m e still) (λ t. still)
-
-  settled_old : (p : PartRow) (m : MessageRow) (s : Store) → AreOld base s → message_at p.id (messages_in s) ≡ Some m → AreOld base (complete m (with_part_at p (finished p.progress) s))
-  settled_old p m s k of =
-      let e : Store = with_part_at p (finished p.progress) s in
-      let far : AreOld base e = record { first = k.first; old = k.old } in
-      cond_both (all_done m.id (parts_in e)) (end Delivered m e) e (λ (x : Store). AreOld base x) (λ t. end_old Delivered m e far (message_own p.id m e of)) (λ t. far)
-
   abbrev Since : Store → Type 0
   Since s = SoundSince base s × AreOld base s
 
   still : IsStill Since
-  still =
-      let since : IsSteady (SoundSince base) = since_steady base in
-      record {
-        consistent = λ s k. since.consistent s k.0;
-        ended = λ f m s k there pending partly. (since.ended f m s k.0 there pending partly, end_old f m s k.1 there);
-        settled = λ p m s k there of pending undone. (since.settled p m s k.0 there of pending undone, settled_old p m s k.1 of);
-        part_far = λ p q s k there same. (since.part_far p q s k.0 there same, record { first = k.1.first; old = k.1.old });
-        report_far = λ r q s k there stays. (since.report_far r q s k.0 there stays, record { first = k.1.first; old = k.1.old });
-        later = λ n s k past is. (since.later n s k.0 past is, record { first = k.1.first; old = k.1.old });
-      }
+  still = old_still base
 
   -- ---- a unit of a handset
 
@@ -247,14 +200,14 @@ module _ (side : Side) (w : Option Carried) (unit : List ℕ) where
       cond_both (has_begun t.identifier s.begun) (passes_up (acknowledgement t ∷ []) (UnitUp ToOriginator x) (record s { begun = None; last_answer = Some frame }))
       (if is_same frame s.last_answer then sends (acknowledgement t ∷ []) s else sends (rejection t ∷ []) s) (λ (z : Step). Opens z → ⊥)
       (λ b e. ended_up _ w unit e)
-      (λ b. cond_both (is_same frame s.last_answer) (sends (acknowledgement t ∷ []) s) (sends (rejection t ∷ []) s) (λ (z : Step). Opens z → ⊥) (λ c e. none_some (Opened unit) e) (λ c e. none_some (Opened unit) e))
+      (λ b. cond_both (is_same frame s.last_answer) (sends (acknowledgement t ∷ []) s) (sends (rejection t ∷ []) s) (λ (z : Step). Opens z → ⊥) (λ c e. none-some (Opened unit) e) (λ c e. none-some (Opened unit) e))
 
   opening_opens : (frame x : List ℕ) (t : Transaction) (s : LinkState) → Opens (opening_taken frame x t s) → x ≡ unit
   opening_opens frame x t s =
       let new : Step = passes_up (acknowledgement t ∷ []) (UnitUp FromOriginator x) (record s { opened = Some (record { identifier = t.identifier; opening = frame; answer = None }) }) in
       cond_both (is_same frame (opening_of s.opened)) (sends (acknowledgement t ∷ answer_frames s.opened) s) (if is_same frame s.last_opening then sends (acknowledgement t ∷ []) s else new) (λ (z : Step). Opens z → x ≡ unit)
-      (λ b e. absurd (none_some (Opened unit) e))
-      (λ b. cond_both (is_same frame s.last_opening) (sends (acknowledgement t ∷ []) s) new (λ (z : Step). Opens z → x ≡ unit) (λ c e. absurd (none_some (Opened unit) e)) (λ c e. same_unit x unit e))
+      (λ b e. absurd (none-some (Opened unit) e))
+      (λ b. cond_both (is_same frame s.last_opening) (sends (acknowledgement t ∷ []) s) new (λ (z : Step). Opens z → x ≡ unit) (λ c e. absurd (none-some (Opened unit) e)) (λ c e. same_unit x unit e))
 
   data_opens : (f : TransactionFlag) (frame x : List ℕ) (t : Transaction) (s : LinkState) → Opens (data_taken f frame x t s) → x ≡ unit
   data_opens ToOriginator frame x t s e = absurd (answer_opens frame x t s e)
@@ -262,21 +215,21 @@ module _ (side : Side) (w : Option Carried) (unit : List ℕ) where
 
   ack_opens : (f : TransactionFlag) (i : ℕ) (s : LinkState) → Opens (ack_taken f i s) → ⊥
   ack_opens ToOriginator i s =
-      cond_both (has_begun i s.begun) _ (quiet s) (λ (z : Step). Opens z → ⊥) (λ b e. none_some (Opened unit) e) (λ b e. none_some (Opened unit) e)
+      cond_both (has_begun i s.begun) _ (quiet s) (λ (z : Step). Opens z → ⊥) (λ b e. none-some (Opened unit) e) (λ b e. none-some (Opened unit) e)
   ack_opens FromOriginator i s =
-      cond_both (has_opened i s.opened && is_some (answer_of s.opened)) _ (quiet s) (λ (z : Step). Opens z → ⊥) (λ b e. none_some (Opened unit) e) (λ b e. none_some (Opened unit) e)
+      cond_both (has_opened i s.opened && is_some (answer_of s.opened)) _ (quiet s) (λ (z : Step). Opens z → ⊥) (λ b e. none-some (Opened unit) e) (λ b e. none-some (Opened unit) e)
 
   error_opens : (f : TransactionFlag) (i : ℕ) (s : LinkState) → Opens (error_taken f i s) → ⊥
   error_opens ToOriginator i s =
-      cond_both (has_begun i s.begun) (passes_up [] FailedUp (record s { begun = None })) (quiet s) (λ (z : Step). Opens z → ⊥) (λ b e. ended_up (λ x. Lost) w unit e) (λ b e. none_some (Opened unit) e)
+      cond_both (has_begun i s.begun) (passes_up [] FailedUp (record s { begun = None })) (quiet s) (λ (z : Step). Opens z → ⊥) (λ b e. ended_up (λ x. Lost) w unit e) (λ b e. none-some (Opened unit) e)
   error_opens FromOriginator i s =
-      cond_both (has_opened i s.opened) (quiet (record s { opened = None })) (quiet s) (λ (z : Step). Opens z → ⊥) (λ b e. none_some (Opened unit) e) (λ b e. none_some (Opened unit) e)
+      cond_both (has_opened i s.opened) (quiet (record s { opened = None })) (quiet s) (λ (z : Step). Opens z → ⊥) (λ b e. none-some (Opened unit) e) (λ b e. none-some (Opened unit) e)
 
   frame_opens : (frame : List ℕ) (s : LinkState) (r : Result Cp CpFault) → Opens (frame_taken frame s r) → frame_tpdu r ≡ unit_tpdu (up_at unit)
   frame_opens frame s (Ok (CpData t x)) e = ap (λ (z : List ℕ). unit_tpdu (up_at z)) (data_opens t.flag frame x t s e)
   frame_opens frame s (Ok (CpAck t)) e = absurd (ack_opens t.flag t.identifier s e)
   frame_opens frame s (Ok (CpError t cause)) e = absurd (error_opens t.flag t.identifier s e)
-  frame_opens frame s (Err fault) e = absurd (none_some (Opened unit) e)
+  frame_opens frame s (Err fault) e = absurd (none-some (Opened unit) e)
 
   step_opens : (frame : List ℕ) (s : LinkState) → Opens (take_step frame s) → frame_tpdu (cp_at frame) ≡ unit_tpdu (up_at unit)
   unfolding take_step

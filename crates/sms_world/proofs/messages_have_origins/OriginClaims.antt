@@ -28,27 +28,24 @@ use Rattle.sms_script.specs.Requests.{submit_of}
 use Rattle.sms_play.specs.PlayedEvent.{played}
 use Rattle.sms_play.specs.Playing.{played_on}
 use Rattle.sms_play.specs.Setups.{beginning, can_be_played}
-use Rattle.sms_world_model.specs.WorldStep.{end}
-use Rattle.sms_world_model.specs.ScriptRun.{happened as happened_in}
 use Rattle.sms_world_model.specs.World.{World, empty}
 use Rattle.sms_world.specs.scripts_are_runs.PlayRuns.{AllHandOctets, AreGood}
 use Rattle.sms_world.specs.scripts_are_runs.PlayRefinement.{PlayRefines}
-use Rattle.sms_world.specs.headline.OneRun.{happening_of}
-use Rattle.sms_world.proofs.scripts_are_runs.Beginnings.{begins}
 use Rattle.sms_world.proofs.scripts_are_runs.Events.{event_leads, ok_play, same_play}
-use Rattle.sms_world.proofs.scripts_are_runs.Runs.{run_leads, unplayed}
-use Rattle.sms_world.proofs.headline.Claimed.{can_play, script_hands}
-use Rattle.sms_world.proofs.headline.Parting.{others_good, parted}
-use Rattle.sms_world.proofs.headline.SplitClaimed.{between, first_of}
+use Rattle.sms_world.proofs.scripts_are_runs.Runs.{unplayed}
+use Rattle.sms_world.proofs.scripts_are_runs.Courses.{first_of}
 use Rattle.sms_world.proofs.headline.SplitPlays.{all_preserved}
 use Rattle.sms_world.specs.headline.Origins.{IsSubmitted, IsFrom, MakesMessage}
 use Rattle.sms_world.proofs.submissions_stay.NewMessages.{made_is}
-use Rattle.sms_world.proofs.submissions_stay.StaysSubmitted.{HasSubmitted}
+use Rattle.sms_world.proofs.submissions_stay.StaysSubmitted.{submitted_lasts}
+use Rattle.sms_world.proofs.split_messages_stay.KeptMessages.{IsSaid, said_on}
 use Rattle.sms_world.specs.messages_have_origins.OriginLaws.{OriginLaw, SubmitLaw}
 use Rattle.sms_world.specs.headline.SplitClaims.{Submits}
-use Rattle.sms_world.proofs.messages_have_origins.EventsMake.{WasStoredIn, SubmitLeads, event_makes, stopped_leads, submitted_preserved, whole_leads}
+use Rattle.sms_world.proofs.messages_have_origins.EventsMake.{WasStoredIn, SubmitLeads, event_makes, stopped_leads, whole_leads}
 use Rattle.sms_world.proofs.messages_have_origins.SubmittedMoments.{made_then}
 use Rattle.sms_world.proofs.messages_have_origins.Unmoved.{Rows, rows_in, rows_of}
+use Rattle.sms_world.proofs.headline.ScriptCourses.{course_of}
+use Rattle.sms_world.specs.headline.OneRun.{world_after}
 
 -- ---- along a course
 
@@ -111,7 +108,7 @@ traced n (e ∷ es) c d w m s good octets q at =
       then = ap (λ (r : Result PlayState PlayFault). r >>= λ (y : PlayState). played_on (n + 1) (x.some ++ x.event ∷ []) y) f.is ∙ x.then;
       there = x.there;
     }) in found)
-    (traced (n + 1) es f.next d (end w (happened_in (happening_of e c.centre.moment) l.0)) m l.1.2 good.1 f.octets f.leads at)
+    (traced (n + 1) es f.next d (world_after w e c l.0) m l.1.2 good.1 f.octets f.leads at)
 
 -- ---- from the beginning on
 
@@ -122,15 +119,8 @@ pub origin_is : OriginLaw
 origin_is script some others c d is on m i =
     let s : Setup = script.setup in
     let start : PlayState = beginning s in
-    let good : AreGood script.events = is.typed.good in
-    let goods = others_good some others (subst (λ (es : List WorldEvent). AreGood es) is.events good) in
-    let here = can_play s some c on.here in
-    let there = can_play s script.events d on.there in
-    let p = parted some others 1 start d (subst (λ (es : List WorldEvent). AllHandOctets 1 es start) is.events (script_hands script is.typed there.can))
-    (subst (λ (es : List WorldEvent). played_on 1 es start ≡ ok_play d) is.events there.leads) in
-    let refines : PlayRefines start empty = begins s here.can in
-    let x = run_leads 1 some start c empty refines goods.0 p.first_octets here.leads in
-    let at : message_at m.id c.centre.rows.messages ≡ Some m = among_found message_key m c.centre.rows.messages x.1.1.sound.rows.messages.message_keys i in
+    let k = course_of script some others c d is on in
+    let at : message_at m.id c.centre.rows.messages ≡ Some m = among_found message_key m c.centre.rows.messages k.refines.sound.rows.messages.message_keys i in
     ⊎_elim
     (λ (old : WasStoredIn start m.id). absurd (none_there s m old))
     (λ (f : IsFound 1 some start m c.centre.rows.parts).
@@ -140,14 +130,14 @@ origin_is script some others c d is on m i =
       others = f.others;
       among = f.among;
       before = f.before;
-      leads = cond-true (can_be_played s) (played_on 1 f.some start) unplayed here.can ∙ f.leads;
+      leads = cond-true (can_be_played s) (played_on 1 f.some start) unplayed k.can ∙ f.leads;
       makes = f.makes;
       submitted = f.submitted;
       next = f.next;
-      leads_next = cond-true (can_be_played s) (played_on 1 (f.some ++ f.event ∷ []) start) unplayed here.can ∙ f.then;
+      leads_next = cond-true (can_be_played s) (played_on 1 (f.some ++ f.event ∷ []) start) unplayed k.can ∙ f.then;
       there = f.there;
     } in found)
-    (traced 1 some start c empty m refines goods.0 p.first_octets here.leads at)
+    (traced 1 some start c empty m k.start k.good k.octets k.leads at)
 
 -- ---- what a submit_sm reads as is kept
 
@@ -175,16 +165,16 @@ new_one place c s account u m sound its reads there =
 pub submit_is : SubmitLaw
 submit_is script some others e s c d place account u is on submits named its reads m there =
     let n : ℕ = 1 + length some in
-    let b = between script some (e ∷ others) c d is on in
-    let f = first_of n e c d others (played n e c) refl b.octets.1 b.leads in
+    let b = course_of script some (e ∷ others) c d is on in
+    let f = first_of n e c d others (played n e c) refl b.then_octets.1 b.then_leads in
     let k = event_submits n e s c f.next submits f.is in
     let places : Some k.place ≡ Some place = sym k.named ∙ named in
     let one : k.place ≡ place = cc in
     let event : CentreEvent = CentreSubmit place (submit_of s) in
     let rows : rows_of f.next ≡ rows_in (happened event c.centre).store = k.rows ∙ ap (λ (p : ℕ). rows_in (happened (CentreSubmit p (submit_of s)) c.centre).store) one in
     let own : m.id ≡ next_number c.centre.rows = found_key message_key (next_number c.centre.rows) m (messages_in (happened event c.centre).store) there in
-    let made : HasSubmitted m.id u (messages_in (happened event c.centre).store) (parts_in (happened event c.centre).store) =
-    (m, (ap (λ (i : ℕ). message_at i (messages_in (happened event c.centre).store)) own ∙ there, new_one place c.centre s account u m b.first_refines.sound its reads there)) in
-    let l = event_leads n e c f.next b.first_world b.first_refines b.goods.0 b.octets.0 f.is in
-    all_preserved (HasSubmitted m.id u) (submitted_preserved m.id u) (n + 1) others f.next d (end b.first_world (happened_in (happening_of e c.centre.moment) l.0)) l.1.2
-    (subst (λ (r : Rows). HasSubmitted m.id u r.0 r.1) (sym rows) made) b.goods.1 f.octets f.leads
+    let made : IsSaid m.id (IsSubmitted u) (messages_in (happened event c.centre).store) (parts_in (happened event c.centre).store) =
+    (m, (ap (λ (i : ℕ). message_at i (messages_in (happened event c.centre).store)) own ∙ there, new_one place c.centre s account u m b.refines.sound its reads there)) in
+    let l = event_leads n e c f.next b.world b.refines b.then_good.0 b.then_octets.0 f.is in
+    all_preserved (IsSaid m.id (IsSubmitted u)) (said_on m.id (IsSubmitted u) (submitted_lasts u)) (n + 1) others f.next d (world_after b.world e c l.0) l.1.2
+    (subst (λ (r : Rows). IsSaid m.id (IsSubmitted u) r.0 r.1) (sym rows) made) b.then_good.1 f.octets f.leads

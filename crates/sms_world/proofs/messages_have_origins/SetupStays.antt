@@ -19,7 +19,7 @@ use Rattle.sms_centre_rows.specs.waiting.Trying.{finished}
 use Rattle.sms_centre_spec.specs.declared.event.CentreEvent.{CentreEvent}
 use Rattle.sms_centre_spec.specs.declared.setup.Setup.{Setup}
 use Rattle.sms_centre_spec.specs.CentreEvent.{happened}
-use Rattle.sms_centre_spec.specs.Draft.{Core, Store, core_of, handsets_in, messages_in, parts_in, rows_of, with_message, with_part_at}
+use Rattle.sms_centre_spec.specs.Draft.{Core, Store, bars_in, core_of, handsets_in, messages_in, parts_in, rows_of, with_message, with_part_at}
 use Rattle.sms_centre_spec.specs.Ends.{end, is_wished, report_to, status_given}
 use Rattle.sms_centre_spec.specs.MessageNumbers.{next_number}
 use Rattle.sms_centre_spec.specs.SoundCore.{IsEvent, IsSoundCore}
@@ -56,7 +56,7 @@ module _ (base : Setup) where
   accept_same : (u : Submission) (s : Store) → Same s → IfThere Same (accept u s)
   accept_same u s k =
       let id : ℕ = next_number (rows_of s) in
-      let split : Option ℕ = next_split u.source u.handset (messages_in s) (parts_in s) in
+      let split : Option ℕ = next_split u.source u.handset (bars_in s) (messages_in s) (parts_in s) in
       cond_both (nat_le id 9999999999) (accept_as id u s) None (λ (o : Option Store). IfThere Same o)
       (λ t. cond_both (is_long u.text) (accept_split id split u s) (accept_under id None (bodies_under 0 u.text) u s) (λ (o : Option Store). IfThere Same o)
       (λ e. split_same id split u s k) (λ e. parts_same id u 1 (bodies_under 0 u.text) (enter id None u s) k))

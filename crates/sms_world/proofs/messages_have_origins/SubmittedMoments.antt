@@ -19,7 +19,7 @@ use Rattle.sms_centre_rows.specs.waiting.References.{handset_of}
 use Rattle.sms_centre_rows.specs.waiting.Trying.{finished}
 use Rattle.sms_centre_draft.proofs.walks.MomentStays.{end_moment}
 use Rattle.sms_centre_spec.specs.CentreEvent.{happened}
-use Rattle.sms_centre_spec.specs.Draft.{Core, Store, core_of, draft_of, handsets_in, messages_in, parts_in, rows_of, with_part_at}
+use Rattle.sms_centre_spec.specs.Draft.{Core, Store, bars_in, core_of, draft_of, handsets_in, messages_in, parts_in, rows_of, with_part_at}
 use Rattle.sms_centre_spec.specs.Ends.{end}
 use Rattle.sms_centre_spec.specs.MessageNumbers.{next_number}
 use Rattle.sms_centre_spec.specs.SoundCore.{IsEvent, IsSoundCore}
@@ -32,7 +32,7 @@ use Rattle.sms_centre_spec.proofs.PduFits.{event_gives}
 use Rattle.sms_centre_spec.proofs.SoundAccepted.{sound_steady}
 use Rattle.sms_centre_spec.proofs.SoundStores.{SoundStore, store_sound}
 use Rattle.sms_centre_spec.proofs.Stages.{IfThere}
-use Rattle.sms_centre_spec.proofs.Steady.{IsSteady}
+use Rattle.sms_centre_spec.proofs.Steady.{IsSteady, message_own}
 use Rattle.sms_centre_spec.proofs.SteadyEvents.{steady_event}
 use Rattle.sms_script.specs.declared.event.Act.{Act}
 use Rattle.sms_script.specs.declared.event.Act.TheVariants.{Submit, Query, Cancel, Write, Delete, Discard, Deliver, Tick}
@@ -55,12 +55,11 @@ use Rattle.sms_world.specs.scripts_are_runs.PlayRuns.{AllHandOctets, AreGood}
 use Rattle.sms_world.proofs.headline.SplitPlays.{all_preserved}
 use Rattle.sms_world.proofs.messages_have_origins.EventNumbers.{EventSays, new_ones_say}
 use Rattle.sms_world.proofs.messages_have_origins.EventsMake.{WasStoredIn}
-use Rattle.sms_world.proofs.messages_have_origins.KeptRows.{HasRow, row_kept}
+use Rattle.sms_world.proofs.split_messages_stay.KeptMessages.{IsSaid, OfRow, row_lasts, said_on}
 use Rattle.sms_world.proofs.scripts_are_runs.EventMoments.{event_moment}
 use Rattle.sms_world.proofs.scripts_are_runs.Events.{event_leads, ok_play}
 use Rattle.sms_world.proofs.scripts_are_runs.Meetings.{MeetsCentre, meets}
 use Rattle.sms_world.proofs.split_messages_stay.MadeParts.{Accepts, IsAccepted, accept_leads}
-use Rattle.sms_world.proofs.split_messages_stay.SplitSteady.{own_number}
 use Rattle.sms_world.proofs.Options.{some_is}
 use Rattle.sms_world.proofs.scripts_are_runs.PartsInOrder.{end_touches}
 use Rattle.sms_world.proofs.scripts_are_runs.Growing.{none_less}
@@ -88,7 +87,7 @@ module _ (now : ℕ) where
   accept_at_it : (u : Submission) (s : Store) → At s → IfThere At (accept u s)
   accept_at_it u s k =
       let id : ℕ = next_number (rows_of s) in
-      let split : Option ℕ = next_split u.source u.handset (messages_in s) (parts_in s) in
+      let split : Option ℕ = next_split u.source u.handset (bars_in s) (messages_in s) (parts_in s) in
       cond_both (nat_le id 9999999999) (accept_as id u s) None (λ o. IfThere At o)
       (λ t. cond_both (is_long u.text) (accept_split id split u s) (accept_under id None (bodies_under 0 u.text) u s) (λ o. IfThere At o)
       (λ long. split_at_it id split u s k)
@@ -153,7 +152,7 @@ module _ (base : List MessageRow) (first : ℕ) where
         consistent = λ s k. k.0.consistent;
         accepted = λ u s k fit. accepted_late u s k.1 (accept u s) (c.accepted u s k.0 fit) (accept_leads u s k.0 fit) (accept_at_it s.moment u s refl);
         ended = λ f m s k there pending partly. (c.ended f m s k.0 there pending partly, ended_late f m s k.1 there);
-        settled = λ p m s k there of pending undone. (c.settled p m s k.0 there of pending undone, settled_late p m s k.1 (own_number (messages_in s) p.id m of));
+        settled = λ p m s k there of pending undone. (c.settled p m s k.0 there of pending undone, settled_late p m s k.1 (message_own p.id m s of));
         part_far = λ p q s k there same. (c.part_far p q s k.0 there same, record { low = k.1.low; each = k.1.each });
         report_far = λ r q s k there stays. (c.report_far r q s k.0 there stays, record { low = k.1.low; each = k.1.each });
         later = λ n s k past is. (c.later n s k.0 past is, record { low = no_later first s.moment n k.1.low past; each = k.1.each });
@@ -220,7 +219,7 @@ module _ (n : ℕ) (e : WorldEvent) (es : List WorldEvent) (c next d : PlayState
       let new : IsThen x =
       new_ones_say n c w s IsThen e next (says_then e good octets makes) good octets is x (found_among message_key m.id x next.centre.rows.messages there)
       (ap (λ (i : ℕ). message_at i c.centre.rows.messages) own ∙ none) in
-      let now : HasRow m.id IsThen next.centre.rows.messages next.centre.rows.parts = (x, (there, new)) in
+      let now : IsSaid m.id (OfRow IsThen) next.centre.rows.messages next.centre.rows.parts = (x, (there, new)) in
       let l = event_leads n e c next w s good octets is in
-      let last = all_preserved (HasRow m.id IsThen) (row_kept m.id IsThen (λ f k y p. p)) (n + 1) es next d (world_end w (happened_in (happening_of e c.centre.moment) l.0)) l.1.2 now goods more leads in
+      let last = all_preserved (IsSaid m.id (OfRow IsThen)) (said_on m.id (OfRow IsThen) (row_lasts IsThen (λ f k y p. p))) (n + 1) es next d (world_end w (happened_in (happening_of e c.centre.moment) l.0)) l.1.2 now goods more leads in
       subst (λ (z : MessageRow). IsThen z) (some_is last.0 m (sym last.1.0 ∙ at)) last.1.1

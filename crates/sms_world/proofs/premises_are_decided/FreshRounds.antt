@@ -1,8 +1,8 @@
 -- A part may begin a round exactly where that is decided.
 use Rattle.std.proofs.Common.{◌≡◌, ◌⊎◌, ℕ, zero, suc, ◌≤◌, arith, List, [], ◌∷◌, Bool, true, false, cond, refl, sym, ◌∙◌, ap, subst, inl, inr, ⊎_elim, Option, Some, None}
-use Rattle.std.specs.Prelude.{◌==◌, ◌&&◌, ◌||◌}
+use Rattle.std.specs.Prelude.{◌==◌, ◌&&◌}
 use Rattle.std.specs.Str.{bytes_eq}
-use Rattle.std.proofs.lemmas.Bool.{and_from, and_parts, cases_Bool, cases_eq, cond-false, cond-true, eq-eqb, eqb-true}
+use Rattle.std.proofs.lemmas.Bool.{and_from, and_parts, cases_Bool, cases_eq, cond-false, cond-true, eq-eqb, eqb-true, or_cases, or_left, or_right}
 use Rattle.std.proofs.lemmas.Slice.Eq.{bytes_eq-Decides}
 use Rattle.sms_base.specs.Among.{Among}
 use Rattle.sms_play.specs.Premises.{all_arrived, are_fresh, has_arrived, has_pair, is_same_pair, may_begin, may_begin_at, may_begin_round}
@@ -14,47 +14,22 @@ use Rattle.sms_world_model.specs.References.{Ticket, part_allocation}
 use Rattle.sms_world_model.specs.Submission.{Submission}
 use Rattle.sms_world_model.specs.World.{Accepted, Allocation, pair_given}
 use Rattle.sms_world_model.proofs.Keys.{one_key, same_key}
+use Rattle.sms_play.proofs.judging.Members.{one_pair, pair_same}
 
 -- ---- pairs
-
-pair_same : (a b : Accepted) → is_same_pair a b ≡ true → a ≡ b
-pair_same a b e =
-    let p = and_parts (bytes_eq a.handset b.handset) ((a.reference == b.reference) && bytes_eq a.tpdu b.tpdu) e in
-    let q = and_parts (a.reference == b.reference) (bytes_eq a.tpdu b.tpdu) p.1 in
-    let handset : a.handset ≡ b.handset = (bytes_eq-Decides a.handset b.handset).0 p.0 in
-    let reference : a.reference ≡ b.reference = eqb-true a.reference b.reference q.0 in
-    let tpdu : a.tpdu ≡ b.tpdu = (bytes_eq-Decides a.tpdu b.tpdu).0 q.1 in
-    λ j. record { handset = handset j; reference = reference j; tpdu = tpdu j }
-
-one_pair : (a : Accepted) → is_same_pair a a ≡ true
-one_pair a =
-    and_from (bytes_eq a.handset a.handset) ((a.reference == a.reference) && bytes_eq a.tpdu a.tpdu) ((bytes_eq-Decides a.handset a.handset).1 refl)
-    (and_from (a.reference == a.reference) (bytes_eq a.tpdu a.tpdu) (eq-eqb a.reference a.reference refl) ((bytes_eq-Decides a.tpdu a.tpdu).1 refl))
-
-either_is : (a b : Bool) → (a || b) ≡ true → (a ≡ true) ⊎ (b ≡ true)
-either_is true b e = inl refl
-either_is false b e = inr e
-
-first_is : (a b : Bool) → a ≡ true → (a || b) ≡ true
-first_is true b e = refl
-first_is false b e = absurd cc
-
-second_is : (a b : Bool) → b ≡ true → (a || b) ≡ true
-second_is true b e = refl
-second_is false b e = e
 
 has_it : (p : Accepted) (qs : List Accepted) → has_pair p qs ≡ true → Among p qs
 has_it p [] e = absurd cc
 has_it p (q ∷ qs) e = ⊎_elim
     (λ (t : is_same_pair p q ≡ true). inl (pair_same p q t))
     (λ (t : has_pair p qs ≡ true). inr (has_it p qs t))
-    (either_is (is_same_pair p q) (has_pair p qs) e)
+    (or_cases (is_same_pair p q) (has_pair p qs) e)
 
 it_has : (p : Accepted) (qs : List Accepted) → Among p qs → has_pair p qs ≡ true
 it_has p [] i = absurd i
 it_has p (q ∷ qs) i = ⊎_elim
-    (λ (e : p ≡ q). first_is (is_same_pair p q) (has_pair p qs) (ap (λ (z : Accepted). is_same_pair p z) (sym e) ∙ one_pair p))
-    (λ (m : Among p qs). second_is (is_same_pair p q) (has_pair p qs) (it_has p qs m)) i
+    (λ (e : p ≡ q). or_left (is_same_pair p q) (has_pair p qs) (ap (λ (z : Accepted). is_same_pair p z) (sym e) ∙ one_pair p))
+    (λ (m : Among p qs). or_right (is_same_pair p q) (has_pair p qs) (it_has p qs m)) i
 
 -- ---- which parts arrived
 
@@ -68,15 +43,15 @@ arrived_is n (p ∷ ps) accepted e = ⊎_elim
     let x = and_parts (number_in p == n) (has_pair p accepted) t in
     (p, (inl refl, eqb-true (number_in p) n x.0, has_it p accepted x.1)))
     (λ (t : has_arrived n ps accepted ≡ true). let x = arrived_is n ps accepted t in (x.0, (inr x.1.0, x.1.1, x.1.2)))
-    (either_is ((number_in p == n) && has_pair p accepted) (has_arrived n ps accepted) e)
+    (or_cases ((number_in p == n) && has_pair p accepted) (has_arrived n ps accepted) e)
 
 is_arrived : (n : ℕ) (ps accepted : List Accepted) → Arrived n ps accepted → has_arrived n ps accepted ≡ true
 is_arrived n [] accepted (q, i) = absurd i.0
 is_arrived n (p ∷ ps) accepted (q, i) = ⊎_elim
     (λ (e : q ≡ p).
-    first_is ((number_in p == n) && has_pair p accepted) (has_arrived n ps accepted)
+    or_left ((number_in p == n) && has_pair p accepted) (has_arrived n ps accepted)
     (and_from (number_in p == n) (has_pair p accepted) (eq-eqb (number_in p) n (ap number_in (sym e) ∙ i.1)) (it_has p accepted (subst (λ (z : Accepted). Among z accepted) e i.2))))
-    (λ (m : Among q ps). second_is ((number_in p == n) && has_pair p accepted) (has_arrived n ps accepted) (is_arrived n ps accepted (q, (m, i.1, i.2)))) i.0
+    (λ (m : Among q ps). or_right ((number_in p == n) && has_pair p accepted) (has_arrived n ps accepted) (is_arrived n ps accepted (q, (m, i.1, i.2)))) i.0
 
 all_is : (total : ℕ) (ps accepted : List Accepted) → all_arrived total ps accepted ≡ true → AllArrived total ps accepted
 all_is zero ps accepted e n above under = absurd (omega arith)

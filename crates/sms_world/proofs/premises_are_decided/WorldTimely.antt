@@ -13,7 +13,7 @@ use Rattle.sms_script.specs.declared.event.WorldEvent.TheVariants.{Restart, Stop
 use Rattle.sms_script.specs.declared.report.rows.Direction.{Direction}
 use Rattle.sms_script.specs.declared.report.rows.Direction.TheVariants.{Down as DownRow, Up as UpRow}
 use Rattle.sms_script.specs.declared.report.rows.FrameRow.{FrameRow}
-use Rattle.sms_world.proofs.headline.DecidedTimely.{IsOfRow, none_found, number_by, number_sent, numbered_there, one_number, row_from, same_frame}
+use Rattle.sms_world.proofs.headline.DecidedTimely.{IsOfRow, none_found, number_by, numbered_there, row_from, same_frame}
 use Rattle.sms_world.proofs.premises_are_decided.TimelyFrames.{held_is, is_held}
 use Rattle.sms_world.proofs.scripts_are_runs.Bags.{frame_found, row_seen}
 use Rattle.sms_world.proofs.scripts_are_runs.Latest.{latest_is, named, names, names_it}
@@ -29,6 +29,7 @@ use Rattle.sms_world.specs.frames_pass_between_sides.Between.{frame_up}
 use Rattle.std.proofs.Common.{ap, refl, subst, sym, ⊎_elim, ◌∙◌}
 use Rattle.std.proofs.lemmas.Bool.{cases_Bool, cond-false, cond-true}
 use Rattle.std.specs.Prelude.{List, None, Option, Some, [], false, true, ℕ, ◌↔◌, ◌∷◌, ◌≡◌}
+use Rattle.sms_world_model.proofs.Frames.{number_sent, one_number}
 
 -- ---- the latest giving
 

@@ -23,7 +23,7 @@ use Rattle.sms_intake.specs.SmppIntake.{from_pdu, judged_in, submission_for}
 use Rattle.sms_centre_spec.specs.declared.answer.CentreAnswer.TheVariants.{Submitted}
 use Rattle.sms_centre_spec.specs.declared.event.CentreEvent.TheVariants.{Submit}
 use Rattle.sms_centre_spec.specs.CentreEvent.{happened}
-use Rattle.sms_centre_spec.specs.Draft.{Core, Draft, Store, core_of, draft_of, handsets_in, messages_in, parts_in, rows_of, waiting_in}
+use Rattle.sms_centre_spec.specs.Draft.{Core, Draft, Store, bars_in, core_of, draft_of, handsets_in, messages_in, parts_in, rows_of, waiting_in}
 use Rattle.sms_centre_spec.specs.MessageNumbers.{next_number}
 use Rattle.sms_centre_spec.specs.Requests.{account_at, accepted, refused, submission_received, submit_by}
 use Rattle.sms_centre_spec.specs.Shares.{held_by, held_by_others, holds_too_much, is_of_account, takes_too_much, unless_too_much}
@@ -100,7 +100,7 @@ split_there id (Some r) u s = under_there id (Some r) (bodies_under r u.text) u 
 accept_there : (u : Submission) (s : Store) → IfThere (IsEntered (next_number (rows_of s)) u) (accept u s)
 accept_there u s =
     let id : ℕ = next_number (rows_of s) in
-    let split : Option ℕ = next_split u.source u.handset (messages_in s) (parts_in s) in
+    let split : Option ℕ = next_split u.source u.handset (bars_in s) (messages_in s) (parts_in s) in
     cond_both (nat_le id 9999999999) (accept_as id u s) None (λ o. IfThere (IsEntered id u) o)
     (λ t. cond_both (is_long u.text) (accept_split id split u s) (accept_under id None (bodies_under 0 u.text) u s) (λ o. IfThere (IsEntered id u) o)
     (λ e. split_there id split u s) (λ e. under_there id None (bodies_under 0 u.text) u s))
@@ -134,7 +134,7 @@ accepted_leaves account n u (Some s) d its k id e =
     let same : n ≡ id = cc in subst (λ (i : ℕ). LeavesHalf (Some account) i (rows_of s)) same (leaves account n u s its k)
 
 -- the submission is of the account
-of_account : (account : CentreAccount) (now : ℕ) (m : Message) (u : Submission) → from_pdu account now m ≡ Ok u → u.originator ≡ Application account.name
+pub of_account : (account : CentreAccount) (now : ℕ) (m : Message) (u : Submission) → from_pdu account now m ≡ Ok u → u.originator ≡ Application account.name
 unfolding from_pdu
 of_account account now m u e =
     let judged = bind_ok (judged_in account now m) _ u e in

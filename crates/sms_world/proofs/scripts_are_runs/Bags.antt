@@ -2,6 +2,7 @@
 use Rattle.std.proofs.Common.{◌≡◌, ℕ, ◌+◌, arith, suc, List, [], ◌∷◌, ◌++◌, length, true, false, refl, sym, ◌∙◌, ap, subst, inl, inr, ⊎_elim, Some}
 use Rattle.std.specs.Prelude.{◌⊎◌, ◌==◌}
 use Rattle.std.proofs.lemmas.Bool.{cases_Bool, cond-false, cond-true, eqb-true}
+use Rattle.sms_base.proofs.Lists.{among_end}
 use Rattle.sms_base.specs.Among.{Among}
 use Rattle.sms_link.specs.declared.outgoing.Outgoing.{Outgoing}
 use Rattle.sms_script.specs.declared.report.rows.Direction.TheVariants.{Up, Down}
@@ -18,7 +19,6 @@ use Rattle.sms_world.specs.centres_refine_the_world.FramesOut.{AreWholeDown, sta
 use Rattle.sms_world.specs.scripts_are_runs.PlayRefinement.{IsSentRow}
 use Rattle.sms_world.specs.headline.SeenWorld.{all_seen, sent_row}
 use Rattle.sms_world.proofs.Options.{some_is}
-use Rattle.sms_world.proofs.scripts_are_runs.Growing.{among_last}
 
 -- ---- one more frame
 
@@ -64,7 +64,7 @@ abbrev AllRows : List FrameRow → Type 0
 AllRows bag = (f : FrameRow) → Among f bag → IsSentRow f
 
 more_rows : (row : FrameRow) (bag : List FrameRow) → IsSentRow row → AllRows bag → AllRows (bag ++ row ∷ [])
-more_rows row bag is all f i = ⊎_elim (λ (j : Among f bag). all f j) (λ (e : f ≡ row). subst (λ (z : FrameRow). IsSentRow z) (sym e) is) (among_last f row bag i)
+more_rows row bag is all f i = ⊎_elim (λ (j : Among f bag). all f j) (λ (e : f ≡ row). subst (λ (z : FrameRow). IsSentRow z) (sym e) is) (among_end f row bag i)
 
 pub up_rows : (h : List ℕ) → IsNumber h → (fs : List Outgoing) (bag : List FrameRow) → AreWhole fs → AllRows bag → AllRows (all_sent_up h fs bag)
 up_rows h is [] bag whole all = all

@@ -1,19 +1,11 @@
 -- A new script's course sees the empty world.
-use Rattle.std.proofs.Common.{◌≡◌, ℕ, ◌<◌, ◌≤◌, arith, List, [], ◌∷◌, length, Bool, true, false, refl, sym, subst, ⊎_elim}
-use Rattle.std.specs.List.{AllByRecursion, list_all}
-use Rattle.std.specs.Prelude.{◌&&◌, ◌||◌, nat_le, nat_lt, not}
+use Rattle.std.proofs.Common.{◌≡◌, ℕ, arith, List, [], ◌∷◌, length, true, refl, sym, subst, ⊎_elim}
+use Rattle.std.specs.Prelude.{◌&&◌, nat_le, nat_lt, not}
 use Rattle.std.specs.Str.{bytes_eq}
-use Rattle.std.proofs.lemmas.Bool.{and_parts, leb-true, ltb-true}
-use Rattle.std.proofs.lemmas.Bool.Decides.{nat_tests}
+use Rattle.std.proofs.lemmas.Bool.{and_parts, leb-true, ltb-true, or_left, or_right}
 use Rattle.std.proofs.lemmas.Slice.Eq.{bytes_eq-Decides}
-use Rattle.sms_base.specs.Address.{IsAddress}
 use Rattle.sms_base.specs.Among.{Among}
-use Rattle.sms_base.specs.HandsetNumber.{is_decimal}
-use Rattle.sms_base.specs.SemiOctet.{is_digit}
-use Rattle.sms_base.specs.TimeStamp.{IsMoment}
 use Rattle.sms_centre_rows.specs.waiting.SoundAllocations.{IsNumber}
-use Rattle.sms_intake.specs.declared.submission.CentreAccount.{CentreAccount}
-use Rattle.sms_script.specs.declared.setup.AccountSetup.{AccountSetup}
 use Rattle.sms_script.specs.declared.setup.HandsetSetup.{HandsetSetup}
 use Rattle.sms_script.specs.declared.setup.Setup.{Setup}
 use Rattle.sms_centre_spec.specs.SoundCore.{AreDifferent}
@@ -22,12 +14,12 @@ use Rattle.sms_centre_spec.specs.declared.setup.Setup.{Setup as CentreSetup}
 use Rattle.sms_centre_rows.specs.reports.Receipts.{Session}
 use Rattle.sms_world.specs.centre_runs_are_steps.Run.{CanRestart}
 use Rattle.sms_world.proofs.centre_runs_are_steps.Runs.{first_run_is_steps}
-use Rattle.sms_handset_draft.specs.declared.setup.Setup.{Setup as OwnSetup}
 use Rattle.sms_handset_draft.specs.FirstRows.{first_rows}
-use Rattle.sms_handset.specs.SoundRows.{IsSetup, IsSound}
+use Rattle.sms_handset.specs.SoundRows.{IsSetup}
+use Rattle.sms_handset.proofs.SoundBeginnings.{first_sound}
 use Rattle.sms_play.specs.PlayState.{Party, numbers_of}
 use Rattle.sms_play.specs.PlayedEvent.{sessions_from}
-use Rattle.sms_play.specs.Setups.{accounts_of, are_accounts, are_handsets, centre_setup, handset_setup, has_account, has_handset, is_handset, is_moment, is_number, parties_of}
+use Rattle.sms_play.specs.Setups.{accounts_of, are_accounts, are_handsets, centre_setup, handset_setup, has_handset, is_handset, is_moment, is_number, parties_of}
 use Rattle.sms_world_model.specs.World.{empty}
 use Rattle.sms_world.proofs.handset_runs_are_steps.Restarts.{start_seen}
 use Rattle.sms_world.specs.scripts_are_runs.PlayRuns.{BeginningLaw}
@@ -35,71 +27,9 @@ use Rattle.sms_world.specs.scripts_are_runs.PlayRefinement.{OwnAllocations, Part
 use Rattle.sms_world.proofs.scripts_are_runs.CentreMeets.{can_come}
 use Rattle.sms_world.proofs.handset_runs_are_steps.Runs.{recovered_sound}
 use Rattle.sms_player.specs.heads.Heads.{party_of}
-
--- ---- numbers
-
-decimal_digit : (c : ℕ) → is_decimal c ≡ true → is_digit c ≡ true
-decimal_digit c h = grind (arith, nat_tests)
-
-all_digits : (text : List ℕ) → list_all is_decimal text ≡ true → AllByRecursion (λ c. is_digit c ≡ true) text
-all_digits [] e = tt
-all_digits (c ∷ cs) e = let p = and_parts (is_decimal c) (list_all is_decimal cs) e in (decimal_digit c p.0, all_digits cs p.1)
-
-pub number_is : (digits : List ℕ) → is_number digits ≡ true → IsNumber digits
-number_is digits e =
-    let a = and_parts (nat_lt 0 (length digits) && nat_le (length digits) 20) (list_all is_decimal digits) e in
-    let b = and_parts (nat_lt 0 (length digits)) (nat_le (length digits) 20) a.0 in
-    record {
-      npi = (let l : 1 < 16 = omega arith in l);
-      digits = record {
-        some = ltb-true 0 (length digits) b.0;
-        number = λ no. record { few = leb-true (length digits) 20 b.1; digits = all_digits digits a.1 };
-        name = λ yes. absurd cc;
-      };
-    }
-
--- ---- the centre's setup
-
-accounts_are : (accounts : List AccountSetup) → are_accounts accounts ≡ true → (a : CentreAccount) → Among a (accounts_of accounts) → IsAddress a.address
-accounts_are [] e a i = absurd i
-accounts_are (x ∷ xs) e a i =
-    let p = and_parts (is_number x.number && not (has_account x.name xs)) (are_accounts xs) e in
-    let n = and_parts (is_number x.number) (not (has_account x.name xs)) p.0 in
-    ⊎_elim (λ q. subst (λ (z : CentreAccount). IsAddress z.address) (sym q) (number_is x.number n.0)) (λ (j : Among a (accounts_of xs)). accounts_are xs p.1 a j) i
+use Rattle.sms_player.proofs.heads.Beginnings.{not_both, moment_is, number_is, accounts_are}
 
 -- ---- handsets
-
-first_sound : (setup : OwnSetup) → IsSetup setup → IsSound (first_rows setup)
-first_sound setup t = record {
-  setup = t;
-  entry_keys = tt;
-  last_keys = tt;
-  out_keys = tt;
-  mark_keys = tt;
-  counted = (let l : 0 < 1 = omega arith in l);
-  few_stored = (let l : 0 ≤ 255 = omega arith in l);
-  entries = tt;
-  groups = tt;
-  last = tt;
-  outbox = tt;
-  few_entries = (let l : 0 ≤ 20 = omega arith in l);
-  message_references = tt;
-  references = tt;
-  marks = tt;
-  few_marks = (let l : 0 ≤ 64 = omega arith in l);
-}
-
-not_both : (b : Bool) → b ≡ true → not b ≡ true → ⊥
-not_both true e f = absurd cc
-not_both false e f = absurd cc
-
-or_first : (a b : Bool) → a ≡ true → (a || b) ≡ true
-or_first true b e = refl
-or_first false b e = absurd cc
-
-or_second : (a b : Bool) → b ≡ true → (a || b) ≡ true
-or_second true b e = refl
-or_second false b e = e
 
 module _ (s : Setup) (centre : IsNumber s.centre) where
   party_refines : (h : HandsetSetup) → is_handset h ≡ true → PartyRefines (party_of s h) empty
@@ -126,8 +56,8 @@ module _ (s : Setup) (centre : IsNumber s.centre) where
   number_had : (n : List ℕ) (hs : List HandsetSetup) → Among n (numbers_of (parties_of s hs)) → has_handset n hs ≡ true
   number_had n [] i = absurd i
   number_had n (h ∷ hs) i = ⊎_elim
-      (λ (q : n ≡ h.number). or_first (bytes_eq h.number n) (has_handset n hs) ((bytes_eq-Decides h.number n).1 (sym q)))
-      (λ (j : Among n (numbers_of (parties_of s hs))). or_second (bytes_eq h.number n) (has_handset n hs) (number_had n hs j))
+      (λ (q : n ≡ h.number). or_left (bytes_eq h.number n) (has_handset n hs) ((bytes_eq-Decides h.number n).1 (sym q)))
+      (λ (j : Among n (numbers_of (parties_of s hs))). or_right (bytes_eq h.number n) (has_handset n hs) (number_had n hs j))
       i
 
   numbers_apart : (hs : List HandsetSetup) → are_handsets hs ≡ true → AreDifferent (numbers_of (parties_of s hs))
@@ -146,11 +76,6 @@ none_given s (h ∷ hs) p i = ⊎_elim
     i
 
 -- ---- the course
-
-moment_is : (seconds : ℕ) → is_moment seconds ≡ true → IsMoment seconds
-moment_is seconds e =
-    let p = and_parts (nat_le 946684800 seconds) (nat_le seconds 4102444799) e in
-    record { from_2000 = leb-true 946684800 seconds p.0; to_2099 = leb-true seconds 4102444799 p.1 }
 
 pub begins : BeginningLaw
 begins s e =

@@ -1,10 +1,8 @@
 -- An event of the centre, in a course: it is steps of the world, and the course after it sees where they lead.
-use Rattle.std.proofs.Common.{◌≡◌, ℕ, zero, suc, ◌+◌, ◌<◌, arith, List, [], ◌∷◌, ◌++◌, Bool, true, false, length, refl, sym, ◌∙◌, ap, subst, inl, inr, ⊎_elim, Option, Some, None}
+use Rattle.std.proofs.Common.{◌≡◌, ℕ, zero, suc, ◌+◌, List, [], ◌∷◌, ◌++◌, Bool, true, false, length, refl, sym, ◌∙◌, ap, subst, inl, inr, ⊎_elim, Option, Some, None}
 use Rattle.sms_base.specs.Among.{Among}
 use Rattle.sms_intake.specs.declared.submission.CentreAccount.{CentreAccount}
-use Rattle.sms_centre_rows.specs.reports.Receipts.{Session, session_key}
 use Rattle.sms_centre_rows.specs.declared.reports.delivery.Delivery.{Delivery}
-use Rattle.sms_rows.specs.table.Table.{AllAbove, Rises}
 use Rattle.sms_centre_rows.specs.waiting.SoundAllocations.{IsNumber}
 use Rattle.sms_centre_spec.proofs.EventLaws.{stays_sound}
 use Rattle.sms_centre_spec.specs.CentreEvent.{happened, recovered}
@@ -40,20 +38,9 @@ use Rattle.sms_world.proofs.scripts_are_runs.Bags.{down_rows, down_stacked}
 use Rattle.sms_world.proofs.scripts_are_runs.HandsetMeets.{EventIsSteps, answer_refines}
 use Rattle.sms_world.proofs.scripts_are_runs.EventMoments.{event_moment}
 use Rattle.sms_world.proofs.scripts_are_runs.OneSubmission.{event_once}
+use Rattle.sms_player.proofs.centre.NewSessions.{none_waits, sessions_rise}
 
 -- ---- with whom it comes back
-
-none_waits : (x : Session) (n : ℕ) (accounts : List CentreAccount) → Among x (sessions_from n accounts) → x.unanswered ≡ []
-none_waits x n [] i = absurd i
-none_waits x n (a ∷ others) i = ⊎_elim (λ (e : x ≡ _). ap (λ (z : Session). z.unanswered) e) (λ j. none_waits x (n + 1) others j) i
-
-sessions_above : (k n : ℕ) (accounts : List CentreAccount) → k < n → AllAbove session_key k (sessions_from n accounts)
-sessions_above k n [] l = tt
-sessions_above k n (a ∷ others) l = (l, sessions_above k (n + 1) others (omega (arith, l)))
-
-sessions_rise : (n : ℕ) (accounts : List CentreAccount) → Rises session_key (sessions_from n accounts)
-sessions_rise n [] = tt
-sessions_rise n (a ∷ others) = (sessions_above n (n + 1) others (omega arith), sessions_rise (n + 1) others)
 
 numbers_are : (ps : List Party) → ((p : Party) → Among p ps → IsNumber p.number) → (n : List ℕ) → Among n (numbers_of ps) → IsNumber n
 numbers_are [] all n i = absurd i

@@ -8,7 +8,7 @@ use Rattle.sms_base.specs.declared.holder.Holder.{Holder}
 use Rattle.sms_link.specs.declared.ending.Ending.TheVariants.{Lost}
 use Rattle.sms_link.specs.declared.ending.Upward.{Upward}
 use Rattle.sms_link.specs.declared.ending.Upward.TheVariants.{Opened, Ended}
-use Rattle.sms_link.specs.LinkTurn.{fired as fired_link, taken}
+use Rattle.sms_link.specs.LinkTurn.{taken}
 use Rattle.sms_relay.specs.declared.fault.RelayFault.{RelayFault}
 use Rattle.sms_relay.specs.declared.frame.Rp.{Rp}
 use Rattle.sms_relay.specs.declared.frame.Rp.TheVariants.{DataUnit, AckUnit, ErrorUnit, Smma}
@@ -30,8 +30,8 @@ use Rattle.sms_rows.specs.table.Table.{row_at}
 use Rattle.sms_centre_rows.specs.declared.waiting.handset.HandsetRow.{HandsetRow}
 use Rattle.sms_centre_rows.specs.declared.waiting.handset_link.HandsetLink.{HandsetLink}
 use Rattle.sms_centre_rows.specs.declared.waiting.queued_part.QueuedPart.{QueuedPart}
-use Rattle.sms_centre_rows.specs.waiting.Links.{line_at, line_of, lowered, put_line, turn_line}
-use Rattle.sms_centre_rows.specs.waiting.References.{handset_at, handset_of}
+use Rattle.sms_centre_rows.specs.waiting.Links.{line_of, lowered, put_line, turn_line}
+use Rattle.sms_centre_rows.specs.waiting.References.{handset_of}
 use Rattle.sms_centre_rows.specs.waiting.Trying.{later}
 use Rattle.sms_intake.specs.declared.refusal.SubmitRefusal.{SubmitRefusal}
 use Rattle.sms_intake.specs.declared.submission.CentreAccount.{CentreAccount}
@@ -40,8 +40,8 @@ use Rattle.sms_intake.specs.declared.submission.Submission.{Submission}
 use Rattle.sms_intake.specs.HandsetIntake.{from_read}
 use Rattle.sms_intake.specs.PartBodies.{bodies_under, is_long}
 use Rattle.sms_intake.specs.SmppIntake.{from_pdu, is_empty, source_in}
-use Rattle.sms_centre_spec.specs.CentreEvent.{at_moment, aged, drop_all, expire_all, expired, fire_at, fire_line, fire_mentioned, fire_others, fired, frame_taken, happened, is_mentioned, lost, lower, raise, raise_all, raised, report_limit, tag_of, timed_out, went_up}
-use Rattle.sms_centre_spec.specs.Draft.{Core, Draft, Store, draft_of, handsets_in, messages_in, on_links, parts_in, reports_in, rows_of, waiting_in}
+use Rattle.sms_centre_spec.specs.CentreEvent.{at_moment, aged, drop_all, expire_all, expired, fired, frame_taken, happened, lost, lower, raise, raised, report_limit, tag_of, went_up}
+use Rattle.sms_centre_spec.specs.Draft.{Core, Draft, Store, bars_in, draft_of, handsets_in, messages_in, on_links, parts_in, reports_in, rows_of, waiting_in}
 use Rattle.sms_centre_spec.specs.MessageNumbers.{next_number}
 use Rattle.sms_centre_spec.specs.Ends.{end}
 use Rattle.sms_centre_spec.specs.Numbers.{id_in}
@@ -58,6 +58,7 @@ use Rattle.sms_centre_spec.specs.declared.event.CentreEvent.{CentreEvent}
 use Rattle.sms_centre_spec.specs.declared.event.CentreEvent.TheVariants.{Submit, Query, Cancel, Bound, Unbound, DeliverAnswered, Frame, LinkUp, LinkDown, Ordered, Tick}
 use Rattle.sms_centre_spec.proofs.Stages.{IfThere, unless_kept}
 use Rattle.sms_centre_spec.proofs.AcceptedConsistent.{then_there}
+use Rattle.sms_centre_spec.proofs.Ticking.{fired_says, raised_says}
 use Rattle.sms_centre_draft.proofs.walks.MomentStays.{conclude_moment, end_moment}
 use Rattle.sms_world.specs.centre_runs_are_steps.RunEvents.{moment_at}
 
@@ -87,7 +88,7 @@ module _ (k : ℕ) where
   accept_stays : (u : Submission) (s : Store) → At s → IfThere At (accept u s)
   accept_stays u s e =
       let id : ℕ = next_number (rows_of s) in
-      let split : Option ℕ = next_split u.source u.handset (messages_in s) (parts_in s) in
+      let split : Option ℕ = next_split u.source u.handset (bars_in s) (messages_in s) (parts_in s) in
       cond_both (nat_le id 9999999999) (accept_as id u s) None (λ o. IfThere At o)
       (λ t. cond_both (is_long u.text) (accept_split id split u s) (accept_under id None (bodies_under 0 u.text) u s) (λ o. IfThere At o)
       (λ q. split_stays id split u s e) (λ q. under_stays id None (bodies_under 0 u.text) u s e))
@@ -227,47 +228,11 @@ module _ (k : ℕ) where
       let is_past : Bool = is_open_status r && nat_le (later r.made report_limit) s.moment in
       drop_stays rs (if is_past then report_closed r s else s) (cond_both is_past (report_closed r s) s (λ (x : Store). At x) (λ t. e) (λ t. e))
 
-  out_stays : (h : List ℕ) (u : Option Upward) (d : Draft) → AtDraft d → AtDraft (timed_out h u d)
-  out_stays h None d e = e
-  out_stays h (Some (Opened unit)) d e = e
-  out_stays h (Some (Ended transfer ending)) d e = conclude_moment h transfer ending d ∙ e
-
-  line_stays : (l : HandsetLink) (d : Draft) → AtDraft d → AtDraft (fire_line l d)
-  line_stays l d e = out_stays l.handset (fired_link d.store.moment l.link).out.up (on_links (turn_line l (fired_link d.store.moment l.link) d.links) d) e
-
-  fire_stays : (o : Option HandsetLink) (d : Draft) → AtDraft d → AtDraft (fire_at o d)
-  fire_stays None d e = e
-  fire_stays (Some l) d e = line_stays l d e
-
-  mentioned_stay : (hs : List HandsetRow) (d : Draft) → AtDraft d → AtDraft (fire_mentioned hs d)
-  mentioned_stay [] d e = e
-  mentioned_stay (h ∷ hs) d e =
-      let o : Option HandsetLink = line_at h.number d.links.lines in mentioned_stay hs (fire_at o d) (fire_stays o d e)
-
-  others_stay : (hs : List HandsetRow) (ls : List HandsetLink) (d : Draft) → AtDraft d → AtDraft (fire_others hs ls d)
-  others_stay hs [] d e = e
-  others_stay hs (l ∷ ls) d e =
-      let o : Option HandsetLink = line_at l.handset d.links.lines in
-      others_stay hs ls (if is_mentioned (handset_at l.handset hs) then d else fire_at o d)
-      (cond_both (is_mentioned (handset_at l.handset hs)) d (fire_at o d) (λ (x : Draft). AtDraft x) (λ t. e) (λ t. fire_stays o d e))
-
-  fired_stays : (d : Draft) → AtDraft d → AtDraft (fired d)
-  fired_stays d e =
-      let hs : List HandsetRow = handsets_in d.store in
-      let x : Draft = fire_mentioned hs d in
-      others_stay hs d.links.lines x (mentioned_stay hs d e)
-
-  raise_all_stays : (ls : List HandsetLink) (d : Draft) → AtDraft d → AtDraft (raise_all ls d)
-  raise_all_stays [] d e = e
-  raise_all_stays (l ∷ ls) d e =
-      raise_all_stays ls (if l.is_awaited then raise l.handset d else d)
-      (cond_both l.is_awaited (raise l.handset d) d (λ (x : Draft). AtDraft x) (λ t. raise_stays l.handset d e) (λ t. e))
-
   tick_stays : (d : Draft) → AtDraft d → AtDraft (raised (fired (aged d)))
   tick_stays d e =
       let a : Draft = aged d in
-      let f : Draft = fired a in
-      raise_all_stays f.links.lines f (fired_stays a (drop_stays (reports_in (expired d.store)) (expired d.store) (expire_stays (messages_in d.store) d.store e)))
+      raised_says AtDraft raise_stays (fired a)
+      (fired_says AtDraft (λ h t ending x at. conclude_moment h t ending x ∙ at) (λ links x at. at) a (drop_stays (reports_in (expired d.store)) (expired d.store) (expire_stays (messages_in d.store) d.store e)))
 
 -- ---- every event
 

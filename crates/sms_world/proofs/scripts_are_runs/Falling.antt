@@ -1,5 +1,6 @@
 -- Lists of parts that were given references, newest first, in the order of their keys.
 use Rattle.std.proofs.Common.{◌≡◌, ℕ, ◌<◌, arith, List, [], ◌∷◌, ◌++◌, refl, sym, ◌∙◌, ap, subst, inl, inr, ⊎_elim}
+use Rattle.std.proofs.lemmas.List.{append_assoc}
 use Rattle.sms_base.specs.Among.{Among}
 use Rattle.sms_base.specs.declared.holder.Holder.{Holder}
 use Rattle.sms_base.specs.declared.holder.Holder.TheVariants.{Part, Report, Entry, Memory}
@@ -49,14 +50,6 @@ same_order (x ∷ xs) (y ∷ ys) f g in_ys in_xs =
     λ k. first k ∷ rest k
 
 -- ---- one list behind another
-
-pub nothing_more : (xs : List PartGiven) → xs ++ [] ≡ xs
-nothing_more [] = refl
-nothing_more (x ∷ xs) = ap (λ (z : List PartGiven). x ∷ z) (nothing_more xs)
-
-joined : (xs ys zs : List PartGiven) → (xs ++ ys) ++ zs ≡ xs ++ (ys ++ zs)
-joined [] ys zs = refl
-joined (x ∷ xs) ys zs = ap (λ (z : List PartGiven). x ∷ z) (joined xs ys zs)
 
 either_part : (x : PartGiven) (xs ys : List PartGiven) → Among x (xs ++ ys) → (P : Type 0) → (Among x xs → P) → (Among x ys → P) → P
 either_part x [] ys i P f g = g i
@@ -133,7 +126,7 @@ reported_on newest (r ∷ rows) =
     let one : List PartGiven = with_part r.holder r.handset r.reference [] in
     reported_on (with_part r.holder r.handset r.reference newest) rows
     ∙ ap (λ (z : List PartGiven). parts_reported [] rows ++ z) (with_append r.holder r.handset r.reference [] newest)
-    ∙ sym (joined (parts_reported [] rows) one newest)
+    ∙ sym (append_assoc (parts_reported [] rows) one newest)
     ∙ ap (λ (z : List PartGiven). z ++ newest) (sym (reported_on one rows))
 
 abbrev IsRowOf : List GivenRow → PartGiven → Type 0

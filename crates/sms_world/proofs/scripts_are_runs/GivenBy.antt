@@ -128,7 +128,7 @@ seen_row : (o : Option PartRow) (s : PartSeen) → part_seen o ≡ Some s → (p
 seen_row None s e = absurd (none_seen s e)
 seen_row (Some p) s e = (p, (refl, sym (some_is (seen_of p) s e)))
 
-seen_report_row : (o : Option ReportRow) (s : ReportSeen) → report_seen o ≡ Some s → (r : ReportRow) × ((o ≡ Some r) × (r.kind ≡ s.kind))
+pub seen_report_row : (o : Option ReportRow) (s : ReportSeen) → report_seen o ≡ Some s → (r : ReportRow) × ((o ≡ Some r) × (r.kind ≡ s.kind))
 seen_report_row None s e = absurd (none_report s e)
 seen_report_row (Some r) s e =
     let q : Some (record { kind = r.kind; is_done = r.progress.is_done }) ≡ Some s = e in

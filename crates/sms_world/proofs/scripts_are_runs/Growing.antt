@@ -2,6 +2,7 @@
 -- in order.
 use Rattle.std.proofs.Common.{◌≡◌, ℕ, suc, ◌+◌, ◌*◌, ◌<◌, ◌≤◌, List, [], ◌∷◌, ◌++◌, Bool, refl, sym, ◌∙◌, ap, subst, inl, inr, ⊎_elim, arith}
 use Rattle.std.specs.Prelude.{◌⊎◌}
+use Rattle.std.proofs.lemmas.List.{append-nil, append_assoc}
 use Rattle.sms_base.specs.Among.{Among}
 use Rattle.sms_world_model.specs.Agreement.{GivenOnce}
 use Rattle.sms_world_model.specs.References.{Ticket, given_parts, part_allocation, report_allocation}
@@ -12,8 +13,7 @@ use Rattle.sms_world_model.specs.World.{Allocation, World}
 use Rattle.sms_world_model.proofs.Faithful.{was_earlier}
 use Rattle.sms_world.specs.scripts_are_runs.AllocationLaws.{NoneSubmits, OneSubmits, Submits}
 use Rattle.sms_world.specs.headline.SeenWorld.{PartGiven, parts_given}
-use Rattle.sms_world.proofs.scripts_are_runs.Falling.{Falls, falls_append, key_of, nothing_more, parts_append}
-use Rattle.sms_world.proofs.handset_runs_are_steps.Moving.{appended}
+use Rattle.sms_world.proofs.scripts_are_runs.Falling.{Falls, falls_append, key_of, parts_append}
 
 pub record Grown (m : ℕ) (old new : List Allocation) : Type 0 where
   pub more : List Allocation
@@ -27,10 +27,6 @@ pub either_part : {A : Type 0} (x : A) (xs ys : List A) → Among x (xs ++ ys) �
 either_part x [] ys i = inr i
 either_part x (z ∷ zs) ys i = ⊎_elim (λ (e : x ≡ z). inl (inl e)) (λ (j : Among x (zs ++ ys)). ⊎_elim (λ (k : Among x zs). inl (inr k)) (λ (k : Among x ys). inr k) (either_part x zs ys j)) i
 
-pub among_last : {A : Type 0} (x y : A) (ys : List A) → Among x (ys ++ y ∷ []) → Among x ys ⊎ (x ≡ y)
-among_last x y [] i = ⊎_elim (λ (e : x ≡ y). inr e) (λ none. absurd none) i
-among_last x y (z ∷ zs) i = ⊎_elim (λ (e : x ≡ z). inl (inl e)) (λ (j : Among x (zs ++ y ∷ [])). ⊎_elim (λ (k : Among x zs). inl (inr k)) (λ (e : x ≡ y). inr e) (among_last x y zs j)) i
-
 pub in_front : {A : Type 0} (x : A) (xs ys : List A) → Among x xs → Among x (xs ++ ys)
 in_front x [] ys i = absurd i
 in_front x (z ∷ zs) ys i = ⊎_elim (λ (e : x ≡ z). inl e) (λ (j : Among x zs). inr (in_front x zs ys j)) i
@@ -42,7 +38,7 @@ in_rest x (z ∷ zs) ys i = inr (in_rest x zs ys i)
 abbrev then_grown : (m : ℕ) (a b c : List Allocation) → Grown m a b → Grown m b c → Grown m a c
 then_grown m a b c x y = record {
   more = y.more ++ x.more;
-  is = y.is ∙ ap (λ (z : List Allocation). y.more ++ z) x.is ∙ sym (appended y.more x.more a);
+  is = y.is ∙ ap (λ (z : List Allocation). y.more ++ z) x.is ∙ sym (append_assoc y.more x.more a);
   now = λ g i. ⊎_elim (λ (j : Among g y.more). y.now g j) (λ (j : Among g x.more). x.now g j) (either_part g y.more x.more i);
 }
 
@@ -145,7 +141,7 @@ steps_grow w m b (s ∷ ss) o =
     let x : GrownQuiet m w.down v.down = quiet_step w m s later.0 in
     let y : GrownOnce m v.down (end v (items m b ss)).down = steps_grow v m b ss later.1 in
     let is : parts_given (y.grown.more ++ x.grown.more) ≡ parts_given y.grown.more =
-    parts_append y.grown.more x.grown.more ∙ ap (λ (z : List PartGiven). parts_given y.grown.more ++ z) x.none ∙ nothing_more (parts_given y.grown.more) in
+    parts_append y.grown.more x.grown.more ∙ ap (λ (z : List PartGiven). parts_given y.grown.more ++ z) x.none ∙ append-nil (parts_given y.grown.more) in
     record {
       grown = then_grown m w.down v.down (end v (items m b ss)).down x.grown y.grown;
       falls = subst (λ (ps : List PartGiven). Falls ps) (sym is) y.falls;

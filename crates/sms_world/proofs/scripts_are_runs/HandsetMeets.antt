@@ -61,9 +61,10 @@ use Rattle.sms_world.specs.scripts_are_runs.PlayRefinement.{PlayRefines, OwnAllo
 use Rattle.sms_world.proofs.scripts_are_runs.HandsetGives.{GivesOn, gives_on}
 use Rattle.sms_world_model.proofs.Stops.{stopped_so}
 use Rattle.sms_world.proofs.scripts_are_runs.Bags.{up_rows, up_stacked}
-use Rattle.sms_world.proofs.scripts_are_runs.Parties.{party_found, with_among, with_found, with_numbers}
+use Rattle.sms_world.proofs.scripts_are_runs.Parties.{party_found, with_among, with_found}
 use Rattle.sms_world.proofs.scripts_are_runs.PutRows.{pairs_more, rows_more}
 use Rattle.sms_world.proofs.handset_runs_are_steps.Runs.{recovered_sound}
+use Rattle.sms_player.proofs.playing.Placed.{numbers_preserved}
 
 -- the event is steps, whole or stopped, to a world that the course sees
 abbrev pub EventIsSteps : Event → ℕ → Bool → World → PlayState → Type 0
@@ -172,7 +173,7 @@ module _ (c : PlayState) (w : World) (s : PlayRefines c w) (p : Party) (there : 
       (with_among z c.parties s.apart q i)
 
   still_apart : (z : Party) → AreDifferent (numbers_of (with_party z c.parties))
-  still_apart z = subst (λ (ns : List (List ℕ)). AreDifferent ns) (sym (with_numbers z c.parties)) s.apart
+  still_apart z = subst (λ (ns : List (List ℕ)). AreDifferent ns) (sym (numbers_preserved z c.parties)) s.apart
 
   -- ---- whole
 
@@ -318,7 +319,7 @@ module _ (c : PlayState) (w : World) (s : PlayRefines c w) (p : Party) (there : 
             (λ (o : Among f c.parties × ¬ (z.number ≡ f.number)). other_party m true y.0 own f (s.parties f o.0) o.1)
             (with_among z c.parties s.apart f a.0))
             (with_among b (with_party z c.parties) (still_apart z) f i);
-        apart = subst (λ (ns : List (List ℕ)). AreDifferent ns) (sym (with_numbers b (with_party z c.parties))) (still_apart z);
+        apart = subst (λ (ns : List (List ℕ)). AreDifferent ns) (sym (numbers_preserved b (with_party z c.parties))) (still_apart z);
         bag = stopped_bag w m y.0 ∙ s.bag;
         sent = s.sent;
         reached = goes_on w m true y.0 s.reached y.1.1;

@@ -2,7 +2,7 @@
 use Rattle.std.proofs.Common.{◌≡◌, ℕ, List, [], ◌∷◌, ◌++◌, Bool, true, false, cond, refl, sym, ◌∙◌, ap, inl, inr, ⊎_elim, Option, Some, None}
 use Rattle.std.specs.Prelude.{◌==◌, ◌&&◌}
 use Rattle.std.specs.Str.{bytes_eq}
-use Rattle.std.proofs.lemmas.Bool.{and_from, and_parts, both_ways, cases_Bool, cond-false, cond-true, eq-eqb, eqb-true}
+use Rattle.std.proofs.lemmas.Bool.{and_from, and_parts, and_right, both_ways, cases_Bool, cond-false, cond-true, eq-eqb, eqb-true}
 use Rattle.std.proofs.lemmas.Slice.Eq.{bytes_eq-Decides}
 use Rattle.sms_base.specs.Among.{Among}
 use Rattle.sms_base.specs.declared.holder.Holder.{Holder}
@@ -15,6 +15,7 @@ use Rattle.sms_world.specs.headline.SeenWorld.{HoldersDiffer, IsDown, PartGiven,
 use Rattle.sms_world.proofs.scripts_are_runs.Growing.{either_part, in_front, in_rest}
 use Rattle.sms_world.proofs.scripts_are_runs.Falling.{Falls, part_from, part_to, parts_append, same_order, told_from, reported_on, told_over, told_to}
 use Rattle.sms_world.proofs.Options.{some_is}
+use Rattle.sms_world.proofs.scripts_are_runs.UpGrown.{IsOwnHolder}
 use Rattle.sms_script.specs.declared.report.rows.Direction.{Direction}
 
 abbrev pub or_else : Option Holder → Option Holder → Option Holder
@@ -244,30 +245,19 @@ agrees_more m given gs down ds tells t = record {
 
 -- ---- rows of the other side tell nothing
 
--- no part, nor status report
-abbrev pub IsOfHandset : Holder → Type 0
-IsOfHandset (Part id n) = ⊥
-IsOfHandset (Report id) = ⊥
-IsOfHandset (Entry n) = Unit {0}
-IsOfHandset (Memory n) = Unit {0}
-
 abbrev pub AllUp : List GivenRow → Type 0
 AllUp [] = Unit {0}
-AllUp (g ∷ gs) = (is_same_side g.direction Down ≡ false) × IsOfHandset g.holder × AllUp gs
-
-never : (a b : Bool) → b ≡ false → (a && b) ≡ false
-never true b e = e
-never false b e = refl
+AllUp (g ∷ gs) = (is_same_side g.direction Down ≡ false) × IsOwnHolder g.holder × AllUp gs
 
 not_of : (h : List ℕ) (r : ℕ) (g : GivenRow) → is_same_side g.direction Down ≡ false → is_of_reference h Down r g ≡ false
-not_of h r g e = never (bytes_eq g.handset h) (is_same_side g.direction Down && (g.reference == r)) (ap (λ (z : Bool). z && (g.reference == r)) e)
+not_of h r g e = and_right (bytes_eq g.handset h) (is_same_side g.direction Down && (g.reference == r)) (ap (λ (z : Bool). z && (g.reference == r)) e)
 
 still_last : (h : List ℕ) (r : ℕ) (o : Option Holder) (gs : List GivenRow) → AllUp gs → last_holder o h Down r gs ≡ o
 still_last h r o [] all = refl
 still_last h r o (g ∷ gs) all =
     ap (λ (z : Option Holder). last_holder z h Down r gs) (cond-false (is_of_reference h Down r g) (Some g.holder) o (not_of h r g all.0)) ∙ still_last h r o gs all.2
 
-not_with : (h : Holder) (a : List ℕ) (r : ℕ) (ps : List PartGiven) → IsOfHandset h → with_part h a r ps ≡ ps
+not_with : (h : Holder) (a : List ℕ) (r : ℕ) (ps : List PartGiven) → IsOwnHolder h → with_part h a r ps ≡ ps
 not_with (Part id n) a r ps is = absurd is
 not_with (Report id) a r ps is = absurd is
 not_with (Entry n) a r ps is = refl

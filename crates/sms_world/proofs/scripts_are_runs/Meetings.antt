@@ -1,5 +1,5 @@
 -- Whom an act of a script meets, and that the world allows it.
-use Rattle.std.proofs.Common.{◌≡◌, ℕ, List, [], refl, sym, subst, inl, inr, Option, Some, None, Result, Ok}
+use Rattle.std.proofs.Common.{◌≡◌, ℕ, List, [], refl, sym, subst, inl, inr, Option, Some, None, Ok}
 use Rattle.std.specs.Str.{chars}
 use Rattle.sms_base.specs.Among.{Among}
 use Rattle.sms_base.specs.declared.carried.Carried.{Carried}
@@ -18,7 +18,6 @@ use Rattle.sms_handset.specs.HandsetEvent.{tag_of as handset_tag}
 use Rattle.sms_handset.specs.Planning.{OfFrame}
 use Rattle.sms_handset.specs.declared.event.HandsetEvent.{HandsetEvent}
 use Rattle.sms_handset.specs.declared.event.HandsetEvent.TheVariants.{Frame as HandsetFrame, Tick as HandsetTick, Write as HandsetWrite, Delete as HandsetDelete, Discard as HandsetDiscard}
-use Rattle.sms_script.specs.declared.play_fault.PlayFault.{PlayFault}
 use Rattle.sms_play.specs.PlayState.{PlayState, Party, frame_at, party_at}
 use Rattle.sms_play.specs.Meeting.{AtCentre, AtHandset, Meeting, account_from, by_account, by_handset, delivered, handed_over, meeting_of, tag_in}
 use Rattle.sms_script.specs.Requests.{cancel_of, query_of, submit_of}
@@ -41,6 +40,7 @@ use Rattle.sms_world.specs.scripts_are_runs.Happening.{ActHandsOctets, IsGoodAct
 use Rattle.sms_world.specs.headline.OneRun.{act_moment, event_of}
 use Rattle.sms_world.proofs.scripts_are_runs.Bags.{frame_found, row_seen}
 use Rattle.sms_world.proofs.scripts_are_runs.Parties.{party_found}
+use Rattle.sms_play.proofs.growth.Growing.{some_meeting}
 
 -- the frame that is handed over, by its number; other acts hand over none
 abbrev pub number_of : Act → ℕ
@@ -72,19 +72,13 @@ Meets act c w (AtHandset p e) = MeetsHandset act c w p e
 
 -- ---- accounts and handsets that are there
 
-abbrev pub ok_meeting : Meeting → Result Meeting PlayFault
-ok_meeting m = Ok m
-
-pub same_meeting : (x m : Meeting) → ok_meeting x ≡ ok_meeting m → x ≡ m
-same_meeting x m e = cc
-
 by_account_is : (n : ℕ) (request : ℕ → CentreEvent) (o : Option ℕ) (m : Meeting) → by_account n request o ≡ Ok m → (place : ℕ) × (m ≡ AtCentre (request place))
 by_account_is n request None m e = absurd cc
-by_account_is n request (Some place) m e = (place, sym (same_meeting (AtCentre (request place)) m e))
+by_account_is n request (Some place) m e = (place, sym (some_meeting (AtCentre (request place)) m e))
 
 by_handset_is : (n : ℕ) (x : HandsetEvent) (o : Option Party) (m : Meeting) → by_handset x n o ≡ Ok m → (p : Party) × ((o ≡ Some p) × (m ≡ AtHandset p x))
 by_handset_is n x None m e = absurd cc
-by_handset_is n x (Some p) m e = (p, (refl, sym (same_meeting (AtHandset p x) m e)))
+by_handset_is n x (Some p) m e = (p, (refl, sym (some_meeting (AtHandset p x) m e)))
 
 module _ (c : PlayState) (w : World) (s : PlayRefines c w) (n : ℕ) where
   meets_account : (act : Act) (request : ℕ → CentreEvent) (o : Option ℕ) (m : Meeting) → ((place : ℕ) → MeetsCentre act c w (request place)) → by_account n request o ≡ Ok m → Meets act c w m
@@ -115,7 +109,7 @@ module _ (c : PlayState) (w : World) (s : PlayRefines c w) (n : ℕ) where
         let whole : IsWhole f.octets f.carried = subst (λ (z : Direction). IsWholeBy z f.octets f.carried) e k.whole in
         let there : Among (sent_row f) w.bag = subst (λ (bag : List Sent). Among (sent_row f) bag) (sym s.bag) (row_seen [] c.bag f among) in
         let sent : Among (sent_as f.handset f.number f.octets f.carried) w.bag = subst (λ (z : Direction). Among (sent_by z f.number f.handset f.octets f.carried) w.bag) e there in
-        let x : AtCentre (CentreFrame f.handset f.octets (tag_in f.carried)) ≡ m = same_meeting (AtCentre (CentreFrame f.handset f.octets (tag_in f.carried))) m q in
+        let x : AtCentre (CentreFrame f.handset f.octets (tag_in f.carried)) ≡ m = some_meeting (AtCentre (CentreFrame f.handset f.octets (tag_in f.carried))) m q in
         subst (λ (z : Meeting). Meets (Deliver number) c w z) x (record {
           is = (k.handset e, octets);
           may = handed_to_centre f.carried whole sent;
@@ -140,7 +134,7 @@ module _ (c : PlayState) (w : World) (s : PlayRefines c w) (n : ℕ) where
 
   meets_tick : (side : EventSide) (now : ℕ) → IsGoodTick side now → (m : Meeting) → meeting_of n (Tick side now) c ≡ Ok m → Meets (Tick side now) c w m
   meets_tick Centre now good m q =
-      let x : AtCentre (CentreTick now) ≡ m = same_meeting (AtCentre (CentreTick now)) m q in
+      let x : AtCentre (CentreTick now) ≡ m = some_meeting (AtCentre (CentreTick now)) m q in
       subst (λ (z : Meeting). Meets (Tick Centre now) c w z) x (record { is = good; may = tt; scripted = tt; plays = λ steps a. a; moment = refl })
   meets_tick (Handset h) now good m q = meets_handset (Tick (Handset h) now) h (HandsetTick now) m (λ p same. tt) refl q
 

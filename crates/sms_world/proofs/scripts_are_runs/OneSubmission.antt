@@ -5,7 +5,8 @@ use Rattle.sms_centre_spec.specs.declared.event.CentreEvent.{CentreEvent}
 use Rattle.sms_centre_spec.specs.declared.event.CentreEvent.TheVariants.{Bound, Cancel, DeliverAnswered, Frame as FrameCame, LinkDown, LinkUp, Ordered, Query, Submit as SubmitCame, Tick, Unbound}
 use Rattle.sms_centre_spec.specs.declared.order.Order.TheVariants.{Retry, Delete as OrderDelete}
 use Rattle.sms_world_model.specs.References.{Ticket}
-use Rattle.sms_world_model.specs.ScriptRun.{AllControl, AllMayFollow, AllWrite, Asked, Cancelled, Event, Follows, Handed, IsControl, IsExpiry, IsInOrder, IsOwn, IsPlayed, MayFollow, Reads, Removed, Restarted, Submitted, Tick_centre, Tick_handset, Wrote}
+use Rattle.sms_world_model.specs.ScriptRun.{AllControl, AllMayFollow, AllWrite, Asked, Cancelled, Event, Follows, Handed, IsControl, IsExpiry, IsInOrder, IsOwn, IsPlayed, Reads, Removed, Restarted, Submitted, Tick_centre, Tick_handset, Wrote}
+use Rattle.sms_world_model.proofs.Followers.{said_of_followers}
 use Rattle.sms_world_model.specs.Submission.{Submission}
 use Rattle.sms_world_model.specs.World.{Carried, Frame, OutEntry, World}
 use Rattle.sms_world_model.specs.WorldStep.{Delete, Receive, Remove, Step, Submit}
@@ -55,20 +56,9 @@ expiry_none (Submit x ts) f = absurd f
 expiry_none (Receive u x ts) f = absurd f
 expiry_none _ f = λ t. t
 
-may_follow_none : (event : Event) (s : Step) → MayFollow event s → ¬ Submits s
-may_follow_none Tick_centre s f = ⊎_elim (λ (x : Follows s). follow_none s x) (λ (x : IsExpiry s). expiry_none s x) f
-may_follow_none Submitted s f = follow_none s f
-may_follow_none Cancelled s f = follow_none s f
-may_follow_none Asked s f = follow_none s f
-may_follow_none (Handed n) s f = follow_none s f
-may_follow_none Tick_handset s f = follow_none s f
-may_follow_none Wrote s f = follow_none s f
-may_follow_none Removed s f = follow_none s f
-may_follow_none Restarted s f = follow_none s f
-
 follows_none : (event : Event) (ss : List Step) → AllMayFollow event ss → NoneSubmits ss
 follows_none event [] f = tt
-follows_none event (s ∷ ss) f = (may_follow_none event s f.0, follows_none event ss f.1)
+follows_none event (s ∷ ss) f = (said_of_followers (λ (z : Step). ¬ Submits z) follow_none expiry_none event s f.0, follows_none event ss f.1)
 
 writes_none : (ss : List Step) → AllWrite ss → NoneSubmits ss
 writes_none [] a = tt

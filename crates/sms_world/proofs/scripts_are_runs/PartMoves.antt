@@ -2,6 +2,7 @@
 use Rattle.std.proofs.Common.{◌≡◌, ℕ, List, [], ◌∷◌, refl, sym, ◌∙◌, ap, subst, inl, inr, ⊎_elim, Option, Some, None}
 use Rattle.std.specs.Option.{option_map}
 use Rattle.std.proofs.lemmas.Bool.{cases_eq}
+use Rattle.std.proofs.lemmas.Option.{none-some}
 use Rattle.sms_base.specs.Among.{Among}
 use Rattle.sms_rows.specs.declared.table.change.Change.{Change}
 use Rattle.sms_rows.specs.table.Table.{row_at}
@@ -15,7 +16,7 @@ use Rattle.sms_centre_rows.specs.declared.waiting.revision.Revision.TheVariants.
 use Rattle.sms_centre_rows.specs.waiting.Revisions.{all_revised, amended, revised}
 use Rattle.sms_centre_rows.proofs.waiting.Amending.{row_at_amended, row_at_amended_other}
 use Rattle.sms_centre_messages.specs.references.Moves.{ArePartMoves, IsPartMove}
-use Rattle.sms_world.proofs.Options.{some_is, none_some}
+use Rattle.sms_world.proofs.Options.{some_is}
 
 -- what stays of it
 pub record IsSame (p q : PartRow) : Type 0 where
@@ -38,7 +39,7 @@ Stays k p rows = (q : PartRow) × ((row_at part_key k rows ≡ Some q) × IsSame
 module _ (cs : List (Change MessageRow)) (ms : List MessageRow) where
   one_stays : (k : ℕ) (p : PartRow) (x : Revision PartRow) (ps : List PartRow) → IsPartMove cs x ms ps → row_at part_key k ps ≡ Some p → Stays k p (revised part_key part_reaching x ps)
   one_stays k p (Put x) ps move at = ⊎_elim
-      (λ (e : part_key x ≡ k). absurd (none_some p (sym move.1.1.0 ∙ ap (λ (n : ℕ). row_at part_key n ps) e ∙ at)))
+      (λ (e : part_key x ≡ k). absurd (none-some p (sym move.1.1.0 ∙ ap (λ (n : ℕ). row_at part_key n ps) e ∙ at)))
       (λ (ne : part_key x ≡ k → ⊥). (p, (row_at_put_other part_key k x ps ne ∙ at, same_part p)))
       (cases_eq (part_key x) k)
   one_stays k p (Amend n progress) ps move at = ⊎_elim
@@ -68,7 +69,7 @@ module _ (cs : List (Change MessageRow)) (ms : List MessageRow) where
 
   none_before : (k : ℕ) (x : Revision PartRow) (ps : List PartRow) → IsPartMove cs x ms ps → row_at part_key k (revised part_key part_reaching x ps) ≡ None → (o : Option PartRow) → row_at part_key k ps ≡ o → o ≡ None
   none_before k x ps move none None e = refl
-  none_before k x ps move none (Some p) e = let y = one_stays k p x ps move e in absurd (none_some y.0 (sym none ∙ y.1.0))
+  none_before k x ps move none (Some p) e = let y = one_stays k p x ps move e in absurd (none-some y.0 (sym none ∙ y.1.0))
 
   pub put_is_new : (p : PartRow) (xs : List (Revision PartRow)) (ps : List PartRow) → ArePartMoves cs xs ms ps → Among (Put p) xs → IsNewPart p ps (all_revised part_key part_reaching xs ps)
   put_is_new p [] ps moves i = absurd i
@@ -100,7 +101,7 @@ module _ (cs : List (Change MessageRow)) (ms : List MessageRow) where
 
   pub new_was_put : (k : ℕ) (q : PartRow) (xs : List (Revision PartRow)) (ps : List PartRow) → ArePartMoves cs xs ms ps → row_at part_key k ps ≡ None
       → row_at part_key k (all_revised part_key part_reaching xs ps) ≡ Some q → WasPut k q xs
-  new_was_put k q [] ps moves none at = absurd (none_some q (sym none ∙ at))
+  new_was_put k q [] ps moves none at = absurd (none-some q (sym none ∙ at))
   new_was_put k q (Put x ∷ xs) ps moves none at = ⊎_elim
       (λ (e : part_key x ≡ k).
       let z = all_stay k x xs (revised part_key part_reaching (Put x) ps) moves.1 (ap (λ (n : ℕ). row_at part_key n (revised part_key part_reaching (Put x) ps)) (sym e) ∙ row_at_put part_key x ps) in

@@ -21,13 +21,6 @@ party_found n (x ∷ xs) p e = ⊎_elim
 
 -- ---- one of them is another now
 
-pub with_numbers : (p : Party) (ps : List Party) → numbers_of (with_party p ps) ≡ numbers_of ps
-with_numbers p [] = refl
-with_numbers p (q ∷ ps) =
-    cond_both (bytes_eq q.number p.number) (p ∷ ps) (q ∷ with_party p ps) (λ (z : List Party). numbers_of z ≡ q.number ∷ numbers_of ps)
-    (λ t. ap (λ (n : List ℕ). n ∷ numbers_of ps) (sym ((bytes_eq-Decides q.number p.number).0 t)))
-    (λ t. ap (λ (ns : List (List ℕ)). q.number ∷ ns) (with_numbers p ps))
-
 pub number_there : (p : Party) (ps : List Party) → Among p ps → Among p.number (numbers_of ps)
 number_there p [] i = absurd i
 number_there p (q ∷ ps) i = ⊎_elim (λ (e : p ≡ q). inl (ap (λ (z : Party). z.number) e)) (λ (j : Among p ps). inr (number_there p ps j)) i

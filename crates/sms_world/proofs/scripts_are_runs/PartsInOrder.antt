@@ -6,8 +6,6 @@ use Rattle.std.proofs.lemmas.Bool.{cases_eq, cond_both}
 use Rattle.sms_base.specs.Among.{Among}
 use Rattle.sms_base.specs.declared.final_state.FinalState.{FinalState}
 use Rattle.sms_base.specs.declared.final_state.FinalState.TheVariants.{Delivered}
-use Rattle.sms_base.specs.declared.originator.Originator.{Originator}
-use Rattle.sms_base.specs.declared.originator.Originator.TheVariants.{Application, Handset}
 use Rattle.sms_rows.specs.table.Keys.{pair_key}
 use Rattle.sms_rows.specs.table.Table.{put, row_at}
 use Rattle.sms_rows.proofs.table.Tables.{among_put, found_among, found_key, row_at_put, row_at_put_other}
@@ -29,14 +27,14 @@ use Rattle.sms_intake.specs.PartBodies.{bodies_under, deliver_octets, is_long}
 use Rattle.sms_centre_spec.specs.declared.event.CentreEvent.{CentreEvent}
 use Rattle.sms_centre_spec.specs.declared.rows.Rows.{Rows}
 use Rattle.sms_centre_spec.specs.CentreEvent.{happened}
-use Rattle.sms_centre_spec.specs.Draft.{Core, Store, handsets_in, messages_in, parts_in, rows_of, with_message, with_part_at}
+use Rattle.sms_centre_spec.specs.Draft.{Core, Store, bars_in, handsets_in, messages_in, parts_in, rows_of, with_message, with_part_at}
 use Rattle.sms_centre_spec.specs.MessageNumbers.{next_number}
-use Rattle.sms_centre_spec.specs.Ends.{end, is_wished, report_to, status_given}
+use Rattle.sms_centre_spec.specs.Ends.{end, is_wished, report_to}
 use Rattle.sms_centre_spec.specs.SoundCore.{IsEvent, IsSoundCore}
 use Rattle.sms_centre_spec.specs.Submitting.{accept, accept_as, accept_split, accept_under, enter, give_part, give_parts, part_given, reference_for}
 use Rattle.sms_centre_spec.specs.Transfers.{complete}
 use Rattle.sms_centre_spec.proofs.Keeping.{keeps_same}
-use Rattle.sms_centre_spec.proofs.KeepingSteady.{SoundSince, since_steady}
+use Rattle.sms_centre_spec.proofs.KeepingSteady.{SoundSince, both_there, since_steady}
 use Rattle.sms_centre_spec.proofs.NextNumbers.{below_next_number}
 use Rattle.sms_centre_spec.proofs.PduFits.{event_gives}
 use Rattle.sms_centre_spec.proofs.SoundStores.{store_sound}
@@ -44,6 +42,7 @@ use Rattle.sms_centre_spec.proofs.Stages.{IfThere}
 use Rattle.sms_centre_spec.proofs.AcceptedConsistent.{then_there}
 use Rattle.sms_centre_spec.proofs.Steady.{IsSteady}
 use Rattle.sms_centre_spec.proofs.SteadyEvents.{steady_event}
+use Rattle.sms_centre_messages.proofs.reference_moves.MovesSteady.{report_touches}
 
 -- each of the parts that were put has a key below that one
 abbrev pub AllBelow : ℕ → List (Revision PartRow) → Type 0
@@ -124,15 +123,6 @@ far_ordered p q s k = record { have = have_amended (part_key p) q (parts_in s) s
 
 -- ---- a message ends
 
-pub status_touches : (f : FinalState) (m : MessageRow) (h : HandsetRow) (o : Option ℕ) (s : Store) → (status_given f m h o s).messages ≡ s.messages
-status_touches f m h None s = refl
-status_touches f m h (Some r) s = refl
-
-pub report_touches : (o : Originator) (f : FinalState) (m : MessageRow) (s : Store) → (report_to o f m s).messages ≡ s.messages
-report_touches (Application account) f m s = refl
-report_touches (Handset n) f m s =
-    let h : HandsetRow = handset_of m.source.digits (handsets_in s) in status_touches f m h (reference_for h s) s
-
 pub end_touches : (f : FinalState) (m : MessageRow) (s : Store) → (end f m s).messages ≡ put_message (ended f s.moment m) s.messages
 end_touches f m s =
     let e : Store = with_message (ended f s.moment m) s in
@@ -201,7 +191,7 @@ accept_ordered base u s since k =
     let low = below_next_number (rows_of s) i.message.0 rows.message_keys (found_among message_key p.id i.message.0 (messages_in s) i.message.1.0) in
     let own = found_key message_key p.id i.message.0 (messages_in s) i.message.1.0 in
     omega (arith, small, low, own) in
-    let split : Option ℕ = next_split u.source u.handset (messages_in s) (parts_in s) in
+    let split : Option ℕ = next_split u.source u.handset (bars_in s) (messages_in s) (parts_in s) in
     cond_both (nat_le id 9999999999) (accept_as id u s) None (λ o. IfThere Orders o)
     (λ t. cond_both (is_long u.text) (accept_split id split u s) (accept_under id None (bodies_under 0 u.text) u s) (λ o. IfThere Orders o)
     (λ e. split_ordered id u split s (k, before)) (λ e. under_ordered id u None (bodies_under 0 u.text) s (k, before)))
@@ -211,10 +201,6 @@ accept_ordered base u s since k =
 
 abbrev OrdersSince : Rows → Store → Type 0
 OrdersSince base s = SoundSince base s × Orders s
-
-pub both_there : (A B : Store → Type 0) (o : Option Store) → IfThere A o → IfThere B o → IfThere (λ (s : Store). A s × B s) o
-both_there A B None a b = tt
-both_there A B (Some s) a b = (a, b)
 
 orders_steady : (base : Rows) → IsSteady (OrdersSince base)
 orders_steady base =

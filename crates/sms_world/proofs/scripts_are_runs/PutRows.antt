@@ -1,5 +1,6 @@
 -- What a handset's changes put, as a course collects it.
 use Rattle.std.proofs.Common.{◌≡◌, ℕ, List, [], ◌∷◌, ◌++◌, refl, sym, ◌∙◌}
+use Rattle.std.proofs.lemmas.List.{append-nil, append_assoc}
 use Rattle.sms_handset_rows.specs.declared.inbox.entry.Entry.{Entry}
 use Rattle.sms_handset_rows.specs.declared.inbox.entry.Message.{Message}
 use Rattle.sms_handset_rows.specs.declared.inbox.entry.Message.TheVariants.{Single, Part, Joined}
@@ -14,7 +15,6 @@ use Rattle.sms_play.specs.Premises.{pairs_of}
 use Rattle.sms_world_model.specs.World.{Accepted}
 use Rattle.sms_world.specs.headline.SeenWorld.{JoinedText, row_joined, rows_joined}
 use Rattle.sms_world.specs.handset_runs_are_steps.PutInOrder.{joined_by, pair_of_last, taken_by, text_put}
-use Rattle.sms_world.proofs.handset_runs_are_steps.Moving.{appended, nothing_more}
 
 -- ---- accepted
 
@@ -33,9 +33,9 @@ one_joined : (h : List ℕ) (m : Message) (js : List JoinedText) (rest : List Jo
 one_joined h (Single tpdu) js rest = refl
 one_joined h (Part g n tpdu) js rest = refl
 one_joined h (Joined source content) js rest =
-    appended (rows_joined h js) (row_joined h (record { source = source; content = content }) ∷ []) rest
+    append_assoc (rows_joined h js) (row_joined h (record { source = source; content = content }) ∷ []) rest
 
 pub rows_more : (h : List ℕ) (cs : List (Change Entry)) (js : List JoinedText) → rows_joined h (joined_by cs js) ≡ rows_joined h js ++ joined_in h cs
-rows_more h [] js = sym (nothing_more (rows_joined h js))
+rows_more h [] js = sym (append-nil (rows_joined h js))
 rows_more h (Put e ∷ cs) js = rows_more h cs (text_put e.message js) ∙ one_joined h e.message js (joined_in h cs)
 rows_more h (Remove n ∷ cs) js = rows_more h cs js

@@ -2,6 +2,8 @@
 use Rattle.std.proofs.Common.{◌≡◌, ℕ, ◌+◌, List, [], ◌∷◌, ◌++◌, true, false, refl, sym, ◌∙◌, ap, subst, inl, inr, ⊎_elim, Option, Some, None}
 use Rattle.std.specs.Prelude.{◌==◌, nat_le}
 use Rattle.std.proofs.lemmas.Bool.{cases_eq, cond_both}
+use Rattle.std.proofs.lemmas.Option.{none-some}
+use Rattle.sms_base.proofs.Lists.{among_end}
 use Rattle.sms_base.specs.Among.{Among}
 use Rattle.sms_base.specs.declared.final_state.FinalState.{FinalState}
 use Rattle.sms_base.specs.declared.final_state.FinalState.TheVariants.{Delivered}
@@ -31,7 +33,7 @@ use Rattle.sms_intake.specs.PartBodies.{bodies_under, is_long}
 use Rattle.sms_centre_spec.specs.CentreEvent.{happened}
 use Rattle.sms_centre_spec.specs.declared.event.CentreEvent.{CentreEvent}
 use Rattle.sms_centre_spec.specs.declared.rows.Rows.{Rows}
-use Rattle.sms_centre_spec.specs.Draft.{Core, Store, handsets_in, messages_in, parts_in, reports_in, rows_of, with_message, with_part_at}
+use Rattle.sms_centre_spec.specs.Draft.{Core, Store, bars_in, handsets_in, messages_in, parts_in, reports_in, rows_of, with_message, with_part_at}
 use Rattle.sms_centre_spec.specs.MessageNumbers.{next_number}
 use Rattle.sms_centre_spec.specs.Ends.{end, is_wished, report_to, status_given}
 use Rattle.sms_centre_spec.specs.SoundCore.{IsEvent, IsSoundCore}
@@ -39,7 +41,7 @@ use Rattle.sms_centre_spec.specs.Consistent.{IsConsistent}
 use Rattle.sms_centre_spec.specs.Submitting.{accept, accept_as, accept_split, accept_under, enter, give_part, give_parts, part_given, reference_for}
 use Rattle.sms_centre_spec.specs.Transfers.{complete}
 use Rattle.sms_centre_spec.proofs.Keeping.{keeps_same}
-use Rattle.sms_centre_spec.proofs.KeepingSteady.{SoundSince, since_steady}
+use Rattle.sms_centre_spec.proofs.KeepingSteady.{SoundSince, both_there, since_steady}
 use Rattle.sms_centre_spec.proofs.PduFits.{event_gives}
 use Rattle.sms_centre_spec.proofs.SoundStores.{store_sound}
 use Rattle.sms_centre_spec.proofs.Stages.{IfThere}
@@ -47,9 +49,7 @@ use Rattle.sms_centre_spec.proofs.AcceptedConsistent.{then_there}
 use Rattle.sms_centre_spec.proofs.StagesConsistent.{next_is_new}
 use Rattle.sms_centre_spec.proofs.Steady.{IsSteady, message_own}
 use Rattle.sms_centre_spec.proofs.SteadyEvents.{steady_event}
-use Rattle.sms_world.proofs.scripts_are_runs.Growing.{among_last}
-use Rattle.sms_world.proofs.Options.{some_is, none_some}
-use Rattle.sms_world.proofs.scripts_are_runs.PartsInOrder.{both_there}
+use Rattle.sms_world.proofs.Options.{some_is}
 
 -- each report that came was of a message that had none, over the rows that those behind it led to
 abbrev pub ReportsMove : List (Revision ReportRow) → List ReportRow → Type 0
@@ -94,7 +94,7 @@ module _ (s : Store) where
   accept_same : (u : Submission) → IfThere Same (accept u s)
   accept_same u =
       let id : ℕ = next_number (rows_of s) in
-      let split : Option ℕ = next_split u.source u.handset (messages_in s) (parts_in s) in
+      let split : Option ℕ = next_split u.source u.handset (bars_in s) (messages_in s) (parts_in s) in
       cond_both (nat_le id 9999999999) (accept_as id u s) None (λ o. IfThere Same o)
       (λ t. cond_both (is_long u.text) (accept_split id split u s) (accept_under id None (bodies_under 0 u.text) u s) (λ o. IfThere Same o)
       (λ e. split_same id split u) (λ e. under_same id None (bodies_under 0 u.text) u))
@@ -235,14 +235,14 @@ WasMade id kind news = (r : ReportRow) × (Among (Put r) news × (r.id ≡ id) �
 
 before_amend : (id n : ℕ) (p : Progress) (q : ReportRow) (news : List (Revision ReportRow)) (rs : List ReportRow) → report_of id (amended report_key report_reaching n p (rows news rs)) ≡ Some q
     → ((s : ReportRow) → report_of id (rows news rs) ≡ Some s → WasMade id s.kind news) → (o : Option ReportRow) → report_of id (rows news rs) ≡ o → WasMade id q.kind (Amend n p ∷ news)
-before_amend id n p q news rs at made None e = absurd (none_some q (sym (far_none id n p (rows news rs) e) ∙ at))
+before_amend id n p q news rs at made None e = absurd (none-some q (sym (far_none id n p (rows news rs) e) ∙ at))
 before_amend id n p q news rs at made (Some s) e =
     let y = made s e in
     let same : so_far n p s ≡ q = some_is (so_far n p s) q (sym (far_of id n p (rows news rs) s e) ∙ at) in
     (y.0, (inr y.1.0, y.1.1, y.1.2 ∙ sym (far_kind n p s) ∙ ap (λ (z : ReportRow). z.kind) same))
 
 pub new_report_put : (id : ℕ) (q : ReportRow) (news : List (Revision ReportRow)) (rs : List ReportRow) → ReportsMove news rs → report_of id rs ≡ None → report_of id (rows news rs) ≡ Some q → WasMade id q.kind news
-new_report_put id q [] rs moves none at = absurd (none_some q (sym none ∙ at))
+new_report_put id q [] rs moves none at = absurd (none-some q (sym none ∙ at))
 new_report_put id q (Put x ∷ news) rs moves none at = ⊎_elim
     (λ (e : x.id ≡ id).
     let same : x ≡ q = some_is x q (sym (new_report x (rows news rs) moves.0) ∙ ap (λ (k : ℕ). report_of k (put report_key x (rows news rs))) e ∙ at) in
@@ -273,4 +273,4 @@ committed x (y ∷ news) i = ⊎_elim
 
 pub came : (x : Revision ReportRow) (news : List (Revision ReportRow)) → Among x (oldest_first news) → Among x news
 came x [] i = absurd i
-came x (y ∷ news) i = ⊎_elim (λ (j : Among x (oldest_first news)). inr (came x news j)) (λ (e : x ≡ y). inl e) (among_last x y (oldest_first news) i)
+came x (y ∷ news) i = ⊎_elim (λ (j : Among x (oldest_first news)). inr (came x news j)) (λ (e : x ≡ y). inl e) (among_end x y (oldest_first news) i)

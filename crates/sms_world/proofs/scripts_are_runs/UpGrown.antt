@@ -13,12 +13,8 @@ use Rattle.sms_world_model.specs.World.{Carried, EntryState, Frame, Allocation, 
 use Rattle.std.proofs.Common.{ap, inl, inr, refl, subst, sym, ⊎_elim, ◌∙◌}
 use Rattle.std.proofs.lemmas.Bool.{cond_both}
 use Rattle.std.specs.Prelude.{Bool, List, [], ℕ, ◌++◌, ◌∷◌, ◌≡◌, ◌⊎◌}
-
--- ---- lists
-
-over : (xs ys zs : List Allocation) → (xs ++ ys) ++ zs ≡ xs ++ (ys ++ zs)
-over [] ys zs = refl
-over (x ∷ xs) ys zs = ap (λ (z : List Allocation). x ∷ z) (over xs ys zs)
+use Rattle.std.proofs.lemmas.List.{append_assoc}
+use Rattle.sms_world_model.proofs.Upward.{entry_number}
 
 -- ---- one more giving
 
@@ -62,7 +58,7 @@ one_up h g up mine own new = record {
 then_up : (h : List ℕ) (a b c : List Allocation) → UpGrown h a b → UpGrown h b c → UpGrown h a c
 then_up h a b c x y = record {
   more = y.more ++ x.more;
-  is = y.is ∙ ap (λ (z : List Allocation). y.more ++ z) x.is ∙ sym (over y.more x.more a);
+  is = y.is ∙ ap (λ (z : List Allocation). y.more ++ z) x.is ∙ sym (append_assoc y.more x.more a);
   mine = λ z i. ⊎_elim (λ (j : Among z y.more). y.mine z j) (λ (j : Among z x.more). x.mine z j) (either_part z y.more x.more i);
   own = λ z i. ⊎_elim (λ (j : Among z y.more). y.own z j) (λ (j : Among z x.more). x.own z j) (either_part z y.more x.more i);
   fresh = λ z u i j s e. ⊎_elim
@@ -139,10 +135,7 @@ All P (s ∷ ss) = P s × All P ss
 abbrev pub HasEntry : List OutEntry → List ℕ → ℕ → Type 0
 HasEntry outbox h n = (e : OutEntry) × (Among e outbox × (e.handset ≡ h) × (e.number ≡ n))
 
-pub entry_number : (a b : ℕ) → Entry a ≡ Entry b → a ≡ b
-entry_number a b e = cc
-
-no_memory : (a b : ℕ) → Memory a ≡ Entry b → ⊥
+pub no_memory : (a b : ℕ) → Memory a ≡ Entry b → ⊥
 no_memory a b e = absurd cc
 
 -- without writing none is given a reference

@@ -16,7 +16,7 @@ use Rattle.sms_centre_rows.specs.messages.Messages.{message_key, part_at, part_k
 use Rattle.sms_centre_rows.specs.messages.SplitReferences.{next_split}
 use Rattle.sms_centre_rows.specs.declared.waiting.handset.HandsetRow.{HandsetRow}
 use Rattle.sms_centre_rows.specs.waiting.References.{handset_of}
-use Rattle.sms_centre_spec.specs.Draft.{Store, handsets_in, messages_in, parts_in, rows_of}
+use Rattle.sms_centre_spec.specs.Draft.{Store, bars_in, handsets_in, messages_in, parts_in, rows_of}
 use Rattle.sms_centre_spec.specs.MessageNumbers.{next_number}
 use Rattle.sms_centre_spec.specs.Consistent.{IsSubmission}
 use Rattle.sms_centre_spec.specs.Submitting.{accept, accept_as, accept_split, accept_under, enter, give_part, give_parts, message_of, part_given, reference_for}
@@ -157,7 +157,7 @@ module _ (u : Submission) (s : Store) (sound : SoundStore s) (fit : IsSubmission
   pub accept_leads : IfThere (Accepts u s) (accept u s)
   accept_leads =
       cond_both (nat_le id 9999999999) (accept_as id u s) None (λ o. IfThere (Accepts u s) o)
-      (λ t. cond_both (is_long u.text) (accept_split id (next_split u.source u.handset (messages_in s) (parts_in s)) u s) (accept_under id None (bodies_under 0 u.text) u s) (λ o. IfThere (Accepts u s) o)
-      (λ long. split_accepted (next_split u.source u.handset (messages_in s) (parts_in s)) long)
+      (λ t. cond_both (is_long u.text) (accept_split id (next_split u.source u.handset (bars_in s) (messages_in s) (parts_in s)) u s) (accept_under id None (bodies_under 0 u.text) u s) (λ o. IfThere (Accepts u s) o)
+      (λ long. split_accepted (next_split u.source u.handset (bars_in s) (messages_in s) (parts_in s)) long)
       (λ short. either (IsAccepted u s None 0) (Accepts u s) (accept_under id None (bodies_under 0 u.text) u s) (λ e k. inr (short, k)) (under_accepted None 0)))
       (λ t. tt)

@@ -1,13 +1,11 @@
 -- A text that was split: what its submission becomes, and that it stays so.
-use Rattle.std.proofs.Common.{◌≡◌, inl, inr, ℕ, List, true, false, Option, Some, None, Result, Ok, Err, refl, sym, ◌∙◌, ap, subst, ⊎_elim, ◌<◌, arith}
-use Rattle.std.proofs.lemmas.Bool.{cases_eq, cond_both}
+use Rattle.std.proofs.Common.{◌≡◌, inl, inr, ℕ, List, true, false, Option, Some, None, Result, Ok, Err, refl, sym, ◌∙◌, ap, subst, ◌<◌, arith}
+use Rattle.std.proofs.lemmas.Bool.{cond_both}
 use Rattle.smpp_pdu.specs.declared.message.Message.{Message as Pdu}
 use Rattle.smpp_pdu.specs.declared.status.CommandStatus.{CommandStatus}
 use Rattle.smpp_pdu.specs.declared.status.CommandStatus.TheVariants.{ESME_RSUBMITFAIL}
 use Rattle.sms_base.specs.Among.{Among}
-use Rattle.sms_base.specs.declared.final_state.FinalState.{FinalState}
-use Rattle.sms_base.specs.declared.final_state.FinalState.TheVariants.{Delivered}
-use Rattle.sms_rows.proofs.table.Tables.{found_among, found_key, row_at_put, row_at_put_other}
+use Rattle.sms_rows.proofs.table.Tables.{found_among, found_key, row_at_put}
 use Rattle.sms_concat.specs.declared.content.Content.{Content}
 use Rattle.sms_intake.specs.declared.submission.CentreAccount.{CentreAccount}
 use Rattle.sms_intake.specs.declared.submission.Submission.{Submission}
@@ -17,111 +15,44 @@ use Rattle.sms_intake.specs.PartBodies.{is_long}
 use Rattle.sms_intake.specs.SmppIntake.{from_pdu}
 use Rattle.sms_centre_rows.specs.declared.messages.message.MessageRow.{MessageRow}
 use Rattle.sms_centre_rows.specs.declared.messages.part.PartRow.{PartRow}
-use Rattle.sms_centre_rows.specs.messages.Messages.{Messages, all_done, ended, message_at, message_key, messages_of, part_key, parts_of, put_message}
-use Rattle.sms_centre_rows.specs.declared.waiting.progress.Progress.{Progress}
-use Rattle.sms_centre_rows.specs.waiting.Trying.{finished}
+use Rattle.sms_centre_rows.specs.messages.Messages.{ended, message_at, message_key}
 use Rattle.sms_centre_spec.specs.declared.event.CentreEvent.TheVariants.{Submit}
-use Rattle.sms_centre_spec.specs.Draft.{Draft, Store, draft_of, messages_in, parts_in, rows_of, with_part_at}
+use Rattle.sms_centre_spec.specs.Draft.{Draft, Store, draft_of, messages_in, parts_in, rows_of}
 use Rattle.sms_centre_spec.specs.MessageNumbers.{next_number}
-use Rattle.sms_centre_spec.specs.Ends.{end}
 use Rattle.sms_centre_spec.specs.Requests.{account_at, accepted, refused, submission_received, submit_by}
 use Rattle.sms_centre_spec.specs.Consistent.{IsSubmission}
 use Rattle.sms_centre_spec.specs.Submitted.{AccountGives}
 use Rattle.sms_centre_spec.specs.Shares.{unless_too_much}
 use Rattle.sms_centre_spec.specs.Submitting.{accept, is_reference_taken, message_of}
-use Rattle.sms_centre_spec.specs.Transfers.{complete}
 use Rattle.sms_centre_spec.proofs.NextNumbers.{below_next_number}
 use Rattle.sms_centre_spec.proofs.PduFits.{event_gives}
 use Rattle.sms_centre_spec.proofs.SoundAccepted.{sound_steady}
 use Rattle.sms_centre_spec.proofs.SoundStores.{SoundStore, store_sound}
 use Rattle.sms_centre_spec.proofs.Stages.{IfThere, unless_kept}
-use Rattle.sms_centre_spec.proofs.Steady.{IsSteady}
-use Rattle.sms_centre_spec.proofs.SteadyEvents.{steady_event}
 use Rattle.sms_world.specs.split_messages_stay.SplitLaws.{StaysLaw, TextLaw}
 use Rattle.sms_world.specs.headline.SplitClaims.{IsSplitOf}
-use Rattle.sms_world.proofs.split_messages_stay.MadeParts.{Accepts, IsAccepted, accept_leads}
+use Rattle.sms_world.proofs.split_messages_stay.MadeParts.{Accepts, accept_leads}
 use Rattle.sms_world.proofs.split_messages_stay.Places.{text_cut}
-use Rattle.sms_world.proofs.split_messages_stay.SameParts.{same_amended, same_parts, split_stays}
+use Rattle.sms_world.proofs.split_messages_stay.SameParts.{same_parts, split_stays}
 use Rattle.sms_world.proofs.split_messages_stay.SplitParts.{stored_of}
-use Rattle.sms_world.proofs.split_messages_stay.SplitSteady.{own_number}
-use Rattle.sms_world.proofs.split_messages_stay.TextContents.{IsText, pdu_is}
-use Rattle.sms_world.proofs.scripts_are_runs.PartsInOrder.{end_touches}
+use Rattle.sms_centre_spec.proofs.TextContents.{IsText, pdu_is}
+use Rattle.sms_world.proofs.split_messages_stay.KeptMessages.{IsLasting, said_on}
 
 -- ---- it stays
 
--- the message of that number is that content, split
-abbrev pub Holds : ℕ → Content → ℕ → Messages → Type 0
-Holds id content reference ms = (x : MessageRow) × ((message_at id (messages_of ms) ≡ Some x) × IsSplitOf x content reference (parts_of ms))
+-- the message is that content, split
+abbrev pub IsSplitAs : Content → ℕ → MessageRow → List PartRow → Type 0
+IsSplitAs content reference m parts = IsSplitOf m content reference parts
 
-module _ (id : ℕ) (content : Content) (reference : ℕ) where
-  abbrev Has : Messages → Type 0
-  Has ms = Holds id content reference ms
-
-  ended_holds : (f : FinalState) (m : MessageRow) (s : Store) → Has s.messages → message_at m.id (messages_in s) ≡ Some m → Has (end f m s).messages
-  ended_holds f m s (x, (at, is)) there =
-      let w : MessageRow = ended f s.moment m in
-      let now : Has (put_message w s.messages) = ⊎_elim
-      (λ (e : m.id ≡ id).
-      let both : Some m ≡ Some x = sym there ∙ ap (λ (n : ℕ). message_at n (messages_in s)) e ∙ at in
-      let same : m ≡ x = cc in
-      let found : Has (put_message w s.messages) = (
-        w,
-        (
-          subst (λ (n : ℕ). message_at n (messages_of (put_message w s.messages)) ≡ Some w) e (row_at_put message_key w (messages_in s)),
-          split_stays x w content reference (parts_in s) (parts_in s) (ap (λ (y : MessageRow). y.id) same) (ap (λ (y : MessageRow). y.source) same) is (same_parts x.id (parts_in s)),
-        ),
-      ) in found)
-      (λ (ne : m.id ≡ id → ⊥).
-      let found : Has (put_message w s.messages) = (x, (row_at_put_other message_key id w (messages_in s) ne ∙ at, is)) in found)
-      (cases_eq m.id id) in
-      subst (λ (ms : Messages). Has ms) (sym (end_touches f m s)) now
-
-  far_holds : (p : PartRow) (q : Progress) (s : Store) → Has s.messages → Has (with_part_at p q s).messages
-  far_holds p q s (x, (at, is)) = (x, (at, split_stays x x content reference (parts_in s) _ refl refl is (same_amended x.id (part_key p) q (parts_in s))))
-
-  settled_holds : (p : PartRow) (m : MessageRow) (s : Store) → Has s.messages → message_at m.id (messages_in s) ≡ Some m → Has (complete m (with_part_at p (finished p.progress) s)).messages
-  settled_holds p m s k there =
-      let e : Store = with_part_at p (finished p.progress) s in
-      let far : Has e.messages = far_holds p (finished p.progress) s k in
-      cond_both (all_done m.id (parts_in e)) (end Delivered m e) e (λ (x : Store). Has x.messages) (λ t. ended_holds Delivered m e far there) (λ t. far)
-
-  after_accepted : (u : Submission) (s : Store) (split : Option ℕ) (r : ℕ) (e : Store) → SoundStore s → IsAccepted u s split r e → Has s.messages → Has e.messages
-  after_accepted u s split r e sound a (x, (at, is)) =
-      let own : x.id ≡ id = found_key message_key id x (messages_in s) at in
-      let low = below_next_number (rows_of s) x sound.consistent.message_keys (found_among message_key id x (messages_in s) at) in
-      let old : ¬ (next_number (rows_of s) ≡ id) = λ q. let l : ⊥ = omega (arith, low, own, q) in l in (
-        x,
-        (
-          ap (λ (ms : List MessageRow). message_at id ms) a.messages ∙ row_at_put_other message_key id (message_of (next_number (rows_of s)) s.moment split u) (messages_in s) old ∙ at,
-          split_stays x x content reference (parts_in s) (parts_in e) refl refl is (a.others x.id (λ q. old (sym q ∙ own))),
-        ),
-      )
-
-  accept_holds : (u : Submission) (s : Store) (o : Option Store) → SoundStore s → Has s.messages → IfThere SoundStore o → IfThere (Accepts u s) o → IfThere (λ (e : Store). SoundStore e × Has e.messages) o
-  accept_holds u s None sound k after a = tt
-  accept_holds u s (Some e) sound k after (inl (r, (long, a))) = (after, after_accepted u s (Some r) r e sound a k)
-  accept_holds u s (Some e) sound k after (inr (short, a)) = (after, after_accepted u s None 0 e sound a k)
-
-  abbrev Keeps : Store → Type 0
-  Keeps s = SoundStore s × Has s.messages
-
-  holds_steady : IsSteady Keeps
-  holds_steady =
-      let c = sound_steady in
-      record {
-        consistent = λ s k. k.0.consistent;
-        accepted = λ u s k fit. accept_holds u s (accept u s) k.0 k.1 (c.accepted u s k.0 fit) (accept_leads u s k.0 fit);
-        ended = λ f m s k there pending partly. (c.ended f m s k.0 there pending partly, ended_holds f m s k.1 there);
-        settled = λ p m s k there of pending undone. (c.settled p m s k.0 there of pending undone, settled_holds p m s k.1 (own_number (messages_in s) p.id m of));
-        part_far = λ p q s k there same. (c.part_far p q s k.0 there same, far_holds p q s k.1);
-        report_far = λ r q s k there stays. (c.report_far r q s k.0 there stays, k.1);
-        later = λ n s k past is. (c.later n s k.0 past is, k.1);
-      }
+pub split_lasts : (content : Content) (reference : ℕ) → IsLasting (IsSplitAs content reference)
+split_lasts content reference = record {
+  ends = λ f n m ps k. split_stays m (ended f n m) content reference ps ps refl refl k (same_parts m.id ps);
+  parts = λ m ps qs same k. split_stays m m content reference ps qs refl refl k same;
+}
 
 pub stays_split : StaysLaw
 stays_split event c m content reference sound is there k =
-    (steady_event (Keeps m.id content reference) (holds_steady m.id content reference) event c
-    (store_sound c.rows c.moment sound.rows sound.now sound.moment, (m, (there, k))) sound.now (event_gives event c sound is)).1
+    said_on m.id (IsSplitAs content reference) (split_lasts content reference) event c sound is (m, (there, k))
 
 -- ---- it becomes so
 

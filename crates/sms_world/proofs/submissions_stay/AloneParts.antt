@@ -16,7 +16,7 @@ use Rattle.sms_tpdu.specs.declared.fault.TpduFault.{TpduFault}
 use Rattle.sms_tpdu.specs.declared.user_data.UserData.{UserData}
 use Rattle.sms_tpdu.specs.MoreMessages.{compared}
 use Rattle.sms_world_model.specs.Place.{carried_in, part_of, part_read}
-use Rattle.sms_world.proofs.split_messages_stay.TextContents.{IsText, pdu_is}
+use Rattle.sms_centre_spec.proofs.TextContents.{IsText, pdu_is}
 use Rattle.sms_world.specs.submissions_stay.SubmittedLaws.{AloneLaw}
 use Rattle.sms_world.specs.headline.Origins.{IsDeliverFor, part_numbered}
 

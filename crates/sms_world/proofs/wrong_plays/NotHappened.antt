@@ -1,6 +1,7 @@
 -- Events that do not go so.
 use Rattle.std.proofs.Common.{arith, ◌≡◌, ℕ, List, [], ◌∷◌, Bool, true, false, refl, sym, ◌∙◌, ap, inl, ⊎_elim, Option, Some, None}
 use Rattle.std.specs.Prelude.{if◌then◌else◌}
+use Rattle.std.proofs.lemmas.Option.{none-some}
 use Rattle.smpp_pdu.specs.declared.status.CommandStatus.TheVariants.{ESME_RCANCELFAIL, ESME_ROK}
 use Rattle.sms_base.specs.HandsetNumber.{own_address}
 use Rattle.sms_base.specs.declared.final_state.FinalState.{FinalState}
@@ -22,7 +23,6 @@ use Rattle.sms_world.specs.wrong_plays.Plays.{from_application, from_writer}
 use Rattle.sms_world.specs.wrong_plays.Shown.{submission}
 use Rattle.sms_world.specs.wrong_plays.Told.{pending}
 use Rattle.sms_world.specs.wrong_reports.Literals.{id_one, name, receipt, source}
-use Rattle.sms_world.proofs.Options.{none_some}
 use Rattle.sms_world_model.specs.World.{Message, Pending}
 use Rattle.sms_world_model.specs.WorldStep.{Delete}
 
@@ -35,14 +35,14 @@ pub not_of_event : NotOfEventLaw
 not_of_event b = no_steps b
 
 pub impossible_step : ImpossibleStepLaw
-impossible_step run = none_some {A = Message} _ run.0.2
+impossible_step run = none-some {A = Message} _ run.0.2
 
 pub not_taken_in : NotTakenInLaw
 not_taken_in b = ((b 1).0 refl).2.0
 
 pub other_number : OtherNumberLaw
 other_number b =
-    let q : 5 ≡ 1 = b 5 ((record submission { id = 5 }, (Pending [], refl)), λ u st e. none_some {A = Message} _ e) in let l : ⊥ = omega (arith, q) in l
+    let q : 5 ≡ 1 = b 5 ((record submission { id = 5 }, (Pending [], refl)), λ u st e. none-some {A = Message} _ e) in let l : ⊥ = omega (arith, q) in l
 
 -- ---- requests
 
@@ -106,7 +106,7 @@ first_state [] = None
 first_state (m ∷ ms) = m.state
 
 pub query_ends : QueryEndsLaw
-query_ends q = none_some Delivered (sym (ap first_state q.same))
+query_ends q = none-some Delivered (sym (ap first_state q.same))
 
 pub not_cancelled : NotCancelledLaw
 not_cancelled c =
@@ -114,12 +114,12 @@ not_cancelled c =
     let m : pending from_application ≡ x.0 = only_row x.1.0.number (pending from_application) x.0 x.1.0.there in
     let q : pending from_application ∷ [] ≡ put message_key (ended Deleted 946684800 (pending from_application)) (pending from_application ∷ []) =
     x.1.2 ∙ ap (λ (z : MessageRow). put message_key (ended Deleted 946684800 z) (pending from_application ∷ [])) (sym m) in
-    none_some Deleted (ap first_state q)
+    none-some Deleted (ap first_state q)
 
 pub cancelled_again : CancelledAgainLaw
 cancelled_again c =
     let x = c.done refl in
-    none_some Delivered (sym (ap (λ (z : MessageRow). z.state) (only_row x.1.0.number from_application x.0 x.1.0.there) ∙ x.1.1))
+    none-some Delivered (sym (ap (λ (z : MessageRow). z.state) (only_row x.1.0.number from_application x.0 x.1.0.there) ∙ x.1.1))
 
 refusal : Status ESME_RCANCELFAIL ≡ Status ESME_ROK → ⊥
 refusal e = absurd cc
@@ -151,11 +151,11 @@ right_receipt = record {
 }
 
 pub receipt_early : ReceiptEarlyLaw
-receipt_early r = none_some r.state (ap (λ (z : MessageRow). z.state) (only_row 1 (pending from_application) r.message r.there) ∙ r.ended)
+receipt_early r = none-some r.state (ap (λ (z : MessageRow). z.state) (only_row 1 (pending from_application) r.message r.there) ∙ r.ended)
 
 pub receipt_undated : ReceiptUndatedLaw
 receipt_undated r =
-    none_some r.moment (ap (λ (z : MessageRow). z.done) (only_row 1 (record from_application { done = None }) r.message r.there) ∙ r.done)
+    none-some r.moment (ap (λ (z : MessageRow). z.done) (only_row 1 (record from_application { done = None }) r.message r.there) ∙ r.done)
 
 pub receipt_not_listed : ReceiptNotListedLaw
 receipt_not_listed r = r.listed

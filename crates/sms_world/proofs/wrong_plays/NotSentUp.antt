@@ -36,6 +36,7 @@ use Rattle.sms_world.specs.wrong_plays.Plays.{entry, from_writer, part_one, part
 use Rattle.sms_world.specs.wrong_plays.SentUp.{AloneLaw, CommonLaw, FrameLaw, HandsetLaw, NextLaw, OwnersLaw, ReferenceLaw, RightLaw, SentByOtherLaw, SentOtherTextLaw, SourceLaw, SubmittedTextLaw, TakersLaw, TextLaw, WishLaw, frame_up, other_deliver, part_up, sent_up}
 use Rattle.sms_world.specs.wrong_reports.Literals.{deliver, handset, hello_octets, other_octets, source, writer}
 use Rattle.sms_world.proofs.Options.{some_is}
+use Rattle.sms_world.proofs.wrong_reports.Apart.{the_one}
 
 -- ---- what the octets read as
 
@@ -67,7 +68,7 @@ same_submit : (s : SubmitOf) → ReadsUp (Ok (SubmitUp written)) s → written �
 same_submit s e = cc
 
 only_frame : (f : FrameRow) → Among f sent_up.bag → frame_up ≡ f
-only_frame f i = ⊎_elim (λ (e : f ≡ frame_up). sym e) (λ (n : ⊥). absurd n) i
+only_frame f i = sym (the_one frame_up f i)
 
 -- the SUBMIT is that one
 submit_is : (m : MessageRow) (parts : List PartRow) (o : IsOfHandset 1 sent_up m parts) → written ≡ o.submit

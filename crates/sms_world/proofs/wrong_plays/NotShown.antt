@@ -1,5 +1,6 @@
 -- Worlds that a play state does not show.
 use Rattle.std.proofs.Common.{◌≡◌, [], ◌∷◌, true, refl, inl, ⊎_elim}
+use Rattle.std.proofs.lemmas.Option.{none-some}
 use Rattle.sms_play.specs.Playing.{report_of}
 use Rattle.sms_tpdu.specs.MoreMessages.{compared}
 use Rattle.sms_world.proofs.Everything.{everything}
@@ -9,7 +10,6 @@ use Rattle.sms_world.specs.wrong_plays.Plays.{entry, first, from_application, pa
 use Rattle.sms_world.specs.wrong_plays.Shown.{AcceptedUnknownLaw, BeginningLaw, EntryUnknownLaw, FrameSaysNothingLaw, FrameUnknownLaw, GivenUnknownLaw, GivenUpUnknownLaw, GivenWithoutRowLaw, HolderWithoutRowLaw, MessageUnknownLaw, MessageWithoutRowLaw, NotApartLaw, OpenReportLaw, PartNotGivenLaw, PartUnknownLaw, ReceiptUnknownLaw, ReceiptUnlistedLaw, given_up, receipt_there, submission}
 use Rattle.sms_world.specs.wrong_reports.Literals.{given, receipt}
 use Rattle.sms_world.specs.wrong_reports.Worlds.{given_to}
-use Rattle.sms_world.proofs.Options.{none_some}
 use Rattle.sms_world_model.specs.World.{Accepted, Message, Pending, Sent}
 
 pub beginning : BeginningLaw
@@ -22,13 +22,13 @@ no_frame : (x : Sent) → [] ≡ x ∷ [] → ⊥
 no_frame x e = absurd cc
 
 pub message_unknown : MessageUnknownLaw
-message_unknown r = let x = r.there 1 from_application refl in none_some {A = Message} _ x.2.0
+message_unknown r = let x = r.there 1 from_application refl in none-some {A = Message} _ x.2.0
 
 pub message_without_row : MessageWithoutRowLaw
-message_without_row r = let x = r.only 1 submission (Pending []) refl in none_some x.0 x.1
+message_without_row r = let x = r.only 1 submission (Pending []) refl in none-some x.0 x.1
 
 pub part_unknown : PartUnknownLaw
-part_unknown p x = none_some {A = Message} _ x.4.0
+part_unknown p x = none-some {A = Message} _ x.4.0
 
 pub receipt_unknown : ReceiptUnknownLaw
 receipt_unknown r = r.there receipt (inl refl)
@@ -37,7 +37,7 @@ pub receipt_unlisted : ReceiptUnlistedLaw
 receipt_unlisted r = r.only receipt_there (inl refl)
 
 pub open_report : OpenReportLaw
-open_report r = let x = r.opened 1 (inl refl) in none_some x.0 x.1.0
+open_report r = let x = r.opened 1 (inl refl) in none-some x.0 x.1.0
 
 pub accepted_unknown : AcceptedUnknownLaw
 accepted_unknown r = no_pair _ r.accepted
@@ -55,7 +55,7 @@ pub given_without_row : GivenWithoutRowLaw
 given_without_row r = (r.only (given_to 1) (inl refl)).1.0
 
 pub holder_without_row : HolderWithoutRowLaw
-holder_without_row r = let x = r.of_part (given_to 1) 1 1 (inl refl) refl in none_some x.0 x.2.0
+holder_without_row r = let x = r.of_part (given_to 1) 1 1 (inl refl) refl in none-some x.0 x.2.0
 
 abbrev seen : PartSeen
 seen = record { reference = 0; tpdu = compared part_one.tpdu; is_done = true }

@@ -13,8 +13,8 @@ use Rattle.sms_world.specs.headline.SplitClaims.{IsSplitOf}
 use Rattle.sms_world.specs.wrong_plays.Played.{LostPartLaw, LostTextLaw, OnePartMoreLaw, OtherHandsetLaw, OtherLimitLaw, OtherOriginatorLaw, OtherProtocolLaw, OtherSourceLaw, OtherSplitLaw, OtherWishLaw, ShortLaw, long_content}
 use Rattle.sms_world.specs.wrong_plays.Plays.{from_application, part_one}
 use Rattle.sms_world.specs.wrong_reports.Literals.{name}
-use Rattle.sms_world.proofs.Options.{none_some}
 use Rattle.std.specs.Prelude.{slice_get}
+use Rattle.std.proofs.lemmas.Option.{none-some}
 
 handset_is : Handset 7 ≡ Application name → ⊥
 handset_is e = absurd cc
@@ -48,12 +48,12 @@ other_split s = no_reference 7 s.split
 
 pub lost_part : LostPartLaw
 lost_part s =
-    let x = s.each 1 part (ap (λ (ps : List SinglePart). part_numbered 1 ps) (parts_read s.reference)) in none_some x.0 x.1.0
+    let x = s.each 1 part (ap (λ (ps : List SinglePart). part_numbered 1 ps) (parts_read s.reference)) in none-some x.0 x.1.0
 
 pub one_part_more : OnePartMoreLaw
 one_part_more s =
     let x = s.only (record part_one { number = 2 }) (inr (inl refl)) refl in
-    none_some x.0 (sym (ap (λ (ps : List SinglePart). part_numbered 2 ps) (parts_read s.reference)) ∙ x.1.0)
+    none-some x.0 (sym (ap (λ (ps : List SinglePart). part_numbered 2 ps) (parts_read s.reference)) ∙ x.1.0)
 
 pub short : ShortLaw
 short s = let q : 160 < 5 = s.long in let l : ⊥ = omega (arith, q) in l
@@ -74,7 +74,7 @@ first_of : (pieces : List (List ℕ)) (all : List PartOf) (s : IsSplitOf from_ap
     → s.pieces ≡ numbered long_content 7 (length pieces) 1 pieces → ⊥
 first_of [] all s d e = no_division [] refl d
 first_of (p ∷ ps) all s d e =
-    let x = s.carried 0 _ (ap (λ (z : List PartOf). slice_get z 0) e) in none_some x.0 x.1.0
+    let x = s.carried 0 _ (ap (λ (z : List PartOf). slice_get z 0) e) in none-some x.0 x.1.0
 
 pub lost_text : LostTextLaw
 lost_text s = let x = s.split.cut s.long in first_of x.1.0 s.pieces s x.1.1 x.1.2

@@ -1,6 +1,7 @@
 -- Two parts that were submitted, accepted and joined, and what lacks one of these.
 use Rattle.std.proofs.Common.{arith, ◌≡◌, ℕ, zero, suc, List, [], ◌∷◌, true, false, refl, sym, ◌∙◌, ap, subst, inl, inr, ⊎_elim, Option, Some, None, ◌<◌}
 use Rattle.std.specs.Prelude.{◌⊎◌, ◌≤◌}
+use Rattle.std.proofs.lemmas.Option.{none-some}
 use Rattle.sms_base.specs.Among.{Among}
 use Rattle.sms_alphabet.specs.declared.concat_key.ConcatReference.TheVariants.{EightBit}
 use Rattle.sms_alphabet.specs.declared.scheme.Coding.TheVariants.{Octets}
@@ -22,7 +23,6 @@ use Rattle.sms_world.specs.wrong_plays.Pieces.{EntryWithoutRowLaw, JoinedUnknown
 use Rattle.sms_world.specs.wrong_plays.Plays.{entry, from_writer, part_two, party, status_report, writers_core}
 use Rattle.sms_world.specs.wrong_plays.Shown.{receipt_there}
 use Rattle.sms_world.specs.wrong_reports.Literals.{handset, joined_row, source, writer}
-use Rattle.sms_world.proofs.Options.{none_some}
 use Rattle.sms_world_model.specs.Groups.{joined_content, parts_to}
 use Rattle.sms_world_model.specs.Place.{Key, joined_parts, with_part}
 use Rattle.sms_world_model.specs.Submission.{Always, IsDeliverOf, Submission}
@@ -204,10 +204,10 @@ right_round q i = ⊎_elim
 
 -- ---- no reference was given
 
-nothing_joins : (total : ℕ) (c : Content) → joined_content total [] ≡ Some c → ⊥
-nothing_joins zero c e = none_some c e
-nothing_joins (suc zero) c e = none_some c e
-nothing_joins (suc (suc n)) c e = none_some c (sym (none n) ∙ e)
+pub nothing_joins : (total : ℕ) (c : Content) → joined_content total [] ≡ Some c → ⊥
+nothing_joins zero c e = none-some c e
+nothing_joins (suc zero) c e = none-some c e
+nothing_joins (suc (suc n)) c e = none-some c (sym (none n) ∙ e)
   where
     no_parts : (n : ℕ) → parts_to (suc n) [] ≡ None
     no_parts zero = refl
@@ -257,7 +257,7 @@ pub report_unknown : ReportUnknownLaw
 report_unknown r = (r.there 1 receipt_seen refl).1
 
 pub report_without_row : ReportWithoutRowLaw
-report_without_row r = let x = r.only receipt_there (inl refl) in none_some x.0 x.1
+report_without_row r = let x = r.only receipt_there (inl refl) in none-some x.0 x.1
 
 abbrev status_seen : ReportSeen
 status_seen = record { kind = Status 0 status_report; is_done = false }

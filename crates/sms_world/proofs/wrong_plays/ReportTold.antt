@@ -20,8 +20,8 @@ use Rattle.sms_world.specs.headline.SeenFrames.{octets_down}
 use Rattle.sms_world.specs.wrong_plays.Plays.{frame_to, from_application, from_writer}
 use Rattle.sms_world.specs.wrong_plays.Told.{RightToldLaw, ToRecipientLaw, ToldEarlyLaw, ToldOfNoneLaw, pending}
 use Rattle.sms_world.specs.wrong_reports.Literals.{handset, writer}
-use Rattle.sms_world.proofs.Options.{none_some}
 use Rattle.std.specs.Prelude.{length}
+use Rattle.std.proofs.lemmas.Option.{none-some}
 
 abbrev IsTold : FrameRow → Carried → StatusReportOf → Type 0
 IsTold f x s =
@@ -83,6 +83,6 @@ pub told_early : ToldEarlyLaw
 told_early say =
     let x = say (frame_to writer) carried says (inl refl) refl refl refl reads in
     ⊎_elim
-    (λ (e : x.0 ≡ pending from_writer). none_some x.1.3.state (sym (ap (λ (m : MessageRow). m.state) e) ∙ x.1.3.ended))
+    (λ (e : x.0 ≡ pending from_writer). none-some x.1.3.state (sym (ap (λ (m : MessageRow). m.state) e) ∙ x.1.3.ended))
     (λ (n : ⊥). n)
     x.1.0

@@ -1,6 +1,7 @@
 -- A text in its two parts is split so, and what differs from that is not. A row that says another thing than its part.
 use Rattle.std.proofs.Common.{arith, ◌≡◌, ℕ, zero, suc, List, [], ◌∷◌, true, false, refl, sym, ◌∙◌, ap, subst, inl, inr, ⊎_elim, Option, Some, None, ◌<◌, ◌≤◌, length}
 use Rattle.std.specs.Prelude.{◌⊎◌, ◌++◌, slice_get}
+use Rattle.std.proofs.lemmas.Option.{none-some}
 use Rattle.sms_alphabet.specs.declared.concat_key.ConcatKey.{ConcatKey}
 use Rattle.sms_alphabet.specs.declared.scheme.Coding.TheVariants.{Octets}
 use Rattle.sms_base.specs.Among.{Among}
@@ -24,7 +25,7 @@ use Rattle.sms_world.specs.wrong_plays.Played.{long_content}
 use Rattle.sms_world.specs.wrong_plays.Plays.{part_one}
 use Rattle.sms_world.specs.wrong_plays.SplitText.{MixedRoundLaw, NoPlaceLaw, OtherContentLaw, OtherPlanLaw, OtherRowLaw, OtherWordsLaw, RightSplitLaw, odd, second, split_message, split_one, split_parts, split_two, stray}
 use Rattle.sms_world.specs.wrong_reports.Literals.{deliver, hello_octets, source, zeros}
-use Rattle.sms_world.proofs.Options.{some_is, none_some}
+use Rattle.sms_world.proofs.Options.{some_is}
 use Rattle.sms_world.proofs.wrong_plays.NotSentUp.{same_deliver, ReadsDown}
 use Rattle.sms_world_model.specs.Place.{Place, carried_in, place_in}
 use Rattle.sms_world_model.specs.World.{Accepted}
@@ -121,7 +122,7 @@ carried : (n : ℕ) (piece : PartOf) → slice_get pieces n ≡ Some piece
     → (p : PartRow) × ((part_at 1 (suc n) split_parts ≡ Some p) × (carried_in p.tpdu ≡ Some piece))
 carried zero piece e = (split_one, (refl, one_carried ∙ e))
 carried (suc zero) piece e = (split_two, (refl, two_carried ∙ e))
-carried (suc (suc n)) piece e = absurd (none_some piece e)
+carried (suc (suc n)) piece e = absurd (none-some piece e)
 
 is_long : 140 < 141
 is_long = omega arith
@@ -175,7 +176,7 @@ unfolding everything
 nowhere = refl
 
 pub no_place : NoPlaceLaw
-no_place s = none_some {A = Place} _ (sym nowhere ∙ s.under.placed (record part_one { number = 3 }) (inr (inr (inl refl))) refl)
+no_place s = none-some {A = Place} _ (sym nowhere ∙ s.under.placed (record part_one { number = 3 }) (inr (inr (inl refl))) refl)
 
 -- ---- what was joined of it
 

@@ -15,6 +15,10 @@ enroute_is_not_delivered e = absurd cc
 pub enroute_is_not_deleted : Enroute ≡ Final Deleted → ⊥
 enroute_is_not_deleted e = absurd cc
 
+-- a list of one has that one
+pub the_one : {A : Type 0} (a x : A) → Among x (a ∷ []) → x ≡ a
+the_one a x i = ⊎_elim (λ (e : x ≡ a). e) (λ (n : ⊥). absurd n) i
+
 -- the only line has that state
 pub only_line : (m : ReportedMessage) (s : MessageState) → Among m (line s ∷ []) → m.state ≡ s
-only_line m s i = ⊎_elim (λ (e : m ≡ line s). ap (λ (z : ReportedMessage). z.state) e) (λ (n : ⊥). absurd n) i
+only_line m s i = ap (λ (z : ReportedMessage). z.state) (the_one (line s) m i)

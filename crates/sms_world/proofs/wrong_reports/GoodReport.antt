@@ -1,4 +1,4 @@
-use Rattle.std.proofs.Common.{arith, ◌≡◌, ℕ, zero, suc, List, [], ◌∷◌, false, refl, sym, ◌∙◌, ap, subst, inl, ⊎_elim, Some, ◌<◌}
+use Rattle.std.proofs.Common.{arith, ◌≡◌, ℕ, zero, suc, List, [], ◌∷◌, refl, sym, ◌∙◌, ap, subst, inl, ⊎_elim, Some, ◌<◌}
 use Rattle.sms_base.specs.Among.{Among}
 use Rattle.sms_centre_rows.specs.declared.report_lines.ReportedMessage.{ReportedMessage}
 use Rattle.sms_centre_rows.specs.declared.report_lines.ReceiptRow.{ReceiptRow}
@@ -7,13 +7,12 @@ use Rattle.sms_centre_rows.specs.declared.report_lines.MessageState.TheVariants.
 use Rattle.sms_base.specs.declared.final_state.FinalState.{FinalState}
 use Rattle.sms_base.specs.declared.final_state.FinalState.TheVariants.{Delivered, Deleted}
 use Rattle.std.specs.Prelude.{◌≤◌}
-use Rattle.sms_intake.specs.SmppText.{plain_text}
 use Rattle.sms_concat.specs.Cutting.{split_of}
 use Rattle.sms_tpdu.specs.MoreMessages.{compared}
-use Rattle.sms_world.proofs.wrong_reports.Apart.{only_line}
-use Rattle.sms_world.proofs.wrong_reports.Read.{part, content, octets_are}
-use Rattle.sms_world.specs.wrong_reports.Literals.{account, accepted, answer, asked, events, given, good, handed, handset, hello_octets, line, name, nothing, receipt, reports, setup, source, submits, taken}
-use Rattle.sms_base.specs.HandsetNumber.{own_address}
+use Rattle.sms_world.proofs.wrong_reports.Apart.{only_line, the_one}
+use Rattle.sms_world.proofs.wrong_reports.Read.{part, content, octets_are, text_reads}
+use Rattle.sms_world.proofs.wrong_reports.RightReports.{asked_of, none_before, submitted}
+use Rattle.sms_world.specs.wrong_reports.Literals.{accepted, answer, asked, events, given, good, handed, handset, hello, hello_octets, line, name, nothing, receipt, reports, setup, source, submits, taken}
 use Rattle.sms_intake.specs.PartTexts.{deliver_octets}
 use Rattle.sms_world.specs.headline.PlainHeadline.{AnswersAreTrue}
 use Rattle.sms_world.specs.headline.PlainReport.{Appears, IsAcceptedOnce, IsOfApplication, IsOfEvent, IsPartOf, NamesMessage, Origin, Stays, WasDelivered, compared_line}
@@ -24,7 +23,6 @@ use Rattle.sms_base.specs.declared.originator.Originator.TheVariants.{Applicatio
 use Rattle.sms_base.specs.declared.wish.Wish.TheVariants.{Always}
 use Rattle.sms_intake.specs.declared.submission.SinglePart.{SinglePart}
 use Rattle.sms_intake.specs.declared.submission.Submission.{Submission}
-use Rattle.sms_intake.specs.declared.submission.Text.TheVariants.{Whole as WholeText}
 use Rattle.sms_script.specs.declared.report.rows.AcceptedRow.{AcceptedRow}
 use Rattle.sms_script.specs.declared.event.Act.TheVariants.{Query, Cancel}
 use Rattle.sms_script.specs.declared.report.answers.Answer.{Answer}
@@ -35,33 +33,10 @@ use Rattle.sms_script.specs.declared.event.WorldEvent.TheVariants.{Whole}
 -- ---- what was submitted
 
 abbrev pub u : Submission
-u = record {
-  originator = Application name;
-  source = own_address source;
-  handset = handset;
-  protocol_identifier = 0;
-  reply_path = false;
-  wish = Always;
-  rejects_duplicates = false;
-  limit = 0;
-  due = 0;
-  priority = 0;
-  text = WholeText content;
-}
+u = submitted (Application name) source Always content
 
 pub asked_by : IsAskedBy setup asked u
-unfolding plain_text split_of
-asked_by = record {
-  account = account;
-  among = inl refl;
-  named = refl;
-  source = refl;
-  handset = refl;
-  protocol_identifier = refl;
-  reply_path = refl;
-  wish = refl;
-  text = refl;
-}
+asked_by = asked_of 0 hello content text_reads
 
 abbrev pub origin : Origin
 origin = record { submission = u; parts = part ∷ []; given_at = 1 }
@@ -99,9 +74,6 @@ of_event s = record {
 
 -- ---- reports one after another
 
-begins : Stays nothing taken
-begins = record { lines = λ m i. absurd i; final = λ m s i e. absurd i; receipts = λ x i. absurd i }
-
 hands : Stays taken (handed (accepted hello_octets ∷ []))
 hands = record { lines = λ m i. (m, (i, refl, refl, refl)); final = λ m s i e. i; receipts = λ x i. absurd i }
 
@@ -119,7 +91,7 @@ ends = record {
 }
 
 stay : (n : ℕ) → n < 3 → Stays (reports good n) (reports good (suc n))
-stay zero h = begins
+stay zero h = none_before nothing taken refl refl
 stay (suc zero) h = hands
 stay (suc (suc zero)) h = ends
 stay (suc (suc (suc n))) h = absurd (no h)
@@ -169,19 +141,16 @@ no_status a e f = no (ap (λ (z : Answer). z.answered) (sym e) ∙ f)
     no : Accepted 1 ≡ Status ESME_RSYSERR → ⊥
     no q = absurd cc
 
-only_answer : (a : Answer) → Among a (answer ∷ []) → a ≡ answer
-only_answer a i = ⊎_elim (λ (e : a ≡ answer). e) (λ (n : ⊥). absurd n) i
-
 answers : AnswersAreTrue events (reports good) good
 answers = record {
   ascend = (λ x i. absurd i, tt);
   named = λ a id i f.
-      subst (λ (k : ℕ). NamesMessage events (reports good) a.event k) (one_is id a (only_answer a i) f)
-      (subst (λ (k : ℕ). NamesMessage events (reports good) k 1) (ap (λ (z : Answer). z.event) (sym (only_answer a i))) names);
+      subst (λ (k : ℕ). NamesMessage events (reports good) a.event k) (one_is id a (the_one answer a i) f)
+      (subst (λ (k : ℕ). NamesMessage events (reports good) k 1) (ap (λ (z : Answer). z.event) (sym (the_one answer a i))) names);
   queries = λ n a b s e i. absurd (no_query n a b e);
   cancels = λ n a b e. absurd (no_cancel n a b e);
   deleted = λ n m h i e j. absurd (none_deleted n m i e);
-  no_system_error = λ a i f. no_status a (only_answer a i) f;
+  no_system_error = λ a i f. no_status a (the_one answer a i) f;
 }
 
 -- ---- deliveries
@@ -209,9 +178,6 @@ delivered = record {
       (subst (λ (p : SinglePart). IsAcceptedOnce good (line (Final Delivered)) 1 u p) (first_of n b e).1 once);
 }
 
-the_line : (m : ReportedMessage) → Among m (line (Final Delivered) ∷ []) → line (Final Delivered) ≡ m
-the_line m i = ⊎_elim (λ (e : m ≡ line (Final Delivered)). sym e) (λ (n : ⊥). absurd n) i
-
 is_part : IsPartOf setup events (reports good) good (accepted hello_octets)
 is_part = record {
   line = line (Final Delivered);
@@ -227,30 +193,24 @@ is_part = record {
   is = sym row_is;
 }
 
-the_accepted : (a : AcceptedRow) → Among a (accepted hello_octets ∷ []) → accepted hello_octets ≡ a
-the_accepted a i = ⊎_elim (λ (e : a ≡ accepted hello_octets). sym e) (λ (n : ⊥). absurd n) i
-
-the_receipt : (x : ReceiptRow) → Among x (receipt ∷ []) → receipt ≡ x
-the_receipt x i = ⊎_elim (λ (e : x ≡ receipt). sym e) (λ (n : ⊥). absurd n) i
-
 pub has_it : GoodLaw
 has_it = record {
   messages = record {
     ascending = (λ x i. absurd i, tt);
-    of_events = λ m i. subst (λ (z : ReportedMessage). IsOfEvent setup events (reports good) z) (the_line m i) (of_event (Final Delivered));
+    of_events = λ m i. subst (λ (z : ReportedMessage). IsOfEvent setup events (reports good) z) (sym (the_one (line (Final Delivered)) m i)) (of_event (Final Delivered));
     stay = stay;
   };
   receipts = record {
-    state = λ x i. (line (Final Delivered), (inl refl, ap (λ (z : ReceiptRow). z.id) (the_receipt x i), ap (λ (z : ReceiptRow). Final z.state) (the_receipt x i)));
+    state = λ x i. (line (Final Delivered), (inl refl, ap (λ (z : ReceiptRow). z.id) (sym (the_one receipt x i)), ap (λ (z : ReceiptRow). Final z.state) (sym (the_one receipt x i))));
     one = (λ y i. absurd i, tt);
     frames = λ f x id i d c k t. absurd i;
   };
   answers = answers;
   references = (λ y i. absurd i, tt);
   deliveries = λ hold. record {
-    lines = λ m i s. subst (λ (z : ReportedMessage). WasDelivered setup events (reports good) good z) (the_line m i) delivered;
-    receipts = λ x i s. (line (Final Delivered), (inl refl, ap (λ (z : ReceiptRow). z.id) (the_receipt x i), delivered));
-    accepted = λ a i d. subst (λ (z : AcceptedRow). IsPartOf setup events (reports good) good z) (the_accepted a i) is_part;
+    lines = λ m i s. subst (λ (z : ReportedMessage). WasDelivered setup events (reports good) good z) (sym (the_one (line (Final Delivered)) m i)) delivered;
+    receipts = λ x i s. (line (Final Delivered), (inl refl, ap (λ (z : ReceiptRow). z.id) (sym (the_one receipt x i)), delivered));
+    accepted = λ a i d. subst (λ (z : AcceptedRow). IsPartOf setup events (reports good) good z) (sym (the_one (accepted hello_octets) a i)) is_part;
     once = (λ d i. absurd i, tt);
     sent = λ x i s. absurd i;
     joined = ([], (tt, tt));

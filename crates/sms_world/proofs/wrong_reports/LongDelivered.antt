@@ -1,8 +1,7 @@
 -- A text of two parts was delivered: each part was accepted once, under its own reference.
-use Rattle.std.proofs.Common.{arith, ◌≡◌, ℕ, zero, suc, ◌≤◌, [], ◌∷◌, false, true, refl, sym, ap, subst, inl, inr, ⊎_elim, Some}
+use Rattle.std.proofs.Common.{arith, ◌≡◌, ℕ, zero, suc, ◌≤◌, [], ◌∷◌, true, refl, sym, ap, subst, inl, inr, ⊎_elim, Some, Ok}
 use Rattle.sms_alphabet.specs.declared.concat_key.ConcatReference.TheVariants.{SixteenBit}
 use Rattle.sms_alphabet.specs.declared.scheme.Coding.TheVariants.{Octets}
-use Rattle.sms_base.specs.HandsetNumber.{own_address}
 use Rattle.sms_base.specs.StampWriting.{clock_at}
 use Rattle.sms_base.specs.declared.final_state.FinalState.TheVariants.{Delivered}
 use Rattle.sms_base.specs.declared.originator.Originator.TheVariants.{Application}
@@ -10,7 +9,7 @@ use Rattle.sms_base.specs.declared.wish.Wish.TheVariants.{Always}
 use Rattle.sms_concat.specs.Cutting.{filled, split_of}
 use Rattle.sms_concat.specs.declared.content.Content.{Content}
 use Rattle.sms_intake.specs.PartTexts.{deliver_octets}
-use Rattle.sms_intake.specs.SmppText.{plain_text}
+use Rattle.sms_intake.specs.SmppText.{plain_text, text_in}
 use Rattle.sms_intake.specs.declared.submission.SinglePart.{SinglePart}
 use Rattle.sms_intake.specs.declared.submission.Submission.{Submission}
 use Rattle.sms_intake.specs.declared.submission.Text.TheVariants.{Whole as WholeText}
@@ -22,26 +21,16 @@ use Rattle.sms_tpdu.specs.MoreMessages.{compared}
 use Rattle.sms_world.specs.headline.PlainReport.{Appears, IsAcceptedOnce, IsOfApplication, IsOfEvent, Origin, compared_line}
 use Rattle.sms_world.specs.headline.PlainScript.{IsAskedBy}
 use Rattle.sms_world.specs.headline.PlainWords.{numbered}
-use Rattle.sms_world.specs.wrong_reports.Literals.{account, both, both_parts, given, handset, line, long_accepted, long_asked, long_data, long_events, name, second_given, setup, source, zeros}
+use Rattle.sms_world.specs.wrong_reports.Literals.{both, both_parts, given, handset, line, long_accepted, long_asked, long_data, long_events, name, second_given, setup, source, zeros}
 use Rattle.sms_world.specs.wrong_reports.Tried.{TrueSplitLaw}
+use Rattle.sms_world.proofs.wrong_reports.RightReports.{asked_of, submitted}
+use Rattle.sms_script.specs.Requests.{submit_of}
 
 abbrev content : Content
 content = record { coding = Octets; dcs = 4; units = zeros 141 }
 
 abbrev u : Submission
-u = record {
-  originator = Application name;
-  source = own_address source;
-  handset = handset;
-  protocol_identifier = 0;
-  reply_path = false;
-  wish = Always;
-  rejects_duplicates = false;
-  limit = 0;
-  due = 0;
-  priority = 0;
-  text = WholeText content;
-}
+u = submitted (Application name) source Always content
 
 abbrev piece : ℕ → ℕ → ℕ → SinglePart
 piece number size length = record {
@@ -58,19 +47,12 @@ first = piece 1 133 140
 abbrev second : SinglePart
 second = piece 2 8 15
 
-asked_by : IsAskedBy setup long_asked u
+reads : text_in (submit_of long_asked) ≡ Ok (WholeText content)
 unfolding plain_text split_of filled
-asked_by = record {
-  account = account;
-  among = inl refl;
-  named = refl;
-  source = refl;
-  handset = refl;
-  protocol_identifier = refl;
-  reply_path = refl;
-  wish = refl;
-  text = refl;
-}
+reads = refl
+
+asked_by : IsAskedBy setup long_asked u
+asked_by = asked_of 4 (zeros 141) content reads
 
 abbrev origin : Origin
 origin = record { submission = u; parts = first ∷ second ∷ []; given_at = 1 }

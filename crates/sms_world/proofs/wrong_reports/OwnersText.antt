@@ -4,7 +4,6 @@ use Rattle.std.specs.Str.{chars}
 use Rattle.sms_alphabet.specs.Spelling.{lacks_code, septets_for, spelled}
 use Rattle.sms_base.specs.Alphabet.{code_for, main_septet_of}
 use Rattle.sms_base.specs.Among.{Among}
-use Rattle.sms_base.specs.HandsetNumber.{own_address}
 use Rattle.sms_base.specs.declared.carried.Carried.{Carried}
 use Rattle.sms_base.specs.declared.holder.Holder.TheVariants.{Entry}
 use Rattle.sms_base.specs.declared.originator.Originator.TheVariants.{Handset}
@@ -24,7 +23,6 @@ use Rattle.sms_script.specs.declared.event.WorldEvent.TheVariants.{Stopped, Whol
 use Rattle.sms_script.specs.declared.report.Report.{Report}
 use Rattle.sms_script.specs.declared.report.rows.FrameRow.{FrameRow}
 use Rattle.sms_script.specs.declared.report.rows.GivenRow.{GivenRow}
-use Rattle.sms_centre_rows.specs.declared.report_lines.ReceiptRow.{ReceiptRow}
 use Rattle.sms_centre_rows.specs.declared.report_lines.ReportedMessage.{ReportedMessage}
 use Rattle.sms_world.specs.headline.PlainReport.{Appears, IsEntered, IsOfApplication, IsOfEvent, IsOfOwner, Stays}
 use Rattle.sms_world.specs.headline.PlainScript.{Does, IsWrittenBy}
@@ -33,21 +31,11 @@ use Rattle.sms_world.specs.wrong_reports.Literals.{handset, hello, of_writer, ow
 use Rattle.sms_world.specs.wrong_reports.Tried.{OtherEntryLaw, OwnerLaw, TrueOwnerLaw, TrueSentLaw}
 use Rattle.sms_world.proofs.wrong_reports.Read.{content, part}
 use Rattle.sms_world.proofs.Options.{some_is}
+use Rattle.sms_world.proofs.wrong_reports.RightReports.{none_before, submitted}
+use Rattle.sms_world.proofs.wrong_reports.Apart.{the_one}
 
 abbrev u : Submission
-u = record {
-  originator = Handset 0;
-  source = own_address writer;
-  handset = handset;
-  protocol_identifier = 0;
-  reply_path = false;
-  wish = Nothing;
-  rejects_duplicates = false;
-  limit = 0;
-  due = 0;
-  priority = 0;
-  text = WholeText content;
-}
+u = submitted (Handset 0) writer Nothing content
 
 -- ---- the right one
 
@@ -68,9 +56,6 @@ written = record {
   text = refl;
 }
 
-only_given : (g : GivenRow) → Among g (owner_given ∷ []) → g ≡ owner_given
-only_given g i = ⊎_elim (λ (e : g ≡ owner_given). e) (λ (n : ⊥). absurd n) i
-
 number_is : (e : ℕ) → Entry 1 ≡ Entry e → 1 ≡ e
 number_is e q = cc
 
@@ -81,7 +66,7 @@ same_low e q = omega (arith, q)
 entry_one : (after_of : ℕ → Report) → ((after_of 1).given ≡ owner_given ∷ []) → (n : ℕ) → n ≡ 1 → (e : ℕ) → IsEntered after_of n writer e → 1 ≡ e
 entry_one after_of same n at e k =
     let there : Among k.given (owner_given ∷ []) = subst (λ (gs : List GivenRow). Among k.given gs) (ap (λ (i : ℕ). (after_of i).given) at ∙ same) k.there in
-    number_is e (ap (λ (z : GivenRow). z.holder) (sym (only_given k.given there)) ∙ k.holder)
+    number_is e (ap (λ (z : GivenRow). z.holder) (sym (the_one owner_given k.given there)) ∙ k.holder)
 
 of_owner : IsOfOwner owner_setup owner_events after 2 1 (record { submission = u; parts = part ∷ []; given_at = 1 })
 unfolding split_of
@@ -133,16 +118,6 @@ two_of_two = omega arith
 of_event : IsOfEvent owner_setup owner_events after (owner_line handset)
 of_event = record { number = 2; within = two_of_two; appears = appears; origin = record { submission = u; parts = part ∷ []; given_at = 1 }; makes = inr of_owner; from = refl; to = refl }
 
-the_line : (m : ReportedMessage) → Among m (owner_line handset ∷ []) → owner_line handset ≡ m
-the_line m i = ⊎_elim (λ (e : m ≡ owner_line handset). sym e) (λ (n : ⊥). absurd n) i
-
-none_before : (x y : Report) → x.table ≡ [] → x.receipts ≡ [] → Stays x y
-none_before x y no_lines no_receipts = record {
-  lines = λ m i. absurd (subst (λ (ms : List ReportedMessage). Among m ms) no_lines i);
-  final = λ m s i e. absurd (subst (λ (ms : List ReportedMessage). Among m ms) no_lines i);
-  receipts = λ r i. absurd (subst (λ (rs : List ReceiptRow). Among r rs) no_receipts i);
-}
-
 none_more : (n : ℕ) → suc (suc n) < 2 → ⊥
 none_more n l = omega (arith, l)
 
@@ -154,7 +129,7 @@ stay (suc (suc n)) l = absurd (none_more n l)
 pub has_it : TrueOwnerLaw
 has_it = record {
   ascending = (λ x i. absurd i, tt);
-  of_events = λ m i. subst (λ (z : ReportedMessage). IsOfEvent owner_setup owner_events after z) (the_line m i) of_event;
+  of_events = λ m i. subst (λ (z : ReportedMessage). IsOfEvent owner_setup owner_events after z) (sym (the_one (owner_line handset) m i)) of_event;
   stay = stay;
 }
 

@@ -1,6 +1,5 @@
 -- What the one submission of the small script is, read from its words.
 use Rattle.std.proofs.Common.{◌≡◌, ℕ, zero, suc, List, [], ◌∷◌, Bool, false, refl, sym, ◌∙◌, ap, subst, ⊎_elim, Some, None, Ok, Result}
-use Rattle.sms_base.specs.Among.{Among}
 use Rattle.sms_centre_rows.specs.declared.report_lines.ReportedMessage.{ReportedMessage}
 use Rattle.sms_world.specs.wrong_reports.Literals.{asked, account, events, hello, hello_octets, deliver, setup, source}
 use Rattle.sms_base.specs.HandsetNumber.{own_address}
@@ -29,6 +28,7 @@ use Rattle.sms_base.specs.declared.address.Address.{Address}
 use Rattle.smpp_pdu.specs.declared.status.CommandStatus.{CommandStatus}
 use Rattle.sms_base.specs.declared.wish.Wish.{Wish}
 use Rattle.sms_base.specs.declared.wish.Wish.TheVariants.{Always}
+use Rattle.sms_world.proofs.wrong_reports.Apart.{the_one}
 
 abbrev pub content : Content
 content = record { coding = Septets; dcs = 0; units = hello }
@@ -106,12 +106,9 @@ octets_by u w p a i moment ew ep ea ei em =
     ∙ ap (λ (z : Address). deliver_octets 946684800 (record u { wish = w; reply_path = p; source = z }) part) ea
     ∙ ap (λ (z : ℕ). deliver_octets 946684800 (record u { wish = w; reply_path = p; source = a; protocol_identifier = z }) part) ei
 
-only_account : (a : AccountSetup) → Among a (account ∷ []) → a ≡ account
-only_account a i = ⊎_elim (λ (e : a ≡ account). e) (λ (n : ⊥). absurd n) i
-
 -- they are those of `hello`
 pub octets_are : (u : Submission) (moment : ℕ) → moment ≡ 946684800 → IsAskedBy setup asked u → deliver_octets moment u part ≡ deliver hello_octets
 unfolding clock_at
 octets_are u moment em a =
     octets_by u Always false (own_address source) 0 moment a.wish a.reply_path
-    (a.source ∙ ap (λ (z : AccountSetup). own_address z.number) (only_account a.account a.among)) a.protocol_identifier em
+    (a.source ∙ ap (λ (z : AccountSetup). own_address z.number) (the_one account a.account a.among)) a.protocol_identifier em

@@ -1,6 +1,5 @@
-use Rattle.std.proofs.Common.{arith, ◌≡◌, ℕ, zero, suc, [], ◌∷◌, refl, sym, subst, inl, inr, ⊎_elim, ◌<◌}
+use Rattle.std.proofs.Common.{arith, ◌≡◌, ℕ, zero, suc, refl, sym, subst, inl, inr, ◌<◌}
 use Rattle.std.specs.Prelude.{◌≤◌}
-use Rattle.sms_base.specs.Among.{Among}
 use Rattle.sms_script.specs.declared.event.Act.TheVariants.{Submit}
 use Rattle.sms_script.specs.declared.event.StopPoint.TheVariants.{After}
 use Rattle.sms_script.specs.declared.event.WorldEvent.TheVariants.{Stopped, Whole}
@@ -11,6 +10,8 @@ use Rattle.sms_world.specs.headline.PlainReport.{Appears, IsOfApplication, IsOfE
 use Rattle.sms_world.specs.wrong_reports.Literals.{asked, line, nothing, setup, stopped, stopping, unanswered}
 use Rattle.sms_world.specs.wrong_reports.Tried.{TrueStopLaw}
 use Rattle.sms_world.proofs.wrong_reports.GoodReport.{asked_by, origin}
+use Rattle.sms_world.proofs.wrong_reports.RightReports.{none_before}
+use Rattle.sms_world.proofs.wrong_reports.Apart.{the_one}
 
 appears : Appears stopped 1 1
 appears = record { before = 0; next = refl; new = λ h. absurd h.1.0; there = (line Enroute, (inl refl, refl)) }
@@ -38,22 +39,16 @@ one_of_one = omega arith
 of_event : IsOfEvent setup (stopping After) stopped (line Enroute)
 of_event = record { number = 1; within = one_of_one; appears = appears; origin = origin; makes = inl of_application; from = refl; to = refl }
 
-the_line : (m : ReportedMessage) → Among m (line Enroute ∷ []) → line Enroute ≡ m
-the_line m i = ⊎_elim (λ (e : m ≡ line Enroute). sym e) (λ (n : ⊥). absurd n) i
-
-begins : Stays nothing unanswered
-begins = record { lines = λ m i. absurd i; final = λ m s i e. absurd i; receipts = λ x i. absurd i }
-
 none_more : (n : ℕ) → suc n < 1 → ⊥
 none_more n l = omega (arith, l)
 
 stay : (n : ℕ) → n < 1 → Stays (stopped n) (stopped (suc n))
-stay zero l = begins
+stay zero l = none_before nothing unanswered refl refl
 stay (suc n) l = absurd (none_more n l)
 
 pub has_it : TrueStopLaw
 has_it = record {
   ascending = (λ x i. absurd i, tt);
-  of_events = λ m i. subst (λ (z : ReportedMessage). IsOfEvent setup (stopping After) stopped z) (the_line m i) of_event;
+  of_events = λ m i. subst (λ (z : ReportedMessage). IsOfEvent setup (stopping After) stopped z) (sym (the_one (line Enroute) m i)) of_event;
   stay = stay;
 }

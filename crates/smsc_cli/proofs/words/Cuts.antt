@@ -105,9 +105,6 @@ pub refused : {A : Type 0} (r : Option A) (text : List ℕ) → ((n p : List ℕ
 refused None text h = h
 refused (Some x) text h = tt
 
-pub none_some : {A : Type 0} (a : A) → None ≡ Some a → ⊥
-none_some a e = absurd cc
-
 -- ---- one more of several
 
 pub same_name : (text n p : List ℕ) (a : Address) (k : ℕ) (m q : List ℕ) (b : Address) (l : ℕ) → SpellsAccount text n p a k → SpellsAccount text m q b l → n ≡ m

@@ -1,24 +1,20 @@
 -- Texts of decimal digits are what `parse` reads.
-use Rattle.std.proofs.Common.{◌≡◌, ℕ, ◌<◌, ◌≤◌, ◌-◌, ◌^◌, Option, Some, None, IfNone, Result, Ok, Err, subst, Bool, true, false, cond, ◌&&◌, ltb, leb, List, [], ◌∷◌, drop, length, refl, sym, ap, ◌∙◌, arith}
+use Rattle.std.proofs.Common.{◌≡◌, ℕ, ◌<◌, ◌≤◌, ◌-◌, ◌^◌, Option, Some, None, IfNone, Result, Ok, Err, subst, Bool, true, false, cond, ltb, leb, List, [], ◌∷◌, drop, length, refl, sym, ap, ◌∙◌, arith}
 use Rattle.std.specs.Char.{digit_value}
 use Rattle.std.specs.List.{list_all}
 use Rattle.std.specs.Str.Parse.{AllDigits, IsNumeral, ParsesUnsigned, digits_value, without_leading_plus}
-use Rattle.std.proofs.lemmas.Bool.{le-ltb, lt-ltb, leb-true, ne_eqb}
+use Rattle.std.proofs.lemmas.Bool.{le-ltb, lt-ltb, leb-true, ne_eqb, and_parts}
 use Rattle.sms_base.specs.HandsetNumber.{is_decimal}
 use Rattle.smsc_cli.specs.words.Numbers.{SpellsCount}
 
-both : (a b : Bool) → (a && b) ≡ true → (a ≡ true) × (b ≡ true)
-both true b e = (refl, e)
-both false b e = absurd cc
-
 between : (c : ℕ) → is_decimal c ≡ true → (48 ≤ c) × (c ≤ 57)
-between c e = let h = both (leb 48 c) (leb c 57) e in (leb-true 48 c h.0, leb-true c 57 h.1)
+between c e = let h = and_parts (leb 48 c) (leb c 57) e in (leb-true 48 c h.0, leb-true c 57 h.1)
 
 -- no sign is in front
 pub no_plus : (text : List ℕ) → list_all is_decimal text ≡ true → without_leading_plus text ≡ text
 no_plus [] e = refl
 no_plus (c ∷ cs) e =
-    let h = between c (both (is_decimal c) (list_all is_decimal cs) e).0 in
+    let h = between c (and_parts (is_decimal c) (list_all is_decimal cs) e).0 in
     let low = h.0 in
     ap (λ (b : Bool). drop (cond b 1 0) (c ∷ cs)) (ne_eqb c 43 (λ q. omega (arith, low, q)))
 
@@ -32,7 +28,7 @@ digit_below c e =
 
 all_digits : (text : List ℕ) → list_all is_decimal text ≡ true → AllDigits 10 text
 all_digits [] e = tt
-all_digits (c ∷ cs) e = let h = both (is_decimal c) (list_all is_decimal cs) e in (digit_below c h.0, all_digits cs h.1)
+all_digits (c ∷ cs) e = let h = and_parts (is_decimal c) (list_all is_decimal cs) e in (digit_below c h.0, all_digits cs h.1)
 
 pub numeral : (text : List ℕ) → 0 < length text → list_all is_decimal text ≡ true → IsNumeral 10 text
 numeral text some e = (some, all_digits text e)

@@ -2,6 +2,7 @@
 use Rattle.std.proofs.Common.{◌≡◌, ◌==◌, ◌+◌, ◌∙◌, ℕ, zero, suc, Bool, true, false, List, [], ◌∷◌, ◌++◌, length, map, Option, if◌then◌else◌, refl, sym, ap, subst, append_assoc, zero-add, arith}
 use Rattle.std.specs.Prelude.{⊤}
 use Rattle.std.proofs.lemmas.List.{map-append}
+use Rattle.sms_base.proofs.Lists.{no_items}
 use Rattle.sms_centre_spec.specs.declared.answer.CentreAnswer.{CentreAnswer}
 use Rattle.sms_centre_spec.specs.declared.jobs.job.Job.{Job}
 use Rattle.sms_centre_spec.specs.declared.jobs.reply.Reply.{Reply}
@@ -21,6 +22,7 @@ use Rattle.smsc_server.specs.serving.Connections.{Admitted, Connection, calls_of
 use Rattle.smsc_server.specs.serving.Stretches.{HaveStretches, IsLastStretch, IsStretch}
 use Rattle.smsc_server.proofs.serving.OneAnswer.{one_given, one_if, requests_of}
 use Rattle.smsc_server.proofs.serving.Stretched.{jobs_first}
+use Rattle.smsc_server.proofs.RunKept.{between}
 
 -- ---- lists
 
@@ -47,15 +49,8 @@ answers_count (Receipt end ∷ l) = answers_count l
 answers_count (Frame octets ∷ l) = answers_count l
 answers_count (Taken ∷ l) = answers_count l
 
-suc_zero : (n : ℕ) → suc n ≡ 0 → ⊥
-suc_zero n e = omega (arith, e)
-
 zero_suc : (n : ℕ) → 0 ≡ suc n → ⊥
 zero_suc n e = omega (arith, e)
-
-none_there : {A : Type 0} (l : List A) → length l ≡ 0 → l ≡ []
-none_there [] e = refl
-none_there (x ∷ l) e = absurd (suc_zero (length l) e)
 
 -- ---- one item
 
@@ -81,8 +76,8 @@ asked_at job answers false is e = refl
 answered_at : (job : Job) (answers : List CentreAnswer) (at is : Bool) → length answers ≡ one_if at is
     → map answered_in (if at then (if is then map (exchange job) answers else []) else []) ≡ answers
 answered_at job answers true true e = one_answered job answers
-answered_at job answers true false e = sym (none_there answers e)
-answered_at job answers false is e = sym (none_there answers e)
+answered_at job answers true false e = sym (no_items answers e)
+answered_at job answers false is e = sym (no_items answers e)
 
 requests_if : (job : Job) (at : Bool) → (if at then (if is_request job then job ∷ [] else []) else []) ≡ requests_among (if at then job ∷ [] else [])
 requests_if job true = refl
@@ -93,8 +88,8 @@ exchanged_at n (JobOf seat job) answers e = record {
   asked = asked_at job answers (n == seat) (is_request job) e ∙ requests_if job (n == seat);
   answered = answered_at job answers (n == seat) (is_request job) e;
 }
-exchanged_at n (Tick now) answers e = record { asked = refl; answered = sym (none_there answers e) }
-exchanged_at n (Own errand) answers e = record { asked = refl; answered = sym (none_there answers e) }
+exchanged_at n (Tick now) answers e = record { asked = refl; answered = sym (no_items answers e) }
+exchanged_at n (Own errand) answers e = record { asked = refl; answered = sym (no_items answers e) }
 
 -- ---- a part of the history
 
@@ -125,11 +120,6 @@ module _ (n : ℕ) where
 
 -- ---- the connections of a seat
 
-parted : (one other : List (Item Job Reply)) (s t : Serving) → IsHistory gives after s (one ++ other) t
-    → (m : Serving) × IsHistory gives after s one m × IsHistory gives after m other t
-parted [] other s t h = (s, refl, h)
-parted (e ∷ one) other s t h = let p = parted one other (after s e.stimulus e.fate) t h.1 in (p.0, (h.0, p.1), p.2)
-
 module _ {S : Type 0} (remaining contents : S → Option (List ℕ)) (admitted : Admitted) (n : ℕ) where
   own_exchanged : (s : Serving) (items : List (Item Job Reply)) (t : Serving) (calls : List Call) → IsHistory gives after s items t → IsStretch n calls items
       → AreExchanged n s calls items
@@ -151,7 +141,7 @@ module _ {S : Type 0} (remaining contents : S → Option (List ℕ)) (admitted :
   exchanged [] s items t h k = tt
   exchanged (c ∷ []) s items t h k = last_exchanged s items t (calls_of remaining contents admitted c) h k
   exchanged (c ∷ next ∷ cs) s items t h k =
-      let p = parted k.0 k.1 s t (subst (λ (l : List (Item Job Reply)). IsHistory gives after s l t) k.2 h) in (
+      let p = between k.0 k.1 s t (subst (λ (l : List (Item Job Reply)). IsHistory gives after s l t) k.2 h) in (
         k.0,
         k.1,
         p.0,

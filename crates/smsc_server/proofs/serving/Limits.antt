@@ -1,23 +1,21 @@
 -- How many sessions an account has once somebody is bound at a seat, or nobody, and which accounts are full.
-use Rattle.std.proofs.Common.{◌≡◌, ◌≢◌, ◌≤◌, ◌<◌, ◌+◌, ℕ, zero, suc, Bool, true, false, cond, not, eqb, List, [], ◌∷◌, length, set, replicate, Option, Some, None, inl, inr, refl, sym, ap, subst, ◌∙◌, arith}
-use Rattle.std.proofs.lemmas.Bool.{ltb-true}
+use Rattle.std.proofs.Common.{◌≡◌, ◌≢◌, ◌≤◌, ◌<◌, ◌+◌, ℕ, zero, suc, Bool, true, false, not, eqb, List, [], ◌∷◌, length, set, replicate, Option, Some, None, inl, inr, refl, sym, ap, subst, ◌∙◌, arith}
+use Rattle.std.proofs.lemmas.Bool.{eqb-true, ltb-true}
 use Rattle.std.proofs.lemmas.Bool.Decides.{eqb_tells}
 use Rattle.std.proofs.lemmas.List.{length-set, length-replicate}
 use Rattle.smpp_session.specs.Logins.{is_full}
 use Rattle.smsc_server.specs.serving.SessionLimits.{AreWithin, count_of, full_where, has_room, is_of, limit_of, rises}
+use Rattle.smsc_endpoint.proofs.Requests.{counted_in}
 
 abbrev one_if : Bool → ℕ
 one_if true = 1
 one_if false = 0
 
-abbrev with_one : Bool → ℕ → ℕ
-with_one b n = cond b (suc n) n
-
-with_at_most : (b : Bool) (n : ℕ) → n ≤ with_one b n
+with_at_most : (b : Bool) (n : ℕ) → n ≤ counted_in b n
 with_at_most true n = omega arith
 with_at_most false n = omega arith
 
-with_is : (b : Bool) (n : ℕ) → with_one b n ≡ n + one_if b
+with_is : (b : Bool) (n : ℕ) → counted_in b n ≡ n + one_if b
 with_is true n = omega arith
 with_is false n = omega arith
 
@@ -41,9 +39,6 @@ none_within limits seats seat within account =
     let was = within account in
     omega (arith, few, was)
 
-equal : (a b : ℕ) → eqb a b ≡ true → a ≡ b
-equal a b e = elim (eqb_tells a b) [ inl w ↦ w.1 | inr w ↦ absurd cc ]
-
 differ : (a b : ℕ) → eqb a b ≡ false → a ≢ b
 differ a b e = elim (eqb_tells a b) [ inl w ↦ absurd cc | inr w ↦ w.1 ]
 
@@ -57,7 +52,7 @@ one_within limits seats seat account within room other = by_test (eqb account ot
   by_test true e =
       let one : one_if (eqb account other) ≡ 1 = ap one_if e in
       let less : count_of account seats < limit_of account limits = ltb-true _ _ room in
-      let same : account ≡ other = equal account other e in
+      let same : account ≡ other = eqb-true account other e in
       let here : count_of other seats < limit_of other limits = subst (λ (a : ℕ). count_of a seats < limit_of a limits) same less in
       omega (arith, few, one, here)
   by_test false e =
@@ -139,7 +134,7 @@ module _ (may : ℕ → Bool) (count : ℕ) (full : List Bool) (t : Tells may co
   } where
     by_test : (account : ℕ) → account < count + 1 → (b : Bool) → eqb account count ≡ b → is_full account (set full count true) ≡ not (may account)
     by_test account h true e =
-        let same : count ≡ account = sym (equal account count e) in
+        let same : count ≡ account = sym (eqb-true account count e) in
         subst (λ (a : ℕ). is_full a (set full count true) ≡ not (may a)) same
         (put_full full count (let size = t.size in omega (arith, fits, size)) ∙ ap not (sym room))
     by_test account h false e =
@@ -154,7 +149,7 @@ module _ (may : ℕ → Bool) (count : ℕ) (full : List Bool) (t : Tells may co
   } where
     by_test : (account : ℕ) → account < count + 1 → (b : Bool) → eqb account count ≡ b → is_full account full ≡ not (may account)
     by_test account h true e =
-        let same : count ≡ account = sym (equal account count e) in
+        let same : count ≡ account = sym (eqb-true account count e) in
         subst (λ (a : ℕ). is_full a full ≡ not (may a)) same (t.rest count (omega arith) ∙ ap not (sym room))
     by_test account h false e = let apart : account ≢ count = differ account count e in t.told account (omega (arith, h, apart))
 

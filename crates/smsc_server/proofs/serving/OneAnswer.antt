@@ -5,7 +5,7 @@ use Rattle.std.specs.Option.{is_some}
 use Rattle.std.proofs.lemmas.Bool.{cond_both, eq-eqb}
 use Rattle.std.proofs.lemmas.Option.{none-some}
 use Rattle.smpp_pdu.specs.declared.body.Body.{Body}
-use Rattle.smpp_pdu.specs.declared.body.Body.TheVariants.{BindReceiver, BindTransmitter, BindTransceiver, SubmitSm, DeliverSm, QuerySm, CancelSm, Unbind as UnbindBody, EnquireLink, GenericNack, BindReceiverResp, BindTransmitterResp, BindTransceiverResp, SubmitSmResp, DeliverSmResp, QuerySmResp, CancelSmResp, UnbindResp, EnquireLinkResp}
+use Rattle.smpp_pdu.specs.declared.body.Body.TheVariants.{BindReceiver, BindTransmitter, BindTransceiver, SubmitSm, DeliverSm, QuerySm, CancelSm}
 use Rattle.smpp_pdu.specs.declared.fault.PduFault.{PduFault}
 use Rattle.smpp_pdu.specs.declared.pdu.Pdu.{Pdu}
 use Rattle.smpp_pdu.specs.declared.status.CommandStatus.{CommandStatus}
@@ -47,11 +47,11 @@ use Rattle.smsc_service.specs.Numbers.{is_number}
 use Rattle.smsc_service.specs.Replies.{answer_out, end_of, failed, for_seat, frame_out, frame_outs, receipt_out, receipt_outs, replies_at, replies_to, risen_by, seat_for, vacancy}
 use Rattle.smsc_service.specs.Seats.{Seats, handset_at, seat_of}
 use Rattle.smsc_service.specs.Serving.{Serving, after, after_for, gives, gives_for, outs_for, refusal_for, refusal_of, short_of, unless_refused}
-use Rattle.smsc_server.proofs.serving.Unanswered.{answered_unanswered, bound_unanswered, cancel_answered, down_unanswered, frame_unanswered, query_answered, submit_answered, tick_unanswered, unbound_unanswered, up_unanswered}
+use Rattle.sms_centre_spec.proofs.Unanswered.{answered_unanswered, bound_unanswered, cancel_answered, down_unanswered, frame_unanswered, query_answered, submit_answered, tick_unanswered, unbound_unanswered, up_unanswered}
 
 -- ---- counted among what is given to a seat
 
-answers_join : (a b : List Reply) → answers_in (a ++ b) ≡ answers_in a + answers_in b
+pub answers_join : (a b : List Reply) → answers_in (a ++ b) ≡ answers_in a + answers_in b
 answers_join [] b = sym (zero-add (answers_in b))
 answers_join (Answer answer ∷ a) b = let e = answers_join a b in omega arith
 answers_join (Receipt end ∷ a) b = answers_join a b
@@ -178,21 +178,7 @@ submits c account pdu (BindReceiver x) = tt
 submits c account pdu (BindTransmitter x) = tt
 submits c account pdu (BindTransceiver x) = tt
 submits c account pdu (SubmitSm asked) = (submit_answered account asked c, λ status e. refl)
-submits c account pdu (DeliverSm x) = tt
-submits c account pdu (QuerySm x) = tt
-submits c account pdu (CancelSm x) = tt
-submits c account pdu UnbindBody = tt
-submits c account pdu EnquireLink = tt
-submits c account pdu GenericNack = tt
-submits c account pdu (BindReceiverResp x) = tt
-submits c account pdu (BindTransmitterResp x) = tt
-submits c account pdu (BindTransceiverResp x) = tt
-submits c account pdu (SubmitSmResp x) = tt
-submits c account pdu (DeliverSmResp x) = tt
-submits c account pdu (QuerySmResp x) = tt
-submits c account pdu CancelSmResp = tt
-submits c account pdu UnbindResp = tt
-submits c account pdu EnquireLinkResp = tt
+submits c account pdu _ = tt
 
 queries : (c : Core) (account : ℕ) (pdu : List ℕ) (body : Body) → Suits c (Query account pdu) (question account body)
 queries c account pdu (BindReceiver x) = tt
@@ -201,19 +187,7 @@ queries c account pdu (BindTransceiver x) = tt
 queries c account pdu (SubmitSm x) = tt
 queries c account pdu (DeliverSm x) = tt
 queries c account pdu (QuerySm asked) = (query_answered account asked c, λ status e. refl)
-queries c account pdu (CancelSm x) = tt
-queries c account pdu UnbindBody = tt
-queries c account pdu EnquireLink = tt
-queries c account pdu GenericNack = tt
-queries c account pdu (BindReceiverResp x) = tt
-queries c account pdu (BindTransmitterResp x) = tt
-queries c account pdu (BindTransceiverResp x) = tt
-queries c account pdu (SubmitSmResp x) = tt
-queries c account pdu (DeliverSmResp x) = tt
-queries c account pdu (QuerySmResp x) = tt
-queries c account pdu CancelSmResp = tt
-queries c account pdu UnbindResp = tt
-queries c account pdu EnquireLinkResp = tt
+queries c account pdu _ = tt
 
 cancels : (c : Core) (account : ℕ) (pdu : List ℕ) (body : Body) → Suits c (Cancel account pdu) (withdrawal account body)
 cancels c account pdu (BindReceiver x) = tt
@@ -223,18 +197,7 @@ cancels c account pdu (SubmitSm x) = tt
 cancels c account pdu (DeliverSm x) = tt
 cancels c account pdu (QuerySm x) = tt
 cancels c account pdu (CancelSm asked) = (cancel_answered account asked c, λ status e. refl)
-cancels c account pdu UnbindBody = tt
-cancels c account pdu EnquireLink = tt
-cancels c account pdu GenericNack = tt
-cancels c account pdu (BindReceiverResp x) = tt
-cancels c account pdu (BindTransmitterResp x) = tt
-cancels c account pdu (BindTransceiverResp x) = tt
-cancels c account pdu (SubmitSmResp x) = tt
-cancels c account pdu (DeliverSmResp x) = tt
-cancels c account pdu (QuerySmResp x) = tt
-cancels c account pdu CancelSmResp = tt
-cancels c account pdu UnbindResp = tt
-cancels c account pdu EnquireLinkResp = tt
+cancels c account pdu _ = tt
 
 reads : (c : Core) (job : Job) (ask : Body → SeatRequest) → ((body : Body) → Suits c job (ask body)) → (r : Result Pdu PduFault) → Suits c job (read_as ask r)
 reads c job ask h (Ok pdu) = h pdu.body
@@ -374,15 +337,7 @@ nothing_is s n account = either_nothing (nat_lt n 32) (asked s.seats n (Query ac
 -- a request that asks nothing changes nothing
 pub nothing_after : (s : Serving) (n : ℕ) (job : Job) (fate : Fate) → asks_nothing job ≡ true → after s (JobOf n job) fate ≡ s
 nothing_after s n (Query account []) fate h = ap (λ (x : SeatRequest). after_for x fate s (JobOf n (Query account []))) (nothing_is s n account)
-nothing_after s n (Query account (octet ∷ pdu)) fate h = absurd (true≢false (sym h))
-nothing_after s n (Bound account receives) fate h = absurd (true≢false (sym h))
-nothing_after s n Unbound fate h = absurd (true≢false (sym h))
-nothing_after s n (Submit account pdu) fate h = absurd (true≢false (sym h))
-nothing_after s n (Cancel account pdu) fate h = absurd (true≢false (sym h))
-nothing_after s n (DeliverAnswered id is_accepted) fate h = absurd (true≢false (sym h))
-nothing_after s n (LinkUp handset) fate h = absurd (true≢false (sym h))
-nothing_after s n LinkDown fate h = absurd (true≢false (sym h))
-nothing_after s n (Frame octets) fate h = absurd (true≢false (sym h))
+nothing_after s n _ fate h = absurd (true≢false (sym h))
 
 -- It has an answer, and that alone: who is at the seat.
 pub nothing_given : (s : Serving) (n : ℕ) (job : Job) (fate : Fate) → asks_nothing job ≡ true
@@ -391,11 +346,4 @@ nothing_given s n (Query account []) fate h =
     ap (λ (x : SeatRequest). outs_to n (outs_for x fate s (JobOf n (Query account [])))) (nothing_is s n account)
     ∙ (ap (outs_to n) (nothing_outs s n account fate) ∙ ap (λ (b : Bool). here b (Answer (RefusedBy (vacancy n s.seats)))) (eq-eqb n n refl))
 nothing_given s n (Query account (octet ∷ pdu)) fate h = absurd (true≢false (sym h))
-nothing_given s n (Bound account receives) fate h = absurd (true≢false (sym h))
-nothing_given s n Unbound fate h = absurd (true≢false (sym h))
-nothing_given s n (Submit account pdu) fate h = absurd (true≢false (sym h))
-nothing_given s n (Cancel account pdu) fate h = absurd (true≢false (sym h))
-nothing_given s n (DeliverAnswered id is_accepted) fate h = absurd (true≢false (sym h))
-nothing_given s n (LinkUp handset) fate h = absurd (true≢false (sym h))
-nothing_given s n LinkDown fate h = absurd (true≢false (sym h))
-nothing_given s n (Frame octets) fate h = absurd (true≢false (sym h))
+nothing_given s n _ fate h = absurd (true≢false (sym h))

@@ -7,12 +7,12 @@ use Rattle.sms_seats.specs.declared.seat.Seat.{Seat}
 use Rattle.sms_seats.specs.Jobs.{has_end, jobs_among, of}
 use Rattle.sms_seats.specs.Seats.{IsSameSeat, number_of, put_by, taken_by}
 use Rattle.sms_keeper.specs.History.{for_seat, work}
-use Rattle.smsc_loop.specs.Calls.{Call, Timed, Told, Took, Heard, GaveUp, AskedLink, AskedToLeave, Noted, Sent, Put, PutBack, Left, PutLast, PutOwn, Dropped, Refused}
+use Rattle.smsc_loop.specs.Calls.{Call}
 use Rattle.smsc_loop.specs.Calls.{jobs_put, replies_taken}
 use Rattle.smsc_loop.specs.Courses.{Did, Standing}
 use Rattle.smsc_loop.specs.Emptying.{Drops}
 use Rattle.smsc_loop.specs.Owing.{IsCleared}
-use Rattle.smsc_loop.proofs.Joins.{seat_same, seat_trans}
+use Rattle.smsc_loop.proofs.Joins.{jobs_put_join, replies_taken_join, seat_same, seat_trans}
 use Rattle.smsc_arrivals.specs.declared.arrival.Arrival.{Arrival}
 use Rattle.smsc_server.specs.serving.Connections.{Admitted, Connection, Session, Link, TurnedAway, HasSat, Sits, calls_of, came_as}
 use Rattle.smsc_server.specs.serving.Sittings.{AllSatDown, HaveSat, InTurn, IsHandedBack, SatDown, SeatDid, arrivals_of, jobs_by, replies_to}
@@ -26,51 +26,13 @@ record DidAt (calls : List Call) (s t : Seat Job Reply) : Type 0 where
 at_ends : (calls : List Call) (r s t u : Seat Job Reply) → r ≡ s → t ≡ u → DidAt calls r t → DidAt calls s u
 at_ends calls r s t u e f d = subst (λ (x : Seat Job Reply). DidAt calls s x) f (subst (λ (x : Seat Job Reply). DidAt calls x t) e d)
 
-pub put_join : (a b : List Call) → jobs_put (a ++ b) ≡ jobs_put a ++ jobs_put b
-put_join [] b = refl
-put_join (Timed now went ∷ a) b = put_join a b
-put_join (Told full ∷ a) b = put_join a b
-put_join (Took octets went ∷ a) b = put_join a b
-put_join (Heard reply went ∷ a) b = put_join a b
-put_join (GaveUp went ∷ a) b = put_join a b
-put_join (AskedLink went ∷ a) b = put_join a b
-put_join (AskedToLeave asked went ∷ a) b = put_join a b
-put_join (Noted said ∷ a) b = put_join a b
-put_join (Sent octets ∷ a) b = put_join a b
-put_join (Put job ∷ a) b = ap (λ (l : List (Option Job)). Some job ∷ l) (put_join a b)
-put_join (PutBack job again went ∷ a) b = put_join a b
-put_join (Left last ∷ a) b = put_join a b
-put_join (PutLast job ∷ a) b = ap (λ (l : List (Option Job)). Some job ∷ l) (put_join a b)
-put_join (PutOwn job ∷ a) b = ap (λ (l : List (Option Job)). Some job ∷ l) (put_join a b)
-put_join (Dropped reply ∷ a) b = put_join a b
-put_join (Refused reply ∷ a) b = put_join a b
-
-pub taken_join : (a b : List Call) → replies_taken (a ++ b) ≡ replies_taken a ++ replies_taken b
-taken_join [] b = refl
-taken_join (Timed now went ∷ a) b = taken_join a b
-taken_join (Told full ∷ a) b = taken_join a b
-taken_join (Took octets went ∷ a) b = taken_join a b
-taken_join (Heard reply went ∷ a) b = ap (λ (l : List Reply). reply ∷ l) (taken_join a b)
-taken_join (GaveUp went ∷ a) b = taken_join a b
-taken_join (AskedLink went ∷ a) b = taken_join a b
-taken_join (AskedToLeave asked went ∷ a) b = taken_join a b
-taken_join (Noted said ∷ a) b = taken_join a b
-taken_join (Sent octets ∷ a) b = taken_join a b
-taken_join (Put job ∷ a) b = taken_join a b
-taken_join (PutBack job again went ∷ a) b = taken_join a b
-taken_join (Left last ∷ a) b = taken_join a b
-taken_join (PutLast job ∷ a) b = taken_join a b
-taken_join (PutOwn job ∷ a) b = taken_join a b
-taken_join (Dropped reply ∷ a) b = ap (λ (l : List Reply). reply ∷ l) (taken_join a b)
-taken_join (Refused reply ∷ a) b = ap (λ (l : List Reply). reply ∷ l) (taken_join a b)
-
 did_at : {V : Type 0} (does : Call → V → V → Type 0) (r s t : Standing V) (p : Did does r s) (q : Did does s t) → DidAt (p.calls ++ q.calls) r.seat t.seat
 did_at does r s t p q = record {
   put = q.put_so ∙ (ap (λ (l : List (Option Job)). l ++ jobs_put q.calls) p.put_so
-      ∙ (append_assoc (put_by r.seat) (jobs_put p.calls) (jobs_put q.calls) ∙ ap (λ (l : List (Option Job)). put_by r.seat ++ l) (sym (put_join p.calls q.calls))));
+      ∙ (append_assoc (put_by r.seat) (jobs_put p.calls) (jobs_put q.calls) ∙ ap (λ (l : List (Option Job)). put_by r.seat ++ l) (sym (jobs_put_join p.calls q.calls))));
   taken = q.taken_so ∙ (ap (λ (l : List Reply). l ++ replies_taken q.calls) p.taken_so
       ∙ (append_assoc (taken_by r.seat) (replies_taken p.calls) (replies_taken q.calls)
-      ∙ ap (λ (l : List Reply). taken_by r.seat ++ l) (sym (taken_join p.calls q.calls))));
+      ∙ ap (λ (l : List Reply). taken_by r.seat ++ l) (sym (replies_taken_join p.calls q.calls))));
   seat = seat_trans r.seat s.seat t.seat p.seat_so q.seat_so;
 }
 

@@ -26,16 +26,10 @@ use Rattle.smsc_service.specs.Serving.{Serving, after, gives}
 use Rattle.smsc_server.specs.serving.Connections.{Admitted, Connection, calls_of}
 use Rattle.smsc_server.specs.serving.Sittings.{InTurn, jobs_by, replies_to}
 use Rattle.smsc_server.specs.serving.Stretches.{HaveStretches, HaveVacated, IsLastStretch, IsStretch}
-use Rattle.smsc_server.proofs.serving.OneAnswer.{nothing_after, nothing_given, one_given, one_if, requests_of}
+use Rattle.smsc_server.proofs.serving.OneAnswer.{answers_join, nothing_after, nothing_given, one_given, one_if, requests_of}
+use Rattle.smsc_server.proofs.serving.Sat.{jobs_join}
 
 -- ---- what counts in two parts
-
-answers_join : (a b : List Reply) → answers_in (a ++ b) ≡ answers_in a + answers_in b
-answers_join [] b = sym (zero-add (answers_in b))
-answers_join (Answer answer ∷ a) b = let e = answers_join a b in omega arith
-answers_join (Receipt end ∷ a) b = answers_join a b
-answers_join (Frame octets ∷ a) b = answers_join a b
-answers_join (Taken ∷ a) b = answers_join a b
 
 abbrev counted : Bool → ℕ → ℕ
 counted b n = if b then suc n else n
@@ -151,11 +145,6 @@ jobs_first n e es = for_join n (asked_by e.stimulus) (asked es)
 abbrev requests_among : List Job → ℕ
 requests_among [] = 0
 requests_among (job ∷ jobs) = counted (is_request job) (requests_among jobs)
-
-among_join : (a b : List (Option Job)) → jobs_among (a ++ b) ≡ jobs_among a ++ jobs_among b
-among_join [] b = refl
-among_join (None ∷ a) b = among_join a b
-among_join (Some job ∷ a) b = ap (λ (l : List Job). job ∷ l) (among_join a b)
 
 requests_so : (put : List (Option Job)) → requests_in put ≡ requests_among (jobs_among put)
 requests_so [] = refl
@@ -430,7 +419,7 @@ module _ {S : Type 0} (remaining contents : S → Option (List ℕ)) (admitted :
       let replies_then = replies_to remaining contents admitted (next ∷ cs) in
       let cleared = turn.1.0 in
       let whole : jobs_of n items ≡ (ends.before ++ ends.last ∷ []) ++ others =
-      jobs ∙ (among_join put (jobs_by remaining contents admitted (next ∷ cs)) ∙ ap (λ (l : List Job). l ++ others) ends.jobs_so) in
+      jobs ∙ (jobs_join put (jobs_by remaining contents admitted (next ∷ cs)) ∙ ap (λ (l : List Job). l ++ others) ends.jobs_so) in
       let x = cut n s items t h ends.before ends.last others ends.asks whole in
       let own_jobs_so : jobs_of n x.own ≡ jobs_among put = x.jobs_so ∙ sym ends.jobs_so in
       let count : answers_in (replies_in n x.own) ≡ answers_in taken =

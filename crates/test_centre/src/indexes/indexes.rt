@@ -1,5 +1,5 @@
 //! An index beside a copy of it that changes on.
-use crate::indexes::names::at;
+use crate::indexes::names::START;
 use crate::rows::holds;
 use sms_base::Moment;
 use sms_rows::index::{Dated, Index};
@@ -36,56 +36,80 @@ fn number_of(visit: Option<Visit>) -> u32 {
     }
 }
 
-fn visit_of(number: u32, seconds: u32) -> Result<Visit, Fail> {
-    Ok(Visit {
+fn visit_of(number: u32, start: Moment, seconds: u32) -> Visit {
+    Visit {
         number,
-        moment: at(seconds)?,
-    })
+        moment: start.plus(u64::from(seconds)),
+    }
 }
 
 // A thousand rows, the last first; row n has the moment n.
-fn put_thousand(index: &mut Index<Visit>) -> Result<(), Fail> {
+fn puts_thousand(index: &mut Index<Visit>, start: Moment) -> bool {
     for below in 0..1_000_u32 {
         let number = 1_000 - below;
-        index.put(visit_of(number, number)?)?;
+        if index.put(visit_of(number, start, number)).is_err() {
+            return false;
+        }
+    }
+    true
+}
+
+// What is looked for from a number on, where 500 is the moment that it is.
+#[derive(Clone, Copy)]
+enum Look {
+    Row(u64),
+    Past(u64),
+    Ahead(u64),
+}
+
+const LOOKS: &[(Look, u32, &str)] = &[
+    (Look::Row(77), 77, "a row"),
+    (Look::Past(10), 10, "the first row whose moment is come"),
+    (
+        Look::Ahead(10),
+        501,
+        "the first row whose moment is to come",
+    ),
+];
+
+fn found(index: &Index<Visit>, now: Moment, look: &Look) -> u32 {
+    match look {
+        Look::Row(number) => number_of(index.find(Key::of(*number))),
+        Look::Past(number) => number_of(index.first_past(Key::of(*number), now)),
+        Look::Ahead(number) => number_of(index.first_ahead(Key::of(*number), now)),
+    }
+}
+
+fn finds(index: &Index<Visit>, now: Moment) -> Result<(), Fail> {
+    for (look, number, name) in LOOKS {
+        holds(found(index, now, look) == *number, name)?;
     }
     Ok(())
 }
 
-fn finds(index: &Index<Visit>) -> Result<(), Fail> {
-    let now = at(500)?;
-    holds(number_of(index.find(Key::of(77))) == 77, "a row")?;
-    holds(
-        number_of(index.first_past(Key::of(10), now)) == 10,
-        "the first row whose moment is come",
-    )?;
-    holds(
-        number_of(index.first_ahead(Key::of(10), now)) == 501,
-        "the first row whose moment is to come",
-    )
-}
-
 // The copy loses row 77, and has no row 501 whose moment is to come.
-fn copy_goes_on(index: &Index<Visit>) -> Result<bool, Fail> {
-    let mut copy = index.share()?;
-    changes(&mut copy)
+fn changes(copy: &mut Index<Visit>, start: Moment) -> bool {
+    copy.remove(Key::of(77)).is_ok()
+        && copy
+            .set(Key::of(501), Some(visit_of(501, start, 0)))
+            .is_ok()
+        && copy.set(Key::of(502), None).is_ok()
+        && copy.find(Key::of(77)).is_none()
+        && number_of(copy.first_ahead(Key::of(10), start.plus(500))) == 503
 }
 
-fn changes(copy: &mut Index<Visit>) -> Result<bool, Fail> {
-    copy.remove(Key::of(77))?;
-    copy.set(Key::of(501), Some(visit_of(501, 0)?))?;
-    copy.set(Key::of(502), None)?;
-    Ok(
-        copy.find(Key::of(77)).is_none()
-            && number_of(copy.first_ahead(Key::of(10), at(500)?)) == 503,
-    )
+fn copy_goes_on(index: &Index<Visit>, start: Moment) -> bool {
+    match index.share() {
+        Ok(mut copy) => changes(&mut copy, start),
+        Err(_) => false,
+    }
 }
 
-fn goes_beside(index: &mut Index<Visit>) -> Result<(), Fail> {
-    put_thousand(index)?;
-    finds(index)?;
-    holds(copy_goes_on(index)?, "a copy")?;
-    finds(index)
+fn goes_beside(index: &mut Index<Visit>, start: Moment) -> Result<(), Fail> {
+    holds(puts_thousand(index, start), "a thousand rows")?;
+    finds(index, start.plus(500))?;
+    holds(copy_goes_on(index, start), "a copy")?;
+    finds(index, start.plus(500))
 }
 
 fn empty(alloc: Global) -> Index<Visit> {
@@ -94,6 +118,7 @@ fn empty(alloc: Global) -> Index<Visit> {
 
 #[test]
 fn a_copy_of_an_index_goes_on_by_itself(rt: HostRuntime) -> Result<(), Fail> {
+    let start = Moment::from_seconds(START)?;
     let mut index = empty(rt.alloc());
-    goes_beside(&mut index)
+    goes_beside(&mut index, start)
 }

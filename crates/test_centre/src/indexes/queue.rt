@@ -1,211 +1,317 @@
 //! What waits for a handset, and its line.
-use crate::indexes::names::{at, digits, message};
-use crate::rows::holds;
-use sms_base::{Holder, Kind};
+use crate::indexes::names::{START, digits, message};
+use crate::rows::{failed_at, holds};
+use sms_base::{Holder, Kind, Listed, Moment};
 use sms_centre_queue::queue::DeliveryQueue;
 use sms_centre_rows::waiting::QueuedPart;
-use std::alloc::Global;
+use sms_link::{LinkOut, Outgoing};
+use std::alloc::{AllocError, Global};
 use std::test::Fail;
 
-fn queued(id: u32, number: u8, priority: u8, seconds: u32) -> Result<QueuedPart, Fail> {
-    Ok(QueuedPart {
+// A step of a course of a queue.
+#[derive(Clone, Copy)]
+enum Step {
+    // A part of a message, by its number and priority, is put, due in so many seconds.
+    Puts(u32, u8, u8, u32),
+    // Forty messages of one part are put.
+    PutsMany,
+    // After so many seconds the message with that part goes first.
+    Next(u32, u64, u8),
+    // Whether another one than the first part of message 1 waits then.
+    Beside(u32, bool),
+    Removes(u32, u8),
+    // All is due after so many seconds.
+    DueAt(u32),
+    // That part is queued.
+    Has(u32, u8),
+    Withdraws(u32),
+    // So many parts wait.
+    Waits(usize),
+    // The reference that comes next.
+    Reference(u8),
+    // References are given, from the first to the last.
+    Gives(u8, u8),
+    // The handset has a row.
+    HasRow,
+    Line(LineStep),
+}
+
+// A step of the line, at so many seconds; one frame goes out where any is to.
+#[derive(Clone, Copy)]
+enum LineStep {
+    Raises,
+    Lowers,
+    // Whether the line is up.
+    IsReady(bool),
+    Begins,
+    Fires(u32),
+    Takes(&'static [u8]),
+    Replies(u32),
+}
+
+fn part(start: Moment, id: u32, number: u8, priority: u8, seconds: u32) -> Option<QueuedPart> {
+    Some(QueuedPart {
         id: message(id)?,
         number,
         reference: number,
         priority,
-        due: at(seconds)?,
+        due: start.plus(u64::from(seconds)),
     })
 }
 
-// The message that goes first at that time, and the number of its part.
-fn next(queue: &DeliveryQueue, seconds: u32) -> Result<(u64, u8), Fail> {
-    match queue.next(at(seconds)?) {
-        Some(queued) => Ok((queued.id.number(), queued.number)),
-        None => Ok((0, 0)),
+fn puts(queue: &mut DeliveryQueue, part: Option<QueuedPart>) -> bool {
+    match part {
+        Some(part) => queue.put(part).is_ok(),
+        None => false,
     }
 }
 
-fn goes_next(queue: &DeliveryQueue, seconds: u32, id: u64, number: u8) -> Result<bool, Fail> {
-    Ok(next(queue, seconds)? == (id, number))
+fn puts_many(queue: &mut DeliveryQueue, start: Moment) -> bool {
+    for id in 1u32..41 {
+        if !puts(queue, part(start, id, 1, 0, 0)) {
+            return false;
+        }
+    }
+    true
 }
 
-// Message 1 in two parts, the second due in an hour, and message 2 of a higher priority, due in a minute.
-fn put_three(queue: &mut DeliveryQueue) -> Result<(), Fail> {
-    queue.put(queued(1, 1, 0, 0)?)?;
-    queue.put(queued(1, 2, 0, 3_600)?)?;
-    queue.put(queued(2, 1, 1, 60)?)?;
-    Ok(())
+// The message that goes first, and the number of its part.
+fn next(queue: &DeliveryQueue, now: Moment) -> (u64, u8) {
+    match queue.next(now) {
+        Some(queued) => (queued.id.number(), queued.number),
+        None => (0, 0),
+    }
 }
 
-fn waits_in_order(queue: &mut DeliveryQueue) -> Result<(), Fail> {
-    put_three(queue)?;
-    holds(goes_next(queue, 0, 1, 1)?, "what is due")?;
-    holds(goes_next(queue, 60, 2, 1)?, "what has the higher priority")?;
-    let first = queued(1, 1, 0, 0)?;
+fn waits_beside(queue: &DeliveryQueue, start: Moment, now: Moment) -> Option<bool> {
+    let first = part(start, 1, 1, 0, 0)?;
+    Some(queue.waits_beside(now, &first))
+}
+
+fn removes(queue: &mut DeliveryQueue, id: u32, number: u8) -> bool {
+    match message(id) {
+        Some(id) => queue.remove(id, number).is_ok(),
+        None => false,
+    }
+}
+
+fn has(queue: &DeliveryQueue, id: u32, number: u8) -> bool {
+    match message(id) {
+        Some(id) => queue.queued(id, number).is_some(),
+        None => false,
+    }
+}
+
+fn withdraws(queue: &mut DeliveryQueue, id: u32) -> bool {
+    match message(id) {
+        Some(id) => queue.withdraw(id).is_ok(),
+        None => false,
+    }
+}
+
+fn waits(queue: &DeliveryQueue, count: usize) -> bool {
+    match queue.waiting() {
+        Ok(waiting) => waiting.len() == count,
+        Err(_) => false,
+    }
+}
+
+fn gives(queue: &mut DeliveryQueue, start: Moment, first: u8, last: u8) -> bool {
+    for reference in first..last.saturating_add(1) {
+        let row = queue.row_or_new(1);
+        if queue.give(row, reference, start).is_err() {
+            return false;
+        }
+    }
+    true
+}
+
+fn is_one(frames: Result<Listed<Outgoing>, AllocError>) -> bool {
+    match frames {
+        Ok(frames) => frames.len() == 1,
+        Err(_) => false,
+    }
+}
+
+fn sends_one(out: Result<LinkOut, AllocError>) -> bool {
+    match out {
+        Ok(out) => out.frames.len() == 1,
+        Err(_) => false,
+    }
+}
+
+fn raises(queue: &mut DeliveryQueue) -> bool {
+    queue.raise();
+    true
+}
+
+fn lowers(queue: &mut DeliveryQueue) -> bool {
+    queue.lower();
+    true
+}
+
+fn carries(queue: &mut DeliveryQueue, start: Moment, step: &LineStep) -> bool {
+    match step {
+        LineStep::Raises => raises(queue),
+        LineStep::Lowers => lowers(queue),
+        LineStep::IsReady(is_so) => queue.line().is_ready() == *is_so,
+        LineStep::Begins => is_one(queue.begin(start, 0, Holder::Entry(1), &[1, 0])),
+        LineStep::Fires(seconds) => sends_one(queue.fire(start.plus(u64::from(*seconds)))),
+        LineStep::Takes(frame) => sends_one(queue.take(frame)),
+        LineStep::Replies(seconds) => {
+            let now = start.plus(u64::from(*seconds));
+            is_one(queue.reply(now, Kind::Ack, 5, Holder::Entry(1), &[3, 5]))
+        }
+    }
+}
+
+fn goes(queue: &mut DeliveryQueue, start: Moment, step: &Step) -> bool {
+    match step {
+        Step::Puts(id, number, priority, seconds) => {
+            puts(queue, part(start, *id, *number, *priority, *seconds))
+        }
+        Step::PutsMany => puts_many(queue, start),
+        Step::Next(seconds, id, number) => {
+            next(queue, start.plus(u64::from(*seconds))) == (*id, *number)
+        }
+        Step::Beside(seconds, is_so) => {
+            waits_beside(queue, start, start.plus(u64::from(*seconds))) == Some(*is_so)
+        }
+        Step::Removes(id, number) => removes(queue, *id, *number),
+        Step::DueAt(seconds) => queue.due_at(start.plus(u64::from(*seconds))).is_ok(),
+        Step::Has(id, number) => has(queue, *id, *number),
+        Step::Withdraws(id) => withdraws(queue, *id),
+        Step::Waits(count) => waits(queue, *count),
+        Step::Reference(reference) => {
+            queue.next_reference(&queue.row_or_new(1), start) == Some(*reference)
+        }
+        Step::Gives(first, last) => gives(queue, start, *first, *last),
+        Step::HasRow => queue.row().is_some(),
+        Step::Line(step) => carries(queue, start, step),
+    }
+}
+
+// A course: what a new queue does, what a copy of it does then, and what the queue does behind that.
+type Course = (
+    &'static str,
+    &'static [Step],
+    &'static [Step],
+    &'static [Step],
+);
+
+const COURSES: &[Course] = &[
+    // Message 1 in two parts, the second due in an hour, and message 2 of a higher priority, due in a minute.
+    (
+        "what waits goes in order",
+        &[
+            Step::Puts(1, 1, 0, 0),
+            Step::Puts(1, 2, 0, 3_600),
+            Step::Puts(2, 1, 1, 60),
+            Step::Next(0, 1, 1),
+            Step::Next(60, 2, 1),
+            Step::Beside(0, false),
+            Step::Beside(60, true),
+            Step::Removes(2, 1),
+            Step::DueAt(90),
+            Step::Next(90, 1, 1),
+            Step::Has(1, 2),
+            Step::Withdraws(1),
+            Step::Waits(0),
+        ],
+        &[],
+        &[],
+    ),
+    // In the copy one more comes behind the others, and the first, which the queue has too, goes.
+    (
+        "a copy is changed alone",
+        &[Step::PutsMany],
+        &[
+            Step::Puts(41, 1, 0, 0),
+            Step::Waits(41),
+            Step::Next(0, 1, 1),
+            Step::Removes(1, 1),
+            Step::Waits(40),
+            Step::Next(0, 2, 1),
+        ],
+        &[Step::Waits(40), Step::Next(0, 1, 1)],
+    ),
+    (
+        "references are given in turn",
+        &[
+            Step::Reference(0),
+            Step::Gives(0, 0),
+            Step::Reference(1),
+            Step::HasRow,
+            Step::Gives(1, 40),
+            Step::Reference(41),
+        ],
+        &[],
+        &[],
+    ),
+    // A transaction begins and is repeated by its timer; the handset's RP-SMMA is acknowledged and answered.
+    (
+        "a line carries both ways",
+        &[
+            Step::Line(LineStep::Raises),
+            Step::Line(LineStep::IsReady(true)),
+            Step::Line(LineStep::Begins),
+            Step::Line(LineStep::Fires(10)),
+            Step::Line(LineStep::Takes(b"\x09\x01\x02\x06\x05")),
+            Step::Line(LineStep::Replies(20)),
+        ],
+        &[Step::Line(LineStep::Fires(20))],
+        &[
+            Step::Line(LineStep::Lowers),
+            Step::Line(LineStep::IsReady(false)),
+        ],
+    ),
+];
+
+// The place of the step that does not go so, if there is one.
+fn failed(queue: &mut DeliveryQueue, start: Moment, steps: &[Step]) -> Option<usize> {
+    for (at, step) in steps.iter().enumerate() {
+        if !goes(queue, start, step) {
+            return Some(at);
+        }
+    }
+    None
+}
+
+fn copy_goes(queue: &DeliveryQueue, start: Moment, steps: &[Step]) -> bool {
+    match queue.copy() {
+        Ok(mut copy) => failed(&mut copy, start, steps).is_none(),
+        Err(_) => false,
+    }
+}
+
+fn go(queue: &mut DeliveryQueue, start: Moment, course: &Course) -> Result<(), Fail> {
+    let (name, steps, on_a_copy, behind) = course;
+    if let Some(at) = failed(queue, start, steps) {
+        return Err(failed_at(name, at));
+    }
     holds(
-        !queue.waits_beside(at(0)?, &first) && queue.waits_beside(at(60)?, &first),
-        "another one beside",
+        copy_goes(queue, start, on_a_copy) && failed(queue, start, behind).is_none(),
+        name,
     )
 }
 
-fn goes_on(queue: &mut DeliveryQueue) -> Result<(), Fail> {
-    queue.remove(message(2)?, 1)?;
-    queue.due_at(at(90)?)?;
-    holds(goes_next(queue, 90, 1, 1)?, "all is due")?;
-    holds(queue.queued(message(1)?, 2).is_some(), "the second part")?;
-    queue.withdraw(message(1)?)?;
-    holds(queue.waiting()?.is_empty(), "nothing")
-}
-
-fn waits_and_goes_on(queue: &mut DeliveryQueue) -> Result<(), Fail> {
-    waits_in_order(queue)?;
-    goes_on(queue)
-}
-
-fn put_many(queue: &mut DeliveryQueue) -> Result<(), Fail> {
-    for id in 1u32..41 {
-        queue.put(queued(id, 1, 0, 0)?)?;
+fn plays(alloc: Global, start: Moment, course: &Course) -> Result<(), Fail> {
+    match digits("447700900456") {
+        Some(number) => {
+            let mut queue = DeliveryQueue::new(alloc, number);
+            let went = go(&mut queue, start, course);
+            drop(queue);
+            went
+        }
+        None => Err(Fail::new("no number")),
     }
-    Ok(())
-}
-
-fn waits(queue: &DeliveryQueue, count: usize, id: u64) -> Result<bool, Fail> {
-    Ok(queue.waiting()?.len() == count && goes_next(queue, 0, id, 1)?)
-}
-
-// One more comes behind the others, and the first, which the queue has too, goes.
-fn changes(copy: &mut DeliveryQueue) -> Result<(), Fail> {
-    copy.put(queued(41, 1, 0, 0)?)?;
-    holds(waits(copy, 41, 1)?, "one more")?;
-    copy.remove(message(1)?, 1)?;
-    holds(waits(copy, 40, 2)?, "without the first")
-}
-
-fn changes_a_copy(queue: &DeliveryQueue) -> Result<(), Fail> {
-    let mut copy = queue.copy()?;
-    let changed = changes(&mut copy);
-    drop(copy);
-    changed
-}
-
-fn stays_beside_a_copy(queue: &mut DeliveryQueue) -> Result<(), Fail> {
-    put_many(queue)?;
-    changes_a_copy(queue)?;
-    holds(waits(queue, 40, 1)?, "the shelf as it was")
-}
-
-// The reference that comes next at that time.
-fn next_reference(queue: &DeliveryQueue, seconds: u32) -> Result<Option<u8>, Fail> {
-    Ok(queue.next_reference(&queue.row_or_new(1), at(seconds)?))
-}
-
-fn gives(queue: &mut DeliveryQueue) -> Result<(), Fail> {
-    holds(next_reference(queue, 0)? == Some(0), "the first")?;
-    queue.give(queue.row_or_new(1), 0, at(0)?)?;
-    holds(next_reference(queue, 0)? == Some(1), "the second")?;
-    holds(queue.row().is_some(), "the handset's row")
-}
-
-fn gives_many(queue: &mut DeliveryQueue) -> Result<(), Fail> {
-    for reference in 1u8..41 {
-        queue.give(queue.row_or_new(1), reference, at(0)?)?;
-    }
-    holds(next_reference(queue, 0)? == Some(41), "the next")
-}
-
-fn gives_in_turn(queue: &mut DeliveryQueue) -> Result<(), Fail> {
-    gives(queue)?;
-    gives_many(queue)
-}
-
-// How many frames go out as a transaction begins.
-fn begins(queue: &mut DeliveryQueue) -> Result<usize, Fail> {
-    let frames = queue.begin(at(0)?, 0, Holder::Entry(1), &[1, 0])?;
-    Ok(frames.len())
-}
-
-// How many go out at that time.
-fn fires(queue: &mut DeliveryQueue, seconds: u32) -> Result<usize, Fail> {
-    let out = queue.fire(at(seconds)?)?;
-    Ok(out.frames.len())
-}
-
-// How many go out for a frame.
-fn takes(queue: &mut DeliveryQueue, frame: &[u8]) -> Result<usize, Fail> {
-    let out = queue.take(frame)?;
-    Ok(out.frames.len())
-}
-
-fn replies(queue: &mut DeliveryQueue) -> Result<usize, Fail> {
-    let frames = queue.reply(at(20)?, Kind::Ack, 5, Holder::Entry(1), &[3, 5])?;
-    Ok(frames.len())
-}
-
-// A transaction begins and is repeated by its timer; the handset's RP-SMMA is acknowledged and answered.
-fn goes_both_ways(queue: &mut DeliveryQueue) -> Result<(), Fail> {
-    queue.raise();
-    holds(queue.line().is_ready(), "a line that is up")?;
-    holds(begins(queue)? == 1, "CP-DATA")?;
-    holds(fires(queue, 10)? == 1, "CP-DATA again")?;
-    holds(takes(queue, b"\x09\x01\x02\x06\x05")? == 1, "CP-ACK")?;
-    holds(replies(queue)? == 1, "an answer")
-}
-
-fn copy_fires(queue: &DeliveryQueue) -> Result<usize, Fail> {
-    let mut copy = queue.copy()?;
-    let fired = fires(&mut copy, 20);
-    drop(copy);
-    fired
-}
-
-fn goes_in_a_copy(queue: &mut DeliveryQueue) -> Result<(), Fail> {
-    goes_both_ways(queue)?;
-    holds(copy_fires(queue)? == 1, "a copy")?;
-    queue.lower();
-    holds(!queue.line().is_ready(), "a line that is down")
-}
-
-// What a new queue does.
-#[derive(Clone, Copy)]
-enum Course {
-    // What waits goes in order.
-    Waits,
-    // A copy is changed alone.
-    Copies,
-    // References are given in turn.
-    Gives,
-    // Its line carries both ways.
-    Carries,
-}
-
-const COURSES: &[Course] = &[
-    Course::Waits,
-    Course::Copies,
-    Course::Gives,
-    Course::Carries,
-];
-
-fn go(queue: &mut DeliveryQueue, course: Course) -> Result<(), Fail> {
-    match course {
-        Course::Waits => waits_and_goes_on(queue),
-        Course::Copies => stays_beside_a_copy(queue),
-        Course::Gives => gives_in_turn(queue),
-        Course::Carries => goes_in_a_copy(queue),
-    }
-}
-
-fn plays(alloc: Global, course: Course) -> Result<(), Fail> {
-    let number = digits("447700900456")?;
-    let mut queue = DeliveryQueue::new(alloc, number);
-    let went = go(&mut queue, course);
-    drop(queue);
-    went
 }
 
 #[test]
 fn queues_go_as_told(rt: HostRuntime) -> Result<(), Fail> {
+    let start = Moment::from_seconds(START)?;
     for course in COURSES {
-        plays(rt.alloc(), *course)?;
+        plays(rt.alloc(), start, course)?;
     }
     Ok(())
 }

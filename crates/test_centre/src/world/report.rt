@@ -1,12 +1,12 @@
 //! The text of a report.
-use crate::rows::holds;
+use crate::rows::{holds, is_written};
 use smpp_pdu::CommandStatus;
 use sms_base::{Digits, FinalState, Listed, MessageId, OctetView, Octets};
 use sms_script::report::{
     AcceptedRow, Answer, Answered, Broken, Direction, EntryState, FrameRow, JoinedCoding,
     JoinedRow, MessageState, OutboxRow, ReceiptRow, Report, ReportedMessage, report_text,
 };
-use std::alloc::Global;
+use std::alloc::{AllocError, Global};
 use std::test::Fail;
 
 const ONE_MESSAGE: &str = "answer 1 ROK 0000000001\n\
@@ -34,14 +34,6 @@ fn digits(text: &str) -> Digits {
     digits
 }
 
-fn id(number: u64) -> Result<MessageId, Fail> {
-    Ok(MessageId::new(number).ok_or("no id")?)
-}
-
-fn octets(alloc: Global, octets: &[u8]) -> Result<Octets, Fail> {
-    Ok(Octets::copy_of(alloc, octets)?)
-}
-
 fn empty(alloc: Global) -> Report {
     Report {
         answers: Listed::new(alloc),
@@ -61,14 +53,13 @@ fn message(
     from: &str,
     to: &str,
     state: MessageState,
-) -> Result<(), Fail> {
+) -> Result<(), AllocError> {
     report.table.push(ReportedMessage {
         id,
         from: digits(from),
         to: digits(to),
         state,
-    })?;
-    Ok(())
+    })
 }
 
 fn frame(
@@ -76,27 +67,38 @@ fn frame(
     number: u64,
     direction: Direction,
     to: &str,
-    sent: Octets,
-) -> Result<(), Fail> {
+    octets: Octets,
+) -> Result<(), AllocError> {
     report.bag.push(FrameRow {
         number,
         direction,
         handset: digits(to),
         carried: None,
-        octets: sent,
-    })?;
-    Ok(())
+        octets,
+    })
+}
+
+fn answer(report: &mut Report, event: u64, answered: Answered) -> Result<(), AllocError> {
+    report.answers.push(Answer { event, answered })
+}
+
+fn joined(report: &mut Report, coding: JoinedCoding, units: Octets) -> Result<(), AllocError> {
+    report.joined.push(JoinedRow {
+        handset: digits("2"),
+        from: digits("1"),
+        coding,
+        units,
+    })
 }
 
 const TPDU: &[u8] =
     b"\x24\x0C\x91\x44\x77\x00\x09\x00\x10\x00\x00\x42\x20\x92\x32\x95\x85\x00\x05\xE8\x32\x9B\xFD\x06";
 
-fn one_message(alloc: Global, report: &mut Report) -> Result<(), Fail> {
-    let first = id(1)?;
-    answer(report, 1, Answered::Accepted(first))?;
+fn one_message(alloc: Global, report: &mut Report, id: MessageId) -> Result<(), AllocError> {
+    answer(report, 1, Answered::Accepted(id))?;
     message(
         report,
-        first,
+        id,
         "447700900001",
         "447700900456",
         MessageState::Final(FinalState::Delivered),
@@ -104,58 +106,17 @@ fn one_message(alloc: Global, report: &mut Report) -> Result<(), Fail> {
     report.accepted.push(AcceptedRow {
         handset: digits("447700900456"),
         reference: 0,
-        tpdu: octets(alloc, TPDU)?,
+        tpdu: Octets::copy_of(alloc, TPDU)?,
     })?;
     report.receipts.push(ReceiptRow {
-        id: first,
+        id,
         state: FinalState::Delivered,
     })?;
-    frame(
-        report,
-        1,
-        Direction::Down,
-        "447700900456",
-        octets(alloc, b"\x09\x04")?,
-    )
+    let octets = Octets::copy_of(alloc, b"\x09\x04")?;
+    frame(report, 1, Direction::Down, "447700900456", octets)
 }
 
-fn is_written(
-    alloc: Global,
-    report: &Report,
-    broken: Option<Broken>,
-    wanted: &str,
-) -> Result<(), Fail> {
-    let text = report_text(alloc, report, broken)?;
-    holds(text.as_slice() == wanted.as_bytes(), "a report")
-}
-
-fn writes_one_message(alloc: Global, report: &mut Report) -> Result<(), Fail> {
-    one_message(alloc, report)?;
-    is_written(alloc, report, None, ONE_MESSAGE)
-}
-
-#[test]
-fn one_message_is_written(rt: HostRuntime) -> Result<(), Fail> {
-    let mut report = empty(rt.alloc());
-    writes_one_message(rt.alloc(), &mut report)
-}
-
-fn answer(report: &mut Report, event: u64, answered: Answered) -> Result<(), Fail> {
-    report.answers.push(Answer { event, answered })?;
-    Ok(())
-}
-
-fn joined(report: &mut Report, coding: JoinedCoding, units: Octets) -> Result<(), Fail> {
-    report.joined.push(JoinedRow {
-        handset: digits("2"),
-        from: digits("1"),
-        coding,
-        units,
-    })?;
-    Ok(())
-}
-
-fn all_answers(report: &mut Report) -> Result<(), Fail> {
+fn all_answers(report: &mut Report) -> Result<(), AllocError> {
     answer(report, 3, Answered::Status(CommandStatus::ESME_RINVMSGLEN))?;
     answer(report, 4, Answered::Found(MessageState::Enroute))?;
     answer(report, 5, Answered::Done)?;
@@ -163,38 +124,63 @@ fn all_answers(report: &mut Report) -> Result<(), Fail> {
     answer(report, 10_000, Answered::Stopped)
 }
 
-fn all_kinds(alloc: Global, report: &mut Report) -> Result<(), Fail> {
-    message(
-        report,
-        id(9_999_999_999)?,
-        "Bankö",
-        "2",
-        MessageState::Enroute,
-    )?;
-    joined(report, JoinedCoding::Ucs2, octets(alloc, b"\x00\xE4")?)?;
+fn all_kinds(alloc: Global, report: &mut Report, id: MessageId) -> Result<(), AllocError> {
+    all_answers(report)?;
+    message(report, id, "Bankö", "2", MessageState::Enroute)?;
+    let units = Octets::copy_of(alloc, b"\x00\xE4")?;
+    joined(report, JoinedCoding::Ucs2, units)?;
     joined(report, JoinedCoding::Septets, Octets::new(alloc))?;
     report.outboxes.push(OutboxRow {
         handset: digits("2"),
         entry: 4_294_967_294,
         state: EntryState::Unsure,
     })?;
-    frame(
-        report,
-        20_000,
-        Direction::Up,
-        "2",
-        octets(alloc, b"\x89\x04")?,
-    )
+    let octets = Octets::copy_of(alloc, b"\x89\x04")?;
+    frame(report, 20_000, Direction::Up, "2", octets)
 }
 
-fn writes_all_kinds(alloc: Global, report: &mut Report) -> Result<(), Fail> {
-    all_answers(report)?;
-    all_kinds(alloc, report)?;
-    is_written(alloc, report, Some(Broken::Reused(7)), ALL_KINDS)
+// A report: of one message, or with each kind of line.
+#[derive(Clone, Copy)]
+enum Which {
+    OneMessage,
+    AllKinds,
+}
+
+fn fill(alloc: Global, report: &mut Report, id: MessageId, which: Which) -> Result<(), AllocError> {
+    match which {
+        Which::OneMessage => one_message(alloc, report, id),
+        Which::AllKinds => all_kinds(alloc, report, id),
+    }
+}
+
+// Which report, the number of its message, where the premises broke, if they did, and its text.
+const REPORTS: &[(Which, u64, Option<Broken>, &str, &str)] = &[
+    (Which::OneMessage, 1, None, ONE_MESSAGE, "one message"),
+    (
+        Which::AllKinds,
+        9_999_999_999,
+        Some(Broken::Reused(7)),
+        ALL_KINDS,
+        "each kind of line",
+    ),
+];
+
+fn text_is(alloc: Global, report: &Report, broken: Option<Broken>, wanted: &str) -> bool {
+    is_written(report_text(alloc, report, broken), wanted.as_bytes())
+}
+
+fn is_report(alloc: Global, which: Which, id: u64, broken: Option<Broken>, wanted: &str) -> bool {
+    let Some(id) = MessageId::new(id) else {
+        return false;
+    };
+    let mut report = empty(alloc);
+    fill(alloc, &mut report, id, which).is_ok() && text_is(alloc, &report, broken, wanted)
 }
 
 #[test]
-fn each_kind_of_line_is_written(rt: HostRuntime) -> Result<(), Fail> {
-    let mut report = empty(rt.alloc());
-    writes_all_kinds(rt.alloc(), &mut report)
+fn reports_are_written(rt: HostRuntime) -> Result<(), Fail> {
+    for (which, id, broken, text, name) in REPORTS {
+        holds(is_report(rt.alloc(), *which, *id, *broken, text), name)?;
+    }
+    Ok(())
 }

@@ -2,7 +2,7 @@
 use crate::rows::holds;
 use sms_base::{OctetView, Octets};
 use sms_script::{Act, EventSide, Script, ScriptFault, Setup, StopPoint, WorldEvent, read_script};
-use std::alloc::Global;
+use std::alloc::{AllocError, Global};
 use std::test::Fail;
 
 const ONE_MESSAGE: &str =
@@ -99,11 +99,11 @@ fn are_events(events: &[WorldEvent<'_>], words: &[&str]) -> bool {
 }
 
 // The octets of the text at that place.
-fn text_at(alloc: Global, events: &[WorldEvent<'_>], place: usize) -> Result<Octets, Fail> {
+fn text_at(alloc: Global, events: &[WorldEvent<'_>], place: usize) -> Option<Octets> {
     match events.get(place) {
-        Some(WorldEvent::Whole(Act::Submit(s))) => Ok(s.message.octets(alloc)?),
-        Some(WorldEvent::Whole(Act::Write { text, .. })) => Ok(text.octets(alloc)?),
-        _ => Err(Fail::new("an event without a text")),
+        Some(WorldEvent::Whole(Act::Submit(s))) => s.message.octets(alloc).ok(),
+        Some(WorldEvent::Whole(Act::Write { text, .. })) => text.octets(alloc).ok(),
+        _ => None,
     }
 }
 
@@ -131,25 +131,29 @@ fn has_events(
     words: &[&str],
     place: usize,
     text: &[u8],
-) -> Result<bool, Fail> {
-    let octets = text_at(alloc, script.events.as_slice(), place)?;
-    Ok(octets.as_slice() == text && are_events(script.events.as_slice(), words))
+) -> bool {
+    match text_at(alloc, script.events.as_slice(), place) {
+        Some(octets) => { octets.as_slice() == text && are_events(script.events.as_slice(), words) }
+        None => false,
+    }
 }
 
-fn reads_one_message(alloc: Global) -> Result<bool, Fail> {
-    let script = read_script(alloc, ONE_MESSAGE.as_bytes())?;
-    Ok(is_setup(&script.setup) && has_events(alloc, &script, OF_ONE_MESSAGE, 0, b"hello")?)
+fn reads_one_message(alloc: Global) -> bool {
+    match read_script(alloc, ONE_MESSAGE.as_bytes()) {
+        Ok(script) => {
+            is_setup(&script.setup) && has_events(alloc, &script, OF_ONE_MESSAGE, 0, b"hello")
+        }
+        Err(_) => false,
+    }
 }
 
-fn reads_all_kinds(alloc: Global) -> Result<bool, Fail> {
-    let script = read_script(alloc, ALL_KINDS.as_bytes())?;
-    Ok(script.setup.start == 1 && has_events(alloc, &script, OF_ALL_KINDS, 3, b"\xC3\xA9")?)
-}
-
-#[test]
-fn scripts_are_read(rt: HostRuntime) -> Result<(), Fail> {
-    holds(reads_one_message(rt.alloc())?, "one message")?;
-    holds(reads_all_kinds(rt.alloc())?, "each kind of event")
+fn reads_all_kinds(alloc: Global) -> bool {
+    match read_script(alloc, ALL_KINDS.as_bytes()) {
+        Ok(script) => {
+            script.setup.start == 1 && has_events(alloc, &script, OF_ALL_KINDS, 3, b"\xC3\xA9")
+        }
+        Err(_) => false,
+    }
 }
 
 // The number of the bad line, or 0 where there is none.
@@ -160,10 +164,21 @@ fn bad_line_of(alloc: Global, text: &str) -> u64 {
     }
 }
 
-// The number of the bad line of a head and a line.
-fn bad_line_behind_head(alloc: Global, line: &str) -> Result<u64, Fail> {
-    let text = format!(in alloc; "{HEAD}{line}\n")?;
-    Ok(bad_line_of(alloc, text.as_str()))
+// A head, and behind it a line so many times.
+fn many(alloc: Global, head: &str, line: &str, count: usize) -> Result<String, AllocError> {
+    let mut text = String::from_str(alloc, head)?;
+    for _ in 0..count {
+        text.push_str(line)?;
+    }
+    Ok(text)
+}
+
+// Whether that line is the bad one, or none is where the number is 0.
+fn is_bad_line(alloc: Global, head: &str, line: &str, count: usize, wanted: u64) -> bool {
+    match many(alloc, head, line, count) {
+        Ok(text) => bad_line_of(alloc, text.as_str()) == wanted,
+        Err(_) => false,
+    }
 }
 
 // Heads that do not stand in order. No handset is a fault of the setup, not of a line.
@@ -176,49 +191,31 @@ const HEADS: &[(&str, u64)] = &[
     ("start 1\ncentre 1", 0),
 ];
 
+// Lines behind the head.
 const BAD_LINES: &[&str] = &[
-    "",
-    "deliver  1",
-    "deliver 1 ",
-    "deliver 1\r",
-    " deliver 1",
-    "deliver",
-    "deliver 1 2",
-    "deliver 1a",
-    "Deliver 1",
-    "tick centre 946684799",
-    "tick centre 4102444800",
-    "submit a 2 256 00 0 - -",
-    "submit a 2 0 0 0 - -",
-    "submit a 2 0 00 0 - 0",
-    "submit a 2 0 00 0 - 0G",
-    "urgent a 4 2 0 00 0 - -",
-    "write 2 3 2 -",
-    "write 2 3 0 80",
-    "write 2 3 0 EDA080",
-    "stopped before restart 2",
-    "stopped before stopped after deliver 1",
-    "stopped during deliver 1",
+    "\n",
+    "deliver  1\n",
+    "deliver 1 \n",
+    "deliver 1\r\n",
+    " deliver 1\n",
+    "deliver\n",
+    "deliver 1 2\n",
+    "deliver 1a\n",
+    "Deliver 1\n",
+    "tick centre 946684799\n",
+    "tick centre 4102444800\n",
+    "submit a 2 256 00 0 - -\n",
+    "submit a 2 0 0 0 - -\n",
+    "submit a 2 0 00 0 - 0\n",
+    "submit a 2 0 00 0 - 0G\n",
+    "urgent a 4 2 0 00 0 - -\n",
+    "write 2 3 2 -\n",
+    "write 2 3 0 80\n",
+    "write 2 3 0 EDA080\n",
+    "stopped before restart 2\n",
+    "stopped before stopped after deliver 1\n",
+    "stopped during deliver 1\n",
 ];
-
-#[test]
-fn bad_lines_are_told(rt: HostRuntime) -> Result<(), Fail> {
-    for (text, wanted) in HEADS {
-        holds(bad_line_of(rt.alloc(), text) == *wanted, "a head")?;
-    }
-    for line in BAD_LINES {
-        holds(bad_line_behind_head(rt.alloc(), line)? == 4, line)?;
-    }
-    Ok(())
-}
-
-fn many(alloc: Global, head: &str, line: &str, count: usize) -> Result<String, Fail> {
-    let mut text = String::from_str(alloc, head)?;
-    for _ in 0..count {
-        text.push_str(line)?;
-    }
-    Ok(text)
-}
 
 // A head, a line, how often it stands behind the head, and the number of the bad line. A line has 16,384 octets at most: a text of
 // 8,186 letters behind 12 octets.
@@ -242,10 +239,18 @@ const LIMITS: &[(&str, &str, usize, u64)] = &[
 ];
 
 #[test]
-fn limits_are_kept(rt: HostRuntime) -> Result<(), Fail> {
+fn scripts_are_read_and_bad_lines_told(rt: HostRuntime) -> Result<(), Fail> {
+    let alloc = rt.alloc();
+    holds(reads_one_message(alloc), "one message")?;
+    holds(reads_all_kinds(alloc), "each kind of event")?;
+    for (text, wanted) in HEADS {
+        holds(bad_line_of(alloc, text) == *wanted, "a head")?;
+    }
+    for line in BAD_LINES {
+        holds(is_bad_line(alloc, HEAD, line, 1, 4), line)?;
+    }
     for (head, line, count, wanted) in LIMITS {
-        let text = many(rt.alloc(), head, line, *count)?;
-        holds(bad_line_of(rt.alloc(), text.as_str()) == *wanted, "a limit")?;
+        holds(is_bad_line(alloc, head, line, *count, *wanted), "a limit")?;
     }
     Ok(())
 }

@@ -1,13 +1,14 @@
 //! A run over listeners that state what they gave. The connections are of this process alone.
 ghost use Rattle.std.specs.Prelude.{Some};
 
-use crate::clock_and_gate::Open;
+use crate::clock_and_gate::{Open, Still};
+use crate::loopback::server::given;
 use crate::rows::holds;
-use crate::service::centre::{accounts, book, clock, keep};
-use smsc_endpoint::LinkAccess;
+use crate::service::centre::{accounts, clock, keep};
+use sms_store_memory::centre::MemoryKeep;
 use smsc_observer::{Event, Observer};
-use smsc_server::{Allowances, Door, Doors, Duplicate, Given, Orders, PeerKind, Ports, serve};
-use smsc_service::{Forgetting, NoArchive};
+use smsc_server::{Door, Doors, Duplicate, Given, PeerKind, Ports, serve};
+use smsc_service::{CentreAccount, Forgetting, NoArchive};
 use std::alloc::Global;
 use std::io::{self, ErrorKind, Read, Write};
 use std::net::{
@@ -15,8 +16,8 @@ use std::net::{
     TcpStream,
 };
 use std::os::fd::{AsRawFd, RawFd};
+use std::sync::Wait;
 use std::sync::atomic::{AtomicU32, Ordering};
-use std::sync::{Arc, Wait};
 use std::test::Fail;
 use std::thread::Threads;
 use std::time::{Clock, Duration};
@@ -139,26 +140,16 @@ fn opened<R: Net<Listener = TcpListener, Stream = TcpStream>>(
     })
 }
 
-// A run for so many connections.
-fn given(alloc: Global, sessions: u32) -> Result<Given<Sums>, Fail> {
-    let orders = Orders::new(alloc)?;
-    let allowances = Allowances::new(alloc, &[], &[])?;
-    let sums = Sums {
-        applications: AtomicU32::new(0),
-        links: AtomicU32::new(0),
-    };
-    Ok(Given {
-        accounts: book(alloc)?,
-        access: Arc::new(alloc, LinkAccess::Anyone)?,
-        observer: Arc::new(alloc, sums)?,
-        orders: Arc::new(alloc, orders)?,
-        links: None,
-        sessions: Some(sessions),
-        allowances: Arc::new(alloc, allowances)?,
-    })
+// Where two applications and three handsets come.
+fn ports_of<R: Net<Listener = TcpListener, Stream = TcpStream>>(
+    rt: &R,
+    alloc: Global,
+) -> io::Result<Ports<Listed>> {
+    let applications = opened(rt, alloc, 2)?;
+    let links = opened(rt, alloc, 3)?;
+    Ports::of(rt, alloc, applications, links)
 }
 
-// Two applications and three handsets come.
 fn run<
     R: Net<Listener = TcpListener, Stream = TcpStream>
         + Threads
@@ -167,25 +158,21 @@ fn run<
         + Copy
         + Send
         + 'static,
->(rt: R, alloc: Global, taken: &Given<Sums>) -> Result<Doors<Listed>, Fail> {
-    let applications = opened(&rt, alloc, 2)?;
-    let links = opened(&rt, alloc, 3)?;
-    let ports = Ports::of(&rt, alloc, applications, links)?;
-    let clock = clock()?;
+>(
+    rt: R,
+    alloc: Global,
+    store: MemoryKeep,
+    accounts: Vec<CentreAccount>,
+    clock: &Still,
+    ports: Ports<Listed>,
+    taken: &Given<Sums>,
+) -> Result<Doors<Listed>, Fail> {
     let forgetting = Forgetting {
         keep: None,
         archive: NoArchive,
     };
     match serve(
-        rt,
-        alloc,
-        keep(alloc)?,
-        accounts(alloc)?,
-        forgetting,
-        &Open,
-        &clock,
-        ports,
-        taken,
+        rt, alloc, store, accounts, forgetting, &Open, clock, ports, taken,
     ) {
         Ok((doors, store, _)) => {
             drop(store);
@@ -208,15 +195,32 @@ fn gave(listed: &Listed, numbers: &[u16]) -> bool {
     true
 }
 
+// Each application and each handset had a seat once.
+fn are_seated(doors: &Doors<Listed>, sums: &Sums) -> Result<(), Fail> {
+    holds(gave(&doors.applications, &[2, 1]), "two applications came")?;
+    holds(gave(&doors.links, &[3, 2, 1]), "three handsets came")?;
+    let applications = sums.applications.load(Ordering::SeqCst);
+    let links = sums.links.load(Ordering::SeqCst);
+    holds(applications == 3, "each application had a seat once")?;
+    holds(links == 6, "each handset had a seat once")
+}
+
+fn no_sums() -> Sums {
+    Sums {
+        applications: AtomicU32::new(0),
+        links: AtomicU32::new(0),
+    }
+}
+
 #[test]
 fn a_run_gives_back_which_connections_came(rt: HostRuntime) -> Result<(), Fail> {
     let alloc = rt.alloc();
-    let taken = given(alloc, 5)?;
-    let doors = run(rt, alloc, &taken)?;
-    holds(gave(&doors.applications, &[2, 1]), "two applications came")?;
-    holds(gave(&doors.links, &[3, 2, 1]), "three handsets came")?;
-    let applications = taken.observer.applications.load(Ordering::SeqCst);
-    let links = taken.observer.links.load(Ordering::SeqCst);
-    holds(applications == 3, "each application had a seat once")?;
-    holds(links == 6, "each handset had a seat once")
+    let clock = clock()?;
+    let taken = given(alloc, no_sums(), 5, &[])?;
+    let Ok(ports) = ports_of(&rt, alloc) else {
+        return Err(Fail::new("ports"));
+    };
+    let store = keep(alloc)?;
+    let doors = run(rt, alloc, store, accounts(alloc)?, &clock, ports, &taken)?;
+    are_seated(&doors, &taken.observer)
 }

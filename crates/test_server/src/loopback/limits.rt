@@ -24,22 +24,43 @@ const UNBIND: &[u8] = &[
 ];
 
 // Says that, and hears an answer that begins so.
-fn is_answered(client: &mut Client, said: &[u8], begins: &[u8]) -> Result<(), Fail> {
-    client.says(said)?;
-    let head = client.next_head()?;
-    holds(head.starts_with(begins), "the answer begins so")
+fn is_answered(client: &mut Client, said: &[u8], begins: &[u8]) -> bool {
+    if client.says(said).is_err() {
+        return false;
+    }
+    match client.next_head() {
+        Ok(head) => head.starts_with(begins),
+        Err(_) => false,
+    }
 }
 
-// The second session of the account is refused while the first is bound, which stays as it is. Once that has gone another one is bound.
-fn come<R: Net<Stream = TcpStream>>(rt: &R, server: SocketAddr) -> Result<(), Fail> {
-    let mut first = Client::to(rt, server)?;
-    is_answered(&mut first, BIND, BOUND)?;
-    let mut second = Client::to(rt, server)?;
-    is_answered(&mut second, BIND, REFUSED)?;
-    is_answered(&mut first, ENQUIRE, LINK_ANSWER)?;
-    is_answered(&mut first, UNBIND, UNBOUND)?;
+// The second session is refused while the first is bound, which stays as it is, and then goes.
+fn is_refused_beside(first: &mut Client, second: &mut Client) -> bool {
+    is_answered(first, BIND, BOUND)
+        && is_answered(second, BIND, REFUSED)
+        && is_answered(first, ENQUIRE, LINK_ANSWER)
+        && is_answered(first, UNBIND, UNBOUND)
+}
+
+// Once the first has gone another one is bound.
+fn is_bound_behind(first: Client, second: &mut Client) -> bool {
+    let mut first = first;
+    let is_refused = is_refused_beside(&mut first, second);
     drop(first);
-    is_answered(&mut second, BIND, BOUND)
+    is_refused && is_answered(second, BIND, BOUND)
+}
+
+fn come<R: Net<Stream = TcpStream>>(rt: &R, server: SocketAddr) -> Result<(), Fail> {
+    let Ok(first) = Client::to(rt, server) else {
+        return Err(Fail::new("a client"));
+    };
+    match Client::to(rt, server) {
+        Ok(mut second) => holds(
+            is_bound_behind(first, &mut second),
+            "a second session only behind the first",
+        ),
+        Err(_) => Err(Fail::new("another client")),
+    }
 }
 
 #[test]

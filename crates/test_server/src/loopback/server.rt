@@ -1,13 +1,13 @@
 //! What a run of the server is given in a test.
-use crate::rows::holds;
+use crate::rows::{holds, made};
 use crate::service::centre::{accounts, book, clock};
 use sms_base::FinalState;
 use sms_keeper::Gate;
 use smsc_endpoint::LinkAccess;
 use smsc_observer::{Event, Observer};
-use smsc_server::{Allowances, Given, Loopback, Orders, ServeFault, loopback_pair};
+use smsc_server::{AccountBook, Allowances, Given, Loopback, Orders, ServeFault, loopback_pair};
 use smsc_service::CentreStore;
-use std::alloc::Global;
+use std::alloc::{AllocError, Global};
 use std::net::{Net, TcpListener, TcpStream};
 use std::sync::atomic::{AtomicU32, Ordering};
 use std::sync::{Arc, Wait};
@@ -62,31 +62,45 @@ impl Observer for Counting {
     }
 }
 
-fn orders(alloc: Global) -> Result<Arc<Orders>, Fail> {
-    let orders = Orders::new(alloc)?;
-    Ok(Arc::new(alloc, orders)?)
-}
-
 // The run and its clients ended well.
 fn is_over(ended: &Result<(), ServeFault>, came: Result<(), Fail>) -> Result<(), Fail> {
     came?;
     holds(ended.is_ok(), "the run ends with its connections")
 }
 
-// A run for so many connections: app1 may bind with the password secret. It may have so many sessions at once as the limits say.
-fn given(alloc: Global, sessions: u32, limits: Vec<u8>) -> Result<Given<Silent>, Fail> {
-    let accounts = book(alloc)?;
-    let orders = orders(alloc)?;
-    let allowances = Allowances::new(alloc, limits.as_slice(), &[])?;
+fn given_with<T: Drop>(
+    alloc: Global,
+    accounts: Arc<AccountBook>,
+    observer: T,
+    sessions: u32,
+    limits: &[u8],
+) -> Result<Given<T>, AllocError> {
+    let orders = Orders::new(alloc)?;
+    let orders = Arc::new(alloc, orders)?;
+    let allowances = Allowances::new(alloc, limits, &[])?;
     Ok(Given {
         accounts,
         access: Arc::new(alloc, LinkAccess::Anyone)?,
-        observer: Arc::new(alloc, Silent)?,
+        observer: Arc::new(alloc, observer)?,
         orders,
         links: None,
         sessions: Some(sessions),
         allowances: Arc::new(alloc, allowances)?,
     })
+}
+
+/// A run for so many connections: app1 may bind with the password secret. It may have so many sessions at once as the limits say.
+pub(crate) fn given<T: Drop>(
+    alloc: Global,
+    observer: T,
+    sessions: u32,
+    limits: &[u8],
+) -> Result<Given<T>, Fail> {
+    let accounts = book(alloc)?;
+    made(
+        given_with(alloc, accounts, observer, sessions, limits).ok(),
+        "what a run is given",
+    )
 }
 
 /// Serves so many connections over the store, whatever that is, to the clients that come. An account may have a session at each seat.
@@ -133,8 +147,10 @@ pub(crate) fn serves_within<
     requires { C.IsAlwaysCallable come }
 {
     let clock = clock()?;
-    let run = given(alloc, sessions, limits)?;
+    let run = given(alloc, Silent, sessions, limits.as_slice())?;
     let all = accounts(alloc)?;
-    let (ended, came) = loopback_pair(rt, alloc, store, all, gate, &clock, &run, come)?;
-    is_over(&ended, came)
+    match loopback_pair(rt, alloc, store, all, gate, &clock, &run, come) {
+        Ok((ended, came)) => is_over(&ended, came),
+        Err(_) => Err(Fail::new("the run begins")),
+    }
 }

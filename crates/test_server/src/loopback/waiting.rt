@@ -6,6 +6,7 @@ use crate::rows::holds;
 use crate::service::centre::{BIND, keep};
 use smsc_server::Loopback;
 use std::alloc::Global;
+use std::io;
 use std::net::{Net, SocketAddr, TcpStream};
 use std::test::Fail;
 use std::time::Clock;
@@ -22,20 +23,10 @@ const SEATED: usize = 24;
 // So many clients more come. The run is for as many connections as come, and ends with the last of them.
 const MORE: usize = 8;
 
-fn bound<R: Net<Stream = TcpStream>>(rt: &R, server: SocketAddr) -> Result<Client, Fail> {
+fn bound<R: Net<Stream = TcpStream>>(rt: &R, server: SocketAddr) -> io::Result<Client> {
     let mut client = Client::to(rt, server)?;
     client.says(BIND)?;
     Ok(client)
-}
-
-fn come_one<R: Net<Stream = TcpStream>>(
-    rt: &R,
-    server: SocketAddr,
-    clients: &mut Vec<Client>,
-) -> Result<(), Fail> {
-    let client = bound(rt, server)?;
-    clients.push(client)?;
-    Ok(())
 }
 
 fn come_all<R: Net<Stream = TcpStream>>(
@@ -43,14 +34,14 @@ fn come_all<R: Net<Stream = TcpStream>>(
     server: SocketAddr,
     clients: &mut Vec<Client>,
     count: usize,
-) -> Result<(), Fail> {
+) -> io::Result<()> {
     for _ in 0..count {
-        come_one(rt, server, clients)?;
+        clients.push(bound(rt, server)?)?;
     }
     Ok(())
 }
 
-fn are_answered(clients: &mut Vec<Client>) -> Result<(), Fail> {
+fn are_answered(clients: &mut Vec<Client>) -> io::Result<()> {
     for client in clients.iter_mut() {
         client.hears(BIND_ANSWER)?;
     }
@@ -62,7 +53,7 @@ fn come_and_wait<R: Net<Stream = TcpStream>>(
     server: SocketAddr,
     seated: &mut Vec<Client>,
     more: &mut Vec<Client>,
-) -> Result<(), Fail> {
+) -> io::Result<()> {
     come_all(rt, server, seated, SEATED)?;
     are_answered(seated)?;
     come_all(rt, server, more, MORE)
@@ -74,37 +65,42 @@ fn come<R: Net<Stream = TcpStream>>(rt: &R, alloc: Global, server: SocketAddr) -
     let mut more = Vec::new(alloc);
     let came = come_and_wait(rt, server, &mut seated, &mut more);
     drop(seated);
-    came?;
-    are_answered(&mut more)
+    let answered = are_answered(&mut more);
+    holds(came.is_ok() && answered.is_ok(), "all clients are served")
 }
 
 // So many seconds pass at most until a silent connection has given way: five, and what a loaded machine takes.
 const MOST_SECONDS: u64 = 20;
 
-fn all_silent<R: Net<Stream = TcpStream>>(
+fn come_to_say_nothing<R: Net<Stream = TcpStream>>(
     rt: &R,
-    alloc: Global,
     server: SocketAddr,
-) -> Result<Vec<Client>, Fail> {
-    let mut clients = Vec::new(alloc);
+    clients: &mut Vec<Client>,
+) -> io::Result<()> {
     for _ in 0..SEATED {
         clients.push(Client::to(rt, server)?)?;
     }
-    Ok(clients)
-}
-
-fn is_answered<R: Net<Stream = TcpStream>>(rt: &R, server: SocketAddr) -> Result<(), Fail> {
-    let mut client = bound(rt, server)?;
-    client.hears(BIND_ANSWER)?;
     Ok(())
 }
 
+fn is_answered<R: Net<Stream = TcpStream>>(rt: &R, server: SocketAddr) -> io::Result<()> {
+    let mut client = bound(rt, server)?;
+    client.hears(BIND_ANSWER)
+}
+
 // So many seconds another client waits for its answer.
-fn waits<R: Net<Stream = TcpStream> + Clock>(rt: &R, server: SocketAddr) -> Result<u64, Fail> {
+fn waits<R: Net<Stream = TcpStream> + Clock>(rt: &R, server: SocketAddr) -> io::Result<u64> {
     let began = rt.monotonic()?.as_secs();
     is_answered(rt, server)?;
     let ended = rt.monotonic()?.as_secs();
     Ok(ended.saturating_sub(began))
+}
+
+fn is_soon(waited: io::Result<u64>) -> bool {
+    match waited {
+        Ok(seconds) => seconds < MOST_SECONDS,
+        Err(_) => false,
+    }
 }
 
 // All seats are taken by clients that say nothing, and another one comes: it does not wait for half a minute.
@@ -113,10 +109,11 @@ fn come_silently<R: Net<Stream = TcpStream> + Clock>(
     alloc: Global,
     server: SocketAddr,
 ) -> Result<(), Fail> {
-    let silent = all_silent(rt, alloc, server)?;
-    let waited = waits(rt, server);
+    let mut silent = Vec::new(alloc);
+    let came = come_to_say_nothing(rt, server, &mut silent).is_ok();
+    let is_soon = is_soon(waits(rt, server));
     drop(silent);
-    holds(waited? < MOST_SECONDS, "a silent connection gives way")
+    holds(came && is_soon, "a silent connection gives way")
 }
 
 #[test]

@@ -7,13 +7,13 @@ use toml::Table;
 
 const HASH: &str = "0123456789abcdef0123456789abcdef0123456789abcdef0123456789ABCDEF";
 
-// What becomes of the text of a file: how many accounts it adds, or why it adds none.
-fn judged(alloc: Global, text: &str) -> Result<Result<usize, TableFault>, Fail> {
-    let file = toml::table_from_str(alloc, text)?;
+// What becomes of the text of a file, where it is TOML: how many accounts it adds, or why it adds none.
+fn judged(alloc: Global, text: &str) -> Option<Result<usize, TableFault>> {
+    let file = toml::table_from_str(alloc, text).ok()?;
     let mut accounts = Vec::new(alloc);
     match add_tables(&mut accounts, &file) {
-        Ok(()) => Ok(Ok(accounts.len())),
-        Err(fault) => Ok(Err(fault)),
+        Ok(()) => Some(Ok(accounts.len())),
+        Err(fault) => Some(Err(fault)),
     }
 }
 
@@ -59,22 +59,16 @@ const MORE: &[(&str, bool)] = &[
     ("salt = \"b\"", false),
 ];
 
-fn is_so(alloc: Global, more: &str, is_good: bool) -> Result<bool, Fail> {
-    let text = format!(in alloc; "{FIRST}{more}\n{SECOND}")?;
+fn is_so(alloc: Global, more: &str, is_good: bool) -> bool {
     let wanted: Result<usize, TableFault> = if is_good {
         Ok(2)
     } else {
         Err(TableFault::BadAccount(1))
     };
-    Ok(judged(alloc, text.as_str())? == wanted)
-}
-
-#[test]
-fn tables_are_judged(rt: HostRuntime) -> Result<(), Fail> {
-    for (more, is_good) in MORE {
-        holds(is_so(rt.alloc(), more, *is_good)?, more)?;
+    match format!(in alloc; "{FIRST}{more}\n{SECOND}") {
+        Ok(text) => judged(alloc, text.as_str()) == Some(wanted),
+        Err(_) => false,
     }
-    Ok(())
 }
 
 // Whole files.
@@ -88,14 +82,6 @@ const FILES: &[(&str, Result<usize, TableFault>)] = &[
         Err(TableFault::BadAccount(2)),
     ),
 ];
-
-#[test]
-fn files_are_judged(rt: HostRuntime) -> Result<(), Fail> {
-    for (text, wanted) in FILES {
-        holds(judged(rt.alloc(), text)? == *wanted, text)?;
-    }
-    Ok(())
-}
 
 fn is_salted(account: &TableAccount<'_>) -> bool {
     match account.password {
@@ -120,12 +106,33 @@ fn says_all(alloc: Global, file: &Table) -> bool {
     }
 }
 
-#[test]
-fn a_table_says_what_was_written(rt: HostRuntime) -> Result<(), Fail> {
-    let alloc = rt.alloc();
-    let text = format!(in alloc;
+fn says_all_in(alloc: Global, text: &str) -> bool {
+    match toml::table_from_str(alloc, text) {
+        Ok(file) => says_all(alloc, &file),
+        Err(_) => false,
+    }
+}
+
+// A salted account with each value.
+fn is_salted_account_read(alloc: Global) -> bool {
+    match format!(in alloc;
         "{FIRST}salt = \"grain\"\nhash = \"{HASH}\"\nsessions = 8\nrate = 50\nsuspended = true\n"
-    )?;
-    let file = toml::table_from_str(alloc, text.as_str())?;
-    holds(says_all(alloc, &file), "each value is the written one")
+    ) {
+        Ok(text) => says_all_in(alloc, text.as_str()),
+        Err(_) => false,
+    }
+}
+
+#[test]
+fn tables_are_judged(rt: HostRuntime) -> Result<(), Fail> {
+    for (more, is_good) in MORE {
+        holds(is_so(rt.alloc(), more, *is_good), more)?;
+    }
+    for (text, wanted) in FILES {
+        holds(judged(rt.alloc(), text) == Some(*wanted), text)?;
+    }
+    holds(
+        is_salted_account_read(rt.alloc()),
+        "each value is the written one",
+    )
 }

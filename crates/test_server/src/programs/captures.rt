@@ -47,86 +47,94 @@ const ANSWERED: [u8; 73] = [
     0x00, 0x00, 0x00, 0x00, 0x00, 0x00, 0x00, 0x01, 0x00,
 ];
 
-// The frame that stands in a record, written again.
-fn frame_again(
-    alloc: Global,
-    record: &[u8],
-    seconds: u64,
-    handset: u16,
-    is_up: bool,
-) -> Result<Octets, Fail> {
-    let mut out = Octets::new(alloc);
-    let frame = CapturedFrame {
-        moment: Moment::from_seconds(seconds)?,
-        handset,
-        is_up,
-        octets: OctetView::of(record.get(60..).unwrap_or(&[])),
-    };
-    if frame.octets.as_slice().len() <= 251 {
-        put_frame(&mut out, &frame)?;
+// What stands in a record of a capture file.
+#[derive(Clone, Copy)]
+enum Captured {
+    Head,
+    // A frame of that moment, to or from that handset.
+    Frame(u64, u16, bool),
+    // A PDU of that application, which sent so many octets before, and received so many.
+    Pdu(u16, u32, u32),
+}
+
+fn put_captured(out: &mut Octets, record: &[u8], captured: &Captured) -> Option<()> {
+    match captured {
+        Captured::Head => put_file_head(out).ok(),
+        Captured::Frame(seconds, handset, is_up) => {
+            let frame = CapturedFrame {
+                moment: Moment::from_seconds(*seconds).ok()?,
+                handset: *handset,
+                is_up: *is_up,
+                octets: OctetView::of(record.get(60..).unwrap_or(&[])),
+            };
+            if frame.octets.as_slice().len() > 251 {
+                return None;
+            }
+            put_frame(out, &frame).ok()
+        }
+        Captured::Pdu(application, sent, received) => {
+            let pdu = CapturedPdu {
+                moment: Moment::from_seconds(1_709_251_199).ok()?,
+                application: *application,
+                is_up: *application == 1,
+                sent: *sent,
+                received: *received,
+                octets: OctetView::of(record.get(56..).unwrap_or(&[])),
+            };
+            if pdu.octets.as_slice().len() > 65_495 {
+                return None;
+            }
+            put_pdu(out, &pdu).ok()
+        }
     }
-    Ok(out)
 }
 
-// The PDU that stands in a record, written again.
-fn pdu_again(
-    alloc: Global,
-    record: &[u8],
-    application: u16,
-    sent: u32,
-    received: u32,
-) -> Result<Octets, Fail> {
+// Whether what stands in a record is written so again; of the longest the length alone is known.
+fn is_again(alloc: Global, record: &[u8], captured: &Captured, is_known: bool) -> bool {
     let mut out = Octets::new(alloc);
-    let pdu = CapturedPdu {
-        moment: Moment::from_seconds(1_709_251_199)?,
-        application,
-        is_up: application == 1,
-        sent,
-        received,
-        octets: OctetView::of(record.get(56..).unwrap_or(&[])),
-    };
-    if pdu.octets.as_slice().len() <= 65_495 {
-        put_pdu(&mut out, &pdu)?;
-    }
-    Ok(out)
+    put_captured(&mut out, record, captured).is_some()
+        && out.len() == record.len()
+        && (!is_known || out.as_slice() == record)
 }
 
-fn head(alloc: Global) -> Result<Octets, Fail> {
-    let mut out = Octets::new(alloc);
-    put_file_head(&mut out)?;
-    Ok(out)
-}
-
-fn is(made: Result<Octets, Fail>, record: &[u8], name: &str) -> Result<(), Fail> {
-    let made = made?;
-    holds(made.as_slice() == record, name)
-}
-
-#[test]
-fn a_capture_file_is_as_built_by_hand(rt: HostRuntime) -> Result<(), Fail> {
-    let alloc = rt.alloc();
-    is(head(alloc), &HEAD, "the head")?;
-    is(
-        frame_again(alloc, &DOWN, 1_709_251_198, 1, false),
-        &DOWN,
-        "down",
-    )?;
-    is(frame_again(alloc, &UP, 4_102_444_799, 513, true), &UP, "up")?;
-    is(pdu_again(alloc, &ASKED, 1, 16, 33), &ASKED, "asked")?;
-    is(
-        pdu_again(alloc, &ANSWERED, 300, 4_294_967_295, 70_000),
+const RECORDS: &[(&[u8], Captured, &str)] = &[
+    (&HEAD, Captured::Head, "the head"),
+    (&DOWN, Captured::Frame(1_709_251_198, 1, false), "down"),
+    (&UP, Captured::Frame(4_102_444_799, 513, true), "up"),
+    (&ASKED, Captured::Pdu(1, 16, 33), "asked"),
+    (
         &ANSWERED,
+        Captured::Pdu(300, 4_294_967_295, 70_000),
         "answered",
-    )
-}
+    ),
+];
 
 const LONG: [u8; 65_551] = [0xFF; 65_551];
 
+// So many octets of the long record, of which the head is another one.
+const LONGEST: &[(usize, Captured, &str)] = &[
+    (
+        311,
+        Captured::Frame(1_709_251_198, 65_535, true),
+        "the longest frame",
+    ),
+    (65_551, Captured::Pdu(1, 0, 0), "the longest PDU"),
+];
+
+fn longest_goes(alloc: Global, length: usize, captured: &Captured) -> bool {
+    match LONG.get(..length) {
+        Some(record) => is_again(alloc, record, captured, false),
+        None => false,
+    }
+}
+
 #[test]
-fn the_longest_frame_and_pdu_are_written(rt: HostRuntime) -> Result<(), Fail> {
-    let alloc = rt.alloc();
-    let frame = frame_again(alloc, &LONG[..311], 1_709_251_198, 65_535, true)?;
-    holds(frame.len() == 311, "a frame")?;
-    let pdu = pdu_again(alloc, &LONG, 1, 0, 0)?;
-    holds(pdu.len() == 65_551, "a PDU")
+fn records_are_as_built_by_hand(rt: HostRuntime) -> Result<(), Fail> {
+    for (record, captured, name) in RECORDS {
+        holds(is_again(rt.alloc(), record, captured, true), name)?;
+    }
+    for (length, captured, name) in LONGEST {
+        holds(longest_goes(rt.alloc(), *length, captured), name)?;
+    }
+    Ok(())
 }

@@ -4,7 +4,7 @@ use sms_base::Octets;
 use sms_trace_files::ladder::put_ladder;
 use sms_trace_files::picture::{Picture, PictureSoFar, Route, Sign, put_picture};
 use sms_world::run_ladder;
-use std::alloc::Global;
+use std::alloc::{AllocError, Global};
 use std::str::from_utf8;
 use std::test::Fail;
 
@@ -52,67 +52,87 @@ frame 2 never arrives\n\
 frame 3 never arrives\n\
 frame 4 never arrives\n";
 
-fn drawn(alloc: Global, script: &[u8]) -> Result<Vec<u8>, Fail> {
+const SCRIPTS: &[(&[u8], &str, &str)] = &[
+    (TWENTY_DIGITS, TWENTY_DIGITS_LADDER, "twenty digits"),
+    (OWNERS, OWNERS_LADDER, "owners"),
+];
+
+fn is_drawn(alloc: Global, script: &[u8], wanted: &str) -> bool {
     let mut input = script;
     let mut ladder: Vec<u8> = Vec::new(alloc);
-    run_ladder(alloc, &mut input, &mut ladder)?;
-    Ok(ladder)
-}
-
-fn is_drawn(alloc: Global, script: &[u8], wanted: &str, name: &str) -> Result<(), Fail> {
-    let ladder = drawn(alloc, script)?;
-    holds(ladder.as_slice() == wanted.as_bytes(), name)
+    run_ladder(alloc, &mut input, &mut ladder).is_ok() && ladder.as_slice() == wanted.as_bytes()
 }
 
 #[test]
-fn twenty_digits_and_octets_are_shown(rt: HostRuntime) -> Result<(), Fail> {
-    is_drawn(
-        rt.alloc(),
-        TWENTY_DIGITS,
-        TWENTY_DIGITS_LADDER,
-        "twenty digits",
-    )
+fn scripts_are_drawn(rt: HostRuntime) -> Result<(), Fail> {
+    for (script, wanted, name) in SCRIPTS {
+        holds(is_drawn(rt.alloc(), script, wanted), name)?;
+    }
+    Ok(())
 }
 
-#[test]
-fn an_owners_act_is_one_row(rt: HostRuntime) -> Result<(), Fail> {
-    is_drawn(rt.alloc(), OWNERS, OWNERS_LADDER, "owners")
-}
-
-// Lanes 0 to 3, of which no row touches lane 1. Something crosses lane 2, and frames go both ways.
-fn between_lanes(alloc: Global) -> Result<Picture, Fail> {
-    let mut picture = PictureSoFar::new(alloc);
-    picture.put_lane(b"one")?;
-    picture.put_lane(b"two")?;
-    picture.put_lane(b"three")?;
-    picture.put_lane(b"four")?;
+// What crosses four lanes, of which no row touches lane 1. Something crosses lane 2, and frames go both ways.
+fn put_rows(picture: &mut PictureSoFar) -> Result<(), AllocError> {
     picture.put_exchange(Route { from: 0, to: 3 }, b"across")?;
     picture.put_departure(Route { from: 3, to: 0 }, false, b"back")?;
     picture.put_departure(Route { from: 2, to: 0 }, false, b"never")?;
     picture.put_arrival(Route { from: 3, to: 0 }, 1, b"arrives")?;
     picture.put_sign(2, Sign::Tick, b"ticks")?;
     picture.put_sign(3, Sign::Act, b"acts")?;
-    picture.put_sign(0, Sign::Restart, b"")?;
+    picture.put_sign(0, Sign::Restart, b"")
+}
+
+fn put_between_lanes(picture: &mut PictureSoFar) -> Result<(), AllocError> {
+    picture.put_lane(b"one")?;
+    picture.put_lane(b"two")?;
+    picture.put_lane(b"three")?;
+    picture.put_lane(b"four")?;
+    put_rows(picture)
+}
+
+const LONG: [u8; 1_234] = [b'<'; 1_234];
+
+// A clock that ticks in each of so many rows, with a long note in the first.
+fn put_ticks(picture: &mut PictureSoFar, rows: u32) -> Result<(), AllocError> {
+    picture.put_lane(b"side")?;
+    picture.put_sign(0, Sign::Tick, &LONG)?;
+    for _ in 1..rows {
+        picture.put_sign(0, Sign::Tick, b"ticks")?;
+    }
+    Ok(())
+}
+
+// What is drawn: four lanes, or so many ticks, as text or as a picture.
+#[derive(Clone, Copy)]
+enum Drawn {
+    TextBetweenLanes,
+    BetweenLanes,
+    Ticks(u32),
+}
+
+fn put_all(picture: &mut PictureSoFar, drawn: Drawn) -> Result<(), AllocError> {
+    match drawn {
+        Drawn::TextBetweenLanes | Drawn::BetweenLanes => put_between_lanes(picture),
+        Drawn::Ticks(rows) => put_ticks(picture, rows),
+    }
+}
+
+fn picture_of(alloc: Global, drawn: Drawn) -> Result<Picture, AllocError> {
+    let mut picture = PictureSoFar::new(alloc);
+    put_all(&mut picture, drawn)?;
     Ok(picture.finish())
 }
 
-const BETWEEN_LANES: &str = "\
-one                 three               four\n\
-|-------------------|------------------>|  across\n\
-|< - - - - - - - - -|- - - - - - - - - -|  back\n\
-|        x - - - - -|                   |  never\n\
-|<------------------|-------------------|  arrives\n\
-|                   o                   |  ticks\n\
-|                   |                   *  acts\n\
-X                   |                   |\n";
-
-#[test]
-fn a_lane_that_nothing_touches_is_left_out(rt: HostRuntime) -> Result<(), Fail> {
-    let alloc = rt.alloc();
-    let picture = between_lanes(alloc)?;
-    let mut out = Octets::new(alloc);
-    put_ladder(alloc, &mut out, &picture)?;
-    holds(out.as_slice() == BETWEEN_LANES.as_bytes(), "the text")
+fn put_drawn(
+    alloc: Global,
+    out: &mut Octets,
+    picture: &Picture,
+    drawn: Drawn,
+) -> Result<(), AllocError> {
+    match drawn {
+        Drawn::TextBetweenLanes => put_ladder(alloc, out, picture),
+        Drawn::BetweenLanes | Drawn::Ticks(_) => put_picture(alloc, out, picture),
+    }
 }
 
 fn has_text(octets: &[u8], wanted: &str) -> bool {
@@ -122,20 +142,37 @@ fn has_text(octets: &[u8], wanted: &str) -> bool {
     }
 }
 
-// Whether the picture has that text.
-fn is_there(alloc: Global, picture: &Picture, wanted: &str) -> Result<bool, Fail> {
+// Whether what is drawn has a text, or has it not. A ladder is to be that text.
+fn is_shown(octets: &[u8], drawn: Drawn, wanted: &str, is_there: bool) -> bool {
+    match drawn {
+        Drawn::TextBetweenLanes => octets == wanted.as_bytes(),
+        Drawn::BetweenLanes | Drawn::Ticks(_) => has_text(octets, wanted) == is_there,
+    }
+}
+
+fn has(alloc: Global, picture: &Picture, drawn: Drawn, wanted: &str, is_there: bool) -> bool {
     let mut out = Octets::new(alloc);
-    put_picture(alloc, &mut out, picture)?;
-    Ok(has_text(out.as_slice(), wanted))
+    put_drawn(alloc, &mut out, picture, drawn).is_ok()
+        && is_shown(out.as_slice(), drawn, wanted, is_there)
 }
 
-fn has(alloc: Global, picture: &Picture, wanted: &str) -> Result<(), Fail> {
-    holds(is_there(alloc, picture, wanted)?, wanted)
+fn is_picture(alloc: Global, drawn: Drawn, wanted: &str, is_there: bool) -> bool {
+    match picture_of(alloc, drawn) {
+        Ok(picture) => has(alloc, &picture, drawn, wanted, is_there),
+        Err(_) => false,
+    }
 }
 
-fn lacks(alloc: Global, picture: &Picture, wanted: &str) -> Result<(), Fail> {
-    holds(!is_there(alloc, picture, wanted)?, wanted)
-}
+// The whole text.
+const BETWEEN_LANES: &str = "\
+one                 three               four\n\
+|-------------------|------------------>|  across\n\
+|< - - - - - - - - -|- - - - - - - - - -|  back\n\
+|        x - - - - -|                   |  never\n\
+|<------------------|-------------------|  arrives\n\
+|                   o                   |  ticks\n\
+|                   |                   *  acts\n\
+X                   |                   |\n";
 
 const NEVER: &str = "<line class=\"arrow lost\" x1=\"280\" y1=\"108\" x2=\"190\" y2=\"108\"/>\n\
 <use href=\"#cross\" x=\"548\" y=\"108\"/>\n\
@@ -152,28 +189,6 @@ const LANES: &str = "<line class=\"lane\" x1=\"100\" y1=\"40\" x2=\"100\" y2=\"2
 <text class=\"name\" x=\"460\" y=\"30\">four</text>\n\
 <line class=\"arrow\" x1=\"100\" y1=\"60\" x2=\"460\" y2=\"60\"/>\n";
 
-#[test]
-fn a_picture_has_the_lanes_that_are_touched(rt: HostRuntime) -> Result<(), Fail> {
-    let alloc = rt.alloc();
-    let picture = between_lanes(alloc)?;
-    has(alloc, &picture, LANES)?;
-    has(alloc, &picture, NEVER)?;
-    has(alloc, &picture, ARRIVES)
-}
-
-const LONG: [u8; 1_234] = [b'<'; 1_234];
-
-// A clock that ticks in each of so many rows, with a long note in the first.
-fn ticking(alloc: Global, rows: u32) -> Result<Picture, Fail> {
-    let mut picture = PictureSoFar::new(alloc);
-    picture.put_lane(b"side")?;
-    picture.put_sign(0, Sign::Tick, &LONG)?;
-    for _ in 1..rows {
-        picture.put_sign(0, Sign::Tick, b"ticks")?;
-    }
-    Ok(picture.finish())
-}
-
 // Eighty octets of the note, each as its entity.
 const CUT: &str = "<text class=\"note\" x=\"200\" y=\"64\">\
 &lt;&lt;&lt;&lt;&lt;&lt;&lt;&lt;&lt;&lt;&lt;&lt;&lt;&lt;&lt;&lt;&lt;&lt;&lt;&lt;\
@@ -182,34 +197,69 @@ const CUT: &str = "<text class=\"note\" x=\"200\" y=\"64\">\
 &lt;&lt;&lt;&lt;&lt;&lt;&lt;&lt;&lt;&lt;&lt;&lt;&lt;&lt;&lt;&lt;&lt;&lt;&lt;&lt; \
 .. (1234 octets)</text>\n";
 
-#[test]
-fn a_long_note_is_cut(rt: HostRuntime) -> Result<(), Fail> {
-    let alloc = rt.alloc();
-    let picture = ticking(alloc, 1)?;
-    has(alloc, &picture, CUT)?;
-    has(alloc, &picture, "viewBox=\"0 0 1184 252\"")
-}
-
 const SECOND_NAME: &str = "<text class=\"name\" x=\"100\" y=\"1020\">side</text>\n";
 
 const THIRD_NAME: &str = "<text class=\"name\" x=\"100\" y=\"2010\">side</text>\n";
 
-#[test]
-fn names_are_repeated_every_forty_rows(rt: HostRuntime) -> Result<(), Fail> {
-    let alloc = rt.alloc();
-    lacks(alloc, &ticking(alloc, 40)?, SECOND_NAME)?;
-    let picture = ticking(alloc, 80)?;
-    has(alloc, &picture, SECOND_NAME)?;
-    has(
-        alloc,
-        &picture,
+const PICTURES: &[(Drawn, &str, bool, &str)] = &[
+    (
+        Drawn::TextBetweenLanes,
+        BETWEEN_LANES,
+        true,
+        "a lane that nothing touches is left out",
+    ),
+    (
+        Drawn::BetweenLanes,
+        LANES,
+        true,
+        "the lanes that are touched",
+    ),
+    (
+        Drawn::BetweenLanes,
+        NEVER,
+        true,
+        "a frame that never arrives",
+    ),
+    (Drawn::BetweenLanes, ARRIVES, true, "a frame that arrives"),
+    (Drawn::Ticks(1), CUT, true, "a long note is cut"),
+    (
+        Drawn::Ticks(1),
+        "viewBox=\"0 0 1184 252\"",
+        true,
+        "the room of a note that is cut",
+    ),
+    (Drawn::Ticks(40), SECOND_NAME, false, "forty rows"),
+    (
+        Drawn::Ticks(80),
+        SECOND_NAME,
+        true,
+        "a name behind forty rows",
+    ),
+    (
+        Drawn::Ticks(80),
         "<use href=\"#tick\" x=\"100\" y=\"996\"/>\n",
-    )?;
-    has(
-        alloc,
-        &picture,
+        true,
+        "the fortieth row",
+    ),
+    (
+        Drawn::Ticks(80),
         "<use href=\"#tick\" x=\"100\" y=\"1050\"/>\n",
-    )?;
-    lacks(alloc, &picture, THIRD_NAME)?;
-    has(alloc, &ticking(alloc, 81)?, THIRD_NAME)
+        true,
+        "the row behind it",
+    ),
+    (Drawn::Ticks(80), THIRD_NAME, false, "eighty rows"),
+    (
+        Drawn::Ticks(81),
+        THIRD_NAME,
+        true,
+        "a name behind eighty rows",
+    ),
+];
+
+#[test]
+fn pictures_have_texts(rt: HostRuntime) -> Result<(), Fail> {
+    for (drawn, wanted, is_there, name) in PICTURES {
+        holds(is_picture(rt.alloc(), *drawn, wanted, *is_there), name)?;
+    }
+    Ok(())
 }

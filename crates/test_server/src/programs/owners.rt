@@ -2,7 +2,7 @@
 use crate::rows::holds;
 use sms_script::ScriptFault;
 use sms_script::owner::{OwnersAct, read_acts};
-use std::alloc::Global;
+use std::alloc::{AllocError, Global};
 use std::test::Fail;
 
 // How many acts the lines ask, or the number of the bad line as one below zero.
@@ -81,47 +81,61 @@ fn says_all(alloc: Global, text: &[u8]) -> bool {
     }
 }
 
-#[test]
-fn acts_say_what_was_written(rt: HostRuntime) -> Result<(), Fail> {
-    holds(
-        says_all(
-            rt.alloc(),
-            b"write 447700900456 1 68656c6C6F\ndelete 3\ndiscard 004\n",
-        ),
-        "three acts",
-    )
-}
-
-// Whether a line of so many octets, its end not counted, is read: a deletion with leading zeros.
-fn is_read(alloc: Global, count: usize) -> Result<bool, Fail> {
+// A deletion with leading zeros, in a line of so many octets, its end not counted.
+fn long_line(alloc: Global, count: usize) -> Result<Vec<u8>, AllocError> {
     let mut line = Vec::new(alloc);
     line.extend_from_slice(b"delete ")?;
     for _ in 7..count {
         line.push(b'0')?;
     }
-    Ok(judged(alloc, line.as_slice()) == 1)
+    Ok(line)
 }
 
-#[test]
-fn a_line_has_16384_octets_at_most(rt: HostRuntime) -> Result<(), Fail> {
-    holds(is_read(rt.alloc(), 16_384)?, "the longest")?;
-    holds(!is_read(rt.alloc(), 16_385)?, "one octet more")
+// Whether such a line is judged so.
+fn is_judged(alloc: Global, count: usize, wanted: i64) -> bool {
+    match long_line(alloc, count) {
+        Ok(line) => judged(alloc, line.as_slice()) == wanted,
+        Err(_) => false,
+    }
 }
 
-// What so many lines are judged as.
-fn lines(alloc: Global, count: usize) -> Result<Option<u64>, Fail> {
+fn many_lines(alloc: Global, count: usize) -> Result<Vec<u8>, AllocError> {
     let mut text = Vec::new(alloc);
     for _ in 0..count {
         text.extend_from_slice(b"delete 1\n")?;
     }
-    match read_acts(alloc, text.as_slice()) {
-        Err(ScriptFault::BadLine(line)) => Ok(Some(line)),
-        _ => Ok(None),
+    Ok(text)
+}
+
+// The bad line of a text, if it has one.
+fn bad_line(alloc: Global, text: &[u8]) -> Option<u64> {
+    match read_acts(alloc, text) {
+        Err(ScriptFault::BadLine(line)) => Some(line),
+        _ => None,
     }
 }
 
+// Whether the bad line of so many lines is that.
+fn is_bad_line(alloc: Global, count: usize, wanted: Option<u64>) -> bool {
+    match many_lines(alloc, count) {
+        Ok(text) => bad_line(alloc, text.as_slice()) == wanted,
+        Err(_) => false,
+    }
+}
+
+// A line has 16,384 octets at most, and there are 10,000 lines at most.
 #[test]
-fn there_are_10000_lines_at_most(rt: HostRuntime) -> Result<(), Fail> {
-    holds(lines(rt.alloc(), 10_000)?.is_none(), "all lines")?;
-    holds(lines(rt.alloc(), 10_001)? == Some(10_001), "one line more")
+fn acts_and_their_limits_are_read(rt: HostRuntime) -> Result<(), Fail> {
+    let alloc = rt.alloc();
+    holds(
+        says_all(
+            alloc,
+            b"write 447700900456 1 68656c6C6F\ndelete 3\ndiscard 004\n",
+        ),
+        "three acts",
+    )?;
+    holds(is_judged(alloc, 16_384, 1), "the longest")?;
+    holds(!is_judged(alloc, 16_385, 1), "one octet more")?;
+    holds(is_bad_line(alloc, 10_000, None), "all lines")?;
+    holds(is_bad_line(alloc, 10_001, Some(10_001)), "one line more")
 }

@@ -156,15 +156,11 @@ const WORDS_AT: &[(usize, &str, &str)] = &[
     (11, "--accounts", "bad"),
 ];
 
-fn is_judged(
-    alloc: Global,
-    words: &[&str],
-    place: usize,
-    word: &str,
-    wanted: &str,
-) -> Result<(), Fail> {
-    let words = with(alloc, words, place, word)?;
-    holds(judged(alloc, words.as_slice()) == wanted, word)
+fn is_judged(alloc: Global, words: &[&str], place: usize, word: &str, wanted: &str) -> bool {
+    match with(alloc, words, place, word) {
+        Ok(words) => judged(alloc, words.as_slice()) == wanted,
+        Err(_) => false,
+    }
 }
 
 const OTHERS: &[(&[&str], &str)] = &[
@@ -474,23 +470,89 @@ fn is_whole(words: &ServerWords<'_>) -> bool {
     }
 }
 
-// Whether the words say what was written, with four options more or without them.
-fn says(alloc: Global, words: &[&str], whole: bool) -> Result<bool, Fail> {
-    let words = server_words(alloc, words)?;
-    Ok(if whole {
-        is_whole(&words)
-    } else {
-        is_written(&words)
-    })
+// What words ask for.
+#[derive(Clone, Copy)]
+enum Meaning {
+    // What was written, without four options.
+    Written,
+    // What was written, with four options more.
+    Whole,
+    // A log that has the ends of messages alone.
+    Ends,
+    // What waits, by handset.
+    ByHandset,
+    // Messages.
+    Messages,
 }
+
+fn is_of_ends(words: &ServerWords<'_>) -> bool {
+    match words {
+        ServerWords::Run(run, _) => run.log == LogDetail::Access,
+        _ => false,
+    }
+}
+
+fn is_by_handset(words: &ServerWords<'_>, wanted: bool) -> bool {
+    match words {
+        ServerWords::Show { by_handset, .. } => *by_handset == wanted,
+        _ => false,
+    }
+}
+
+fn is_asked(words: &ServerWords<'_>, asked: Meaning) -> bool {
+    match asked {
+        Meaning::Written => is_written(words),
+        Meaning::Whole => is_whole(words),
+        Meaning::Ends => is_of_ends(words),
+        Meaning::ByHandset => is_by_handset(words, true),
+        Meaning::Messages => is_by_handset(words, false),
+    }
+}
+
+fn ask(alloc: Global, words: &[&str], asked: Meaning) -> bool {
+    match server_words(alloc, words) {
+        Ok(words) => is_asked(&words, asked),
+        Err(_) => false,
+    }
+}
+
+const ASKED: &[(&[&str], Meaning, &str)] = &[
+    (WORDS, Meaning::Written, "five options and an account"),
+    (WHOLE, Meaning::Whole, "four more options"),
+    (
+        &[
+            "smscd", "--store", "c", "--smpp", "1", "--links", "2", "--centre", "1", "--log",
+            "access",
+        ],
+        Meaning::Ends,
+        "the log's word",
+    ),
+    (
+        &[
+            "smscd",
+            "show",
+            "--stuck",
+            "--store",
+            "c",
+            "--to",
+            "447700900456",
+        ],
+        Meaning::ByHandset,
+        "by handset",
+    ),
+    (
+        &["smscd", "show", "--store", "c"],
+        Meaning::Messages,
+        "messages",
+    ),
+];
 
 #[test]
 fn server_words_say_what_was_written(rt: HostRuntime) -> Result<(), Fail> {
-    holds(
-        says(rt.alloc(), WORDS, false)?,
-        "five options and an account",
-    )?;
-    holds(says(rt.alloc(), WHOLE, true)?, "four more options")
+    for (words, asked, name) in ASKED {
+        holds(ask(rt.alloc(), words, *asked), name)?;
+    }
+    Ok(())
 }
 
 // The words of a whole run with one in place of another: its log has no other lines, and its status page has a port.
@@ -505,7 +567,7 @@ const WHOLE_AT: &[(usize, &str, &str)] = &[
 
 fn are_judged(alloc: Global, words: &[&str], rows: &[(usize, &str, &str)]) -> Result<(), Fail> {
     for (place, word, wanted) in rows {
-        is_judged(alloc, words, *place, word, wanted)?;
+        holds(is_judged(alloc, words, *place, word, wanted), word)?;
     }
     Ok(())
 }
@@ -522,53 +584,6 @@ fn server_words_are_judged(rt: HostRuntime) -> Result<(), Fail> {
         holds(judged(rt.alloc(), words) == *wanted, wanted)?;
     }
     Ok(())
-}
-
-const ACCESS: &[&str] = &[
-    "smscd", "--store", "c", "--smpp", "1", "--links", "2", "--centre", "1", "--log", "access",
-];
-
-fn is_of_ends(words: &ServerWords<'_>) -> bool {
-    match words {
-        ServerWords::Run(run, _) => run.log == LogDetail::Access,
-        _ => false,
-    }
-}
-
-#[test]
-fn the_log_may_have_the_ends_of_messages_alone(rt: HostRuntime) -> Result<(), Fail> {
-    let words = server_words(rt.alloc(), ACCESS)?;
-    holds(is_of_ends(&words), "the log's word")
-}
-
-const LOOK: &[&str] = &["smscd", "show", "--store", "c"];
-
-const STUCK: &[&str] = &[
-    "smscd",
-    "show",
-    "--stuck",
-    "--store",
-    "c",
-    "--to",
-    "447700900456",
-];
-
-fn is_by_handset(words: &ServerWords<'_>) -> bool {
-    match words {
-        ServerWords::Show { by_handset, .. } => *by_handset,
-        _ => false,
-    }
-}
-
-fn shows_by_handset(alloc: Global, words: &[&str]) -> Result<bool, Fail> {
-    let words = server_words(alloc, words)?;
-    Ok(is_by_handset(&words))
-}
-
-#[test]
-fn a_look_may_be_at_what_waits(rt: HostRuntime) -> Result<(), Fail> {
-    holds(shows_by_handset(rt.alloc(), STUCK)?, "by handset")?;
-    holds(!shows_by_handset(rt.alloc(), LOOK)?, "messages")
 }
 
 // What is said of words that ask for nothing.
@@ -611,26 +626,22 @@ const WHY: &[(&[&str], &str)] = &[
     ),
 ];
 
-#[test]
-fn bad_words_are_named(rt: HostRuntime) -> Result<(), Fail> {
-    for (words, wanted) in WHY {
-        let text = why_no_server_words(rt.alloc(), words)?;
-        holds(text.as_str().starts_with(wanted), wanted)?;
-        holds(!text.as_str().contains("secret"), "no password is repeated")?;
+// Whether it is said so, and no password is repeated.
+fn is_said(alloc: Global, words: &[&str], wanted: &str) -> bool {
+    match why_no_server_words(alloc, words) {
+        Ok(text) => text.as_str().starts_with(wanted) && !text.as_str().contains("secret"),
+        Err(_) => false,
     }
-    Ok(())
 }
 
 #[test]
-fn an_account_has_four_sessions_or_so_many(rt: HostRuntime) -> Result<(), Fail> {
+fn bad_words_accounts_and_files_are_judged(rt: HostRuntime) -> Result<(), Fail> {
+    for (words, wanted) in WHY {
+        holds(is_said(rt.alloc(), words, wanted), wanted)?;
+    }
     for (line, wanted) in LIMITS {
         holds(sessions_in(rt.alloc(), line) == *wanted, line)?;
     }
-    Ok(())
-}
-
-#[test]
-fn a_file_has_an_account_a_line(rt: HostRuntime) -> Result<(), Fail> {
     for (file, wanted) in FILES {
         holds(in_file(rt.alloc(), file) == *wanted, file)?;
     }

@@ -2,50 +2,55 @@
 use crate::rows::holds;
 use sms_base::{Moment, Msisdn};
 use smsc_cli::centre_table::{StuckLine, stuck_table};
+use std::alloc::Global;
 use std::test::Fail;
 
-fn digits(text: &str) -> Result<Msisdn, Fail> {
-    match Msisdn::of(text.as_bytes()) {
-        Some(number) => Ok(number),
-        None => Err(Fail::new("a handset's number")),
-    }
+fn digits(text: &str) -> Option<Msisdn> {
+    Msisdn::of(text.as_bytes())
 }
 
 // 2026-11-26 04:46:01 at UTC, by `date -u -d @1795668361`, and so many seconds on.
-fn moment(more: u64) -> Result<Moment, Fail> {
-    match Moment::from_seconds(1_795_668_361 + more % 60) {
-        Ok(moment) => Ok(moment),
-        Err(_) => Err(Fail::new("a moment")),
-    }
+fn moment(more: u64) -> Option<Moment> {
+    Moment::from_seconds(1_795_668_361 + more % 60).ok()
 }
 
 const TABLE: &str = "TO                    WAITING SINCE        FAILED DUE\n\
 447700900456          12      261126044601 3      261126044610\n\
 447700900999          1       261126044610 0      -\n";
 
-fn first() -> Result<StuckLine, Fail> {
-    Ok(StuckLine {
-        handset: digits("447700900456")?,
-        waiting: 12,
-        since: moment(0)?,
-        failed: 3,
-        due: Some(moment(9)?),
+fn line(
+    handset: &str,
+    waiting: u64,
+    since: u64,
+    failed: u8,
+    due: Option<Moment>,
+) -> Option<StuckLine> {
+    Some(StuckLine {
+        handset: digits(handset)?,
+        waiting,
+        since: moment(since)?,
+        failed,
+        due,
     })
 }
 
-fn second() -> Result<StuckLine, Fail> {
-    Ok(StuckLine {
-        handset: digits("447700900999")?,
-        waiting: 1,
-        since: moment(9)?,
-        failed: 0,
-        due: None,
-    })
+fn lines(alloc: Global) -> Option<Vec<StuckLine>> {
+    let first = line("447700900456", 12, 0, 3, moment(9))?;
+    let second = line("447700900999", 1, 9, 0, None)?;
+    vec![in alloc; first, second].ok()
+}
+
+fn is_table(alloc: Global, lines: &[StuckLine]) -> bool {
+    match stuck_table(alloc, lines) {
+        Ok(text) => text.as_slice() == TABLE.as_bytes(),
+        Err(_) => false,
+    }
 }
 
 #[test]
 fn what_waits_has_a_line_for_each_handset(rt: HostRuntime) -> Result<(), Fail> {
-    let lines = vec![in rt.alloc(); first()?, second()?]?;
-    let text = stuck_table(rt.alloc(), lines.as_slice())?;
-    holds(text.as_slice() == TABLE.as_bytes(), "the table")
+    match lines(rt.alloc()) {
+        Some(lines) => holds(is_table(rt.alloc(), lines.as_slice()), "the table"),
+        None => Err(Fail::new("no lines")),
+    }
 }

@@ -3,7 +3,7 @@ use crate::rows::holds;
 use smsc_cli::words::{
     HandsetWords, Misbehaviour, Refusal, WordsFault, handset_words, misbehaviour_words,
 };
-use std::alloc::Global;
+use std::alloc::{AllocError, Global};
 use std::test::Fail;
 
 const WORDS: &[&str] = &[
@@ -27,12 +27,11 @@ fn put_with<'a>(
     words: &[&'a str],
     place: usize,
     word: &'a str,
-) -> Result<(), Fail> {
+) -> Result<(), AllocError> {
     let (front, rest) = words.split_at(place.min(words.len()));
     all.extend_from_slice(front)?;
     all.push(word)?;
-    all.extend_from_slice(rest.get(1..).unwrap_or(&[]))?;
-    Ok(())
+    all.extend_from_slice(rest.get(1..).unwrap_or(&[]))
 }
 
 /// The words, with one in place of another.
@@ -41,7 +40,7 @@ pub(crate) fn with<'a>(
     words: &[&'a str],
     place: usize,
     word: &'a str,
-) -> Result<Vec<&'a str>, Fail> {
+) -> Result<Vec<&'a str>, AllocError> {
     let mut all = Vec::new(alloc);
     put_with(&mut all, words, place, word)?;
     Ok(all)
@@ -75,11 +74,6 @@ fn says_all(alloc: Global) -> bool {
     }
 }
 
-#[test]
-fn words_say_what_was_written(rt: HostRuntime) -> Result<(), Fail> {
-    holds(says_all(rt.alloc()), "six options")
-}
-
 const WORDS_AT: &[(usize, &str, &str)] = &[
     (2, "65535", "run"),
     (2, "0", "bad"),
@@ -98,9 +92,11 @@ const WORDS_AT: &[(usize, &str, &str)] = &[
     (12, "-1", "bad"),
 ];
 
-fn is_judged(alloc: Global, place: usize, word: &str, wanted: &str) -> Result<(), Fail> {
-    let words = with(alloc, WORDS, place, word)?;
-    holds(judged(alloc, words.as_slice()) == wanted, word)
+fn is_judged(alloc: Global, place: usize, word: &str, wanted: &str) -> bool {
+    match with(alloc, WORDS, place, word) {
+        Ok(words) => judged(alloc, words.as_slice()) == wanted,
+        Err(_) => false,
+    }
 }
 
 const OTHERS: &[(&[&str], &str)] = &[
@@ -115,8 +111,9 @@ const OTHERS: &[(&[&str], &str)] = &[
 
 #[test]
 fn words_are_judged(rt: HostRuntime) -> Result<(), Fail> {
+    holds(says_all(rt.alloc()), "six options")?;
     for (place, word, wanted) in WORDS_AT {
-        is_judged(rt.alloc(), *place, word, wanted)?;
+        holds(is_judged(rt.alloc(), *place, word, wanted), word)?;
     }
     for (words, wanted) in OTHERS {
         holds(judged(rt.alloc(), words) == *wanted, wanted)?;
@@ -124,17 +121,17 @@ fn words_are_judged(rt: HostRuntime) -> Result<(), Fail> {
     Ok(())
 }
 
-// What the words of a run ask it to do wrong, by those two words more.
-fn wrong<'x>(alloc: Global, option: &'x str, value: &'x str) -> Result<Option<Misbehaviour>, Fail> {
+// The words of a run, and those two.
+fn words_and<'a>(
+    alloc: Global,
+    option: &'a str,
+    value: &'a str,
+) -> Result<Vec<&'a str>, AllocError> {
     let mut all = Vec::new(alloc);
     all.extend_from_slice(WORDS)?;
     all.push(option)?;
     all.push(value)?;
-    match misbehaviour_words(alloc, all.as_slice()) {
-        Ok(wrong) => Ok(Some(wrong)),
-        Err(WordsFault::BadWords) => Ok(None),
-        Err(WordsFault::NoMemory) => Err(Fail::from("memory")),
-    }
+    Ok(all)
 }
 
 const NOTHING: Misbehaviour = Misbehaviour {
@@ -153,36 +150,56 @@ fn refuses(cause: u8, count: Option<u32>) -> Misbehaviour {
     }
 }
 
+// What a handset is to do wrong.
+#[derive(Clone, Copy)]
+enum Wrong {
+    // It refuses with that cause, so often or always.
+    Refuses(u8, Option<u32>),
+    // So many of a hundred frames are lost.
+    Drops(u8),
+    BadWords,
+}
+
+fn is_wrong(judged: Result<Misbehaviour, WordsFault>, wanted: &Wrong) -> bool {
+    match wanted {
+        Wrong::Refuses(cause, count) => judged == Ok(refuses(*cause, *count)),
+        Wrong::Drops(drops) => {
+            judged
+                == Ok(Misbehaviour {
+                    drops: Some(*drops),
+                    ..NOTHING
+                })
+        }
+        Wrong::BadWords => judged == Err(WordsFault::BadWords),
+    }
+}
+
+fn are_wrong(alloc: Global, option: &str, value: &str, wanted: &Wrong) -> bool {
+    match words_and(alloc, option, value) {
+        Ok(words) => is_wrong(misbehaviour_words(alloc, words.as_slice()), wanted),
+        Err(_) => false,
+    }
+}
+
+const WRONGS: &[(&str, &str, Wrong)] = &[
+    ("--refuse", "27", Wrong::Refuses(27, None)),
+    ("--refuse", "127:3", Wrong::Refuses(127, Some(3))),
+    ("--drop", "100", Wrong::Drops(100)),
+    ("--refuse", "128", Wrong::BadWords),
+    ("--refuse", "27:", Wrong::BadWords),
+    ("--refuse", ":1", Wrong::BadWords),
+    ("--refuse", "27:1:1", Wrong::BadWords),
+    ("--drop", "101", Wrong::BadWords),
+    ("--slow", "a", Wrong::BadWords),
+    ("--full-after", "-1", Wrong::BadWords),
+    ("--seed", "4294967296", Wrong::BadWords),
+    ("--silent", "1", Wrong::BadWords),
+];
+
 #[test]
 fn wrongs_are_asked_for(rt: HostRuntime) -> Result<(), Fail> {
-    let alloc = rt.alloc();
-    holds(
-        wrong(alloc, "--refuse", "27")? == Some(refuses(27, None)),
-        "all",
-    )?;
-    holds(
-        wrong(alloc, "--refuse", "127:3")? == Some(refuses(127, Some(3))),
-        "three",
-    )?;
-    let lossy = Misbehaviour {
-        drops: Some(100),
-        ..NOTHING
-    };
-    holds(wrong(alloc, "--drop", "100")? == Some(lossy), "every frame")?;
-    for (option, value) in WRONG_VALUES {
-        holds(wrong(alloc, option, value)?.is_none(), value)?;
+    for (option, value, wanted) in WRONGS {
+        holds(are_wrong(rt.alloc(), option, value, wanted), value)?;
     }
     Ok(())
 }
-
-const WRONG_VALUES: &[(&str, &str)] = &[
-    ("--refuse", "128"),
-    ("--refuse", "27:"),
-    ("--refuse", ":1"),
-    ("--refuse", "27:1:1"),
-    ("--drop", "101"),
-    ("--slow", "a"),
-    ("--full-after", "-1"),
-    ("--seed", "4294967296"),
-    ("--silent", "1"),
-];

@@ -1,5 +1,5 @@
 //! An endpoint, what is done with it, and what it has to do.
-use crate::rows::{holds, turn_holds};
+use crate::rows::turn_holds;
 use crate::service::centre::logins;
 use smpp_pdu::CommandStatus;
 use smpp_session::{BindKind, FullAccounts};
@@ -138,12 +138,12 @@ pub(crate) enum Turn {
 // ---- what is done
 
 /// Message 1 was delivered.
-pub(crate) fn end() -> Result<Final, Fail> {
-    let moment = Moment::from_seconds(1_709_251_198)?;
-    Ok(Final {
-        id: MessageId::new(1).ok_or("no identity")?,
-        source: Address::new(1, 1, "447700900001")?,
-        handset: Address::new(1, 1, "447700900456")?.digits,
+pub(crate) fn end() -> Option<Final> {
+    let moment = Moment::from_seconds(1_709_251_198).ok()?;
+    Some(Final {
+        id: MessageId::new(1)?,
+        source: Address::new(1, 1, "447700900001").ok()?,
+        handset: Address::new(1, 1, "447700900456").ok()?.digits,
         message_reference: 0,
         submitted: moment,
         done: moment,
@@ -151,17 +151,21 @@ pub(crate) fn end() -> Result<Final, Fail> {
     })
 }
 
-fn reply(alloc: Global, told: &ExpectedReply) -> Result<Reply, Fail> {
+fn reply(alloc: Global, told: &ExpectedReply) -> Option<Reply> {
     match told {
-        ExpectedReply::Accepted(id) => Ok(Reply::Answer(CentreAnswer::Submitted(MessageId::new(
-            *id,
-        ).ok_or("no identity")?))),
-        ExpectedReply::Failed => Ok(Reply::Answer(CentreAnswer::Refused(
+        ExpectedReply::Accepted(id) => {
+            let id = MessageId::new(*id)?;
+            Some(Reply::Answer(CentreAnswer::Submitted(id)))
+        }
+        ExpectedReply::Failed => Some(Reply::Answer(CentreAnswer::Refused(
             CommandStatus::ESME_RSYSERR,
         ))),
-        ExpectedReply::Receipt => Ok(Reply::Receipt(end()?)),
-        ExpectedReply::Frame(octets) => Ok(Reply::Frame(Octets::copy_of(alloc, octets)?)),
-        ExpectedReply::Taken => Ok(Reply::Taken),
+        ExpectedReply::Receipt => Some(Reply::Receipt(end()?)),
+        ExpectedReply::Frame(octets) => {
+            let octets = Octets::copy_of(alloc, octets).ok()?;
+            Some(Reply::Frame(octets))
+        }
+        ExpectedReply::Taken => Some(Reply::Taken),
     }
 }
 
@@ -175,47 +179,53 @@ fn full(is_full: bool) -> FullAccounts {
 }
 
 // The octets come in pieces of so many.
-fn comes<G: Endpoint>(endpoint: &mut G, size: usize, octets: &[u8]) -> Result<(), Fail> {
+fn comes<G: Endpoint>(endpoint: &mut G, size: usize, octets: &[u8]) -> bool {
     for piece in octets.chunks(size.max(1)) {
-        endpoint.take(piece)?;
+        if endpoint.take(piece).is_err() {
+            return false;
+        }
     }
-    Ok(())
+    true
 }
 
-fn hands_back<G: Endpoint>(endpoint: &mut G) -> Result<(), Fail> {
-    let job = endpoint.next_job().ok_or("no job")?;
-    let _again = endpoint.handed_back(job)?;
-    Ok(())
+fn hears<G: Endpoint>(endpoint: &mut G, reply: Option<Reply>) -> bool {
+    match reply {
+        Some(reply) => endpoint.take_reply(reply).is_ok(),
+        None => false,
+    }
 }
 
-fn does<G: Endpoint>(alloc: Global, endpoint: &mut G, size: usize, act: &Act) -> Result<(), Fail> {
+// No more is sent than waits.
+fn sends<G: Endpoint>(endpoint: &mut G, count: usize) -> bool {
+    if count > endpoint.octets().len() {
+        return false;
+    }
+    endpoint.sent(count);
+    true
+}
+
+fn hands_back<G: Endpoint>(endpoint: &mut G) -> bool {
+    match endpoint.next_job() {
+        Some(job) => endpoint.handed_back(job).is_ok(),
+        None => false,
+    }
+}
+
+fn is_told_full<G: Endpoint>(endpoint: &mut G, is_full: bool) -> bool {
+    endpoint.take_full(full(is_full));
+    true
+}
+
+fn does<G: Endpoint>(alloc: Global, endpoint: &mut G, size: usize, act: &Act) -> bool {
     match act {
-        Act::IsToldFull(is_full) => {
-            endpoint.take_full(full(*is_full));
-            Ok(())
-        }
+        Act::IsToldFull(is_full) => is_told_full(endpoint, *is_full),
         Act::Comes(octets) => comes(endpoint, size, octets),
-        Act::Hears(told) => {
-            endpoint.take_reply(reply(alloc, told)?)?;
-            Ok(())
-        }
-        Act::Sent(count) => {
-            if *count > endpoint.octets().len() {
-                return Err(Fail::new("more is sent than waits"));
-            }
-            endpoint.sent(*count);
-            Ok(())
-        }
+        Act::Hears(told) => hears(endpoint, reply(alloc, told)),
+        Act::Sent(count) => sends(endpoint, *count),
         Act::HandsBack => hands_back(endpoint),
-        Act::GivesUp => {
-            endpoint.give_up()?;
-            Ok(())
-        }
-        Act::IsAt(now) => {
-            endpoint.at(*now)?;
-            Ok(())
-        }
-        Act::IsToLeave => holds(endpoint.ask_to_leave()?, "it is sent so"),
+        Act::GivesUp => endpoint.give_up().is_ok(),
+        Act::IsAt(now) => endpoint.at(*now).is_ok(),
+        Act::IsToLeave => endpoint.ask_to_leave() == Ok(true),
     }
 }
 
@@ -293,18 +303,10 @@ fn shows<G: Endpoint>(endpoint: &mut G, refinement: &Refinement) -> bool {
 /// A course of a session: its name, how it begins, and its turns.
 pub(crate) type Course = (&'static str, &'static [Turn], &'static [Turn]);
 
-fn take_turn<G: Endpoint>(
-    alloc: Global,
-    endpoint: &mut G,
-    size: usize,
-    turn: &Turn,
-) -> Result<bool, Fail> {
+fn take_turn<G: Endpoint>(alloc: Global, endpoint: &mut G, size: usize, turn: &Turn) -> bool {
     match turn {
-        Turn::Does(act) => {
-            does(alloc, endpoint, size, act)?;
-            Ok(true)
-        }
-        Turn::Shows(refinement) => Ok(shows(endpoint, refinement)),
+        Turn::Does(act) => does(alloc, endpoint, size, act),
+        Turn::Shows(refinement) => shows(endpoint, refinement),
     }
 }
 
@@ -316,7 +318,7 @@ fn go<G: Endpoint>(
     turns: &[Turn],
 ) -> Result<(), Fail> {
     for (at, turn) in turns.iter().enumerate() {
-        turn_holds(take_turn(alloc, endpoint, size, turn)?, name, at)?;
+        turn_holds(take_turn(alloc, endpoint, size, turn), name, at)?;
     }
     Ok(())
 }

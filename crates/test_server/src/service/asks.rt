@@ -3,7 +3,6 @@ use sms_base::{Address, MessageId, Moment, Octets};
 use sms_centre_spec::jobs::Job;
 use sms_keeper::Stimulus;
 use std::alloc::Global;
-use std::test::Fail;
 
 /// What a seat asks.
 #[derive(Clone, Copy)]
@@ -38,41 +37,41 @@ const SUBMIT: [u8; 50] = [
 ];
 
 /// The job by which a seat asks that.
-pub(crate) fn job(alloc: Global, asked: &Request) -> Result<Job, Fail> {
+pub(crate) fn job(alloc: Global, asked: &Request) -> Option<Job> {
     match asked {
-        Request::Bound => Ok(Job::Bound {
+        Request::Bound => Some(Job::Bound {
             account: 0,
             receives: true,
         }),
-        Request::BoundSecond => Ok(Job::Bound {
+        Request::BoundSecond => Some(Job::Bound {
             account: 1,
             receives: true,
         }),
-        Request::Unbound => Ok(Job::Unbound),
-        Request::Submits => Ok(Job::Submit {
+        Request::Unbound => Some(Job::Unbound),
+        Request::Submits => Some(Job::Submit {
             account: 0,
-            pdu: Octets::copy_of(alloc, &SUBMIT)?,
+            pdu: Octets::copy_of(alloc, &SUBMIT).ok()?,
         }),
-        Request::SubmitsSecond => Ok(Job::Submit {
+        Request::SubmitsSecond => Some(Job::Submit {
             account: 1,
-            pdu: Octets::copy_of(alloc, &SUBMIT)?,
+            pdu: Octets::copy_of(alloc, &SUBMIT).ok()?,
         }),
-        Request::Takes => Ok(Job::DeliverAnswered {
-            id: MessageId::new(1).ok_or("no identity")?,
+        Request::Takes => Some(Job::DeliverAnswered {
+            id: MessageId::new(1)?,
             is_accepted: true,
         }),
-        Request::Rises => Ok(Job::LinkUp {
-            handset: Address::new(1, 1, "447700900456")?.digits,
+        Request::Rises => Some(Job::LinkUp {
+            handset: Address::new(1, 1, "447700900456").ok()?.digits,
         }),
-        Request::Falls => Ok(Job::LinkDown),
-        Request::Sends(octets) => Ok(Job::Frame {
-            octets: Octets::copy_of(alloc, octets)?,
+        Request::Falls => Some(Job::LinkDown),
+        Request::Sends(octets) => Some(Job::Frame {
+            octets: Octets::copy_of(alloc, octets).ok()?,
         }),
     }
 }
 
 /// The clock shows so many seconds after the start.
-pub(crate) fn ticks(seconds: u32) -> Result<Stimulus<Job>, Fail> {
-    let now = Moment::from_seconds(START + u64::from(seconds))?;
-    Ok(Stimulus::Tick(now))
+pub(crate) fn ticks(seconds: u32) -> Option<Stimulus<Job>> {
+    let now = Moment::from_seconds(START + u64::from(seconds)).ok()?;
+    Some(Stimulus::Tick(now))
 }

@@ -1,11 +1,12 @@
 //! A centre that has no message yet, who may bind, and what applications ask of it.
 use crate::clock_and_gate::Still;
+use crate::rows::made;
 use smpp_session::{Account, Accounts, Password};
 use sms_base::{Address, Listed, Moment, Octets};
 use sms_store_memory::centre::MemoryKeep;
 use smsc_server::AccountBook;
 use smsc_service::{CentreAccount, Setup};
-use std::alloc::Global;
+use std::alloc::{AllocError, Global};
 use std::sync::Arc;
 use std::test::Fail;
 
@@ -40,32 +41,38 @@ pub(crate) const ENQUIRE: &[u8] = &[
 
 /// A clock that always shows the start.
 pub(crate) fn clock() -> Result<Still, Fail> {
-    Ok(Still(Moment::from_seconds(START)?))
+    match Moment::from_seconds(START) {
+        Ok(start) => Ok(Still(start)),
+        Err(_) => Err(Fail::new("a moment")),
+    }
 }
 
 /// The account of that name and number.
-pub(crate) fn account(alloc: Global, name: &str, number: &str) -> Result<CentreAccount, Fail> {
-    let address = Address::new(1, 1, number)?;
-    let name = Octets::copy_of(alloc, name.as_bytes())?;
-    Ok(CentreAccount {
+pub(crate) fn account(alloc: Global, name: &str, number: &str) -> Option<CentreAccount> {
+    let address = Address::new(1, 1, number).ok()?;
+    let name = Octets::copy_of(alloc, name.as_bytes()).ok()?;
+    Some(CentreAccount {
         name,
         address,
         sources: Listed::new(alloc),
     })
 }
 
-/// The accounts with which a run begins: app1.
-pub(crate) fn accounts(alloc: Global) -> Result<Vec<CentreAccount>, Fail> {
-    let first = account(alloc, "app1", "447700900001")?;
-    Ok(vec![in alloc; first]?)
+fn first_account(alloc: Global) -> Option<Vec<CentreAccount>> {
+    let mut accounts = Vec::new(alloc);
+    accounts.push(account(alloc, "app1", "447700900001")?).ok()?;
+    Some(accounts)
 }
 
-fn setup(alloc: Global) -> Result<Setup, Fail> {
-    let centre = Address::new(1, 1, "447700900999")?;
-    let start = Moment::from_seconds(START)?;
-    Ok(Setup {
-        centre,
-        start,
+/// The accounts with which a run begins: app1.
+pub(crate) fn accounts(alloc: Global) -> Result<Vec<CentreAccount>, Fail> {
+    made(first_account(alloc), "accounts")
+}
+
+fn setup(alloc: Global) -> Option<Setup> {
+    Some(Setup {
+        centre: Address::new(1, 1, "447700900999").ok()?,
+        start: Moment::from_seconds(START).ok()?,
         first: 1,
         accounts: Listed::new(alloc),
     })
@@ -73,24 +80,35 @@ fn setup(alloc: Global) -> Result<Setup, Fail> {
 
 /// A store of a centre that has no message yet. No store has accounts.
 pub(crate) fn keep(alloc: Global) -> Result<MemoryKeep, Fail> {
-    Ok(MemoryKeep::new(alloc, setup(alloc)?))
+    match setup(alloc) {
+        Some(setup) => Ok(MemoryKeep::new(alloc, setup)),
+        None => Err(Fail::new("a store")),
+    }
 }
 
-fn login(alloc: Global) -> Result<Account, Fail> {
+fn login(alloc: Global) -> Result<Account, AllocError> {
     let name = Octets::copy_of(alloc, b"app1")?;
     let password = Password::Plain(Octets::copy_of(alloc, b"secret")?);
     Ok(Account { name, password })
 }
 
-/// What may bind: app1 with the password secret.
-pub(crate) fn logins(alloc: Global) -> Result<Arc<Accounts>, Fail> {
+fn shared_logins(alloc: Global) -> Result<Arc<Accounts>, AllocError> {
     let logins = vec![in alloc; login(alloc)?]?;
     Ok(Arc::new(alloc, Accounts::from_vec(logins))?)
 }
 
-/// What may bind in a run, where no other list takes its place.
-pub(crate) fn book(alloc: Global) -> Result<Arc<AccountBook>, Fail> {
+/// What may bind: app1 with the password secret.
+pub(crate) fn logins(alloc: Global) -> Result<Arc<Accounts>, Fail> {
+    made(shared_logins(alloc).ok(), "logins")
+}
+
+fn shared_book(alloc: Global) -> Result<Arc<AccountBook>, AllocError> {
     let logins = vec![in alloc; login(alloc)?]?;
     let book = AccountBook::new(alloc, logins, false)?;
     Ok(Arc::new(alloc, book)?)
+}
+
+/// What may bind in a run, where no other list takes its place.
+pub(crate) fn book(alloc: Global) -> Result<Arc<AccountBook>, Fail> {
+    made(shared_book(alloc).ok(), "a book of accounts")
 }

@@ -1,5 +1,5 @@
 //! Lists of a submit and a query, each by a session in a thread of its own.
-use crate::clock_and_gate::Open;
+use crate::clock_and_gate::{Open, Still};
 use crate::rows::holds;
 use crate::service::centre::{QUERY, SUBMIT, accounts, clock, keep};
 use sms_base::Octets;
@@ -7,15 +7,16 @@ use sms_centre_spec::CentreAnswer;
 use sms_centre_spec::jobs::{Job, Reply};
 use sms_hub::{many_sessions, two_sessions};
 use sms_keeper::{Item, Machine, Recorder, Stimulus};
-use smsc_service::{Cutoff, Forgetting, NoArchive, OrderDesk, serve_with};
-use std::alloc::Global;
+use sms_store_memory::centre::MemoryKeep;
+use smsc_service::{CentreAccount, Cutoff, Forgetting, NoArchive, OrderDesk, serve_with};
+use std::alloc::{AllocError, Global};
 use std::sync::{Arc, Wait};
 use std::test::Fail;
 use std::thread::Threads;
 
 // ---- lists
 
-fn list(alloc: Global) -> Result<Vec<Job>, Fail> {
+fn list(alloc: Global) -> Result<Vec<Job>, AllocError> {
     let mut jobs = Vec::new(alloc);
     jobs.push(Job::Submit {
         account: 0,
@@ -28,7 +29,7 @@ fn list(alloc: Global) -> Result<Vec<Job>, Fail> {
     Ok(jobs)
 }
 
-fn lists(alloc: Global, count: usize) -> Result<Vec<Vec<Job>>, Fail> {
+fn lists(alloc: Global, count: usize) -> Result<Vec<Vec<Job>>, AllocError> {
     let mut lists = Vec::new(alloc);
     for _ in 0..count {
         lists.push(list(alloc)?)?;
@@ -62,15 +63,16 @@ fn has_number(answers: &[Vec<Reply>], number: u64) -> bool {
 }
 
 // As many sessions as numbers from 1 on, each of which one of them has.
-fn are_numbers(answers: &[Vec<Reply>], count: usize) -> Result<(), Fail> {
-    holds(answers.len() == count, "a session each")?;
-    for number in 0..count as u64 {
-        holds(
-            has_number(answers, number.saturating_add(1)),
-            "a number each",
-        )?;
+fn are_numbers(answers: &[Vec<Reply>], count: usize) -> bool {
+    if answers.len() != count {
+        return false;
     }
-    Ok(())
+    for number in 0..count as u64 {
+        if !has_number(answers, number.saturating_add(1)) {
+            return false;
+        }
+    }
+    true
 }
 
 // ---- what was run
@@ -93,7 +95,7 @@ fn met_with(met: usize, job: &Job) -> Option<usize> {
 
 impl Met {
     // Of so many seats.
-    fn none(alloc: Global, seats: usize) -> Result<Met, Fail> {
+    fn none(alloc: Global, seats: usize) -> Result<Met, AllocError> {
         let mut counts = Vec::new(alloc);
         for _ in 0..seats {
             counts.push(0usize)?;
@@ -120,12 +122,8 @@ impl Met {
     }
 
     // Each list was run whole, in its order, and nothing else.
-    fn is_whole(&self) -> Result<(), Fail> {
-        holds(
-            self.counts.iter().all(|count| *count == 2),
-            "each list was run whole",
-        )?;
-        holds(!self.is_wrong, "a submit, and then a query")
+    fn is_whole(&self) -> bool {
+        !self.is_wrong && self.counts.iter().all(|count| *count == 2)
     }
 }
 
@@ -155,32 +153,46 @@ fn runs_many<R: Threads + Wait + Copy + Send + 'static, M: Machine<Job, Reply>>(
     rt: R,
     alloc: Global,
     machine: &mut M,
+    clock: &Still,
     count: usize,
-) -> Result<(), Fail> {
-    let clock = clock()?;
-    let lists = lists(alloc, count)?;
-    let mut met = Met::none(alloc, count)?;
-    let answers = many_sessions(rt, alloc, 1, machine, &Open, &clock, &mut met, lists)?;
-    met.is_whole()?;
-    are_numbers(answers.as_slice(), count)
+) -> bool {
+    let Ok(lists) = lists(alloc, count) else {
+        return false;
+    };
+    let Ok(mut met) = Met::none(alloc, count) else {
+        return false;
+    };
+    match many_sessions(rt, alloc, 1, machine, &Open, clock, &mut met, lists) {
+        Ok(answers) => met.is_whole() && are_numbers(answers.as_slice(), count),
+        Err(_) => false,
+    }
+}
+
+// The numbers 1 and 2.
+fn are_two(first: &[Reply], second: &[Reply]) -> bool {
+    let numbers = (number_in(first), number_in(second));
+    numbers == (Some(1), Some(2)) || numbers == (Some(2), Some(1))
 }
 
 fn runs_two<R: Threads + Wait + Copy + Send + 'static, M: Machine<Job, Reply>>(
     rt: R,
     alloc: Global,
     machine: &mut M,
-) -> Result<(), Fail> {
-    let clock = clock()?;
-    let a = list(alloc)?;
-    let b = list(alloc)?;
-    let mut met = Met::none(alloc, 2)?;
-    let (of_a, of_b) = two_sessions(rt, alloc, 1, machine, &Open, &clock, &mut met, a, b)?;
-    met.is_whole()?;
-    let numbers = (number_in(of_a.as_slice()), number_in(of_b.as_slice()));
-    holds(
-        numbers == (Some(1), Some(2)) || numbers == (Some(2), Some(1)),
-        "the numbers 1 and 2",
-    )
+    clock: &Still,
+) -> bool {
+    let Ok(a) = list(alloc) else {
+        return false;
+    };
+    let Ok(b) = list(alloc) else {
+        return false;
+    };
+    let Ok(mut met) = Met::none(alloc, 2) else {
+        return false;
+    };
+    match two_sessions(rt, alloc, 1, machine, &Open, clock, &mut met, a, b) {
+        Ok((of_a, of_b)) => met.is_whole() && are_two(of_a.as_slice(), of_b.as_slice()),
+        Err(_) => false,
+    }
 }
 
 // How many sessions a run has, and by which call.
@@ -196,47 +208,66 @@ fn runs<R: Threads + Wait + Copy + Send + 'static, M: Machine<Job, Reply>>(
     rt: R,
     alloc: Global,
     machine: &mut M,
+    clock: &Still,
     sessions: Sessions,
-) -> Result<(), Fail> {
+) -> bool {
     match sessions {
-        Sessions::Two => runs_two(rt, alloc, machine),
-        Sessions::Many(count) => runs_many(rt, alloc, machine, count),
+        Sessions::Two => runs_two(rt, alloc, machine, clock),
+        Sessions::Many(count) => runs_many(rt, alloc, machine, clock, count),
     }
 }
 
 fn serves<R: Threads + Wait + Copy + Send + 'static>(
     rt: R,
     alloc: Global,
+    store: MemoryKeep,
+    accounts: Vec<CentreAccount>,
+    clock: &Still,
     sessions: Sessions,
-) -> Result<(), Fail> {
-    let store = keep(alloc)?;
-    let cutoff = Arc::new(alloc, Cutoff::new())?;
-    let desk = Arc::new(alloc, OrderDesk::new())?;
+) -> bool {
+    let Ok(cutoff) = Arc::new(alloc, Cutoff::new()) else {
+        return false;
+    };
+    let Ok(desk) = Arc::new(alloc, OrderDesk::new()) else {
+        return false;
+    };
     let forgetting = Forgetting {
         keep: None,
         archive: NoArchive,
     };
-    let (went, store, _) = serve_with(
+    match serve_with(
         alloc,
         store,
-        accounts(alloc)?,
+        accounts,
         None,
         &cutoff,
         &desk,
         forgetting,
-        |service| runs(rt, alloc, service, sessions),
-    )?;
-    drop(store);
-    went
+        |service| runs(rt, alloc, service, clock, sessions),
+    ) {
+        Ok((went, store, _)) => {
+            drop(store);
+            went
+        }
+        Err(_) => false,
+    }
 }
 
 // All of a run have the numbers from 1 on.
-const RUNS: &[Sessions] = &[Sessions::Two, Sessions::Many(2), Sessions::Many(32)];
+const RUNS: &[(Sessions, &str)] = &[
+    (Sessions::Two, "two sessions"),
+    (Sessions::Many(2), "two of many sessions"),
+    (Sessions::Many(32), "32 sessions"),
+];
 
 #[test]
 fn sessions_have_the_numbers_from_1_on(rt: HostRuntime) -> Result<(), Fail> {
-    for sessions in RUNS {
-        serves(rt, rt.alloc(), *sessions)?;
+    let alloc = rt.alloc();
+    let clock = clock()?;
+    for (sessions, name) in RUNS {
+        let all = accounts(alloc)?;
+        let store = keep(alloc)?;
+        holds(serves(rt, alloc, store, all, &clock, *sessions), name)?;
     }
     Ok(())
 }

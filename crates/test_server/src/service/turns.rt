@@ -9,6 +9,7 @@ use sms_centre_spec::jobs::{Job, Reply};
 use sms_keeper::{Errand, Fate, Machine, Step, Stimulus};
 use smsc_service::{Cutoff, Forgetting, NoArchive, OrderDesk, Service, serve_with};
 use std::alloc::Global;
+use std::cell::Cell;
 use std::sync::Arc;
 use std::test::Fail;
 
@@ -47,13 +48,20 @@ pub(crate) type Course = (&'static str, &'static [Turn]);
 
 fn meets(
     service: &mut Service<Store<'_>, NoArchive>,
-    stimulus: Stimulus<Job>,
+    stimulus: Option<Stimulus<Job>>,
     fate: Fate,
     told: &[To],
 ) -> bool {
+    let Some(stimulus) = stimulus else {
+        return false;
+    };
     let step = service.step(&stimulus);
     let is_committed = step.fate != Fate::Refused && service.settle(&Open).is_ok();
     is_item(&step, is_committed, fate, told)
+}
+
+fn asks(alloc: Global, seat: usize, asked: &Request) -> Option<Stimulus<Job>> {
+    Some(Stimulus::Job(seat, job(alloc, asked)?))
 }
 
 // The steps of a group, in order.
@@ -61,37 +69,55 @@ fn steps_of(
     alloc: Global,
     service: &mut Service<Store<'_>, NoArchive>,
     group: &[Asked],
-) -> Result<Vec<Step<Reply>>, Fail> {
+) -> Option<Vec<Step<Reply>>> {
     let mut steps = Vec::new(alloc);
     for Asked(seat, asked, _, _) in group {
-        let stimulus = Stimulus::Job(*seat, job(alloc, asked)?);
-        steps.push(service.step(&stimulus))?;
+        let stimulus = asks(alloc, *seat, asked)?;
+        steps.push(service.step(&stimulus)).ok()?;
     }
-    Ok(steps)
+    Some(steps)
 }
 
 // The account app2 comes, and nobody hears of it.
-fn comes(alloc: Global, service: &mut Service<Store<'_>, NoArchive>) -> Result<bool, Fail> {
-    let other = account(alloc, "app2", "447700900002")?;
+fn comes(alloc: Global, service: &mut Service<Store<'_>, NoArchive>) -> bool {
+    let Some(other) = account(alloc, "app2", "447700900002") else {
+        return false;
+    };
     let step = service.step(&Stimulus::Own(Errand::Enrol(other)));
-    Ok(step.fate == Fate::Done && step.outs.is_empty() && step.if_refused.is_empty())
+    step.fate == Fate::Done && step.outs.is_empty() && step.if_refused.is_empty()
 }
 
 // Whether each item of the group is as told, once it is committed or refused.
-fn meets_all(
-    alloc: Global,
+fn are_met(
     service: &mut Service<Store<'_>, NoArchive>,
+    steps: &[Step<Reply>],
     group: &[Asked],
-) -> Result<bool, Fail> {
-    let steps = steps_of(alloc, service, group)?;
+) -> bool {
     let is_refused = steps.iter().any(|step| step.fate == Fate::Refused);
     let is_committed = !is_refused && service.settle(&Open).is_ok();
     for (step, Asked(_, _, fate, told)) in steps.iter().zip(group.iter()) {
         if !is_item(step, is_committed, *fate, told) {
-            return Ok(false);
+            return false;
         }
     }
-    Ok(true)
+    true
+}
+
+fn meets_all(alloc: Global, service: &mut Service<Store<'_>, NoArchive>, group: &[Asked]) -> bool {
+    match steps_of(alloc, service, group) {
+        Some(steps) => are_met(service, steps.as_slice(), group),
+        None => false,
+    }
+}
+
+fn sets(limit: &Cell<u32>, count: u32) -> bool {
+    limit.set(count);
+    true
+}
+
+fn passes(cutoff: &Cutoff) -> bool {
+    cutoff.pass();
+    true
 }
 
 fn take_turn(
@@ -100,28 +126,18 @@ fn take_turn(
     limits: &Limits,
     cutoff: &Cutoff,
     turn: &Turn,
-) -> Result<bool, Fail> {
+) -> bool {
     match turn {
         Turn::Job(seat, asked, fate, told) => {
-            let job = job(alloc, asked)?;
-            Ok(meets(service, Stimulus::Job(*seat, job), *fate, told))
+            meets(service, asks(alloc, *seat, asked), *fate, told)
         }
         Turn::Group(group) => meets_all(alloc, service, group),
-        Turn::Comes(group) => Ok(comes(alloc, service)? && meets_all(alloc, service, group)?),
-        Turn::Tick(seconds, fate, told) => Ok(meets(service, ticks(*seconds)?, *fate, told)),
-        Turn::Commits(count) => {
-            limits.commits.set(*count);
-            Ok(true)
-        }
-        Turn::Bodies(count) => {
-            limits.bodies.set(*count);
-            Ok(true)
-        }
-        Turn::Reopens => Ok(service.reopen().is_ok()),
-        Turn::IsTooLate => {
-            cutoff.pass();
-            Ok(true)
-        }
+        Turn::Comes(group) => comes(alloc, service) && meets_all(alloc, service, group),
+        Turn::Tick(seconds, fate, told) => meets(service, ticks(*seconds), *fate, told),
+        Turn::Commits(count) => sets(&limits.commits, *count),
+        Turn::Bodies(count) => sets(&limits.bodies, *count),
+        Turn::Reopens => service.reopen().is_ok(),
+        Turn::IsTooLate => passes(cutoff),
     }
 }
 
@@ -134,7 +150,7 @@ fn go(
 ) -> Result<(), Fail> {
     let (name, turns) = course;
     for (at, turn) in turns.iter().enumerate() {
-        turn_holds(take_turn(alloc, service, limits, cutoff, turn)?, name, at)?;
+        turn_holds(take_turn(alloc, service, limits, cutoff, turn), name, at)?;
     }
     Ok(())
 }
@@ -142,23 +158,33 @@ fn go(
 /// Each turn of the course is as told, over a store of a centre that has no message yet.
 pub(crate) fn plays(alloc: Global, course: &Course) -> Result<(), Fail> {
     let limits = Limits::none();
+    let all = accounts(alloc)?;
     let store = Store::new(keep(alloc)?, &limits);
-    let cutoff = Arc::new(alloc, Cutoff::new())?;
-    let desk = Arc::new(alloc, OrderDesk::new())?;
+    let Ok(cutoff) = Arc::new(alloc, Cutoff::new()) else {
+        return Err(Fail::new("a cutoff"));
+    };
+    let Ok(desk) = Arc::new(alloc, OrderDesk::new()) else {
+        return Err(Fail::new("a desk"));
+    };
     let forgetting = Forgetting {
         keep: None,
         archive: NoArchive,
     };
-    let (went, store, _) = serve_with(
+    let served = serve_with(
         alloc,
         store,
-        accounts(alloc)?,
+        all,
         None,
         &cutoff,
         &desk,
         forgetting,
         |service| go(alloc, service, &limits, &cutoff, course),
-    )?;
-    drop(store);
-    went
+    );
+    match served {
+        Ok((went, store, _)) => {
+            drop(store);
+            went
+        }
+        Err(_) => Err(Fail::new("the service starts")),
+    }
 }

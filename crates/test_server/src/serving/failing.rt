@@ -1,8 +1,11 @@
 //! Each call of a wire refused in turn.
+use crate::clock_and_gate::Still;
 use crate::rows::holds;
 use crate::service::centre::clock;
 use crate::serving::answering::{Counter, FRAME};
-use crate::serving::table::{ANSWERS, REQUESTS, Sitter, Table, is_even, is_whole, make_room, run};
+use crate::serving::table::{
+    ANSWERS, REQUESTS, Room, Sitter, Table, is_even, is_whole, make_room, run,
+};
 use crate::serving::wire::Script;
 use std::alloc::Global;
 use std::sync::Wait;
@@ -51,14 +54,14 @@ fn is_met(
 fn meets<R: Threads + Wait + Sync>(
     rt: &R,
     table: &Table,
+    room: Room,
+    clock: &Still,
     refused: Refused,
     failing: &mut Script<'_>,
 ) -> Result<bool, Fail> {
-    let clock = clock()?;
-    let room = make_room(table.alloc)?;
     let mut well = Script::well(&REQUESTS, ANSWERS);
     let mut counter = Counter::new(table.alloc);
-    let ended = run(rt, table, room, &mut counter, &clock, failing, &mut well);
+    let ended = run(rt, table, room, &mut counter, clock, failing, &mut well);
     is_met(ended, &counter, refused, failing, &well)
 }
 
@@ -79,23 +82,26 @@ fn wire_of(side: Sitter, refused: Refused, call: u32) -> Script<'static> {
 fn refuses<R: Threads + Wait + Sync>(
     rt: &R,
     table: &Table,
+    clock: &Still,
     refused: Refused,
     call: u32,
 ) -> Result<bool, Fail> {
     let mut failing = wire_of(table.side, refused, call);
-    meets(rt, table, refused, &mut failing)
+    let room = make_room(table.alloc)?;
+    meets(rt, table, room, clock, refused, &mut failing)
 }
 
 // Each call in turn, until a run meets no refused one.
 fn each_call<R: Threads + Wait + Sync>(
     rt: &R,
     table: &Table,
+    clock: &Still,
     refused: Refused,
     at_least: u32,
     name: &str,
 ) -> Result<(), Fail> {
     for call in 0..100_000u32 {
-        if !refuses(rt, table, refused, call)? {
+        if !refuses(rt, table, clock, refused, call)? {
             return holds(call >= at_least, name);
         }
     }
@@ -134,17 +140,19 @@ const REFUSALS: &[(Sitter, Refused, u32, &'static str)] = &[
 fn plays<R: Threads + Wait + Sync>(
     rt: &R,
     alloc: Global,
+    clock: &Still,
     row: &(Sitter, Refused, u32, &'static str),
 ) -> Result<(), Fail> {
     let (side, refused, at_least, name) = row;
     let table = Table::new(alloc, *side)?;
-    each_call(rt, &table, *refused, *at_least, name)
+    each_call(rt, &table, clock, *refused, *at_least, name)
 }
 
 #[test]
 fn each_call_of_a_wire_may_be_refused(rt: HostRuntime) -> Result<(), Fail> {
+    let clock = clock()?;
     for row in REFUSALS {
-        plays(&rt, rt.alloc(), row)?;
+        plays(&rt, rt.alloc(), &clock, row)?;
     }
     Ok(())
 }

@@ -1,7 +1,8 @@
 //! Endpoints that are given up, and endpoints that leave.
+use crate::clock_and_gate::Still;
 use crate::rows::holds;
 use crate::service::centre::clock;
-use crate::serving::answering::Counter;
+use crate::serving::answering::{Counter, Tally};
 use crate::serving::table::{
     ANSWERS, ENDED, REQUESTS, Room, SILENT, STALLED, Sitter, Table, is_even, is_whole, make_room,
     run,
@@ -31,26 +32,43 @@ fn is_left(
 }
 
 // The wire rings the first seat.
-fn hang_bell(wire: &mut Script<'_>, room: &Room) -> Result<(), Fail> {
-    let bell = room.first.bell()?;
-    put(&mut wire.bell, Some(bell));
-    Ok(())
+fn hangs_bell(wire: &mut Script<'_>, room: &Room) -> bool {
+    match room.first.bell() {
+        Ok(bell) => {
+            put(&mut wire.bell, Some(bell));
+            true
+        }
+        Err(_) => false,
+    }
 }
 
 // Both sit, and whoever has this wire leaves.
-fn leaves_table<R: Threads + Wait + Sync>(
+fn leaves_room<R: Threads + Wait + Sync>(
     rt: &R,
     table: &Table,
+    room: Room,
+    clock: &Still,
     wire: &mut Script<'_>,
     leaving: &Leaving,
 ) -> Result<(), Fail> {
-    let clock = clock()?;
-    let room = make_room(table.alloc)?;
-    hang_bell(wire, &room)?;
     let mut well = Script::well(&REQUESTS, ANSWERS);
     let mut counter = Counter::new(table.alloc);
-    let ended = run(rt, table, room, &mut counter, &clock, wire, &mut well);
+    let ended = run(rt, table, room, &mut counter, clock, wire, &mut well);
     is_left(ended, table, &counter, &well, wire.taken, leaving)
+}
+
+fn leaves_table<R: Threads + Wait + Sync>(
+    rt: &R,
+    table: &Table,
+    clock: &Still,
+    wire: &mut Script<'_>,
+    leaving: &Leaving,
+) -> Result<(), Fail> {
+    let room = make_room(table.alloc)?;
+    if !hangs_bell(wire, &room) {
+        return Err(Fail::new("a bell"));
+    }
+    leaves_room(rt, table, room, clock, wire, leaving)
 }
 
 // Who leaves: its name, its side and octets, how many octets it takes before it hangs up, whether it takes any, its last note, and how
@@ -132,36 +150,39 @@ const LEAVINGS: &[Leaving] = &[
     ),
 ];
 
-fn leaves<R: Threads + Wait + Sync>(rt: &R, table: &Table, leaving: &Leaving) -> Result<(), Fail> {
+fn leaves<R: Threads + Wait + Sync>(
+    rt: &R,
+    table: &Table,
+    clock: &Still,
+    leaving: &Leaving,
+) -> Result<(), Fail> {
     let (_, _, octets, wanted, has_room, _, _) = leaving;
     let mut wire = Script::well(octets, *wanted);
     wire.has_room = *has_room;
-    leaves_table(rt, table, &mut wire, leaving)
+    leaves_table(rt, table, clock, &mut wire, leaving)
 }
 
-fn plays<R: Threads + Wait + Sync>(rt: &R, alloc: Global, leaving: &Leaving) -> Result<(), Fail> {
+fn plays<R: Threads + Wait + Sync>(
+    rt: &R,
+    alloc: Global,
+    clock: &Still,
+    leaving: &Leaving,
+) -> Result<(), Fail> {
     let table = Table::new(alloc, leaving.1)?;
-    leaves(rt, &table, leaving)
+    leaves(rt, &table, clock, leaving)
 }
 
 #[test]
 fn who_leaves_is_told(rt: HostRuntime) -> Result<(), Fail> {
+    let clock = clock()?;
     for leaving in LEAVINGS {
-        plays(&rt, rt.alloc(), leaving)?;
+        plays(&rt, rt.alloc(), &clock, leaving)?;
     }
     Ok(())
 }
 
-// A centre that lacked the memory to end a session is told again that nobody is at the seat, until it is so.
-fn is_told_again<R: Threads + Wait + Sync>(rt: &R, table: &Table) -> Result<(), Fail> {
-    let clock = clock()?;
-    let room = make_room(table.alloc)?;
-    let mut wire = Script::well(&REQUESTS, ANSWERS);
-    let mut well = Script::well(&REQUESTS, ANSWERS);
-    let mut counter = Counter::new(table.alloc);
-    put(&mut counter.stays, 2);
-    let ended = run(rt, table, room, &mut counter, &clock, &mut wire, &mut well);
-    let Counter { first, second, .. } = counter;
+// Each session is unbound, and twice again; and twice no link is there.
+fn are_left_again(ended: bool, first: &Tally, second: &Tally) -> Result<(), Fail> {
     holds(ended, "the keeper ends with the seats")?;
     holds(first.bound == 1 && second.bound == 1, "both are bound")?;
     let unbound = first.unbound.saturating_add(second.unbound);
@@ -170,8 +191,25 @@ fn is_told_again<R: Threads + Wait + Sync>(rt: &R, table: &Table) -> Result<(), 
     holds(down == 2, "no link is there, twice")
 }
 
+// A centre that lacked the memory to end a session is told again that nobody is at the seat, until it is so.
+fn is_told_again<R: Threads + Wait + Sync>(
+    rt: &R,
+    table: &Table,
+    room: Room,
+    clock: &Still,
+) -> Result<(), Fail> {
+    let mut wire = Script::well(&REQUESTS, ANSWERS);
+    let mut well = Script::well(&REQUESTS, ANSWERS);
+    let mut counter = Counter::new(table.alloc);
+    put(&mut counter.stays, 2);
+    let ended = run(rt, table, room, &mut counter, clock, &mut wire, &mut well);
+    are_left_again(ended, &counter.first, &counter.second)
+}
+
 #[test]
 fn a_seat_is_left_once_nobody_is_there(rt: HostRuntime) -> Result<(), Fail> {
+    let clock = clock()?;
     let table = Table::new(rt.alloc(), Sitter::Application)?;
-    is_told_again(&rt, &table)
+    let room = make_room(rt.alloc())?;
+    is_told_again(&rt, &table, room, &clock)
 }

@@ -1,6 +1,7 @@
 //! Connections that share a seat, and seats that share a queue.
 ghost use Rattle.std.specs.Prelude.{None};
 
+use crate::clock_and_gate::Still;
 use crate::rows::holds;
 use crate::seats::turns::end;
 use crate::service::centre::clock;
@@ -135,39 +136,57 @@ fn both_sit_at<R: Wait>(
 fn follow_each_other<R: Threads + Wait + Sync>(
     rt: &R,
     table: &Table,
+    room: Room,
+    clock: &Still,
     counter: &mut Counter,
     leaving: &mut Script<'_>,
     next: &mut Recorder<'_>,
-) -> Result<bool, Fail> {
-    let clock = clock()?;
+) -> bool {
     let Room {
         mut keeper,
         first,
         second,
-    } = make_room(table.alloc)?;
+    } = room;
     let (ended, ()) = join(
         rt,
-        || keeps(rt, table.alloc, &mut keeper, counter, &clock),
+        || keeps(rt, table.alloc, &mut keeper, counter, clock),
         || both_sit_at(rt, table, first, second, leaving, next),
     );
-    Ok(ended)
+    ended
 }
 
 // The first application takes so many writes, and leaves with two requests, their answers and its receipt under way.
-fn comes_after<R: Threads + Wait + Sync>(rt: &R, alloc: Global, writes: u32) -> Result<(), Fail> {
-    let table = Table::new(alloc, Sitter::Application)?;
-    let mut counter = Counter::new(alloc);
-    put(&mut counter.receipt, Some(end()?));
+fn comes_after<R: Threads + Wait + Sync>(
+    rt: &R,
+    table: &Table,
+    room: Room,
+    clock: &Still,
+    writes: u32,
+) -> Result<(), Fail> {
+    let mut counter = Counter::new(table.alloc);
+    put(&mut counter.receipt, end());
     let mut leaving = Script::well(&REQUESTS, ANSWERS);
     leaving.writes = writes;
     let mut next = Recorder {
         script: Script::well(&REQUESTS, ANSWERS),
-        sent: Vec::new(alloc),
+        sent: Vec::new(table.alloc),
     };
-    let ended = follow_each_other(rt, &table, &mut counter, &mut leaving, &mut next)?;
+    let ended = follow_each_other(
+        rt,
+        table,
+        room,
+        clock,
+        &mut counter,
+        &mut leaving,
+        &mut next,
+    );
+    is_followed(ended, &counter.first, next.sent.as_slice())
+}
+
+fn is_followed(ended: bool, tally: &Tally, sent: &[u8]) -> Result<(), Fail> {
     holds(ended, "the keeper ends with the seats")?;
-    is_even_twice(&counter.first)?;
-    is_served_alone(next.sent.as_slice())
+    is_even_twice(tally)?;
+    is_served_alone(sent)
 }
 
 // Both came and went.
@@ -177,8 +196,11 @@ fn is_even_twice(tally: &Tally) -> Result<(), Fail> {
 
 #[test]
 fn a_used_seat_has_nothing_of_another(rt: HostRuntime) -> Result<(), Fail> {
+    let clock = clock()?;
     for round in 0..40u32 {
-        comes_after(&rt, rt.alloc(), round % 4)?;
+        let table = Table::new(rt.alloc(), Sitter::Application)?;
+        let room = make_room(rt.alloc())?;
+        comes_after(&rt, &table, room, &clock, round % 4)?;
     }
     Ok(())
 }
@@ -186,17 +208,23 @@ fn a_used_seat_has_nothing_of_another(rt: HostRuntime) -> Result<(), Fail> {
 // ---- a full queue
 
 // One job waits at most, and both seats put theirs.
-fn shares_one_slot<R: Threads + Wait + Sync>(rt: &R, alloc: Global) -> Result<(), Fail> {
-    let table = Table::new(alloc, Sitter::Application)?;
-    let clock = clock()?;
-    let room = make_room_for(alloc, 1)?;
+fn shares_one_slot<R: Threads + Wait + Sync>(
+    rt: &R,
+    table: &Table,
+    room: Room,
+    clock: &Still,
+) -> Result<(), Fail> {
     let mut one = Script::well(&REQUESTS, ANSWERS);
     let mut other = Script::well(&REQUESTS, ANSWERS);
-    let mut counter = Counter::new(alloc);
-    let ended = run(rt, &table, room, &mut counter, &clock, &mut one, &mut other);
+    let mut counter = Counter::new(table.alloc);
+    let ended = run(rt, table, room, &mut counter, clock, &mut one, &mut other);
+    are_all_put(ended, &counter, one.taken, other.taken)
+}
+
+fn are_all_put(ended: bool, counter: &Counter, one: usize, other: usize) -> Result<(), Fail> {
     holds(ended, "the keeper ends with the seats")?;
-    is_all_put(&counter.first, one.taken)?;
-    is_all_put(&counter.second, other.taken)
+    is_all_put(&counter.first, one)?;
+    is_all_put(&counter.second, other)
 }
 
 // Each request was run or refused with ESME_RTHROTTLED, and answered. No job of the session itself is lost.
@@ -207,8 +235,11 @@ fn is_all_put(tally: &Tally, taken: usize) -> Result<(), Fail> {
 
 #[test]
 fn a_full_queue_loses_no_job(rt: HostRuntime) -> Result<(), Fail> {
+    let clock = clock()?;
     for _ in 0..40 {
-        shares_one_slot(&rt, rt.alloc())?;
+        let table = Table::new(rt.alloc(), Sitter::Application)?;
+        let room = make_room_for(rt.alloc(), 1)?;
+        shares_one_slot(&rt, &table, room, &clock)?;
     }
     Ok(())
 }
@@ -224,8 +255,7 @@ fn request(alloc: Global) -> Job {
 }
 
 // Nobody answers them: an eighth request of the seat is handed back, one of another seat is put, and so is a job that has no answer.
-fn waits_its_turn<R: Wait>(rt: &R, alloc: Global) -> Result<(), Fail> {
-    let mut room = make_room(alloc)?;
+fn waits_its_turn<R: Wait>(rt: &R, alloc: Global, room: &mut Room) -> Result<(), Fail> {
     for _ in 0..7 {
         let put = room.first.put(rt, request(alloc));
         holds(put.is_ok(), "a request is put")?;
@@ -240,5 +270,6 @@ fn waits_its_turn<R: Wait>(rt: &R, alloc: Global) -> Result<(), Fail> {
 
 #[test]
 fn a_seat_puts_seven_requests_at_a_time(rt: HostRuntime) -> Result<(), Fail> {
-    waits_its_turn(&rt, rt.alloc())
+    let mut room = make_room(rt.alloc())?;
+    waits_its_turn(&rt, rt.alloc(), &mut room)
 }

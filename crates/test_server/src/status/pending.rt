@@ -11,25 +11,12 @@ use std::sync::Wait;
 use std::test::Fail;
 
 // 2026-11-26T04:46:01Z, and so many seconds.
-fn at(seconds: u64) -> Result<Moment, Fail> {
-    match Moment::from_seconds(1_795_668_361 + seconds % 100_000) {
-        Ok(moment) => Ok(moment),
-        Err(_) => Err(Fail::new("a moment")),
-    }
+fn at(seconds: u64) -> Option<Moment> {
+    Moment::from_seconds(1_795_668_361 + seconds % 100_000).ok()
 }
 
-fn id(number: u64) -> Result<MessageId, Fail> {
-    match MessageId::new(number) {
-        Some(id) => Ok(id),
-        None => Err(Fail::new("a number")),
-    }
-}
-
-fn digits(handset: &str) -> Result<Msisdn, Fail> {
-    match Msisdn::of(handset.as_bytes()) {
-        Some(number) => Ok(number),
-        None => Err(Fail::new("a handset's number")),
-    }
+fn digits(handset: &str) -> Option<Msisdn> {
+    Msisdn::of(handset.as_bytes())
 }
 
 // ---- rows
@@ -40,12 +27,12 @@ fn message(
     number: u64,
     handset: &str,
     state: Option<FinalState>,
-) -> Result<MessageRow, Fail> {
-    let account = Octets::copy_of(alloc, b"bank")?;
-    Ok(MessageRow {
-        id: id(number)?,
+) -> Option<MessageRow> {
+    let account = Octets::copy_of(alloc, b"bank").ok()?;
+    Some(MessageRow {
+        id: MessageId::new(number)?,
         originator: Originator::Application { account },
-        source: Address::new(1, 1, "447700900001")?,
+        source: Address::new(1, 1, "447700900001").ok()?,
         handset: digits(handset)?,
         data_coding_scheme: 0,
         protocol_identifier: 0,
@@ -58,20 +45,20 @@ fn message(
     })
 }
 
-fn progress(is_done: bool, attempts: u8, due: u64) -> Result<Progress, Fail> {
-    Ok(Progress {
+fn progress(is_done: bool, attempts: u8, due: u64) -> Option<Progress> {
+    Some(Progress {
         is_done,
         attempts,
         due: at(due)?,
     })
 }
 
-fn part(alloc: Global, message: u64, number: u8, progress: Progress) -> Result<PartRow, Fail> {
-    Ok(PartRow {
-        id: id(message)?,
+fn part(alloc: Global, message: u64, number: u8, progress: Progress) -> Option<PartRow> {
+    Some(PartRow {
+        id: MessageId::new(message)?,
         number,
         reference: 0,
-        tpdu: Octets::copy_of(alloc, b"x")?,
+        tpdu: Octets::copy_of(alloc, b"x").ok()?,
         key: None,
         progress,
     })
@@ -85,6 +72,7 @@ fn no_changes(alloc: Global) -> Changes {
         handsets: Listed::new(alloc),
         reports: Listed::new(alloc),
         priorities: Listed::new(alloc),
+        bars: Listed::new(alloc),
     }
 }
 
@@ -104,7 +92,7 @@ enum Step {
     // The message to that handset has ended.
     Ends(u64, &'static str),
     // The first handsets, two at most: which, how many parts wait, since when, how often the worst failed, and when the next is due.
-    Most(&'static [(&'static str, u64, u64, u8, u64)]),
+    Most(&'static [Line]),
     // The number of the oldest message.
     Oldest(Option<u64>),
 }
@@ -115,27 +103,30 @@ fn put_message(
     number: u64,
     handset: &str,
     state: Option<FinalState>,
-) -> Result<(), Fail> {
+) -> Option<()> {
     let row = message(alloc, number, handset, state)?;
-    changes.messages.push(Change::Put(row))?;
-    Ok(())
+    changes.messages.push(Change::Put(row)).ok()
 }
 
-fn put_parts(alloc: Global, changes: &mut Changes, message: u64, count: u8) -> Result<(), Fail> {
+fn put_parts(alloc: Global, changes: &mut Changes, message: u64, count: u8) -> Option<()> {
     for number in 1..=count {
         let row = part(alloc, message, number, progress(false, 0, message)?)?;
-        changes.parts.push(Revision::Put(row))?;
+        changes.parts.push(Revision::Put(row)).ok()?;
     }
-    Ok(())
+    Some(())
 }
 
-fn amend(changes: &mut Changes, message: u64, number: u8, progress: Progress) -> Result<(), Fail> {
+fn amend(changes: &mut Changes, message: u64, number: u8, progress: Progress) -> Option<()> {
     let key = Key::pair(message, number);
-    changes.parts.push(Revision::Amend { key, progress })?;
-    Ok(())
+    changes.parts.push(Revision::Amend { key, progress }).ok()
 }
 
-fn put_step(alloc: Global, changes: &mut Changes, step: &Step) -> Result<(), Fail> {
+fn remove(changes: &mut Changes, message: u64, number: u8) -> Option<()> {
+    let key = Key::pair(message, number);
+    changes.parts.push(Revision::Remove(key)).ok()
+}
+
+fn put_step(alloc: Global, changes: &mut Changes, step: &Step) -> Option<()> {
     match step {
         Step::Begins(number, handset, parts) => {
             put_message(alloc, changes, *number, handset, None)?;
@@ -150,57 +141,60 @@ fn put_step(alloc: Global, changes: &mut Changes, step: &Step) -> Result<(), Fai
             )
         }
         Step::Done(message, number) => amend(changes, *message, *number, progress(true, 0, 0)?),
-        Step::Removes(message, number) => {
-            changes
-                .parts
-                .push(Revision::Remove(Key::pair(*message, *number)))?;
-            Ok(())
-        }
+        Step::Removes(message, number) => remove(changes, *message, *number),
         Step::Ends(number, handset) => {
             put_message(alloc, changes, *number, handset, Some(FinalState::Expired))
         }
-        Step::Most(_) | Step::Oldest(_) => Ok(()),
+        Step::Most(_) | Step::Oldest(_) => Some(()),
     }
 }
 
-fn is_line(
-    line: &WaitingHandset,
-    wanted: &(&'static str, u64, u64, u8, u64),
-) -> Result<bool, Fail> {
+// A handset, how many parts wait, since when, how often the worst failed, and when the next is due.
+type Line = (&'static str, u64, u64, u8, u64);
+
+fn is_line(line: &WaitingHandset, wanted: &Line) -> bool {
     let (handset, waiting, since, failed, due) = *wanted;
-    Ok(
-        line.handset == digits(handset)?
-            && line.waiting == waiting
-            && line.since.seconds() == at(since)?.seconds()
-            && line.failed == failed
-            && line.due.seconds() == at(due)?.seconds(),
-    )
+    digits(handset) == Some(line.handset)
+        && line.waiting == waiting
+        && at(since) == Some(line.since)
+        && line.failed == failed
+        && at(due) == Some(line.due)
 }
 
-fn are_lines(
-    lines: &[WaitingHandset],
-    wanted: &[(&'static str, u64, u64, u8, u64)],
-) -> Result<bool, Fail> {
+fn are_lines(lines: &[WaitingHandset], wanted: &[Line]) -> bool {
     if lines.len() != wanted.len() {
-        return Ok(false);
+        return false;
     }
     for (line, wanted) in lines.iter().zip(wanted.iter()) {
-        if !is_line(line, wanted)? {
-            return Ok(false);
+        if !is_line(line, wanted) {
+            return false;
         }
     }
-    Ok(true)
+    true
+}
+
+fn are_most<R: Wait>(rt: &R, alloc: Global, table: &PendingTable, wanted: &[Line]) -> bool {
+    match table.most(rt, alloc, 2) {
+        Ok(lines) => are_lines(lines.as_slice(), wanted),
+        Err(_) => false,
+    }
+}
+
+// Whether what the step puts is taken.
+fn is_taken<R: Wait>(rt: &R, alloc: Global, table: &PendingTable, step: &Step) -> bool {
+    let mut changes = no_changes(alloc);
+    put_step(alloc, &mut changes, step).is_some() && table.take(rt, &changes).is_ok()
 }
 
 // Whether the step goes as it says.
-fn goes<R: Wait>(rt: &R, alloc: Global, table: &PendingTable, step: &Step) -> Result<bool, Fail> {
-    let mut changes = no_changes(alloc);
-    put_step(alloc, &mut changes, step)?;
-    table.take(rt, &changes)?;
+fn goes<R: Wait>(rt: &R, alloc: Global, table: &PendingTable, step: &Step) -> bool {
+    if !is_taken(rt, alloc, table, step) {
+        return false;
+    }
     match step {
-        Step::Most(wanted) => are_lines(table.most(rt, alloc, 2)?.as_slice(), wanted),
-        Step::Oldest(wanted) => { Ok(table.oldest(rt).map(|oldest| oldest.id.number()) == *wanted) }
-        _ => Ok(true),
+        Step::Most(wanted) => are_most(rt, alloc, table, wanted),
+        Step::Oldest(wanted) => table.oldest(rt).map(|oldest| oldest.id.number()) == *wanted,
+        _ => true,
     }
 }
 
@@ -272,7 +266,7 @@ fn what_is_pending_follows_the_commits(rt: HostRuntime) -> Result<(), Fail> {
     for (name, steps) in COURSES {
         let table = PendingTable::new(rt.alloc());
         for (turn, step) in steps.iter().enumerate() {
-            turn_holds(goes(&rt, rt.alloc(), &table, step)?, name, turn)?;
+            turn_holds(goes(&rt, rt.alloc(), &table, step), name, turn)?;
         }
     }
     Ok(())

@@ -6,28 +6,20 @@ use smsc_status::{
     PendingMessage, RefusedBinds, RefusedDeliveries, RefusedSubmits, Resource, SessionKind,
     SessionLine, StatusView, StoreFigures, StuckLine, Wanted, response_to,
 };
-use std::alloc::Global;
+use std::alloc::{AllocError, Global};
 use std::test::Fail;
 
 const NAME: &str = "<b>&\"\\\x07x";
 
 // 2026-11-26T04:46:01Z, by `date -u -d @1795668361`.
-fn moment() -> Result<Moment, Fail> {
-    match Moment::from_seconds(1_795_668_361) {
-        Ok(moment) => Ok(moment),
-        Err(_) => Err(Fail::new("a moment")),
-    }
+const MOMENT: u64 = 1_795_668_361;
+
+fn text_of(alloc: Global, text: &str) -> Result<String, AllocError> {
+    String::from_str(alloc, text)
 }
 
-fn account(alloc: Global) -> Result<String, Fail> {
-    let mut account = String::new(alloc);
-    account.push_str(NAME)?;
-    Ok(account)
-}
-
-fn session(alloc: Global) -> Result<SessionLine, Fail> {
-    let since = moment()?;
-    let account = account(alloc)?;
+fn session(alloc: Global, since: Moment) -> Result<SessionLine, AllocError> {
+    let account = text_of(alloc, NAME)?;
     Ok(SessionLine {
         seat: 3,
         account,
@@ -40,8 +32,8 @@ fn session(alloc: Global) -> Result<SessionLine, Fail> {
 }
 
 // What all sessions of that account did, also those that have ended.
-fn account_line(alloc: Global) -> Result<AccountLine, Fail> {
-    let account = account(alloc)?;
+fn account_line(alloc: Global) -> Result<AccountLine, AllocError> {
+    let account = text_of(alloc, NAME)?;
     Ok(AccountLine {
         account,
         submits: 19,
@@ -50,8 +42,8 @@ fn account_line(alloc: Global) -> Result<AccountLine, Fail> {
 }
 
 // Three requests of the same account, each refused with RMSGQFUL (SMPP v3.4 5.1.3).
-fn refused(alloc: Global) -> Result<RefusedSubmits, Fail> {
-    let account = account(alloc)?;
+fn refused(alloc: Global) -> Result<RefusedSubmits, AllocError> {
+    let account = text_of(alloc, NAME)?;
     Ok(RefusedSubmits {
         account,
         status: 0x14,
@@ -62,16 +54,15 @@ fn refused(alloc: Global) -> Result<RefusedSubmits, Fail> {
 // What waits for a handset of that number.
 fn stuck_line(
     alloc: Global,
+    since: Moment,
     handset: &str,
     is_linked: bool,
     cause: Option<LastCause>,
     due: Option<Moment>,
-) -> Result<StuckLine, Fail> {
-    let since = moment()?;
-    let mut number = String::new(alloc);
-    number.push_str(handset)?;
+) -> Result<StuckLine, AllocError> {
+    let handset = text_of(alloc, handset)?;
     Ok(StuckLine {
-        handset: number,
+        handset,
         waiting: 12,
         since,
         failed: 3,
@@ -82,23 +73,15 @@ fn stuck_line(
 }
 
 // One without a link, one whose memory is full, and one that is tried again.
-fn stuck_lines(alloc: Global) -> Result<Vec<StuckLine>, Fail> {
-    let due = moment()?;
+fn put_stuck(alloc: Global, lines: &mut Vec<StuckLine>, moment: Moment) -> Result<(), AllocError> {
     let full = LastCause {
         cause: 22,
         reason: "memory capacity exceeded",
     };
-    let away = stuck_line(alloc, "447700900999", false, None, None)?;
-    let no_memory = stuck_line(alloc, "447700900998", true, Some(full), None)?;
-    let tried = stuck_line(alloc, "447700900997", true, None, Some(due))?;
-    Ok(vec![in alloc; away, no_memory, tried]?)
-}
-
-fn oldest() -> Result<MessageId, Fail> {
-    match MessageId::new(42) {
-        Some(id) => Ok(id),
-        None => Err(Fail::new("a number")),
-    }
+    lines.push(stuck_line(alloc, moment, "447700900999", false, None, None)?)?;
+    lines.push(stuck_line(alloc, moment, "447700900998", true, Some(full), None)?)?;
+    lines.push(stuck_line(alloc, moment, "447700900997", true, None, Some(moment))?)?;
+    Ok(())
 }
 
 const BINDS: &[RefusedBinds] = &[RefusedBinds {
@@ -143,16 +126,29 @@ fn no_messages() -> (MessageFigures, MessageCounts) {
     (figures, counts)
 }
 
-fn response<'a>(
+// What a response shows.
+#[derive(Drop)]
+struct Shown {
+    sessions: Vec<SessionLine>,
+    accounts: Vec<AccountLine>,
+    refused: Vec<RefusedSubmits>,
+    stuck: Vec<StuckLine>,
+}
+
+fn put_shown(alloc: Global, shown: &mut Shown, moment: Moment) -> Result<(), AllocError> {
+    shown.sessions.push(session(alloc, moment)?)?;
+    shown.accounts.push(account_line(alloc)?)?;
+    shown.refused.push(refused(alloc)?)?;
+    put_stuck(alloc, &mut shown.stuck, moment)
+}
+
+fn response(
     alloc: Global,
     wanted: Wanted,
-    sessions: &'a [SessionLine],
-    accounts: &'a [AccountLine],
-    refused_submits: &'a [RefusedSubmits],
-    stuck: &'a [StuckLine],
+    shown: &Shown,
     oldest: MessageId,
     moment: Moment,
-) -> Result<Octets, Fail> {
+) -> Option<Octets> {
     let (messages, counts) = no_messages();
     let view = StatusView {
         centre: "447700900000",
@@ -161,16 +157,16 @@ fn response<'a>(
         now: moment,
         messages,
         counts,
-        sessions,
+        sessions: shown.sessions.as_slice(),
         links: &[],
-        stuck,
+        stuck: shown.stuck.as_slice(),
         oldest: Some(PendingMessage {
             id: oldest,
             handset: "447700900999",
             submitted: moment,
         }),
-        accounts,
-        refused_submits,
+        accounts: shown.accounts.as_slice(),
+        refused_submits: shown.refused.as_slice(),
         refused_binds: BINDS,
         refused_deliveries: DELIVERIES,
         samples: &[],
@@ -185,29 +181,7 @@ fn response<'a>(
         },
         groups: GROUPS,
     };
-    match response_to(alloc, wanted, &view)? {
-        Some(octets) => Ok(octets),
-        None => Err(Fail::new("a response")),
-    }
-}
-
-fn responded(alloc: Global, wanted: Wanted) -> Result<Octets, Fail> {
-    let moment = moment()?;
-    let sessions = vec![in alloc; session(alloc)?]?;
-    let refused = vec![in alloc; refused(alloc)?]?;
-    let accounts = vec![in alloc; account_line(alloc)?]?;
-    let stuck = stuck_lines(alloc)?;
-    let oldest = oldest()?;
-    response(
-        alloc,
-        wanted,
-        sessions.as_slice(),
-        accounts.as_slice(),
-        refused.as_slice(),
-        stuck.as_slice(),
-        oldest,
-        moment,
-    )
+    response_to(alloc, wanted, &view).ok()?
 }
 
 fn has(octets: &Octets, text: &str) -> bool {
@@ -477,19 +451,36 @@ const RESPONSES: &[Row] = &[
     ),
 ];
 
-fn is_response(alloc: Global, row: &Row) -> Result<(), Fail> {
-    let (wanted, text, is_there, end, name) = row;
-    let response = responded(alloc, *wanted)?;
-    holds(
-        has(&response, text) == *is_there && response.as_slice().ends_with(end),
-        name,
-    )
+fn is_response(alloc: Global, shown: &Shown, oldest: MessageId, moment: Moment, row: &Row) -> bool {
+    let (wanted, text, is_there, end, _) = row;
+    match response(alloc, *wanted, shown, oldest, moment) {
+        Some(response) => {
+            has(&response, text) == *is_there && response.as_slice().ends_with(end)
+        }
+        None => false,
+    }
+}
+
+fn are_responses(alloc: Global, shown: &mut Shown, moment: Moment) -> Result<(), Fail> {
+    let Some(oldest) = MessageId::new(42) else {
+        return Err(Fail::new("a number"));
+    };
+    holds(put_shown(alloc, shown, moment).is_ok(), "what is shown")?;
+    for row in RESPONSES {
+        holds(is_response(alloc, shown, oldest, moment, row), row.4)?;
+    }
+    Ok(())
 }
 
 #[test]
 fn responses_have_texts_and_ends(rt: HostRuntime) -> Result<(), Fail> {
-    for row in RESPONSES {
-        is_response(rt.alloc(), row)?;
-    }
-    Ok(())
+    let alloc = rt.alloc();
+    let moment = Moment::from_seconds(MOMENT)?;
+    let mut shown = Shown {
+        sessions: Vec::new(alloc),
+        accounts: Vec::new(alloc),
+        refused: Vec::new(alloc),
+        stuck: Vec::new(alloc),
+    };
+    are_responses(alloc, &mut shown, moment)
 }

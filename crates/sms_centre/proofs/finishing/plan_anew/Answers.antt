@@ -1,5 +1,6 @@
 use Rattle.std.proofs.Common.{inr, refl}
 use Rattle.sms_centre_spec.specs.CentreEvent.{follow}
+use Rattle.sms_centre.proofs.ActsFirst.{congested_bars}
 use Rattle.sms_centre.specs.Acting.{congested}
 use Rattle.sms_centre.specs.Planning.{PlanOf}
 use Rattle.sms_centre_events.proofs.offering.OneOffer.{goes_off, goes_on}
@@ -11,7 +12,7 @@ pub returns-in-Ok-clause-outcome : goal.returns-in-Ok-clause-outcome
 returns-in-Ok-clause-outcome g c = λ core rows represents can honest holds.
     let d = congested c.args.event.now c.args.reference core in
     let goes = c.in-Ok.ensures.outcome core rows represents can honest holds in
-    goes_on (λ (p : PlanOf). IsOutcome (follow d) p.plan) (follow d).links.read ((g.B.RowStore.state c.run_anew.new.bodies).holds rows) (g.B.RowStore.state c.run_anew.new.bodies).is_closed (g.B.RowStore.state c.args.bodies.now).refusals (g.B.RowStore.state c.run_anew.new.bodies).refusals c.plan.result (c.plan.ensures.plan (follow d) goes.0) goes.1.0 goes.1.1
+    goes_on (λ (p : PlanOf). IsOutcome (follow d) p.plan) (follow d).links.read ((g.B.RowStore.state c.run_anew.new.bodies).holds rows) (g.B.RowStore.state c.run_anew.new.bodies).is_closed (g.B.RowStore.state c.args.bodies.now).refusals (g.B.RowStore.state c.run_anew.new.bodies).refusals c.plan.result (c.plan.ensures.plan (follow d) goes.0 (congested_bars c.args.event.now c.args.reference core)) goes.1.0 goes.1.1
 
 pub returns-in-Err-clause-outcome : goal.returns-in-Err-clause-outcome
 returns-in-Err-clause-outcome g c = λ core rows represents can honest holds.

@@ -6,7 +6,7 @@ use Rattle.sms_centre.proofs.Registered.{with_plan, with_room}
 use Rattle.sms_centre.proofs.finishing.planned.Goals as goal
 
 pub returns-clause-plan : goal.returns-clause-plan
-returns-clause-plan c = λ d represents. with_plan d c.in_ok-plan.plan c.with_log.result (c.in_ok-plan.ensures.plans d represents) c.with_log.ensures.plan
+returns-clause-plan c = λ d represents bars. with_plan d c.in_ok-plan.plan c.with_log.result (c.in_ok-plan.ensures.plans d represents bars) c.with_log.ensures.plan
 
 pub returns-clause-fits : goal.returns-clause-fits
 returns-clause-fits c =

@@ -1,4 +1,4 @@
-use Rattle.std.proofs.Common.{◌≡◌, Bool, true, false, sym, ◌∙◌, ap, subst}
+use Rattle.std.proofs.Common.{◌≡◌, Bool, sym, ◌∙◌, ap, subst}
 use Rattle.std.specs.Prelude.{◌&&◌, is_some}
 use Rattle.std.proofs.lemmas.Bool.{and_left, and_right}
 use Rattle.sms_centre_rows.specs.reports.Reports.{report_of}
@@ -27,7 +27,7 @@ returns-then-not-leaves_split c = λ core represents.
     sym (and_right (is_some m.state && is_before c.args.before m.done) (is_reported core.rows.reports (report_of m.id core.rows.reports) && (leaves_split m core.rows.messages && leaves_number m core.rows.messages))
     (and_right (is_reported core.rows.reports (report_of m.id core.rows.reports)) (leaves_split m core.rows.messages && leaves_number m core.rows.messages)
     (and_left (leaves_split m core.rows.messages) (leaves_number m core.rows.messages)
-    (sym (c.leaves_split.ensures core.rows.messages core.rows.parts was.reference_index) ∙ c.if-not-leaves_split.true))))
+    (sym (c.leaves_split.ensures core.rows.bars core.rows.messages core.rows.parts was.reference_index) ∙ c.if-not-leaves_split.true))))
 
 pub returns : goal.returns
 returns c = λ core represents.
@@ -36,7 +36,7 @@ returns c = λ core represents.
     let m = c.args.message.now in
     let ended = sym c.has_ended.ensures ∙ c.if-not-has_ended.false in
     let reported = sym (c.is_reported.ensures core represents) ∙ c.if-not-is_reported.false in
-    let split = sym (c.leaves_split.ensures core.rows.messages core.rows.parts was.reference_index) ∙ c.if-not-leaves_split.false in
+    let split = sym (c.leaves_split.ensures core.rows.bars core.rows.messages core.rows.parts was.reference_index) ∙ c.if-not-leaves_split.false in
     c.leaves_number.ensures core.rows.messages core.rows.parts was.centre.messages_are
     ∙ ap (λ (b : Bool). b && leaves_number m core.rows.messages) (sym split)
     ∙ ap (λ (b : Bool). b && (leaves_split m core.rows.messages && leaves_number m core.rows.messages)) (sym reported)

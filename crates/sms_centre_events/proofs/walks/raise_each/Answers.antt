@@ -1,7 +1,7 @@
 use Rattle.std.proofs.Common.{◌+◌, refl, drop, arith}
 use Rattle.std.proofs.Math.ListN.{drop_of_length-le}
+use Rattle.sms_base.proofs.Lists.{drop_item}
 use Rattle.sms_centre_spec.specs.CentreEvent.{raise}
-use Rattle.sms_centre_draft.proofs.Steps.{drop_one}
 use Rattle.sms_centre_events.proofs.Walked.{left_next, left_none}
 use Rattle.sms_centre_events.proofs.walks.raise_each.Goals as goal
 
@@ -12,7 +12,7 @@ pub loop-stop-preserved : goal.loop-stop-preserved
 loop-stop-preserved c = λ d represents.
     let i = c.loop-stop.stop-index in
     left_next raise d c.args.stops.now (drop i c.args.stops.now) c.stop-item.result (drop (i + 1) c.args.stops.now) c.loop-stop.draft c.raise.new.self
-    (drop_one c.args.stops.now i c.stop-item.result (omega (arith, c.loop-stop-test.true)) c.stop-item.is) (c.loop-stop.invariant d represents) c.in_ok-raise.ensures
+    (drop_item c.args.stops.now i c.stop-item.result (omega (arith, c.loop-stop-test.true)) c.stop-item.is) (c.loop-stop.invariant d represents) c.in_ok-raise.ensures
 
 pub returns : goal.returns
 returns c = λ d represents.

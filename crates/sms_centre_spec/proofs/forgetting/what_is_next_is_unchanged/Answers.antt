@@ -2,10 +2,11 @@ use Rattle.std.proofs.Common.{ℕ, List, ap}
 use Rattle.std.specs.Prelude.{max}
 use Rattle.sms_centre_rows.specs.declared.waiting.queued_part.QueuedPart.{QueuedPart}
 use Rattle.sms_centre_rows.specs.waiting.References.{next_reference}
+use Rattle.sms_centre_spec.proofs.forgetting.BarsStand.{next_stands, taken_stands}
 use Rattle.sms_centre_spec.proofs.forgetting.Begins.{never_later}
 use Rattle.sms_centre_spec.proofs.forgetting.Latest.{moment_same}
 use Rattle.sms_centre_spec.proofs.forgetting.Looks.{waiting_same}
-use Rattle.sms_centre_spec.proofs.forgetting.Splits.{held_same, next_id_same, next_place_same, next_split_same}
+use Rattle.sms_centre_spec.proofs.forgetting.Splits.{next_id_same, next_place_same}
 use Rattle.sms_centre_spec.proofs.forgetting.what_is_next_is_unchanged.Goals as goal
 
 pub returns : goal.returns
@@ -17,7 +18,6 @@ returns c = record {
       (waiting_same goes handset.number rows.messages rows.priorities rows.parts rows.reports may.ended may.closed);
   never_later = never_later;
   moment = moment_same;
-  split = λ goes rows source handset s may bare.
-      next_split_same goes source handset rows.messages rows.parts s.messages.message_keys bare.free bare.own may.later;
-  held = λ goes rows source handset bare. held_same goes source handset rows.messages bare.free;
+  split = λ goes rows source handset s may. next_stands source handset goes rows.bars rows.messages rows.parts s.bars s.messages.message_keys may.later;
+  taken = λ goes rows source handset own s. taken_stands source handset goes own rows.bars rows.messages rows.parts s.bars;
 }

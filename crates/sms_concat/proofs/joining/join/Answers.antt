@@ -1,8 +1,9 @@
 use Rattle.std.proofs.Common.{◌≡◌, Some}
 use Rattle.sms_concat.specs.declared.content.Content.{Content}
 use Rattle.sms_concat.specs.Joining.{content_joined}
-use Rattle.sms_concat.proofs.Joined.{on_err, whole_joins}
+use Rattle.sms_concat.proofs.Joined.{whole_joins}
 use Rattle.sms_concat.proofs.joining.join.Goals as goal
+use Rattle.sms_concat.proofs.joiner.Around.{on_err}
 
 pub returns-in_err-units_of-in-len1-up-clause-err : goal.returns-in_err-units_of-in-len1-up-clause-err
 returns-in_err-units_of-in-len1-up-clause-err c =

@@ -1,12 +1,13 @@
 use Rattle.std.proofs.Common.{◌≡◌, ◌+◌, List, [], ◌∷◌, ◌++◌, map, drop, refl, sym, ap, subst, ◌∙◌, append_assoc, append-nil, arith}
 use Rattle.std.proofs.Math.ListN.{drop_of_length-le}
+use Rattle.sms_base.proofs.Lists.{drop_item}
 use Rattle.sms_handset.specs.declared.event.HandsetEvent.{HandsetEvent}
 use Rattle.sms_handset_link.specs.Turns.{AreTimed}
 use Rattle.sms_handset.specs.declared.event.HandsetEvent.TheVariants.{Tick}
 use Rattle.sms_script.specs.declared.owner.act.OwnersAct.{OwnersAct}
 use Rattle.sms_handset_link.specs.Asking.{event_of}
 use Rattle.sms_handset_link.proofs.Answered.{answers_more, appends_as}
-use Rattle.sms_handset_link.proofs.Courses.{act_at, appends_join, appends_none, meets_join, meets_none, meets_one, timed_more}
+use Rattle.sms_handset_link.proofs.Courses.{appends_join, appends_none, meets_join, meets_none, meets_one, timed_more}
 use Rattle.sms_handset_link.proofs.run.act_all.Goals as goal
 
 pub loop-asked-init : goal.loop-asked-init
@@ -18,7 +19,7 @@ loop-asked-preserved g c =
     let asked = c.asked-item.result in
     let behind = drop (c.loop-asked.asked-index + 1) c.args.acts.now in
     let next : drop c.loop-asked.asked-index c.args.acts.now ≡ asked ∷ behind =
-    act_at c.args.acts.now c.loop-asked.asked-index asked c.loop-asked-test.true c.asked-item.is in
+    drop_item c.args.acts.now c.loop-asked.asked-index asked c.loop-asked-test.true c.asked-item.is in
     let ticked = c.in_ok-tick.ensures in
     let done = c.in_ok-act.ensures.sends in
     let met = meets_join (Tick c.now.result ∷ []) (event_of asked ∷ []) _ _ _ _ _ _

@@ -11,5 +11,5 @@ returns-clause-done g c clean live inside =
     let first = rw c.of.ensures at (c.in_ok-remove.ensures.done early live inside) in
     ok_then c.put.result (λ second. record {
       inside = record { was_open = first.inside.was_open; is_open = second.inside.is_open; now_is = refl; committed_is = second.inside.committed_is ∙ first.inside.committed_is; mode = second.inside.mode };
-      changed = renames _ _ _ first second;
+      changed = renames c.args.version _ _ _ first second;
     }) (c.put.ensures.done clean first.inside.is_open first.inside.mode)

@@ -1,7 +1,8 @@
-use Rattle.std.proofs.Common.{◌≡◌, ℕ, List, Option, Some, None, Bool, true, false, take, refl, subst, ◌∙◌, ◌||◌, ◌≤◌, length}
+use Rattle.std.proofs.Common.{ℕ, List, Option, Some, None, take, refl, subst, ◌∙◌, ◌≤◌, length}
 use Rattle.std.specs.Prelude.{IfNone}
 use Rattle.smsc_loop.specs.Phases.{Serves}
 use Rattle.std.specs.Io.KnownBytes.{Appends}
+use Rattle.sms_base.proofs.Bools.{or_true}
 use Rattle.smsc_loop.proofs.Joins.{did_none, did_wire, did_send, none_given, nothing_more}
 use Rattle.smsc_loop.proofs.flowing.send.Goals as goal
 
@@ -15,10 +16,6 @@ pub returns-clause-did : goal.returns-clause-did
 returns-clause-did g c = λ s.
     did_send g.G.Endpoint.does _ _ _ Serves Serves _ _ _ _ s c.sent.ensures.sent (refl, refl) c.write_soon.ensures.remaining
     (subst (λ (l : List ℕ). Appends (g.W.Wire.written c.args.wire.now) (g.W.Wire.written c.write_soon.new.self) (take c.in_ok-count.count l)) c.octets-2.ensures.waits c.in_ok-count.ensures.wrote.1)
-
-or_true : (b : Bool) → (b || true) ≡ true
-or_true true = refl
-or_true false = refl
 
 if_none : {A : Type 0} (r : Option A) (P : Type 0) → P → IfNone r P
 if_none None P p = p

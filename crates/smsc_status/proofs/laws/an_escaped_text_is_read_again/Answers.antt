@@ -1,4 +1,4 @@
-use Rattle.smsc_status.proofs.Readings.{read_again}
+use Rattle.sms_base.proofs.MarkupReadings.{read_again}
 use Rattle.smsc_status.proofs.laws.an_escaped_text_is_read_again.Goals as goal
 
 pub returns : goal.returns

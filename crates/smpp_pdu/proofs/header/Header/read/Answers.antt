@@ -1,6 +1,6 @@
 use Rattle.std.proofs.Common.{arith, ◌∙◌, sym, ap}
+use Rattle.sms_base.proofs.OctetLaws.{are_octets}
 use Rattle.smpp_pdu.specs.PduReading.{header_in}
-use Rattle.smpp_pdu.proofs.FieldLaws.{are_octets}
 use Rattle.smpp_pdu.proofs.PduLaws.{header_found, header_short}
 use Rattle.smpp_pdu.proofs.header.Header.read.Goals as goal
 

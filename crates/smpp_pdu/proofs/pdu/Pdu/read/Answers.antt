@@ -1,5 +1,5 @@
 use Rattle.std.proofs.Common.{arith, ◌∙◌}
-use Rattle.smpp_pdu.proofs.FieldLaws.{are_octets}
+use Rattle.sms_base.proofs.OctetLaws.{are_octets}
 use Rattle.smpp_pdu.proofs.PduLaws.{pdu_found, pdu_again}
 use Rattle.smpp_pdu.proofs.pdu.Pdu.read.Goals as goal
 

@@ -1,12 +1,12 @@
 use Rattle.std.proofs.Common.{◌+◌, Bool, refl, sym, subst, drop, arith}
 use Rattle.std.proofs.Math.ListN.{drop_of_length-le}
+use Rattle.sms_base.proofs.Lists.{drop_item}
 use Rattle.sms_intake.specs.PartBodies.{IsPartData}
 use Rattle.sms_centre_rows.specs.waiting.References.{handset_of}
 use Rattle.sms_centre_spec.specs.Draft.{handsets_in}
 use Rattle.sms_centre_spec.specs.Submitting.{give_part}
 use Rattle.sms_centre_draft.specs.Submitting.{Accepts}
 use Rattle.sms_centre_draft.proofs.Entering.{body_at, coming_done, coming_next, coming_stops}
-use Rattle.sms_centre_draft.proofs.Steps.{drop_one}
 use Rattle.sms_centre_draft.proofs.centre_draft.CentreDraft.give_parts.Goals as goal
 
 pub loop-body-init : goal.loop-body-init
@@ -28,7 +28,7 @@ returns-then-not-is_given c = λ d represents can.
     let i = c.loop-body.body-index in
     let n = c.loop-body.number + 1 in
     coming_stops d c.args.id u bodies n (drop i bodies) c.body-item.result (drop (i + 1) bodies) c.loop-body.self c.give_part.new.self
-    (drop_one bodies i c.body-item.result (omega (arith, c.loop-body-test.true)) c.body-item.is) (c.loop-body.invariant.coming d represents can)
+    (drop_item bodies i c.body-item.result (omega (arith, c.loop-body-test.true)) c.body-item.is) (c.loop-body.invariant.coming d represents can)
     (omega (arith, c.loop-body.invariant.count, c.loop-body-test.true, c.requires.few))
     (λ x s k f. subst (λ (b : Bool). Accepts (give_part c.args.id u n c.body-item.result (handset_of u.handset (handsets_in x.store)) x.store) x c.give_part.new.self b) c.if-not-is_given.true (c.in_ok-is_given.ensures x s k f))
 
@@ -41,7 +41,7 @@ loop-body-preserved c = record {
       let i = c.loop-body.body-index in
       let n = c.loop-body.number + 1 in
       coming_next d c.args.id u bodies n (drop i bodies) c.body-item.result (drop (i + 1) bodies) c.loop-body.self c.give_part.new.self
-      (drop_one bodies i c.body-item.result (omega (arith, c.loop-body-test.true)) c.body-item.is) (c.loop-body.invariant.coming d represents can)
+      (drop_item bodies i c.body-item.result (omega (arith, c.loop-body-test.true)) c.body-item.is) (c.loop-body.invariant.coming d represents can)
       (omega (arith, c.loop-body.invariant.count, c.loop-body-test.true, c.requires.few))
       (λ x s k f. subst (λ (b : Bool). Accepts (give_part c.args.id u n c.body-item.result (handset_of u.handset (handsets_in x.store)) x.store) x c.give_part.new.self b) c.if-not-is_given.false (c.in_ok-is_given.ensures x s k f));
 }

@@ -7,7 +7,7 @@ use Rattle.sms_centre_spec.specs.Offering.{read_of, tpdu_of, unit_of}
 use Rattle.sms_centre_events.specs.offering.Offered.{offer_in, offer_next}
 use Rattle.sms_centre_events.proofs.offering.OneOffer.{goes_off, goes_on, unless_alike}
 use Rattle.sms_centre_events.proofs.offering.TpdusMade.{tpdu_short}
-use Rattle.sms_centre_events.proofs.offering.UnitOctets.{centre_is}
+use Rattle.sms_centre_spec.proofs.CentreAddresses.{centre_is}
 use Rattle.sms_centre_events.proofs.offering.offers.offer_queued.Goals as goal
 
 pub returns-in-Ok-clause-outcome : goal.returns-in-Ok-clause-outcome

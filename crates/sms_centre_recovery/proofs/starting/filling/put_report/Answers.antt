@@ -5,8 +5,9 @@ use Rattle.sms_centre_queue.specs.queues.Representing.{Waits}
 use Rattle.sms_rows.specs.table.Table.{put, row_at}
 use Rattle.sms_centre_rows.specs.declared.waiting.queued_part.QueuedPart.{QueuedPart}
 use Rattle.sms_centre_rows.specs.waiting.Keys.{queued_key}
-use Rattle.sms_centre_recovery.proofs.starting.QueuedWait.{if_ok, report_waits}
+use Rattle.sms_centre_recovery.proofs.starting.QueuedWait.{report_waits}
 use Rattle.sms_centre_recovery.proofs.starting.filling.put_report.Goals as goal
+use Rattle.sms_centre_queue.proofs.queues.RepresentedMoves.{if_ok}
 
 pub returns : goal.returns
 returns c =

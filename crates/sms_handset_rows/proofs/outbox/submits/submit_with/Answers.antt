@@ -1,6 +1,6 @@
 use Rattle.std.proofs.Common.{◌∙◌, sym, subst, arith}
+use Rattle.sms_base.proofs.OctetLaws.{are_octets}
 use Rattle.sms_base.specs.Reading.{AreOctets}
-use Rattle.sms_alphabet.proofs.Ucs2Laws.{all_octets}
 use Rattle.sms_handset_rows.proofs.outbox.PartFields.{carries_lent, lent_is, submit_short}
 use Rattle.sms_handset_rows.proofs.outbox.submits.submit_with.Goals as goal
 
@@ -24,4 +24,4 @@ returns c =
     let a = c.args in
     c.of-2.ensures
     ∙ lent_is a.part.now a.fields.now a.message_reference a.destination.now a.report c.in_ok-tpdu.tpdu c.of.result (c.of.ensures ∙ c.requires.octets)
-    (subst AreOctets (sym c.of.ensures) (all_octets a.octets.now (λ i. omega (arith, c.type_inv.octets i)))) c.requires.fields c.in_ok-tpdu.ensures.ok
+    (subst AreOctets (sym c.of.ensures) (are_octets a.octets.now (λ i. omega (arith, c.type_inv.octets i)))) c.requires.fields c.in_ok-tpdu.ensures.ok

@@ -1,7 +1,8 @@
 use Rattle.std.proofs.Common.{◌≡◌, ◌⊎◌, inl, inr, ◌+◌, ◌*◌, ℕ, List, ◌∙◌, ⊎_elim, ap, get_or, sym, subst}
+use Rattle.sms_base.proofs.Lists.{among_end}
 use Rattle.sms_base.specs.Among.{Among}
 use Rattle.sms_rows.specs.expiry.Deadlines.{IsCollected, IsPastIn, IsUnder}
-use Rattle.sms_rows.proofs.expiry.Heaps.{among_before, among_last_as, both_ok, last_or_before, on_ok, under_cases}
+use Rattle.sms_rows.proofs.expiry.Heaps.{among_before, among_last_as, both_ok, on_ok, under_cases}
 use Rattle.sms_rows.proofs.expiry.deadlines.+collect.Goals as goal
 
 pub returns-clause-earlier : goal.returns-clause-earlier
@@ -36,7 +37,7 @@ returns-clause-only t c =
     (λ (l : Among n c.push.new.self.items). ⊎_elim
     (λ (o : Among n c.args.ids.now.items). inl o)
     (λ (e : n ≡ id). inr (subst (λ (x : ℕ). IsPastIn c.args.now c.args.heap.now x) (sym e) c.in-Some.ensures.due))
-    (last_or_before n id c.args.ids.now.items (subst (λ (x : List ℕ). Among n x) c.in_ok-push.ensures.items l)))
+    (among_end n id c.args.ids.now.items (subst (λ (x : List ℕ). Among n x) c.in_ok-push.ensures.items l)))
     (λ (f : IsPastIn c.args.now c.args.heap.now n). inr f)
     (c.in_ok-collect.ensures.only n k))
     (λ (f : IsPastIn c.args.now c.args.heap.now n). inr f)

@@ -25,7 +25,7 @@ returns-in-Ok-clause-err g c clean ours =
 pub returns-in-Ok-clause-stop : goal.returns-in-Ok-clause-stop
 returns-in-Ok-clause-stop g c ours clean left may =
     let judged = c.in-Ok.ensures.ok (c.raise.ensures.clean clean) ours in
-    left_by_raise _ (state g.S.Store c.judge_said.new.conn) left ours judged.0 (λ rows kept. c.raise.ensures.stop clean rows kept left may)
+    left_by_raise _ (state g.S.Store c.judge_said.new.conn) left judged.0 ours (λ rows kept. c.raise.ensures.stop clean rows kept left may)
 
 pub returns-in-Err-clause-err : goal.returns-in-Err-clause-err
 returns-in-Err-clause-err g c clean ours =

@@ -36,13 +36,13 @@ returns-then-not-is_centre_schema-clause-stop g c clean left may =
 pub returns-clause-ok : goal.returns-clause-ok
 returns-clause-ok g c clean =
     let ours : (state g.S.Store c.args.conn.now).now.schema ≡ centre_schema = search rules in
-    ok_then c.judge_said.result (λ h setup. opened_ours centre_stores centre_lawful setup _ _ ours h.0 (says_judged centre_schema meta_list Centre 2 _ (Ok tt) ours h.1))
+    ok_then c.judge_said.result (λ h setup. opened_ours centre_stores centre_lawful setup _ _ ours h.0 (says_judged centre_schema meta_list Centre 3 _ (Ok tt) ours h.1))
     (c.judge_said.ensures.ok clean ours)
 
 pub returns-clause-err : goal.returns-clause-err
 returns-clause-err g c clean =
     let ours : (state g.S.Store c.args.conn.now).now.schema ≡ centre_schema = search rules in
-    if_err c.judge_said.result (λ error h. (refuses_now_said _ error (refuses_found centre_schema meta_list Centre 2 _ error ours h.0), h.1))
+    if_err c.judge_said.result (λ error h. (refuses_now_said _ error (refuses_found centre_schema meta_list Centre 3 _ error ours h.0), h.1))
     (c.judge_said.ensures.err clean ours)
 
 pub returns-then-not-is_centre_schema-clause-err : goal.returns-then-not-is_centre_schema-clause-err

@@ -1,4 +1,4 @@
-use Rattle.smsc_cli.proofs.words.Cuts.{bad_end, bad_name, bad_password, no_colon, none_some, one_colon, refused}
+use Rattle.smsc_cli.proofs.words.Cuts.{bad_end, bad_name, bad_password, no_colon, one_colon, refused}
 use Rattle.smsc_cli.proofs.words.account.account_of.Goals as goal
 
 pub returns-in_err-before-clause-only : goal.returns-in_err-before-clause-only

@@ -6,8 +6,9 @@ use Rattle.sms_centre_spec.specs.Draft.{rows_after}
 use Rattle.sms_centre_spec.specs.declared.rows.Changes.{Changes}
 use Rattle.sms_centre_spec.specs.declared.rows.Rows.{Rows}
 use Rattle.smsc_service.specs.Accounts.{bare}
-use Rattle.smsc_service.proofs.Stepped.{rows_left, rows_then}
+use Rattle.smsc_service.proofs.Stepped.{rows_then}
 use Rattle.smsc_service.proofs.machine.CentreMachine.adopt.Goals as goal
+use Rattle.sms_centre.proofs.Archived.{rows_left}
 
 pub hold-requires : goal.hold-requires
 hold-requires g c = subst (λ (x : Changes). HasRoomFor x c.args.self.now.keep.held) (sym c.in-Ok.ensures.changes) c.requires.room

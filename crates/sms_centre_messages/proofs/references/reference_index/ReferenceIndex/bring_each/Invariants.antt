@@ -5,4 +5,4 @@ use Rattle.sms_centre_messages.specs.references.ReferenceIndex.{AreFew, Represen
 use Rattle.sms_centre_messages.proofs.references.reference_index.ReferenceIndex.bring_each.Given as goal
 
 abbrev pub invariant-loop-part : goal.invariant-loop-part
-invariant-loop-part l = Represents l.initial.self l.messages.rows [] → Rises part_key l.parts → AreFew l.messages.rows l.parts → Represents l.self l.messages.rows (take l.part-index l.parts)
+invariant-loop-part l = Represents l.initial.self [] l.messages.rows [] → Rises part_key l.parts → AreFew l.messages.rows l.parts → Represents l.self [] l.messages.rows (take l.part-index l.parts)

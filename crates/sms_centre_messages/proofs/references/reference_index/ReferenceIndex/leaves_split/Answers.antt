@@ -1,4 +1,4 @@
-use Rattle.std.proofs.Common.{◌≡◌, ℕ, ◌+◌, Option, Some, None, sym, ◌∙◌, ap}
+use Rattle.std.proofs.Common.{◌≡◌, ℕ, ◌+◌, Option, None, sym, ◌∙◌, ap}
 use Rattle.std.specs.Prelude.{◌==◌, not}
 use Rattle.sms_centre_rows.specs.messages.SplitReferences.{last_split}
 use Rattle.sms_centre_spec.specs.forgetting.Forgetting.{is_split_on}
@@ -10,7 +10,7 @@ use Rattle.sms_centre_messages.proofs.references.Forgotten.{other_last}
 use Rattle.sms_centre_messages.proofs.references.reference_index.ReferenceIndex.leaves_split.Goals as goal
 
 pub returns-in-Some : goal.returns-in-Some
-returns-in-Some c = λ ms ps h.
+returns-in-Some c = λ bs ms ps h.
     let m = c.args.message.now in
     let count = c.of-last.ensures ∙ ap (λ (key : MessageEnds). counted key c.self.inside.last) c.of.ensures
     ∙ ap (λ (k : ReferenceIndexOf). counted (key_of m.source m.handset 0) k.last) c.self.view_is ∙ h.last m.source m.handset in
@@ -20,6 +20,6 @@ returns-in-Some c = λ ms ps h.
     ∙ ap (λ (o : Option ℕ). is_split_on o (last_split m.source m.handset None ms)) (sym c.in-Some.is)
 
 pub returns-in-None : goal.returns-in-None
-returns-in-None c = λ ms ps h.
+returns-in-None c = λ bs ms ps h.
     let m = c.args.message.now in
     ap (λ (o : Option ℕ). is_split_on o (last_split m.source m.handset None ms)) (sym c.in-None.is)

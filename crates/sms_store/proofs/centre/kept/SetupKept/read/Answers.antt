@@ -5,6 +5,7 @@ use Rattle.sqlite.specs.Held.{state}
 use Rattle.sqlite.proofs.Callers.{unchanged_then}
 use Rattle.sms_store.proofs.centre.Loading.{found_rows}
 use Rattle.sms_store.proofs.keeping.Lists.{moved}
+use Rattle.sms_store_tables.specs.centre.BarList.{bar_list}
 use Rattle.sms_store_tables.specs.centre.PartList.{part_list}
 use Rattle.sms_store_tables.specs.centre.ReferenceList.{reference_list}
 use Rattle.sms_store_tables.specs.centre.HandsetList.{handset_list}
@@ -14,7 +15,8 @@ use Rattle.sms_store.proofs.centre.kept.SetupKept.read.Goals as goal
 
 pub returns-clause-found : goal.returns-clause-found
 returns-clause-found g c clean ours =
-    let at5 : HasCleanDisk (state g.S.Store c.load-5.new.tx.conn.now) = omega (arith, c.load-6.ensures.survives.clean) in
+    let at6 : HasCleanDisk (state g.S.Store c.load-6.new.tx.conn.now) = omega (arith, c.load-7.ensures.survives.clean) in
+    let at5 : HasCleanDisk (state g.S.Store c.load-5.new.tx.conn.now) = omega (arith, at6, c.load-6.ensures.survives.clean) in
     let at4 : HasCleanDisk (state g.S.Store c.load-4.new.tx.conn.now) = omega (arith, at5, c.load-5.ensures.survives.clean) in
     let at3 : HasCleanDisk (state g.S.Store c.load-3.new.tx.conn.now) = omega (arith, at4, c.load-4.ensures.survives.clean) in
     let at2 : HasCleanDisk (state g.S.Store c.load-2.new.tx.conn.now) = omega (arith, at3, c.load-3.ensures.survives.clean) in
@@ -30,9 +32,11 @@ returns-clause-found g c clean ours =
     let d4 = f4.0.0.now_is ∙ d3 in
     let f5 = c.in_ok-reports.ensures.found at5 (ap schema d4 ∙ ours) in
     let d5 = f5.0.0.now_is ∙ d4 in
-    let f6 = c.in_ok-priorities.ensures.found clean (ap schema d5 ∙ ours) in
-    let whole = unchanged_then _ _ _ (unchanged_then _ _ _ (unchanged_then _ _ _ (unchanged_then _ _ _ (unchanged_then _ _ _ f1.0 f2.0) f3.0) f4.0) f5.0) f6.0 in
-    (whole, λ rows is. found_rows c.args.self.now rows _ is d1 d2 d3 d4 d5 f1.1 f2.1 f3.1 f4.1 f5.1 f6.1 c.from_vec.ensures c.from_vec-2.ensures c.from_vec-3.ensures c.from_vec-4.ensures c.from_vec-5.ensures c.from_vec-6.ensures c.in_ok-setup.ensures)
+    let f6 = c.in_ok-priorities.ensures.found at6 (ap schema d5 ∙ ours) in
+    let d6 = f6.0.0.now_is ∙ d5 in
+    let f7 = c.in_ok-bars.ensures.found clean (ap schema d6 ∙ ours) in
+    let whole = unchanged_then _ _ _ (unchanged_then _ _ _ (unchanged_then _ _ _ (unchanged_then _ _ _ (unchanged_then _ _ _ (unchanged_then _ _ _ f1.0 f2.0) f3.0) f4.0) f5.0) f6.0) f7.0 in
+    (whole, λ rows is. found_rows c.args.self.now rows _ is d1 d2 d3 d4 d5 d6 f1.1 f2.1 f3.1 f4.1 f5.1 f6.1 f7.1 c.from_vec.ensures c.from_vec-2.ensures c.from_vec-3.ensures c.from_vec-4.ensures c.from_vec-5.ensures c.from_vec-6.ensures c.from_vec-7.ensures c.in_ok-setup.ensures)
 
 pub returns-in_err-messages-clause-back : goal.returns-in_err-messages-clause-back
 returns-in_err-messages-clause-back g c clean ours has =
@@ -112,4 +116,28 @@ returns-in_err-priorities-clause-back g c clean ours has =
     let f5 = c.in_ok-reports.ensures.found at5 (ap schema d4 ∙ ours) in
     let d5 = f5.0.0.now_is ∙ d4 in
     let none = c.in_err-priorities.ensures.back clean (ap schema d5 ∙ ours) has.0.priorities (moved priority_list _ _ has.0.priorities d5 has.1.0.priorities) in
+    search (rules, none)
+
+pub returns-in_err-bars-clause-back : goal.returns-in_err-bars-clause-back
+returns-in_err-bars-clause-back g c clean ours has =
+    let at6 : HasCleanDisk (state g.S.Store c.load-6.new.tx.conn.now) = omega (arith, clean, c.load-7.ensures.survives.clean) in
+    let at5 : HasCleanDisk (state g.S.Store c.load-5.new.tx.conn.now) = omega (arith, at6, c.load-6.ensures.survives.clean) in
+    let at4 : HasCleanDisk (state g.S.Store c.load-4.new.tx.conn.now) = omega (arith, at5, c.load-5.ensures.survives.clean) in
+    let at3 : HasCleanDisk (state g.S.Store c.load-3.new.tx.conn.now) = omega (arith, at4, c.load-4.ensures.survives.clean) in
+    let at2 : HasCleanDisk (state g.S.Store c.load-2.new.tx.conn.now) = omega (arith, at3, c.load-3.ensures.survives.clean) in
+    let at1 : HasCleanDisk (state g.S.Store c.load.new.tx.conn.now) = omega (arith, at2, c.load-2.ensures.survives.clean) in
+    let schema = λ (d : Database). d.schema in
+    let f1 = c.in_ok-messages.ensures.found at1 ours in
+    let d1 = f1.0.0.now_is in
+    let f2 = c.in_ok-parts.ensures.found at2 (ap schema d1 ∙ ours) in
+    let d2 = f2.0.0.now_is ∙ d1 in
+    let f3 = c.in_ok-references.ensures.found at3 (ap schema d2 ∙ ours) in
+    let d3 = f3.0.0.now_is ∙ d2 in
+    let f4 = c.in_ok-handsets.ensures.found at4 (ap schema d3 ∙ ours) in
+    let d4 = f4.0.0.now_is ∙ d3 in
+    let f5 = c.in_ok-reports.ensures.found at5 (ap schema d4 ∙ ours) in
+    let d5 = f5.0.0.now_is ∙ d4 in
+    let f6 = c.in_ok-priorities.ensures.found at6 (ap schema d5 ∙ ours) in
+    let d6 = f6.0.0.now_is ∙ d5 in
+    let none = c.in_err-bars.ensures.back clean (ap schema d6 ∙ ours) has.0.bars (moved bar_list _ _ has.0.bars d6 has.1.0.bars) in
     search (rules, none)

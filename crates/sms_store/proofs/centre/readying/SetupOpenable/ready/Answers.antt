@@ -1,37 +1,32 @@
-use Rattle.std.proofs.Common.{◌≡◌, ◌≢◌, rules, Ok}
+use Rattle.std.proofs.Common.{◌≡◌, ◌≢◌, rules}
 use Rattle.sqlite.specs.Held.{state}
-use Rattle.sms_store_sql.specs.declared.listing.meta.StoreKind.TheVariants.{Centre}
-use Rattle.sms_store_tables.specs.centre.CentreSchema.{first_schema}
-use Rattle.sms_store_tables.specs.centre.FirstMetaList.{meta_list as first_list}
+use Rattle.sms_store_tables.specs.centre.CentreSchema.{first_schema, second_schema}
 use Rattle.sms_store.proofs.Answered.{if_err}
-use Rattle.sms_store.proofs.centre.Refusals.{refuses_first_now, refuses_now, refuses_second}
-use Rattle.sms_store.proofs.keeping.Leaving.{shown_as_it_was}
-use Rattle.sms_store.proofs.keeping.Openings.{refuses_found, says_judged}
+use Rattle.sms_store.proofs.centre.Refusals.{refuses_now}
 use Rattle.sms_store.proofs.centre.readying.SetupOpenable.ready.Goals as goal
 
-pub returns-then-not-is_first_schema-clause-err : goal.returns-then-not-is_first_schema-clause-err
-returns-then-not-is_first_schema-clause-err g c clean =
-    let other : (state g.S.Store c.args.conn.now).now.schema ≢ first_schema = search rules in
-    if_err c.ready_current.result (λ error h. (refuses_now 2 _ error other h.0, h.1)) (c.ready_current.ensures.err clean)
-
-pub returns-in-Ok-clause-err : goal.returns-in-Ok-clause-err
-returns-in-Ok-clause-err g c clean =
+pub returns-then-is_first_schema-clause-err : goal.returns-then-is_first_schema-clause-err
+returns-then-is_first_schema-clause-err g c clean =
     let ours : (state g.S.Store c.args.conn.now).now.schema ≡ first_schema = search rules in
-    let h = c.in-Ok.ensures.ok clean ours in
-    (refuses_second _ (says_judged first_schema first_list Centre 2 _ (Ok tt) ours h.1), shown_as_it_was _ _ h.0)
+    c.refuse_first.ensures.err clean ours
 
-pub returns-in-Ok-clause-stop : goal.returns-in-Ok-clause-stop
-returns-in-Ok-clause-stop g c =
+pub returns-then-is_first_schema-clause-stop : goal.returns-then-is_first_schema-clause-stop
+returns-then-is_first_schema-clause-stop g c =
     let ours : (state g.S.Store c.args.conn.now).now.schema ≡ first_schema = search rules in
-    c.judge_said.ensures.stop ours
+    c.refuse_first.ensures.stop ours
 
-pub returns-in-Err-clause-err : goal.returns-in-Err-clause-err
-returns-in-Err-clause-err g c clean =
-    let ours : (state g.S.Store c.args.conn.now).now.schema ≡ first_schema = search rules in
-    let h = c.in-Err.ensures.err clean ours in
-    (refuses_first_now _ c.in-Err.error (refuses_found first_schema first_list Centre 2 _ c.in-Err.error ours h.0), h.1)
+pub returns-then-is_second_schema-clause-err : goal.returns-then-is_second_schema-clause-err
+returns-then-is_second_schema-clause-err g c clean =
+    let ours : (state g.S.Store c.args.conn.now).now.schema ≡ second_schema = search rules in
+    c.refuse_second.ensures.err clean ours
 
-pub returns-in-Err-clause-stop : goal.returns-in-Err-clause-stop
-returns-in-Err-clause-stop g c =
-    let ours : (state g.S.Store c.args.conn.now).now.schema ≡ first_schema = search rules in
-    c.judge_said.ensures.stop ours
+pub returns-then-is_second_schema-clause-stop : goal.returns-then-is_second_schema-clause-stop
+returns-then-is_second_schema-clause-stop g c =
+    let ours : (state g.S.Store c.args.conn.now).now.schema ≡ second_schema = search rules in
+    c.refuse_second.ensures.stop ours
+
+pub returns-clause-err : goal.returns-clause-err
+returns-clause-err g c clean =
+    let other_first : (state g.S.Store c.args.conn.now).now.schema ≢ first_schema = search rules in
+    let other_second : (state g.S.Store c.args.conn.now).now.schema ≢ second_schema = search rules in
+    if_err c.ready_current.result (λ error h. (refuses_now 3 _ error other_first other_second h.0, h.1)) (c.ready_current.ensures.err clean)

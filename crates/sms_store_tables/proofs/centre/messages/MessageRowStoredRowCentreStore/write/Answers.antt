@@ -1,7 +1,8 @@
 use Rattle.std.proofs.Common.{refl}
 use Rattle.sms_store_sql.specs.listing.Columns.{number}
-use Rattle.sms_store_tables.proofs.centre.Parameters.{bound_optional, bound_account, bound_mark, ran_with}
+use Rattle.sms_store_tables.proofs.centre.Parameters.{bound_account, bound_mark}
 use Rattle.sms_store_tables.proofs.centre.messages.MessageRowStoredRowCentreStore.write.Goals as goal
+use Rattle.sms_store_tables.proofs.handset.Parameters.{bound_optional, ran_with}
 
 pub returns-clause-done : goal.returns-clause-done
 returns-clause-done g c clean live inside =

@@ -2,8 +2,8 @@ use Rattle.std.proofs.Common.{refl}
 use Rattle.sms_store_sql.specs.listing.Columns.{number}
 use Rattle.sms_store_tables.specs.centre.Pieces.{reference_bits, reference_number}
 use Rattle.sms_store_tables.specs.centre.Types.{ConcatKey}
-use Rattle.sms_store_tables.proofs.centre.Parameters.{bound_optional, ran_with}
 use Rattle.sms_store_tables.proofs.centre.parts.PartRowStoredRowCentreStore.write.Goals as goal
+use Rattle.sms_store_tables.proofs.handset.Parameters.{bound_optional, ran_with}
 
 pub returns-clause-done : goal.returns-clause-done
 returns-clause-done g c clean live inside =

@@ -1,6 +1,7 @@
 use Rattle.std.proofs.Common.{refl}
-use Rattle.sms_store_tables.proofs.centre.Parameters.{bound_reference, bound_tpdu, ran_with}
+use Rattle.sms_store_tables.proofs.centre.Parameters.{bound_reference, bound_tpdu}
 use Rattle.sms_store_tables.proofs.centre.reports.ReportRowStoredRowCentreStore.write.Goals as goal
+use Rattle.sms_store_tables.proofs.handset.Parameters.{ran_with}
 
 pub returns-clause-done : goal.returns-clause-done
 returns-clause-done g c clean live inside =
