@@ -46,8 +46,7 @@ impl<'a> CentreDraft<'a> {
             → OnOk result (Represents (in_store (with_part_at p progress.now d.store) d) self.new) }
     {
         self.messages.amend_part(entry, progress)?;
-        self.queues
-            .remove(message.handset, entry.id, entry.number)?;
+        self.queues.remove(message.handset, entry.id, entry.number)?;
         Ok(())
     }
 

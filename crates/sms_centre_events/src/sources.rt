@@ -11,9 +11,7 @@ fn names_number(number: &Msisdn, address: &Option<Address>) -> bool
     ensures { result ≡ names_number_of number.now address.now }
 {
     match address {
-        Some(address) => {
-            address.names_handset() && number.is_spelled(address.digits.as_slice())
-        }
+        Some(address) => { address.names_handset() && number.is_spelled(address.digits.as_slice()) }
         None => false,
     }
 }

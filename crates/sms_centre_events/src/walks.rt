@@ -7,8 +7,8 @@ ghost use Rattle.sms_centre_spec.specs.Draft.{Draft};
 ghost use Rattle.sms_centre_draft.specs.CentreDraft.{Represents};
 
 use crate::lines;
-use sms_centre_draft::walks::laws::{links_rise_where_found, timers_fire_at_those_found};
 use sms_centre_draft::CentreDraft;
+use sms_centre_draft::walks::laws::{links_rise_where_found, timers_fire_at_those_found};
 use sms_centre_queue::queues::{Concern, ConcernedHandset};
 use std::alloc::AllocError;
 

@@ -16,7 +16,9 @@ pub fn is_event(event: &CentreEvent<'_>)
 {
     match event {
         CentreEvent::Frame {
-            handset, octets, ..
+            handset,
+            octets,
+            ..
         } => {
             handset.spells_a_number();
             are_octets(octets.as_slice());

@@ -88,4 +88,3 @@ module _ (ms : List MessageRow) (w : List ℕ → List QueuedPart) where
     λ other ne. cond-false (reports_to other r (message_at r.id ms)) (put queued_key (report_queued r) (with_reports other ms rs (w other))) (with_reports other ms rs (w other))
         (ap (λ (o : Option MessageRow). reports_to other r o) found ∙ reports_other other r m ne),
   )
-

@@ -15,8 +15,7 @@ fn is_mentioned(references: &Table<ReferenceRow>, handset: &HandsetRow) -> bool
 {
     let last = Key::pair(u64::from(handset.place), handset.last_reference);
     passes(&handset.number);
-    0 < handset.place
-        && (is_octet(handset.last_reference) && references.find(last).is_some())
+    0 < handset.place && (is_octet(handset.last_reference) && references.find(last).is_some())
 }
 
 /// Whether each handset has a place and a number that can be written, and its last reference was given.

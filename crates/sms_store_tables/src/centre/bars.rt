@@ -7,8 +7,8 @@ use crate::key::{integer_of, place_value};
 use sms_centre_rows::messages::BarRow;
 use sms_rows::table::Key;
 use sms_store_sql::listing::{
-    StoredRow, address_at, flag_at, handset_at, handset_text, number_at, run, run_counted, short_at,
-    text_of,
+    StoredRow, address_at, flag_at, handset_at, handset_text, number_at, run, run_counted,
+    short_at, text_of,
 };
 use sqlite::{Alter, Error, Row, Transaction, params};
 use std::alloc::Global;
