@@ -5,10 +5,7 @@ use Rattle.std.proofs.Math.Nat.{eq-or-lt_of_le}
 use Rattle.std.proofs.lemmas.Bool.{cond-false, cond-true, or_parts, cond_both, and_parts, leb-true, ltb-true}
 use Rattle.sms_base.specs.Among.{Among}
 use Rattle.sms_base.specs.declared.holder.Holder.{Holder}
-use Rattle.sms_base.specs.declared.holder.Holder.TheVariants.{Part as PartHolder, Report, Entry as EntryHolder, Memory}
 use Rattle.sms_base.specs.declared.address.Address.{Address}
-use Rattle.sms_base.specs.declared.address_error.AddressError.{AddressError}
-use Rattle.sms_base.specs.Address.{address_of}
 use Rattle.sms_rows.proofs.table.Tables.{put_among}
 use Rattle.sms_rows.specs.declared.table.change.Change.TheVariants.{Put}
 use Rattle.sms_rows.specs.declared.table.change.Change.{Change}
@@ -23,17 +20,10 @@ use Rattle.sms_alphabet.specs.declared.concat_key.ConcatReference.TheVariants.{E
 use Rattle.sms_alphabet.specs.declared.element.Element.{Element}
 use Rattle.sms_alphabet.specs.declared.header_error.HeaderError.{HeaderError}
 use Rattle.sms_alphabet.specs.HeaderGrammar.{header_at}
-use Rattle.sms_concat.specs.declared.split_error.SplitError.{SplitError}
-use Rattle.sms_concat.specs.Splitting.{split_of}
-use Rattle.sms_control.specs.LinkStep.{is_busy}
-use Rattle.sms_control.specs.Timers.{later as later_moment}
 use Rattle.sms_relay.specs.declared.fault.RelayFault.{RelayFault}
 use Rattle.sms_relay.specs.declared.frame.Rp.{Rp}
 use Rattle.sms_relay.specs.declared.frame.Rp.TheVariants.{DataUnit, AckUnit, ErrorUnit, Smma}
 use Rattle.sms_relay.specs.RelayReading.{down_at as unit_at}
-use Rattle.sms_link.specs.Timers.{tram}
-use Rattle.sms_link.specs.declared.ending.Ending.{Ending}
-use Rattle.sms_link.specs.declared.ending.Ending.TheVariants.{Acknowledged as AcknowledgedEnd, Refused as RefusedEnd, Wrong as WrongEnd, Lost as LostEnd}
 use Rattle.sms_link.specs.declared.ending.Upward.{Upward}
 use Rattle.sms_link.specs.declared.ending.Upward.TheVariants.{Opened, Ended}
 use Rattle.sms_link.specs.LinkTurn.{Turn, taken, fired}
@@ -43,34 +33,26 @@ use Rattle.sms_tpdu.specs.declared.down.Down.TheVariants.{Deliver, StatusReport,
 use Rattle.sms_tpdu.specs.TpduReading.{down_at}
 use Rattle.sms_tpdu.specs.declared.down.Down.{Down}
 use Rattle.sms_tpdu.specs.declared.fault.TpduFault.{TpduFault}
-use Rattle.sms_handset_rows.specs.inbox.Groups.{with_part, entry_part, part_with, parts_to, is_among, part_number, part_numbers, joined_parts, alone, joined_content, joined_entry, part_entry, all_numbers, single_entry, group_of, key_of, mark_of, members, is_open_part, first_number}
+use Rattle.sms_handset_rows.specs.inbox.Groups.{with_part, entry_part, part_with, parts_to, is_among, part_number, part_numbers, joined_parts, alone, joined_content, joined_entry, part_entry, all_numbers, single_entry, group_of, key_of, mark_of, members}
 use Rattle.sms_handset_rows.specs.declared.inbox.entry.Entry.{Entry}
 use Rattle.sms_handset_rows.specs.inbox.Keys.{entry_key, last_key}
 use Rattle.sms_handset_rows.specs.declared.inbox.entry.Group.{Group}
 use Rattle.sms_handset_rows.specs.declared.inbox.discarded_group.DiscardedGroup.{DiscardedGroup}
 use Rattle.sms_handset_rows.specs.declared.inbox.last_accepted.LastAccepted.{LastAccepted}
 use Rattle.sms_handset_rows.specs.inbox.Doubles.{is_double}
-use Rattle.sms_handset_rows.specs.declared.inbox.entry.Message.{Message}
-use Rattle.sms_handset_rows.specs.declared.inbox.entry.Message.TheVariants.{Single, Part, Joined}
 use Rattle.sms_handset_rows.specs.declared.outbox.out_entry.OutEntry.{OutEntry}
 use Rattle.sms_handset_rows.specs.outbox.Reports.{reported}
-use Rattle.sms_handset_rows.specs.outbox.Settling.{is_sending, lost}
-use Rattle.sms_handset_rows.specs.outbox.Offers.{first_due, first_fired}
-use Rattle.sms_handset_rows.specs.outbox.References.{held_references, next_free, is_unfinished}
-use Rattle.sms_handset_rows.specs.declared.outbox.notice.Notice.{Notice}
-use Rattle.sms_handset_rows.specs.outbox.Keys.{notice_key, out_key}
-use Rattle.sms_concat.specs.TextContent.{content_of_text}
 use Rattle.sms_handset.specs.Accepted.{Contains, IsPut, StoresAccepted, IsOfDiscarded}
-use Rattle.sms_handset_draft.specs.Draft.{Draft, put_entry, remove_entry, put_mark, remove_mark, put_out, Core, draft_of, link_of, with_turn, remove_out, put_counters}
+use Rattle.sms_handset_draft.specs.Draft.{Draft, put_entry, put_out, Core, draft_of, link_of, with_turn}
 use Rattle.sms_handset_draft.specs.Storing.{free_all, drop_all, ended, count_entry, keep, store_part, store_single, completed, marked}
 use Rattle.sms_handset_draft.specs.Receiving.{accept, no_room, single_received, new_part_received, member_received, part_received, deliver_received, note, tpdu_received, acknowledge, data_received, unit_received}
-use Rattle.sms_handset_draft.specs.MemoryAvailable.{has_room, first_notice, notice_failed, put_notice, remove_notice, notice_ended, notice_concluded, freed, want_notice}
-use Rattle.sms_handset_draft.specs.Outbox.{lapse_rows, lapse, offer_entry, is_notice_next, offer_message, offer_wanted, offer_after, follow, offer, entry_concluded, holder_concluded, transfer_ended}
-use Rattle.sms_handset_draft.specs.FramesAndTicks.{went_up, frame_heard, timed_out, at_moment, timers_fired}
+use Rattle.sms_handset_draft.specs.MemoryAvailable.{has_room}
+use Rattle.sms_handset_draft.specs.Outbox.{lapse_rows, lapse, follow, transfer_ended}
+use Rattle.sms_handset_draft.specs.FramesAndTicks.{went_up, frame_heard, at_moment, timers_fired}
 use Rattle.sms_handset.specs.HandsetEvent.{frame_received, ticked, acted, wrote, deleted, discarded}
 use Rattle.sms_handset.specs.declared.refusal.Refusal.{Refusal}
-use Rattle.sms_handset.specs.OwnersActs.{write_part, write_parts, count_split, fits_outbox, write_to, written, write_split, delete_out, delete_in, discard_group, discard_members, discard_in, discard_at, write, delete, discard}
-use Rattle.sms_handset.specs.declared.refusal.Refusal.TheVariants.{OutboxFull, StillOpen, NoEntry, TooManyDiscarded}
+use Rattle.sms_handset.specs.OwnersActs.{count_split, write, delete, discard}
+use Rattle.sms_handset.proofs.KeptByStages.{AnyEntry, AnyTransfer, IfDone, KeptByEnds, KeptByMoves, KeptByOffers, KeptByWriting, acted_keeps, any_up, complete_keeps, delete_keeps, discard_keeps, holder_keeps, lapse_keeps, lapses_each, mark_keeps, offer_keeps, timers_keep, write_keeps}
 
 -- ---- lists
 
@@ -158,6 +140,45 @@ part_stores g n tpdu m es d low high from new =
 single_stores : (tpdu : List ℕ) (m : DeliverOf) (d : Draft) → Stored (store_single tpdu d) tpdu m
 single_stores tpdu m d = (single_entry d.rows.counters.entry tpdu, (put_holds (single_entry d.rows.counters.entry tpdu) (count_entry d), refl))
 
+-- ---- what accepts nothing
+
+abbrev NoneAccepted : Draft → Type 0
+NoneAccepted d = d.changes.last ≡ []
+
+ends_accept_none : KeptByEnds NoneAccepted AnyTransfer
+ends_accept_none = record {
+  entry_settled = λ v reference n o d s e h. h;
+  notice_put = λ n is_second due d i h. h;
+  notice_removed = λ n d h. h;
+}
+
+-- as long as no unit is answered
+abbrev NoReference : ℕ → Type 0
+NoReference reference = ⊥
+
+abbrev NoUnit : List ℕ → Result Rp RelayFault → Type 0
+NoUnit unit r = ⊥
+
+none_kept : KeptByMoves NoneAccepted NoReference NoUnit AnyTransfer
+none_kept = record {
+  ends = ends_accept_none;
+  entry_put = λ e d h. h;
+  entry_removed = λ n d h. h;
+  last_put = λ l d no h. absurd no;
+  mark_put = λ m d h. h;
+  mark_removed = λ n d h. h;
+  entry_counted = λ d h. h;
+  memory_flagged = λ is_full d h. h;
+  data_answered = λ unit reference centre tpdu no. no;
+  fault_answered = λ unit fault no. no;
+  acknowledged = λ reference tag d no h. absurd no;
+  full = λ reference tag d no h. absurd no;
+  unreadable = λ reference tag d no h. absurd no;
+  rejected = λ reference tag fault d no h. absurd no;
+  status_noted = λ o status d i h. h;
+  notice_wanted = λ d h. h;
+}
+
 -- ---- what is accepted
 
 abbrev Law : List DiscardedGroup → Draft → Type 0
@@ -199,21 +220,7 @@ single_law marks r tag tpdu d e =
 
 -- the changes of what was accepted last are not touched by storing
 completed_last : (g : Group) (es : List Entry) (d : Draft) → d.changes.last ≡ [] → (completed g es d).changes.last ≡ []
-completed_last g es d e =
-    cond_both (all_numbers g.total (part_numbers es)) (ended g es (joined_content g es) d) d (λ (z : Draft). z.changes.last ≡ [])
-    (λ t. ended_last g es (joined_content g es) d e) (λ t. e)
-  where
-    dropped_last : (es : List Entry) (d : Draft) → d.changes.last ≡ [] → (drop_all es d).changes.last ≡ []
-    dropped_last [] d e = e
-    dropped_last (x ∷ xs) d e = dropped_last xs (remove_entry x.number d) e
-
-    freed_last_too : (es : List Entry) (d : Draft) → d.changes.last ≡ [] → (free_all es d).changes.last ≡ []
-    freed_last_too [] d e = e
-    freed_last_too (x ∷ xs) d e = freed_last_too xs (put_entry (alone x) d) e
-
-    ended_last : (g : Group) (es : List Entry) (o : Option Content) (d : Draft) → d.changes.last ≡ [] → (ended g es o d).changes.last ≡ []
-    ended_last g es None d e = freed_last_too es d e
-    ended_last g es (Some c) d e = dropped_last es d e
+completed_last g es d e = complete_keeps NoneAccepted NoReference NoUnit AnyTransfer none_kept g es d e
 
 new_part_law : (marks : List DiscardedGroup) (r : ℕ) (tag : Holder) (tpdu : List ℕ) (m : DeliverOf) (g : Group) (n : ℕ) (es : List Entry) (d : Draft) → d.changes.last ≡ []
     → Reads tpdu m → 0 < n → n ≤ g.total → g.source ≡ m.originating_address → is_among n (part_numbers es) ≡ false → Law marks (new_part_received r tag tpdu g n es d)
@@ -230,7 +237,7 @@ member_law marks r tag tpdu m g n es d e reads low high from =
     (λ t. single_law marks r tag tpdu d e) (λ t. new_part_law marks r tag tpdu m g n es d e reads low high from t)
 
 marked_last : (n : ℕ) (k : DiscardedGroup) (d : Draft) → d.changes.last ≡ [] → (marked n k d).changes.last ≡ []
-marked_last n k d e = cond_both (all_numbers k.group.total (k.seen ++ n ∷ [])) (remove_mark k.number d) (put_mark (record k { seen = k.seen ++ n ∷ [] }) d) (λ (z : Draft). z.changes.last ≡ []) (λ t. e) (λ t. e)
+marked_last n k d e = mark_keeps NoneAccepted NoReference NoUnit AnyTransfer none_kept n k d e
 
 part_law : (marks : List DiscardedGroup) (r : ℕ) (tag : Holder) (tpdu : List ℕ) (m : DeliverOf) (key : ConcatKey) (o : Option DiscardedGroup) (d : Draft) → d.changes.last ≡ []
     → Reads tpdu m → key_of m ≡ Some key → mark_of (group_of m.originating_address key) marks ≡ o → 0 < key.number → key.number ≤ key.total
@@ -339,79 +346,45 @@ pub record Untouched (d z : Draft) : Type 0 where
 pub kept : (d : Draft) → Untouched d d
 kept d = record { entries = refl; changed = refl; last = refl; number = refl }
 
-kept_then : (d e z : Draft) → Untouched d e → Untouched e z → Untouched d z
-kept_then d e z a b = record { entries = b.entries ∙ a.entries; changed = b.changed ∙ a.changed; last = b.last ∙ a.last; number = b.number ∙ a.number }
-
 preserved_law : (marks : List DiscardedGroup) (d z : Draft) → Untouched d z → Law marks d → Law marks z
 preserved_law marks d z k h l a m f =
     ⊎_elim (λ (x : IsOfDiscarded marks m). inl x)
     (λ (x : Stored d l.tpdu m). inr (x.0, ((subst (λ (cs : List (Change Entry)). Among (Put x.0) cs) (sym k.changed) x.1.0.0, subst (λ (es : List Entry). Among x.0 es) (sym k.entries) x.1.0.1), x.1.1)))
     (h l (subst (λ (cs : List (Change LastAccepted)). Among (Put l) cs) k.last a) m f)
 
-lapse_rows_preserved : (os : List OutEntry) (d : Draft) → Untouched d (lapse_rows os d)
-lapse_rows_preserved [] d = kept d
-lapse_rows_preserved (o ∷ os) d =
-    let e : Draft = cond (is_sending o.state) (put_out (lost o) d) d in
-    kept_then d e (lapse_rows os e)
-    (cond_both (is_sending o.state) (put_out (lost o) d) d (λ (z : Draft). Untouched d z) (λ t. record { entries = refl; changed = refl; last = refl; number = refl }) (λ t. kept d))
-    (lapse_rows_preserved os e)
+-- an entry of the outbox, a link and RP-SMMA are none of these
+out_untouched : (d : Draft) (o : OutEntry) (z : Draft) → AnyEntry o → Untouched d z → Untouched d (put_out o z)
+out_untouched d o z known k = record { entries = k.entries; changed = k.changed; last = k.last; number = k.number }
 
-lapse_preserved : (d : Draft) → Untouched d (lapse d)
-lapse_preserved d =
-    cond_both d.is_recovered (lapse_rows d.rows.outbox (record d { is_recovered = false })) d (λ (z : Draft). Untouched d z)
-    (λ t. let k = lapse_rows_preserved d.rows.outbox (record d { is_recovered = false }) in record { entries = k.entries; changed = k.changed; last = k.last; number = k.number })
-    (λ t. kept d)
+pub ends_untouched : (d : Draft) → KeptByEnds (Untouched d) AnyTransfer
+ends_untouched d = record {
+  entry_settled = λ v reference n o z s e k. record { entries = k.entries; changed = k.changed; last = k.last; number = k.number };
+  notice_put = λ n is_second due z i k. record { entries = k.entries; changed = k.changed; last = k.last; number = k.number };
+  notice_removed = λ n z k. record { entries = k.entries; changed = k.changed; last = k.last; number = k.number };
+}
 
-offer_entry_preserved : (o : Option OutEntry) (d : Draft) → Untouched d (offer_entry o d)
-offer_entry_preserved None d = kept d
-offer_entry_preserved (Some o) d = record { entries = refl; changed = refl; last = refl; number = refl }
+lapsed_untouched : (d z : Draft) → Untouched d z → Untouched d (lapse_rows z.rows.outbox (record z { is_recovered = false }))
+lapsed_untouched d z k =
+    lapses_each (Untouched d) AnyEntry (λ o known. tt) (out_untouched d) z.rows.outbox (record z { is_recovered = false }) (λ o i. tt)
+    (record { entries = k.entries; changed = k.changed; last = k.last; number = k.number })
 
-offer_wanted_preserved : (d : Draft) → Untouched d (offer_wanted d)
-offer_wanted_preserved d =
-    cond_both (is_notice_next d)
-    (first_notice d.rows.counters.notice (next_free d.rows.counters.reference (held_references d.notices d.rows.outbox)) d) (offer_message d) (λ (z : Draft). Untouched d z)
-    (λ t. record { entries = refl; changed = refl; last = refl; number = refl }) (λ t. offer_entry_preserved (first_due d.moment d.rows.outbox) d)
-
-offer_after_preserved : (n : Option Notice) (d : Draft) → Untouched d (offer_after n d)
-offer_after_preserved None d = offer_wanted_preserved d
-offer_after_preserved (Some n) d = record { entries = refl; changed = refl; last = refl; number = refl }
+offers_untouched : (d : Draft) → KeptByOffers (Untouched d) (Untouched d)
+offers_untouched d = record {
+  nothing = λ z k. k;
+  entry = λ o z due idle k. record { entries = k.entries; changed = k.changed; last = k.last; number = k.number };
+  notice_again = λ n z i idle k. record { entries = k.entries; changed = k.changed; last = k.last; number = k.number };
+  notice_first = λ z next idle k. record { entries = k.entries; changed = k.changed; last = k.last; number = k.number };
+}
 
 pub follow_preserved : (d : Draft) → Untouched d (follow d)
-follow_preserved d =
-    let e : Draft = lapse d in
-    kept_then d e (offer e) (lapse_preserved d)
-    (cond_both (is_busy e.links) e (offer_after (first_fired e.moment e.notices) e) (λ (z : Draft). Untouched e z) (λ t. kept e) (λ t. offer_after_preserved (first_fired e.moment e.notices) e))
+follow_preserved d = offer_keeps (Untouched d) (Untouched d) (offers_untouched d) (lapse d) (lapse_keeps (Untouched d) (lapsed_untouched d) d (kept d))
 
 -- ---- a frame
-
-notice_failed_none : (n : Notice) (d : Draft) → d.changes.last ≡ [] → (notice_failed n d).changes.last ≡ []
-notice_failed_none n d e =
-    cond_both n.is_second (remove_notice n.number d) (put_notice (record n { is_second = true; due = Some (later_moment d.moment tram) }) d) (λ (z : Draft). z.changes.last ≡ []) (λ t. e) (λ t. e)
-
-notice_none : (v : Ending) (n : Notice) (d : Draft) → d.changes.last ≡ [] → (notice_ended v n d).changes.last ≡ []
-notice_none AcknowledgedEnd n d e = e
-notice_none (RefusedEnd cause tpdu) n d e = notice_failed_none n d e
-notice_none WrongEnd n d e = notice_failed_none n d e
-notice_none LostEnd n d e = notice_failed_none n d e
-
-concluded_none : (v : Ending) (n : Option Notice) (d : Draft) → d.changes.last ≡ [] → (notice_concluded v n d).changes.last ≡ []
-concluded_none v None d e = e
-concluded_none v (Some n) d e = notice_none v n d e
-
-entry_none : (v : Ending) (o : Option OutEntry) (d : Draft) → d.changes.last ≡ [] → (entry_concluded v o d).changes.last ≡ []
-entry_none v None d e = e
-entry_none v (Some o) d e = e
-
-holder_none : (v : Ending) (k : Holder) (d : Draft) → d.changes.last ≡ [] → (holder_concluded v k d).changes.last ≡ []
-holder_none v (PartHolder i n) d e = e
-holder_none v (Report i) d e = e
-holder_none v (EntryHolder n) d e = entry_none v (row_at out_key n d.rows.outbox) d e
-holder_none v (Memory n) d e = concluded_none v (row_at notice_key n d.notices) d e
 
 up_law : (marks : List DiscardedGroup) (tag : Holder) (up : Option Upward) (d : Draft) → d.changes.last ≡ [] → d.rows.marks ≡ marks → Law marks (went_up tag up d)
 up_law marks tag None d e same = none_accepted marks d e
 up_law marks tag (Some (Opened unit)) d e same = unit_law marks tag unit (unit_at unit) d e same
-up_law marks tag (Some (Ended transfer ending)) d e same = none_accepted marks (transfer_ended transfer ending d) (holder_none ending transfer.tag d e)
+up_law marks tag (Some (Ended transfer ending)) d e same = none_accepted marks (transfer_ended transfer ending d) (holder_keeps NoneAccepted AnyTransfer ends_accept_none ending transfer.reference transfer.tag d tt e)
 
 pub frame_stores : (octets : List ℕ) (tag : Holder) (c : Core) → StoresAccepted c.rows.marks (frame_received octets tag c).changes (frame_received octets tag c).rows
 frame_stores octets tag c =
@@ -421,90 +394,36 @@ frame_stores octets tag c =
 
 -- ---- other events accept nothing
 
-timed_out_none : (up : Option Upward) (d : Draft) → d.changes.last ≡ [] → (timed_out up d).changes.last ≡ []
-timed_out_none None d e = e
-timed_out_none (Some (Opened unit)) d e = e
-timed_out_none (Some (Ended transfer ending)) d e = holder_none ending transfer.tag d e
-
 pub tick_stores : (now : ℕ) (c : Core) → StoresAccepted c.rows.marks (ticked now c).changes (ticked now c).rows
 tick_stores now c =
     let o : Draft = at_moment now (draft_of c) in
     let turn : Turn = fired o.moment (link_of o) in
     let d : Draft = timers_fired turn o in
-    preserved_law c.rows.marks d (follow d) (follow_preserved d) (none_accepted c.rows.marks d (timed_out_none turn.out.up (with_turn turn o) refl))
-
-abbrev NoneIfDone : Result Draft Refusal → Type 0
-NoneIfDone (Ok d) = d.changes.last ≡ []
-NoneIfDone (Err refusal) = Unit {0}
+    preserved_law c.rows.marks d (follow d) (follow_preserved d) (none_accepted c.rows.marks d (timers_keep NoneAccepted AnyTransfer ends_accept_none turn o (any_up turn.out.up (with_turn turn o)) refl))
 
 abbrev pub LawIfDone : List DiscardedGroup → Result Draft Refusal → Type 0
-LawIfDone marks (Ok d) = StoresAccepted marks d.changes d.rows
-LawIfDone marks (Err refusal) = Unit {0}
+LawIfDone marks r = IfDone (Law marks) r
 
-acted_law : (marks : List DiscardedGroup) (r : Result Draft Refusal) → NoneIfDone r → LawIfDone marks (acted r)
-acted_law marks (Ok d) e = preserved_law marks d (follow d) (follow_preserved d) (none_accepted marks d e)
-acted_law marks (Err f) e = tt
+acted_law : (marks : List DiscardedGroup) (r : Result Draft Refusal) → IfDone NoneAccepted r → LawIfDone marks (acted r)
+acted_law marks r h = acted_keeps NoneAccepted (Law marks) (λ d e. preserved_law marks d (follow d) (follow_preserved d) (none_accepted marks d e)) r h
 
-write_parts_none : (to : Address) (report is_long : Bool) (ps : List PartOf) (d : Draft) → d.changes.last ≡ [] → (write_parts to report is_long ps d).changes.last ≡ []
-write_parts_none to report is_long [] d e = e
-write_parts_none to report is_long (p ∷ ps) d e = write_parts_none to report is_long ps (write_part to report is_long p d) e
+abbrev NoneWritten : Address → Bool → Bool → List PartOf → Draft → Type 0
+NoneWritten to report is_long ps d = NoneAccepted d
 
-count_split_none : (is_long : Bool) (d : Draft) → d.changes.last ≡ [] → (count_split is_long d).changes.last ≡ []
-count_split_none false d e = e
-count_split_none true d e = e
+writes_accept_none : KeptByWriting NoneAccepted NoneWritten
+writes_accept_none = record { one = λ to report is_long p ps d h. h; all = λ to report is_long d h. h }
 
-write_to_none : (report : Bool) (ps : List PartOf) (to : Result Address AddressError) (d : Draft) → d.changes.last ≡ [] → NoneIfDone (write_to report ps to d)
-write_to_none report ps (Err f) d e = tt
-write_to_none report ps (Ok to) d e =
-    let is_long : Bool = nat_lt 1 (length ps) in
-    cond_both (fits_outbox (length ps) d) (Ok (written to report ps d)) (Err OutboxFull) (λ (z : Result Draft Refusal). NoneIfDone z)
-    (λ t. write_parts_none to report is_long ps (count_split is_long d) (count_split_none is_long d e)) (λ t. tt)
-
-write_split_none : (to : List ℕ) (report : Bool) (ps : Result (List PartOf) SplitError) (d : Draft) → d.changes.last ≡ [] → NoneIfDone (write_split to report ps d)
-write_split_none to report (Err f) d e = tt
-write_split_none to report (Ok ps) d e = write_to_none report ps (address_of 1 1 to) d e
-
-delete_out_none : (n : ℕ) (o : Option OutEntry) (d : Draft) → d.changes.last ≡ [] → NoneIfDone (delete_out n o d)
-delete_out_none n None d e = tt
-delete_out_none n (Some o) d e = cond_both (is_unfinished o.state) (Err StillOpen) (Ok (remove_out n d)) (λ (z : Result Draft Refusal). NoneIfDone z) (λ t. tt) (λ t. e)
-
-freed_none : (d : Draft) → d.changes.last ≡ [] → (freed d).changes.last ≡ []
-freed_none d e =
-    cond_both d.rows.counters.is_memory_full (want_notice (put_counters (record d.rows.counters { is_memory_full = false }) d)) d (λ (z : Draft). z.changes.last ≡ []) (λ t. e) (λ t. e)
-
-delete_in_none : (n : ℕ) (o : Option Entry) (d : Draft) → d.changes.last ≡ [] → NoneIfDone (delete_in n o d)
-delete_in_none n None d e = delete_out_none n (row_at out_key n d.rows.outbox) d e
-delete_in_none n (Some x) d e =
-    cond_both (is_open_part x.message) (Err StillOpen) (Ok (freed (remove_entry n d))) (λ (z : Result Draft Refusal). NoneIfDone z)
-    (λ t. tt) (λ t. freed_none (remove_entry n d) e)
-
-dropped_none : (es : List Entry) (d : Draft) → d.changes.last ≡ [] → (drop_all es d).changes.last ≡ []
-dropped_none [] d e = e
-dropped_none (x ∷ xs) d e = dropped_none xs (remove_entry x.number d) e
-
-discard_members_none : (n : ℕ) (g : Group) (es : List Entry) (d : Draft) → d.changes.last ≡ [] → NoneIfDone (discard_members n g es d)
-discard_members_none n g es d e =
-    cond_both (first_number es == n) (cond (nat_lt (length d.rows.marks) 64) (Ok (discard_group n g es d)) (Err TooManyDiscarded)) (Err NoEntry) (λ (z : Result Draft Refusal). NoneIfDone z)
-    (λ t. cond_both (nat_lt (length d.rows.marks) 64) (Ok (discard_group n g es d)) (Err TooManyDiscarded) (λ (z : Result Draft Refusal). NoneIfDone z)
-    (λ u. freed_none (put_mark (record { number = n; group = g; seen = part_numbers es }) (drop_all es d)) (dropped_none es d e)) (λ u. tt))
-    (λ t. tt)
-
-discard_in_none : (n : ℕ) (m : Message) (d : Draft) → d.changes.last ≡ [] → NoneIfDone (discard_in n m d)
-discard_in_none n (Single tpdu) d e = tt
-discard_in_none n (Part g k tpdu) d e = discard_members_none n g (members g d.rows.entries) d e
-discard_in_none n (Joined source content) d e = tt
-
-discard_at_none : (n : ℕ) (o : Option Entry) (d : Draft) → d.changes.last ≡ [] → NoneIfDone (discard_at n o d)
-discard_at_none n None d e = tt
-discard_at_none n (Some x) d e = discard_in_none n x.message d e
+count_split_none : (is_long : Bool) (d : Draft) → NoneAccepted d → NoneAccepted (count_split is_long d)
+count_split_none false d h = h
+count_split_none true d h = h
 
 pub write_stores : (text to : List ℕ) (report : Bool) (c : Core) → LawIfDone c.rows.marks (wrote text to report c)
 write_stores text to report c =
     acted_law c.rows.marks (write text to report (draft_of c))
-    (write_split_none to report (split_of (content_of_text text) c.rows.counters.concat_reference) (draft_of c) refl)
+    (write_keeps NoneAccepted NoneWritten writes_accept_none text to report (draft_of c) (λ ps a split_is to_is room. count_split_none (nat_lt 1 (length ps)) (draft_of c) refl))
 
 pub delete_stores : (n : ℕ) (c : Core) → LawIfDone c.rows.marks (deleted n c)
-delete_stores n c = acted_law c.rows.marks (delete n (draft_of c)) (delete_in_none n (row_at entry_key n c.rows.entries) (draft_of c) refl)
+delete_stores n c = acted_law c.rows.marks (delete n (draft_of c)) (delete_keeps NoneAccepted NoReference NoUnit AnyTransfer none_kept n (draft_of c) refl refl)
 
 pub discard_stores : (n : ℕ) (c : Core) → LawIfDone c.rows.marks (discarded n c)
-discard_stores n c = acted_law c.rows.marks (discard n (draft_of c)) (discard_at_none n (row_at entry_key n c.rows.entries) (draft_of c) refl)
+discard_stores n c = acted_law c.rows.marks (discard n (draft_of c)) (discard_keeps NoneAccepted NoReference NoUnit AnyTransfer none_kept n (draft_of c) refl)

@@ -5,26 +5,17 @@ use Rattle.std.specs.Prelude.{◌==◌, nat_lt, length}
 use Rattle.std.proofs.lemmas.Bool.{cond_both, cond-false, cond-true}
 use Rattle.sms_base.specs.Among.{Among}
 use Rattle.sms_base.specs.declared.holder.Holder.{Holder}
-use Rattle.sms_base.specs.declared.holder.Holder.TheVariants.{Part as PartHolder, Report, Entry as EntryHolder, Memory}
 use Rattle.sms_base.specs.declared.address.Address.{Address}
-use Rattle.sms_base.specs.declared.address_error.AddressError.{AddressError}
-use Rattle.sms_base.specs.Address.{address_of}
 use Rattle.sms_rows.specs.table.Table.{without, insert, put, Rises, row_at}
 use Rattle.sms_rows.proofs.table.Tables.{insert_behind, without_behind, rises_without, rises_put, found_among, found_key}
 use Rattle.sms_concat.specs.declared.content.Content.{Content}
 use Rattle.sms_alphabet.specs.declared.concat_key.ConcatKey.{ConcatKey}
 use Rattle.sms_concat.specs.declared.content.Part.{Part as PartOf}
-use Rattle.sms_concat.specs.declared.split_error.SplitError.{SplitError}
-use Rattle.sms_concat.specs.Splitting.{split_of}
-use Rattle.sms_control.specs.Timers.{later as later_moment}
 use Rattle.sms_relay.specs.declared.fault.RelayFault.{RelayFault}
 use Rattle.sms_relay.specs.declared.frame.Rp.{Rp}
 use Rattle.sms_relay.specs.declared.frame.Rp.TheVariants.{DataUnit, AckUnit, ErrorUnit, Smma}
 use Rattle.sms_relay.specs.RelayReading.{down_at as unit_at}
 use Rattle.sms_link.specs.declared.ending.Upward.TheVariants.{Opened, Ended}
-use Rattle.sms_link.specs.Timers.{tram}
-use Rattle.sms_link.specs.declared.ending.Ending.{Ending}
-use Rattle.sms_link.specs.declared.ending.Ending.TheVariants.{Acknowledged as AcknowledgedEnd, Refused as RefusedEnd, Wrong as WrongEnd, Lost as LostEnd}
 use Rattle.sms_link.specs.declared.ending.Upward.{Upward}
 use Rattle.sms_link.specs.LinkTurn.{Turn, taken, fired}
 use Rattle.sms_tpdu.specs.declared.deliver.Deliver.{Deliver as DeliverOf}
@@ -50,27 +41,26 @@ use Rattle.sms_handset_rows.specs.declared.inbox.entry.Message.{Message}
 use Rattle.sms_handset_rows.specs.declared.inbox.entry.Message.TheVariants.{Single, Part, Joined}
 use Rattle.sms_handset_rows.specs.declared.outbox.out_entry.OutEntry.{OutEntry}
 use Rattle.sms_handset_rows.specs.outbox.Reports.{reported}
-use Rattle.sms_handset_rows.specs.declared.outbox.notice.Notice.{Notice}
-use Rattle.sms_handset_rows.specs.outbox.Keys.{notice_key, out_key}
+use Rattle.sms_handset_rows.specs.outbox.Keys.{out_key}
 use Rattle.sms_handset_rows.specs.outbox.References.{is_unfinished}
-use Rattle.sms_concat.specs.TextContent.{content_of_text}
 use Rattle.sms_handset_draft.specs.declared.rows.Rows.{Rows}
 use Rattle.sms_handset_draft.specs.Regrouping.{Numbered, Regroups, IsRegrouped}
 use Rattle.sms_handset.specs.SoundRows.{IsSound}
 use Rattle.sms_handset_draft.specs.Draft.{Draft, remove_entry, put_entry, put_mark, remove_mark, Core, draft_of, link_of, with_turn, remove_out, put_counters}
 use Rattle.sms_handset_draft.specs.Storing.{drop_all, free_all, ended, keep, store_single, store_part, marked}
 use Rattle.sms_handset_draft.specs.GroupChanges.{stored_groups, new_part_groups, member_groups, part_groups, deliver_groups, tpdu_groups, data_groups, unit_groups, up_groups, frame_groups}
-use Rattle.sms_handset.proofs.Accepting.{Untouched, follow_preserved}
-use Rattle.sms_handset_draft.specs.Outbox.{follow, entry_concluded, holder_concluded}
-use Rattle.sms_handset_draft.specs.MemoryAvailable.{has_room, notice_failed, put_notice, remove_notice, notice_ended, notice_concluded, freed, want_notice}
+use Rattle.sms_handset.proofs.Accepting.{Untouched, ends_untouched, follow_preserved, kept}
+use Rattle.sms_handset_draft.specs.Outbox.{follow, holder_concluded}
+use Rattle.sms_handset_draft.specs.MemoryAvailable.{has_room, freed, want_notice}
 use Rattle.sms_handset_draft.specs.Receiving.{accept, no_room, single_received, new_part_received, member_received, part_received, deliver_received, note, tpdu_received, acknowledge, data_received, unit_received}
-use Rattle.sms_handset_draft.specs.FramesAndTicks.{went_up, timed_out, frame_heard, at_moment, timers_fired}
+use Rattle.sms_handset_draft.specs.FramesAndTicks.{went_up, frame_heard, at_moment, timers_fired}
 use Rattle.sms_handset.specs.HandsetEvent.{frame_received, ticked, acted, wrote, deleted, discarded}
 use Rattle.sms_handset.specs.declared.refusal.Refusal.{Refusal}
-use Rattle.sms_handset.specs.OwnersActs.{write_part, write_parts, count_split, fits_outbox, write_to, written, write_split, delete_out, delete_in, discard_group, discard_members, discard_in, discard_at, write, delete, discard}
-use Rattle.sms_handset.specs.declared.refusal.Refusal.TheVariants.{OutboxFull, StillOpen, NoEntry, TooManyDiscarded}
+use Rattle.sms_handset.specs.OwnersActs.{write_part, count_split, delete_out, delete_in, discard_group, discard_members, discard_in, discard_at, write, delete, discard}
+use Rattle.sms_handset.specs.declared.refusal.Refusal.TheVariants.{StillOpen, NoEntry, TooManyDiscarded}
 use Rattle.sms_handset.specs.Planning.{IsRevised, IsRevisedIfDone}
 use Rattle.sms_handset.proofs.Resting.{write_rests, delete_rests, discard_rests}
+use Rattle.sms_handset.proofs.KeptByStages.{AnyTransfer, IfDone, KeptByWriting, acted_keeps, any_up, holder_keeps, timers_keep, write_keeps}
 
 -- ---- numbers that were given
 
@@ -388,42 +378,14 @@ unit_regroups tag unit (Ok (ErrorUnit r c tpdu)) d = nothing d.rows
 unit_regroups tag unit (Ok (Smma r)) d = nothing d.rows
 unit_regroups tag unit (Err f) d = nothing d.rows
 
--- ---- a transfer ends
-
-notice_failed_regroups : (n : Notice) (d : Draft) → Regroups Unchanged d.rows (notice_failed n d).rows
-notice_failed_regroups n d =
-    cond_both n.is_second (remove_notice n.number d) (put_notice (record n { is_second = true; due = Some (later_moment d.moment tram) }) d) (λ (z : Draft). Regroups Unchanged d.rows z.rows)
-    (λ t. nothing d.rows) (λ t. nothing d.rows)
-
-notice_regroups : (e : Ending) (n : Notice) (d : Draft) → Regroups Unchanged d.rows (notice_ended e n d).rows
-notice_regroups AcknowledgedEnd n d = nothing d.rows
-notice_regroups (RefusedEnd cause tpdu) n d = notice_failed_regroups n d
-notice_regroups WrongEnd n d = notice_failed_regroups n d
-notice_regroups LostEnd n d = notice_failed_regroups n d
-
-notice_concluded_regroups : (e : Ending) (n : Option Notice) (d : Draft) → Regroups Unchanged d.rows (notice_concluded e n d).rows
-notice_concluded_regroups e None d = nothing d.rows
-notice_concluded_regroups e (Some n) d = notice_regroups e n d
-
-entry_concluded_regroups : (e : Ending) (o : Option OutEntry) (d : Draft) → Regroups Unchanged d.rows (entry_concluded e o d).rows
-entry_concluded_regroups e None d = nothing d.rows
-entry_concluded_regroups e (Some o) d = nothing d.rows
-
-holder_concluded_regroups : (e : Ending) (k : Holder) (d : Draft) → Regroups Unchanged d.rows (holder_concluded e k d).rows
-holder_concluded_regroups e (PartHolder i n) d = nothing d.rows
-holder_concluded_regroups e (Report i) d = nothing d.rows
-holder_concluded_regroups e (EntryHolder n) d = entry_concluded_regroups e (row_at out_key n d.rows.outbox) d
-holder_concluded_regroups e (Memory n) d = notice_concluded_regroups e (row_at notice_key n d.notices) d
+-- ---- what goes up
 
 went_up_regroups : (tag : Holder) (up : Option Upward) (d : Draft) → Regroups (up_groups up d) d.rows (went_up tag up d).rows
 went_up_regroups tag None d = nothing d.rows
 went_up_regroups tag (Some (Opened unit)) d = unit_regroups tag unit (unit_at unit) d
-went_up_regroups tag (Some (Ended transfer ending)) d = holder_concluded_regroups ending transfer.tag d
-
-timed_out_regroups : (up : Option Upward) (d : Draft) → Regroups Unchanged d.rows (timed_out up d).rows
-timed_out_regroups None d = nothing d.rows
-timed_out_regroups (Some (Opened unit)) d = nothing d.rows
-timed_out_regroups (Some (Ended transfer ending)) d = holder_concluded_regroups ending transfer.tag d
+went_up_regroups tag (Some (Ended transfer ending)) d =
+    preserved_goes_on Unchanged d.rows d (holder_concluded ending transfer.tag d)
+    (holder_keeps (Untouched d) AnyTransfer (ends_untouched d) ending transfer.reference transfer.tag d tt (kept d)) (nothing d.rows)
 
 -- ---- frames and ticks
 
@@ -438,38 +400,33 @@ pub tick_regroups : (now : ℕ) (c : Core) → Regroups Unchanged c.rows (ticked
 tick_regroups now c =
     let d : Draft = at_moment now (draft_of c) in
     let turn : Turn = fired d.moment (link_of d) in
-    follow_regroups Unchanged c.rows (timers_fired turn d) (timed_out_regroups turn.out.up (with_turn turn d))
+    let e : Draft = with_turn turn d in
+    follow_regroups Unchanged c.rows (timers_fired turn d)
+    (preserved_goes_on Unchanged c.rows e (timers_fired turn d) (timers_keep (Untouched e) AnyTransfer (ends_untouched e) turn d (any_up turn.out.up e) (kept e)) (nothing c.rows))
 
 -- ---- acts of the owner
 
+abbrev RegroupsTo : Regrouping → Rows → Draft → Type 0
+RegroupsTo r base d = Regroups r base d.rows
+
 abbrev pub RegroupsIfDone : Regrouping → Rows → Result Draft Refusal → Type 0
-RegroupsIfDone r base (Ok d) = Regroups r base d.rows
-RegroupsIfDone r base (Err refusal) = Unit {0}
+RegroupsIfDone r base w = IfDone (RegroupsTo r base) w
 
 acted_regroups : (r : Regrouping) (base : Rows) (w : Result Draft Refusal) → RegroupsIfDone r base w → RegroupsIfDone r base (acted w)
-acted_regroups r base (Ok d) h = follow_regroups r base d h
-acted_regroups r base (Err f) h = tt
+acted_regroups r base w h = acted_keeps (RegroupsTo r base) (RegroupsTo r base) (follow_regroups r base) w h
 
-write_parts_regroups : (base : Rows) (to : Address) (report is_long : Bool) (ps : List PartOf) (d : Draft) → Regroups Unchanged base d.rows → Regroups Unchanged base (write_parts to report is_long ps d).rows
-write_parts_regroups base to report is_long [] d h = h
-write_parts_regroups base to report is_long (p ∷ ps) d h =
-    write_parts_regroups base to report is_long ps (write_part to report is_long p d)
-    (goes_on Unchanged base d (write_part to report is_long p d) refl (let l : d.rows.counters.entry ≤ d.rows.counters.entry + 1 = omega arith in l) h)
+abbrev RegroupsWritten : Rows → Address → Bool → Bool → List PartOf → Draft → Type 0
+RegroupsWritten base to report is_long ps d = Regroups Unchanged base d.rows
+
+writes_regroup : (base : Rows) → KeptByWriting (RegroupsTo Unchanged base) (RegroupsWritten base)
+writes_regroup base = record {
+  one = λ to report is_long p ps d h. goes_on Unchanged base d (write_part to report is_long p d) refl (let l : d.rows.counters.entry ≤ d.rows.counters.entry + 1 = omega arith in l) h;
+  all = λ to report is_long d h. h;
+}
 
 count_split_regroups : (is_long : Bool) (d : Draft) → Regroups Unchanged d.rows (count_split is_long d).rows
 count_split_regroups false d = nothing d.rows
 count_split_regroups true d = nothing d.rows
-
-write_to_regroups : (report : Bool) (ps : List PartOf) (to : Result Address AddressError) (d : Draft) → RegroupsIfDone Unchanged d.rows (write_to report ps to d)
-write_to_regroups report ps (Err f) d = tt
-write_to_regroups report ps (Ok to) d =
-    let is_long : Bool = nat_lt 1 (length ps) in
-    cond_both (fits_outbox (length ps) d) (Ok (written to report ps d)) (Err OutboxFull) (λ (z : Result Draft Refusal). RegroupsIfDone Unchanged d.rows z)
-    (λ t. write_parts_regroups d.rows to report is_long ps (count_split is_long d) (count_split_regroups is_long d)) (λ t. tt)
-
-write_split_regroups : (to : List ℕ) (report : Bool) (ps : Result (List PartOf) SplitError) (d : Draft) → RegroupsIfDone Unchanged d.rows (write_split to report ps d)
-write_split_regroups to report (Err f) d = tt
-write_split_regroups to report (Ok ps) d = write_to_regroups report ps (address_of 1 1 to) d
 
 delete_out_regroups : (n : ℕ) (o : Option OutEntry) (d : Draft) → RegroupsIfDone Unchanged d.rows (delete_out n o d)
 delete_out_regroups n None d = tt
@@ -547,7 +504,8 @@ discard_at_regroups n (Some x) d q = discard_in_regroups n x x.message d refl q
 write_regroups : (text to : List ℕ) (report : Bool) (c : Core) → RegroupsIfDone Unchanged c.rows (wrote text to report c)
 write_regroups text to report c =
     acted_regroups Unchanged c.rows (write text to report (draft_of c))
-    (write_split_regroups to report (split_of (content_of_text text) c.rows.counters.concat_reference) (draft_of c))
+    (write_keeps (RegroupsTo Unchanged c.rows) (RegroupsWritten c.rows) (writes_regroup c.rows) text to report (draft_of c)
+    (λ ps a split_is to_is room. count_split_regroups (nat_lt 1 (length ps)) (draft_of c)))
 
 delete_regroups : (n : ℕ) (c : Core) → RegroupsIfDone Unchanged c.rows (deleted n c)
 delete_regroups n c = acted_regroups Unchanged c.rows (delete n (draft_of c)) (delete_in_regroups n (row_at entry_key n c.rows.entries) (draft_of c) refl)

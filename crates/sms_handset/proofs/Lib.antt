@@ -1,8 +1,10 @@
 pub mod Accepting
+pub mod DueRows
 pub mod IndexStages
 pub mod GroupStages
 pub mod Judging
 pub mod JudgedTexts
+pub mod KeptByRows
 pub mod KeptByStages
 pub mod PlansStore
 pub mod Resting

@@ -16,7 +16,7 @@ use Rattle.sms_handset.specs.Planning.{IsRevised, IsRevisedIfDone}
 use Rattle.sms_handset_draft.specs.declared.counters.Counters.{Counters}
 use Rattle.sms_handset.specs.declared.refusal.Refusal.{Refusal}
 use Rattle.sms_handset.specs.HandsetEvent.{frame_received, ticked, wrote, deleted, discarded}
-use Rattle.sms_handset.proofs.KeptByStages.{HoldsIfDone, KeptByMoves, frame_keeps, tick_keeps, write_keeps, delete_keeps, discard_keeps}
+use Rattle.sms_handset.proofs.KeptByRows.{HoldsIfDone, KeptByRowMoves, frame_keeps, tick_keeps, write_keeps, delete_keeps, discard_keeps}
 
 -- ---- moves
 
@@ -64,7 +64,7 @@ put_counters_rests base c d h = ap (λ (r : Rows). record r { counters = c }) h
 abbrev revised : Rows → Rows → Changes → ℕ → Type 0
 revised base rows changes moment = rows ≡ rows_after changes base
 
-moves_revise : (base : Rows) → KeptByMoves (revised base)
+moves_revise : (base : Rows) → KeptByRowMoves (revised base)
 moves_revise base = record {
   entry_put = put_entry_rests base;
   entry_removed = remove_entry_rests base;

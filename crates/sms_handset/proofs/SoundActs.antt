@@ -4,15 +4,12 @@ use Rattle.std.specs.Prelude.{◌==◌, nat_le, nat_lt}
 use Rattle.std.proofs.lemmas.Bool.{or_parts, cond_both, leb-true, ltb-true}
 use Rattle.std.specs.List.{AllByRecursion}
 use Rattle.sms_base.specs.Among.{Among}
-use Rattle.sms_base.specs.Address.{IsAddress, address_of}
+use Rattle.sms_base.specs.Address.{IsAddress}
 use Rattle.sms_base.specs.declared.address.Address.{Address}
 use Rattle.sms_base.proofs.Addresses.{address_found}
-use Rattle.sms_base.specs.declared.address_error.AddressError.{AddressError}
 use Rattle.sms_rows.specs.table.Table.{put, row_at, without}
 use Rattle.sms_rows.proofs.table.Tables.{found_among, found_key, length_put, length_without}
 use Rattle.sms_concat.specs.declared.content.Part.{Part as PartOf}
-use Rattle.sms_concat.specs.declared.split_error.SplitError.{SplitError}
-use Rattle.sms_concat.specs.Splitting.{split_of}
 use Rattle.sms_handset_rows.specs.inbox.Groups.{is_among, is_open_part, members, part_numbers, first_number, is_part_of}
 use Rattle.sms_handset_rows.specs.inbox.SoundInbox.{IsGiven}
 use Rattle.sms_handset_rows.proofs.inbox.SoundEntries.{is_apart, new_apart, removed, without_free}
@@ -31,7 +28,6 @@ use Rattle.sms_handset_rows.specs.outbox.References.{held_message_references, he
 use Rattle.sms_handset_rows.proofs.outbox.SoundOutbox.{held_few, held_messages, held_entries, IsSoundOut, added, deleted_out}
 use Rattle.sms_handset_rows.specs.declared.outbox.notice.Notice.{Notice}
 use Rattle.sms_handset_rows.specs.outbox.Keys.{out_key}
-use Rattle.sms_concat.specs.TextContent.{content_of_text}
 use Rattle.sms_handset_rows.specs.outbox.Submits.{written_entry}
 use Rattle.sms_handset_rows.proofs.outbox.SoundReferences.{next_is_free}
 use Rattle.sms_handset_rows.proofs.outbox.SoundWriting.{IsWritable, written_is_submitted, split_is_writable}
@@ -41,16 +37,16 @@ use Rattle.sms_handset.proofs.SoundDrafts.{SoundAt, counters_move, outbox_moves,
 use Rattle.sms_handset.specs.SoundCore.{IsSendingEntry}
 use Rattle.sms_handset.proofs.SoundSending.{sending_put, sending_stays}
 use Rattle.sms_handset_draft.specs.declared.counters.Counters.{Counters}
-use Rattle.sms_handset.specs.OwnersActs.{write_part, write_parts, count_split, fits_outbox, write_to, written, write_split, write, delete_out, delete_in, delete, discard_group, discard_members, discard_in, discard_at, discard}
+use Rattle.sms_handset.specs.OwnersActs.{write_part, count_split, write, delete_out, delete_in, delete, discard_group, discard_members, discard_in, discard_at, discard}
 use Rattle.sms_handset.proofs.SoundReceiving.{same_under_way, dropped_only}
-use Rattle.sms_handset.specs.declared.refusal.Refusal.TheVariants.{OutboxFull, StillOpen, NoEntry, TooManyDiscarded}
+use Rattle.sms_handset.specs.declared.refusal.Refusal.TheVariants.{StillOpen, NoEntry, TooManyDiscarded}
 use Rattle.sms_handset_draft.specs.MemoryAvailable.{freed, want_notice}
 use Rattle.sms_handset_draft.specs.declared.rows.Rows.{Rows}
 use Rattle.sms_handset_draft.specs.Storing.{drop_all}
+use Rattle.sms_handset.proofs.KeptByStages.{IfDone, KeptByWriting, write_keeps}
 
 abbrev pub SoundIfDone : Result Draft Refusal → Type 0
-SoundIfDone (Ok d) = SoundAt d
-SoundIfDone (Err refusal) = Unit {0}
+SoundIfDone r = IfDone SoundAt r
 
 -- ---- writing
 
@@ -101,16 +97,6 @@ write_part_sound to report is_long p d a i room s =
     (added (k + 1) es os w out free free_too room s1.outbox) s.recovered
     (same_under_way d.under_way os (put out_key w os) (λ r n h. sending_below k r n w os refl (λ o b. (s.outbox.each o b).0.1) h) s.under_way) s1
 
-pub write_parts_sound : (to : Address) (report is_long : Bool) (ps : List PartOf) (d : Draft) → IsAddress to → AllByRecursion (λ (p : PartOf). IsWritable p) ps → length d.rows.outbox + length ps ≤ 20
-    → SoundAt d → SoundAt (write_parts to report is_long ps d)
-write_parts_sound to report is_long [] d a i room s = s
-write_parts_sound to report is_long (p ∷ ps) d a i room s =
-    let e : Draft = write_part to report is_long p d in
-    let m = next_free d.rows.counters.message_reference (held_message_references d.rows.outbox) in
-    let r = next_free d.rows.counters.reference (held_references d.notices d.rows.outbox) in
-    let l : length e.rows.outbox ≤ length d.rows.outbox + 1 = length_put out_key (written_entry d.rows.counters.entry m r to report is_long p) d.rows.outbox in
-    write_parts_sound to report is_long ps e a i.1 (omega arith) (write_part_sound to report is_long p d a i.0 (omega arith) s)
-
 pub count_split_sound : (is_long : Bool) (d : Draft) → SoundAt d → SoundAt (count_split is_long d)
 count_split_sound false d s = s
 count_split_sound true d s =
@@ -121,25 +107,38 @@ pub count_split_outbox : (is_long : Bool) (d : Draft) → (count_split is_long d
 count_split_outbox false d = refl
 count_split_outbox true d = refl
 
-pub write_to_sound : (report : Bool) (ps : List PartOf) (text : List ℕ) (to : Result Address AddressError) (d : Draft) → address_of 1 1 text ≡ to → AllByRecursion (λ (p : PartOf). IsWritable p) ps
-    → SoundAt d → SoundIfDone (write_to report ps to d)
-write_to_sound report ps text (Err f) d q i s = tt
-write_to_sound report ps text (Ok to) d q i s =
-    let is_long = nat_lt 1 (length ps) in
-    cond_both (fits_outbox (length ps) d) (Ok (written to report ps d)) (Err OutboxFull) (λ (z : Result Draft Refusal). SoundIfDone z)
-    (λ t.
-    let fits = leb-true (length d.rows.outbox + length ps) 20 (tested (nat_le (length d.rows.outbox + length ps) 20) (nat_le (d.rows.counters.entry + length ps) 4294967295) t) in
-    let room : length (count_split is_long d).rows.outbox + length ps ≤ 20 = subst (λ (os : List OutEntry). length os + length ps ≤ 20) (sym (count_split_outbox is_long d)) fits in
-    write_parts_sound to report is_long ps (count_split is_long d) (address_found 1 1 text to q).valid i room (count_split_sound is_long d s))
-    (λ t. tt)
+-- the parts that are still to be written
+record CanWrite (to : Address) (report is_long : Bool) (ps : List PartOf) (d : Draft) : Type 0 where
+  address : IsAddress to
+  each : AllByRecursion (λ (p : PartOf). IsWritable p) ps
+  room : length d.rows.outbox + length ps ≤ 20
+  sound : SoundAt d
 
-pub write_split_sound : (text to : List ℕ) (report : Bool) (reference : ℕ) (ps : Result (List PartOf) SplitError) (d : Draft) → split_of (content_of_text text) reference ≡ ps
-    → SoundAt d → SoundIfDone (write_split to report ps d)
-write_split_sound text to report reference (Err f) d q s = tt
-write_split_sound text to report reference (Ok ps) d q s = write_to_sound report ps to (address_of 1 1 to) d refl (split_is_writable text reference ps q) s
+one_written : (to : Address) (report is_long : Bool) (p : PartOf) (ps : List PartOf) (d : Draft) → CanWrite to report is_long (p ∷ ps) d → CanWrite to report is_long ps (write_part to report is_long p d)
+one_written to report is_long p ps d w =
+    let e : Draft = write_part to report is_long p d in
+    let m = next_free d.rows.counters.message_reference (held_message_references d.rows.outbox) in
+    let r = next_free d.rows.counters.reference (held_references d.notices d.rows.outbox) in
+    let l : length e.rows.outbox ≤ length d.rows.outbox + 1 = length_put out_key (written_entry d.rows.counters.entry m r to report is_long p) d.rows.outbox in
+    let room : length d.rows.outbox + length (p ∷ ps) ≤ 20 = w.room in
+    let few : length d.rows.outbox < 20 = omega arith in
+    let fits : length e.rows.outbox + length ps ≤ 20 = omega arith in
+    record { address = w.address; each = w.each.1; room = fits; sound = write_part_sound to report is_long p d w.address w.each.0 few w.sound }
+
+writes_kept : KeptByWriting SoundAt CanWrite
+writes_kept = record { one = one_written; all = λ to report is_long d w. w.sound }
 
 pub write_sound : (text to : List ℕ) (report : Bool) (d : Draft) → SoundAt d → SoundIfDone (write text to report d)
-write_sound text to report d s = write_split_sound text to report d.rows.counters.concat_reference (split_of (content_of_text text) d.rows.counters.concat_reference) d refl s
+write_sound text to report d s =
+    write_keeps SoundAt CanWrite writes_kept text to report d (λ ps a split_is to_is t.
+    let is_long = nat_lt 1 (length ps) in
+    let fits = leb-true (length d.rows.outbox + length ps) 20 (tested (nat_le (length d.rows.outbox + length ps) 20) (nat_le (d.rows.counters.entry + length ps) 4294967295) t) in
+    record {
+      address = (address_found 1 1 to a to_is).valid;
+      each = split_is_writable text d.rows.counters.concat_reference ps split_is;
+      room = subst (λ (os : List OutEntry). length os + length ps ≤ 20) (sym (count_split_outbox is_long d)) fits;
+      sound = count_split_sound is_long d s;
+    })
 
 -- ---- deleting
 

@@ -28,6 +28,7 @@ use Rattle.sms_handset.specs.declared.refusal.PlanError.{PlanError}
 use Rattle.sms_handset.specs.declared.event.HandsetEvent.{HandsetEvent}
 use Rattle.sms_handset.specs.declared.event.HandsetEvent.TheVariants.{Frame, Tick, Write, Delete, Discard}
 use Rattle.sms_handset.proofs.Resting.{delete_rests, discard_rests, frame_rests, tick_rests, write_rests}
+use Rattle.sms_handset.proofs.KeptByStages.{acted_keeps}
 
 -- ---- what goes up from the link
 
@@ -74,8 +75,7 @@ tick_sound now c s =
     follow_sound (timers_fired turn d) (timed_out_sound step.out.up c.under_way (with_turn turn d) refl (sound_from c s))
 
 pub acted_sound : (r : Result Draft Refusal) → SoundIfDone r → SoundIfDone (acted r)
-acted_sound (Ok d) s = follow_sound d s
-acted_sound (Err f) s = tt
+acted_sound r s = acted_keeps SoundAt SoundAt follow_sound r s
 
 pub wrote_sound : (text to : List ℕ) (report : Bool) (c : Core) → IsSoundCore c → SoundIfDone (wrote text to report c)
 wrote_sound text to report c s = acted_sound (write text to report (draft_of c)) (write_sound text to report (draft_of c) (sound_from c s))

@@ -1,13 +1,13 @@
 -- What comes from the centre leaves a sound handset sound.
-use Rattle.std.proofs.Common.{◌≡◌, List, [], ◌∷◌, refl, Option, Some, None, ap, ◌+◌, ℕ, ◌≤◌, arith, true, ◌<◌, false, ◌++◌, length, inl, Ok, ◌⊎◌, inr, cond, sym, ⊎_elim, Result, Err}
-use Rattle.std.proofs.lemmas.Bool.{cond_both, cases_cond}
+use Rattle.std.proofs.Common.{◌≡◌, List, [], ◌∷◌, refl, Option, Some, None, ap, ◌+◌, ℕ, ◌≤◌, arith, true, ◌<◌, false, ◌++◌, length, inl, Ok, inr, Result, Err}
+use Rattle.std.proofs.lemmas.Bool.{cond_both}
 use Rattle.sms_base.specs.declared.holder.Holder.{Holder}
 use Rattle.sms_base.specs.declared.carried.Kind.{Kind}
 use Rattle.sms_base.specs.declared.carried.Kind.TheVariants.{Ack, Error}
 use Rattle.sms_base.specs.Among.{Among}
 use Rattle.sms_base.specs.declared.carried.Carried.{Carried}
 use Rattle.sms_base.specs.declared.holder.Holder.TheVariants.{Part as PartHolder, Report, Entry as EntryHolder, Memory}
-use Rattle.sms_rows.specs.table.Table.{put, latest, row_at}
+use Rattle.sms_rows.specs.table.Table.{put, row_at}
 use Rattle.sms_rows.proofs.table.Tables.{length_put}
 use Rattle.sms_concat.specs.declared.content.Content.{Content}
 use Rattle.sms_alphabet.specs.declared.concat_key.ConcatKey.{ConcatKey}
@@ -23,7 +23,6 @@ use Rattle.sms_tpdu.specs.declared.carrier.Carrier.TheVariants.{InData}
 use Rattle.sms_tpdu.specs.declared.deliver.Deliver.{Deliver as DeliverOf}
 use Rattle.sms_tpdu.specs.declared.down.Down.TheVariants.{Deliver, StatusReport, SubmitReport}
 use Rattle.sms_tpdu.specs.TpduReading.{down_at}
-use Rattle.sms_tpdu.specs.declared.status_report.StatusReport.{StatusReport as StatusReportOf}
 use Rattle.sms_tpdu.specs.declared.down.Down.{Down}
 use Rattle.sms_tpdu.specs.declared.fault.TpduFault.{TpduFault}
 use Rattle.sms_handset_rows.specs.declared.inbox.entry.Entry.{Entry}
@@ -39,7 +38,7 @@ use Rattle.sms_handset_rows.specs.declared.inbox.discarded_group.DiscardedGroup.
 use Rattle.sms_handset_rows.proofs.inbox.SoundMarks.{gone_none, mark_found, mark_gone, mark_more, more_none, seen_too}
 use Rattle.sms_handset_rows.specs.inbox.Doubles.{is_double}
 use Rattle.sms_handset_rows.specs.declared.outbox.out_entry.OutEntry.{OutEntry}
-use Rattle.sms_handset_rows.specs.outbox.Reports.{is_reported, reported}
+use Rattle.sms_handset_rows.specs.outbox.Reports.{reported}
 use Rattle.sms_handset_rows.specs.outbox.Keys.{out_key}
 use Rattle.sms_handset_rows.proofs.outbox.SoundOutbox.{replaced}
 use Rattle.sms_handset_draft.specs.Draft.{Draft, remove_entry, put_entry, put_mark, remove_mark, link_of, reply, with_turn, put_last}
@@ -54,6 +53,7 @@ use Rattle.sms_relay.specs.Rejecting.{fault_cause, reference_octet}
 use Rattle.sms_handset.proofs.Accepting.{IsCounted, header_counts}
 use Rattle.sms_handset.specs.SoundCore.{IsSendingEntry, IsSentFor, IsUnderWay}
 use Rattle.sms_handset.proofs.SoundSending.{sending_same}
+use Rattle.sms_handset.proofs.DueRows.{reported_among}
 
 -- ---- drafts that differ in their entries alone
 
@@ -204,20 +204,6 @@ deliver_sound r tag tpdu m (Some key) d e q c s =
     part_received_sound r tag tpdu g key.number (mark_of g d.rows.marks) d (m, e) (m, key, (e, q, refl, refl)) c.0 c.1 refl s
 
 -- ---- STATUS-REPORT
-
-pub latest_is : (x y : Option OutEntry) (o : OutEntry) → latest x y ≡ Some o → (x ≡ Some o) ⊎ (y ≡ Some o)
-latest_is x None o e = inl e
-latest_is x (Some y) o e = inr e
-
-pub reported_among : (r : StatusReportOf) (os : List OutEntry) (o : OutEntry) → reported r os ≡ Some o → Among o os
-reported_among r [] o e = absurd cc
-reported_among r (x ∷ xs) o e = ⊎_elim
-    (λ (h : cond (is_reported r x) (Some x) None ≡ Some o). ⊎_elim
-    (λ (t : Some o ≡ Some x). let q : o ≡ x = cc in inl q)
-    (λ (t : Some o ≡ None). absurd cc)
-    (cases_cond (is_reported r x) (Some x) None (Some o) (sym h)))
-    (λ (h : reported r xs ≡ Some o). inr (reported_among r xs o h))
-    (latest_is (cond (is_reported r x) (Some x) None) (reported r xs) o e)
 
 pub same_under_way : (w : Option Carried) (os fs : List OutEntry) → ((r n : ℕ) → IsSendingEntry r n os → IsSendingEntry r n fs) → IsUnderWay w os → IsUnderWay w fs
 same_under_way None os fs f u = tt

@@ -6,7 +6,7 @@ use Rattle.sms_handset_draft.specs.declared.rows.Rows.{Rows}
 use Rattle.sms_handset_draft.specs.Draft.{Changes, Core, Draft}
 use Rattle.sms_handset.specs.declared.refusal.Refusal.{Refusal}
 use Rattle.sms_handset.specs.HandsetEvent.{frame_received, ticked, wrote, deleted, discarded}
-use Rattle.sms_handset.proofs.KeptByStages.{HoldsIfDone, KeptByMoves, frame_keeps, tick_keeps, write_keeps, delete_keeps, discard_keeps}
+use Rattle.sms_handset.proofs.KeptByRows.{HoldsIfDone, KeptByRowMoves, frame_keeps, tick_keeps, write_keeps, delete_keeps, discard_keeps}
 
 -- ---- the moment stands
 
@@ -20,7 +20,7 @@ StaysIfDone moment (Err refusal) = Unit {0}
 abbrev stands : ℕ → Rows → Changes → ℕ → Type 0
 stands base rows changes moment = moment ≡ base
 
-moves_stand : (base : ℕ) → KeptByMoves (stands base)
+moves_stand : (base : ℕ) → KeptByRowMoves (stands base)
 moves_stand base = record {
   entry_put = λ e d h. h;
   entry_removed = λ n d h. h;

@@ -5,22 +5,24 @@ use Rattle.std.proofs.lemmas.Bool.{ltb-true}
 use Rattle.std.proofs.lemmas.List.{append-nil, length-append}
 use Rattle.sms_base.specs.Reading.{◌>>=◌, only_if, octet_in, run_in, end_in, AreOctets}
 use Rattle.sms_base.proofs.Steps.{bind_ok, bind_err, err_is, ok_is}
-use Rattle.sms_base.proofs.FaultSteps.{Ends, Reads, TakesAlone, CanReadFurther, Completes, LeavesNone, Starts, IsPart, IsLast, octets_back, octets_both, part_last, last_bind, pure_part, bad_part, test_part, octet_part, from_octet, last_from_octet, run_part, whole_goes, whole_front}
+use Rattle.sms_base.proofs.FaultSteps.{Ends, Reads, TakesAlone, CanReadFurther, Completes, LeavesNone, Starts, IsPart, IsLast, octets_back, octets_both, part_last, part_bind, last_bind, pure_part, bad_part, test_part, octet_part, from_octet, last_from_octet, run_part, whole_goes, whole_front}
 use Rattle.sms_relay.specs.declared.cause.RpCause.{RpCause}
 use Rattle.sms_relay.specs.declared.fault.RelayFault.{RelayFault}
 use Rattle.sms_relay.specs.declared.fault.RelayFault.TheVariants.{Truncated, Trailing, Unknown, BadLength}
 use Rattle.sms_relay.specs.declared.frame.Rp.{Rp}
 use Rattle.sms_relay.specs.declared.frame.Rp.TheVariants.{DataUnit, AckUnit, ErrorUnit, Smma}
+use Rattle.sms_relay.specs.declared.message_type.Direction.{Direction}
+use Rattle.sms_relay.specs.declared.message_type.Direction.TheVariants.{Up, Down}
 use Rattle.sms_relay.specs.declared.message_type.MessageType.{MessageType}
-use Rattle.sms_relay.specs.declared.message_type.MessageType.TheVariants.{DataUp, DataDown, AckUp, AckDown, ErrorUp, ErrorDown, SmmaUp}
+use Rattle.sms_relay.specs.declared.message_type.MessageType.TheVariants.{Data, Ack, Error, Smma as SmmaType}
 use Rattle.sms_relay.specs.Cause.{cause_of}
 use Rattle.sms_relay.specs.MessageType.{type_of}
 use Rattle.sms_base.specs.FaultReasons.{HasContinuation, HasFront}
-use Rattle.sms_relay.specs.RelayGrammar.{IsUp, IsDown}
-use Rattle.sms_relay.specs.RelayReading.{up_unit, down_unit, centre_in, nobody_in, tpdu_in, user_data_in, cause_in, data_up_in, data_down_in, ack_in, error_in, smma_in, up_in, down_in, up_at, down_at}
+use Rattle.sms_relay.specs.RelayGrammar.{IsUnit}
+use Rattle.sms_relay.specs.RelayReading.{unit_of, centre_in, nobody_in, addresses_in, tpdu_in, user_data_in, cause_in, data_in, ack_in, error_in, smma_in, unit_in, unit_at}
 use Rattle.sms_relay.proofs.FieldLaws.{IsBytes-octets}
-use Rattle.sms_relay.proofs.UnitLaws.{up_takes, down_takes, up_again, down_again}
-use Rattle.sms_relay.proofs.FrontLaws.{up_fronts, down_fronts, up_bare, down_bare}
+use Rattle.sms_relay.proofs.UnitLaws.{takes, again}
+use Rattle.sms_relay.proofs.FrontLaws.{fronts, bare_read}
 
 -- the two faults
 abbrev ends : Ends RelayFault
@@ -48,6 +50,18 @@ centre_part =
 nobody_part : IsPart ends nobody_in
 unfolding nobody_in
 nobody_part = from_octet ends _ (0 ∷ [], (omega arith, tt), (tt, refl)) (λ n. tested (eqb n 0) (λ rest. Ok (tt, rest)) (pure_part ends tt))
+
+addresses_part : (direction : Direction) → IsPart ends (addresses_in direction)
+unfolding addresses_in nobody_in centre_in
+addresses_part Up = part_bind ends nobody_in _ nobody_part (λ originator. centre_part) (λ originator. inl refl)
+addresses_part Down =
+    part_bind ends centre_in _ centre_part (λ centre.
+    part_bind ends nobody_in _ nobody_part (λ destination. pure_part ends centre) (λ destination. inr (centre, refl))) (λ centre. inl refl)
+
+no_addresses : (direction : Direction) → addresses_in direction [] ≡ Err Truncated
+unfolding addresses_in nobody_in centre_in
+no_addresses Up = refl
+no_addresses Down = refl
 
 -- behind the number of a cause
 abbrev diagnosed : Bool → RpCause → Reads RelayFault RpCause
@@ -142,21 +156,13 @@ module _ (make : Option (List ℕ) → Rp) where
 
 -- ---- the units
 
-data_up_last : IsLast ends data_up_in
-unfolding data_up_in nobody_in centre_in tpdu_in
-data_up_last =
+data_last : (direction : Direction) → IsLast ends (data_in direction)
+unfolding data_in tpdu_in
+data_last direction =
     last_bind ends (octet_in Truncated) _ (octet_part ends) (λ reference.
-    last_bind ends nobody_in _ nobody_part (λ originator.
-    last_bind ends centre_in _ centre_part (λ centre.
-    last_bind ends tpdu_in _ tpdu_part (λ unit. part_last ends _ (pure_part ends (DataUnit reference centre unit))) (λ unit. inr (DataUnit reference centre unit, refl))) (λ centre. inl refl)) (λ originator. inl refl)) (λ reference. inl refl)
-
-data_down_last : IsLast ends data_down_in
-unfolding data_down_in nobody_in centre_in tpdu_in
-data_down_last =
-    last_bind ends (octet_in Truncated) _ (octet_part ends) (λ reference.
-    last_bind ends centre_in _ centre_part (λ centre.
-    last_bind ends nobody_in _ nobody_part (λ destination.
-    last_bind ends tpdu_in _ tpdu_part (λ unit. part_last ends _ (pure_part ends (DataUnit reference centre unit))) (λ unit. inr (DataUnit reference centre unit, refl))) (λ destination. inl refl)) (λ centre. inl refl)) (λ reference. inl refl)
+    last_bind ends (addresses_in direction) _ (addresses_part direction) (λ centre.
+    last_bind ends tpdu_in _ tpdu_part (λ unit. part_last ends _ (pure_part ends (DataUnit reference centre unit))) (λ unit. inr (DataUnit reference centre unit, refl))) (λ centre. inl refl))
+    (λ reference. inl (rw (no_addresses direction) refl))
 
 ack_last : IsLast ends ack_in
 unfolding ack_in
@@ -168,83 +174,46 @@ error_last =
     last_bind ends (octet_in Truncated) _ (octet_part ends) (λ reference.
     last_bind ends cause_in _ cause_part (λ cause. made_last (λ u. ErrorUnit reference cause u)) (λ cause. made_starts (λ u. ErrorUnit reference cause u))) (λ reference. inl refl)
 
-smma_last : IsLast ends smma_in
+smma_last : (direction : Direction) → IsLast ends (smma_in direction)
 unfolding smma_in
-smma_last = last_bind ends (octet_in Truncated) _ (octet_part ends) (λ reference. part_last ends _ (pure_part ends (Smma reference))) (λ reference. inr (Smma reference, refl))
+smma_last Up = last_bind ends (octet_in Truncated) _ (octet_part ends) (λ reference. part_last ends _ (pure_part ends (Smma reference))) (λ reference. inr (Smma reference, refl))
+smma_last Down = unknown_last
 
-up_unit_last : (m : Option MessageType) → IsLast ends (up_unit m)
-up_unit_last (Some DataUp) = data_up_last
-up_unit_last (Some AckUp) = ack_last
-up_unit_last (Some ErrorUp) = error_last
-up_unit_last (Some SmmaUp) = smma_last
-up_unit_last (Some DataDown) = unknown_last
-up_unit_last (Some AckDown) = unknown_last
-up_unit_last (Some ErrorDown) = unknown_last
-up_unit_last None = unknown_last
+type_last : (m : Option MessageType) (direction : Direction) → IsLast ends (unit_of m direction)
+type_last (Some Data) direction = data_last direction
+type_last (Some Ack) direction = ack_last
+type_last (Some Error) direction = error_last
+type_last (Some SmmaType) direction = smma_last direction
+type_last None direction = unknown_last
 
-down_unit_last : (m : Option MessageType) → IsLast ends (down_unit m)
-down_unit_last (Some DataDown) = data_down_last
-down_unit_last (Some AckDown) = ack_last
-down_unit_last (Some ErrorDown) = error_last
-down_unit_last (Some DataUp) = unknown_last
-down_unit_last (Some AckUp) = unknown_last
-down_unit_last (Some ErrorUp) = unknown_last
-down_unit_last (Some SmmaUp) = unknown_last
-down_unit_last None = unknown_last
+-- RP-ACK with the reference 0
+unit_last : (direction : Direction) → IsLast ends (unit_in direction)
+unfolding unit_in type_of ack_in user_data_in
+unit_last Up = last_from_octet ends _ (2 ∷ 0 ∷ [], (omega arith, (omega arith, tt)), (AckUnit 0 None, refl)) (λ k. type_last (type_of Up k) Up)
+unit_last Down = last_from_octet ends _ (3 ∷ 0 ∷ [], (omega arith, (omega arith, tt)), (AckUnit 0 None, refl)) (λ k. type_last (type_of Down k) Down)
 
--- RP-SMMA with the reference 0, and RP-ACK with it
-up_last : IsLast ends up_in
-unfolding up_in type_of smma_in
-up_last = last_from_octet ends _ (6 ∷ 0 ∷ [], (omega arith, (omega arith, tt)), (Smma 0, refl)) (λ k. up_unit_last (type_of k))
+pub continues : (direction : Direction) (xs : List ℕ) → AreOctets xs → unit_at direction xs ≡ Err Truncated → HasContinuation (IsUnit direction) xs
+unfolding unit_at
+continues direction xs octets e =
+    let g = whole_goes ends (unit_in direction) (unit_last direction) xs octets e in
+    (g.0, g.1, (g.2.0, takes direction (xs ++ g.0) g.2.0 (IsBytes-octets (xs ++ g.0) (octets_both xs g.0 octets g.1)) g.2.1))
 
-down_last : IsLast ends down_in
-unfolding down_in type_of ack_in user_data_in
-down_last = last_from_octet ends _ (3 ∷ 0 ∷ [], (omega arith, (omega arith, tt)), (AckUnit 0 None, refl)) (λ k. down_unit_last (type_of k))
-
-pub up_continues : (xs : List ℕ) → AreOctets xs → up_at xs ≡ Err Truncated → HasContinuation IsUp xs
-unfolding up_at
-up_continues xs octets e =
-    let g = whole_goes ends up_in up_last xs octets e in
-    (g.0, g.1, (g.2.0, up_takes (xs ++ g.0) g.2.0 (IsBytes-octets (xs ++ g.0) (octets_both xs g.0 octets g.1)) g.2.1))
-
-pub down_continues : (xs : List ℕ) → AreOctets xs → down_at xs ≡ Err Truncated → HasContinuation IsDown xs
-unfolding down_at
-down_continues xs octets e =
-    let g = whole_goes ends down_in down_last xs octets e in
-    (g.0, g.1, (g.2.0, down_takes (xs ++ g.0) g.2.0 (IsBytes-octets (xs ++ g.0) (octets_both xs g.0 octets g.1)) g.2.1))
-
-pub up_has_front : (xs : List ℕ) → AreOctets xs → up_at xs ≡ Err Trailing → HasFront IsUp xs
-unfolding up_at
-up_has_front xs octets e =
-    let f = whole_front ends up_in up_last xs e in
-    (f.0, f.1, f.2, f.3, (f.4.0, up_takes f.0 f.4.0 (IsBytes-octets f.0 (octets_back f.0 f.1 xs f.2 octets).0) f.4.1))
-
-pub down_has_front : (xs : List ℕ) → AreOctets xs → down_at xs ≡ Err Trailing → HasFront IsDown xs
-unfolding down_at
-down_has_front xs octets e =
-    let f = whole_front ends down_in down_last xs e in
-    (f.0, f.1, f.2, f.3, (f.4.0, down_takes f.0 f.4.0 (IsBytes-octets f.0 (octets_back f.0 f.1 xs f.2 octets).0) f.4.1))
+pub has_front : (direction : Direction) (xs : List ℕ) → AreOctets xs → unit_at direction xs ≡ Err Trailing → HasFront (IsUnit direction) xs
+unfolding unit_at
+has_front direction xs octets e =
+    let f = whole_front ends (unit_in direction) (unit_last direction) xs e in
+    (f.0, f.1, f.2, f.3, (f.4.0, takes direction f.0 f.4.0 (IsBytes-octets f.0 (octets_back f.0 f.1 xs f.2 octets).0) f.4.1))
 
 -- a fault is no unit
 no_unit : (fault : RelayFault) (rp : Rp) → (let r : Result Rp RelayFault = Err fault in let s : Result Rp RelayFault = Ok rp in r ≡ s) → ⊥
 no_unit fault rp e = absurd cc
 
-pub up_stops : (xs more : List ℕ) (rp : Rp) (fault : RelayFault) → up_at xs ≡ Err fault → (fault ≡ Truncated → ⊥) → IsUp (xs ++ more) rp → ⊥
-up_stops xs more rp fault e other h =
-    elim (up_fronts xs more rp h) [
-      | inl none ↦ no_unit fault rp (sym e ∙ up_again xs rp (subst (λ (l : List ℕ). IsUp l rp) (ap (λ (l : List ℕ). xs ++ l) none ∙ append-nil xs) h))
+pub stops : (direction : Direction) (xs more : List ℕ) (rp : Rp) (fault : RelayFault) → unit_at direction xs ≡ Err fault → (fault ≡ Truncated → ⊥) → IsUnit direction (xs ++ more) rp → ⊥
+stops direction xs more rp fault e other h =
+    elim (fronts direction xs more rp h) [
+      | inl none ↦ no_unit fault rp (sym e ∙ again direction xs rp (subst (λ (l : List ℕ). IsUnit direction l rp) (ap (λ (l : List ℕ). xs ++ l) none ∙ append-nil xs) h))
       | inr p ↦ elim p [
         | inl short ↦ other (err_is {A = Rp} fault Truncated (sym e ∙ short))
-        | inr same ↦ no_unit fault _ (sym e ∙ up_bare xs rp (subst (λ (l : List ℕ). IsUp (xs ++ l) rp) same h))
-      ]
-    ]
-
-pub down_stops : (xs more : List ℕ) (rp : Rp) (fault : RelayFault) → down_at xs ≡ Err fault → (fault ≡ Truncated → ⊥) → IsDown (xs ++ more) rp → ⊥
-down_stops xs more rp fault e other h =
-    elim (down_fronts xs more rp h) [
-      | inl none ↦ no_unit fault rp (sym e ∙ down_again xs rp (subst (λ (l : List ℕ). IsDown l rp) (ap (λ (l : List ℕ). xs ++ l) none ∙ append-nil xs) h))
-      | inr p ↦ elim p [
-        | inl short ↦ other (err_is {A = Rp} fault Truncated (sym e ∙ short))
-        | inr same ↦ no_unit fault _ (sym e ∙ down_bare xs rp (subst (λ (l : List ℕ). IsDown (xs ++ l) rp) same h))
+        | inr same ↦ no_unit fault _ (sym e ∙ bare_read direction xs rp (subst (λ (l : List ℕ). IsUnit direction (xs ++ l) rp) same h))
       ]
     ]

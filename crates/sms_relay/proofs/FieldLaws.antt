@@ -9,9 +9,11 @@ use Rattle.sms_base.proofs.OctetLaws.{IsBytes, bytes_rest}
 use Rattle.sms_relay.specs.declared.cause.RpCause.{RpCause}
 use Rattle.sms_relay.specs.declared.fault.RelayFault.{RelayFault}
 use Rattle.sms_relay.specs.declared.fault.RelayFault.TheVariants.{Truncated, BadLength}
+use Rattle.sms_relay.specs.declared.message_type.Direction.{Direction}
+use Rattle.sms_relay.specs.declared.message_type.Direction.TheVariants.{Up, Down}
 use Rattle.sms_relay.specs.Cause.{number_of, cause_of, IsRpCause}
-use Rattle.sms_relay.specs.RelayGrammar.{IsCentre, IsTpdu, IsUserData, user_data, IsCauseField}
-use Rattle.sms_relay.specs.RelayReading.{centre_in, nobody_in, tpdu_in, user_data_in, cause_in}
+use Rattle.sms_relay.specs.RelayGrammar.{IsCentre, IsTpdu, IsUserData, user_data, IsCauseField, addresses}
+use Rattle.sms_relay.specs.RelayReading.{centre_in, nobody_in, addresses_in, tpdu_in, user_data_in, cause_in}
 use Rattle.sms_relay.proofs.CauseLaws.{cause_of-number, cause_of-is, number_of-is}
 
 -- ---- octets
@@ -100,6 +102,38 @@ unfolding nobody_in
 nobody_cuts =
     cuts_bind Truncated (octet_in Truncated) (λ count. only_if (eqb count.0 0) BadLength >>= (λ u. Ok (tt, count.1))) (cuts_octet Truncated)
     (λ count. cuts_test Truncated (eqb count 0) BadLength (λ rest. Ok (tt, rest)) (cuts_pure Truncated tt))
+
+-- ---- the addresses
+
+pub addresses_takes : (direction : Direction) (xs : List ℕ) (x : List ℕ × List ℕ) → addresses_in direction xs ≡ Ok x → (xs ≡ addresses direction x.0 x.1) × IsCentre x.0
+unfolding addresses_in
+addresses_takes Up xs x e =
+    let a = bind_ok (nobody_in xs) _ x e in
+    let c = centre_takes a.0.1 x a.2 in
+    (nobody_takes xs a.0 a.1 ∙ ap (λ (l : List ℕ). 0 ∷ l) c.0, c.1)
+addresses_takes Down xs x e =
+    let a = bind_ok (centre_in xs) _ x e in
+    let b = bind_ok (nobody_in a.0.1) _ x a.2 in
+    let c = centre_takes xs a.0 a.1 in
+    let whole : xs ≡ addresses Down a.0.0 b.0.1 = c.0 ∙ ap (λ (l : List ℕ). length a.0.0 ∷ (a.0.0 ++ l)) (nobody_takes a.0.1 b.0 b.1) in
+    subst (λ (y : List ℕ × List ℕ). (xs ≡ addresses Down y.0 y.1) × IsCentre y.0) (ok_is {E = RelayFault} (a.0.0, b.0.1) x b.2) (whole, c.1)
+
+-- the octets behind them
+pub addresses_back : (direction : Direction) (centre rest xs : List ℕ) → xs ≡ addresses direction centre rest → IsBytes xs → IsBytes rest
+addresses_back Up centre rest xs e fits = IsBytes-back (0 ∷ length centre ∷ centre) rest xs e fits
+addresses_back Down centre rest xs e fits = bytes_rest 0 rest (0 ∷ rest) refl (IsBytes-back (length centre ∷ centre) (0 ∷ rest) xs e fits)
+
+pub addresses_again : (direction : Direction) (centre rest : List ℕ) → IsCentre centre → addresses_in direction (addresses direction centre rest) ≡ Ok (centre, rest)
+unfolding addresses_in
+addresses_again Up centre rest h = rw (nobody_again (length centre ∷ (centre ++ rest)), centre_again centre rest h) refl
+addresses_again Down centre rest h = rw (centre_again centre (0 ∷ rest) h, nobody_again rest) refl
+
+pub addresses_cuts : (direction : Direction) → CutsShort Truncated (addresses_in direction)
+unfolding addresses_in
+addresses_cuts Up = cuts_bind Truncated nobody_in _ nobody_cuts (λ originator. centre_cuts)
+addresses_cuts Down =
+    cuts_bind Truncated centre_in _ centre_cuts (λ centre.
+    cuts_bind Truncated nobody_in _ nobody_cuts (λ destination. cuts_pure Truncated centre))
 
 -- ---- user data
 

@@ -8,13 +8,15 @@ use Rattle.sms_relay.specs.declared.fault.RelayFault.{RelayFault}
 use Rattle.sms_relay.specs.declared.fault.RelayFault.TheVariants.{Truncated, Trailing, Unknown}
 use Rattle.sms_relay.specs.declared.frame.Rp.{Rp}
 use Rattle.sms_relay.specs.declared.frame.Rp.TheVariants.{DataUnit, AckUnit, ErrorUnit, Smma}
+use Rattle.sms_relay.specs.declared.message_type.Direction.{Direction}
+use Rattle.sms_relay.specs.declared.message_type.Direction.TheVariants.{Up, Down}
 use Rattle.sms_relay.specs.declared.message_type.MessageType.{MessageType}
-use Rattle.sms_relay.specs.declared.message_type.MessageType.TheVariants.{DataUp, DataDown, AckUp, AckDown, ErrorUp, ErrorDown, SmmaUp}
-use Rattle.sms_relay.specs.MessageType.{type_of}
-use Rattle.sms_relay.specs.RelayGrammar.{IsUp, IsDown, user_data, user_data_of, bare}
-use Rattle.sms_relay.specs.RelayReading.{up_unit, down_unit, centre_in, nobody_in, tpdu_in, user_data_in, cause_in, data_up_in, data_down_in, ack_in, error_in, smma_in, up_in, down_in, up_at, down_at}
-use Rattle.sms_relay.proofs.FieldLaws.{tpdu_cuts, centre_cuts, nobody_cuts, cause_cuts, user_data_cut}
-use Rattle.sms_relay.proofs.UnitLaws.{up_again, down_again}
+use Rattle.sms_relay.specs.declared.message_type.MessageType.TheVariants.{Data, Ack, Error, Smma as SmmaType}
+use Rattle.sms_relay.specs.MessageType.{type_octet, type_of}
+use Rattle.sms_relay.specs.RelayGrammar.{IsUnit, user_data, user_data_of, bare}
+use Rattle.sms_relay.specs.RelayReading.{unit_of, addresses_in, tpdu_in, user_data_in, cause_in, data_in, ack_in, error_in, smma_in, unit_in, unit_at}
+use Rattle.sms_relay.proofs.FieldLaws.{tpdu_cuts, addresses_cuts, cause_cuts, user_data_cut}
+use Rattle.sms_relay.proofs.UnitLaws.{again}
 
 -- A front of a unit reads as the same unit with so much less behind it, or ends too early, or ends before the user data.
 abbrev IsFront : Result (Rp × List ℕ) RelayFault → List ℕ → Rp × List ℕ → Type 0
@@ -70,21 +72,12 @@ no_cuts f xs ys z e = absurd cc
 
 -- ---- the units
 
-data_up_cuts : CutsShort Truncated data_up_in
-unfolding data_up_in
-data_up_cuts =
+data_cuts : (direction : Direction) → CutsShort Truncated (data_in direction)
+unfolding data_in
+data_cuts direction =
     cuts_bind Truncated (octet_in Truncated) _ (cuts_octet Truncated) (λ reference.
-    cuts_bind Truncated nobody_in _ nobody_cuts (λ originator.
-    cuts_bind Truncated centre_in _ centre_cuts (λ centre.
-    cuts_bind Truncated tpdu_in _ tpdu_cuts (λ unit. cuts_pure Truncated (DataUnit reference centre unit)))))
-
-data_down_cuts : CutsShort Truncated data_down_in
-unfolding data_down_in
-data_down_cuts =
-    cuts_bind Truncated (octet_in Truncated) _ (cuts_octet Truncated) (λ reference.
-    cuts_bind Truncated centre_in _ centre_cuts (λ centre.
-    cuts_bind Truncated nobody_in _ nobody_cuts (λ destination.
-    cuts_bind Truncated tpdu_in _ tpdu_cuts (λ unit. cuts_pure Truncated (DataUnit reference centre unit)))))
+    cuts_bind Truncated (addresses_in direction) _ (addresses_cuts direction) (λ centre.
+    cuts_bind Truncated tpdu_in _ tpdu_cuts (λ unit. cuts_pure Truncated (DataUnit reference centre unit))))
 
 ack_cuts : CutsUnit ack_in
 unfolding ack_in
@@ -96,37 +89,21 @@ error_cuts =
     unit_bind (octet_in Truncated) _ (cuts_octet Truncated) (λ reference.
     unit_bind cause_in _ cause_cuts (λ cause. tail_cuts (λ u. ErrorUnit reference cause u) (λ u. refl) (λ u. refl)))
 
-smma_cuts : CutsShort Truncated smma_in
+smma_cuts : (direction : Direction) → CutsUnit (smma_in direction)
 unfolding smma_in
-smma_cuts = cuts_bind Truncated (octet_in Truncated) _ (cuts_octet Truncated) (λ reference. cuts_pure Truncated (Smma reference))
+smma_cuts Up = unit_bind (octet_in Truncated) _ (cuts_octet Truncated) (λ reference. of_short _ (cuts_pure Truncated (Smma reference)))
+smma_cuts Down = no_cuts Unknown
 
-up_unit_cuts : (m : Option MessageType) → CutsUnit (up_unit m)
-up_unit_cuts (Some DataUp) = of_short data_up_in data_up_cuts
-up_unit_cuts (Some AckUp) = ack_cuts
-up_unit_cuts (Some ErrorUp) = error_cuts
-up_unit_cuts (Some SmmaUp) = of_short smma_in smma_cuts
-up_unit_cuts (Some DataDown) = no_cuts Unknown
-up_unit_cuts (Some AckDown) = no_cuts Unknown
-up_unit_cuts (Some ErrorDown) = no_cuts Unknown
-up_unit_cuts None = no_cuts Unknown
+type_cuts : (m : Option MessageType) (direction : Direction) → CutsUnit (unit_of m direction)
+type_cuts (Some Data) direction = of_short (data_in direction) (data_cuts direction)
+type_cuts (Some Ack) direction = ack_cuts
+type_cuts (Some Error) direction = error_cuts
+type_cuts (Some SmmaType) direction = smma_cuts direction
+type_cuts None direction = no_cuts Unknown
 
-up_in_cuts : CutsUnit up_in
-unfolding up_in
-up_in_cuts = unit_bind (octet_in Truncated) _ (cuts_octet Truncated) (λ k. up_unit_cuts (type_of k))
-
-down_unit_cuts : (m : Option MessageType) → CutsUnit (down_unit m)
-down_unit_cuts (Some DataDown) = of_short data_down_in data_down_cuts
-down_unit_cuts (Some AckDown) = ack_cuts
-down_unit_cuts (Some ErrorDown) = error_cuts
-down_unit_cuts (Some DataUp) = no_cuts Unknown
-down_unit_cuts (Some AckUp) = no_cuts Unknown
-down_unit_cuts (Some ErrorUp) = no_cuts Unknown
-down_unit_cuts (Some SmmaUp) = no_cuts Unknown
-down_unit_cuts None = no_cuts Unknown
-
-down_in_cuts : CutsUnit down_in
-unfolding down_in
-down_in_cuts = unit_bind (octet_in Truncated) _ (cuts_octet Truncated) (λ k. down_unit_cuts (type_of k))
+unit_cuts : (direction : Direction) → CutsUnit (unit_in direction)
+unfolding unit_in
+unit_cuts direction = unit_bind (octet_in Truncated) _ (cuts_octet Truncated) (λ k. type_cuts (type_of direction k) direction)
 
 -- ---- whole lists
 
@@ -153,48 +130,31 @@ front_of read h front rest rp e =
       | inr p ↦ inr (inr (p.1 ∙ ap (λ (l : List ℕ). user_data_of z.0 ++ l) last ∙ append-nil (user_data_of z.0) ∙ ap user_data_of is))
     ]
 
-pub up_fronts : (front rest : List ℕ) (rp : Rp) → IsUp (front ++ rest) rp → (rest ≡ []) ⊎ ((up_at front ≡ Err Truncated) ⊎ (rest ≡ user_data_of rp))
-unfolding up_at
-up_fronts front rest rp h = front_of up_in up_in_cuts front rest rp (up_again (front ++ rest) rp h)
+pub fronts : (direction : Direction) (front rest : List ℕ) (rp : Rp) → IsUnit direction (front ++ rest) rp → (rest ≡ []) ⊎ ((unit_at direction front ≡ Err Truncated) ⊎ (rest ≡ user_data_of rp))
+unfolding unit_at
+fronts direction front rest rp h = front_of (unit_in direction) (unit_cuts direction) front rest rp (again direction (front ++ rest) rp h)
 
-pub down_fronts : (front rest : List ℕ) (rp : Rp) → IsDown (front ++ rest) rp → (rest ≡ []) ⊎ ((down_at front ≡ Err Truncated) ⊎ (rest ≡ user_data_of rp))
-unfolding down_at
-down_fronts front rest rp h = front_of down_in down_in_cuts front rest rp (down_again (front ++ rest) rp h)
-
-pub up_front : (front rest : List ℕ) (rp : Rp) → IsUp (front ++ rest) rp → (rest ≡ [] → ⊥) → (rest ≡ user_data_of rp → ⊥) → up_at front ≡ Err Truncated
-up_front front rest rp h some other =
-    elim (up_fronts front rest rp h) [
-      | inl none ↦ absurd (some none)
-      | inr p ↦ elim p [ inl short ↦ short | inr same ↦ absurd (other same) ]
-    ]
-
-pub down_front : (front rest : List ℕ) (rp : Rp) → IsDown (front ++ rest) rp → (rest ≡ [] → ⊥) → (rest ≡ user_data_of rp → ⊥) → down_at front ≡ Err Truncated
-down_front front rest rp h some other =
-    elim (down_fronts front rest rp h) [
+pub front_short : (direction : Direction) (front rest : List ℕ) (rp : Rp) → IsUnit direction (front ++ rest) rp → (rest ≡ [] → ⊥) → (rest ≡ user_data_of rp → ⊥)
+    → unit_at direction front ≡ Err Truncated
+front_short direction front rest rp h some other =
+    elim (fronts direction front rest rp h) [
       | inl none ↦ absurd (some none)
       | inr p ↦ elim p [ inl short ↦ short | inr same ↦ absurd (other same) ]
     ]
 
 -- a unit without its user data
 
-up_bare_is : (front : List ℕ) (rp : Rp) → IsUp (front ++ user_data_of rp) rp → IsUp front (bare rp)
-up_bare_is front (DataUnit reference centre unit) h = (h.0, h.1, sym (append-nil front) ∙ h.2)
-up_bare_is front (AckUnit reference unit) h = (tt, append_cancel_right front (2 ∷ reference ∷ []) (user_data unit) h.1)
-up_bare_is front (ErrorUnit reference cause unit) h =
+smma_bare : (direction : Direction) (front : List ℕ) (reference : ℕ) → IsUnit direction (front ++ []) (Smma reference) → IsUnit direction front (Smma reference)
+smma_bare direction front reference h = subst (λ (l : List ℕ). IsUnit direction l (Smma reference)) (append-nil front) h
+
+bare_is : (direction : Direction) (front : List ℕ) (rp : Rp) → IsUnit direction (front ++ user_data_of rp) rp → IsUnit direction front (bare rp)
+bare_is direction front (DataUnit reference centre unit) h = (h.0, h.1, sym (append-nil front) ∙ h.2)
+bare_is direction front (AckUnit reference unit) h = (tt, append_cancel_right front (type_octet direction Ack ∷ reference ∷ []) (user_data unit) h.1)
+bare_is direction front (ErrorUnit reference cause unit) h =
     let f = h.2.0 in
-    (h.0, tt, (f, h.2.1, append_cancel_right front (4 ∷ reference ∷ f) (user_data unit) h.2.2 ∙ sym (append-nil (4 ∷ reference ∷ f))))
-up_bare_is front (Smma reference) h = sym (append-nil front) ∙ h
+    let head = type_octet direction Error ∷ reference ∷ f in
+    (h.0, tt, (f, h.2.1, append_cancel_right front head (user_data unit) h.2.2 ∙ sym (append-nil head)))
+bare_is direction front (Smma reference) h = smma_bare direction front reference h
 
-down_bare_is : (front : List ℕ) (rp : Rp) → IsDown (front ++ user_data_of rp) rp → IsDown front (bare rp)
-down_bare_is front (DataUnit reference centre unit) h = (h.0, h.1, sym (append-nil front) ∙ h.2)
-down_bare_is front (AckUnit reference unit) h = (tt, append_cancel_right front (3 ∷ reference ∷ []) (user_data unit) h.1)
-down_bare_is front (ErrorUnit reference cause unit) h =
-    let f = h.2.0 in
-    (h.0, tt, (f, h.2.1, append_cancel_right front (5 ∷ reference ∷ f) (user_data unit) h.2.2 ∙ sym (append-nil (5 ∷ reference ∷ f))))
-down_bare_is front (Smma reference) h = absurd h
-
-pub up_bare : (front : List ℕ) (rp : Rp) → IsUp (front ++ user_data_of rp) rp → up_at front ≡ Ok (bare rp)
-up_bare front rp h = up_again front (bare rp) (up_bare_is front rp h)
-
-pub down_bare : (front : List ℕ) (rp : Rp) → IsDown (front ++ user_data_of rp) rp → down_at front ≡ Ok (bare rp)
-down_bare front rp h = down_again front (bare rp) (down_bare_is front rp h)
+pub bare_read : (direction : Direction) (front : List ℕ) (rp : Rp) → IsUnit direction (front ++ user_data_of rp) rp → unit_at direction front ≡ Ok (bare rp)
+bare_read direction front rp h = again direction front (bare rp) (bare_is direction front rp h)

@@ -4,7 +4,9 @@ use Rattle.std.specs.Prelude.{◌≡◌, ℕ, ◌<◌, ◌≤◌, ◌⊎◌, Lis
 use Rattle.sms_relay.specs.declared.cause.RpCause.{RpCause}
 use Rattle.sms_relay.specs.declared.frame.Rp.{Rp}
 use Rattle.sms_relay.specs.declared.frame.Rp.TheVariants.{DataUnit, AckUnit, ErrorUnit, Smma}
-use Rattle.sms_relay.specs.declared.message_type.MessageType.TheVariants.{DataUp, DataDown, AckUp, AckDown, ErrorUp, ErrorDown, SmmaUp}
+use Rattle.sms_relay.specs.declared.message_type.Direction.{Direction}
+use Rattle.sms_relay.specs.declared.message_type.Direction.TheVariants.{Up, Down}
+use Rattle.sms_relay.specs.declared.message_type.MessageType.TheVariants.{Data, Ack, Error, Smma as SmmaType}
 use Rattle.sms_relay.specs.Cause.{number_of, IsRpCause}
 use Rattle.sms_relay.specs.MessageType.{type_octet}
 
@@ -34,84 +36,113 @@ IsCauseField field cause = (field ≡ 1 ∷ number_of cause ∷ []) ⊎ ((diagno
 
 -- ---- the written lists
 
--- 7.3.1.2: from the handset, the originator's address is empty and the centre is the destination.
-abbrev pub data_up : ℕ → List ℕ → List ℕ → List ℕ
-data_up reference centre unit = type_octet DataUp ∷ reference ∷ 0 ∷ length centre ∷ (centre ++ (length unit ∷ unit))
+-- 7.3.1: the addresses of an RP-DATA in front of what follows, the originator's first. The address of the handset is empty.
+-- The centre is the destination upwards (7.3.1.2) and the originator downwards (7.3.1.1).
+abbrev pub addresses : Direction → List ℕ → List ℕ → List ℕ
+addresses Up centre rest = 0 ∷ length centre ∷ (centre ++ rest)
+addresses Down centre rest = length centre ∷ (centre ++ (0 ∷ rest))
 
--- 7.3.1.1: to the handset, the centre is the originator and the destination's address is empty.
-abbrev pub data_down : ℕ → List ℕ → List ℕ → List ℕ
-data_down reference centre unit = type_octet DataDown ∷ reference ∷ length centre ∷ (centre ++ (0 ∷ length unit ∷ unit))
+abbrev pub data_octets : Direction → ℕ → List ℕ → List ℕ → List ℕ
+data_octets direction reference centre unit = type_octet direction Data ∷ reference ∷ addresses direction centre (length unit ∷ unit)
 
 -- 7.3.3
-abbrev pub ack_up : ℕ → Option (List ℕ) → List ℕ
-ack_up reference unit = type_octet AckUp ∷ reference ∷ user_data unit
-
-abbrev pub ack_down : ℕ → Option (List ℕ) → List ℕ
-ack_down reference unit = type_octet AckDown ∷ reference ∷ user_data unit
+abbrev pub ack_octets : Direction → ℕ → Option (List ℕ) → List ℕ
+ack_octets direction reference unit = type_octet direction Ack ∷ reference ∷ user_data unit
 
 -- 7.3.4: written without a diagnostic
-abbrev pub error_up : ℕ → RpCause → Option (List ℕ) → List ℕ
-error_up reference cause unit = type_octet ErrorUp ∷ reference ∷ 1 ∷ number_of cause ∷ user_data unit
+abbrev pub error_octets : Direction → ℕ → RpCause → Option (List ℕ) → List ℕ
+error_octets direction reference cause unit = type_octet direction Error ∷ reference ∷ 1 ∷ number_of cause ∷ user_data unit
 
-abbrev pub error_down : ℕ → RpCause → Option (List ℕ) → List ℕ
-error_down reference cause unit = type_octet ErrorDown ∷ reference ∷ 1 ∷ number_of cause ∷ user_data unit
+-- 7.3.2: RP-SMMA is sent up alone
+abbrev pub smma_octets : Direction → ℕ → List ℕ
+smma_octets Up reference = type_octet Up SmmaType ∷ reference ∷ []
+smma_octets Down reference = []
 
--- 7.3.2
-abbrev pub smma_up : ℕ → List ℕ
-smma_up reference = type_octet SmmaUp ∷ reference ∷ []
+-- the list of a unit that is sent in a direction
+abbrev pub unit_octets : Direction → Rp → List ℕ
+unit_octets direction (DataUnit reference centre unit) = data_octets direction reference centre unit
+unit_octets direction (AckUnit reference unit) = ack_octets direction reference unit
+unit_octets direction (ErrorUnit reference cause unit) = error_octets direction reference cause unit
+unit_octets direction (Smma reference) = smma_octets direction reference
 
--- the list of a unit that is sent up
-abbrev pub up_octets : Rp → List ℕ
-up_octets (DataUnit reference centre unit) = data_up reference centre unit
-up_octets (AckUnit reference unit) = ack_up reference unit
-up_octets (ErrorUnit reference cause unit) = error_up reference cause unit
-up_octets (Smma reference) = smma_up reference
+-- ---- the units of a direction
 
--- the list of a unit that is sent down; RP-SMMA has none
-abbrev pub down_octets : Rp → List ℕ
-down_octets (DataUnit reference centre unit) = data_down reference centre unit
-down_octets (AckUnit reference unit) = ack_down reference unit
-down_octets (ErrorUnit reference cause unit) = error_down reference cause unit
-down_octets (Smma reference) = []
+abbrev pub SendsSmma : Direction → Type 0
+SendsSmma Up = Unit {0}
+SendsSmma Down = ⊥
 
--- ---- the units of each direction
+-- A unit that may be sent in a direction.
+abbrev pub IsValue : Direction → Rp → Type 0
+IsValue direction (DataUnit reference centre unit) = IsCentre centre × IsTpdu unit
+IsValue direction (AckUnit reference unit) = IsUserData unit
+IsValue direction (ErrorUnit reference cause unit) = IsRpCause cause × IsUserData unit
+IsValue direction (Smma reference) = SendsSmma direction
 
--- A unit that may be sent up.
-abbrev pub IsUpValue : Rp → Type 0
-IsUpValue (DataUnit reference centre unit) = IsCentre centre × IsTpdu unit
-IsUpValue (AckUnit reference unit) = IsUserData unit
-IsUpValue (ErrorUnit reference cause unit) = IsRpCause cause × IsUserData unit
-IsUpValue (Smma reference) = Unit {0}
+abbrev pub IsSmma : Direction → List ℕ → ℕ → Type 0
+IsSmma Up octets reference = octets ≡ smma_octets Up reference
+IsSmma Down octets reference = ⊥
 
--- A unit that may be sent down.
-abbrev pub IsDownValue : Rp → Type 0
-IsDownValue (DataUnit reference centre unit) = IsCentre centre × IsTpdu unit
-IsDownValue (AckUnit reference unit) = IsUserData unit
-IsDownValue (ErrorUnit reference cause unit) = IsRpCause cause × IsUserData unit
-IsDownValue (Smma reference) = ⊥
-
--- The octets are a unit from the handset.
-abbrev pub IsUp : List ℕ → Rp → Type 0
-IsUp octets (DataUnit reference centre unit) = IsCentre centre × IsTpdu unit × (octets ≡ data_up reference centre unit)
-IsUp octets (AckUnit reference unit) = IsUserData unit × (octets ≡ ack_up reference unit)
-IsUp octets (ErrorUnit reference cause unit) =
-    IsRpCause cause × IsUserData unit × ((field : List ℕ) × IsCauseField field cause × (octets ≡ type_octet ErrorUp ∷ reference ∷ (field ++ user_data unit)))
-IsUp octets (Smma reference) = octets ≡ smma_up reference
-
--- The octets are a unit to the handset.
-abbrev pub IsDown : List ℕ → Rp → Type 0
-IsDown octets (DataUnit reference centre unit) = IsCentre centre × IsTpdu unit × (octets ≡ data_down reference centre unit)
-IsDown octets (AckUnit reference unit) = IsUserData unit × (octets ≡ ack_down reference unit)
-IsDown octets (ErrorUnit reference cause unit) =
-    IsRpCause cause × IsUserData unit × ((field : List ℕ) × IsCauseField field cause × (octets ≡ type_octet ErrorDown ∷ reference ∷ (field ++ user_data unit)))
-IsDown octets (Smma reference) = ⊥
+-- The octets are a unit that is sent in a direction.
+abbrev pub IsUnit : Direction → List ℕ → Rp → Type 0
+IsUnit direction octets (DataUnit reference centre unit) = IsCentre centre × IsTpdu unit × (octets ≡ data_octets direction reference centre unit)
+IsUnit direction octets (AckUnit reference unit) = IsUserData unit × (octets ≡ ack_octets direction reference unit)
+IsUnit direction octets (ErrorUnit reference cause unit) =
+    IsRpCause cause × IsUserData unit
+    × ((field : List ℕ) × IsCauseField field cause × (octets ≡ type_octet direction Error ∷ reference ∷ (field ++ user_data unit)))
+IsUnit direction octets (Smma reference) = IsSmma direction octets reference
 
 -- The octets are the written list of a unit.
+abbrev pub IsWritten : Direction → List ℕ → Rp → Type 0
+IsWritten direction octets rp = IsValue direction rp × (octets ≡ unit_octets direction rp)
+
+-- ---- from the handset
+
+abbrev pub data_up : ℕ → List ℕ → List ℕ → List ℕ
+data_up reference centre unit = data_octets Up reference centre unit
+
+abbrev pub ack_up : ℕ → Option (List ℕ) → List ℕ
+ack_up reference unit = ack_octets Up reference unit
+
+abbrev pub error_up : ℕ → RpCause → Option (List ℕ) → List ℕ
+error_up reference cause unit = error_octets Up reference cause unit
+
+abbrev pub smma_up : ℕ → List ℕ
+smma_up reference = smma_octets Up reference
+
+abbrev pub up_octets : Rp → List ℕ
+up_octets rp = unit_octets Up rp
+
+abbrev pub IsUpValue : Rp → Type 0
+IsUpValue rp = IsValue Up rp
+
+abbrev pub IsUp : List ℕ → Rp → Type 0
+IsUp octets rp = IsUnit Up octets rp
+
 abbrev pub IsWrittenUp : List ℕ → Rp → Type 0
-IsWrittenUp octets rp = IsUpValue rp × (octets ≡ up_octets rp)
+IsWrittenUp octets rp = IsWritten Up octets rp
+
+-- ---- to the handset
+
+abbrev pub data_down : ℕ → List ℕ → List ℕ → List ℕ
+data_down reference centre unit = data_octets Down reference centre unit
+
+abbrev pub ack_down : ℕ → Option (List ℕ) → List ℕ
+ack_down reference unit = ack_octets Down reference unit
+
+abbrev pub error_down : ℕ → RpCause → Option (List ℕ) → List ℕ
+error_down reference cause unit = error_octets Down reference cause unit
+
+abbrev pub down_octets : Rp → List ℕ
+down_octets rp = unit_octets Down rp
+
+abbrev pub IsDownValue : Rp → Type 0
+IsDownValue rp = IsValue Down rp
+
+abbrev pub IsDown : List ℕ → Rp → Type 0
+IsDown octets rp = IsUnit Down octets rp
 
 abbrev pub IsWrittenDown : List ℕ → Rp → Type 0
-IsWrittenDown octets rp = IsDownValue rp × (octets ≡ down_octets rp)
+IsWrittenDown octets rp = IsWritten Down octets rp
 
 -- ---- units that are cut
 

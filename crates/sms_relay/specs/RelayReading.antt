@@ -7,8 +7,10 @@ use Rattle.sms_relay.specs.declared.fault.RelayFault.{RelayFault}
 use Rattle.sms_relay.specs.declared.fault.RelayFault.TheVariants.{Truncated, Trailing, Unknown, BadLength}
 use Rattle.sms_relay.specs.declared.frame.Rp.{Rp}
 use Rattle.sms_relay.specs.declared.frame.Rp.TheVariants.{DataUnit, AckUnit, ErrorUnit, Smma}
+use Rattle.sms_relay.specs.declared.message_type.Direction.{Direction}
+use Rattle.sms_relay.specs.declared.message_type.Direction.TheVariants.{Up, Down}
 use Rattle.sms_relay.specs.declared.message_type.MessageType.{MessageType}
-use Rattle.sms_relay.specs.declared.message_type.MessageType.TheVariants.{DataUp, DataDown, AckUp, AckDown, ErrorUp, ErrorDown, SmmaUp}
+use Rattle.sms_relay.specs.declared.message_type.MessageType.TheVariants.{Data, Ack, Error, Smma as SmmaType}
 use Rattle.sms_relay.specs.Cause.{cause_of}
 use Rattle.sms_relay.specs.MessageType.{type_of}
 
@@ -27,6 +29,16 @@ nobody_in octets = do
   count ← octet_in Truncated octets
   empty ← only_if (count.0 == 0) BadLength
   Ok (tt, count.1)
+
+-- the addresses of an RP-DATA, the originator's first: that of the centre and an empty one
+unfoldable pub addresses_in : Direction → List ℕ → Result (List ℕ × List ℕ) RelayFault
+addresses_in Up octets = do
+  originator ← nobody_in octets
+  centre_in originator.1
+addresses_in Down octets = do
+  centre ← centre_in octets
+  destination ← nobody_in centre.1
+  Ok (centre.0, destination.1)
 
 -- a length and a TPDU
 unfoldable pub tpdu_in : List ℕ → Result (List ℕ × List ℕ) RelayFault
@@ -55,20 +67,11 @@ cause_in octets = do
 
 -- ---- the units, behind their type
 
-unfoldable pub data_up_in : List ℕ → Result (Rp × List ℕ) RelayFault
-data_up_in octets = do
+unfoldable pub data_in : Direction → List ℕ → Result (Rp × List ℕ) RelayFault
+data_in direction octets = do
   reference ← octet_in Truncated octets
-  originator ← nobody_in reference.1
-  centre ← centre_in originator.1
+  centre ← addresses_in direction reference.1
   unit ← tpdu_in centre.1
-  Ok (DataUnit reference.0 centre.0 unit.0, unit.1)
-
-unfoldable pub data_down_in : List ℕ → Result (Rp × List ℕ) RelayFault
-data_down_in octets = do
-  reference ← octet_in Truncated octets
-  centre ← centre_in reference.1
-  destination ← nobody_in centre.1
-  unit ← tpdu_in destination.1
   Ok (DataUnit reference.0 centre.0 unit.0, unit.1)
 
 unfoldable pub ack_in : List ℕ → Result (Rp × List ℕ) RelayFault
@@ -84,55 +87,39 @@ error_in octets = do
   unit ← user_data_in cause.1
   Ok (ErrorUnit reference.0 cause.0 unit.0, unit.1)
 
-unfoldable pub smma_in : List ℕ → Result (Rp × List ℕ) RelayFault
-smma_in octets = do
+-- RP-SMMA is sent up alone
+unfoldable pub smma_in : Direction → List ℕ → Result (Rp × List ℕ) RelayFault
+smma_in Up octets = do
   reference ← octet_in Truncated octets
   Ok (Smma reference.0, reference.1)
+smma_in Down octets = Err Unknown
+
+-- the unit of a type
+abbrev pub unit_of : Option MessageType → Direction → List ℕ → Result (Rp × List ℕ) RelayFault
+unit_of (Some Data) direction octets = data_in direction octets
+unit_of (Some Ack) direction octets = ack_in octets
+unit_of (Some Error) direction octets = error_in octets
+unit_of (Some SmmaType) direction octets = smma_in direction octets
+unit_of None direction octets = Err Unknown
 
 -- ---- whole lists
 
--- the unit of a type that is sent up
-abbrev pub up_unit : Option MessageType → List ℕ → Result (Rp × List ℕ) RelayFault
-up_unit (Some DataUp) octets = data_up_in octets
-up_unit (Some AckUp) octets = ack_in octets
-up_unit (Some ErrorUp) octets = error_in octets
-up_unit (Some SmmaUp) octets = smma_in octets
-up_unit (Some DataDown) octets = Err Unknown
-up_unit (Some AckDown) octets = Err Unknown
-up_unit (Some ErrorDown) octets = Err Unknown
-up_unit None octets = Err Unknown
-
--- the unit of a type that is sent down
-abbrev pub down_unit : Option MessageType → List ℕ → Result (Rp × List ℕ) RelayFault
-down_unit (Some DataDown) octets = data_down_in octets
-down_unit (Some AckDown) octets = ack_in octets
-down_unit (Some ErrorDown) octets = error_in octets
-down_unit (Some DataUp) octets = Err Unknown
-down_unit (Some AckUp) octets = Err Unknown
-down_unit (Some ErrorUp) octets = Err Unknown
-down_unit (Some SmmaUp) octets = Err Unknown
-down_unit None octets = Err Unknown
-
-unfoldable pub up_in : List ℕ → Result (Rp × List ℕ) RelayFault
-up_in octets = do
+unfoldable pub unit_in : Direction → List ℕ → Result (Rp × List ℕ) RelayFault
+unit_in direction octets = do
   kind ← octet_in Truncated octets
-  up_unit (type_of kind.0) kind.1
+  unit_of (type_of direction kind.0) direction kind.1
 
-unfoldable pub down_in : List ℕ → Result (Rp × List ℕ) RelayFault
-down_in octets = do
-  kind ← octet_in Truncated octets
-  down_unit (type_of kind.0) kind.1
+-- what the octets are as a unit that is sent in a direction
+unfoldable pub unit_at : Direction → List ℕ → Result Rp RelayFault
+unit_at direction octets = do
+  rp ← unit_in direction octets
+  done ← end_in Trailing rp.1
+  Ok rp.0
 
 -- what the octets are as a unit from the handset
 unfoldable pub up_at : List ℕ → Result Rp RelayFault
-up_at octets = do
-  rp ← up_in octets
-  done ← end_in Trailing rp.1
-  Ok rp.0
+up_at octets = unit_at Up octets
 
 -- what the octets are as a unit to the handset
 unfoldable pub down_at : List ℕ → Result Rp RelayFault
-down_at octets = do
-  rp ← down_in octets
-  done ← end_in Trailing rp.1
-  Ok rp.0
+down_at octets = unit_at Down octets

@@ -1,11 +1,12 @@
 //! The fields that the units share, read at a cursor.
 ghost use Rattle.std.specs.Prelude.{ℕ, List, Option, option_map};
 ghost use Rattle.sms_base.specs.Reading.{Takes};
-ghost use Rattle.sms_relay.specs.RelayReading.{centre_in, nobody_in, tpdu_in, user_data_in, cause_in, ack_in, error_in, data_up_in};
+ghost use Rattle.sms_relay.specs.RelayReading.{centre_in, nobody_in, addresses_in, tpdu_in, user_data_in, cause_in, ack_in, error_in};
 
 use crate::cause::RpCause;
 use crate::fault::RelayFault;
 use crate::frame::Rp;
+use crate::message_type::Direction;
 use sms_base::{Cursor, OctetView};
 
 /// The identifier of the user data of an answer (3GPP TS 24.011 8.2.5.3).
@@ -13,7 +14,7 @@ pub(crate) const USER_DATA: u8 = 0x41;
 
 /// The address of the centre, 2 to 11 octets. Its length is judged before its octets.
 #[tactic(auto, unfolding(crate::specs::RelayReading::centre_in))]
-pub(crate) fn centre<'a>(cursor: &mut Cursor<'a>) -> Result<OctetView<'a>, RelayFault>
+fn centre<'a>(cursor: &mut Cursor<'a>) -> Result<OctetView<'a>, RelayFault>
     ensures { Takes (λ x. x) result cursor.new (centre_in cursor.old) }
 {
     let count = cursor.octet(RelayFault::Truncated)?;
@@ -26,13 +27,34 @@ pub(crate) fn centre<'a>(cursor: &mut Cursor<'a>) -> Result<OctetView<'a>, Relay
 
 /// The address of the other side, which is empty.
 #[tactic(auto, unfolding(crate::specs::RelayReading::nobody_in))]
-pub(crate) fn nobody(cursor: &mut Cursor<'_>) -> Result<(), RelayFault>
+fn nobody(cursor: &mut Cursor<'_>) -> Result<(), RelayFault>
     ensures { Takes (λ x. x) result cursor.new (nobody_in cursor.old) }
 {
     if cursor.octet(RelayFault::Truncated)? != 0 {
         return Err(RelayFault::BadLength);
     }
     Ok(())
+}
+
+/// The address of the centre, behind the empty one upwards and in front of it downwards.
+#[tactic(auto, unfolding(crate::specs::RelayReading::addresses_in))]
+pub(crate) fn addresses<'a>(
+    direction: Direction,
+    cursor: &mut Cursor<'a>,
+) -> Result<OctetView<'a>, RelayFault>
+    ensures { Takes (λ x. x) result cursor.new (addresses_in direction cursor.old) }
+{
+    match direction {
+        Direction::Up => {
+            nobody(cursor)?;
+            centre(cursor)
+        }
+        Direction::Down => {
+            let centre = centre(cursor)?;
+            nobody(cursor)?;
+            Ok(centre)
+        }
+    }
 }
 
 /// A length and a TPDU.

@@ -7,30 +7,28 @@
 //! growth.
 //!
 //! - `cause`: the cause of an RP-ERROR (8.2.5.4 and annex E)
-//! - `down`: units to the handset, read and written
 //! - `fault`: why octets are no unit
 //! - `fields`: the fields that the units share
 //! - `frame`: the units
 //! - `laws`: laws of the units
-//! - `message_type`: the type of a unit, its first octet (8.2.2)
-//! - `up`: units from the handset, read and written
-//! - `writing`: the octets of units, each in one growth
+//! - `message_type`: the type of a unit, its first octet (8.2.2), by its direction
+//! - `reading`: units of either direction, read
+//! - `writing`: units of either direction, written, each in one growth
 #![tactic(auto)]
 
 mod cause;
-mod down;
 mod fault;
 mod fields;
 mod frame;
 pub mod laws;
 mod message_type;
+mod reading;
 mod rejecting;
-mod up;
 mod writing;
 
 pub use cause::RpCause;
-pub use down::{read_down, write_down};
 pub use fault::RelayFault;
 pub use frame::Rp;
+pub use reading::{read_down, read_up};
 pub use rejecting::{fault_cause, reference_octet};
-pub use up::{read_up, write_up};
+pub use writing::{write_down, write_up};

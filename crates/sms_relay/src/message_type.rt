@@ -2,50 +2,55 @@
 ghost use Rattle.std.specs.Prelude.{◌≡◌};
 ghost use Rattle.sms_relay.specs.MessageType.{type_octet, type_of};
 
-/// Which unit it is and which way it is sent. `octet` has the one table of the octets.
+/// Which way a unit is sent: up from the handset, or down to it.
 #[derive(Clone, Copy, PartialEq, Eq)]
-pub(crate) enum MessageType {
-    DataUp,
-    DataDown,
-    AckUp,
-    AckDown,
-    ErrorUp,
-    ErrorDown,
-    SmmaUp,
+pub(crate) enum Direction {
+    Up,
+    Down,
 }
 
-/// The types that there are; RP-SMMA is sent up alone.
-const TYPES: [MessageType; 7] = [
-    MessageType::DataUp,
-    MessageType::DataDown,
-    MessageType::AckUp,
-    MessageType::AckDown,
-    MessageType::ErrorUp,
-    MessageType::ErrorDown,
-    MessageType::SmmaUp,
+/// Which unit it is. `octet` has the two tables of the octets, one for each direction.
+#[derive(Clone, Copy, PartialEq, Eq)]
+pub(crate) enum MessageType {
+    Data,
+    Ack,
+    Error,
+    Smma,
+}
+
+/// The types that there are.
+const TYPES: [MessageType; 4] = [
+    MessageType::Data,
+    MessageType::Ack,
+    MessageType::Error,
+    MessageType::Smma,
 ];
 
 impl MessageType {
-    /// The type that an octet names, if it names one.
+    /// The type that an octet names in a direction, if it names one.
     #[tactic(auto, unfolding(crate::specs::MessageType::type_of))]
-    pub(crate) fn of(octet: u8) -> Option<MessageType>
-        ensures { result ≡ type_of octet }
+    pub(crate) fn of(direction: Direction, octet: u8) -> Option<MessageType>
+        ensures { result ≡ type_of direction octet }
     {
-        TYPES.iter().copied().find(|kind| kind.octet() == octet)
+        TYPES
+            .iter()
+            .copied()
+            .find(|kind| kind.octet(direction) == octet)
     }
 
-    /// The octet of the type.
-    pub(crate) fn octet(self) -> u8
-        ensures { result ≡ type_octet self }
+    /// The octet of the type. RP-SMMA is sent up alone: its octet downwards is reserved.
+    pub(crate) fn octet(self, direction: Direction) -> u8
+        ensures { result ≡ type_octet direction self }
     {
-        match self {
-            MessageType::DataUp => 0,
-            MessageType::DataDown => 1,
-            MessageType::AckUp => 2,
-            MessageType::AckDown => 3,
-            MessageType::ErrorUp => 4,
-            MessageType::ErrorDown => 5,
-            MessageType::SmmaUp => 6,
+        match (direction, self) {
+            (Direction::Up, MessageType::Data) => 0,
+            (Direction::Up, MessageType::Ack) => 2,
+            (Direction::Up, MessageType::Error) => 4,
+            (Direction::Up, MessageType::Smma) => 6,
+            (Direction::Down, MessageType::Data) => 1,
+            (Direction::Down, MessageType::Ack) => 3,
+            (Direction::Down, MessageType::Error) => 5,
+            (Direction::Down, MessageType::Smma) => 7,
         }
     }
 }

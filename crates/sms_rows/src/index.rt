@@ -9,11 +9,13 @@ ghost use Rattle.sms_rows.specs.index.First.{first_such, is_ahead_from, is_past_
 ghost use Rattle.sms_rows.specs.index.Picked.{set_at};
 ghost use Rattle.sms_rows.specs.table.Table.{Rises, put, row_at, without};
 
+mod bound;
 mod dated;
 mod tree;
 
+use crate::index::bound::Bound;
 use crate::index::tree::Tree;
-use crate::table::Key;
+use crate::table::{Change, Key};
 pub use dated::Dated;
 use sms_base::Moment;
 use std::alloc::{AllocError, Global};
@@ -72,7 +74,7 @@ impl<T: Copy + Dated> Index<T> {
         ensures ok { OnOk result (self.new ≡ put T.key row self.old) }
         ensures err { OnErr result (self.new ≡ self.old) }
     {
-        self.tree = self.tree.with(self.alloc, row)?;
+        self.tree = self.tree.changed(self.alloc, &Change::Put(row))?;
         Ok(())
     }
 
@@ -81,7 +83,7 @@ impl<T: Copy + Dated> Index<T> {
         ensures ok { OnOk result (self.new ≡ without T.key key self.old) }
         ensures err { OnErr result (self.new ≡ self.old) }
     {
-        self.tree = self.tree.without(self.alloc, key)?;
+        self.tree = self.tree.changed(self.alloc, &Change::Remove(key))?;
         Ok(())
     }
 
@@ -100,13 +102,13 @@ impl<T: Copy + Dated> Index<T> {
     pub fn first_past(&self, first: Key, now: Moment) -> Option<T>
         ensures { result ≡ first_such (is_past_from T.key T.moment first now) self.now }
     {
-        self.tree.first_past(first, now)
+        self.tree.first_of(Bound::Past, first, now)
     }
 
     /// The first row from that key on whose moment is still ahead.
     pub fn first_ahead(&self, first: Key, now: Moment) -> Option<T>
         ensures { result ≡ first_such (is_ahead_from T.key T.moment first now) self.now }
     {
-        self.tree.first_ahead(first, now)
+        self.tree.first_of(Bound::Ahead, first, now)
     }
 }

@@ -10,4 +10,5 @@ pub mod Numbers
 pub mod Options
 pub mod Secrets
 pub mod ServerWords
+pub mod Several
 pub mod SimWords

@@ -23,6 +23,7 @@ mod option;
 mod refused;
 mod secrets;
 mod server;
+mod several;
 mod sim;
 
 pub use about::{About, VERSION, about_of};

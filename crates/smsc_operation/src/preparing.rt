@@ -194,6 +194,7 @@ fn rows_in(tables: RowTables) -> Rows
         handsets: Listed::from_vec(tables.handsets.into_vec()),
         reports: Listed::from_vec(tables.reports.into_vec()),
         priorities: Listed::from_vec(tables.priorities.into_vec()),
+        bars: Listed::from_vec(tables.bars.into_vec()),
         setup: tables.setup,
     }
 }

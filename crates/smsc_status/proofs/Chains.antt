@@ -39,8 +39,3 @@ chain13 o a1 a2 a3 a4 a5 a6 a7 a8 a9 a10 a11 a12 a13 {p1} e1 e2 e3 e4 e5 e6 e7 e
 
 pub chain14 : (o a1 a2 a3 a4 a5 a6 a7 a8 a9 a10 a11 a12 a13 a14 : List ℕ) {p1 p2 p3 p4 p5 p6 p7 p8 p9 p10 p11 p12 p13 p14 : List ℕ} → p1 ≡ o ++ a1 → p2 ≡ p1 ++ a2 → p3 ≡ p2 ++ a3 → p4 ≡ p3 ++ a4 → p5 ≡ p4 ++ a5 → p6 ≡ p5 ++ a6 → p7 ≡ p6 ++ a7 → p8 ≡ p7 ++ a8 → p9 ≡ p8 ++ a9 → p10 ≡ p9 ++ a10 → p11 ≡ p10 ++ a11 → p12 ≡ p11 ++ a12 → p13 ≡ p12 ++ a13 → p14 ≡ p13 ++ a14 → p14 ≡ o ++ (a1 ++ (a2 ++ (a3 ++ (a4 ++ (a5 ++ (a6 ++ (a7 ++ (a8 ++ (a9 ++ (a10 ++ (a11 ++ (a12 ++ (a13 ++ a14)))))))))))))
 chain14 o a1 a2 a3 a4 a5 a6 a7 a8 a9 a10 a11 a12 a13 a14 {p1} e1 e2 e3 e4 e5 e6 e7 e8 e9 e10 e11 e12 e13 e14 = next o a1 (a2 ++ (a3 ++ (a4 ++ (a5 ++ (a6 ++ (a7 ++ (a8 ++ (a9 ++ (a10 ++ (a11 ++ (a12 ++ (a13 ++ a14)))))))))))) e1 (chain13 p1 a2 a3 a4 a5 a6 a7 a8 a9 a10 a11 a12 a13 a14 e2 e3 e4 e5 e6 e7 e8 e9 e10 e11 e12 e13 e14)
-
--- the same where something stands before the first
-pub before5 : (o b a1 a2 a3 a4 a5 : List ℕ) {p1 p2 p3 p4 p5 : List ℕ} → p1 ≡ o ++ (b ++ a1) → p2 ≡ p1 ++ a2 → p3 ≡ p2 ++ a3 → p4 ≡ p3 ++ a4 → p5 ≡ p4 ++ a5 → p5 ≡ o ++ (b ++ (a1 ++ (a2 ++ (a3 ++ (a4 ++ a5)))))
-before5 o b a1 a2 a3 a4 a5 e1 e2 e3 e4 e5 =
-    chain5 o (b ++ a1) a2 a3 a4 a5 e1 e2 e3 e4 e5 ∙ ap (λ l. o ++ l) (append_assoc b a1 (a2 ++ (a3 ++ (a4 ++ a5))))

@@ -1,13 +1,15 @@
 -- The elements of an array, written one behind another.
-use Rattle.std.proofs.Common.{◌≡◌, ◌<◌, ◌≤◌, ◌+◌, ◌-◌, ℕ, zero, suc, List, [], ◌∷◌, ◌++◌, length, get_or, drop, take, add-one, append-nil, refl, ap, ◌∙◌, arith}
+use Rattle.std.proofs.Common.{◌≡◌, ◌<◌, ◌≤◌, ◌+◌, ◌-◌, ℕ, zero, suc, List, [], ◌∷◌, ◌++◌, length, get_or, drop, take, add-one, append-nil, append_assoc, refl, ap, ◌∙◌, arith}
 use Rattle.std.specs.Prelude.{codes, flat_map, reverse, String, string_bytes}
 use Rattle.std.proofs.lemmas.Grind.{flat_map-append}
 use Rattle.std.proofs.lemmas.List.{get_or-reverse, length-reverse, take_more}
 use Rattle.smsc_status.specs.Charts.{height, point_text, points_text}
 use Rattle.smsc_status.specs.Commits.{counted}
 use Rattle.smsc_status.specs.Json.{comma, elements, first_places, place_text}
-use Rattle.smsc_status.specs.Metrics.{bucket, first_buckets}
-use Rattle.smsc_status.specs.Page.{event_item}
+use Rattle.smsc_status.specs.Metrics.{behind, bucket, first_buckets, line_text, lines_text}
+use Rattle.smsc_status.specs.Page.{event_item, tile_text, tiles_end, tiles_text}
+use Rattle.smsc_status.specs.declared.metrics.Line.{Line}
+use Rattle.smsc_status.specs.declared.page.Tile.{Tile}
 use Rattle.smsc_status.specs.declared.commits.TheConstants.{LIMITS}
 
 -- what is still to be written of the elements from that place on
@@ -54,6 +56,21 @@ pub one_more_event : {Z : Type 0} (events : List (String Z)) (i : ℕ) (d : Stri
     flat_map (λ event. event_item (string_bytes event)) (take (i + 1) (reverse events))
     ≡ flat_map (λ event. event_item (string_bytes event)) (take i (reverse events)) ++ event_item (string_bytes (get_or events (length events - 1 - i) d))
 one_more_event events i d h = one_more_back (λ event. event_item (string_bytes event)) events i d h
+
+-- ---- tiles and lines
+
+-- tiles, and behind them what ends them
+pub followed_is : (tiles : List Tile) → flat_map tile_text tiles ++ tiles_end ≡ tiles_text tiles
+followed_is [] = refl
+followed_is (some ∷ tiles) = append_assoc (tile_text some) (flat_map tile_text tiles) tiles_end ∙ ap (λ l. tile_text some ++ l) (followed_is tiles)
+
+behind_is : (text : List ℕ) (lines : List Line) → text ++ flat_map line_text lines ≡ behind text lines
+behind_is text [] = append-nil text
+behind_is text (line ∷ lines) = ap (λ l. text ++ l) (behind_is (line_text line) lines)
+
+pub lines_are : (lines : List Line) → flat_map line_text lines ≡ lines_text lines
+lines_are [] = refl
+lines_are (line ∷ lines) = behind_is (line_text line) lines
 
 -- ---- places and buckets
 

@@ -37,6 +37,10 @@ abbrev pub elements : {A : Type 0} → (A → List ℕ) → List A → List ℕ
 elements text [] = []
 elements text (x ∷ xs) = text x ++ flat_map (λ y. codes "," ++ text y) xs
 
+-- an array that is a member behind others
+unfoldable pub array_text : {A : Type 0} → List ℕ → (A → List ℕ) → List A → List ℕ
+array_text name text xs = array_start name ++ (elements text xs ++ array_end)
+
 -- what stands before the element of that place
 abbrev pub comma : ℕ → List ℕ
 comma zero = []
@@ -119,7 +123,7 @@ oldest_text (Some message) = pending_text message
 -- the handsets for which most waits, and the oldest message that is pending
 unfoldable pub stuck_text : StatusView → List ℕ
 stuck_text v =
-    array_start (codes "stuck") ++ (elements stuck_line v.stuck.now ++ (array_end ++ (codes ",\"oldest\":" ++ oldest_text v.oldest)))
+    array_text (codes "stuck") stuck_line v.stuck.now ++ (codes ",\"oldest\":" ++ oldest_text v.oldest)
 
 -- ---- accounts
 
@@ -171,26 +175,20 @@ lost_text events lines = codes ",\"lost_events\":" ++ (decimal events ++ (codes 
 
 unfoldable pub lists_text : StatusView → List ℕ
 lists_text v =
-    array_start (codes "seconds") ++ (elements sample_text v.samples.now ++ (array_end
-    ++ (array_start (codes "sessions") ++ (elements session_text v.sessions.now ++ (array_end
-    ++ (array_start (codes "links") ++ (elements link_text v.links.now ++ array_end)))))))
-
-unfoldable pub accounts_text : List AccountLine → List ℕ
-accounts_text accounts = array_start (codes "accounts") ++ (elements account_text accounts ++ array_end)
+    array_text (codes "seconds") sample_text v.samples.now ++ (array_text (codes "sessions") session_text v.sessions.now
+    ++ array_text (codes "links") link_text v.links.now)
 
 unfoldable pub refusals_text : StatusView → List ℕ
 refusals_text v =
-    array_start (codes "refused_submits") ++ (elements refused_submits_text v.refused_submits.now ++ (array_end
-    ++ (array_start (codes "refused_binds") ++ (elements refused_binds_text v.refused_binds.now ++ (array_end
-    ++ (array_start (codes "refused_deliveries") ++ (elements refused_deliveries_text v.refused_deliveries.now ++ array_end)))))))
+    array_text (codes "refused_submits") refused_submits_text v.refused_submits.now
+    ++ (array_text (codes "refused_binds") refused_binds_text v.refused_binds.now
+    ++ array_text (codes "refused_deliveries") refused_deliveries_text v.refused_deliveries.now)
 
 unfoldable pub commits_text : StoreFigures → CommitFigures → Quantile → Quantile → List ℕ
 commits_text s c median most = store_text s c median most ++ (first_places c.counts 13 ++ last_place (get_or c.counts 13 0))
 
-unfoldable pub events_text : StatusView → List ℕ
-events_text v = array_start (codes "events") ++ (elements (λ event. string (string_bytes event)) v.events.now ++ array_end)
-
 unfoldable pub json_text : StatusView → Quantile → Quantile → List ℕ
 json_text v median most =
-    run_text v ++ (messages_text v.messages ++ (counts_text v.counts ++ (lists_text v ++ (stuck_text v ++ (accounts_text v.accounts.now ++ (refusals_text v
-    ++ (commits_text v.store v.commits median most ++ (events_text v ++ lost_text v.lost_events v.lost_lines))))))))
+    run_text v ++ (messages_text v.messages ++ (counts_text v.counts ++ (lists_text v ++ (stuck_text v
+    ++ (array_text (codes "accounts") account_text v.accounts.now ++ (refusals_text v ++ (commits_text v.store v.commits median most
+    ++ (array_text (codes "events") (λ event. string (string_bytes event)) v.events.now ++ lost_text v.lost_events v.lost_lines))))))))

@@ -1,5 +1,5 @@
 -- The samples of metrics in Prometheus' text format.
-use Rattle.std.specs.Prelude.{ℕ, zero, suc, List, [], ◌++◌, Option, Some, None, codes, decimal, flat_map, get_or, if◌then◌else◌, length, string_bytes, take}
+use Rattle.std.specs.Prelude.{ℕ, zero, suc, List, [], ◌∷◌, ◌++◌, Option, Some, None, codes, decimal, flat_map, get_or, if◌then◌else◌, length, string_bytes, take}
 use Rattle.std.specs.Str.{trim_end}
 use Rattle.smsc_status.specs.declared.commits.CommitFigures.{CommitFigures}
 use Rattle.smsc_status.specs.declared.commits.TheConstants.{LIMITS}
@@ -15,6 +15,8 @@ use Rattle.smsc_status.specs.declared.figures.SessionLine.{SessionLine}
 use Rattle.smsc_status.specs.declared.figures.StatusView.{StatusView}
 use Rattle.smsc_status.specs.declared.figures.StoreFigures.{StoreFigures}
 use Rattle.smsc_status.specs.declared.groups.GroupFigures.{GroupFigures}
+use Rattle.smsc_status.specs.declared.metrics.Line.{Line}
+use Rattle.smsc_status.specs.declared.metrics.Line.TheVariants.{Head, Plain, Labelled}
 use Rattle.smsc_status.specs.declared.metrics.LinkMetric.{LinkMetric}
 use Rattle.smsc_status.specs.declared.metrics.LinkMetric.TheVariants.{Waiting, Full, UnderWay}
 use Rattle.smsc_status.specs.declared.metrics.SessionMetric.{SessionMetric}
@@ -37,6 +39,20 @@ plain_sample name value = name ++ (codes " " ++ (decimal value ++ codes "\n"))
 unfoldable pub labelled_sample : List ℕ → List ℕ → List ℕ → ℕ → List ℕ
 labelled_sample name label text value =
     name ++ (codes "{" ++ (label ++ (codes "=" ++ (string text ++ (codes "} " ++ (decimal value ++ codes "\n"))))))
+
+abbrev pub line_text : Line → List ℕ
+line_text (Head name kind help) = metric name.now kind.now help.now
+line_text (Plain name value) = plain_sample name.now value
+line_text (Labelled name label text value) = labelled_sample name.now label.now text.now value
+
+-- a text, and the lines behind it
+abbrev pub behind : List ℕ → List Line → List ℕ
+behind text [] = text
+behind text (line ∷ lines) = text ++ behind (line_text line) lines
+
+abbrev pub lines_text : List Line → List ℕ
+lines_text [] = []
+lines_text (line ∷ lines) = behind (line_text line) lines
 
 -- ---- messages
 

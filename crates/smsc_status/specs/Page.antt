@@ -19,11 +19,14 @@ use Rattle.smsc_status.specs.declared.figures.StoreFigures.{StoreFigures}
 use Rattle.smsc_status.specs.declared.figures.StuckLine.{StuckLine}
 use Rattle.smsc_status.specs.declared.groups.GroupFigures.{GroupFigures}
 use Rattle.smsc_status.specs.declared.page.TheConstants.{HEAD, SESSIONS_HEAD, LINKS_HEAD, STUCK_HEAD, ACCOUNTS_HEAD, REFUSALS_HEAD}
+use Rattle.smsc_status.specs.declared.page.Tile.{Tile}
+use Rattle.smsc_status.specs.declared.page.Tile.TheVariants.{Figure, Graded}
 use Rattle.sms_base.specs.MessageId.{id_text}
 use Rattle.smsc_status.specs.Charts.{chart_text}
 use Rattle.smsc_status.specs.Kinds.{kind_word}
 use Rattle.sms_base.specs.Markup.{escaped}
 use Rattle.smsc_status.specs.Numbers.{moment_text, size_text}
+use Rattle.smsc_status.specs.Pieces.{piece_text}
 use Rattle.smsc_status.specs.Quantiles.{quantile_text}
 use Rattle.smsc_status.specs.Series.{commits_a_second}
 
@@ -51,6 +54,15 @@ tiles_begin title = codes "<h2>" ++ (title ++ codes "</h2><div class=\"tiles\">"
 
 unfoldable pub tiles_end : List ℕ
 tiles_end = codes "</div>\n"
+
+abbrev pub tile_text : Tile → List ℕ
+tile_text (Figure figure word) = tile (piece_text figure) word.now
+tile_text (Graded number word) = graded_tile number word.now
+
+-- tiles and what ends them
+abbrev pub tiles_text : List Tile → List ℕ
+tiles_text [] = tiles_end
+tiles_text (some ∷ tiles) = tile_text some ++ tiles_text tiles
 
 unfoldable pub messages_tiles : MessageFigures → List ℕ
 messages_tiles m =
@@ -85,16 +97,16 @@ none_cell columns = codes "<tr><td colspan=\"" ++ (columns ++ codes "\">none</td
 abbrev pub none_row : Bool → List ℕ → List ℕ
 none_row is_none columns = if is_none then none_cell columns else []
 
+-- behind the head of a table, its rows or what it has in their place, and its end
+unfoldable pub table_text : {A : Type 0} → List ℕ → (A → List ℕ) → List A → List ℕ → List ℕ
+table_text head row rows columns = head ++ (flat_map row rows ++ (none_row (length rows == 0) columns ++ table_end))
+
 unfoldable pub session_row : SessionLine → List ℕ
 session_row s =
     codes "<tr><td>" ++ (escaped (string_bytes s.account) ++ (codes "</td><td>" ++ (kind_word s.kind ++ (codes "</td><td class=\"n\">" ++ (decimal s.submits
     ++ (codes "</td><td class=\"n\">" ++ (decimal s.receipts ++ (codes "</td><td class=\"n\">" ++ (decimal s.window ++ (codes "</td><td>"
     ++ (moment_text s.since
     ++ (codes "</td><td class=\"n\">" ++ (decimal s.seat ++ codes "</td></tr>\n")))))))))))))
-
-unfoldable pub sessions_table : List SessionLine → List ℕ
-sessions_table sessions =
-    SESSIONS_HEAD.now ++ (flat_map session_row sessions ++ (none_row (length sessions == 0) (codes "7") ++ table_end))
 
 abbrev pub yes_or_no : Bool → List ℕ
 yes_or_no is_so = if is_so then codes "yes" else codes "no"
@@ -108,9 +120,6 @@ link_row l =
     codes "<tr><td>" ++ (escaped (string_bytes l.handset) ++ (codes "</td><td class=\"n\">" ++ (decimal l.waiting ++ (codes "</td><td>" ++ (bad_or_not l.is_full
     ++ (codes "</td><td>" ++ (yes_or_no l.is_under_way ++ (codes "</td><td>" ++ (moment_text l.since ++ (codes "</td><td class=\"n\">" ++ (decimal l.seat
     ++ codes "</td></tr>\n")))))))))))
-
-unfoldable pub links_table : List LinkLine → List ℕ
-links_table links = LINKS_HEAD.now ++ (flat_map link_row links ++ (none_row (length links == 0) (codes "6") ++ table_end))
 
 -- ---- what is stuck
 
@@ -152,12 +161,9 @@ unfoldable pub stuck_row : StuckLine → List ℕ
 stuck_row l =
     stuck_counts l ++ (last_cause_text l.is_linked l.cause ++ (next_try_text l.is_linked l.due ++ codes "</td></tr>\n"))
 
-unfoldable pub stuck_table : List StuckLine → List ℕ
-stuck_table lines = STUCK_HEAD.now ++ (flat_map stuck_row lines ++ (none_row (length lines == 0) (codes "6") ++ table_end))
-
 -- the oldest message that is pending, over the handsets for which most waits
 unfoldable pub stuck_text : StatusView → List ℕ
-stuck_text v = codes "<h2>What is stuck</h2><p>" ++ (oldest_text v.oldest ++ stuck_table v.stuck.now)
+stuck_text v = codes "<h2>What is stuck</h2><p>" ++ (oldest_text v.oldest ++ table_text STUCK_HEAD.now stuck_row v.stuck.now (codes "6"))
 
 -- ---- accounts
 
@@ -166,10 +172,6 @@ account_row a =
     codes "<tr><td>" ++ (escaped (string_bytes a.account) ++ (codes "</td><td class=\"n\">" ++ (decimal a.submits ++ (codes "</td><td class=\"n\">"
     ++ (decimal a.receipts
     ++ codes "</td></tr>\n")))))
-
-unfoldable pub accounts_table : List AccountLine → List ℕ
-accounts_table accounts =
-    ACCOUNTS_HEAD.now ++ (flat_map account_row accounts ++ (none_row (length accounts == 0) (codes "3") ++ table_end))
 
 -- ---- what was refused
 
@@ -247,6 +249,9 @@ unfoldable pub page_text : StatusView → Quantile → Quantile → List ℕ
 page_text v median most =
     HEAD.now ++ (heading_text v ++ (messages_tiles v.messages
     ++ (charts_text (map (λ (s : Sample). s.submissions) v.samples.now) (map (λ (s : Sample). s.deliveries) v.samples.now)
-    ++ (seats_tiles (length v.sessions.now) (length v.links.now) ++ (sessions_table v.sessions.now ++ (links_table v.links.now ++ (stuck_text v
-    ++ (accounts_table v.accounts.now ++ (refusals_table v ++ (store_tiles v.store v.commits v.samples.now median most ++ (groups_tiles v.groups
+    ++ (seats_tiles (length v.sessions.now) (length v.links.now)
+    ++ (table_text SESSIONS_HEAD.now session_row v.sessions.now (codes "7") ++ (table_text LINKS_HEAD.now link_row v.links.now (codes "6")
+    ++ (stuck_text v
+    ++ (table_text ACCOUNTS_HEAD.now account_row v.accounts.now (codes "3") ++ (refusals_table v
+    ++ (store_tiles v.store v.commits v.samples.now median most ++ (groups_tiles v.groups
     ++ (events_list v ++ foot_text (trim_end v.version.now)))))))))))))

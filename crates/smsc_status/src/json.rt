@@ -1,7 +1,7 @@
 //! The figures in JSON (RFC 8259).
-ghost use Rattle.std.specs.Prelude.{◌≡◌, ◌++◌, IfOk, OnOk, string_bytes};
+ghost use Rattle.std.specs.Prelude.{◌≡◌, ◌++◌, ℕ, List, IfOk, OnOk, string_bytes};
 ghost use Rattle.smsc_status.specs.Commits.{IsQuantile};
-ghost use Rattle.smsc_status.specs.Json.{account_text, accounts_text, array_end, array_start, comma, commits_text, counts_text, elements, events_text};
+ghost use Rattle.smsc_status.specs.Json.{account_text, array_end, array_start, array_text, comma, commits_text, counts_text, elements};
 ghost use Rattle.smsc_status.specs.Json.{first_places, json_text, last_place};
 ghost use Rattle.smsc_status.specs.Json.{link_text, lists_text, lost_text, messages_text, place_text, refusals_text, refused_binds_text};
 ghost use Rattle.smsc_status.specs.Json.{refused_deliveries_text, refused_submits_text, run_text};
@@ -46,6 +46,41 @@ fn comma_before(place: usize) -> &'static [u8]
     ensures { result.now ≡ comma place }
 {
     if place > 0 { b"," } else { b"" }
+}
+
+/// What may be an element of an array.
+pub(crate) trait Element {
+    ghost text: { Self → List ℕ };
+
+    /// Puts its text behind what is there.
+    fn put(&self, out: &mut Octets) -> Result<(), AllocError>
+        ensures { OnOk result (out.new ≡ out.old ++ text self.now) };
+}
+
+fn put_element<T: Element>(out: &mut Octets, before: &[u8], element: &T) -> Result<(), AllocError>
+    ensures { OnOk result (out.new ≡ out.old ++ (before.now ++ T.text element.now)) }
+{
+    out.append(before)?;
+    element.put(out)
+}
+
+#[tactic(auto, using(crate::proofs::Elements::one_more, crate::proofs::Elements::none_left))]
+fn put_elements<T: Element>(out: &mut Octets, list: &[T]) -> Result<(), AllocError>
+    ensures { OnOk result (out.new ≡ out.old ++ elements T.text list.now) }
+{
+    for i in 0..list.len() {
+        put_element(out, comma_before(i), &list[i])?;
+    }
+    Ok(())
+}
+
+#[tactic(auto, unfolding(crate::specs::Json::array_text))]
+fn put_array<T: Element>(out: &mut Octets, name: &[u8], list: &[T]) -> Result<(), AllocError>
+    ensures { OnOk result (out.new ≡ out.old ++ array_text name.now T.text list.now) }
+{
+    begin_array(out, name)?;
+    put_elements(out, list)?;
+    end_array(out)
 }
 
 // ---- the run and its messages
@@ -114,76 +149,54 @@ fn put_counts(out: &mut Octets, counts: &MessageCounts) -> Result<(), AllocError
     )
 }
 
-#[tactic(auto, unfolding(crate::specs::Json::sample_text))]
-fn put_sample(out: &mut Octets, before: &[u8], sample: &Sample) -> Result<(), AllocError>
-    ensures { OnOk result (out.new ≡ out.old ++ (before.now ++ sample_text sample.now)) }
-{
-    put_pieces(
-        out,
-        &[
-            Piece::Text(before),
-            Piece::Text(b"["),
-            Piece::Number(sample.submissions),
-            Piece::Text(b","),
-            Piece::Number(sample.deliveries),
-            Piece::Text(b","),
-            Piece::Number(sample.commits),
-            Piece::Text(b"]"),
-        ],
-    )
-}
+impl Element for Sample {
+    ghost text = { sample_text };
 
-#[tactic(auto, using(crate::proofs::Elements::one_more, crate::proofs::Elements::none_left))]
-fn put_samples(out: &mut Octets, samples: &[Sample]) -> Result<(), AllocError>
-    ensures { OnOk result (out.new ≡ out.old ++ elements sample_text samples.now) }
-{
-    for i in 0..samples.len() {
-        put_sample(out, comma_before(i), &samples[i])?;
+    #[tactic(auto, unfolding(crate::specs::Json::sample_text))]
+    fn put(&self, out: &mut Octets) -> Result<(), AllocError> {
+        put_pieces(
+            out,
+            &[
+                Piece::Text(b"["),
+                Piece::Number(self.submissions),
+                Piece::Text(b","),
+                Piece::Number(self.deliveries),
+                Piece::Text(b","),
+                Piece::Number(self.commits),
+                Piece::Text(b"]"),
+            ],
+        )
     }
-    Ok(())
 }
 
 // ---- sessions and links
 
-#[tactic(auto, unfolding(crate::specs::Json::session_text))]
-fn put_session<'a>(
-    out: &mut Octets,
-    before: &'a [u8],
-    session: &'a SessionLine,
-) -> Result<(), AllocError>
-    ensures { OnOk result (out.new ≡ out.old ++ (before.now ++ session_text session.now)) }
-{
-    put_pieces(
-        out,
-        &[
-            Piece::Text(before),
-            Piece::Text(b"{\"seat\":"),
-            Piece::Number(session.seat as u64),
-            Piece::Text(b",\"account\":"),
-            Piece::Quoted(session.account.as_bytes()),
-            Piece::Text(b",\"kind\":\""),
-            Piece::Text(session.kind.word().as_bytes()),
-            Piece::Text(b"\",\"since\":\""),
-            Piece::Moment(session.since),
-            Piece::Text(b"\",\"submits\":"),
-            Piece::Number(session.submits),
-            Piece::Text(b",\"receipts\":"),
-            Piece::Number(session.receipts),
-            Piece::Text(b",\"window\":"),
-            Piece::Number(session.window),
-            Piece::Text(b"}"),
-        ],
-    )
-}
+impl Element for SessionLine {
+    ghost text = { session_text };
 
-#[tactic(auto, using(crate::proofs::Elements::one_more, crate::proofs::Elements::none_left))]
-fn put_sessions(out: &mut Octets, sessions: &[SessionLine]) -> Result<(), AllocError>
-    ensures { OnOk result (out.new ≡ out.old ++ elements session_text sessions.now) }
-{
-    for i in 0..sessions.len() {
-        put_session(out, comma_before(i), &sessions[i])?;
+    #[tactic(auto, unfolding(crate::specs::Json::session_text))]
+    fn put(&self, out: &mut Octets) -> Result<(), AllocError> {
+        put_pieces(
+            out,
+            &[
+                Piece::Text(b"{\"seat\":"),
+                Piece::Number(self.seat as u64),
+                Piece::Text(b",\"account\":"),
+                Piece::Quoted(self.account.as_bytes()),
+                Piece::Text(b",\"kind\":\""),
+                Piece::Text(self.kind.word().as_bytes()),
+                Piece::Text(b"\",\"since\":\""),
+                Piece::Moment(self.since),
+                Piece::Text(b"\",\"submits\":"),
+                Piece::Number(self.submits),
+                Piece::Text(b",\"receipts\":"),
+                Piece::Number(self.receipts),
+                Piece::Text(b",\"window\":"),
+                Piece::Number(self.window),
+                Piece::Text(b"}"),
+            ],
+        )
     }
-    Ok(())
 }
 
 fn truth(is_so: bool) -> &'static [u8]
@@ -192,54 +205,39 @@ fn truth(is_so: bool) -> &'static [u8]
     if is_so { b"true" } else { b"false" }
 }
 
-#[tactic(auto, unfolding(crate::specs::Json::link_text))]
-fn put_link<'a>(out: &mut Octets, before: &'a [u8], link: &'a LinkLine) -> Result<(), AllocError>
-    ensures { OnOk result (out.new ≡ out.old ++ (before.now ++ link_text link.now)) }
-{
-    put_pieces(
-        out,
-        &[
-            Piece::Text(before),
-            Piece::Text(b"{\"seat\":"),
-            Piece::Number(link.seat as u64),
-            Piece::Text(b",\"handset\":"),
-            Piece::Quoted(link.handset.as_bytes()),
-            Piece::Text(b",\"since\":\""),
-            Piece::Moment(link.since),
-            Piece::Text(b"\",\"waiting\":"),
-            Piece::Number(link.waiting),
-            Piece::Text(b",\"full\":"),
-            Piece::Text(truth(link.is_full)),
-            Piece::Text(b",\"under_way\":"),
-            Piece::Text(truth(link.is_under_way)),
-            Piece::Text(b"}"),
-        ],
-    )
-}
+impl Element for LinkLine {
+    ghost text = { link_text };
 
-#[tactic(auto, using(crate::proofs::Elements::one_more, crate::proofs::Elements::none_left))]
-fn put_links(out: &mut Octets, links: &[LinkLine]) -> Result<(), AllocError>
-    ensures { OnOk result (out.new ≡ out.old ++ elements link_text links.now) }
-{
-    for i in 0..links.len() {
-        put_link(out, comma_before(i), &links[i])?;
+    #[tactic(auto, unfolding(crate::specs::Json::link_text))]
+    fn put(&self, out: &mut Octets) -> Result<(), AllocError> {
+        put_pieces(
+            out,
+            &[
+                Piece::Text(b"{\"seat\":"),
+                Piece::Number(self.seat as u64),
+                Piece::Text(b",\"handset\":"),
+                Piece::Quoted(self.handset.as_bytes()),
+                Piece::Text(b",\"since\":\""),
+                Piece::Moment(self.since),
+                Piece::Text(b"\",\"waiting\":"),
+                Piece::Number(self.waiting),
+                Piece::Text(b",\"full\":"),
+                Piece::Text(truth(self.is_full)),
+                Piece::Text(b",\"under_way\":"),
+                Piece::Text(truth(self.is_under_way)),
+                Piece::Text(b"}"),
+            ],
+        )
     }
-    Ok(())
 }
 
 #[tactic(auto, unfolding(crate::specs::Json::lists_text))]
 fn put_lists(out: &mut Octets, view: &StatusView<'_>) -> Result<(), AllocError>
     ensures { OnOk result (out.new ≡ out.old ++ lists_text view.entry.now) }
 {
-    begin_array(out, b"seconds")?;
-    put_samples(out, view.samples)?;
-    end_array(out)?;
-    begin_array(out, b"sessions")?;
-    put_sessions(out, view.sessions)?;
-    end_array(out)?;
-    begin_array(out, b"links")?;
-    put_links(out, view.links)?;
-    end_array(out)
+    put_array(out, b"seconds", view.samples)?;
+    put_array(out, b"sessions", view.sessions)?;
+    put_array(out, b"links", view.links)
 }
 
 // ---- what is stuck
@@ -293,17 +291,12 @@ fn put_due(out: &mut Octets, due: Option<Moment>) -> Result<(), AllocError>
 }
 
 #[tactic(auto, unfolding(crate::specs::Json::stuck_counts))]
-fn put_stuck_counts<'a>(
-    out: &mut Octets,
-    before: &'a [u8],
-    line: &'a StuckLine,
-) -> Result<(), AllocError>
-    ensures { OnOk result (out.new ≡ out.old ++ (before.now ++ stuck_counts line.now)) }
+fn put_stuck_counts(out: &mut Octets, line: &StuckLine) -> Result<(), AllocError>
+    ensures { OnOk result (out.new ≡ out.old ++ stuck_counts line.now) }
 {
     put_pieces(
         out,
         &[
-            Piece::Text(before),
             Piece::Text(b"{\"handset\":"),
             Piece::Quoted(line.handset.as_bytes()),
             Piece::Text(b",\"waiting\":"),
@@ -319,29 +312,17 @@ fn put_stuck_counts<'a>(
     )
 }
 
-#[tactic(auto, unfolding(crate::specs::Json::stuck_line))]
-fn put_stuck_line<'a>(
-    out: &mut Octets,
-    before: &'a [u8],
-    line: &'a StuckLine,
-) -> Result<(), AllocError>
-    ensures { OnOk result (out.new ≡ out.old ++ (before.now ++ stuck_line line.now)) }
-{
-    put_stuck_counts(out, before, line)?;
-    put_last_cause(out, line.cause)?;
-    out.append(b",\"due\":")?;
-    put_due(out, line.due)?;
-    out.append(b"}")
-}
+impl Element for StuckLine {
+    ghost text = { stuck_line };
 
-#[tactic(auto, using(crate::proofs::Elements::one_more, crate::proofs::Elements::none_left))]
-fn put_stuck_lines(out: &mut Octets, lines: &[StuckLine]) -> Result<(), AllocError>
-    ensures { OnOk result (out.new ≡ out.old ++ elements stuck_line lines.now) }
-{
-    for i in 0..lines.len() {
-        put_stuck_line(out, comma_before(i), &lines[i])?;
+    #[tactic(auto, unfolding(crate::specs::Json::stuck_line))]
+    fn put(&self, out: &mut Octets) -> Result<(), AllocError> {
+        put_stuck_counts(out, self)?;
+        put_last_cause(out, self.cause)?;
+        out.append(b",\"due\":")?;
+        put_due(out, self.due)?;
+        out.append(b"}")
     }
-    Ok(())
 }
 
 #[tactic(auto, unfolding(crate::specs::Json::whose_text))]
@@ -382,172 +363,100 @@ fn put_oldest(out: &mut Octets, oldest: &Option<PendingMessage<'_>>) -> Result<(
 fn put_stuck(out: &mut Octets, view: &StatusView<'_>) -> Result<(), AllocError>
     ensures { OnOk result (out.new ≡ out.old ++ stuck_text view.entry.now) }
 {
-    begin_array(out, b"stuck")?;
-    put_stuck_lines(out, view.stuck)?;
-    end_array(out)?;
+    put_array(out, b"stuck", view.stuck)?;
     out.append(b",\"oldest\":")?;
     put_oldest(out, &view.oldest)
 }
 
 // ---- accounts
 
-#[tactic(auto, unfolding(crate::specs::Json::account_text))]
-fn put_account<'a>(
-    out: &mut Octets,
-    before: &'a [u8],
-    line: &'a AccountLine,
-) -> Result<(), AllocError>
-    ensures { OnOk result (out.new ≡ out.old ++ (before.now ++ account_text line.now)) }
-{
-    put_pieces(
-        out,
-        &[
-            Piece::Text(before),
-            Piece::Text(b"{\"account\":"),
-            Piece::Quoted(line.account.as_bytes()),
-            Piece::Text(b",\"submits\":"),
-            Piece::Number(line.submits),
-            Piece::Text(b",\"receipts\":"),
-            Piece::Number(line.receipts),
-            Piece::Text(b"}"),
-        ],
-    )
-}
+impl Element for AccountLine {
+    ghost text = { account_text };
 
-#[tactic(auto, using(crate::proofs::Elements::one_more, crate::proofs::Elements::none_left))]
-fn put_all_accounts(out: &mut Octets, accounts: &[AccountLine]) -> Result<(), AllocError>
-    ensures { OnOk result (out.new ≡ out.old ++ elements account_text accounts.now) }
-{
-    for i in 0..accounts.len() {
-        put_account(out, comma_before(i), &accounts[i])?;
+    #[tactic(auto, unfolding(crate::specs::Json::account_text))]
+    fn put(&self, out: &mut Octets) -> Result<(), AllocError> {
+        put_pieces(
+            out,
+            &[
+                Piece::Text(b"{\"account\":"),
+                Piece::Quoted(self.account.as_bytes()),
+                Piece::Text(b",\"submits\":"),
+                Piece::Number(self.submits),
+                Piece::Text(b",\"receipts\":"),
+                Piece::Number(self.receipts),
+                Piece::Text(b"}"),
+            ],
+        )
     }
-    Ok(())
-}
-
-#[tactic(auto, unfolding(crate::specs::Json::accounts_text))]
-fn put_accounts(out: &mut Octets, accounts: &[AccountLine]) -> Result<(), AllocError>
-    ensures { OnOk result (out.new ≡ out.old ++ accounts_text accounts.now) }
-{
-    begin_array(out, b"accounts")?;
-    put_all_accounts(out, accounts)?;
-    end_array(out)
 }
 
 // ---- what was refused
 
-#[tactic(auto, unfolding(crate::specs::Json::refused_submits_text))]
-fn put_refused_submits<'a>(
-    out: &mut Octets,
-    before: &'a [u8],
-    refused: &'a RefusedSubmits,
-) -> Result<(), AllocError>
-    ensures { OnOk result (out.new ≡ out.old ++ (before.now ++ refused_submits_text refused.now)) }
-{
-    put_pieces(
-        out,
-        &[
-            Piece::Text(before),
-            Piece::Text(b"{\"account\":"),
-            Piece::Quoted(refused.account.as_bytes()),
-            Piece::Text(b",\"status\":"),
-            Piece::Number(refused.status as u64),
-            Piece::Text(b",\"count\":"),
-            Piece::Number(refused.count),
-            Piece::Text(b"}"),
-        ],
-    )
-}
+impl Element for RefusedSubmits {
+    ghost text = { refused_submits_text };
 
-#[tactic(auto, using(crate::proofs::Elements::one_more, crate::proofs::Elements::none_left))]
-fn put_all_refused_submits(out: &mut Octets, refused: &[RefusedSubmits]) -> Result<(), AllocError>
-    ensures { OnOk result (out.new ≡ out.old ++ elements refused_submits_text refused.now) }
-{
-    for i in 0..refused.len() {
-        put_refused_submits(out, comma_before(i), &refused[i])?;
+    #[tactic(auto, unfolding(crate::specs::Json::refused_submits_text))]
+    fn put(&self, out: &mut Octets) -> Result<(), AllocError> {
+        put_pieces(
+            out,
+            &[
+                Piece::Text(b"{\"account\":"),
+                Piece::Quoted(self.account.as_bytes()),
+                Piece::Text(b",\"status\":"),
+                Piece::Number(self.status as u64),
+                Piece::Text(b",\"count\":"),
+                Piece::Number(self.count),
+                Piece::Text(b"}"),
+            ],
+        )
     }
-    Ok(())
 }
 
-#[tactic(auto, unfolding(crate::specs::Json::refused_binds_text))]
-fn put_refused_binds(
-    out: &mut Octets,
-    before: &[u8],
-    refused: &RefusedBinds,
-) -> Result<(), AllocError>
-    ensures { OnOk result (out.new ≡ out.old ++ (before.now ++ refused_binds_text refused.now)) }
-{
-    put_pieces(
-        out,
-        &[
-            Piece::Text(before),
-            Piece::Text(b"{\"reason\":\""),
-            Piece::Text(refused.reason.as_bytes()),
-            Piece::Text(b"\",\"count\":"),
-            Piece::Number(refused.count),
-            Piece::Text(b"}"),
-        ],
-    )
-}
+impl Element for RefusedBinds {
+    ghost text = { refused_binds_text };
 
-#[tactic(auto, using(crate::proofs::Elements::one_more, crate::proofs::Elements::none_left))]
-fn put_all_refused_binds(out: &mut Octets, refused: &[RefusedBinds]) -> Result<(), AllocError>
-    ensures { OnOk result (out.new ≡ out.old ++ elements refused_binds_text refused.now) }
-{
-    for i in 0..refused.len() {
-        put_refused_binds(out, comma_before(i), &refused[i])?;
+    #[tactic(auto, unfolding(crate::specs::Json::refused_binds_text))]
+    fn put(&self, out: &mut Octets) -> Result<(), AllocError> {
+        put_pieces(
+            out,
+            &[
+                Piece::Text(b"{\"reason\":\""),
+                Piece::Text(self.reason.as_bytes()),
+                Piece::Text(b"\",\"count\":"),
+                Piece::Number(self.count),
+                Piece::Text(b"}"),
+            ],
+        )
     }
-    Ok(())
 }
 
-#[tactic(auto, unfolding(crate::specs::Json::refused_deliveries_text))]
-fn put_refused_deliveries(
-    out: &mut Octets,
-    before: &[u8],
-    refused: &RefusedDeliveries,
-) -> Result<(), AllocError>
-    ensures { OnOk result (out.new ≡ out.old ++ (before.now ++ refused_deliveries_text refused.now)) }
-{
-    put_pieces(
-        out,
-        &[
-            Piece::Text(before),
-            Piece::Text(b"{\"cause\":"),
-            Piece::Number(refused.cause as u64),
-            Piece::Text(b",\"reason\":\""),
-            Piece::Text(refused.reason.as_bytes()),
-            Piece::Text(b"\",\"count\":"),
-            Piece::Number(refused.count),
-            Piece::Text(b"}"),
-        ],
-    )
-}
+impl Element for RefusedDeliveries {
+    ghost text = { refused_deliveries_text };
 
-#[tactic(auto, using(crate::proofs::Elements::one_more, crate::proofs::Elements::none_left))]
-fn put_all_refused_deliveries(
-    out: &mut Octets,
-    refused: &[RefusedDeliveries],
-) -> Result<(), AllocError>
-    ensures { OnOk result (out.new ≡ out.old ++ elements refused_deliveries_text refused.now) }
-{
-    for i in 0..refused.len() {
-        put_refused_deliveries(out, comma_before(i), &refused[i])?;
+    #[tactic(auto, unfolding(crate::specs::Json::refused_deliveries_text))]
+    fn put(&self, out: &mut Octets) -> Result<(), AllocError> {
+        put_pieces(
+            out,
+            &[
+                Piece::Text(b"{\"cause\":"),
+                Piece::Number(self.cause as u64),
+                Piece::Text(b",\"reason\":\""),
+                Piece::Text(self.reason.as_bytes()),
+                Piece::Text(b"\",\"count\":"),
+                Piece::Number(self.count),
+                Piece::Text(b"}"),
+            ],
+        )
     }
-    Ok(())
 }
 
 #[tactic(auto, unfolding(crate::specs::Json::refusals_text))]
 fn put_refusals(out: &mut Octets, view: &StatusView<'_>) -> Result<(), AllocError>
     ensures { OnOk result (out.new ≡ out.old ++ refusals_text view.entry.now) }
 {
-    begin_array(out, b"refused_submits")?;
-    put_all_refused_submits(out, view.refused_submits)?;
-    end_array(out)?;
-    begin_array(out, b"refused_binds")?;
-    put_all_refused_binds(out, view.refused_binds)?;
-    end_array(out)?;
-    begin_array(out, b"refused_deliveries")?;
-    put_all_refused_deliveries(out, view.refused_deliveries)?;
-    end_array(out)
+    put_array(out, b"refused_submits", view.refused_submits)?;
+    put_array(out, b"refused_binds", view.refused_binds)?;
+    put_array(out, b"refused_deliveries", view.refused_deliveries)
 }
 
 // ---- the store
@@ -641,30 +550,13 @@ fn put_commits(
 
 // ---- events
 
-fn put_event(out: &mut Octets, before: &[u8], event: &str) -> Result<(), AllocError>
-    ensures { OnOk result (out.new ≡ out.old ++ (before.now ++ string event.now)) }
-{
-    out.append(before)?;
-    put_string(out, event.as_bytes())
-}
+// An event of the log.
+impl Element for String {
+    ghost text = { λ event. string (string_bytes event) };
 
-#[tactic(auto, using(crate::proofs::Elements::one_more, crate::proofs::Elements::none_left))]
-fn put_event_texts(out: &mut Octets, events: &[String]) -> Result<(), AllocError>
-    ensures { OnOk result (out.new ≡ out.old ++ elements (λ event. string (string_bytes event)) events.now) }
-{
-    for i in 0..events.len() {
-        put_event(out, comma_before(i), events[i].as_str())?;
+    fn put(&self, out: &mut Octets) -> Result<(), AllocError> {
+        put_string(out, self.as_bytes())
     }
-    Ok(())
-}
-
-#[tactic(auto, unfolding(crate::specs::Json::events_text))]
-fn put_events(out: &mut Octets, view: &StatusView<'_>) -> Result<(), AllocError>
-    ensures { OnOk result (out.new ≡ out.old ++ events_text view.entry.now) }
-{
-    begin_array(out, b"events")?;
-    put_event_texts(out, view.events)?;
-    end_array(out)
 }
 
 #[tactic(auto, unfolding(crate::specs::Json::lost_text))]
@@ -699,10 +591,10 @@ fn put_json(
     put_counts(out, &view.counts)?;
     put_lists(out, view)?;
     put_stuck(out, view)?;
-    put_accounts(out, view.accounts)?;
+    put_array(out, b"accounts", view.accounts)?;
     put_refusals(out, view)?;
     put_commits(out, &view.store, &view.commits, median, most)?;
-    put_events(out, view)?;
+    put_array(out, b"events", view.events)?;
     put_lost(out, view.lost_events, view.lost_lines)
 }
 

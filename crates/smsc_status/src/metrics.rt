@@ -1,7 +1,7 @@
 //! The figures in Prometheus' text format.
-ghost use Rattle.std.specs.Prelude.{◌≡◌, ◌++◌, ◌<◌, IfOk, OnOk, codes, flat_map, string_bytes};
+ghost use Rattle.std.specs.Prelude.{◌≡◌, ◌++◌, ◌<◌, ℕ, List, IfOk, OnOk, codes, flat_map, string_bytes};
 ghost use Rattle.smsc_status.specs.Metrics.{account_receipts, account_submits, accounts_metrics, binds_sample, bucket, commits_metrics, counts_metric};
-ghost use Rattle.smsc_status.specs.Metrics.{deliveries_sample, first_buckets, group_bucket, groups_metrics, labelled_sample, link_number, link_samples};
+ghost use Rattle.smsc_status.specs.Metrics.{deliveries_sample, first_buckets, groups_metrics, labelled_sample, line_text, lines_text, link_number, link_samples};
 ghost use Rattle.smsc_status.specs.Metrics.{links_metrics};
 ghost use Rattle.smsc_status.specs.Metrics.{lost_metrics, messages_metric, metric, metrics_text, oldest_metric, oldest_sample, plain_sample, refusals_metrics};
 ghost use Rattle.smsc_status.specs.Metrics.{run_metrics, session_number};
@@ -83,6 +83,55 @@ fn put_labelled<'a>(
     )
 }
 
+/// What is written one behind another.
+pub(crate) trait Written {
+    ghost text: { Self → List ℕ };
+
+    /// Puts its text behind what is there.
+    fn put(&self, out: &mut Octets) -> Result<(), AllocError>
+        ensures { OnOk result (out.new ≡ out.old ++ text self.now) };
+}
+
+fn put_each<T: Written>(out: &mut Octets, list: &[T]) -> Result<(), AllocError>
+    ensures { OnOk result (out.new ≡ out.old ++ flat_map T.text list.now) }
+{
+    for some in list {
+        some.put(out)?;
+    }
+    Ok(())
+}
+
+/// A line of metrics.
+#[derive(Clone, Copy)]
+enum Line<'a> {
+    /// A metric's name, its type and its help.
+    Head(&'a [u8], &'a [u8], &'a [u8]),
+    /// A sample without labels.
+    Plain(&'a [u8], u64),
+    /// A sample with a label: the metric's name, the label's, its text and the sample.
+    Labelled(&'a [u8], &'a [u8], &'a [u8], u64),
+}
+
+impl Written for Line<'_> {
+    ghost text = { line_text };
+
+    fn put(&self, out: &mut Octets) -> Result<(), AllocError> {
+        match self {
+            Line::Head(name, kind, help) => put_metric(out, name, kind, help),
+            Line::Plain(name, value) => put_plain(out, name, *value),
+            Line::Labelled(name, label, text, value) => {
+                put_labelled(out, name, label, text, *value)
+            }
+        }
+    }
+}
+
+fn put_lines(out: &mut Octets, lines: &[Line<'_>]) -> Result<(), AllocError>
+    ensures { OnOk result (out.new ≡ out.old ++ lines_text lines.now) }
+{
+    put_each(out, lines)
+}
+
 // ---- messages
 
 #[tactic(auto, unfolding(crate::specs::Metrics::counts_metric))]
@@ -90,17 +139,21 @@ fn put_counts(out: &mut Octets, counts: &MessageCounts) -> Result<(), AllocError
     ensures { OnOk result (out.new ≡ out.old ++ counts_metric counts.now) }
 {
     let name = b"smsc_messages_total";
-    put_metric(
+    put_lines(
         out,
-        name,
-        b"counter",
-        b"Messages that reached this state since the run began.",
-    )?;
-    put_labelled(out, name, b"state", b"accepted", counts.accepted)?;
-    put_labelled(out, name, b"state", b"delivered", counts.delivered)?;
-    put_labelled(out, name, b"state", b"expired", counts.expired)?;
-    put_labelled(out, name, b"state", b"deleted", counts.deleted)?;
-    put_labelled(out, name, b"state", b"undeliverable", counts.undeliverable)
+        &[
+            Line::Head(
+                name,
+                b"counter",
+                b"Messages that reached this state since the run began.",
+            ),
+            Line::Labelled(name, b"state", b"accepted", counts.accepted),
+            Line::Labelled(name, b"state", b"delivered", counts.delivered),
+            Line::Labelled(name, b"state", b"expired", counts.expired),
+            Line::Labelled(name, b"state", b"deleted", counts.deleted),
+            Line::Labelled(name, b"state", b"undeliverable", counts.undeliverable),
+        ],
+    )
 }
 
 #[tactic(auto, unfolding(crate::specs::Metrics::messages_metric))]
@@ -108,22 +161,20 @@ fn put_stored(out: &mut Octets, messages: &MessageFigures) -> Result<(), AllocEr
     ensures { OnOk result (out.new ≡ out.old ++ messages_metric messages.now) }
 {
     let name = b"smsc_store_messages";
-    put_metric(
+    put_lines(
         out,
-        name,
-        b"gauge",
-        b"Messages of the store that are in this state.",
-    )?;
-    put_labelled(out, name, b"state", b"enroute", messages.enroute)?;
-    put_labelled(out, name, b"state", b"delivered", messages.delivered)?;
-    put_labelled(out, name, b"state", b"expired", messages.expired)?;
-    put_labelled(out, name, b"state", b"deleted", messages.deleted)?;
-    put_labelled(
-        out,
-        name,
-        b"state",
-        b"undeliverable",
-        messages.undeliverable,
+        &[
+            Line::Head(
+                name,
+                b"gauge",
+                b"Messages of the store that are in this state.",
+            ),
+            Line::Labelled(name, b"state", b"enroute", messages.enroute),
+            Line::Labelled(name, b"state", b"delivered", messages.delivered),
+            Line::Labelled(name, b"state", b"expired", messages.expired),
+            Line::Labelled(name, b"state", b"deleted", messages.deleted),
+            Line::Labelled(name, b"state", b"undeliverable", messages.undeliverable),
+        ],
     )
 }
 
@@ -337,84 +388,60 @@ fn put_accounts(out: &mut Octets, accounts: &[AccountLine]) -> Result<(), AllocE
 
 // ---- what was refused
 
-#[tactic(auto, unfolding(crate::specs::Metrics::submits_sample))]
-fn put_refused_submits(out: &mut Octets, refused: &RefusedSubmits) -> Result<(), AllocError>
-    ensures { OnOk result (out.new ≡ out.old ++ submits_sample refused.now) }
-{
-    put_pieces(
-        out,
-        &[
-            Piece::Text(b"smsc_submits_refused_total{account="),
-            Piece::Quoted(refused.account.as_bytes()),
-            Piece::Text(b",status=\""),
-            Piece::Number(refused.status as u64),
-            Piece::Text(b"\"} "),
-            Piece::Number(refused.count),
-            Piece::Text(b"\n"),
-        ],
-    )
-}
+impl Written for RefusedSubmits {
+    ghost text = { submits_sample };
 
-fn put_each_refused_submits(out: &mut Octets, refused: &[RefusedSubmits]) -> Result<(), AllocError>
-    ensures { OnOk result (out.new ≡ out.old ++ flat_map submits_sample refused.now) }
-{
-    for some in refused {
-        put_refused_submits(out, some)?;
+    #[tactic(auto, unfolding(crate::specs::Metrics::submits_sample))]
+    fn put(&self, out: &mut Octets) -> Result<(), AllocError> {
+        put_pieces(
+            out,
+            &[
+                Piece::Text(b"smsc_submits_refused_total{account="),
+                Piece::Quoted(self.account.as_bytes()),
+                Piece::Text(b",status=\""),
+                Piece::Number(self.status as u64),
+                Piece::Text(b"\"} "),
+                Piece::Number(self.count),
+                Piece::Text(b"\n"),
+            ],
+        )
     }
-    Ok(())
 }
 
-#[tactic(auto, unfolding(crate::specs::Metrics::binds_sample))]
-fn put_refused_binds(out: &mut Octets, refused: &RefusedBinds) -> Result<(), AllocError>
-    ensures { OnOk result (out.new ≡ out.old ++ binds_sample refused.now) }
-{
-    put_pieces(
-        out,
-        &[
-            Piece::Text(b"smsc_binds_refused_total{reason=\""),
-            Piece::Text(refused.reason.as_bytes()),
-            Piece::Text(b"\"} "),
-            Piece::Number(refused.count),
-            Piece::Text(b"\n"),
-        ],
-    )
-}
+impl Written for RefusedBinds {
+    ghost text = { binds_sample };
 
-fn put_each_refused_binds(out: &mut Octets, refused: &[RefusedBinds]) -> Result<(), AllocError>
-    ensures { OnOk result (out.new ≡ out.old ++ flat_map binds_sample refused.now) }
-{
-    for some in refused {
-        put_refused_binds(out, some)?;
+    #[tactic(auto, unfolding(crate::specs::Metrics::binds_sample))]
+    fn put(&self, out: &mut Octets) -> Result<(), AllocError> {
+        put_pieces(
+            out,
+            &[
+                Piece::Text(b"smsc_binds_refused_total{reason=\""),
+                Piece::Text(self.reason.as_bytes()),
+                Piece::Text(b"\"} "),
+                Piece::Number(self.count),
+                Piece::Text(b"\n"),
+            ],
+        )
     }
-    Ok(())
 }
 
-#[tactic(auto, unfolding(crate::specs::Metrics::deliveries_sample))]
-fn put_refused_deliveries(out: &mut Octets, refused: &RefusedDeliveries) -> Result<(), AllocError>
-    ensures { OnOk result (out.new ≡ out.old ++ deliveries_sample refused.now) }
-{
-    put_pieces(
-        out,
-        &[
-            Piece::Text(b"smsc_deliver_attempts_failed_total{cause=\""),
-            Piece::Number(refused.cause as u64),
-            Piece::Text(b"\"} "),
-            Piece::Number(refused.count),
-            Piece::Text(b"\n"),
-        ],
-    )
-}
+impl Written for RefusedDeliveries {
+    ghost text = { deliveries_sample };
 
-fn put_each_refused_deliveries(
-    out: &mut Octets,
-    refused: &[RefusedDeliveries],
-) -> Result<(), AllocError>
-    ensures { OnOk result (out.new ≡ out.old ++ flat_map deliveries_sample refused.now) }
-{
-    for some in refused {
-        put_refused_deliveries(out, some)?;
+    #[tactic(auto, unfolding(crate::specs::Metrics::deliveries_sample))]
+    fn put(&self, out: &mut Octets) -> Result<(), AllocError> {
+        put_pieces(
+            out,
+            &[
+                Piece::Text(b"smsc_deliver_attempts_failed_total{cause=\""),
+                Piece::Number(self.cause as u64),
+                Piece::Text(b"\"} "),
+                Piece::Number(self.count),
+                Piece::Text(b"\n"),
+            ],
+        )
     }
-    Ok(())
 }
 
 #[tactic(auto, unfolding(crate::specs::Metrics::refusals_metrics))]
@@ -427,21 +454,21 @@ fn put_refusals(out: &mut Octets, view: &StatusView<'_>) -> Result<(), AllocErro
         b"counter",
         b"Requests submit_sm of an account that were refused with this command_status.",
     )?;
-    put_each_refused_submits(out, view.refused_submits)?;
+    put_each(out, view.refused_submits)?;
     put_metric(
         out,
         b"smsc_binds_refused_total",
         b"counter",
         b"Binds that were refused for this reason.",
     )?;
-    put_each_refused_binds(out, view.refused_binds)?;
+    put_each(out, view.refused_binds)?;
     put_metric(
         out,
         b"smsc_deliver_attempts_failed_total",
         b"counter",
         b"What handsets refused with this RP cause of what was delivered to them.",
     )?;
-    put_each_refused_deliveries(out, view.refused_deliveries)
+    put_each(out, view.refused_deliveries)
 }
 
 // ---- the store
@@ -510,44 +537,48 @@ fn put_commits(out: &mut Octets, commits: &CommitFigures) -> Result<(), AllocErr
     put_plain(out, name, commits.refused)
 }
 
-fn put_group_bucket(out: &mut Octets, limit: &[u8], groups: u64) -> Result<(), AllocError>
-    ensures { OnOk result (out.new ≡ out.old ++ group_bucket limit.now groups) }
-{
-    put_labelled(out, b"smsc_group_items_bucket", b"le", limit, groups)
-}
-
 #[tactic(auto, unfolding(crate::specs::Metrics::groups_metrics))]
 fn put_groups(out: &mut Octets, groups: &GroupFigures) -> Result<(), AllocError>
     ensures { OnOk result (out.new ≡ out.old ++ groups_metrics groups.now) }
 {
-    put_metric(
+    let bucket = b"smsc_group_items_bucket";
+    put_lines(
         out,
-        b"smsc_group_items",
-        b"histogram",
-        b"How many items were committed at once.",
-    )?;
-    put_group_bucket(out, b"1", groups.of_1)?;
-    put_group_bucket(out, b"2", groups.up_to_2)?;
-    put_group_bucket(out, b"4", groups.up_to_4)?;
-    put_group_bucket(out, b"8", groups.up_to_8)?;
-    put_group_bucket(out, b"16", groups.up_to_16)?;
-    put_group_bucket(out, b"32", groups.up_to_32)?;
-    put_group_bucket(out, b"64", groups.up_to_64)?;
-    put_group_bucket(out, b"+Inf", groups.up_to_64)?;
-    put_plain(out, b"smsc_group_items_sum", groups.items)?;
-    put_plain(out, b"smsc_group_items_count", groups.up_to_64)
+        &[
+            Line::Head(
+                b"smsc_group_items",
+                b"histogram",
+                b"How many items were committed at once.",
+            ),
+            Line::Labelled(bucket, b"le", b"1", groups.of_1),
+            Line::Labelled(bucket, b"le", b"2", groups.up_to_2),
+            Line::Labelled(bucket, b"le", b"4", groups.up_to_4),
+            Line::Labelled(bucket, b"le", b"8", groups.up_to_8),
+            Line::Labelled(bucket, b"le", b"16", groups.up_to_16),
+            Line::Labelled(bucket, b"le", b"32", groups.up_to_32),
+            Line::Labelled(bucket, b"le", b"64", groups.up_to_64),
+            Line::Labelled(bucket, b"le", b"+Inf", groups.up_to_64),
+            Line::Plain(b"smsc_group_items_sum", groups.items),
+            Line::Plain(b"smsc_group_items_count", groups.up_to_64),
+        ],
+    )
 }
 
 #[tactic(auto, unfolding(crate::specs::Metrics::store_metrics))]
 fn put_store(out: &mut Octets, store: &StoreFigures) -> Result<(), AllocError>
     ensures { OnOk result (out.new ≡ out.old ++ store_metrics store.now) }
 {
-    let name = b"smsc_store_bytes";
-    put_metric(out, name, b"gauge", b"Octets of the store's file.")?;
-    put_plain(out, name, store.file)?;
-    let name = b"smsc_store_log_bytes";
-    put_metric(out, name, b"gauge", b"Octets of the store's log.")?;
-    put_plain(out, name, store.log)
+    let file = b"smsc_store_bytes";
+    let log = b"smsc_store_log_bytes";
+    put_lines(
+        out,
+        &[
+            Line::Head(file, b"gauge", b"Octets of the store's file."),
+            Line::Plain(file, store.file),
+            Line::Head(log, b"gauge", b"Octets of the store's log."),
+            Line::Plain(log, store.log),
+        ],
+    )
 }
 
 // ---- the run
@@ -600,22 +631,25 @@ fn put_oldest(out: &mut Octets, oldest: &Option<PendingMessage<'_>>) -> Result<(
 fn put_lost(out: &mut Octets, events: u64, lines: u64) -> Result<(), AllocError>
     ensures { OnOk result (out.new ≡ out.old ++ lost_metrics events lines) }
 {
-    let name = b"smsc_status_events_lost_total";
-    put_metric(
+    let in_list = b"smsc_status_events_lost_total";
+    let in_log = b"smsc_log_lines_lost_total";
+    put_lines(
         out,
-        name,
-        b"counter",
-        b"Events that found no room in the status page's list.",
-    )?;
-    put_plain(out, name, events)?;
-    let name = b"smsc_log_lines_lost_total";
-    put_metric(
-        out,
-        name,
-        b"counter",
-        b"Lines of the log that found no room or could not be written.",
-    )?;
-    put_plain(out, name, lines)
+        &[
+            Line::Head(
+                in_list,
+                b"counter",
+                b"Events that found no room in the status page's list.",
+            ),
+            Line::Plain(in_list, events),
+            Line::Head(
+                in_log,
+                b"counter",
+                b"Lines of the log that found no room or could not be written.",
+            ),
+            Line::Plain(in_log, lines),
+        ],
+    )
 }
 
 #[tactic(auto, unfolding(crate::specs::Metrics::metrics_text))]

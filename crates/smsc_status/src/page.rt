@@ -1,20 +1,18 @@
 //! The status page: one document of HTML, which shows itself anew every five seconds, and needs neither script nor anything else.
 //!
 //! A text that somebody outside chose is an escaped piece, so no browser takes it for markup.
-ghost use Rattle.std.specs.Prelude.{◌≡◌, ◌-◌, ◌++◌, IfOk, OnOk, codes, decimal, flat_map, length, map, reverse, string_bytes};
+ghost use Rattle.std.specs.Prelude.{◌≡◌, ◌-◌, ◌++◌, ℕ, List, IfOk, OnOk, flat_map, map, reverse, string_bytes};
 ghost use Rattle.std.specs.Str.{trim_end};
 ghost use Rattle.smsc_status.specs.Commits.{IsQuantile};
-ghost use Rattle.smsc_status.specs.Page.{account_row, accounts_table, bad_or_not, binds_row, charts_text, deliveries_row, event_item, events_begin, events_end};
+ghost use Rattle.smsc_status.specs.Page.{account_row, bad_or_not, binds_row, charts_text, deliveries_row, event_item, events_begin, events_end};
 ghost use Rattle.smsc_status.specs.Page.{events_list};
 ghost use Rattle.smsc_status.specs.Page.{foot_text, graded_tile, groups_tiles, heading_text, is_nothing_refused as is_nothing_refused_of, link_row};
-ghost use Rattle.smsc_status.specs.Page.{links_table, lost_text, mark, messages_tiles, none_cell, none_row, page_text, refusals_table};
-ghost use Rattle.smsc_status.specs.Page.{seats_tiles, session_row, sessions_table, store_tiles, submits_row, table_end, tile, tiles_begin, tiles_end};
-ghost use Rattle.smsc_status.specs.Page.{yes_or_no};
+ghost use Rattle.smsc_status.specs.Page.{lost_text, mark, messages_tiles, none_cell, none_row, page_text, refusals_table};
+ghost use Rattle.smsc_status.specs.Page.{seats_tiles, session_row, store_tiles, submits_row, table_end, table_text, tile, tile_text, tiles_begin, tiles_end};
+ghost use Rattle.smsc_status.specs.Page.{tiles_text, yes_or_no};
 ghost use Rattle.smsc_status.specs.Page.{last_cause_text, link_word as link_word_of, next_try_text, oldest_text, pending_text, refusal_text, stuck_counts};
-ghost use Rattle.smsc_status.specs.Page.{stuck_row, stuck_table, stuck_text, wait_word as wait_word_of, whose_text};
-ghost use Rattle.smsc_status.specs.Numbers.{size_text};
-ghost use Rattle.smsc_status.specs.Quantiles.{quantile_text};
-ghost use Rattle.smsc_status.specs.Series.{commits_a_second as commits_a_second_of};
+ghost use Rattle.smsc_status.specs.Page.{stuck_row, stuck_text, wait_word as wait_word_of, whose_text};
+ghost use Rattle.smsc_status.specs.Pieces.{piece_text};
 ghost use Rattle.smsc_status.specs.declared.commits.Quantile.{Quantile as QuantileOf};
 ghost use Rattle.smsc_status.specs.declared.figures.Sample.{Sample as SampleOf};
 
@@ -26,7 +24,7 @@ use crate::figures::{
 };
 use crate::groups::GroupFigures;
 use crate::numbers::put_id;
-use crate::pieces::{Piece, put_pieces};
+use crate::pieces::{Piece, put_piece, put_pieces};
 use crate::series::commits_a_second;
 use sms_base::{Moment, Octets};
 use std::alloc::{AllocError, Global};
@@ -87,18 +85,45 @@ fn put_heading(out: &mut Octets, view: &StatusView<'_>) -> Result<(), AllocError
     )
 }
 
-// ---- messages
+// ---- rows
 
-// A figure over its word.
-#[tactic(auto, unfolding(crate::specs::Page::tile))]
-fn put_tile(out: &mut Octets, number: u64, word: &[u8]) -> Result<(), AllocError>
-    ensures { OnOk result (out.new ≡ out.old ++ tile (decimal number) word.now) }
+/// What is written one behind another: rows of a table, tiles.
+pub(crate) trait Row {
+    ghost text: { Self → List ℕ };
+
+    /// Puts its text behind what is there.
+    fn put(&self, out: &mut Octets) -> Result<(), AllocError>
+        ensures { OnOk result (out.new ≡ out.old ++ text self.now) };
+}
+
+fn put_rows<T: Row>(out: &mut Octets, rows: &[T]) -> Result<(), AllocError>
+    ensures { OnOk result (out.new ≡ out.old ++ flat_map T.text rows.now) }
 {
+    for some in rows {
+        some.put(out)?;
+    }
+    Ok(())
+}
+
+// ---- tiles
+
+/// A figure over its word.
+#[derive(Clone, Copy)]
+enum Tile<'a> {
+    Figure(Piece<'a>, &'a [u8]),
+    /// A number that stands out where it is not 0.
+    Graded(u64, &'a [u8]),
+}
+
+#[tactic(auto, unfolding(crate::specs::Page::tile))]
+fn put_figure(out: &mut Octets, figure: &Piece<'_>, word: &[u8]) -> Result<(), AllocError>
+    ensures { OnOk result (out.new ≡ out.old ++ tile (piece_text figure.entry.now) word.now) }
+{
+    out.append(b"<div class=\"tile\"><b>")?;
+    put_piece(out, figure)?;
     put_pieces(
         out,
         &[
-            Piece::Text(b"<div class=\"tile\"><b>"),
-            Piece::Number(number),
             Piece::Text(b"</b><span>"),
             Piece::Text(word),
             Piece::Text(b"</span></div>"),
@@ -131,6 +156,17 @@ fn put_graded_tile(out: &mut Octets, number: u64, word: &[u8]) -> Result<(), All
     )
 }
 
+impl Row for Tile<'_> {
+    ghost text = { tile_text };
+
+    fn put(&self, out: &mut Octets) -> Result<(), AllocError> {
+        match self {
+            Tile::Figure(figure, word) => put_figure(out, figure, word),
+            Tile::Graded(number, word) => put_graded_tile(out, *number, word),
+        }
+    }
+}
+
 #[tactic(auto, unfolding(crate::specs::Page::tiles_begin))]
 fn begin_tiles(out: &mut Octets, title: &[u8]) -> Result<(), AllocError>
     ensures { OnOk result (out.new ≡ out.old ++ tiles_begin title.now) }
@@ -152,17 +188,32 @@ fn end_tiles(out: &mut Octets) -> Result<(), AllocError>
     out.append(b"</div>\n")
 }
 
+// Tiles under their title.
+fn put_tiles(out: &mut Octets, title: &[u8], tiles: &[Tile<'_>]) -> Result<(), AllocError>
+    ensures { OnOk result (out.new ≡ out.old ++ (tiles_begin title.now ++ tiles_text tiles.now)) }
+{
+    begin_tiles(out, title)?;
+    put_rows(out, tiles)?;
+    end_tiles(out)
+}
+
+// ---- messages
+
 #[tactic(auto, unfolding(crate::specs::Page::messages_tiles))]
 fn put_messages(out: &mut Octets, messages: &MessageFigures) -> Result<(), AllocError>
     ensures { OnOk result (out.new ≡ out.old ++ messages_tiles messages.now) }
 {
-    begin_tiles(out, b"Messages")?;
-    put_tile(out, messages.enroute, b"ENROUTE")?;
-    put_tile(out, messages.delivered, b"DELIVRD")?;
-    put_graded_tile(out, messages.expired, b"EXPIRED")?;
-    put_tile(out, messages.deleted, b"DELETED")?;
-    put_graded_tile(out, messages.undeliverable, b"UNDELIV")?;
-    end_tiles(out)
+    put_tiles(
+        out,
+        b"Messages",
+        &[
+            Tile::Figure(Piece::Number(messages.enroute), b"ENROUTE"),
+            Tile::Figure(Piece::Number(messages.delivered), b"DELIVRD"),
+            Tile::Graded(messages.expired, b"EXPIRED"),
+            Tile::Figure(Piece::Number(messages.deleted), b"DELETED"),
+            Tile::Graded(messages.undeliverable, b"UNDELIV"),
+        ],
+    )
 }
 
 // ---- seats
@@ -171,22 +222,25 @@ fn put_messages(out: &mut Octets, messages: &MessageFigures) -> Result<(), Alloc
 const SEATS: u64 = 32;
 
 // How many seats are left.
-fn put_free(out: &mut Octets, sessions: u64, links: u64) -> Result<(), AllocError>
-    ensures { OnOk result (out.new ≡ out.old ++ tile (decimal (32 - sessions - links)) (codes "free of 32")) }
+fn free_of(sessions: u64, links: u64) -> u64
+    ensures { result ≡ 32 - sessions - links }
 {
-    let free = SEATS.saturating_sub(sessions).saturating_sub(links);
-    put_tile(out, free, b"free of 32")
+    SEATS.saturating_sub(sessions).saturating_sub(links)
 }
 
 #[tactic(auto, unfolding(crate::specs::Page::seats_tiles))]
 fn put_seats(out: &mut Octets, sessions: u64, links: u64) -> Result<(), AllocError>
     ensures { OnOk result (out.new ≡ out.old ++ seats_tiles sessions links) }
 {
-    begin_tiles(out, b"Seats")?;
-    put_tile(out, sessions, b"sessions")?;
-    put_tile(out, links, b"links")?;
-    put_free(out, sessions, links)?;
-    end_tiles(out)
+    put_tiles(
+        out,
+        b"Seats",
+        &[
+            Tile::Figure(Piece::Number(sessions), b"sessions"),
+            Tile::Figure(Piece::Number(links), b"links"),
+            Tile::Figure(Piece::Number(free_of(sessions, links)), b"free of 32"),
+        ],
+    )
 }
 
 // ---- the last ten minutes
@@ -266,49 +320,48 @@ fn put_none(out: &mut Octets, is_none: bool, columns: &[u8]) -> Result<(), Alloc
     }
 }
 
-#[tactic(auto, unfolding(crate::specs::Page::session_row))]
-fn put_session(out: &mut Octets, session: &SessionLine) -> Result<(), AllocError>
-    ensures { OnOk result (out.new ≡ out.old ++ session_row session.now) }
+// Behind the head of a table, its rows and its end.
+#[tactic(auto, unfolding(crate::specs::Page::table_text))]
+fn put_table<T: Row>(
+    out: &mut Octets,
+    head: &[u8],
+    rows: &[T],
+    columns: &[u8],
+) -> Result<(), AllocError>
+    ensures { OnOk result (out.new ≡ out.old ++ table_text head.now T.text rows.now columns.now) }
 {
-    put_pieces(
-        out,
-        &[
-            Piece::Text(b"<tr><td>"),
-            Piece::Escaped(session.account.as_bytes()),
-            Piece::Text(b"</td><td>"),
-            Piece::Text(session.kind.word().as_bytes()),
-            Piece::Text(b"</td><td class=\"n\">"),
-            Piece::Number(session.submits),
-            Piece::Text(b"</td><td class=\"n\">"),
-            Piece::Number(session.receipts),
-            Piece::Text(b"</td><td class=\"n\">"),
-            Piece::Number(session.window),
-            Piece::Text(b"</td><td>"),
-            Piece::Moment(session.since),
-            Piece::Text(b"</td><td class=\"n\">"),
-            Piece::Number(session.seat as u64),
-            Piece::Text(b"</td></tr>\n"),
-        ],
-    )
-}
-
-fn put_session_rows(out: &mut Octets, sessions: &[SessionLine]) -> Result<(), AllocError>
-    ensures { OnOk result (out.new ≡ out.old ++ flat_map session_row sessions.now) }
-{
-    for session in sessions {
-        put_session(out, session)?;
-    }
-    Ok(())
-}
-
-#[tactic(auto, unfolding(crate::specs::Page::sessions_table))]
-fn put_sessions(out: &mut Octets, sessions: &[SessionLine]) -> Result<(), AllocError>
-    ensures { OnOk result (out.new ≡ out.old ++ sessions_table sessions.now) }
-{
-    out.append(SESSIONS_HEAD)?;
-    put_session_rows(out, sessions)?;
-    put_none(out, sessions.is_empty(), b"7")?;
+    out.append(head)?;
+    put_rows(out, rows)?;
+    put_none(out, rows.is_empty(), columns)?;
     end_table(out)
+}
+
+impl Row for SessionLine {
+    ghost text = { session_row };
+
+    #[tactic(auto, unfolding(crate::specs::Page::session_row))]
+    fn put(&self, out: &mut Octets) -> Result<(), AllocError> {
+        put_pieces(
+            out,
+            &[
+                Piece::Text(b"<tr><td>"),
+                Piece::Escaped(self.account.as_bytes()),
+                Piece::Text(b"</td><td>"),
+                Piece::Text(self.kind.word().as_bytes()),
+                Piece::Text(b"</td><td class=\"n\">"),
+                Piece::Number(self.submits),
+                Piece::Text(b"</td><td class=\"n\">"),
+                Piece::Number(self.receipts),
+                Piece::Text(b"</td><td class=\"n\">"),
+                Piece::Number(self.window),
+                Piece::Text(b"</td><td>"),
+                Piece::Moment(self.since),
+                Piece::Text(b"</td><td class=\"n\">"),
+                Piece::Number(self.seat as u64),
+                Piece::Text(b"</td></tr>\n"),
+            ],
+        )
+    }
 }
 
 fn word_of(is_so: bool) -> &'static [u8]
@@ -327,47 +380,30 @@ fn bad_word_of(is_so: bool) -> &'static [u8]
     }
 }
 
-#[tactic(auto, unfolding(crate::specs::Page::link_row))]
-fn put_link(out: &mut Octets, link: &LinkLine) -> Result<(), AllocError>
-    ensures { OnOk result (out.new ≡ out.old ++ link_row link.now) }
-{
-    put_pieces(
-        out,
-        &[
-            Piece::Text(b"<tr><td>"),
-            Piece::Escaped(link.handset.as_bytes()),
-            Piece::Text(b"</td><td class=\"n\">"),
-            Piece::Number(link.waiting),
-            Piece::Text(b"</td><td>"),
-            Piece::Text(bad_word_of(link.is_full)),
-            Piece::Text(b"</td><td>"),
-            Piece::Text(word_of(link.is_under_way)),
-            Piece::Text(b"</td><td>"),
-            Piece::Moment(link.since),
-            Piece::Text(b"</td><td class=\"n\">"),
-            Piece::Number(link.seat as u64),
-            Piece::Text(b"</td></tr>\n"),
-        ],
-    )
-}
+impl Row for LinkLine {
+    ghost text = { link_row };
 
-fn put_link_rows(out: &mut Octets, links: &[LinkLine]) -> Result<(), AllocError>
-    ensures { OnOk result (out.new ≡ out.old ++ flat_map link_row links.now) }
-{
-    for link in links {
-        put_link(out, link)?;
+    #[tactic(auto, unfolding(crate::specs::Page::link_row))]
+    fn put(&self, out: &mut Octets) -> Result<(), AllocError> {
+        put_pieces(
+            out,
+            &[
+                Piece::Text(b"<tr><td>"),
+                Piece::Escaped(self.handset.as_bytes()),
+                Piece::Text(b"</td><td class=\"n\">"),
+                Piece::Number(self.waiting),
+                Piece::Text(b"</td><td>"),
+                Piece::Text(bad_word_of(self.is_full)),
+                Piece::Text(b"</td><td>"),
+                Piece::Text(word_of(self.is_under_way)),
+                Piece::Text(b"</td><td>"),
+                Piece::Moment(self.since),
+                Piece::Text(b"</td><td class=\"n\">"),
+                Piece::Number(self.seat as u64),
+                Piece::Text(b"</td></tr>\n"),
+            ],
+        )
     }
-    Ok(())
-}
-
-#[tactic(auto, unfolding(crate::specs::Page::links_table))]
-fn put_links(out: &mut Octets, links: &[LinkLine]) -> Result<(), AllocError>
-    ensures { OnOk result (out.new ≡ out.old ++ links_table links.now) }
-{
-    out.append(LINKS_HEAD)?;
-    put_link_rows(out, links)?;
-    put_none(out, links.is_empty(), b"6")?;
-    end_table(out)
 }
 
 // ---- what is stuck
@@ -484,33 +520,16 @@ fn put_stuck_counts(out: &mut Octets, line: &StuckLine) -> Result<(), AllocError
     )
 }
 
-#[tactic(auto, unfolding(crate::specs::Page::stuck_row))]
-fn put_stuck_line(out: &mut Octets, line: &StuckLine) -> Result<(), AllocError>
-    ensures { OnOk result (out.new ≡ out.old ++ stuck_row line.now) }
-{
-    put_stuck_counts(out, line)?;
-    put_last_cause(out, line.is_linked, line.cause)?;
-    put_next_try(out, line.is_linked, line.due)?;
-    out.append(b"</td></tr>\n")
-}
+impl Row for StuckLine {
+    ghost text = { stuck_row };
 
-fn put_stuck_rows(out: &mut Octets, lines: &[StuckLine]) -> Result<(), AllocError>
-    ensures { OnOk result (out.new ≡ out.old ++ flat_map stuck_row lines.now) }
-{
-    for line in lines {
-        put_stuck_line(out, line)?;
+    #[tactic(auto, unfolding(crate::specs::Page::stuck_row))]
+    fn put(&self, out: &mut Octets) -> Result<(), AllocError> {
+        put_stuck_counts(out, self)?;
+        put_last_cause(out, self.is_linked, self.cause)?;
+        put_next_try(out, self.is_linked, self.due)?;
+        out.append(b"</td></tr>\n")
     }
-    Ok(())
-}
-
-#[tactic(auto, unfolding(crate::specs::Page::stuck_table))]
-fn put_stuck_table(out: &mut Octets, lines: &[StuckLine]) -> Result<(), AllocError>
-    ensures { OnOk result (out.new ≡ out.old ++ stuck_table lines.now) }
-{
-    out.append(STUCK_HEAD)?;
-    put_stuck_rows(out, lines)?;
-    put_none(out, lines.is_empty(), b"6")?;
-    end_table(out)
 }
 
 #[tactic(auto, unfolding(crate::specs::Page::stuck_text))]
@@ -519,127 +538,89 @@ fn put_stuck(out: &mut Octets, view: &StatusView<'_>) -> Result<(), AllocError>
 {
     out.append(b"<h2>What is stuck</h2><p>")?;
     put_oldest(out, &view.oldest)?;
-    put_stuck_table(out, view.stuck)
+    put_table(out, STUCK_HEAD, view.stuck, b"6")
 }
 
 // ---- accounts
 
-#[tactic(auto, unfolding(crate::specs::Page::account_row))]
-fn put_account(out: &mut Octets, line: &AccountLine) -> Result<(), AllocError>
-    ensures { OnOk result (out.new ≡ out.old ++ account_row line.now) }
-{
-    put_pieces(
-        out,
-        &[
-            Piece::Text(b"<tr><td>"),
-            Piece::Escaped(line.account.as_bytes()),
-            Piece::Text(b"</td><td class=\"n\">"),
-            Piece::Number(line.submits),
-            Piece::Text(b"</td><td class=\"n\">"),
-            Piece::Number(line.receipts),
-            Piece::Text(b"</td></tr>\n"),
-        ],
-    )
-}
+impl Row for AccountLine {
+    ghost text = { account_row };
 
-fn put_account_rows(out: &mut Octets, accounts: &[AccountLine]) -> Result<(), AllocError>
-    ensures { OnOk result (out.new ≡ out.old ++ flat_map account_row accounts.now) }
-{
-    for line in accounts {
-        put_account(out, line)?;
+    #[tactic(auto, unfolding(crate::specs::Page::account_row))]
+    fn put(&self, out: &mut Octets) -> Result<(), AllocError> {
+        put_pieces(
+            out,
+            &[
+                Piece::Text(b"<tr><td>"),
+                Piece::Escaped(self.account.as_bytes()),
+                Piece::Text(b"</td><td class=\"n\">"),
+                Piece::Number(self.submits),
+                Piece::Text(b"</td><td class=\"n\">"),
+                Piece::Number(self.receipts),
+                Piece::Text(b"</td></tr>\n"),
+            ],
+        )
     }
-    Ok(())
-}
-
-#[tactic(auto, unfolding(crate::specs::Page::accounts_table))]
-fn put_accounts(out: &mut Octets, accounts: &[AccountLine]) -> Result<(), AllocError>
-    ensures { OnOk result (out.new ≡ out.old ++ accounts_table accounts.now) }
-{
-    out.append(ACCOUNTS_HEAD)?;
-    put_account_rows(out, accounts)?;
-    put_none(out, accounts.is_empty(), b"3")?;
-    end_table(out)
 }
 
 // ---- what was refused
 
-#[tactic(auto, unfolding(crate::specs::Page::submits_row))]
-fn put_refused_submits(out: &mut Octets, refused: &RefusedSubmits) -> Result<(), AllocError>
-    ensures { OnOk result (out.new ≡ out.old ++ submits_row refused.now) }
-{
-    put_pieces(
-        out,
-        &[
-            Piece::Text(b"<tr><td>submit_sm</td><td>"),
-            Piece::Escaped(refused.account.as_bytes()),
-            Piece::Text(b"</td><td>command_status "),
-            Piece::Number(refused.status as u64),
-            Piece::Text(b"</td><td class=\"n\">"),
-            Piece::Number(refused.count),
-            Piece::Text(b"</td></tr>\n"),
-        ],
-    )
-}
+impl Row for RefusedSubmits {
+    ghost text = { submits_row };
 
-fn put_submits_rows(out: &mut Octets, refused: &[RefusedSubmits]) -> Result<(), AllocError>
-    ensures { OnOk result (out.new ≡ out.old ++ flat_map submits_row refused.now) }
-{
-    for some in refused {
-        put_refused_submits(out, some)?;
+    #[tactic(auto, unfolding(crate::specs::Page::submits_row))]
+    fn put(&self, out: &mut Octets) -> Result<(), AllocError> {
+        put_pieces(
+            out,
+            &[
+                Piece::Text(b"<tr><td>submit_sm</td><td>"),
+                Piece::Escaped(self.account.as_bytes()),
+                Piece::Text(b"</td><td>command_status "),
+                Piece::Number(self.status as u64),
+                Piece::Text(b"</td><td class=\"n\">"),
+                Piece::Number(self.count),
+                Piece::Text(b"</td></tr>\n"),
+            ],
+        )
     }
-    Ok(())
 }
 
-#[tactic(auto, unfolding(crate::specs::Page::binds_row))]
-fn put_refused_binds(out: &mut Octets, refused: &RefusedBinds) -> Result<(), AllocError>
-    ensures { OnOk result (out.new ≡ out.old ++ binds_row refused.now) }
-{
-    put_pieces(
-        out,
-        &[
-            Piece::Text(b"<tr><td>bind</td><td></td><td>"),
-            Piece::Escaped(refused.reason.as_bytes()),
-            Piece::Text(b"</td><td class=\"n\">"),
-            Piece::Number(refused.count),
-            Piece::Text(b"</td></tr>\n"),
-        ],
-    )
-}
+impl Row for RefusedBinds {
+    ghost text = { binds_row };
 
-fn put_binds_rows(out: &mut Octets, refused: &[RefusedBinds]) -> Result<(), AllocError>
-    ensures { OnOk result (out.new ≡ out.old ++ flat_map binds_row refused.now) }
-{
-    for some in refused {
-        put_refused_binds(out, some)?;
+    #[tactic(auto, unfolding(crate::specs::Page::binds_row))]
+    fn put(&self, out: &mut Octets) -> Result<(), AllocError> {
+        put_pieces(
+            out,
+            &[
+                Piece::Text(b"<tr><td>bind</td><td></td><td>"),
+                Piece::Escaped(self.reason.as_bytes()),
+                Piece::Text(b"</td><td class=\"n\">"),
+                Piece::Number(self.count),
+                Piece::Text(b"</td></tr>\n"),
+            ],
+        )
     }
-    Ok(())
 }
 
-#[tactic(auto, unfolding(crate::specs::Page::deliveries_row))]
-fn put_refused_deliveries(out: &mut Octets, refused: &RefusedDeliveries) -> Result<(), AllocError>
-    ensures { OnOk result (out.new ≡ out.old ++ deliveries_row refused.now) }
-{
-    put_pieces(
-        out,
-        &[
-            Piece::Text(b"<tr><td>delivery</td><td></td><td>RP cause "),
-            Piece::Number(refused.cause as u64),
-            Piece::Text(b", "),
-            Piece::Escaped(refused.reason.as_bytes()),
-            Piece::Text(b"</td><td class=\"n\">"),
-            Piece::Number(refused.count),
-            Piece::Text(b"</td></tr>\n"),
-        ],
-    )
-}
+impl Row for RefusedDeliveries {
+    ghost text = { deliveries_row };
 
-fn put_deliveries_rows(out: &mut Octets, refused: &[RefusedDeliveries]) -> Result<(), AllocError>
-    ensures { OnOk result (out.new ≡ out.old ++ flat_map deliveries_row refused.now) }
-{
-    for some in refused {
-        put_refused_deliveries(out, some)?;
+    #[tactic(auto, unfolding(crate::specs::Page::deliveries_row))]
+    fn put(&self, out: &mut Octets) -> Result<(), AllocError> {
+        put_pieces(
+            out,
+            &[
+                Piece::Text(b"<tr><td>delivery</td><td></td><td>RP cause "),
+                Piece::Number(self.cause as u64),
+                Piece::Text(b", "),
+                Piece::Escaped(self.reason.as_bytes()),
+                Piece::Text(b"</td><td class=\"n\">"),
+                Piece::Number(self.count),
+                Piece::Text(b"</td></tr>\n"),
+            ],
+        )
     }
-    Ok(())
 }
 
 fn is_nothing_refused(view: &StatusView<'_>) -> bool
@@ -654,53 +635,14 @@ fn put_refusals(out: &mut Octets, view: &StatusView<'_>) -> Result<(), AllocErro
     ensures { OnOk result (out.new ≡ out.old ++ refusals_table view.entry.now) }
 {
     out.append(REFUSALS_HEAD)?;
-    put_submits_rows(out, view.refused_submits)?;
-    put_binds_rows(out, view.refused_binds)?;
-    put_deliveries_rows(out, view.refused_deliveries)?;
+    put_rows(out, view.refused_submits)?;
+    put_rows(out, view.refused_binds)?;
+    put_rows(out, view.refused_deliveries)?;
     put_none(out, is_nothing_refused(view), b"4")?;
     end_table(out)
 }
 
 // ---- the store
-
-#[tactic(auto, unfolding(crate::specs::Page::tile))]
-fn put_size_tile(out: &mut Octets, octets: u64, word: &[u8]) -> Result<(), AllocError>
-    ensures { OnOk result (out.new ≡ out.old ++ tile (size_text octets) word.now) }
-{
-    put_pieces(
-        out,
-        &[
-            Piece::Text(b"<div class=\"tile\"><b>"),
-            Piece::Size(octets),
-            Piece::Text(b"</b><span>"),
-            Piece::Text(word),
-            Piece::Text(b"</span></div>"),
-        ],
-    )
-}
-
-#[tactic(auto, unfolding(crate::specs::Page::tile))]
-fn put_quantile_tile(out: &mut Octets, quantile: Quantile, word: &[u8]) -> Result<(), AllocError>
-    ensures { OnOk result (out.new ≡ out.old ++ tile (quantile_text quantile) word.now) }
-{
-    put_pieces(
-        out,
-        &[
-            Piece::Text(b"<div class=\"tile\"><b>"),
-            Piece::Quantile(quantile),
-            Piece::Text(b"</b><span>"),
-            Piece::Text(word),
-            Piece::Text(b"</span></div>"),
-        ],
-    )
-}
-
-// How many commits a second there were.
-fn put_rate(out: &mut Octets, samples: &[Sample]) -> Result<(), AllocError>
-    ensures { OnOk result (out.new ≡ out.old ++ tile (decimal (commits_a_second_of samples.now)) (codes "commits a second")) }
-{
-    put_tile(out, commits_a_second(samples), b"commits a second")
-}
 
 #[tactic(auto, unfolding(crate::specs::Page::store_tiles))]
 fn put_store(
@@ -713,30 +655,41 @@ fn put_store(
 ) -> Result<(), AllocError>
     ensures { OnOk result (out.new ≡ out.old ++ store_tiles store.now commits.now samples.now median most) }
 {
-    begin_tiles(out, b"Store")?;
-    put_size_tile(out, store.file, b"file")?;
-    put_size_tile(out, store.log, b"its log")?;
-    put_rate(out, samples)?;
-    put_quantile_tile(out, median, b"median of a commit")?;
-    put_quantile_tile(out, most, b"99 of 100 commits")?;
-    put_graded_tile(out, commits.refused, b"commits refused")?;
-    end_tiles(out)
+    put_tiles(
+        out,
+        b"Store",
+        &[
+            Tile::Figure(Piece::Size(store.file), b"file"),
+            Tile::Figure(Piece::Size(store.log), b"its log"),
+            Tile::Figure(
+                Piece::Number(commits_a_second(samples)),
+                b"commits a second",
+            ),
+            Tile::Figure(Piece::Quantile(median), b"median of a commit"),
+            Tile::Figure(Piece::Quantile(most), b"99 of 100 commits"),
+            Tile::Graded(commits.refused, b"commits refused"),
+        ],
+    )
 }
 
 #[tactic(auto, unfolding(crate::specs::Page::groups_tiles))]
 fn put_groups(out: &mut Octets, groups: &GroupFigures) -> Result<(), AllocError>
     ensures { OnOk result (out.new ≡ out.old ++ groups_tiles groups.now) }
 {
-    begin_tiles(out, b"Groups of requests that were committed at once")?;
-    put_tile(out, groups.up_to_64, b"groups")?;
-    put_tile(out, groups.of_1, b"of 1")?;
-    put_tile(out, groups.up_to_2, b"of 2 at most")?;
-    put_tile(out, groups.up_to_4, b"of 4 at most")?;
-    put_tile(out, groups.up_to_8, b"of 8 at most")?;
-    put_tile(out, groups.up_to_16, b"of 16 at most")?;
-    put_tile(out, groups.up_to_32, b"of 32 at most")?;
-    put_tile(out, groups.items, b"items of all")?;
-    end_tiles(out)
+    put_tiles(
+        out,
+        b"Groups of requests that were committed at once",
+        &[
+            Tile::Figure(Piece::Number(groups.up_to_64), b"groups"),
+            Tile::Figure(Piece::Number(groups.of_1), b"of 1"),
+            Tile::Figure(Piece::Number(groups.up_to_2), b"of 2 at most"),
+            Tile::Figure(Piece::Number(groups.up_to_4), b"of 4 at most"),
+            Tile::Figure(Piece::Number(groups.up_to_8), b"of 8 at most"),
+            Tile::Figure(Piece::Number(groups.up_to_16), b"of 16 at most"),
+            Tile::Figure(Piece::Number(groups.up_to_32), b"of 32 at most"),
+            Tile::Figure(Piece::Number(groups.items), b"items of all"),
+        ],
+    )
 }
 
 // ---- events
@@ -843,10 +796,10 @@ fn put_page(
     put_messages(out, &view.messages)?;
     put_charts(alloc, out, view.samples)?;
     put_seats(out, view.sessions.len() as u64, view.links.len() as u64)?;
-    put_sessions(out, view.sessions)?;
-    put_links(out, view.links)?;
+    put_table(out, SESSIONS_HEAD, view.sessions, b"7")?;
+    put_table(out, LINKS_HEAD, view.links, b"6")?;
     put_stuck(out, view)?;
-    put_accounts(out, view.accounts)?;
+    put_table(out, ACCOUNTS_HEAD, view.accounts, b"3")?;
     put_refusals(out, view)?;
     put_store(out, &view.store, &view.commits, view.samples, median, most)?;
     put_groups(out, &view.groups)?;

@@ -33,7 +33,8 @@ pub(crate) enum Piece<'a> {
     Quantile(Quantile),
 }
 
-fn put_piece(out: &mut Octets, piece: &Piece<'_>) -> Result<(), AllocError>
+/// One piece.
+pub(crate) fn put_piece(out: &mut Octets, piece: &Piece<'_>) -> Result<(), AllocError>
     ensures { OnOk result (out.new ≡ out.old ++ piece_text piece.entry.now) }
 {
     match piece {

@@ -2,13 +2,18 @@
 use Rattle.std.proofs.Common.{◌≡◌, ℕ, ◌<◌, ◌≤◌, List, [], ◌∷◌, ◌++◌, Option, Some, None, refl, sym, ◌∙◌, ap, append_assoc, subst, arith, true, false, ⊎_elim}
 use Rattle.std.specs.List.{AllByRecursion}
 use Rattle.std.specs.Prelude.{Bool, IfOk, Result, Ok, Err, nat_le, nat_lt}
-use Rattle.std.proofs.lemmas.Bool.{cases_Bool, cases_eq, cases_lt, cond-true, cond-false, le-leb, le-ltb, lt-leb, lt-ltb}
+use Rattle.std.proofs.lemmas.Bool.{cases_Bool, cases_eq, cases_lt, cond-true, cond-false, le-leb, le-ltb, leb-true, lt-leb, ltb-true}
 use Rattle.std.specs.declared.alloc.Global.{Global}
 use Rattle.std.specs.declared.sync.Arc.{Arc}
-use Rattle.sms_rows.specs.table.Table.{AllAbove, Rises, insert, put, row_at, without}
+use Rattle.sms_rows.specs.table.Table.{AllAbove, Rises, applied, change_key, change_row, insert, put, row_at, without}
+use Rattle.sms_rows.specs.declared.table.change.Change.{Change}
+use Rattle.sms_rows.specs.declared.table.change.Change.TheVariants.{Put, Remove}
 use Rattle.sms_rows.proofs.table.Tables.{above_lower, insert_behind, insert_here, row_behind, row_here, without_behind, without_here}
 use Rattle.sms_rows.specs.index.Bounds.{AreBetween, IsBounded}
-use Rattle.sms_rows.specs.index.First.{first_such, is_ahead_from, is_past_from}
+use Rattle.sms_rows.specs.index.First.{first_such, has_none, is_from, is_within}
+use Rattle.sms_rows.specs.index.Picked.{before_all}
+use Rattle.sms_rows.specs.declared.index.bound.Bound.{Bound}
+use Rattle.sms_rows.specs.declared.index.bound.Bound.TheVariants.{Past, Ahead}
 use Rattle.sms_rows.specs.index.Shapes.{TreeOf}
 use Rattle.sms_rows.specs.index.Trees.{tree_of}
 use Rattle.sms_rows.specs.declared.index.tree.Fork.{Fork}
@@ -161,6 +166,24 @@ module _ {A : Type 0} (key : A → ℕ) where
       insert_root z l r (subst (λ (k : ℕ). AllBelow k l) e (below_before l x r h)) (subst (λ (k : ℕ). AllAbove key k r) e (above_behind l x r h))
       ∙ ap (λ (s : List A). insert key z s) (without_root (key z) l x r h e)
 
+  -- ---- a row changed
+
+  pub changed_left : (c : Change A) (l : List A) (x : A) (r : List A) → Rises key (l ++ x ∷ r) → change_key key c < key x → applied key c l ++ x ∷ r ≡ applied key c (l ++ x ∷ r)
+  changed_left (Put z) l x r h lt = put_left z l x r h lt
+  changed_left (Remove n) l x r h lt = without_left n l x r h lt
+
+  pub changed_right : (c : Change A) (l : List A) (x : A) (r : List A) → Rises key (l ++ x ∷ r) → key x < change_key key c → l ++ x ∷ applied key c r ≡ applied key c (l ++ x ∷ r)
+  changed_right (Put z) l x r h lt = put_right z l x r h lt
+  changed_right (Remove n) l x r h lt = without_right n l x r h lt
+
+  pub changed_root : (c : Change A) (l : List A) (x : A) (r : List A) → Rises key (l ++ x ∷ r) → key x ≡ change_key key c → l ++ before_all (change_row c) r ≡ applied key c (l ++ x ∷ r)
+  changed_root (Put z) l x r h e = put_root z l x r h e
+  changed_root (Remove n) l x r h e = without_root n l x r h e
+
+  pub changed_none : (c : Change A) → before_all (change_row c) [] ≡ applied key c []
+  changed_none (Put z) = refl
+  changed_none (Remove n) = refl
+
 -- ---- the first row that passes a test
 
 module _ {A : Type 0} (test : A → Bool) where
@@ -200,23 +223,14 @@ module _ {A : Type 0} (key : A → ℕ) (rows l : List A) (x : A) (r : List A) (
   pub find_here : (n : ℕ) → key x ≡ n → Some x ≡ row_at key n rows
   find_here n same = found_here key n l x r rise same ∙ ap (λ (s : List A). row_at key n s) (sym e)
 
-  pub with_left : (z : A) (m after : List A) → key z < key x → (Rises key l → m ≡ put key z l) → after ≡ m ++ x ∷ r → after ≡ put key z rows
-  with_left z m after lt made is = is ∙ ap (λ (s : List A). s ++ x ∷ r) (made (rises_left key l x r rise)) ∙ put_left key z l x r rise lt ∙ ap (λ (s : List A). put key z s) (sym e)
+  pub with_left : (c : Change A) (m after : List A) → change_key key c < key x → (Rises key l → m ≡ applied key c l) → after ≡ m ++ x ∷ r → after ≡ applied key c rows
+  with_left c m after lt made is = is ∙ ap (λ (s : List A). s ++ x ∷ r) (made (rises_left key l x r rise)) ∙ changed_left key c l x r rise lt ∙ ap (λ (s : List A). applied key c s) (sym e)
 
-  pub with_right : (z : A) (m after : List A) → key x < key z → (Rises key r → m ≡ put key z r) → after ≡ l ++ x ∷ m → after ≡ put key z rows
-  with_right z m after lt made is = is ∙ ap (λ (s : List A). l ++ x ∷ s) (made (rises_right key l x r rise)) ∙ put_right key z l x r rise lt ∙ ap (λ (s : List A). put key z s) (sym e)
+  pub with_right : (c : Change A) (m after : List A) → key x < change_key key c → (Rises key r → m ≡ applied key c r) → after ≡ l ++ x ∷ m → after ≡ applied key c rows
+  with_right c m after lt made is = is ∙ ap (λ (s : List A). l ++ x ∷ s) (made (rises_right key l x r rise)) ∙ changed_right key c l x r rise lt ∙ ap (λ (s : List A). applied key c s) (sym e)
 
-  pub with_root : (z : A) (after : List A) → key x ≡ key z → after ≡ l ++ z ∷ r → after ≡ put key z rows
-  with_root z after same is = is ∙ put_root key z l x r rise same ∙ ap (λ (s : List A). put key z s) (sym e)
-
-  pub out_left : (n : ℕ) (m after : List A) → n < key x → (Rises key l → m ≡ without key n l) → after ≡ m ++ x ∷ r → after ≡ without key n rows
-  out_left n m after lt made is = is ∙ ap (λ (s : List A). s ++ x ∷ r) (made (rises_left key l x r rise)) ∙ without_left key n l x r rise lt ∙ ap (λ (s : List A). without key n s) (sym e)
-
-  pub out_right : (n : ℕ) (m after : List A) → key x < n → (Rises key r → m ≡ without key n r) → after ≡ l ++ x ∷ m → after ≡ without key n rows
-  out_right n m after lt made is = is ∙ ap (λ (s : List A). l ++ x ∷ s) (made (rises_right key l x r rise)) ∙ without_right key n l x r rise lt ∙ ap (λ (s : List A). without key n s) (sym e)
-
-  pub out_root : (n : ℕ) (after : List A) → key x ≡ n → after ≡ l ++ r → after ≡ without key n rows
-  out_root n after same is = is ∙ without_root key n l x r rise same ∙ ap (λ (s : List A). without key n s) (sym e)
+  pub with_root : (c : Change A) (after : List A) → key x ≡ change_key key c → after ≡ l ++ before_all (change_row c) r → after ≡ applied key c rows
+  with_root c after same is = is ∙ changed_root key c l x r rise same ∙ ap (λ (s : List A). applied key c s) (sym e)
 
 -- ---- the first row that passes, from a key on
 
@@ -252,42 +266,27 @@ module _ {A : Type 0} (key : A → ℕ) (test : A → Bool) (rows l : List A) (x
 
 -- ---- tests
 
-module _ {A : Type 0} (key moment : A → ℕ) where
-  pub past_not : (first now : ℕ) (x : A) → key x < first → is_past_from key moment first now x ≡ false
-  past_not first now x lt = cond-false (nat_le first (key x)) (nat_le (moment x) now) false (lt-leb first (key x) lt)
+none_within : (bound : Bound) (now a b m : ℕ) → has_none bound now a b ≡ true → a ≤ m → m ≤ b → is_within bound now m ≡ false
+none_within Past now a b m none low high = let later : now < a = ltb-true now a none in lt-leb m now (omega (arith, later, low))
+none_within Ahead now a b m none low high = let come : b ≤ now = leb-true b now none in le-ltb now m (omega (arith, come, high))
 
-  pub past_is : (first now : ℕ) (x : A) → first ≤ key x → moment x ≤ now → is_past_from key moment first now x ≡ true
-  past_is first now x le come = cond-true (nat_le first (key x)) (nat_le (moment x) now) false (le-leb first (key x) le) ∙ le-leb (moment x) now come
+module _ {A : Type 0} (key moment : A → ℕ) (bound : Bound) (first now : ℕ) where
+  pub from_behind : (x : A) → key x < first → is_from key moment bound first now x ≡ false
+  from_behind x lt = cond-false (nat_le first (key x)) (is_within bound now (moment x)) false (lt-leb first (key x) lt)
 
-  pub past_later : (first now : ℕ) (x : A) → now < moment x → is_past_from key moment first now x ≡ false
-  past_later first now x later = ⊎_elim
-      (λ (t : nat_le first (key x) ≡ true). cond-true (nat_le first (key x)) (nat_le (moment x) now) false t ∙ lt-leb (moment x) now later)
-      (λ (t : nat_le first (key x) ≡ false). cond-false (nat_le first (key x)) (nat_le (moment x) now) false t)
+  pub from_is : (x : A) → first ≤ key x → is_within bound now (moment x) ≡ true → is_from key moment bound first now x ≡ true
+  from_is x le within = cond-true (nat_le first (key x)) (is_within bound now (moment x)) false (le-leb first (key x) le) ∙ within
+
+  pub from_not : (x : A) → is_within bound now (moment x) ≡ false → is_from key moment bound first now x ≡ false
+  from_not x other = ⊎_elim
+      (λ (t : nat_le first (key x) ≡ true). cond-true (nat_le first (key x)) (is_within bound now (moment x)) false t ∙ other)
+      (λ (t : nat_le first (key x) ≡ false). cond-false (nat_le first (key x)) (is_within bound now (moment x)) false t)
       (cases_Bool (nat_le first (key x)))
 
-  pub ahead_not : (first now : ℕ) (x : A) → key x < first → is_ahead_from key moment first now x ≡ false
-  ahead_not first now x lt = cond-false (nat_le first (key x)) (nat_lt now (moment x)) false (lt-leb first (key x) lt)
+  -- where none of the moments is within
+  all_not : (a b : ℕ) (xs : List A) → has_none bound now a b ≡ true → AreBetween moment a b xs → AllByRecursion (λ x. is_from key moment bound first now x ≡ false) xs
+  all_not a b [] none h = tt
+  all_not a b (x ∷ xs) none h = (from_not x (none_within bound now a b (moment x) none h.0.0 h.0.1), all_not a b xs none h.1)
 
-  pub ahead_is : (first now : ℕ) (x : A) → first ≤ key x → now < moment x → is_ahead_from key moment first now x ≡ true
-  ahead_is first now x le later = cond-true (nat_le first (key x)) (nat_lt now (moment x)) false (le-leb first (key x) le) ∙ lt-ltb now (moment x) later
-
-  pub ahead_come : (first now : ℕ) (x : A) → moment x ≤ now → is_ahead_from key moment first now x ≡ false
-  ahead_come first now x come = ⊎_elim
-      (λ (t : nat_le first (key x) ≡ true). cond-true (nat_le first (key x)) (nat_lt now (moment x)) false t ∙ le-ltb now (moment x) come)
-      (λ (t : nat_le first (key x) ≡ false). cond-false (nat_le first (key x)) (nat_lt now (moment x)) false t)
-      (cases_Bool (nat_le first (key x)))
-
-  -- where no moment is come, or all are
-  all_later : (first now a b : ℕ) (xs : List A) → now < a → AreBetween moment a b xs → AllByRecursion (λ x. is_past_from key moment first now x ≡ false) xs
-  all_later first now a b [] lt h = tt
-  all_later first now a b (x ∷ xs) lt h = (past_later first now x (omega (arith, lt, h.0.0)), all_later first now a b xs lt h.1)
-
-  pub no_past : (first now a b : ℕ) (xs : List A) → now < a → AreBetween moment a b xs → None ≡ first_such (is_past_from key moment first now) xs
-  no_past first now a b xs lt h = sym (none_such (is_past_from key moment first now) xs (all_later first now a b xs lt h))
-
-  all_come : (first now a b : ℕ) (xs : List A) → b ≤ now → AreBetween moment a b xs → AllByRecursion (λ x. is_ahead_from key moment first now x ≡ false) xs
-  all_come first now a b [] le h = tt
-  all_come first now a b (x ∷ xs) le h = (ahead_come first now x (omega (arith, le, h.0.1)), all_come first now a b xs le h.1)
-
-  pub no_ahead : (first now a b : ℕ) (xs : List A) → b ≤ now → AreBetween moment a b xs → None ≡ first_such (is_ahead_from key moment first now) xs
-  no_ahead first now a b xs le h = sym (none_such (is_ahead_from key moment first now) xs (all_come first now a b xs le h))
+  pub none_from : (a b : ℕ) (xs : List A) → has_none bound now a b ≡ true → AreBetween moment a b xs → None ≡ first_such (is_from key moment bound first now) xs
+  none_from a b xs none h = sym (none_such (is_from key moment bound first now) xs (all_not a b xs none h))

@@ -1,12 +1,14 @@
 //! Balanced trees whose parts are shared.
 ghost use Rattle.std.specs.Prelude.{◌≡◌, ◌≤◌, [], ◌∷◌, ◌++◌, IfOk, IfSome, MatchOption};
 ghost use Rattle.sms_rows.specs.index.Bounds.{IsBounded};
-ghost use Rattle.sms_rows.specs.index.First.{first_such, is_ahead_from, is_past_from};
+ghost use Rattle.sms_rows.specs.index.First.{first_such, is_from};
+ghost use Rattle.sms_rows.specs.index.Picked.{before_all};
 ghost use Rattle.sms_rows.specs.index.Trees.{empty, forked};
-ghost use Rattle.sms_rows.specs.table.Table.{Rises, put, row_at, without};
+ghost use Rattle.sms_rows.specs.table.Table.{Rises, applied, change_row, row_at};
 
+use crate::index::bound::Bound;
 use crate::index::dated::Dated;
-use crate::table::Key;
+use crate::table::{Change, Key};
 use sms_base::Moment;
 use std::alloc::{AllocError, Global};
 use std::marker::Model;
@@ -306,42 +308,25 @@ impl<T: Copy + Dated> Tree<T> {
         }
     }
 
-    /// The tree with the row in the place of that of its key, or where its key belongs.
-    pub(crate) fn with(&self, alloc: Global, row: T) -> Result<Tree<T>, AllocError>
-        ensures { IfOk result (λ t. Rises T.key self.now.rows → t.rows ≡ put T.key row self.now.rows) }
+    /// The tree behind a change: the row in the place of that of its key, or where its key belongs, or the row of a key
+    /// out.
+    pub(crate) fn changed(&self, alloc: Global, change: &Change<T>) -> Result<Tree<T>, AllocError>
+        ensures { IfOk result (λ t. Rises T.key self.now.rows → t.rows ≡ applied T.key change.now self.now.rows) }
     {
         let Some(fork) = &self.root else {
-            return Tree::fork(alloc, Tree::new(), row, Tree::new());
+            let none = Tree::new();
+            return replaced(alloc, &none, change, &none);
         };
         let fork: &Fork<T> = fork;
-        let key = row.key().number();
+        let key = change.key().number();
         if key < fork.row.key().number() {
-            let left = fork.left.with(alloc, row)?;
+            let left = fork.left.changed(alloc, change)?;
             with_left(alloc, left, fork.row, &fork.right)
         } else if fork.row.key().number() < key {
-            let right = fork.right.with(alloc, row)?;
+            let right = fork.right.changed(alloc, change)?;
             with_right(alloc, &fork.left, fork.row, right)
         } else {
-            Tree::between(alloc, &fork.left, row, &fork.right)
-        }
-    }
-
-    /// The tree without the row of that key.
-    pub(crate) fn without(&self, alloc: Global, key: Key) -> Result<Tree<T>, AllocError>
-        ensures { IfOk result (λ t. Rises T.key self.now.rows → t.rows ≡ without T.key key self.now.rows) }
-    {
-        let Some(fork) = &self.root else {
-            return Ok(Tree::new());
-        };
-        let fork: &Fork<T> = fork;
-        if key.number() < fork.row.key().number() {
-            let left = fork.left.without(alloc, key)?;
-            with_left(alloc, left, fork.row, &fork.right)
-        } else if fork.row.key().number() < key.number() {
-            let right = fork.right.without(alloc, key)?;
-            with_right(alloc, &fork.left, fork.row, right)
-        } else {
-            joined(alloc, &fork.left, &fork.right)
+            replaced(alloc, &fork.left, change, &fork.right)
         }
     }
 
@@ -367,6 +352,21 @@ impl<T: Copy + Dated> Tree<T> {
     }
 }
 
+// The row that a change leaves between both sides, if it leaves one.
+fn replaced<T: Copy + Dated>(
+    alloc: Global,
+    left: &Tree<T>,
+    change: &Change<T>,
+    right: &Tree<T>,
+) -> Result<Tree<T>, AllocError>
+    ensures { IfOk result (λ t. t.rows ≡ left.now.rows ++ before_all (change_row change.now) right.now.rows) }
+{
+    match change {
+        Change::Put(row) => Tree::between(alloc, left, *row, right),
+        Change::Remove(_) => joined(alloc, left, right),
+    }
+}
+
 // The rows of both trees.
 fn joined<T: Copy + Dated>(
     alloc: Global,
@@ -384,45 +384,24 @@ fn joined<T: Copy + Dated>(
 // ---- moments
 
 impl<T: Copy + Dated> Tree<T> {
-    /// The first row from that key on whose moment is reached.
-    pub(crate) fn first_past(&self, first: Key, now: Moment) -> Option<T>
-        ensures { Rises T.key self.now.rows → result ≡ first_such (is_past_from T.key T.moment first now) self.now.rows }
+    /// The first row from that key on whose moment is reached, or is still ahead.
+    pub(crate) fn first_of(&self, bound: Bound, first: Key, now: Moment) -> Option<T>
+        ensures { Rises T.key self.now.rows → result ≡ first_such (is_from T.key T.moment bound first now) self.now.rows }
     {
         let Some(fork) = &self.root else {
             return None;
         };
         let fork: &Fork<T> = fork;
-        if now.seconds() < fork.earliest {
+        if bound.has_none(now, fork.earliest, fork.latest) {
             return None;
         }
         if fork.row.key().number() < first.number() {
-            return fork.right.first_past(first, now);
+            return fork.right.first_of(bound, first, now);
         }
-        match fork.left.first_past(first, now) {
+        match fork.left.first_of(bound, first, now) {
             Some(row) => Some(row),
-            None if fork.row.moment().seconds() <= now.seconds() => Some(fork.row),
-            None => fork.right.first_past(first, now),
-        }
-    }
-
-    /// The first row from that key on whose moment is still ahead.
-    pub(crate) fn first_ahead(&self, first: Key, now: Moment) -> Option<T>
-        ensures { Rises T.key self.now.rows → result ≡ first_such (is_ahead_from T.key T.moment first now) self.now.rows }
-    {
-        let Some(fork) = &self.root else {
-            return None;
-        };
-        let fork: &Fork<T> = fork;
-        if fork.latest <= now.seconds() {
-            return None;
-        }
-        if fork.row.key().number() < first.number() {
-            return fork.right.first_ahead(first, now);
-        }
-        match fork.left.first_ahead(first, now) {
-            Some(row) => Some(row),
-            None if now.seconds() < fork.row.moment().seconds() => Some(fork.row),
-            None => fork.right.first_ahead(first, now),
+            None if bound.is_within(now, fork.row.moment()) => Some(fork.row),
+            None => fork.right.first_of(bound, first, now),
         }
     }
 }

@@ -57,7 +57,7 @@ use Rattle.sms_handset.specs.declared.refusal.Refusal.{Refusal}
 use Rattle.sms_handset.proofs.SoundActs.{SoundIfDone, delete_sound, discard_sound, few_references, not_by_entries, write_sound}
 use Rattle.sms_handset.proofs.SoundDrafts.{SoundAt, sound_from}
 use Rattle.sms_handset.proofs.SoundEvents.{timed_out_sound, went_up_sound}
-use Rattle.sms_handset.proofs.SoundTransfers.{IsDue, lapse_settles}
+use Rattle.sms_handset.proofs.SoundTransfers.{lapse_settles}
 use Rattle.sms_play.specs.HandsetSide.{entries_given, happened, memories_given}
 use Rattle.sms_play.specs.Premises.{last_holder}
 use Rattle.sms_world.specs.entries_keep_references.ReportedEntries.{AreBelow, EventLaw, EntriesAgree}
@@ -68,7 +68,8 @@ use Rattle.sms_link.proofs.Known.{begin_is}
 use Rattle.sms_play.specs.PlayState.{Party}
 use Rattle.sms_control.specs.declared.message.Cp.TheVariants.{DataUnit as CpData}
 use Rattle.sms_control.specs.ControlGrammar.{spelled}
-use Rattle.sms_world.proofs.HandsetStages.{AnyReference, AnyUnit, IfDone, IsKnownFirst, IsKnownUp, IsSameEntry, KeptByEnds, KeptByMoves, KeptByOffers, KeptByWriting, delete_keeps, discard_keeps, frame_keeps, lapse_keeps, lost_same, offer_keeps, settled_same, timers_keep, write_keeps}
+use Rattle.sms_handset.proofs.KeptByStages.{AnyReference, AnyUnit, IfDone, IsKnownFirst, IsKnownUp, IsSameEntry, KeptByEnds, KeptByMoves, KeptByOffers, KeptByWriting, delete_keeps, discard_keeps, frame_keeps, lapse_keeps, lost_same, offer_keeps, settled_same, timers_keep, write_keeps}
+use Rattle.sms_handset.proofs.DueRows.{IsDue}
 
 -- ---- plain facts of rows
 

@@ -25,7 +25,7 @@ use Rattle.sms_handset_rows.specs.inbox.Doubles.{is_double}
 use Rattle.sms_handset_rows.specs.outbox.Reports.{reported}
 use Rattle.sms_handset_rows.specs.inbox.SoundInbox.{IsPartOf}
 use Rattle.sms_handset.proofs.SoundDrafts.{SoundAt}
-use Rattle.sms_handset.proofs.SoundReceiving.{reported_among}
+use Rattle.sms_handset.proofs.DueRows.{reported_among}
 use Rattle.sms_handset_rows.proofs.inbox.SoundMarks.{mark_found}
 use Rattle.sms_tpdu.specs.MoreMessages.{compared}
 use Rattle.sms_world_model.specs.Place.{place_in, place_of, place_read}

@@ -43,7 +43,7 @@ use Rattle.sms_handset_rows.proofs.inbox.SoundMarks.{above_at}
 use Rattle.sms_handset_rows.proofs.outbox.SoundOutbox.{held_among, held_entries}
 use Rattle.sms_handset_rows.proofs.outbox.SoundReferences.{next_is_free}
 use Rattle.sms_handset.proofs.SoundActs.{few_references, not_by_entries}
-use Rattle.sms_handset.proofs.SoundTransfers.{IsDue, first_due_is, is_sending_state, lapse_settles}
+use Rattle.sms_handset.proofs.SoundTransfers.{is_sending_state, lapse_settles}
 use Rattle.sms_world_model.specs.World.{World, Up, Frame, Sent, Carried, Allocation, OutEntry, IsUnfinished}
 use Rattle.sms_world_model.specs.WorldStep.{Offer_up, Offer_memory, Repeat_memory, replaced}
 use Rattle.sms_world_model.specs.References.{IsFreeUp, IsNewHolder}
@@ -57,7 +57,7 @@ use Rattle.sms_world.proofs.handset_runs_are_steps.Concluding.{lost_law, notice_
 use Rattle.sms_world.proofs.frames_pass_between_sides.Linking.{begin_is, data_framed, next_below}
 use Rattle.sms_world.proofs.handset_runs_are_steps.Moving.{frames_more, links_more, moves_then, stays, whole_both}
 use Rattle.sms_world.proofs.handset_runs_are_steps.Submitting.{data_fits, data_read, data_some, submit_fits, submit_is}
-use Rattle.sms_world.proofs.HandsetStages.{fired_among}
+use Rattle.sms_handset.proofs.DueRows.{fired_among, IsDue, first_due_is}
 use Rattle.sms_world.proofs.scripts_are_runs.UpGrown.{no_memory}
 
 -- ---- a transaction begins

@@ -30,7 +30,7 @@ use Rattle.sms_world.specs.handsets_send_octets.Keeping.{CoreKeepsOctets}
 use Rattle.sms_world.specs.handsets_send_octets.OctetLaws.{AllSendOctets, AreInOctets, ArrivalLaw, RunLaw, Episode, EventLaw, IfDone, RestartLaw, Restart, SendsOctets, StartLaw, Stopped, Whole, again, happened}
 use Rattle.sms_world.proofs.handsets_send_octets.LinkOctets.{fired_fits, taken_fits}
 use Rattle.sms_world.proofs.handsets_send_octets.StageOctets.{IfDoneOctets, OctetsAt, deletes, discards, fires, follows, heard, turn_fits, writes}
-use Rattle.sms_world.proofs.HandsetStages.{acted_keeps}
+use Rattle.sms_handset.proofs.KeptByStages.{acted_keeps}
 
 -- ---- one event
 

@@ -50,8 +50,8 @@ use Rattle.sms_world.specs.handsets_send_octets.Arriving.{IsAnsweredInOctet}
 use Rattle.sms_world.specs.handsets_send_octets.Keeping.{EntryInOctets, KeepsOctets, SentInOctets}
 use Rattle.sms_world.proofs.handsets_send_octets.LinkOctets.{TurnFits, UnitFits, UpwardFits, begun_fits, both_sent, replied_fits}
 use Rattle.sms_world.proofs.handsets_send_octets.WrittenOctets.{PartInOctets, relay_fits, submit_fits, text_fits}
-use Rattle.sms_world.proofs.HandsetStages.{AnyTransfer, IfDone, IsKnownUp, IsSameEntry, KeptByEnds, KeptByMoves, KeptByOffers, KeptByWriting, any_up, delete_keeps, discard_keeps, frame_keeps, lapse_keeps, lapses_each, lost_same, offer_keeps, settled_same, timers_keep, write_keeps}
-use Rattle.sms_handset.proofs.SoundTransfers.{IsDue}
+use Rattle.sms_handset.proofs.KeptByStages.{AnyTransfer, IfDone, IsKnownUp, IsSameEntry, KeptByEnds, KeptByMoves, KeptByOffers, KeptByWriting, any_up, delete_keeps, discard_keeps, frame_keeps, lapse_keeps, lapses_each, lost_same, offer_keeps, settled_same, timers_keep, write_keeps}
+use Rattle.sms_handset.proofs.DueRows.{IsDue}
 use Rattle.sms_handset_draft.specs.FramesAndTicks.{frame_heard, timers_fired}
 
 -- a draft that keeps octets, and whose frames are octets

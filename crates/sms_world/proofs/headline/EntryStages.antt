@@ -62,8 +62,8 @@ use Rattle.sms_world.proofs.handset_runs_are_steps.Offering.{smma_sends}
 use Rattle.sms_world.proofs.handset_runs_are_steps.Submitting.{data_fits, data_read, data_some, submit_fits}
 use Rattle.sms_world.proofs.headline.EntryFrames.{AllSay, Brings, HolderSays, LinkSays, TurnSays, both_say, fired_says, quiet_frames, reply_next, taken_says}
 use Rattle.sms_world.proofs.Options.{some_is}
-use Rattle.sms_world.proofs.HandsetStages.{AnyReference, AnyTransfer, AnyUnit, IfDone, IsSameEntry, KeptByEnds, KeptByMoves, KeptByOffers, KeptByWriting, acted_keeps, any_up, delete_keeps, discard_keeps, frame_keeps, lapse_keeps, lapses_each, lost_same, offer_keeps, settled_same, timers_keep, write_keeps}
-use Rattle.sms_handset.proofs.SoundTransfers.{IsDue}
+use Rattle.sms_handset.proofs.KeptByStages.{AnyReference, AnyTransfer, AnyUnit, IfDone, IsSameEntry, KeptByEnds, KeptByMoves, KeptByOffers, KeptByWriting, acted_keeps, any_up, delete_keeps, discard_keeps, frame_keeps, lapse_keeps, lapses_each, lost_same, offer_keeps, settled_same, timers_keep, write_keeps}
+use Rattle.sms_handset.proofs.DueRows.{IsDue}
 
 further : (k i : ℕ) → k + suc i ≡ k + 1 + i
 further k i = omega arith

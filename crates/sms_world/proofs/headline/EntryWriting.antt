@@ -38,7 +38,7 @@ use Rattle.sms_handset.specs.HandsetEvent.{wrote}
 use Rattle.sms_handset.specs.OwnersActs.{count_split, fits_outbox, write, write_part, write_parts, write_split, write_to, written}
 use Rattle.sms_handset.specs.declared.refusal.Refusal.{Refusal}
 use Rattle.sms_handset.specs.declared.refusal.Refusal.TheVariants.{OutboxFull}
-use Rattle.sms_world.proofs.HandsetStages.{AnyEntry, IfDone, KeptByOffers, acted_keeps, lapse_keeps, lapses_each, offer_keeps}
+use Rattle.sms_handset.proofs.KeptByStages.{AnyEntry, IfDone, KeptByOffers, acted_keeps, lapse_keeps, lapses_each, offer_keeps}
 
 -- ---- the outbox has an entry of that number
 

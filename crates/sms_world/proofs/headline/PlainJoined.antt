@@ -166,7 +166,7 @@ module _ (script : Script) (after : ℕ → Report) (typed : AreTyped script.eve
         let t : IsTraced script after now m = of_row script after typed reports m k.there in
         let u : Submission = t.event.origin.submission in
         let b = t.only k.part k.part_there k.its in
-        let once = parts_once now (reached script after typed reports timely).0 s (reached script after typed reports timely).1.1 m k.part q k.there k.part_there k.its q_there (sym k.handset)
+        let once = parts_once now (reached script after typed reports timely).0 s (reached script after typed reports timely).1.1.faithful m k.part q k.there k.part_there k.its q_there (sym k.handset)
         (subst (λ (z : Accepted). Among z (pairs_of [] q.accepted)) k.pair k.accepted) in
         let g = given_to script after typed reports timely m k.there k.part k.part_there k.its in
         let accepted : IsAcceptedOnce at_end (line_of m) k.part.number u b.0 =

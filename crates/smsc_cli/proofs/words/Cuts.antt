@@ -171,19 +171,3 @@ stops_first texts first others old new e none same = (0, subst (λ l. StopsAt 0 
 pub none_more : (texts : List (Bor (List ℕ))) (old : List AccountWords) → length texts ≡ 0 → AddsAll (map (λ text. text.now) texts) old old
 none_more [] old e = refl
 none_more (text ∷ texts) old e = absurd (omega (arith, e))
-
--- ---- names
-
-pub has_it : (name : List ℕ) (accounts : List AccountWords) (first : AccountWords) (others : List AccountWords) → accounts ≡ first ∷ others → first.name.now ≡ name → IsNewName name accounts → ⊥
-has_it name accounts first others e is h = (subst (IsNewName name) e h).0 is
-
-pub new_by : (name : List ℕ) (accounts : List AccountWords) (first : AccountWords) (others : List AccountWords) (b has : Bool) → accounts ≡ first ∷ others → has ≡ false
-    → (first.name.now ≡ name → has ≡ true) → (b ≡ true) ↔ IsNewName name others → (b ≡ true) ↔ IsNewName name accounts
-new_by name accounts first others b has e lacks found both = (
-  λ t. subst (IsNewName name) (sym e) ((λ is. let no : false ≡ true = sym lacks ∙ found is in absurd cc), both.0 t),
-  λ h. both.1 (subst (IsNewName name) e h).1,
-)
-
-pub none_named : (name : List ℕ) (accounts : List AccountWords) → length accounts ≡ 0 → (true ≡ true) ↔ IsNewName name accounts
-none_named name [] e = ((λ _. tt), λ _. refl)
-none_named name (x ∷ xs) e = absurd (omega (arith, e))

@@ -3,8 +3,8 @@ use Rattle.std.proofs.Common.{Result, Ok, Err, OnOk, OnErr, ◌≡◌, ◌<◌, 
 use Rattle.std.proofs.lemmas.Bool.{eqb-true, ne_eqb}
 use Rattle.std.specs.Str.Iter.{LacksByte}
 use denote.Ref.{Bor}
-use Rattle.smsc_cli.specs.declared.words.account.AccountWords.{AccountWords}
-use Rattle.smsc_cli.specs.words.Accounts.{AddsAccount, AddsAll, AddsNone, IsCutAt, StopsAt, bare_of, begins_with_feed, in_front, lines_of}
+use Rattle.smsc_cli.specs.words.Accounts.{IsCutAt, bare_of, begins_with_feed, in_front, lines_of}
+use Rattle.smsc_cli.specs.words.Several.{AddsEach, StopsAtOne}
 
 -- ---- a carriage return at the end
 
@@ -79,9 +79,6 @@ pub some_octets : (file : List ℕ) → eqb (length file) 0 ≡ false → 0 < le
 some_octets [] e = absurd (true≢false e)
 some_octets (c ∷ cs) e = omega arith
 
-pub none_added : (file : List ℕ) (old : List AccountWords) → eqb (length file) 0 ≡ true → AddsAll (lines_of file) old old
-none_added file old e = subst (λ lines. AddsAll lines old old) (sym (no_lines file e)) refl
-
 -- ---- what holds of a result
 
 pub on_ok : {A E X Y : Type 0} (r : Result A E) → (X → Y) → OnOk r X → OnOk r Y
@@ -92,30 +89,39 @@ pub at_err : {A E X : Type 0} (r : Result A E) (e : E) → r ≡ Err e → OnErr
 at_err (Ok a) e is x = absurd cc
 at_err (Err f) e is x = x
 
--- ---- accounts of lines
+-- ---- what lines add
 
-module _ (file line rest bare : List ℕ) (cut : IsCutAt 10 file line rest) (is : bare ≡ bare_of line) where
-  cut_lines : lines_of file ≡ bare ∷ lines_of rest
-  cut_lines = ap lines_of cut.parts ∙ first_line line rest cut.first ∙ ap (λ l. l ∷ lines_of rest) (sym is)
+module _ {A : Type 0} (Adds : List ℕ → List A → List A → Type 0) where
+  pub none_added : (file : List ℕ) (old : List A) → eqb (length file) 0 ≡ true → AddsEach Adds (lines_of file) old old
+  none_added file old e = subst (λ lines. AddsEach Adds lines old old) (sym (no_lines file e)) refl
 
-  pub more_added : (old mid new : List AccountWords) → AddsAccount bare old mid → AddsAll (lines_of rest) mid new → AddsAll (lines_of file) old new
-  more_added old mid new one all = subst (λ lines. AddsAll lines old new) (sym cut_lines) (mid, one, all)
+module _ {A : Type 0} (Adds : List ℕ → List A → List A → Type 0) (AddsNothing : List ℕ → List A → Type 0) where
+  module _ (file line rest bare : List ℕ) (cut : IsCutAt 10 file line rest) (is : bare ≡ bare_of line) where
+    cut_lines : lines_of file ≡ bare ∷ lines_of rest
+    cut_lines = ap lines_of cut.parts ∙ first_line line rest cut.first ∙ ap (λ l. l ∷ lines_of rest) (sym is)
 
-  pub later_stop : (bad number : ℕ) (old mid new : List AccountWords) → AddsAccount bare old mid
-      → (place : ℕ) × (bad ≡ place + (number + 1)) × StopsAt place (lines_of rest) mid new
-      → (place : ℕ) × (bad ≡ place + number) × StopsAt place (lines_of file) old new
-  later_stop bad number old mid new one s =
-      let e = s.1 in
-      (suc s.0, omega (arith, e), subst (λ lines. StopsAt (suc s.0) lines old new) (sym cut_lines) (mid, one, s.2))
+    pub more_added : (old mid new : List A) → Adds bare old mid → AddsEach Adds (lines_of rest) mid new → AddsEach Adds (lines_of file) old new
+    more_added old mid new one all = subst (λ lines. AddsEach Adds lines old new) (sym cut_lines) (mid, one, all)
 
-  pub first_stop : (bad number : ℕ) (old new : List AccountWords) → (bad ≡ number) × AddsNone bare old → new ≡ old
-      → (place : ℕ) × (bad ≡ place + number) × StopsAt place (lines_of file) old new
-  first_stop bad number old new s same = let e = s.0 in (0, omega (arith, e), subst (λ lines. StopsAt 0 lines old new) (sym cut_lines) (s.1, same))
+    pub later_stop : (bad number : ℕ) (old mid new : List A) → Adds bare old mid
+        → (place : ℕ) × (bad ≡ place + (number + 1)) × StopsAtOne Adds AddsNothing place (lines_of rest) mid new
+        → (place : ℕ) × (bad ≡ place + number) × StopsAtOne Adds AddsNothing place (lines_of file) old new
+    later_stop bad number old mid new one s =
+        let e = s.1 in
+        (suc s.0, omega (arith, e), subst (λ lines. StopsAtOne Adds AddsNothing (suc s.0) lines old new) (sym cut_lines) (mid, one, s.2))
 
-module _ (file : List ℕ) (some : 0 < length file) (endless : LacksByte 10 file) where
-  pub last_added : (old new : List AccountWords) → AddsAccount file old new → AddsAll (lines_of file) old new
-  last_added old new one = subst (λ lines. AddsAll lines old new) (sym (last_line file some endless)) (new, one, refl)
+    pub first_stop : (bad number : ℕ) (old new : List A) → (bad ≡ number) × AddsNothing bare old → new ≡ old
+        → (place : ℕ) × (bad ≡ place + number) × StopsAtOne Adds AddsNothing place (lines_of file) old new
+    first_stop bad number old new s same =
+        let e = s.0 in
+        (0, omega (arith, e), subst (λ lines. StopsAtOne Adds AddsNothing 0 lines old new) (sym cut_lines) (s.1, same))
 
-  pub last_stop : (bad number : ℕ) (old new : List AccountWords) → (bad ≡ number) × AddsNone file old → new ≡ old
-      → (place : ℕ) × (bad ≡ place + number) × StopsAt place (lines_of file) old new
-  last_stop bad number old new s same = let e = s.0 in (0, omega (arith, e), subst (λ lines. StopsAt 0 lines old new) (sym (last_line file some endless)) (s.1, same))
+  module _ (file : List ℕ) (some : 0 < length file) (endless : LacksByte 10 file) where
+    pub last_added : (old new : List A) → Adds file old new → AddsEach Adds (lines_of file) old new
+    last_added old new one = subst (λ lines. AddsEach Adds lines old new) (sym (last_line file some endless)) (new, one, refl)
+
+    pub last_stop : (bad number : ℕ) (old new : List A) → (bad ≡ number) × AddsNothing file old → new ≡ old
+        → (place : ℕ) × (bad ≡ place + number) × StopsAtOne Adds AddsNothing place (lines_of file) old new
+    last_stop bad number old new s same =
+        let e = s.0 in
+        (0, omega (arith, e), subst (λ lines. StopsAtOne Adds AddsNothing 0 lines old new) (sym (last_line file some endless)) (s.1, same))

@@ -1,13 +1,12 @@
 -- Numbers and secrets of lines.
-use Rattle.std.proofs.Common.{◌≡◌, ◌<◌, ◌+◌, ℕ, suc, Bool, true, false, eqb, List, Option, Some, None, IfNone, [], ◌∷◌, ◌++◌, length, refl, sym, true≢false, ap, ◌∙◌, subst, arith}
+use Rattle.std.proofs.Common.{◌≡◌, ℕ, Bool, true, false, List, Option, Some, None, IfNone, [], ◌∷◌, ◌++◌, refl, sym, true≢false, ap, ◌∙◌, subst}
 use Rattle.std.proofs.lemmas.Bool.{ne_eqb}
 use Rattle.std.specs.Str.Iter.{LacksByte}
 use denote.Ref.{Bor}
 use Rattle.smsc_cli.specs.declared.words.secrets.SecretWords.{SecretWords}
-use Rattle.smsc_cli.specs.words.Accounts.{IsCutAt, bare_of, lines_of}
-use Rattle.smsc_cli.specs.words.Secrets.{AddsNoSecret, AddsSecret, AddsSecrets, HasPlaceFor, SpellsSecret, StopsAtSecret, is_number_text, is_secret_text, unended_of}
+use Rattle.smsc_cli.specs.words.Accounts.{IsCutAt}
+use Rattle.smsc_cli.specs.words.Secrets.{AddsNoSecret, HasPlaceFor, SpellsSecret, is_number_text, is_secret_text, unended_of}
 use Rattle.smsc_cli.proofs.words.Cuts.{no_cut, one_cut}
-use Rattle.smsc_cli.proofs.words.Lines.{first_line, last_line, no_lines}
 
 -- ---- one secret
 
@@ -39,35 +38,6 @@ no_room text number secret old seen has same lacks found t n s spells room =
     let is : n ≡ number = (parts_are text number secret n s t.cut spells).0 in
     let yes : has ≡ true = found (subst (λ (l : List SecretWords). HasPlaceFor number l) (sym same) (subst (λ (x : List ℕ). HasPlaceFor x old) is room)) in
     absurd (true≢false (sym yes ∙ lacks))
-
-pub none_added : (file : List ℕ) (old : List SecretWords) → eqb (length file) 0 ≡ true → AddsSecrets (lines_of file) old old
-none_added file old e = subst (λ lines. AddsSecrets lines old old) (sym (no_lines file e)) refl
-
-module _ (file line rest bare : List ℕ) (cut : IsCutAt 10 file line rest) (is : bare ≡ bare_of line) where
-  cut_lines : lines_of file ≡ bare ∷ lines_of rest
-  cut_lines = ap lines_of cut.parts ∙ first_line line rest cut.first ∙ ap (λ l. l ∷ lines_of rest) (sym is)
-
-  pub more_added : (old mid new : List SecretWords) → AddsSecret bare old mid → AddsSecrets (lines_of rest) mid new → AddsSecrets (lines_of file) old new
-  more_added old mid new one all = subst (λ lines. AddsSecrets lines old new) (sym cut_lines) (mid, one, all)
-
-  pub later_stop : (bad number : ℕ) (old mid new : List SecretWords) → AddsSecret bare old mid
-      → (place : ℕ) × (bad ≡ place + (number + 1)) × StopsAtSecret place (lines_of rest) mid new
-      → (place : ℕ) × (bad ≡ place + number) × StopsAtSecret place (lines_of file) old new
-  later_stop bad number old mid new one s =
-      let e = s.1 in
-      (suc s.0, omega (arith, e), subst (λ lines. StopsAtSecret (suc s.0) lines old new) (sym cut_lines) (mid, one, s.2))
-
-  pub first_stop : (bad number : ℕ) (old new : List SecretWords) → (bad ≡ number) × AddsNoSecret bare old → new ≡ old
-      → (place : ℕ) × (bad ≡ place + number) × StopsAtSecret place (lines_of file) old new
-  first_stop bad number old new s same = let e = s.0 in (0, omega (arith, e), subst (λ lines. StopsAtSecret 0 lines old new) (sym cut_lines) (s.1, same))
-
-module _ (file : List ℕ) (some : 0 < length file) (endless : LacksByte 10 file) where
-  pub last_added : (old new : List SecretWords) → AddsSecret file old new → AddsSecrets (lines_of file) old new
-  last_added old new one = subst (λ lines. AddsSecrets lines old new) (sym (last_line file some endless)) (new, one, refl)
-
-  pub last_stop : (bad number : ℕ) (old new : List SecretWords) → (bad ≡ number) × AddsNoSecret file old → new ≡ old
-      → (place : ℕ) × (bad ≡ place + number) × StopsAtSecret place (lines_of file) old new
-  last_stop bad number old new s same = let e = s.0 in (0, omega (arith, e), subst (λ lines. StopsAtSecret 0 lines old new) (sym (last_line file some endless)) (s.1, same))
 
 -- ---- a line feed at the end
 

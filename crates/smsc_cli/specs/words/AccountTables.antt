@@ -15,6 +15,7 @@ use Rattle.smsc_cli.specs.declared.words.account_tables.PasswordWords.TheVariant
 use Rattle.smsc_cli.specs.declared.words.account_tables.SourceWords.{SourceWords}
 use Rattle.smsc_cli.specs.declared.words.account_tables.SourceWords.TheVariants.{Number, Prefix, Name}
 use Rattle.smsc_cli.specs.declared.words.account_tables.TableAccount.{TableAccount}
+use Rattle.smsc_cli.specs.words.Several.{HasRoom, IsNew}
 
 -- ---- keys
 
@@ -163,10 +164,10 @@ SpellsValue value account = (table : Members) × (as_table value ≡ Some table)
 
 -- no account of these has the name
 abbrev pub IsNewName : List ℕ → List TableAccount → Type 0
-IsNewName name accounts = AllByRecursion (λ (other : TableAccount). other.name.now ≢ name) accounts
+IsNewName name accounts = IsNew (λ (account : TableAccount). account.name.now) name accounts
 
 abbrev pub HasRoomFor : List ℕ → List TableAccount → Type 0
-HasRoomFor name accounts = IsNewName name accounts × (length accounts < most_accounts)
+HasRoomFor name accounts = HasRoom (λ (account : TableAccount). account.name.now) most_accounts name accounts
 
 -- the value is an account that may be added
 pub record AddsValue (value : Data) (old new : List TableAccount) : Type 0 where

@@ -6,6 +6,7 @@ use Rattle.sms_base.specs.declared.address.Address.{Address}
 use Rattle.smsc_cli.specs.words.Numbers.{IsSessions}
 use Rattle.smsc_cli.specs.words.SimWords.{SpellsNumber}
 use Rattle.smsc_cli.specs.declared.words.account.AccountWords.{AccountWords}
+use Rattle.smsc_cli.specs.words.Several.{AddsEach, HasRoom, IsNew, StopsAtOne}
 
 -- the text is what is before its first such octet, that octet, and what is behind it
 pub record IsCutAt (octet : ℕ) (text before behind : List ℕ) : Type 0 where
@@ -58,7 +59,7 @@ pub record SpellsAccount (text name password : List ℕ) (address : Address) (se
 
 -- no account of these has the name
 abbrev pub IsNewName : List ℕ → List AccountWords → Type 0
-IsNewName name accounts = AllByRecursion (λ (other : AccountWords). other.name.now ≢ name) accounts
+IsNewName name accounts = IsNew (λ (account : AccountWords). account.name.now) name accounts
 
 -- there may be 32
 abbrev pub most_accounts : ℕ
@@ -66,7 +67,7 @@ most_accounts = 32
 
 -- an account of that name may be added: it is new, and there are not too many
 abbrev pub HasRoomFor : List ℕ → List AccountWords → Type 0
-HasRoomFor name accounts = IsNewName name accounts × (length accounts < most_accounts)
+HasRoomFor name accounts = HasRoom (λ (account : AccountWords). account.name.now) most_accounts name accounts
 
 -- the text spells an account that may be added
 pub record AddsAccount (text : List ℕ) (old new : List AccountWords) : Type 0 where
@@ -82,14 +83,11 @@ AddsNone text old =
 
 -- each text spells one account more, in order
 abbrev pub AddsAll : List (List ℕ) → List AccountWords → List AccountWords → Type 0
-AddsAll [] old new = new ≡ old
-AddsAll (text ∷ texts) old new = (more : List AccountWords) × AddsAccount text old more × AddsAll texts more new
+AddsAll texts old new = AddsEach AddsAccount texts old new
 
 -- each text before that place spells one account more, in order, and the text at that place can't
 abbrev pub StopsAt : ℕ → List (List ℕ) → List AccountWords → List AccountWords → Type 0
-StopsAt place [] old new = ⊥
-StopsAt zero (text ∷ texts) old new = AddsNone text old × (new ≡ old)
-StopsAt (suc place) (text ∷ texts) old new = (more : List AccountWords) × AddsAccount text old more × StopsAt place texts more new
+StopsAt place texts old new = StopsAtOne AddsAccount AddsNone place texts old new
 
 -- ---- lines
 

@@ -1,39 +1,24 @@
 -- The words of a handset, by clap's matches of them. The first word is the program's name.
-use Rattle.std.specs.Prelude.{◌≡◌, ℕ, List, Bool, true, false, Option, Some, None, MatchBool, codes, bytes_eq, option_map}
-use Rattle.clap.specs.Words.{App, first_of, matches_of, new_app, takes, with_rule}
-use Rattle.smsc_cli.specs.words.SimWords.{Gives, HasValue, Spells, SpellsNumber, required_option}
+use Rattle.std.specs.Prelude.{◌≡◌, ℕ, List, [], ◌∷◌, Bool, true, false, Option, Some, None, MatchBool, codes, bytes_eq, option_map}
+use Rattle.clap.specs.Words.{App, first_of, matches_of, new_app, takes}
+use Rattle.smsc_cli.specs.words.SimWords.{Gives, HasValue, Spells, SpellsNumber}
 use Rattle.smsc_cli.specs.words.Numbers.{IsCount, IsPort, IsSlots, SpellsCount, SpellsFrom}
-use Rattle.smsc_cli.specs.words.Options.{flag_option, optional_option}
+use Rattle.smsc_cli.specs.words.Options.{flag_option, optional_option, required_option, with_rules}
 use Rattle.smsc_cli.specs.declared.words.handset.HandsetWords.{HandsetWords}
 use Rattle.smsc_cli.specs.declared.words.handset.HandsetWords.TheVariants.{Run, Show}
 
-abbrev pub link_command : App
-link_command =
-    with_rule (with_rule (with_rule (new_app (codes "handset")) (required_option (codes "connect"))) (required_option (codes "number")))
-    (required_option (codes "centre"))
-
--- the options that a run must have
-abbrev pub needed_command : App
-needed_command =
-    with_rule (with_rule (with_rule link_command (required_option (codes "slots"))) (required_option (codes "store")))
-    (required_option (codes "frames"))
-
--- and what it is to do wrong on purpose
-abbrev pub refusing_command : App
-refusing_command =
-    with_rule (with_rule (with_rule needed_command (optional_option (codes "refuse"))) (optional_option (codes "slow")))
-    (optional_option (codes "full-after"))
-
-abbrev pub wrong_command : App
-wrong_command =
-    with_rule (with_rule (with_rule refusing_command (flag_option (codes "silent"))) (optional_option (codes "drop")))
-    (optional_option (codes "seed"))
-
+-- what a run must have, what it is to do wrong on purpose, and the secret of its links
 abbrev pub run_command : App
-run_command = with_rule wrong_command (optional_option (codes "secret"))
+run_command =
+    with_rules (new_app (codes "handset")) (
+    required_option (codes "connect") ∷ required_option (codes "number") ∷ required_option (codes "centre")
+    ∷ required_option (codes "slots") ∷ required_option (codes "store") ∷ required_option (codes "frames")
+    ∷ optional_option (codes "refuse") ∷ optional_option (codes "slow") ∷ optional_option (codes "full-after")
+    ∷ flag_option (codes "silent") ∷ optional_option (codes "drop") ∷ optional_option (codes "seed")
+    ∷ optional_option (codes "secret") ∷ [])
 
 abbrev pub show_command : App
-show_command = with_rule (new_app (codes "show")) (required_option (codes "store"))
+show_command = with_rules (new_app (codes "show")) (required_option (codes "store") ∷ [])
 
 -- the value of an option in the matches of the words of a run, and of a look at a store
 abbrev pub run_value : List ℕ → List (List ℕ) → Option (List ℕ)

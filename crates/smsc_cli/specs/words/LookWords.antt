@@ -1,6 +1,6 @@
 -- The words of a look at a centre's store, by clap's matches of them: `show --store FILE` and what the messages are to be like.
-use Rattle.std.specs.Prelude.{◌≡◌, ◌⊎◌, ◌<◌, ◌||◌, ℕ, List, Bool, Option, Some, None, bytes_eq, codes, length, option_map, true}
-use Rattle.clap.specs.Words.{App, first_of, matches_of, new_app, takes, with_rule}
+use Rattle.std.specs.Prelude.{◌≡◌, ◌⊎◌, ◌<◌, ◌||◌, ℕ, List, [], ◌∷◌, Bool, Option, Some, None, bytes_eq, codes, length, option_map, true}
+use Rattle.clap.specs.Words.{App, first_of, matches_of, new_app, takes}
 use Rattle.sms_base.specs.Address.{IsName, IsNumber}
 use Rattle.sms_base.specs.MessageId.{IsIdText, IsMessageId}
 use Rattle.sms_base.specs.declared.final_state.FinalState.TheVariants.{Delivered, Expired, Deleted, Undeliverable}
@@ -9,18 +9,14 @@ use Rattle.smsc_cli.specs.declared.centre_table.selecting.Filter.{Filter}
 use Rattle.smsc_cli.specs.declared.words.look.LookOptions.{LookOptions}
 use Rattle.smsc_cli.specs.centre_table.CentreTable.{state_word}
 use Rattle.smsc_cli.specs.words.Numbers.{IsCount, SpellsCount}
-use Rattle.smsc_cli.specs.words.Options.{flag_option, is_given, optional_option}
-use Rattle.smsc_cli.specs.words.SimWords.{HasValue, required_option}
-
-abbrev pub parties_command : App
-parties_command =
-    with_rule (with_rule (with_rule (with_rule (new_app (codes "show")) (required_option (codes "store"))) (optional_option (codes "id")))
-    (optional_option (codes "from"))) (optional_option (codes "to"))
+use Rattle.smsc_cli.specs.words.Options.{flag_option, is_given, optional_option, required_option, with_rules}
+use Rattle.smsc_cli.specs.words.SimWords.{HasValue}
 
 abbrev pub look_command : App
 look_command =
-    with_rule (with_rule (with_rule (with_rule parties_command (optional_option (codes "account"))) (optional_option (codes "state")))
-    (optional_option (codes "last"))) (flag_option (codes "stuck"))
+    with_rules (new_app (codes "show")) (
+    required_option (codes "store") ∷ optional_option (codes "id") ∷ optional_option (codes "from") ∷ optional_option (codes "to")
+    ∷ optional_option (codes "account") ∷ optional_option (codes "state") ∷ optional_option (codes "last") ∷ flag_option (codes "stuck") ∷ [])
 
 -- the value of an option in the matches of the words
 abbrev pub look_value : List ℕ → List (List ℕ) → Option (List ℕ)

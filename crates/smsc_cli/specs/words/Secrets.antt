@@ -5,6 +5,7 @@ use Rattle.std.specs.List.{AllByRecursion, list_all}
 use Rattle.sms_base.specs.HandsetNumber.{is_decimal}
 use Rattle.smsc_cli.specs.declared.words.secrets.SecretWords.{SecretWords}
 use Rattle.smsc_cli.specs.words.Accounts.{IsCutAt}
+use Rattle.smsc_cli.specs.words.Several.{AddsEach, HasRoom, IsNew, StopsAtOne}
 
 -- 1 to 20 digits 0 to 9
 abbrev pub is_number_text : List ℕ → Bool
@@ -24,7 +25,7 @@ pub record SpellsSecret (text number secret : List ℕ) : Type 0 where
 
 -- no secret of these is that of the number
 abbrev pub IsNewNumber : List ℕ → List SecretWords → Type 0
-IsNewNumber number secrets = AllByRecursion (λ (other : SecretWords). other.number.now ≢ number) secrets
+IsNewNumber number secrets = IsNew (λ (words : SecretWords). words.number.now) number secrets
 
 -- there may be a thousand
 abbrev pub most_secrets : ℕ
@@ -32,7 +33,7 @@ most_secrets = 1000
 
 -- a secret of the number may be added: it is new, and there are not too many
 abbrev pub HasPlaceFor : List ℕ → List SecretWords → Type 0
-HasPlaceFor number secrets = IsNewNumber number secrets × (length secrets < most_secrets)
+HasPlaceFor number secrets = HasRoom (λ (words : SecretWords). words.number.now) most_secrets number secrets
 
 -- the text spells a secret that may be added
 pub record AddsSecret (text : List ℕ) (old new : List SecretWords) : Type 0 where
@@ -47,14 +48,11 @@ AddsNoSecret text old = (number secret : List ℕ) → SpellsSecret text number 
 
 -- each text spells one secret more, in order
 abbrev pub AddsSecrets : List (List ℕ) → List SecretWords → List SecretWords → Type 0
-AddsSecrets [] old new = new ≡ old
-AddsSecrets (text ∷ texts) old new = (more : List SecretWords) × AddsSecret text old more × AddsSecrets texts more new
+AddsSecrets texts old new = AddsEach AddsSecret texts old new
 
 -- each text before that place spells one secret more, in order, and the text at that place can't
 abbrev pub StopsAtSecret : ℕ → List (List ℕ) → List SecretWords → List SecretWords → Type 0
-StopsAtSecret place [] old new = ⊥
-StopsAtSecret zero (text ∷ texts) old new = AddsNoSecret text old × (new ≡ old)
-StopsAtSecret (suc place) (text ∷ texts) old new = (more : List SecretWords) × AddsSecret text old more × StopsAtSecret place texts more new
+StopsAtSecret place texts old new = StopsAtOne AddsSecret AddsNoSecret place texts old new
 
 -- ---- one
 

@@ -1,14 +1,13 @@
 -- The words of the server, by clap's matches of them. The first word is the program's name.
-use Rattle.std.specs.Prelude.{◌≡◌, ℕ, List, [], Bool, true, false, Option, Some, None, MatchBool, bytes_eq, codes, length, map, option_map}
-use Rattle.clap.specs.Words.{App, Rule, all_of, first_of, matches_of, new_app, new_rule, takes, with_rule}
-use Rattle.clap.specs.declared.builder.action.ArgAction.TheVariants.{Append, Set}
+use Rattle.std.specs.Prelude.{◌≡◌, ℕ, List, [], ◌∷◌, Bool, true, false, Option, Some, None, MatchBool, bytes_eq, codes, length, map, option_map}
+use Rattle.clap.specs.Words.{App, all_of, first_of, matches_of, new_app, takes}
 use Rattle.smsc_cli.specs.words.Accounts.{AddsAll}
-use Rattle.smsc_cli.specs.words.SimWords.{Gives, HasValue, Spells, SpellsNumber, required_option}
+use Rattle.smsc_cli.specs.words.SimWords.{Gives, HasValue, Spells, SpellsNumber}
 use Rattle.smsc_cli.specs.words.LogWords.{SpellsLog}
 use Rattle.sms_base.specs.MessageId.{IsIdText}
 use Rattle.smsc_cli.specs.words.LookWords.{AskForLook, IsCountText, IsIdOf, MayBe, SpelledLook, Wants, look_value}
 use Rattle.smsc_cli.specs.words.Numbers.{IsCount, IsPort, SpellsCount, SpellsFrom}
-use Rattle.smsc_cli.specs.words.Options.{flag_option, is_given, optional_option}
+use Rattle.smsc_cli.specs.words.Options.{flag_option, is_given, listed_words, needed_word, optional_option, required_option, with_rules}
 use Rattle.smsc_cli.specs.declared.words.account.AccountWords.{AccountWords}
 use Rattle.smsc_cli.specs.declared.words.detail.LogDetail.{LogDetail}
 use Rattle.smsc_cli.specs.declared.words.server.Options.{Options}
@@ -18,69 +17,37 @@ use Rattle.smsc_cli.specs.declared.words.server.ServerWords.TheVariants.{Run, Sh
 use Rattle.smsc_cli.specs.declared.words.server.OrderWord.{OrderWord}
 use Rattle.smsc_cli.specs.declared.words.server.OrderWord.TheVariants.{Retry, Cancel}
 
--- words that are arguments themselves, as many as there are
-abbrev pub listed_words : List ℕ → Rule
-listed_words name = record (new_rule name) { action = Some Append }
-
-abbrev pub port_command : App
-port_command =
-    with_rule (with_rule (with_rule (new_app (codes "smscd")) (required_option (codes "store"))) (required_option (codes "smpp")))
-    (required_option (codes "links"))
-
--- the centre's number, and how many connections are served
-abbrev pub needed_command : App
-needed_command = with_rule (with_rule port_command (required_option (codes "centre"))) (optional_option (codes "sessions"))
-
--- and those that it may have
-abbrev pub paths_command : App
-paths_command =
-    with_rule (with_rule (with_rule needed_command (optional_option (codes "accounts"))) (optional_option (codes "link-secrets")))
-    (optional_option (codes "control"))
-
-abbrev pub more_command : App
-more_command =
-    with_rule (with_rule (with_rule paths_command (optional_option (codes "status"))) (flag_option (codes "ahead"))) (optional_option (codes "log"))
-
--- what an operator says of a store or of accounts that a run would refuse
-abbrev pub store_command : App
-store_command =
-    with_rule (with_rule (with_rule more_command (flag_option (codes "new-store"))) (flag_option (codes "accept-loss")))
-    (flag_option (codes "accounts-open"))
-
--- how long ended messages are kept, and where what goes is written
-abbrev pub keeping_command : App
-keeping_command = with_rule (with_rule store_command (optional_option (codes "keep"))) (optional_option (codes "archive"))
-
+-- what a run must have and what it may have; behind the paths of accounts and the rest, what an operator says of a store or of accounts that
+-- a run would refuse, and how long ended messages are kept
 abbrev pub server_command : App
-server_command = with_rule keeping_command (listed_words (codes "account"))
+server_command =
+    with_rules (new_app (codes "smscd")) (
+    required_option (codes "store") ∷ required_option (codes "smpp") ∷ required_option (codes "links") ∷ required_option (codes "centre")
+    ∷ optional_option (codes "sessions") ∷ optional_option (codes "accounts") ∷ optional_option (codes "link-secrets")
+    ∷ optional_option (codes "control") ∷ optional_option (codes "status") ∷ flag_option (codes "ahead") ∷ optional_option (codes "log")
+    ∷ flag_option (codes "new-store") ∷ flag_option (codes "accept-loss") ∷ flag_option (codes "accounts-open")
+    ∷ optional_option (codes "keep") ∷ optional_option (codes "archive") ∷ listed_words (codes "account") ∷ [])
 
 abbrev pub stop_command : App
-stop_command = with_rule (with_rule (new_app (codes "stop")) (required_option (codes "control"))) (optional_option (codes "wait"))
-
--- a word that is an argument itself, and must be given
-abbrev pub seat_word : Rule
-seat_word = record (new_rule (codes "seat")) { action = Some Set; required = true }
+stop_command = with_rules (new_app (codes "stop")) (required_option (codes "control") ∷ optional_option (codes "wait") ∷ [])
 
 abbrev pub end_command : App
-end_command = with_rule (with_rule (new_app (codes "end")) (required_option (codes "control"))) seat_word
+end_command = with_rules (new_app (codes "end")) (required_option (codes "control") ∷ needed_word (codes "seat") ∷ [])
 
 abbrev pub reload_command : App
-reload_command = with_rule (new_app (codes "reload")) (required_option (codes "control"))
+reload_command = with_rules (new_app (codes "reload")) (required_option (codes "control") ∷ [])
 
 -- the word that orders something of a message
 abbrev pub word_of : OrderWord → List ℕ
 word_of Retry = codes "retry"
 word_of Cancel = codes "cancel"
 
--- the number of a message, which must be given
-abbrev pub id_word : Rule
-id_word = record (new_rule (codes "id")) { action = Some Set; required = true }
-
+-- with the number of a message
 abbrev pub order_command : OrderWord → App
-order_command order = with_rule (with_rule (new_app (word_of order)) (required_option (codes "control"))) id_word
+order_command order = with_rules (new_app (word_of order)) (required_option (codes "control") ∷ needed_word (codes "id") ∷ [])
 
 abbrev pub save_command : App
-save_command = with_rule (with_rule (new_app (codes "save")) (required_option (codes "store"))) (required_option (codes "to"))
+save_command = with_rules (new_app (codes "save")) (required_option (codes "store") ∷ required_option (codes "to") ∷ [])
 
 -- the value of an option in the matches of the words of a run
 abbrev pub server_value : List ℕ → List (List ℕ) → Option (List ℕ)

@@ -1,22 +1,17 @@
 -- The words of a relay run, `relay --centre NUMBER --from NUMBER --now SECONDS`, by clap's matches of them.
-use Rattle.std.specs.Prelude.{◌≡◌, ℕ, List, Bool, true, false, Option, Some, None, codes, bytes_eq}
+use Rattle.std.specs.Prelude.{◌≡◌, ℕ, List, [], ◌∷◌, Bool, true, false, Option, Some, None, codes, bytes_eq}
 use Rattle.std.specs.Str.{chars}
-use Rattle.clap.specs.Words.{App, Rule, first_of, matches_of, new_app, new_rule, takes, with_rule}
-use Rattle.clap.specs.declared.builder.action.ArgAction.TheVariants.{Set}
+use Rattle.clap.specs.Words.{App, first_of, matches_of, new_app, takes}
 use Rattle.sms_base.specs.declared.address.Address.{Address}
 use Rattle.smsc_cli.specs.words.Numbers.{SpellsBetween, SpellsCount}
+use Rattle.smsc_cli.specs.words.Options.{required_option, with_rules}
 use Rattle.sms_base.specs.OwnAddress.{IsOwnAddress}
 use Rattle.smsc_cli.specs.declared.words.sim.SimWords.{SimWords}
 use Rattle.smsc_cli.specs.declared.words.sim.SimWords.TheVariants.{Relay}
 
--- an option with a value, that must be given
-abbrev pub required_option : List ℕ → Rule
-required_option name = record (new_rule name) { long = Some name; action = Some Set; required = true }
-
 abbrev pub relay_command : App
 relay_command =
-    with_rule (with_rule (with_rule (new_app (codes "relay")) (required_option (codes "centre")))
-    (required_option (codes "from"))) (required_option (codes "now"))
+    with_rules (new_app (codes "relay")) (required_option (codes "centre") ∷ required_option (codes "from") ∷ required_option (codes "now") ∷ [])
 
 -- the value of an option in the matches of a relay run's words
 abbrev pub value_of : List ℕ → List (List ℕ) → Option (List ℕ)

@@ -5,7 +5,7 @@ ghost use Rattle.std.specs.List.{list_all};
 ghost use Rattle.toml.specs.Data.{Items, as_array, as_str, get_member, no_items};
 ghost use Rattle.toml.specs.View.{items_view, table_view, view};
 ghost use Rattle.toml.specs.declared.value.Value.{Value as ValueOf};
-ghost use Rattle.smsc_cli.specs.words.AccountTables.{AddsNoValue, AddsValue, AddsValues, AreSources, HasRoomFor, HasValues, IsNewName, IsSalt, IsUpTo};
+ghost use Rattle.smsc_cli.specs.words.AccountTables.{AddsNoValue, AddsValue, AddsValues, AreSources, HasValues, IsSalt, IsUpTo};
 ghost use Rattle.smsc_cli.specs.words.AccountTables.{SaysPassword, SaysRate, SaysSessions, SaysSources, SaysSuspended};
 ghost use Rattle.smsc_cli.specs.words.AccountTables.{SpellsDigest, SpellsName, SpellsPassword, SpellsSalt, SpellsSource, SpellsTable, SpellsValue};
 ghost use Rattle.smsc_cli.specs.words.AccountTables.{StopsAtValue};
@@ -24,6 +24,7 @@ use crate::words::account::{USUAL_SESSIONS, name_in, password_in};
 use crate::words::fault::WordsFault;
 use crate::words::number::address_of;
 use crate::words::secrets::is_number_text;
+use crate::words::several::{Named, has_room};
 use hex::FromHex;
 use sms_base::Address;
 use thiserror::Error;
@@ -466,32 +467,12 @@ fn account_by<'a>(value: &'a Value) -> Option<TableAccount<'a>>
 /// How many accounts there may be.
 const MOST_ACCOUNTS: usize = 32;
 
-fn has_name(account: &TableAccount<'_>, name: &str) -> bool
-    ensures { (result ≡ true) ↔ account.now.name.now ≡ name.now }
-{
-    account.name == name
-}
+impl Named for TableAccount<'_> {
+    ghost name = { λ some. some.name.now };
 
-// Whether no account has the name.
-fn is_new(name: &str, accounts: &[TableAccount<'_>]) -> bool
-    ensures { (result ≡ true) ↔ IsNewName name.now accounts.now }
-{
-    match accounts.split_first() {
-        Some((first, others)) => {
-            if has_name(first, name) {
-                return false;
-            }
-            is_new(name, others)
-        }
-        None => true,
+    fn has_name(&self, text: &str) -> bool {
+        self.name == text
     }
-}
-
-// Whether an account of that name may be added.
-fn has_room(name: &str, accounts: &[TableAccount<'_>]) -> bool
-    ensures { (result ≡ true) ↔ HasRoomFor name.now accounts.now }
-{
-    accounts.len() < MOST_ACCOUNTS && is_new(name, accounts)
 }
 
 // The account that the value spells, if it may be added.
@@ -503,7 +484,7 @@ fn add_value<'a>(accounts: &mut Vec<TableAccount<'a>>, value: &'a Value) -> Resu
 {
     match account_by(value) {
         Some(account) => {
-            if !has_room(account.name, accounts.as_slice()) {
+            if !has_room(MOST_ACCOUNTS, account.name, accounts.as_slice()) {
                 return Err(WordsFault::BadWords);
             }
             match accounts.push(account) {

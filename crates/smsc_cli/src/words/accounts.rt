@@ -1,45 +1,26 @@
 //! Several accounts.
-ghost use Rattle.std.specs.Prelude.{◌≡◌, ◌↔◌, ◌+◌, ◌<◌, ◌^◌, ℕ, List, [], true, length, map, Err, IfErr, IfNone, IfOk, IfSome, OnErr, OnOk};
+ghost use Rattle.std.specs.Prelude.{◌≡◌, ◌+◌, ◌<◌, ◌^◌, ℕ, List, [], length, map, Err, IfErr, IfNone, IfOk, IfSome, OnErr, OnOk};
 ghost use Rattle.std.specs.Str.Iter.{LacksByte};
-ghost use Rattle.smsc_cli.specs.words.Accounts.{AddsAccount, AddsAll, AddsNone, HasRoomFor, IsCutAt, IsNewName, StopsAt, bare_of, lines_of};
+ghost use Rattle.smsc_cli.specs.words.Accounts.{AddsAccount, AddsAll, AddsNone, IsCutAt, StopsAt, bare_of, lines_of};
 ghost use Rattle.smsc_cli.specs.declared.words.account.AccountWords.{AccountWords as AccountWordsOf};
 ghost use Rattle.smsc_cli.specs.declared.words.accounts.FileFault.TheVariants.{BadLine, NoMemory as NoMemoryOfFile};
 ghost use Rattle.smsc_cli.specs.declared.words.fault.WordsFault.TheVariants.{BadWords, NoMemory};
 
 use crate::words::account::{AccountWords, account_of};
 use crate::words::fault::WordsFault;
+use crate::words::several::{Named, has_room};
 use std::alloc::Global;
 use thiserror::Error;
 
 /// How many accounts there may be.
 const MOST_ACCOUNTS: usize = 32;
 
-fn has_name(account: &AccountWords<'_>, name: &str) -> bool
-    ensures { (result ≡ true) ↔ account.now.name.now ≡ name.now }
-{
-    account.name == name
-}
+impl Named for AccountWords<'_> {
+    ghost name = { λ some. some.name.now };
 
-// Whether no account has the name.
-fn is_new(name: &str, accounts: &[AccountWords<'_>]) -> bool
-    ensures { (result ≡ true) ↔ IsNewName name.now accounts.now }
-{
-    match accounts.split_first() {
-        Some((first, others)) => {
-            if has_name(first, name) {
-                return false;
-            }
-            is_new(name, others)
-        }
-        None => true,
+    fn has_name(&self, text: &str) -> bool {
+        self.name == text
     }
-}
-
-// Whether an account of that name may be added.
-fn has_room(name: &str, accounts: &[AccountWords<'_>]) -> bool
-    ensures { (result ≡ true) ↔ HasRoomFor name.now accounts.now }
-{
-    accounts.len() < MOST_ACCOUNTS && is_new(name, accounts)
 }
 
 // The account that the text spells, if it may be added.
@@ -51,7 +32,7 @@ fn add<'a>(accounts: &mut Vec<AccountWords<'a>>, text: &'a str) -> Result<(), Wo
 {
     match account_of(text) {
         Some(account) => {
-            if !has_room(account.name, accounts.as_slice()) {
+            if !has_room(MOST_ACCOUNTS, account.name, accounts.as_slice()) {
                 return Err(WordsFault::BadWords);
             }
             match accounts.push(account) {

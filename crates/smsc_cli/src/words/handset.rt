@@ -4,12 +4,11 @@ ghost use Rattle.clap.specs.Words.{app_of, first_value, found_of, kind_of, takes
 ghost use Rattle.clap.specs.declared.error.kind.ErrorKind.TheVariants.{OutOfMemory};
 ghost use Rattle.smsc_cli.specs.declared.words.fault.WordsFault.TheVariants.{BadWords, NoMemory};
 ghost use Rattle.smsc_cli.specs.words.HandsetWords.{AskForRun, AskForShow, AskForSome, AsksFor, AsksToRun, AsksToShow, SpelledRun, SpellsRun, is_show};
-ghost use Rattle.smsc_cli.specs.words.HandsetWords.{link_command, needed_command, refusing_command, run_command, run_value, show_command, show_value};
-ghost use Rattle.smsc_cli.specs.words.HandsetWords.{wrong_command};
+ghost use Rattle.smsc_cli.specs.words.HandsetWords.{run_command, run_value, show_command, show_value};
 
 use crate::words::fault::{WordsFault, fault_of};
 use crate::words::number::{address_of, count_of, port_of, slots_of};
-use crate::words::option::{flag, optional, required, with_three};
+use crate::words::option::{Offer, offering};
 use clap::{ArgMatches, Command, Error};
 use sms_base::Address;
 use std::alloc::{AllocError, Global};
@@ -53,65 +52,40 @@ struct RunOptions<'a> {
     secret: Option<&'a str>,
 }
 
-// The first options of a run.
-fn link_command<'a>(alloc: Global) -> Result<Command<'a>, AllocError>
-    ensures { IfOk result (λ command. app_of command ≡ link_command) }
-{
-    with_three(
-        Command::new(alloc, "handset"),
-        required(alloc, "connect"),
-        required(alloc, "number"),
-        required(alloc, "centre"),
-    )
-}
-
-// The options that a run must have.
-fn needed_command<'a>(alloc: Global) -> Result<Command<'a>, AllocError>
-    ensures { IfOk result (λ command. app_of command ≡ needed_command) }
-{
-    with_three(
-        link_command(alloc)?,
-        required(alloc, "slots"),
-        required(alloc, "store"),
-        required(alloc, "frames"),
-    )
-}
-
-// With what it is to do wrong on purpose.
-fn refusing_command<'a>(alloc: Global) -> Result<Command<'a>, AllocError>
-    ensures { IfOk result (λ command. app_of command ≡ refusing_command) }
-{
-    with_three(
-        needed_command(alloc)?,
-        optional(alloc, "refuse"),
-        optional(alloc, "slow"),
-        optional(alloc, "full-after"),
-    )
-}
-
-fn wrong_command<'a>(alloc: Global) -> Result<Command<'a>, AllocError>
-    ensures { IfOk result (λ command. app_of command ≡ wrong_command) }
-{
-    with_three(
-        refusing_command(alloc)?,
-        flag(alloc, "silent"),
-        optional(alloc, "drop"),
-        optional(alloc, "seed"),
-    )
-}
-
-/// The command line of a run.
+/// The command line of a run: what it must have, what it is to do wrong on purpose, and the secret of its links.
 pub(crate) fn run_command<'a>(alloc: Global) -> Result<Command<'a>, AllocError>
     ensures { IfOk result (λ command. app_of command ≡ run_command) }
 {
-    wrong_command(alloc)?.arg(optional(alloc, "secret"))
+    offering(
+        alloc,
+        Command::new(alloc, "handset"),
+        &[
+            Offer::Required("connect"),
+            Offer::Required("number"),
+            Offer::Required("centre"),
+            Offer::Required("slots"),
+            Offer::Required("store"),
+            Offer::Required("frames"),
+            Offer::Optional("refuse"),
+            Offer::Optional("slow"),
+            Offer::Optional("full-after"),
+            Offer::Flag("silent"),
+            Offer::Optional("drop"),
+            Offer::Optional("seed"),
+            Offer::Optional("secret"),
+        ],
+    )
 }
 
 /// The command line of a look at a store.
 pub(crate) fn show_command<'a>(alloc: Global) -> Result<Command<'a>, AllocError>
     ensures { IfOk result (λ command. app_of command ≡ show_command) }
 {
-    Command::new(alloc, "show").arg(required(alloc, "store"))
+    offering(
+        alloc,
+        Command::new(alloc, "show"),
+        &[Offer::Required("store")],
+    )
 }
 
 // The values of the options in the matches of the words.

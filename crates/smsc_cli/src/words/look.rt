@@ -7,12 +7,12 @@ ghost use Rattle.smsc_cli.specs.declared.words.fault.WordsFault.TheVariants.{Bad
 ghost use Rattle.smsc_cli.specs.words.Options.{is_given};
 ghost use Rattle.smsc_cli.specs.words.LookWords.{AreLookOptions, AskForLook, IsIdOf, IsMessageText, IsNameText, IsNumberText, IsPartyText, IsStateWord, MayBe};
 ghost use Rattle.smsc_cli.specs.words.LookWords.{SpelledFilter, SpelledLook, SpellsDigits, SpellsFilter, SpellsLook, Wants, is_state_word, look_command};
-ghost use Rattle.smsc_cli.specs.words.LookWords.{look_value, parties_command};
+ghost use Rattle.smsc_cli.specs.words.LookWords.{look_value};
 
 use crate::centre_table::Filter;
 use crate::words::fault::{WordsFault, fault_of};
 use crate::words::number::optional_count;
-use crate::words::option::{flag, is_set, optional, required, with_three};
+use crate::words::option::{Offer, is_set, offering};
 use clap::{ArgMatches, Command, Error};
 use sms_base::{Address, Digits, MessageId};
 use std::alloc::{AllocError, Global};
@@ -30,30 +30,24 @@ struct LookOptions<'a> {
     stuck: Option<&'a str>,
 }
 
-// The first options of a look.
-fn parties_command<'a>(alloc: Global) -> Result<Command<'a>, AllocError>
-    ensures { IfOk result (λ command. app_of command ≡ parties_command) }
-{
-    with_three(
-        Command::new(alloc, "show"),
-        required(alloc, "store"),
-        optional(alloc, "id"),
-        optional(alloc, "from"),
-    )?
-    .arg(optional(alloc, "to"))
-}
-
 /// The command line of a look.
 pub(crate) fn look_command<'a>(alloc: Global) -> Result<Command<'a>, AllocError>
     ensures { IfOk result (λ command. app_of command ≡ look_command) }
 {
-    with_three(
-        parties_command(alloc)?,
-        optional(alloc, "account"),
-        optional(alloc, "state"),
-        optional(alloc, "last"),
-    )?
-    .arg(flag(alloc, "stuck"))
+    offering(
+        alloc,
+        Command::new(alloc, "show"),
+        &[
+            Offer::Required("store"),
+            Offer::Optional("id"),
+            Offer::Optional("from"),
+            Offer::Optional("to"),
+            Offer::Optional("account"),
+            Offer::Optional("state"),
+            Offer::Optional("last"),
+            Offer::Flag("stuck"),
+        ],
+    )
 }
 
 // The values of the options in the matches of the words.

@@ -1,14 +1,13 @@
 //! Options of command lines.
-ghost use Rattle.std.specs.Prelude.{◌≡◌, false, IfOk, option_map};
-ghost use Rattle.clap.specs.Words.{app_of, rule_of, with_rule};
-ghost use Rattle.smsc_cli.specs.words.Options.{flag_option, is_given, optional_option};
-ghost use Rattle.smsc_cli.specs.words.SimWords.{required_option};
+ghost use Rattle.std.specs.Prelude.{◌≡◌, false, map, IfOk, option_map};
+ghost use Rattle.clap.specs.Words.{app_of, rule_of};
+ghost use Rattle.smsc_cli.specs.words.Options.{flag_option, is_given, listed_words, needed_word, offer_rule, optional_option, required_option, with_rules};
 
 use clap::{Arg, ArgAction, Command};
 use std::alloc::{AllocError, Global};
 
 /// An option with a value, that must be given.
-pub(crate) fn required<'a>(alloc: Global, name: &'a str) -> Arg<'a>
+fn required<'a>(alloc: Global, name: &'a str) -> Arg<'a>
     ensures rule { rule_of result ≡ required_option name.entry.now }
     ensures local { result.global ≡ false }
 {
@@ -19,7 +18,7 @@ pub(crate) fn required<'a>(alloc: Global, name: &'a str) -> Arg<'a>
 }
 
 /// An option with a value, that may be given.
-pub(crate) fn optional<'a>(alloc: Global, name: &'a str) -> Arg<'a>
+fn optional<'a>(alloc: Global, name: &'a str) -> Arg<'a>
     ensures rule { rule_of result ≡ optional_option name.entry.now }
     ensures local { result.global ≡ false }
 {
@@ -27,48 +26,69 @@ pub(crate) fn optional<'a>(alloc: Global, name: &'a str) -> Arg<'a>
 }
 
 /// An option without a value.
-pub(crate) fn flag<'a>(alloc: Global, name: &'a str) -> Arg<'a>
+fn flag<'a>(alloc: Global, name: &'a str) -> Arg<'a>
     ensures rule { rule_of result ≡ flag_option name.entry.now }
     ensures local { result.global ≡ false }
 {
     Arg::new(alloc, name).long(name).action(ArgAction::SetTrue)
 }
 
-/// The command with two more options.
-pub(crate) fn with_two<'a>(
-    command: Command<'a>,
-    first: Arg<'a>,
-    second: Arg<'a>,
-) -> Result<Command<'a>, AllocError>
-    requires { (first.global ≡ false) × (second.global ≡ false) }
-    ensures { IfOk result (λ c. app_of c ≡ with_rule (with_rule (app_of command.entry) (rule_of first.entry)) (rule_of second.entry)) }
+fn word<'a>(alloc: Global, name: &'a str) -> Arg<'a>
+    ensures rule { rule_of result ≡ needed_word name.entry.now }
+    ensures local { result.global ≡ false }
 {
-    match command.arg(first) {
-        Ok(command) => command.arg(second),
-        Err(error) => {
-            drop(second);
-            Err(error)
-        }
+    Arg::new(alloc, name).required(true).action(ArgAction::Set)
+}
+
+fn listed<'a>(alloc: Global, name: &'a str) -> Arg<'a>
+    ensures rule { rule_of result ≡ listed_words name.entry.now }
+    ensures local { result.global ≡ false }
+{
+    Arg::new(alloc, name).action(ArgAction::Append)
+}
+
+/// What a command line may have, by its name.
+#[derive(Clone, Copy)]
+pub(crate) enum Offer<'a> {
+    /// An option with a value, that must be given.
+    Required(&'a str),
+    /// An option with a value, that may be given.
+    Optional(&'a str),
+    /// An option without a value.
+    Flag(&'a str),
+    /// A word that is an argument itself, and must be given.
+    Word(&'a str),
+    /// Words that are arguments themselves, as many as there are.
+    Words(&'a str),
+}
+
+fn arg_of<'a>(alloc: Global, offer: &Offer<'a>) -> Arg<'a>
+    ensures rule { rule_of result ≡ offer_rule offer.entry.now }
+    ensures local { result.global ≡ false }
+{
+    match offer {
+        Offer::Required(name) => required(alloc, *name),
+        Offer::Optional(name) => optional(alloc, *name),
+        Offer::Flag(name) => flag(alloc, *name),
+        Offer::Word(name) => word(alloc, *name),
+        Offer::Words(name) => listed(alloc, *name),
     }
 }
 
-/// The command with three more options.
-pub(crate) fn with_three<'a>(
+/// The command with these offers behind its own.
+pub(crate) fn offering<'a>(
+    alloc: Global,
     command: Command<'a>,
-    first: Arg<'a>,
-    second: Arg<'a>,
-    third: Arg<'a>,
+    offers: &[Offer<'a>],
 ) -> Result<Command<'a>, AllocError>
-    requires { (first.global ≡ false) × (second.global ≡ false) × (third.global ≡ false) }
-    ensures { IfOk result (λ c. app_of c
-        ≡ with_rule (with_rule (with_rule (app_of command.entry) (rule_of first.entry)) (rule_of second.entry)) (rule_of third.entry)) }
+    ensures { IfOk result (λ c. app_of c ≡ with_rules (app_of command.entry) (map offer_rule offers.entry.now)) }
 {
-    match with_two(command, first, second) {
-        Ok(command) => command.arg(third),
-        Err(error) => {
-            drop(third);
-            Err(error)
+    match offers.split_first() {
+        Some((first, others)) => {
+            let command = command.arg(arg_of(alloc, first))?;
+            offering(alloc, command, others)
         }
+        None => Ok(command),
     }
 }
 

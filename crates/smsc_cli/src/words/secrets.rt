@@ -1,9 +1,9 @@
 //! Numbers and the secrets of their links, in words.
-ghost use Rattle.std.specs.Prelude.{◌≡◌, ◌↔◌, ◌+◌, ◌<◌, ◌^◌, ℕ, List, true, false, length, Err, IfNone, IfSome, OnErr, OnOk};
+ghost use Rattle.std.specs.Prelude.{◌≡◌, ◌+◌, ◌<◌, ◌^◌, ℕ, List, true, false, length, Err, IfNone, IfSome, OnErr, OnOk};
 ghost use Rattle.std.specs.Char.{is_ascii_graphic};
 ghost use Rattle.std.specs.List.{list_all};
 ghost use Rattle.smsc_cli.specs.words.Accounts.{bare_of, lines_of};
-ghost use Rattle.smsc_cli.specs.words.Secrets.{AddsNoSecret, AddsSecret, AddsSecrets, HasPlaceFor, IsNewNumber, SpellsSecret, StopsAtSecret};
+ghost use Rattle.smsc_cli.specs.words.Secrets.{AddsNoSecret, AddsSecret, AddsSecrets, SpellsSecret, StopsAtSecret};
 ghost use Rattle.smsc_cli.specs.words.Secrets.{is_number_text as is_number_of, is_secret_text as is_secret_of, unended_of};
 ghost use Rattle.smsc_cli.specs.declared.words.accounts.FileFault.TheVariants.{BadLine};
 ghost use Rattle.smsc_cli.specs.declared.words.fault.WordsFault.TheVariants.{BadWords, NoMemory};
@@ -12,6 +12,7 @@ use crate::words::account::at_colon;
 use crate::words::accounts::{FileFault, at_line_feed, bare, line_fault};
 use crate::words::fault::WordsFault;
 use crate::words::number::is_decimal_text;
+use crate::words::several::{Named, has_room};
 
 /// How many numbers may have secrets.
 const MOST_SECRETS: usize = 1000;
@@ -80,32 +81,12 @@ fn secret_of<'a>(text: &'a str) -> Option<SecretWords<'a>>
 
 // ---- several
 
-fn has_number(words: &SecretWords<'_>, number: &str) -> bool
-    ensures { (result ≡ true) ↔ words.now.number.now ≡ number.now }
-{
-    words.number == number
-}
+impl Named for SecretWords<'_> {
+    ghost name = { λ some. some.number.now };
 
-// Whether the number has no secret.
-fn is_new(number: &str, secrets: &[SecretWords<'_>]) -> bool
-    ensures { (result ≡ true) ↔ IsNewNumber number.now secrets.now }
-{
-    match secrets.split_first() {
-        Some((first, others)) => {
-            if has_number(first, number) {
-                return false;
-            }
-            is_new(number, others)
-        }
-        None => true,
+    fn has_name(&self, text: &str) -> bool {
+        self.number == text
     }
-}
-
-// Whether a secret of the number may be added.
-fn has_room(number: &str, secrets: &[SecretWords<'_>]) -> bool
-    ensures { (result ≡ true) ↔ HasPlaceFor number.now secrets.now }
-{
-    secrets.len() < MOST_SECRETS && is_new(number, secrets)
 }
 
 // The secret that the text spells, if it may be added.
@@ -117,7 +98,7 @@ fn add<'a>(secrets: &mut Vec<SecretWords<'a>>, text: &'a str) -> Result<(), Word
 {
     match secret_of(text) {
         Some(words) => {
-            if !has_room(words.number, secrets.as_slice()) {
+            if !has_room(MOST_SECRETS, words.number, secrets.as_slice()) {
                 return Err(WordsFault::BadWords);
             }
             match secrets.push(words) {

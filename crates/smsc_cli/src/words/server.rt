@@ -1,6 +1,6 @@
 //! The words of the server.
 ghost use Rattle.std.specs.Prelude.{◌≡◌, ◌<◌, [], length, List, Some, true, false, map, drop, option_map, slice_get, codes, IfErr, IfNone, IfSome, IfOk};
-ghost use Rattle.clap.specs.Words.{app_of, first_value, found_of, kind_of, matched_of, raw_values, rule_of, takes};
+ghost use Rattle.clap.specs.Words.{app_of, first_value, found_of, kind_of, matched_of, raw_values, takes};
 ghost use Rattle.clap.specs.declared.error.kind.ErrorKind.TheVariants.{OutOfMemory};
 ghost use Rattle.smsc_cli.specs.declared.words.account.AccountWords.{AccountWords as AccountWordsOf};
 ghost use Rattle.smsc_cli.specs.declared.words.fault.WordsFault.TheVariants.{BadWords, NoMemory};
@@ -13,10 +13,9 @@ ghost use Rattle.smsc_cli.specs.words.ServerWords.{AreOptionsOf, AskForEnd, AskF
 ghost use Rattle.smsc_cli.specs.words.ServerWords.{AskToOrder, AsksForPassword, AsksOfServer, AsksToEnd, AsksToLook, AsksToOrder, AsksToReload, AsksToSave};
 ghost use Rattle.smsc_cli.specs.words.ServerWords.{AsksToServe, AsksToStop, IsPortText, SpelledOptions, SpelledServer, SpellsEnd, SpellsOrder, SpellsServer};
 ghost use Rattle.smsc_cli.specs.words.ServerWords.{SpellsStop};
-ghost use Rattle.smsc_cli.specs.words.ServerWords.{account_texts, end_command, end_value, id_word, is_word, keeping_command, listed, listed_words};
-ghost use Rattle.smsc_cli.specs.words.ServerWords.{more_command, needed_command, order_command, order_value, paths_command, port_command, reload_command};
-ghost use Rattle.smsc_cli.specs.words.ServerWords.{reload_value, save_command, save_value, seat_word, server_command, server_value, store_command};
-ghost use Rattle.smsc_cli.specs.words.ServerWords.{stop_command, stop_value};
+ghost use Rattle.smsc_cli.specs.words.ServerWords.{account_texts, end_command, end_value, is_word, listed, order_command, order_value};
+ghost use Rattle.smsc_cli.specs.words.ServerWords.{reload_command, reload_value, save_command, save_value, server_command, server_value, stop_command};
+ghost use Rattle.smsc_cli.specs.words.ServerWords.{stop_value};
 
 use crate::centre_table::Filter;
 use crate::words::account::AccountWords;
@@ -25,8 +24,8 @@ use crate::words::detail::{LogDetail, detail_of};
 use crate::words::fault::{WordsFault, fault_of};
 use crate::words::look::{look_words, message_id_of};
 use crate::words::number::{address_of, count_of, optional_count, port_of};
-use crate::words::option::{flag, is_set, optional, required, with_three, with_two};
-use clap::{Arg, ArgAction, ArgMatches, Command, Error};
+use crate::words::option::{Offer, is_set, offering};
+use clap::{ArgMatches, Command, Error};
 use sms_base::{Address, MessageId};
 use std::alloc::{AllocError, Global};
 
@@ -153,98 +152,45 @@ struct Options<'a> {
     words: Vec<&'a str>,
 }
 
-// The first options of a run.
-fn port_command<'a>(alloc: Global) -> Result<Command<'a>, AllocError>
-    ensures { IfOk result (λ command. app_of command ≡ port_command) }
-{
-    with_three(
-        Command::new(alloc, "smscd"),
-        required(alloc, "store"),
-        required(alloc, "smpp"),
-        required(alloc, "links"),
-    )
-}
-
-fn account_words<'a>(alloc: Global) -> Arg<'a>
-    ensures rule { rule_of result ≡ listed_words (codes "account") }
-    ensures local { result.global ≡ false }
-{
-    Arg::new(alloc, "account").action(ArgAction::Append)
-}
-
-// The centre's number, and how many connections are served.
-fn needed_command<'a>(alloc: Global) -> Result<Command<'a>, AllocError>
-    ensures { IfOk result (λ command. app_of command ≡ needed_command) }
-{
-    with_two(
-        port_command(alloc)?,
-        required(alloc, "centre"),
-        optional(alloc, "sessions"),
-    )
-}
-
-// The paths that a run may have besides.
-fn paths_command<'a>(alloc: Global) -> Result<Command<'a>, AllocError>
-    ensures { IfOk result (λ command. app_of command ≡ paths_command) }
-{
-    with_three(
-        needed_command(alloc)?,
-        optional(alloc, "accounts"),
-        optional(alloc, "link-secrets"),
-        optional(alloc, "control"),
-    )
-}
-
-// The options that a run may have besides.
-fn more_command<'a>(alloc: Global) -> Result<Command<'a>, AllocError>
-    ensures { IfOk result (λ command. app_of command ≡ more_command) }
-{
-    with_three(
-        paths_command(alloc)?,
-        optional(alloc, "status"),
-        flag(alloc, "ahead"),
-        optional(alloc, "log"),
-    )
-}
-
-// What an operator says of a store or of accounts that a run would refuse.
-fn store_command<'a>(alloc: Global) -> Result<Command<'a>, AllocError>
-    ensures { IfOk result (λ command. app_of command ≡ store_command) }
-{
-    with_three(
-        more_command(alloc)?,
-        flag(alloc, "new-store"),
-        flag(alloc, "accept-loss"),
-        flag(alloc, "accounts-open"),
-    )
-}
-
-// How long ended messages are kept, and where what goes is written.
-fn keeping_command<'a>(alloc: Global) -> Result<Command<'a>, AllocError>
-    ensures { IfOk result (λ command. app_of command ≡ keeping_command) }
-{
-    with_two(
-        store_command(alloc)?,
-        optional(alloc, "keep"),
-        optional(alloc, "archive"),
-    )
-}
-
-/// The command line of a run.
+/// The command line of a run: what it must have, and what it may have.
 pub(crate) fn run_command<'a>(alloc: Global) -> Result<Command<'a>, AllocError>
     ensures { IfOk result (λ command. app_of command ≡ server_command) }
 {
-    keeping_command(alloc)?.arg(account_words(alloc))
+    offering(
+        alloc,
+        Command::new(alloc, "smscd"),
+        &[
+            Offer::Required("store"),
+            Offer::Required("smpp"),
+            Offer::Required("links"),
+            Offer::Required("centre"),
+            Offer::Optional("sessions"),
+            Offer::Optional("accounts"),
+            Offer::Optional("link-secrets"),
+            Offer::Optional("control"),
+            Offer::Optional("status"),
+            Offer::Flag("ahead"),
+            Offer::Optional("log"),
+            // What an operator says of a store or of accounts that a run would refuse.
+            Offer::Flag("new-store"),
+            Offer::Flag("accept-loss"),
+            Offer::Flag("accounts-open"),
+            // How long ended messages are kept, and where what goes is written.
+            Offer::Optional("keep"),
+            Offer::Optional("archive"),
+            Offer::Words("account"),
+        ],
+    )
 }
 
 /// The command line of a copy.
 pub(crate) fn save_command<'a>(alloc: Global) -> Result<Command<'a>, AllocError>
     ensures { IfOk result (λ command. app_of command ≡ save_command) }
 {
-    with_two(
+    offering(
+        alloc,
         Command::new(alloc, "save"),
-        required(alloc, "store"),
-        required(alloc, "to"),
+        &[Offer::Required("store"), Offer::Required("to")],
     )
 }
 
@@ -252,30 +198,21 @@ pub(crate) fn save_command<'a>(alloc: Global) -> Result<Command<'a>, AllocError>
 pub(crate) fn stop_command<'a>(alloc: Global) -> Result<Command<'a>, AllocError>
     ensures { IfOk result (λ command. app_of command ≡ stop_command) }
 {
-    with_two(
+    offering(
+        alloc,
         Command::new(alloc, "stop"),
-        required(alloc, "control"),
-        optional(alloc, "wait"),
+        &[Offer::Required("control"), Offer::Optional("wait")],
     )
-}
-
-fn seat_word<'a>(alloc: Global) -> Arg<'a>
-    ensures rule { rule_of result ≡ seat_word }
-    ensures local { result.global ≡ false }
-{
-    Arg::new(alloc, "seat")
-        .required(true)
-        .action(ArgAction::Set)
 }
 
 /// The command line of an order to end a connection.
 pub(crate) fn end_command<'a>(alloc: Global) -> Result<Command<'a>, AllocError>
     ensures { IfOk result (λ command. app_of command ≡ end_command) }
 {
-    with_two(
+    offering(
+        alloc,
         Command::new(alloc, "end"),
-        required(alloc, "control"),
-        seat_word(alloc),
+        &[Offer::Required("control"), Offer::Word("seat")],
     )
 }
 
@@ -283,14 +220,11 @@ pub(crate) fn end_command<'a>(alloc: Global) -> Result<Command<'a>, AllocError>
 pub(crate) fn reload_command<'a>(alloc: Global) -> Result<Command<'a>, AllocError>
     ensures { IfOk result (λ command. app_of command ≡ reload_command) }
 {
-    Command::new(alloc, "reload").arg(required(alloc, "control"))
-}
-
-fn id_word<'a>(alloc: Global) -> Arg<'a>
-    ensures rule { rule_of result ≡ id_word }
-    ensures local { result.global ≡ false }
-{
-    Arg::new(alloc, "id").required(true).action(ArgAction::Set)
+    offering(
+        alloc,
+        Command::new(alloc, "reload"),
+        &[Offer::Required("control")],
+    )
 }
 
 /// The command line of an order of a message.
@@ -298,15 +232,15 @@ pub(crate) fn order_command<'a>(alloc: Global, order: OrderWord) -> Result<Comma
     ensures { IfOk result (λ command. app_of command ≡ order_command order) }
 {
     match order {
-        OrderWord::Retry => with_two(
+        OrderWord::Retry => offering(
+            alloc,
             Command::new(alloc, "retry"),
-            required(alloc, "control"),
-            id_word(alloc),
+            &[Offer::Required("control"), Offer::Word("id")],
         ),
-        OrderWord::Cancel => with_two(
+        OrderWord::Cancel => offering(
+            alloc,
             Command::new(alloc, "cancel"),
-            required(alloc, "control"),
-            id_word(alloc),
+            &[Offer::Required("control"), Offer::Word("id")],
         ),
     }
 }

@@ -7,7 +7,7 @@ ghost use Rattle.smsc_cli.specs.words.SimWords.{AskForRelay, AsksFor, IsSeconds,
 
 use crate::words::fault::{WordsFault, fault_of};
 use crate::words::number::{address_of, is_decimal_text};
-use crate::words::option::{required, with_three};
+use crate::words::option::{Offer, offering};
 use clap::{ArgMatches, Command, Error};
 use sms_base::{Address, Moment};
 use std::alloc::{AllocError, Global};
@@ -51,11 +51,14 @@ fn options_of<'a>(matches: &ArgMatches<'a>) -> RelayOptions<'a>
 pub(crate) fn relay_command<'a>(alloc: Global) -> Result<Command<'a>, AllocError>
     ensures { IfOk result (λ command. app_of command ≡ relay_command) }
 {
-    with_three(
+    offering(
+        alloc,
         Command::new(alloc, "relay"),
-        required(alloc, "centre"),
-        required(alloc, "from"),
-        required(alloc, "now"),
+        &[
+            Offer::Required("centre"),
+            Offer::Required("from"),
+            Offer::Required("now"),
+        ],
     )
 }
 

@@ -10,7 +10,7 @@ returns c =
     let d = c.report_addresses_are_sound-addresses in
     let e = c.messages_are_sound-messages in
     record {
-      alone = alone_from rows a.result b.result d.result e.result c.both.result c.both-2.result c.both-3.result a.ensures b.ensures d.ensures e.ensures c.as_slice-_bars.ensures.order
+      alone = alone_from rows a.result b.result d.result e.result c.both.result c.both-2.result c.both-3.result a.ensures b.ensures d.ensures e.ensures c.as_slice-bars.ensures.order
           c.both.ensures c.both-2.ensures c.both-3.ensures;
       only = alone_to rows a.result b.result d.result e.result c.both.result c.both-2.result c.both-3.result a.ensures b.ensures d.ensures e.ensures c.both.ensures c.both-2.ensures c.both-3.ensures;
     }

@@ -1,0 +1,11 @@
+use Rattle.std.proofs.Common.{arith, ◌∙◌}
+use Rattle.sms_relay.specs.RelayReading.{up_at}
+use Rattle.sms_relay.specs.declared.message_type.Direction.TheVariants.{Up}
+use Rattle.sms_relay.proofs.UnitLaws.{found, again}
+use Rattle.sms_relay.proofs.reading.read_up.Goals as goal
+
+pub returns-clause-found : goal.returns-clause-found
+returns-clause-found c = found Up c.args.octets.now c.whole.result (λ i. omega (arith, c.type_inv.octets i)) c.whole.ensures
+
+pub returns-clause-only : goal.returns-clause-only
+returns-clause-only c = λ rp h. c.whole.ensures ∙ again Up c.args.octets.now rp h

@@ -1,9 +1,0 @@
-use Rattle.std.proofs.Common.{arith, ◌∙◌}
-use Rattle.sms_relay.proofs.UnitLaws.{up_found, up_again}
-use Rattle.sms_relay.proofs.up.read_up.Goals as goal
-
-pub returns-clause-found : goal.returns-clause-found
-returns-clause-found c = up_found c.args.octets.now c.whole.result (λ i. omega (arith, c.type_inv.octets i)) c.whole.ensures
-
-pub returns-clause-only : goal.returns-clause-only
-returns-clause-only c = λ rp h. c.whole.ensures ∙ up_again c.args.octets.now rp h

@@ -1,0 +1,9 @@
+use Rattle.sms_relay.specs.declared.message_type.Direction.TheVariants.{Up}
+use Rattle.sms_relay.proofs.UnitLaws.{written_found, written_up_again}
+use Rattle.sms_relay.proofs.writing.write_up.Goals as goal
+
+pub returns-clause-in_grammar : goal.returns-clause-in_grammar
+returns-clause-in_grammar c = written_found Up c.args.rp.now c.octets_of.result c.requires c.octets_of.ensures
+
+pub returns-clause-again : goal.returns-clause-again
+returns-clause-again c = written_up_again c.args.rp.now c.octets_of.result c.requires c.octets_of.ensures

@@ -1,5 +1,0 @@
-use Rattle.std.proofs.Common.{length}
-use Rattle.smsc_cli.proofs.words.account_tables.+is_new.Given as goal
-
-abbrev pub decreases-is_new : goal.decreases-is_new
-decreases-is_new l = length l.accounts.now

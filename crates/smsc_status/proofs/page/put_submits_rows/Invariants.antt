@@ -1,7 +1,0 @@
-use Rattle.std.proofs.Common.{◌≡◌, ◌++◌, drop}
-use Rattle.std.specs.Prelude.{flat_map}
-use Rattle.smsc_status.specs.Page.{submits_row}
-use Rattle.smsc_status.proofs.page.put_submits_rows.Given as goal
-
-abbrev pub invariant-loop-some : goal.invariant-loop-some
-invariant-loop-some l = l.out ++ flat_map submits_row (drop l.some-index l.refused) ≡ l.fn.out ++ flat_map submits_row l.refused
