@@ -9,7 +9,7 @@ returns-in_err-digits-clause-only c digits number has =
     let lacks = c.in_err-digits.ensures.only digits (record { few = number.few; are = digits_spelled digits number.each }) has in
     search (rules, lacks)
 
-pub returns-clause-only : goal.returns-clause-only
-returns-clause-only c digits number has =
+pub returns-in-None-clause-only : goal.returns-in-None-clause-only
+returns-in-None-clause-only c digits number has =
     let same = c.in_ok-digits.ensures.value ∙ ap characters_in has.is ∙ characters_back digits (digits_spelled digits number.each) in
     absurd (c.in-None.ensures (subst IsMsisdn (sym same) number))
