@@ -7,8 +7,8 @@ pub mod FaultCodes
 pub mod FaultReasons
 pub mod FinalWords
 pub mod HandsetNumber
-pub mod Inside
 pub mod MessageId
+pub mod Msisdn
 pub mod LatinCodes
 pub mod OwnAddress
 pub mod Reading

@@ -1,5 +1,5 @@
 //! Addresses.
-ghost use Rattle.std.specs.Prelude.{◌≡◌, ℕ, IfOk, Ok};
+ghost use Rattle.std.specs.Prelude.{◌≡◌, ℕ, IfOk, IfSome, Ok, Some};
 ghost use Rattle.std.specs.List.{list_all};
 ghost use Rattle.std.specs.Str.{chars};
 ghost use Rattle.sms_base.specs.HandsetNumber.{is_decimal};
@@ -7,6 +7,7 @@ ghost use Rattle.sms_base.specs.HandsetNumber.{is_decimal};
 use crate::address_error::AddressError;
 use crate::address_text::text_of;
 use crate::digits::Digits;
+use crate::msisdn::Msisdn;
 use crate::type_of_number::TypeOfNumber;
 
 /// An address: 1 to 20 digits `0-9*#abc` or, where it is alphanumeric, a name of 1 to 11 septets.
@@ -21,8 +22,8 @@ pub struct Address {
 }
 
 impl Address {
-    ghost use Rattle.sms_base.specs.Address.{IsAddressOf, address_of};
-    ghost use Rattle.sms_base.specs.HandsetNumber.{names_handset, own_address};
+    ghost use Rattle.sms_base.specs.Address.{IsAddress, IsAddressOf, address_of};
+    ghost use Rattle.sms_base.specs.HandsetNumber.{handset_of, names_handset, own_address};
     ghost use Rattle.sms_base.specs.declared.address.Address.{Address as AddressOf};
 
     /// The address with that type of number, that numbering plan and that text.
@@ -61,6 +62,18 @@ impl Address {
             ton: TypeOfNumber::International,
             npi: 1,
             digits,
+        }
+    }
+
+    /// The number of the handset that the address names, if it names one.
+    pub fn handset(&self) -> Option<Msisdn>
+        ensures is { IfSome result (λ number. handset_of self.now ≡ Some number) }
+        ensures only { IsAddress self.now → result ≡ handset_of self.now }
+    {
+        if self.names_handset() {
+            Msisdn::of_digits(&self.digits)
+        } else {
+            None
         }
     }
 

@@ -1,9 +1,10 @@
 //! The text of an address, character by character.
-ghost use Rattle.std.specs.Prelude.{◌≡◌};
+ghost use Rattle.std.specs.Prelude.{◌≡◌, ◌↔◌, true};
 ghost use Rattle.std.specs.List.{list_all};
 ghost use Rattle.std.specs.Str.{chars};
 ghost use Rattle.sms_base.specs.Address.{number_fault, name_fault, text_fault, unless, width_of, has_code};
 ghost use Rattle.sms_base.specs.Alphabet.{code_for};
+ghost use Rattle.sms_base.specs.Msisdn.{AllDigits};
 ghost use Rattle.sms_base.specs.SemiOctet.{is_digit};
 
 use crate::address_error::AddressError;
@@ -26,7 +27,8 @@ pub fn is_digit(character: char) -> bool
 
 /// Whether each character is a digit of a number.
 pub fn are_digits(characters: &[char]) -> bool
-    ensures { result ≡ list_all is_digit characters.now }
+    ensures test { result ≡ list_all is_digit characters.now }
+    ensures digits { (result ≡ true) ↔ AllDigits characters.now }
 {
     characters.iter().all(|character| is_digit(*character))
 }

@@ -22,6 +22,7 @@
 //! - `markup`: text in markup
 //! - `message_id`: the number of a message, and its text of ten digits
 //! - `moment`: seconds, and time stamps both ways
+//! - `msisdn`: the number of a handset
 //! - `octets`: owned and borrowed octets
 //! - `originator`: who submitted a message
 //! - `priority`: how urgent a message is, 0 to 3
@@ -50,6 +51,7 @@ pub mod markup;
 mod message_id;
 mod moment;
 mod moment_order;
+mod msisdn;
 mod octets;
 mod originator;
 mod priority;
@@ -75,6 +77,7 @@ pub use listed::Listed;
 pub use message_id::MessageId;
 pub use moment::{Moment, MomentError};
 pub use moment_order::{earlier, later};
+pub use msisdn::{Msisdn, are_numbers};
 pub use octets::{OctetView, Octets};
 pub use originator::Originator;
 pub use priority::Priority;

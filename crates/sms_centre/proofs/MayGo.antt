@@ -11,7 +11,7 @@ use Rattle.sms_base.specs.declared.holder.Holder.TheVariants.{Part, Report, Entr
 use Rattle.sms_base.specs.declared.originator.Originator.{Originator}
 use Rattle.sms_base.specs.declared.originator.Originator.TheVariants.{Application, Handset}
 use Rattle.sms_rows.specs.index.Picked.{pick_of}
-use Rattle.sms_rows.specs.table.Keys.{AllDigits}
+use Rattle.sms_base.specs.Msisdn.{IsMsisdn}
 use Rattle.sms_rows.specs.table.Table.{AllAbove, Rises, RowsInMemory}
 use Rattle.sms_rows.proofs.table.Tables.{among_found}
 use Rattle.sms_centre_rows.specs.declared.messages.message.MessageRow.{MessageRow}
@@ -190,12 +190,12 @@ module _ (c : Core) (s : IsSoundCore c) (m : MessageRow) (there : message_at m.i
       (λ (q : m.source.digits ≡ l.handset). or_right (carried_to m.handset) (carried_to m.source.digits) (ap (λ (n : List ℕ). carried_to n) q ∙ carried))
       (for_line l.handset l.link.under_way f.carried (s.each_line l f.among).under_way))
 
--- a number that isn't digits has no line
-pub no_line : (id : ℕ) (number : List ℕ) (lines : List HandsetLink) → ((l : HandsetLink) → Among l lines → AllDigits l.handset) → (AllDigits number → ⊥)
+-- what is no number has no line
+pub no_line : (id : ℕ) (number : List ℕ) (lines : List HandsetLink) → ((l : HandsetLink) → Among l lines → IsMsisdn l.handset) → (IsMsisdn number → ⊥)
     → false ≡ is_carried id (line_of number lines).link.under_way
 no_line id number lines digits none =
     sym (ap (λ (o : Option HandsetLink). is_carried id (or_new_line number o).link.under_way)
-    (line_none number lines (λ x a e. none (subst (λ (n : List ℕ). AllDigits n) e (digits x a)))))
+    (line_none number lines (λ x a e. none (subst (λ (n : List ℕ). IsMsisdn n) e (digits x a)))))
 
 -- ---- one message more is looked at
 

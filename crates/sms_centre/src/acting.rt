@@ -1,10 +1,8 @@
 //! What an event does by itself, before receipts and offers follow.
 ghost use Rattle.std.specs.Prelude.{◌≡◌, ℕ, IfOk, OnOk};
 ghost use Rattle.smpp_pdu.specs.declared.message.Message.{Message as MessageOf};
-ghost use Rattle.sms_centre_rows.specs.waiting.SoundAllocations.{IsNumber};
 ghost use Rattle.sms_centre_spec.specs.CentreEvent.{tag_of as tag_or_none};
 ghost use Rattle.sms_centre_spec.specs.Draft.{Core, draft_of};
-ghost use Rattle.sms_centre_spec.specs.SoundCore.{HasNumber};
 ghost use Rattle.sms_centre_spec.specs.SoundRows.{IsSetup};
 ghost use Rattle.sms_centre_spec.specs.declared.event.CentreEvent.TheVariants.{Submit, Query, Cancel, Bound, Unbound, DeliverAnswered, Frame, LinkUp, LinkDown};
 ghost use Rattle.sms_centre_spec.specs.declared.event.CentreEvent.TheVariants.{Ordered, Tick};
@@ -14,7 +12,7 @@ ghost use Rattle.sms_centre_draft.specs.CentreDraft.{Represents as DraftRepresen
 
 use crate::state::CentreState;
 use smpp_pdu::{CancelSm, Message, QuerySm};
-use sms_base::{Digits, Holder, MessageId, Moment};
+use sms_base::{Holder, MessageId, Moment, Msisdn};
 use sms_centre_draft::CentreDraft;
 use sms_centre_events::{
     FrameOutcome, SubmitOutcome, bind, cancel, frame_refused, frame_taken, lower, order, query,
@@ -133,11 +131,10 @@ fn tag_of(tag: Option<Holder>) -> Holder
 fn frame_received(
     draft: &mut CentreDraft<'_>,
     centre_state: &CentreState,
-    handset: Digits,
+    handset: Msisdn,
     octets: &[u8],
     tag: Option<Holder>,
 ) -> Result<EventEnd, AllocError>
-    requires number { IsNumber handset }
     ensures { (c : Core) → DraftRepresents (draft_of c) draft.old → StateRepresents c centre_state.now
         → IfOk result (Acts (Frame handset octets.now tag) c draft.new) }
 {
@@ -155,16 +152,14 @@ fn frame_received(
     }
 }
 
-fn raised(draft: &mut CentreDraft<'_>, handset: Digits) -> Result<EventEnd, AllocError>
-    requires number { IsNumber handset }
+fn raised(draft: &mut CentreDraft<'_>, handset: Msisdn) -> Result<EventEnd, AllocError>
     ensures { (c : Core) → DraftRepresents (draft_of c) draft.old → IfOk result (Acts (LinkUp handset) c draft.new) }
 {
     draft.raise(handset)?;
     Ok(EventEnd::Done)
 }
 
-fn lowered(draft: &mut CentreDraft<'_>, handset: Digits) -> Result<EventEnd, AllocError>
-    requires number { IsNumber handset }
+fn lowered(draft: &mut CentreDraft<'_>, handset: Msisdn) -> Result<EventEnd, AllocError>
     ensures { (c : Core) → DraftRepresents (draft_of c) draft.old → IfOk result (Acts (LinkDown handset) c draft.new) }
 {
     lower(draft, handset)?;
@@ -205,7 +200,6 @@ pub(crate) fn act(
     centre_state: &CentreState,
     event: &CentreEvent<'_>,
 ) -> Result<EventEnd, AllocError>
-    requires number { HasNumber event.now }
     requires setup { IsSetup draft.old.setup }
     ensures { (c : Core) → DraftRepresents (draft_of c) draft.old → StateRepresents c centre_state.now → IfOk result (Acts event.now c draft.new) }
 {
@@ -253,12 +247,11 @@ fn refuse_submit(draft: &mut CentreDraft<'_>) -> Result<(), AllocError>
 // So is the SUBMIT of a frame.
 fn refuse_frame(
     draft: &mut CentreDraft<'_>,
-    handset: Digits,
+    handset: Msisdn,
     octets: &[u8],
     tag: Option<Holder>,
     reference: u8,
 ) -> Result<(), AllocError>
-    requires number { IsNumber handset }
     ensures { (c : Core) → DraftRepresents (draft_of c) draft.old
         → OnOk result (DraftRepresents (congested (Frame handset octets.now tag) reference c) draft.new) }
 {
@@ -271,7 +264,6 @@ pub(crate) fn refuse(
     event: &CentreEvent<'_>,
     reference: u8,
 ) -> Result<(), AllocError>
-    requires number { HasNumber event.now }
     ensures { (c : Core) → DraftRepresents (draft_of c) draft.old → OnOk result (DraftRepresents (congested event.now reference c) draft.new) }
 {
     match event {

@@ -1,13 +1,11 @@
 //! The centre.
-ghost use Rattle.std.specs.Prelude.{◌≡◌, ℕ, List, IfErr, IfOk, OnErr, OnOk, length, take};
-ghost use Rattle.sms_base.specs.Among.{Among};
-ghost use Rattle.sms_centre_rows.specs.waiting.SoundAllocations.{IsNumber};
+ghost use Rattle.std.specs.Prelude.{◌≡◌, ℕ, IfErr, IfOk, OnErr, OnOk, length, take};
 ghost use Rattle.sms_centre_spec.specs.declared.event.CentreEvent.{CentreEvent as CentreEventOf};
 ghost use Rattle.sms_centre_spec.specs.CentreEvent.{happened, moment_of, recovered, started};
 ghost use Rattle.sms_centre_spec.specs.Draft.{Core, core_of};
 ghost use Rattle.sms_centre_spec.specs.forgetting.Forget.{forget, going_now, next_from};
 ghost use Rattle.sms_centre_spec.specs.Requests.{cancel_refusal, octets_refusal, query_refusal};
-ghost use Rattle.sms_centre_spec.specs.SoundCore.{AreDifferent, HasNumber, IsEvent};
+ghost use Rattle.sms_centre_spec.specs.SoundCore.{AreDifferent, IsEvent};
 ghost use Rattle.sms_centre_spec.specs.SoundRows.{IsSetup};
 ghost use Rattle.sms_centre.specs.Archiving.{AreArchived, Stays};
 ghost use Rattle.sms_centre.specs.Enrolling.{accounts_of, accounts_with, enrolled};
@@ -18,7 +16,6 @@ ghost use Rattle.sms_centre_rows.specs.waiting.Links.{line_of};
 ghost use Rattle.sms_centre_queue.specs.queue.Watching.{figures_of};
 ghost use Rattle.sms_centre_spec.specs.SoundRows.{all_for};
 ghost use Rattle.sms_rows.specs.keep.StoreOutcome.{StoreOutcome, WasHonest};
-ghost use Rattle.sms_rows.specs.table.Keys.{AllDigits};
 ghost use Rattle.sms_centre_events.specs.offering.Refusing.{ReadingOutcome};
 ghost use Rattle.sms_centre.specs.plans.EventOutcome.{IsOutcome};
 ghost use Rattle.sms_centre_reports.specs.report_log.Reporting.{message_lines, receipt_lines};
@@ -36,7 +33,7 @@ use crate::refusing::{cancel_refusal, query_refusal, submit_refusal};
 use crate::state::{CentreState, RecoverError};
 use smpp_pdu::{CancelSm, CommandStatus, Message as SubmitSm, QuerySm};
 use sms_base::lending::put;
-use sms_base::{Carried, Digits, Listed, MessageId, Moment, Octets};
+use sms_base::{Carried, Listed, MessageId, Moment, Msisdn, Octets};
 use sms_centre_messages::message_index::copy_of_changes;
 use sms_centre_queue::queue::LinkFigures;
 use sms_centre_recovery::commit;
@@ -81,10 +78,9 @@ impl Centre {
     pub fn recover(
         alloc: Global,
         rows: Rows,
-        handsets: &[Digits],
+        handsets: &[Msisdn],
         sessions: Table<ReceiptSession>,
     ) -> Result<Centre, RecoverError>
-        requires numbers { (number : List ℕ) → Among number handsets.now → IsNumber number }
         requires apart { AreDifferent handsets.now }
         requires sessions { AreNew sessions.rows }
         ensures centre_state { IfOk result (Represents (recovered rows handsets.now sessions.rows)) }
@@ -98,10 +94,9 @@ impl Centre {
     pub fn start(
         alloc: Global,
         rows: Rows,
-        handsets: &[Digits],
+        handsets: &[Msisdn],
         sessions: Table<ReceiptSession>,
     ) -> Result<Centre, RecoverError>
-        requires numbers { (number : List ℕ) → Among number handsets.now → IsNumber number }
         requires apart { AreDifferent handsets.now }
         requires sessions { AreNew sessions.rows }
         ensures centre_state { IfOk result (Represents (started rows handsets.now sessions.rows)) }
@@ -115,10 +110,9 @@ impl Centre {
     pub fn restart(
         &mut self,
         rows: Rows,
-        handsets: &[Digits],
+        handsets: &[Msisdn],
         sessions: Table<ReceiptSession>,
     ) -> Result<(), RecoverError>
-        requires numbers { (number : List ℕ) → Among number handsets.now → IsNumber number }
         requires apart { AreDifferent handsets.now }
         requires sessions { AreNew sessions.rows }
         ensures centre_state { OnOk result (Represents (recovered rows handsets.now sessions.rows) self.new) }
@@ -143,10 +137,9 @@ impl Centre {
     pub fn start_again(
         &mut self,
         moment: Moment,
-        handsets: &[Digits],
+        handsets: &[Msisdn],
         sessions: Table<ReceiptSession>,
     ) -> Result<(), AllocError>
-        requires numbers { (number : List ℕ) → Among number handsets.now → IsNumber number }
         requires apart { AreDifferent handsets.now }
         requires sessions { AreNew sessions.rows }
         ensures centre_state { OnOk result ((c : Core) → Represents c self.old → moment ≡ moment_of c.rows
@@ -183,7 +176,6 @@ impl Centre {
         event: &CentreEvent<'_>,
         bodies: &mut B,
     ) -> Result<Plan, PlanError>
-        requires number { HasNumber event.now }
         ensures outcome { (c : Core) (rows : B.Rows) → Represents c self.now → StoresRows (B.body_of rows) c.rows
             → ReadingOutcome (λ p. IsOutcome (happened event.now c) p.plan) (happened event.now c).links.read rows
             (B.state bodies.old) (B.state bodies.new) result }
@@ -367,15 +359,15 @@ impl Centre {
     }
 
     /// How many parts and status reports wait for the handset, and how its link is.
-    pub fn figures(&self, handset: &Digits) -> LinkFigures
-        ensures { (c : Core) → Represents c self.now → AllDigits handset.now → result ≡ figures_of (all_for handset.now c.rows) (line_of handset.now c.lines) }
+    pub fn figures(&self, handset: &Msisdn) -> LinkFigures
+        ensures { (c : Core) → Represents c self.now → result ≡ figures_of (all_for handset.now c.rows) (line_of handset.now c.lines) }
     {
         self.centre_state.figures(handset)
     }
 
     /// What the transaction to the handset carries that is under way.
-    pub fn under_way(&self, handset: &Digits) -> Option<Carried>
-        ensures { (c : Core) → Represents c self.now → AllDigits handset.now → result ≡ (line_of handset.now c.lines).link.under_way }
+    pub fn under_way(&self, handset: &Msisdn) -> Option<Carried>
+        ensures { (c : Core) → Represents c self.now → result ≡ (line_of handset.now c.lines).link.under_way }
     {
         self.centre_state.under_way(handset)
     }

@@ -2,7 +2,6 @@
 ghost use Rattle.std.specs.Prelude.{◌≡◌, ℕ, [], Ok, IfOk};
 ghost use Rattle.sms_centre_spec.specs.CentreEvent.{follow as follow_of};
 ghost use Rattle.sms_centre_spec.specs.Draft.{Core, Draft, changes_in, draft_of};
-ghost use Rattle.sms_centre_spec.specs.SoundCore.{HasNumber};
 ghost use Rattle.sms_centre_spec.specs.SoundRows.{IsSetup};
 ghost use Rattle.sms_centre.specs.Acting.{Acts, acted, congested};
 ghost use Rattle.sms_centre.specs.Stopping.{EndsSince, StoppingOutcome, WasStopped, stop_of as stop_of_error};
@@ -158,7 +157,6 @@ fn run<B: BodyKeep>(
     bodies: &mut B,
     centre: &[u8],
 ) -> Result<(), PlanStop>
-    requires number { HasNumber event.now }
     requires setup { IsSetup draft.old.setup }
     ensures outcome { (c : Core) (rows : B.Rows) → DraftRepresents (draft_of c) draft.old → StateRepresents c centre_state.now
         → CanOffer B.body_of rows centre.now (acted event.now c).store
@@ -180,7 +178,6 @@ fn run_anew<B: BodyKeep>(
     bodies: &mut B,
     centre: &[u8],
 ) -> Result<(), PlanError>
-    requires number { HasNumber event.now }
     ensures outcome { (c : Core) (rows : B.Rows) → DraftRepresents (draft_of c) draft.old
         → CanOffer B.body_of rows centre.now (congested event.now reference c).store
         → ReadingOutcome (λ _. DraftRepresents (follow_of (congested event.now reference c)) draft.new)
@@ -204,7 +201,6 @@ fn plan_anew<B: BodyKeep>(
     bodies: &mut B,
     centre: &[u8],
 ) -> Result<Plan, PlanError>
-    requires number { HasNumber event.now }
     ensures outcome { (c : Core) (rows : B.Rows) → DraftRepresents (draft_of c) draft.entry
         → CanOffer B.body_of rows centre.now (congested event.now reference c).store
         → ReadingOutcome (λ p. IsOutcome (follow_of (congested event.now reference c)) p.plan)
@@ -230,7 +226,6 @@ fn begin_anew<B: BodyKeep>(
     bodies: &mut B,
     centre: &[u8],
 ) -> Result<Plan, PlanError>
-    requires number { HasNumber event.now }
     ensures outcome { (c : Core) (rows : B.Rows) → StateRepresents c centre_state.now
         → CanOffer B.body_of rows centre.now (congested event.now reference c).store
         → ReadingOutcome (λ p. IsOutcome (follow_of (congested event.now reference c)) p.plan)
@@ -253,7 +248,6 @@ fn stopped<B: BodyKeep>(
     bodies: &mut B,
     centre: &[u8],
 ) -> Result<Plan, PlanError>
-    requires number { HasNumber event.now }
     ensures outcome { (c : Core) (rows : B.Rows) (first : Refusals) → StateRepresents c centre_state.now
         → CanOffer B.body_of rows centre.now (acted event.now c).store
         → WasStopped (λ reference. acted event.now c ≡ congested event.now reference c) (follow_of (acted event.now c)).links.read
@@ -285,7 +279,6 @@ fn plan_begun<B: BodyKeep>(
     bodies: &mut B,
     centre: &[u8],
 ) -> Result<Plan, PlanError>
-    requires number { HasNumber event.now }
     requires setup { IsSetup draft.setup }
     ensures outcome { (c : Core) (rows : B.Rows) → DraftRepresents (draft_of c) draft.entry → StateRepresents c centre_state.now
         → CanOffer B.body_of rows centre.now (acted event.now c).store
@@ -311,7 +304,6 @@ pub(crate) fn plan_of<B: BodyKeep>(
     bodies: &mut B,
     centre: &[u8],
 ) -> Result<Plan, PlanError>
-    requires number { HasNumber event.now }
     requires setup { IsSetup centre_state.now.setup }
     ensures outcome { (c : Core) (rows : B.Rows) → StateRepresents c centre_state.now
         → CanOffer B.body_of rows centre.now (acted event.now c).store

@@ -26,8 +26,8 @@ use crate::finishing::planned;
 use crate::forget_error::ForgetError;
 use crate::plan::Plan;
 use crate::state::CentreState;
-use sms_base::{Carried, Digits, Holder, Listed, MessageId, Moment};
-use sms_centre_draft::{CentreDraft, are_digits};
+use sms_base::{Carried, Digits, Holder, Listed, MessageId, Moment, Msisdn};
+use sms_centre_draft::CentreDraft;
 use sms_centre_messages::message_index::has_ended;
 use sms_centre_reports::report_log::{MessageReport, ReportLog};
 use sms_centre_rows::messages::{BarRow, MessageRow as Message};
@@ -82,13 +82,20 @@ fn is_carried(transfer: Option<Carried>, id: MessageId) -> bool
 }
 
 // It is under way to that handset.
-fn is_on_way_to(draft: &CentreDraft<'_>, handset: Digits, id: MessageId) -> bool
+fn is_on_way_to(draft: &CentreDraft<'_>, handset: Msisdn, id: MessageId) -> bool
     ensures { (c : Core) → DraftRepresents (draft_of c) draft.now → result ≡ is_carried_of id (line_of handset c.lines).link.under_way }
 {
-    if !are_digits(handset.as_slice()) {
-        return false;
-    }
     is_carried(draft.under_way(handset), id)
+}
+
+// It is under way to that source. What is no number has no link.
+fn is_on_way_back(draft: &CentreDraft<'_>, source: &Digits, id: MessageId) -> bool
+    ensures { (c : Core) → DraftRepresents (draft_of c) draft.now → result ≡ is_carried_of id (line_of source.now c.lines).link.under_way }
+{
+    match Msisdn::of_digits(source) {
+        Some(number) => is_on_way_to(draft, number, id),
+        None => false,
+    }
 }
 
 // It or its report is under way: to its handset, or to its source.
@@ -99,7 +106,7 @@ fn is_on_way(draft: &CentreDraft<'_>, message: &Message) -> bool
     if is_on_way_to(draft, message.handset, message.id) {
         return true;
     }
-    is_on_way_to(draft, message.source.digits, message.id)
+    is_on_way_back(draft, &message.source.digits, message.id)
 }
 
 fn may_go_now(

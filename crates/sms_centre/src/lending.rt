@@ -1,8 +1,6 @@
 //! A centre that is lent.
-ghost use Rattle.std.specs.Prelude.{◌≡◌, ℕ, List, IfErr, IfOk};
+ghost use Rattle.std.specs.Prelude.{◌≡◌, IfErr, IfOk};
 ghost use Rattle.std.specs.Fn.{FnOnceReturnsAtMut};
-ghost use Rattle.sms_base.specs.Among.{Among};
-ghost use Rattle.sms_centre_rows.specs.waiting.SoundAllocations.{IsNumber};
 ghost use Rattle.sms_centre_spec.specs.CentreEvent.{started};
 ghost use Rattle.sms_centre_spec.specs.SoundCore.{AreDifferent};
 ghost use Rattle.sms_centre.specs.state.Recovering.{AreNew, RefusesRows};
@@ -10,7 +8,7 @@ ghost use Rattle.sms_centre.specs.state.CentreState.{Represents};
 
 use crate::centre::Centre;
 use crate::state::RecoverError;
-use sms_base::Digits;
+use sms_base::Msisdn;
 use sms_base::lending::lend;
 use sms_centre_reports::sessions::ReceiptSession;
 use sms_centre_spec::Rows;
@@ -24,11 +22,10 @@ use std::alloc::Global;
 pub fn with_centre<R, W: FnOnce(&mut Centre) -> R>(
     alloc: Global,
     rows: Rows,
-    handsets: &[Digits],
+    handsets: &[Msisdn],
     sessions: Table<ReceiptSession>,
     work: W,
 ) -> Result<R, RecoverError>
-    requires numbers { (number : List ℕ) → Among number handsets.now → IsNumber number }
     requires apart { AreDifferent handsets.now }
     requires sessions { AreNew sessions.rows }
     requires work { (lent : _) → Represents (started rows handsets.now sessions.rows) lent.now → W.pre work lent }

@@ -5,7 +5,6 @@ pub mod Entering
 pub mod MessagesGo
 pub mod FoundOpen
 pub mod MovesWaiting
-pub mod NumbersThere
 pub mod OthersWaiting
 pub mod ReceiptsEnded
 pub mod ReportsStill

@@ -4,7 +4,7 @@ use Rattle.std.specs.Prelude.{◌&&◌, max, not}
 use Rattle.sms_base.specs.declared.final_state.FinalState.{FinalState}
 use Rattle.sms_base.specs.declared.originator.Originator.{Originator}
 use Rattle.sms_base.specs.declared.originator.Originator.TheVariants.{Application, Handset}
-use Rattle.sms_rows.specs.table.Keys.{AllDigits}
+use Rattle.sms_base.specs.Msisdn.{IsMsisdn}
 use Rattle.sms_rows.specs.table.Table.{put, row_at}
 use Rattle.sms_rows.proofs.table.Tables.{found_among}
 use Rattle.sms_centre_rows.specs.declared.messages.message.MessageRow.{MessageRow}
@@ -233,10 +233,10 @@ report_far_represented d w r q reports queues represents there done tells placed
 }
 
 -- what has no digits has no queue
-pub nobody_waits : (number : List ℕ) (f : List QueuedPart → List QueuedPart) (g : Allocations) (links : Links) (w w2 : List ℕ → List QueuedPart) (p : QueuesOf) → ¬ AllDigits number → RepresentsQueues g links w p → Waits number f w w2 → RepresentsQueues g links w2 p
+pub nobody_waits : (number : List ℕ) (f : List QueuedPart → List QueuedPart) (g : Allocations) (links : Links) (w w2 : List ℕ → List QueuedPart) (p : QueuesOf) → ¬ IsMsisdn number → RepresentsQueues g links w p → Waits number f w w2 → RepresentsQueues g links w2 p
 nobody_waits number f g links w w2 p not_digits represents waits = record {
   sound = represents.sound;
-  each = λ n d. subst (λ (ls : List QueuedPart). RepresentsPlaced n (handsets_of g) (references_of g) ls links.lines (placed_of n p)) (sym (waits.1 n (λ e. not_digits (subst AllDigits (sym e) d)))) (represents.each n d);
+  each = λ n d. subst (λ (ls : List QueuedPart). RepresentsPlaced n (handsets_of g) (references_of g) ls links.lines (placed_of n p)) (sym (waits.1 n (λ e. not_digits (subst IsMsisdn (sym e) d)))) (represents.each n d);
   named = represents.named;
   next_place = represents.next_place;
   handsets = represents.handsets;

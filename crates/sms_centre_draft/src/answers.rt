@@ -1,7 +1,6 @@
 //! Answers to what handsets send up (3GPP TS 24.011 6).
 ghost use Rattle.std.specs.Prelude.{◌≡◌, ◌<◌, ◌≤◌, None, Some, length, IfOk, OnOk};
 ghost use Rattle.sms_base.specs.declared.carried.Kind.TheVariants.{Ack, Error};
-ghost use Rattle.sms_rows.specs.table.Keys.{AllDigits};
 ghost use Rattle.sms_link.specs.LinkTurn.{taken};
 ghost use Rattle.sms_relay.specs.Cause.{IsRpCause};
 ghost use Rattle.sms_relay.specs.RelayGrammar.{ack_down, error_down};
@@ -14,7 +13,7 @@ ghost use Rattle.sms_centre_spec.specs.Receiving.{reply as reply_of};
 ghost use Rattle.sms_centre_draft.specs.CentreDraft.{Represents};
 
 use crate::centre_draft::CentreDraft;
-use sms_base::{Digits, Holder, Kind, OctetView, Octets};
+use sms_base::{Holder, Kind, Msisdn, OctetView, Octets};
 use sms_centre_spec::CentreAnswer;
 use sms_intake::{SubmitRefusal, accepting_report, refusing_report};
 use sms_link::Upward;
@@ -88,13 +87,12 @@ impl<'a> CentreDraft<'a> {
     /// The answer in the transaction that the handset began, if one waits for it: a unit of 1 to 248 octets.
     pub fn reply(
         &mut self,
-        handset: Digits,
+        handset: Msisdn,
         kind: Kind,
         reference: u8,
         tag: Holder,
         unit: &[u8],
     ) -> Result<(), AllocError>
-        requires digits { AllDigits handset }
         requires some { 0 < length unit.now }
         requires fits { length unit.now ≤ 248 }
         ensures { (d : Draft) → Represents d self.old → OnOk result (Represents (reply_of handset kind reference tag unit.now d) self.new) }
@@ -105,8 +103,7 @@ impl<'a> CentreDraft<'a> {
     }
 
     /// Takes a frame of the handset, whatever its octets, and gives what the link passes up.
-    pub fn take(&mut self, handset: Digits, frame: &[u8]) -> Result<Option<Upward>, AllocError>
-        requires digits { AllDigits handset }
+    pub fn take(&mut self, handset: Msisdn, frame: &[u8]) -> Result<Option<Upward>, AllocError>
         ensures up { (d : Draft) → Represents d self.old → IfOk result (λ up. up ≡ (taken frame.now (line_of handset d.links.lines).link).out.up) }
         ensures state { (d : Draft) → Represents d self.old
             → OnOk result (Represents (on_links (turn_line (line_of handset d.links.lines)
@@ -145,8 +142,7 @@ impl<'a> CentreDraft<'a> {
     }
 
     /// A SUBMIT is accepted.
-    pub fn confirm(&mut self, handset: Digits, reference: u8, tag: Holder) -> Result<(), AllocError>
-        requires digits { AllDigits handset }
+    pub fn confirm(&mut self, handset: Msisdn, reference: u8, tag: Holder) -> Result<(), AllocError>
         ensures { (d : Draft) → Represents d self.old → OnOk result (Represents (confirm_of handset reference tag d) self.new) }
     {
         let unit = self.confirming(reference)?;
@@ -156,12 +152,11 @@ impl<'a> CentreDraft<'a> {
     /// A SUBMIT is refused.
     pub fn refuse(
         &mut self,
-        handset: Digits,
+        handset: Msisdn,
         reference: u8,
         tag: Holder,
         refusal: SubmitRefusal,
     ) -> Result<(), AllocError>
-        requires digits { AllDigits handset }
         ensures { (d : Draft) → Represents d self.old → OnOk result (Represents (refuse_of handset reference tag refusal d) self.new) }
     {
         let unit = self.refusing(reference, refusal)?;
@@ -171,12 +166,11 @@ impl<'a> CentreDraft<'a> {
     /// A unit that can't be read is rejected.
     pub fn reject(
         &mut self,
-        handset: Digits,
+        handset: Msisdn,
         reference: u8,
         tag: Holder,
         cause: RpCause,
     ) -> Result<(), AllocError>
-        requires digits { AllDigits handset }
         requires cause { IsRpCause cause }
         ensures { (d : Draft) → Represents d self.old → OnOk result (Represents (reject_of handset reference tag cause d) self.new) }
     {
@@ -190,8 +184,7 @@ impl<'a> CentreDraft<'a> {
     }
 
     // RP-SMMA is acknowledged.
-    fn acknowledge(&mut self, handset: Digits, reference: u8, tag: Holder) -> Result<(), AllocError>
-        requires digits { AllDigits handset }
+    fn acknowledge(&mut self, handset: Msisdn, reference: u8, tag: Holder) -> Result<(), AllocError>
         ensures { (d : Draft) → Represents d self.old → OnOk result (Represents (reply_of handset Ack reference tag (ack_down reference None) d) self.new) }
     {
         let unit = bare_ack(self.alloc(), reference)?;
@@ -201,11 +194,10 @@ impl<'a> CentreDraft<'a> {
     /// Takes RP-SMMA: the handset has memory.
     pub fn memory_available(
         &mut self,
-        handset: Digits,
+        handset: Msisdn,
         reference: u8,
         tag: Holder,
     ) -> Result<(), AllocError>
-        requires digits { AllDigits handset }
         ensures { (d : Draft) → Represents d self.old → OnOk result (Represents (memory_available_of handset reference tag d) self.new) }
     {
         self.acknowledge(handset, reference, tag)?;

@@ -6,7 +6,6 @@ ghost use Rattle.sms_centre_rows.specs.messages.Messages.{is_pending, message_at
 ghost use Rattle.sms_receipt.specs.StatusReports.{status_octets as status_octets_of};
 ghost use Rattle.sms_centre_rows.specs.declared.reports.report.ReportKind.TheVariants.{Receipt, Unsent};
 ghost use Rattle.sms_centre_rows.specs.waiting.References.{handset_of};
-ghost use Rattle.sms_centre_rows.specs.waiting.SoundAllocations.{IsNumber};
 ghost use Rattle.sms_centre_spec.specs.Draft.{Draft, handsets_in, in_store, messages_in};
 ghost use Rattle.sms_centre_spec.specs.Ends.{end as end_of, is_failure as is_failure_of, is_wished as is_wished_of, make_report, make_status as make_status_of};
 ghost use Rattle.sms_centre_spec.specs.Ends.{report as report_of, report_to as report_to_of, status_given};
@@ -16,9 +15,7 @@ ghost use Rattle.sms_centre_draft.specs.Stages.{IsUnreported};
 ghost use Rattle.sms_centre_draft.specs.CentreDraft.{Represents};
 
 use crate::centre_draft::CentreDraft;
-use crate::numbers::is_number;
-use crate::queues::{give, next_reference, put};
-use sms_base::{Digits, FinalState, Moment, Octets, Originator, Wish};
+use sms_base::{FinalState, Moment, Msisdn, Octets, Originator, Wish};
 use sms_centre_rows::messages::MessageRow;
 use sms_centre_rows::waiting::QueuedPart;
 use sms_centre_spec::final_of;
@@ -51,11 +48,8 @@ fn status_octets(
     now: Moment,
     message: &MessageRow,
 ) -> Result<Octets, AllocError>
-    ensures { IsNumber message.now.handset → IfOk result (λ octets. octets ≡ status_octets_of (final_of_message state now message.now)) }
+    ensures { IfOk result (λ octets. octets ≡ status_octets_of (final_of_message state now message.now)) }
 {
-    if !is_number(&message.handset) {
-        return Ok(Octets::new(alloc));
-    }
     status_report_octets(alloc, &final_of(state, now, message))
 }
 
@@ -75,18 +69,19 @@ impl<'a> CentreDraft<'a> {
         &mut self,
         state: FinalState,
         message: &MessageRow,
+        handset: Msisdn,
         reference: u8,
     ) -> Result<(), AllocError>
+        requires { handset ≡ message.now.source.digits }
         ensures { (d : Draft) (n : ℕ) → Represents d self.old → IsUnreported state message.now d.store → message.now.originator ≡ Handset n
             → reference_for (handset_of message.now.source.digits (handsets_in d.store)) d.store ≡ Some reference
             → OnOk result (Represents (in_store (status_given state message.now (handset_of message.now.source.digits (handsets_in d.store))
             (Some reference) d.store) d) self.new) }
     {
-        let handset = message.source.digits;
         let tpdu = status_octets(self.alloc, state, self.moment, message)?;
         self.reports
             .make_status(message.id, self.moment, reference, tpdu)?;
-        give(&mut self.queues, handset, reference, self.moment)?;
+        self.queues.give(handset, reference, self.moment)?;
         let queued = QueuedPart {
             id: message.id,
             number: 0,
@@ -94,7 +89,7 @@ impl<'a> CentreDraft<'a> {
             priority: 0,
             due: self.moment,
         };
-        put(&mut self.queues, handset, queued)?;
+        self.queues.put(handset, queued)?;
         Ok(())
     }
 
@@ -108,24 +103,42 @@ impl<'a> CentreDraft<'a> {
     }
 
     /// The next reference of the handset.
-    pub(crate) fn next_reference(&self, number: Digits) -> Result<Option<u8>, AllocError>
-        ensures { (d : Draft) → Represents d self.now → IsNumber number
+    pub(crate) fn next_reference(&self, number: Msisdn) -> Result<Option<u8>, AllocError>
+        ensures { (d : Draft) → Represents d self.now
             → IfOk result (λ reference. reference_for (handset_of number (handsets_in d.store)) d.store ≡ reference) }
     {
-        let reference = next_reference(&self.queues, number, self.moment)?;
+        let reference = self.queues.next_reference(number, self.moment)?;
         Ok(reference)
     }
 
-    // A handset's message gets a status report, where a reference is free for it.
+    // The handset that submitted the message gets a status report, where a reference is free for it.
+    fn make_status_to(
+        &mut self,
+        state: FinalState,
+        message: &MessageRow,
+        handset: Msisdn,
+    ) -> Result<(), AllocError>
+        requires { handset ≡ message.now.source.digits }
+        ensures { (d : Draft) (n : ℕ) → Represents d self.old → IsUnreported state message.now d.store → message.now.originator ≡ Handset n
+            → OnOk result (Represents (in_store (make_status_of state message.now
+            (handset_of message.now.source.digits (handsets_in d.store)) d.store) d) self.new) }
+    {
+        let free = self.next_reference(handset)?;
+        match free {
+            Some(reference) => self.give_status(state, message, handset, reference),
+            None => self.make_unsent(message),
+        }
+    }
+
+    // A handset's message gets a status report.
     fn make_status(&mut self, state: FinalState, message: &MessageRow) -> Result<(), AllocError>
         ensures { (d : Draft) (n : ℕ) → Represents d self.old → IsUnreported state message.now d.store → message.now.originator ≡ Handset n
             → OnOk result (Represents (in_store (make_status_of state message.now
             (handset_of message.now.source.digits (handsets_in d.store)) d.store) d) self.new) }
     {
-        let free = self.next_reference(message.source.digits)?;
-        match free {
-            Some(reference) => self.give_status(state, message, reference),
-            None => self.make_unsent(message),
+        match Msisdn::of_digits(&message.source.digits) {
+            Some(handset) => self.make_status_to(state, message, handset),
+            None => Ok(()),
         }
     }
 

@@ -12,13 +12,12 @@
 //! - `forgetting`: messages that leave the centre
 //! - `links`: links that are lost, and timers that fire
 //! - `moves`: one change of what the centre keeps, each
-//! - `numbers`: the numbers of handsets
 //! - `orders`: an operator's retry: all of a message that waits becomes due
 //! - `receiving`: everything that waits for a handset is due now (3GPP TS 24.011 7.3.2)
 //! - `rows`: rows that change
 //! - `sessions`: what sessions do with receipts
 //! - `shares`: how many of a handset's references an account holds
-//! - `queues`: moves of the queues by the numbers of handsets
+//! - `queues`: what waits until another moment, and what waits for the source of a message
 //! - `submitting`: a submission becomes a message with all its parts, or nothing
 //! - `transfers`: how a transfer to a handset ends (3GPP TS 24.011 8.2.5.4)
 //! - `walks`: laws: walks over everything are walks over what is found
@@ -33,7 +32,6 @@ mod ends;
 mod forgetting;
 mod links;
 mod moves;
-mod numbers;
 mod orders;
 mod queues;
 mod receiving;
@@ -45,5 +43,4 @@ mod transfers;
 pub mod walks;
 
 pub use centre_draft::CentreDraft;
-pub use numbers::are_digits;
 pub use transfers::{finished, tried};

@@ -1,6 +1,5 @@
 //! Links to handsets that are lost, and timers that fire.
 ghost use Rattle.std.specs.Prelude.{◌≡◌, OnOk, IfOk};
-ghost use Rattle.sms_rows.specs.table.Keys.{AllDigits};
 ghost use Rattle.sms_link.specs.LinkTurn.{fired as fired_link};
 ghost use Rattle.sms_centre_rows.specs.waiting.Links.{line_of, lowered, put_line, turn_line};
 ghost use Rattle.sms_centre_spec.specs.CentreEvent.{at_moment as at_moment_of};
@@ -8,22 +7,20 @@ ghost use Rattle.sms_centre_spec.specs.Draft.{Draft, on_links};
 ghost use Rattle.sms_centre_draft.specs.CentreDraft.{Represents};
 
 use crate::centre_draft::CentreDraft;
-use sms_base::{Carried, Digits, Moment, later};
+use sms_base::{Carried, Moment, Msisdn, later};
 use sms_link::Upward;
 use std::alloc::AllocError;
 
 impl<'a> CentreDraft<'a> {
     /// What is under way to the handset.
-    pub fn under_way(&self, handset: Digits) -> Option<Carried>
-        requires digits { AllDigits handset }
+    pub fn under_way(&self, handset: Msisdn) -> Option<Carried>
         ensures { (d : Draft) → Represents d self.now → result ≡ (line_of handset d.links.lines).link.under_way }
     {
         self.queues.under_way(&handset)
     }
 
     /// The link of the handset is down, and new once it is up again.
-    pub fn lower_line(&mut self, handset: Digits) -> Result<(), AllocError>
-        requires digits { AllDigits handset }
+    pub fn lower_line(&mut self, handset: Msisdn) -> Result<(), AllocError>
         ensures { (d : Draft) → Represents d self.old → OnOk result
             (Represents (on_links (put_line (lowered (line_of handset d.links.lines)) d.links) d) self.new) }
     {
@@ -32,8 +29,7 @@ impl<'a> CentreDraft<'a> {
     }
 
     /// The timers of the handset's link fire that are due: gives what the link passes up.
-    pub fn fire_timers(&mut self, handset: Digits) -> Result<Option<Upward>, AllocError>
-        requires digits { AllDigits handset }
+    pub fn fire_timers(&mut self, handset: Msisdn) -> Result<Option<Upward>, AllocError>
         ensures up { (d : Draft) → Represents d self.old → IfOk result (λ up. up ≡ (fired_link d.store.moment (line_of handset d.links.lines).link).out.up) }
         ensures state { (d : Draft) → Represents d self.old
             → OnOk result (Represents (on_links (turn_line (line_of handset d.links.lines)

@@ -10,7 +10,7 @@ ghost use Rattle.sms_centre_spec.specs.Draft.{Draft, in_store, messages_in, part
 ghost use Rattle.sms_centre_draft.specs.CentreDraft.{Represents};
 
 use crate::centre_draft::CentreDraft;
-use crate::queues::{put_off, remove, withdraw};
+use crate::queues::{put_off, put_report_off, remove_report};
 use crate::rows::ended;
 use sms_base::FinalState;
 use sms_centre_reports::open_reports::ReportEntry;
@@ -30,7 +30,7 @@ impl<'a> CentreDraft<'a> {
     {
         let row = ended(self.alloc, state, self.moment, message)?;
         self.messages.put_message(row)?;
-        withdraw(&mut self.queues, message.handset, message.id)?;
+        self.queues.withdraw(message.handset, message.id)?;
         Ok(())
     }
 
@@ -46,7 +46,7 @@ impl<'a> CentreDraft<'a> {
             → OnOk result (Represents (in_store (with_part_at p progress.now d.store) d) self.new) }
     {
         self.messages.amend_part(entry, progress)?;
-        remove(&mut self.queues, message.handset, entry.id, entry.number)?;
+        self.queues.remove(message.handset, entry.id, entry.number)?;
         Ok(())
     }
 
@@ -86,7 +86,7 @@ impl<'a> CentreDraft<'a> {
             → OnOk result (Represents (in_store (with_report_at r progress.now d.store) d) self.new) }
     {
         self.reports.amend_status(entry, progress)?;
-        remove(&mut self.queues, message.source.digits, entry.id, 0)?;
+        remove_report(&mut self.queues, &message.source.digits, entry.id)?;
         Ok(())
     }
 
@@ -103,11 +103,10 @@ impl<'a> CentreDraft<'a> {
             → OnOk result (Represents (in_store (with_report_at r progress.now d.store) d) self.new) }
     {
         self.reports.amend_status(entry, progress)?;
-        put_off(
+        put_report_off(
             &mut self.queues,
-            message.source.digits,
+            &message.source.digits,
             entry.id,
-            0,
             progress.due,
         )?;
         Ok(())

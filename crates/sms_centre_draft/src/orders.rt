@@ -6,7 +6,6 @@ ghost use Rattle.sms_centre_spec.specs.Orders.{is_part_of as is_part_of_it, mess
 ghost use Rattle.sms_centre_draft.specs.CentreDraft.{Represents};
 
 use crate::centre_draft::CentreDraft;
-use crate::numbers::are_digits;
 use sms_base::MessageId;
 use sms_centre_rows::messages::MessageRow;
 use sms_centre_rows::waiting::QueuedPart;
@@ -29,15 +28,10 @@ fn parts_among(id: MessageId, all_queued: Vec<QueuedPart>) -> Vec<QueuedPart>
 
 impl<'a> CentreDraft<'a> {
     // The parts of the message that wait for its handset, in memory of its own.
-    #[tactic(auto, using(crate::proofs::NumbersThere::digits_there))]
     fn waiting_parts(&self, message: &MessageRow) -> Result<Vec<QueuedPart>, AllocError>
         ensures { (d : Draft) → Represents d self.now → message_at message.now.id (messages_in d.store) ≡ Some message.now
             → IfOk result (λ parts. parts.items ≡ parts_among_of message.now.id (waiting_in message.now.handset d.store)) }
     {
-        // A message is to a number.
-        if !are_digits(message.handset.as_slice()) {
-            return Ok(Vec::new(self.alloc));
-        }
         let all_queued = self.waiting(message.handset)?;
         Ok(parts_among(message.id, all_queued))
     }

@@ -1,7 +1,6 @@
 //! All that waits for a handset becomes due: it has memory (3GPP TS 24.011 7.3.2), or it can be reached.
 ghost use Rattle.std.specs.Prelude.{◌≡◌, ℕ, true, false, OnOk, IfOk};
 ghost use Rattle.sms_base.specs.Among.{Among};
-ghost use Rattle.sms_rows.specs.table.Keys.{AllDigits};
 ghost use Rattle.sms_centre_rows.specs.waiting.Links.{emptied, line_of, put_line, raised};
 ghost use Rattle.sms_centre_rows.specs.waiting.Trying.{due_at as due_at_of};
 ghost use Rattle.sms_centre_rows.specs.declared.waiting.queued_part.QueuedPart.{QueuedPart as QueuedOf};
@@ -16,7 +15,7 @@ ghost use Rattle.sms_centre_draft.specs.DueNow.{IsOpenQueued};
 ghost use Rattle.sms_centre_draft.specs.CentreDraft.{Represents};
 
 use crate::centre_draft::CentreDraft;
-use sms_base::{Digits, MessageId, Moment};
+use sms_base::{MessageId, Moment, Msisdn};
 use sms_centre_rows::waiting::{Progress, QueuedPart};
 use sms_intake::CentreAccount;
 use std::alloc::AllocError;
@@ -100,8 +99,7 @@ impl<'a> CentreDraft<'a> {
     }
 
     // What waits for the handset, in memory of its own.
-    pub(crate) fn waiting(&self, handset: Digits) -> Result<Vec<QueuedPart>, AllocError>
-        requires digits { AllDigits handset }
+    pub(crate) fn waiting(&self, handset: Msisdn) -> Result<Vec<QueuedPart>, AllocError>
         ensures { (d : Draft) → Represents d self.now → IfOk result (λ all_queued. all_queued.items ≡ waiting_in handset d.store) }
     {
         let all_queued = self.queues.waiting(&handset)?;
@@ -109,8 +107,7 @@ impl<'a> CentreDraft<'a> {
     }
 
     /// All that waits for the handset is due now.
-    pub fn due_now(&mut self, handset: Digits) -> Result<(), AllocError>
-        requires digits { AllDigits handset }
+    pub fn due_now(&mut self, handset: Msisdn) -> Result<(), AllocError>
         ensures { (d : Draft) → Represents d self.old → OnOk result (Represents (in_store (due_now_of handset d.store) d) self.new) }
     {
         let all_queued = self.waiting(handset)?;
@@ -118,8 +115,7 @@ impl<'a> CentreDraft<'a> {
     }
 
     // The handset has memory again.
-    fn empty(&mut self, handset: Digits) -> Result<(), AllocError>
-        requires digits { AllDigits handset }
+    fn empty(&mut self, handset: Msisdn) -> Result<(), AllocError>
         ensures { (d : Draft) → Represents d self.old → OnOk result (Represents (on_links (empty_line handset d.links) d) self.new) }
     {
         self.queues.empty(handset)?;
@@ -127,8 +123,7 @@ impl<'a> CentreDraft<'a> {
     }
 
     /// The handset has memory, and all that waits for it is due now.
-    pub fn has_memory(&mut self, handset: Digits) -> Result<(), AllocError>
-        requires digits { AllDigits handset }
+    pub fn has_memory(&mut self, handset: Msisdn) -> Result<(), AllocError>
         ensures { (d : Draft) → Represents d self.old → OnOk result (Represents (has_memory_of handset d) self.new) }
     {
         self.due_now(handset)?;
@@ -136,8 +131,7 @@ impl<'a> CentreDraft<'a> {
     }
 
     // The line of the handset is up.
-    fn raise_line(&mut self, handset: Digits) -> Result<(), AllocError>
-        requires digits { AllDigits handset }
+    fn raise_line(&mut self, handset: Msisdn) -> Result<(), AllocError>
         ensures { (d : Draft) → Represents d self.old → OnOk result
             (Represents (on_links (put_line (raised (line_of handset d.links.lines)) d.links) d) self.new) }
     {
@@ -146,8 +140,7 @@ impl<'a> CentreDraft<'a> {
     }
 
     /// The handset can be reached: it has memory, and all that waits for it is due now.
-    pub fn raise(&mut self, handset: Digits) -> Result<(), AllocError>
-        requires digits { AllDigits handset }
+    pub fn raise(&mut self, handset: Msisdn) -> Result<(), AllocError>
         ensures { (d : Draft) → Represents d self.old → OnOk result (Represents (raise_of handset d) self.new) }
     {
         self.due_now(handset)?;

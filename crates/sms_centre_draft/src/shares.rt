@@ -1,6 +1,5 @@
 //! How many of a handset's references an account holds.
 ghost use Rattle.std.specs.Prelude.{◌≡◌, ◌-◌, ◌*◌, ◌≤◌, nat_lt, length, IfOk};
-ghost use Rattle.sms_rows.specs.table.Keys.{AllDigits};
 ghost use Rattle.sms_centre_messages.specs.references.Counts.{one_if as one_if_of};
 ghost use Rattle.sms_centre_rows.specs.messages.Messages.{message_at};
 ghost use Rattle.sms_centre_spec.specs.Draft.{Draft, messages_in, waiting_in};
@@ -9,7 +8,7 @@ ghost use Rattle.sms_centre_spec.specs.Shares.{takes_too_much as takes_too_much_
 ghost use Rattle.sms_centre_draft.specs.CentreDraft.{Represents};
 
 use crate::centre_draft::CentreDraft;
-use sms_base::{Digits, Originator};
+use sms_base::{Msisdn, Originator};
 use sms_centre_rows::messages::MessageRow;
 use sms_centre_rows::waiting::QueuedPart;
 use sms_intake::Submission;
@@ -93,7 +92,6 @@ impl<'a> CentreDraft<'a> {
     /// Whether the account of the submission holds more than half of the handset's references that are free beside what
     /// others hold there. A handset's submission has no account.
     pub fn takes_too_much(&self, submission: &Submission) -> Result<bool, AllocError>
-        requires digits { AllDigits submission.now.handset }
         ensures { (d : Draft) → Represents d self.now → IfOk result (λ is. is
             ≡ takes_too_much_of submission.now.originator (messages_in d.store) (waiting_in submission.now.handset d.store)) }
     {

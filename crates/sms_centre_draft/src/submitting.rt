@@ -14,7 +14,6 @@ ghost use Rattle.sms_centre_draft.specs.Submitting.{Accepts, AreBodies, CanGive,
 ghost use Rattle.sms_centre_draft.specs.CentreDraft.{Represents};
 
 use crate::centre_draft::CentreDraft;
-use crate::queues::{give, put};
 use sms_base::{MessageId, Moment, Octets};
 use sms_centre_messages::message_index::copy_of_originator;
 use sms_centre_rows::messages::{MessageRow, PartRow, PriorityRow};
@@ -97,7 +96,8 @@ impl<'a> CentreDraft<'a> {
         let tpdu = deliver_octets(self.alloc, self.moment, submission, body)?;
         let row = part_of(id, number, reference, tpdu, body.key, submission.due);
         self.messages.put_part(row)?;
-        give(&mut self.queues, submission.handset, reference, self.moment)?;
+        self.queues
+            .give(submission.handset, reference, self.moment)?;
         let priority = submission.priority.level();
         let queued = QueuedPart {
             id,
@@ -106,7 +106,7 @@ impl<'a> CentreDraft<'a> {
             priority,
             due: submission.due,
         };
-        put(&mut self.queues, submission.handset, queued)?;
+        self.queues.put(submission.handset, queued)?;
         Ok(())
     }
 

@@ -3,7 +3,6 @@ ghost use Rattle.std.specs.Prelude.{◌≡◌, ℕ, Some, true, IfOk, OnOk};
 ghost use Rattle.sms_centre_rows.specs.messages.Messages.{all_done as all_done_of, message_at};
 ghost use Rattle.sms_centre_rows.specs.waiting.Links.{filled, line_of, put_line};
 ghost use Rattle.sms_centre_rows.specs.waiting.Trying.{finished as finished_of, one_more as one_more_of, tried as tried_of};
-ghost use Rattle.sms_rows.specs.table.Keys.{AllDigits};
 ghost use Rattle.sms_centre_reports.specs.open_reports.Entries.{open_entry, report_entry};
 ghost use Rattle.sms_rows.specs.index.Picked.{pick_of};
 ghost use Rattle.sms_centre_rows.specs.reports.Reports.{is_open_status, report_of};
@@ -15,7 +14,7 @@ ghost use Rattle.sms_centre_draft.specs.Transfers.{IsOpenPart, IsOpenStatus, wai
 ghost use Rattle.sms_centre_draft.specs.CentreDraft.{Represents};
 
 use crate::centre_draft::CentreDraft;
-use sms_base::{Digits, MessageId, Moment};
+use sms_base::{MessageId, Moment, Msisdn};
 use sms_centre_reports::open_reports::ReportEntry;
 use sms_centre_rows::messages::{MessageRow, PartEntry};
 use sms_centre_rows::waiting::Progress;
@@ -159,8 +158,7 @@ impl<'a> CentreDraft<'a> {
     }
 
     /// The handset has no memory.
-    pub fn fill(&mut self, handset: Digits) -> Result<(), AllocError>
-        requires digits { AllDigits handset }
+    pub fn fill(&mut self, handset: Msisdn) -> Result<(), AllocError>
         ensures { (d : Draft) → Represents d self.old → OnOk result
             (Represents (on_links (put_line (filled (line_of handset d.links.lines)) d.links) d) self.new) }
     {

@@ -2,5 +2,4 @@ pub mod Answering
 pub mod SubmitOutcomes
 pub mod Found
 pub mod Knowing
-pub mod Walking
 pub mod offering

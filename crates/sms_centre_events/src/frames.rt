@@ -2,7 +2,6 @@
 ghost use Rattle.std.specs.Prelude.{◌≡◌, IfOk, OnOk};
 ghost use Rattle.sms_link.specs.LinkTurn.{taken};
 ghost use Rattle.sms_centre_rows.specs.waiting.Links.{line_of, turn_line};
-ghost use Rattle.sms_centre_rows.specs.waiting.SoundAllocations.{IsNumber};
 ghost use Rattle.sms_intake.specs.declared.refusal.SubmitRefusal.TheVariants.{Congested};
 ghost use Rattle.sms_centre_spec.specs.CentreEvent.{frame_taken as frame_taken_of, went_up as went_up_of};
 ghost use Rattle.sms_centre_spec.specs.Draft.{Draft, on_links};
@@ -13,7 +12,7 @@ ghost use Rattle.sms_centre_events.specs.Knowing.{Knows};
 ghost use Rattle.sms_centre_draft.specs.CentreDraft.{Represents};
 
 use crate::units::{FrameOutcome, unit_received};
-use sms_base::{Carried, Digits, Holder};
+use sms_base::{Carried, Holder, Msisdn};
 use sms_centre_draft::CentreDraft;
 use sms_centre_messages::message_index::MessageIndex;
 use sms_centre_messages::references::ReferenceIndex;
@@ -24,12 +23,11 @@ use std::alloc::AllocError;
 // The transfer to the handset has ended so.
 fn conclude(
     draft: &mut CentreDraft<'_>,
-    handset: Digits,
+    handset: Msisdn,
     tag: Holder,
     transfer: &Carried,
     ending: &Ending,
 ) -> Result<FrameOutcome, AllocError>
-    requires number { IsNumber handset }
     ensures { (d : Draft) → Represents d draft.old → IfOk result (LeadsTo (conclude_of handset transfer.now ending.now d) handset tag d draft.new) }
 {
     sms_centre_transfers::conclude(draft, handset, transfer, ending)?;
@@ -41,11 +39,10 @@ fn went_up(
     draft: &mut CentreDraft<'_>,
     message_index: &MessageIndex,
     reference_index: &ReferenceIndex,
-    handset: Digits,
+    handset: Msisdn,
     tag: Holder,
     up: Option<Upward>,
 ) -> Result<FrameOutcome, AllocError>
-    requires number { IsNumber handset }
     ensures { (d : Draft) → Represents d draft.old → Knows message_index.now reference_index.now d.store
         → IfOk result (LeadsTo (went_up_of handset tag up d) handset tag d draft.new) }
 {
@@ -71,11 +68,10 @@ pub fn frame_taken(
     draft: &mut CentreDraft<'_>,
     message_index: &MessageIndex,
     reference_index: &ReferenceIndex,
-    handset: Digits,
+    handset: Msisdn,
     octets: &[u8],
     tag: Holder,
 ) -> Result<FrameOutcome, AllocError>
-    requires number { IsNumber handset }
     ensures { (d : Draft) → Represents d draft.old → Knows message_index.now reference_index.now d.store
         → IfOk result (LeadsTo (frame_taken_of octets.now tag (line_of handset d.links.lines) d) handset tag
         (on_links (turn_line (line_of handset d.links.lines) (taken octets.now (line_of handset d.links.lines).link) d.links) d) draft.new) }
@@ -87,12 +83,11 @@ pub fn frame_taken(
 /// Takes the frame, and refuses the SUBMIT under that reference for want of references.
 pub fn frame_refused(
     draft: &mut CentreDraft<'_>,
-    handset: Digits,
+    handset: Msisdn,
     octets: &[u8],
     tag: Holder,
     reference: u8,
 ) -> Result<(), AllocError>
-    requires number { IsNumber handset }
     ensures { (d : Draft) → Represents d draft.old
         → OnOk result (Represents (refuse_of handset reference tag Congested
         (on_links (turn_line (line_of handset d.links.lines) (taken octets.now (line_of handset d.links.lines).link) d.links) d)) draft.new) }

@@ -1,12 +1,11 @@
 //! Transfers that end by the loss of the link, or by a timer.
 ghost use Rattle.std.specs.Prelude.{OnOk};
-ghost use Rattle.sms_rows.specs.table.Keys.{AllDigits};
 ghost use Rattle.sms_centre_rows.specs.waiting.Links.{line_of};
 ghost use Rattle.sms_centre_spec.specs.CentreEvent.{fire_line as fire_line_of, lost as lost_of, lower as lower_of, timed_out as timed_out_of};
 ghost use Rattle.sms_centre_spec.specs.Draft.{Draft};
 ghost use Rattle.sms_centre_draft.specs.CentreDraft.{Represents};
 
-use sms_base::{Carried, Digits};
+use sms_base::{Carried, Msisdn};
 use sms_centre_draft::CentreDraft;
 use sms_centre_transfers::conclude;
 use sms_link::{Ending, Upward};
@@ -15,10 +14,9 @@ use std::alloc::AllocError;
 // What was under way to the handset has failed.
 fn lost(
     draft: &mut CentreDraft<'_>,
-    handset: Digits,
+    handset: Msisdn,
     transfer: Option<Carried>,
 ) -> Result<(), AllocError>
-    requires digits { AllDigits handset }
     ensures { (d : Draft) → Represents d draft.old → OnOk result (Represents (lost_of handset transfer d) draft.new) }
 {
     match transfer {
@@ -28,8 +26,7 @@ fn lost(
 }
 
 /// The handset can't be reached: what was under way has failed, and the next connection is a new one.
-pub fn lower(draft: &mut CentreDraft<'_>, handset: Digits) -> Result<(), AllocError>
-    requires digits { AllDigits handset }
+pub fn lower(draft: &mut CentreDraft<'_>, handset: Msisdn) -> Result<(), AllocError>
     ensures { (d : Draft) → Represents d draft.old → OnOk result (Represents (lower_of handset d) draft.new) }
 {
     let transfer = draft.under_way(handset);
@@ -40,10 +37,9 @@ pub fn lower(draft: &mut CentreDraft<'_>, handset: Digits) -> Result<(), AllocEr
 // A transfer to the handset that a timer ended has failed.
 fn timed_out(
     draft: &mut CentreDraft<'_>,
-    handset: Digits,
+    handset: Msisdn,
     up: Option<Upward>,
 ) -> Result<(), AllocError>
-    requires digits { AllDigits handset }
     ensures { (d : Draft) → Represents d draft.old → OnOk result (Represents (timed_out_of handset up d) draft.new) }
 {
     match up {
@@ -53,8 +49,7 @@ fn timed_out(
 }
 
 /// The timers of the handset's line fire that are due; a transfer that one of them ends has failed.
-pub fn fire(draft: &mut CentreDraft<'_>, handset: Digits) -> Result<(), AllocError>
-    requires digits { AllDigits handset }
+pub fn fire(draft: &mut CentreDraft<'_>, handset: Msisdn) -> Result<(), AllocError>
     ensures { (d : Draft) → Represents d draft.old → OnOk result (Represents (fire_line_of (line_of handset d.links.lines) d) draft.new) }
 {
     let up = draft.fire_timers(handset)?;

@@ -7,7 +7,6 @@ ghost use Rattle.sms_centre_events.specs.Knowing.{Knows};
 ghost use Rattle.sms_centre_messages.specs.references.ReferenceIndex.{Represents as ReferencesRepresent};
 ghost use Rattle.sms_centre_spec.specs.Draft.{Draft, Store, bars_in, in_store, messages_in, parts_in, rows_of};
 ghost use Rattle.sms_centre_spec.specs.MessageNumbers.{next_number as next_number_of};
-ghost use Rattle.sms_rows.specs.table.Keys.{AllDigits};
 ghost use Rattle.sms_centre_spec.specs.Shares.{unless_too_much};
 ghost use Rattle.sms_centre_spec.specs.Requests.{accepted as accepted_of, refused as refused_of, submission_received as submission_received_of};
 ghost use Rattle.sms_centre_spec.specs.Requests.{submit as submit_of, submit_by as submit_by_of};
@@ -55,7 +54,6 @@ fn entered_as(
     id: MessageId,
     submission: &Submission,
 ) -> Result<SubmitOutcome, AllocError>
-    requires digits { AllDigits submission.now.handset }
     ensures { (d : Draft) (s : Store) → DraftRepresents (in_store s d) draft.old
         → IfOk result (LeadsTo (accepted_of id (unless_too_much submission.now (Some s)) d) d draft.new) }
 {

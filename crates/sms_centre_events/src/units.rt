@@ -6,7 +6,6 @@ ghost use Rattle.sms_tpdu.specs.TpduReading.{up_at as tpdu_up_at};
 ghost use Rattle.sms_tpdu.specs.declared.carrier.Carrier.TheVariants.{InData};
 ghost use Rattle.sms_intake.specs.HandsetIntake.{from_read};
 ghost use Rattle.sms_centre_messages.specs.message_index.MessageIndex.{Represents as MessagesRepresent};
-ghost use Rattle.sms_centre_rows.specs.waiting.SoundAllocations.{IsNumber};
 ghost use Rattle.sms_centre_spec.specs.Draft.{Draft, messages_in, parts_in};
 ghost use Rattle.sms_centre_spec.specs.Receiving.{data_received as data_received_of, memory_available as memory_available_of, refuse as refuse_of};
 ghost use Rattle.sms_centre_spec.specs.Receiving.{reject as reject_of, submit_accepted as submit_accepted_of, submit_received as submit_received_of};
@@ -19,7 +18,7 @@ ghost use Rattle.sms_centre_draft.specs.CentreDraft.{Represents as DraftRepresen
 
 use crate::asking::{is_duplicate, is_reference_taken};
 use crate::single::accept_single;
-use sms_base::{Digits, Holder};
+use sms_base::{Holder, Msisdn};
 use sms_centre_draft::CentreDraft;
 use sms_centre_messages::message_index::MessageIndex;
 use sms_centre_messages::references::ReferenceIndex;
@@ -40,12 +39,11 @@ pub enum FrameOutcome {
 fn submit_accepted(
     draft: &mut CentreDraft<'_>,
     message_index: &MessageIndex,
-    handset: Digits,
+    handset: Msisdn,
     reference: u8,
     tag: Holder,
     submission: &Submission,
 ) -> Result<FrameOutcome, AllocError>
-    requires number { IsNumber handset }
     requires submission { IsSubmission submission.now }
     requires single { IsSingle submission.now.text }
     ensures { (d : Draft) → DraftRepresents d draft.old → MessagesRepresent message_index.now (messages_in d.store) (parts_in d.store)
@@ -62,12 +60,11 @@ fn submit_accepted(
 // The SUBMIT is refused.
 fn refuse(
     draft: &mut CentreDraft<'_>,
-    handset: Digits,
+    handset: Msisdn,
     reference: u8,
     tag: Holder,
     refusal: SubmitRefusal,
 ) -> Result<FrameOutcome, AllocError>
-    requires number { IsNumber handset }
     ensures { (d : Draft) → DraftRepresents d draft.old → IfOk result (LeadsTo (refuse_of handset reference tag refusal d) handset tag d draft.new) }
 {
     draft.refuse(handset, reference, tag, refusal)?;
@@ -79,12 +76,11 @@ fn submit_received(
     draft: &mut CentreDraft<'_>,
     message_index: &MessageIndex,
     reference_index: &ReferenceIndex,
-    handset: Digits,
+    handset: Msisdn,
     reference: u8,
     tag: Holder,
     submission: &Submission,
 ) -> Result<FrameOutcome, AllocError>
-    requires number { IsNumber handset }
     requires submission { IsSubmission submission.now }
     requires single { IsSingle submission.now.text }
     ensures { (d : Draft) → DraftRepresents d draft.old → Knows message_index.now reference_index.now d.store
@@ -110,15 +106,15 @@ fn data_received(
     draft: &mut CentreDraft<'_>,
     message_index: &MessageIndex,
     reference_index: &ReferenceIndex,
-    handset: Digits,
+    handset: Msisdn,
     reference: u8,
     tag: Holder,
     tpdu: &[u8],
 ) -> Result<FrameOutcome, AllocError>
-    requires number { IsNumber handset }
     ensures { (d : Draft) → DraftRepresents d draft.old → Knows message_index.now reference_index.now d.store
         → IfOk result (LeadsTo (data_received_of handset reference tag tpdu.now d) handset tag d draft.new) }
 {
+    handset.spells_a_number();
     let now = draft.now();
     let accounts = draft.accounts();
     let read = from_submit(draft.alloc(), accounts, handset, now, tpdu);
@@ -140,11 +136,10 @@ fn data_received(
 // RP-SMMA.
 fn memory_available(
     draft: &mut CentreDraft<'_>,
-    handset: Digits,
+    handset: Msisdn,
     reference: u8,
     tag: Holder,
 ) -> Result<FrameOutcome, AllocError>
-    requires number { IsNumber handset }
     ensures { (d : Draft) → DraftRepresents d draft.old → IfOk result (LeadsTo (memory_available_of handset reference tag d) handset tag d draft.new) }
 {
     draft.memory_available(handset, reference, tag)?;
@@ -154,12 +149,11 @@ fn memory_available(
 // A unit that can't be read.
 fn reject(
     draft: &mut CentreDraft<'_>,
-    handset: Digits,
+    handset: Msisdn,
     reference: u8,
     tag: Holder,
     cause: RpCause,
 ) -> Result<FrameOutcome, AllocError>
-    requires number { IsNumber handset }
     requires cause { IsRpCause cause }
     ensures { (d : Draft) → DraftRepresents d draft.old → IfOk result (LeadsTo (reject_of handset reference tag cause d) handset tag d draft.new) }
 {
@@ -172,11 +166,10 @@ pub(crate) fn unit_received(
     draft: &mut CentreDraft<'_>,
     message_index: &MessageIndex,
     reference_index: &ReferenceIndex,
-    handset: Digits,
+    handset: Msisdn,
     tag: Holder,
     unit: &[u8],
 ) -> Result<FrameOutcome, AllocError>
-    requires number { IsNumber handset }
     ensures { (d : Draft) → DraftRepresents d draft.old → Knows message_index.now reference_index.now d.store
         → IfOk result (LeadsTo (unit_received_of handset tag unit.now (up_at unit.now) d) handset tag d draft.new) }
 {

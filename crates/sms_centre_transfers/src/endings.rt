@@ -5,7 +5,6 @@ ghost use Rattle.sms_centre_rows.specs.messages.PartEntries.{part_entry};
 ghost use Rattle.sms_centre_rows.specs.declared.messages.part.PartRow.{PartRow as PartRowOf};
 ghost use Rattle.sms_centre_rows.specs.waiting.Trying.{finished as finished_of};
 ghost use Rattle.sms_base.specs.declared.holder.Holder.TheVariants.{Part, Report};
-ghost use Rattle.sms_rows.specs.table.Keys.{AllDigits};
 ghost use Rattle.sms_centre_rows.specs.declared.reports.report.ReportRow.{ReportRow as ReportRowOf};
 ghost use Rattle.sms_centre_spec.specs.Draft.{Draft, in_store, messages_in, on_links, parts_in, with_part_at};
 ghost use Rattle.sms_centre_spec.specs.Transfers.{complete as complete_of, conclude as conclude_of, ended_with as ended_with_of, line_ended as line_ended_of};
@@ -13,7 +12,7 @@ ghost use Rattle.sms_centre_spec.specs.Transfers.{part_ended as part_ended_of, v
 ghost use Rattle.sms_centre_draft.specs.Transfers.{IsReporting, IsWaiting};
 ghost use Rattle.sms_centre_draft.specs.CentreDraft.{Represents};
 
-use sms_base::{Carried, Digits, FinalState, Holder, MessageId};
+use sms_base::{Carried, FinalState, Holder, MessageId, Msisdn};
 use sms_centre_draft::{CentreDraft, finished, tried};
 use sms_centre_reports::open_reports::ReportEntry;
 use sms_centre_rows::messages::{MessageRow, PartEntry};
@@ -69,9 +68,8 @@ fn part_ended(
 fn line_ended(
     draft: &mut CentreDraft<'_>,
     verdict: Verdict,
-    handset: Digits,
+    handset: Msisdn,
 ) -> Result<(), AllocError>
-    requires digits { AllDigits handset }
     ensures { (d : Draft) → Represents d draft.old → OnOk result (Represents (on_links (line_ended_of verdict handset d.links) d) draft.new) }
 {
     match verdict {
@@ -83,14 +81,13 @@ fn line_ended(
 // The transfer of a part that waits has ended so.
 fn part_ended_at(
     draft: &mut CentreDraft<'_>,
-    handset: Digits,
+    handset: Msisdn,
     id: MessageId,
     number: u8,
     ending: &Ending,
     entry: &PartEntry,
     message: &MessageRow,
 ) -> Result<(), AllocError>
-    requires digits { AllDigits handset }
     ensures { (d : Draft) (p : PartRowOf) → Represents d draft.old → IsWaiting id number entry.now message.now d.store p
         → OnOk result (Represents (ended_with_of (verdict_on_ending (Part id number) ending.now d.store) handset (Part id number) d) draft.new) }
 {
@@ -102,13 +99,12 @@ fn part_ended_at(
 // The transfer of an open status report has ended so.
 fn status_ended_at(
     draft: &mut CentreDraft<'_>,
-    handset: Digits,
+    handset: Msisdn,
     id: MessageId,
     ending: &Ending,
     entry: &ReportEntry,
     message: &MessageRow,
 ) -> Result<(), AllocError>
-    requires digits { AllDigits handset }
     ensures { (d : Draft) (r : ReportRowOf) → Represents d draft.old → IsReporting id entry.now message.now d.store r
         → OnOk result (Represents (ended_with_of (verdict_on_ending (Report id) ending.now d.store) handset (Report id) d) draft.new) }
 {
@@ -120,12 +116,11 @@ fn status_ended_at(
 // The transfer of a part has ended.
 fn part_concluded(
     draft: &mut CentreDraft<'_>,
-    handset: Digits,
+    handset: Msisdn,
     id: MessageId,
     number: u8,
     ending: &Ending,
 ) -> Result<(), AllocError>
-    requires digits { AllDigits handset }
     ensures { (d : Draft) → Represents d draft.old
         → OnOk result (Represents (ended_with_of (verdict_on_ending (Part id number) ending.now d.store) handset (Part id number) d) draft.new) }
 {
@@ -140,11 +135,10 @@ fn part_concluded(
 // The transfer of a status report has ended.
 fn status_concluded(
     draft: &mut CentreDraft<'_>,
-    handset: Digits,
+    handset: Msisdn,
     id: MessageId,
     ending: &Ending,
 ) -> Result<(), AllocError>
-    requires digits { AllDigits handset }
     ensures { (d : Draft) → Represents d draft.old
         → OnOk result (Represents (ended_with_of (verdict_on_ending (Report id) ending.now d.store) handset (Report id) d) draft.new) }
 {
@@ -157,11 +151,10 @@ fn status_concluded(
 /// The transfer to the handset has ended so; it concerns what it was for.
 pub fn conclude(
     draft: &mut CentreDraft<'_>,
-    handset: Digits,
+    handset: Msisdn,
     transfer: &Carried,
     ending: &Ending,
 ) -> Result<(), AllocError>
-    requires digits { AllDigits handset }
     ensures { (d : Draft) → Represents d draft.old → OnOk result (Represents (conclude_of handset transfer.now ending.now d) draft.new) }
 {
     match transfer.tag {

@@ -1,12 +1,14 @@
 //! A SUBMIT from a handset.
-ghost use Rattle.std.specs.Prelude.{◌≡◌, IfOk, Err};
+ghost use Rattle.std.specs.Prelude.{◌≡◌, true, IfOk, Err};
+ghost use Rattle.sms_base.specs.Address.{IsAddress};
+ghost use Rattle.sms_base.specs.HandsetNumber.{names_handset};
 ghost use Rattle.sms_tpdu.specs.TpduReading.{up_at};
 ghost use Rattle.sms_tpdu.specs.declared.carrier.Carrier.TheVariants.{InData};
 ghost use Rattle.sms_intake.specs.HandsetIntake.{AnswersIntake, from_read, from_submit, is_of_account, is_past, submission_of, wish_of};
 
 use crate::refusal::{SubmitError, SubmitRefusal};
 use crate::submission::{CentreAccount, SinglePart, Submission, Text};
-use sms_base::{Address, Digits, Moment, Octets, Originator, Priority, Wish};
+use sms_base::{Address, Digits, Moment, Msisdn, Octets, Originator, Priority, Wish};
 use sms_concat::header_key;
 use sms_tpdu::{Carrier, Submit, Up, ValidityPeriod, read_up, validity};
 use std::alloc::{AllocError, Global};
@@ -31,13 +33,27 @@ fn wish_of(status_report_request: bool) -> Wish
     }
 }
 
+// The handset that the destination names.
+fn handset_at(destination: &Address) -> Msisdn
+    requires valid { IsAddress destination.now }
+    requires named { names_handset destination.now ≡ true }
+    ensures { result ≡ destination.now.digits }
+{
+    match destination.handset() {
+        Some(handset) => handset,
+        None => unreachable!(),
+    }
+}
+
 // The submission that the SUBMIT is.
 fn submission_of(
     alloc: Global,
-    from: Digits,
+    from: Msisdn,
     now: Moment,
     submit: &Submit<'_>,
 ) -> Result<Submission, AllocError>
+    requires valid { IsAddress submit.now.destination_address }
+    requires named { names_handset submit.now.destination_address ≡ true }
     ensures { IfOk result (λ s. s ≡ submission_of from now submit.now) }
 {
     let octets = submit.user_data.octets.as_slice();
@@ -45,8 +61,8 @@ fn submission_of(
         originator: Originator::Handset {
             message_reference: submit.message_reference,
         },
-        source: Address::of_handset(from),
-        handset: submit.destination_address.digits,
+        source: Address::of_handset(from.digits()),
+        handset: handset_at(&submit.destination_address),
         protocol_identifier: submit.protocol_identifier,
         reply_path: submit.reply_path,
         wish: wish_of(submit.status_report_request),
@@ -80,10 +96,11 @@ fn is_of_account(digits: &Digits, accounts: &[CentreAccount]) -> bool
 fn accepted(
     alloc: Global,
     accounts: &[CentreAccount],
-    from: Digits,
+    from: Msisdn,
     now: Moment,
     submit: &Submit<'_>,
 ) -> Result<Submission, SubmitError>
+    requires { IsAddress submit.now.destination_address }
     ensures { AnswersIntake result (from_submit accounts.now from now submit.now) }
 {
     if !submit.destination_address.names_handset() {
@@ -99,14 +116,14 @@ fn accepted(
     Ok(submission)
 }
 
-/// The submission of what a handset with these digits sent in RP-DATA, or the first refusal. Refused are a TPDU that is
+/// The submission of what the handset sent in RP-DATA, or the first refusal. Refused are a TPDU that is
 /// unreadable or no SUBMIT, a destination that is no handset, one that is an account's number, and a limit that is past.
 ///
 /// Takes memory once, for the user data of what is accepted.
 pub fn from_submit(
     alloc: Global,
     accounts: &[CentreAccount],
-    from: Digits,
+    from: Msisdn,
     now: Moment,
     tpdu: &[u8],
 ) -> Result<Submission, SubmitError>

@@ -1,9 +1,10 @@
 //! The addresses of a submit_sm.
-ghost use Rattle.std.specs.Prelude.{◌≡◌};
+ghost use Rattle.std.specs.Prelude.{◌≡◌, IfSome, Some};
+ghost use Rattle.sms_base.specs.Address.{IsAddress};
 ghost use Rattle.sms_intake.specs.SmppIntake.{address_in, handset_named, is_ascii, source_in};
 
 use smpp_pdu::{CommandStatus, SmeAddress};
-use sms_base::{Address, Digits};
+use sms_base::{Address, Msisdn};
 
 pub(crate) fn is_ascii(octets: &[u8]) -> bool
     ensures { result ≡ is_ascii octets.now }
@@ -13,7 +14,8 @@ pub(crate) fn is_ascii(octets: &[u8]) -> bool
 
 /// The address that an entity of a PDU names, if it is one in ASCII.
 pub fn address_in(entity: &SmeAddress<'_>) -> Option<Address>
-    ensures { result ≡ address_in entity.now }
+    ensures is { result ≡ address_in entity.now }
+    ensures valid { IfSome result (λ address. IsAddress address) }
 {
     let octets = entity.addr.as_slice();
     if !is_ascii(octets) {
@@ -35,12 +37,20 @@ pub fn source_in(own: &Address, entity: &SmeAddress<'_>) -> Option<Address>
     address_in(entity)
 }
 
-// The digits of the handset that a destination names.
-pub(crate) fn handset_in(entity: &SmeAddress<'_>) -> Result<Digits, CommandStatus>
+// The number of the handset that the address names.
+fn named_by(address: &Address) -> Result<Msisdn, CommandStatus>
+    requires { IsAddress address.now }
+    ensures { result ≡ handset_named (Some address.now) }
+{
+    address.handset().ok_or(CommandStatus::ESME_RINVDSTADR)
+}
+
+// The number of the handset that a destination names.
+pub(crate) fn handset_in(entity: &SmeAddress<'_>) -> Result<Msisdn, CommandStatus>
     ensures { result ≡ handset_named (address_in entity.now) }
 {
     match address_in(entity) {
-        Some(address) if address.names_handset() => Ok(address.digits),
-        _ => Err(CommandStatus::ESME_RINVDSTADR),
+        Some(address) => named_by(&address),
+        None => Err(CommandStatus::ESME_RINVDSTADR),
     }
 }

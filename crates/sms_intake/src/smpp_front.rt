@@ -6,15 +6,15 @@ use crate::allowed_source::permitted_source;
 use crate::smpp_address::{handset_in, source_in};
 use crate::submission::CentreAccount;
 use smpp_pdu::{CommandStatus, Message, Tlvs};
-use sms_base::{Address, Digits, OctetView};
+use sms_base::{Address, Msisdn, OctetView};
 
 /// The source of a message, and its handset.
 #[derive(Clone, Copy, PartialEq, Eq)]
 pub struct Front {
     /// The source, the account's address where none is given.
     pub source: Address,
-    /// The digits of the destination.
-    pub handset: Digits,
+    /// The number of the destination.
+    pub handset: Msisdn,
 }
 
 // Whether a value has that many octets, if it is there.

@@ -1,6 +1,6 @@
 //! What is submitted.
 use crate::allowed_source::AllowedSource;
-use sms_base::{Address, Digits, Listed, Moment, Octets, Originator, Priority, Wish};
+use sms_base::{Address, Listed, Moment, Msisdn, Octets, Originator, Priority, Wish};
 use sms_concat::{ConcatKey, Content};
 
 /// An application's account.
@@ -44,8 +44,8 @@ pub struct Submission {
     pub originator: Originator,
     /// TP-OA of its parts.
     pub source: Address,
-    /// The digits 0 to 9 of its handset.
-    pub handset: Digits,
+    /// The number of its handset.
+    pub handset: Msisdn,
     /// TP-PID.
     pub protocol_identifier: u8,
     /// TP-RP.

@@ -11,7 +11,6 @@ ghost use Rattle.sms_centre_reports.specs.report_log.Reporting.{message_lines, r
 ghost use Rattle.sms_store_memory.specs.centre.RowsInKeep.{rows_in};
 ghost use Rattle.sms_centre_spec.specs.CentreEvent.{happened, recovered};
 ghost use Rattle.sms_centre_spec.specs.Draft.{Core, core_of};
-ghost use Rattle.sms_centre_spec.specs.SoundCore.{HasNumber};
 ghost use Rattle.sms_player.specs.heads.Heads.{AreHandsets};
 ghost use Rattle.sms_centre_rows.specs.messages.Messages.{message_at, part_at};
 ghost use Rattle.sms_play.specs.CentreSide.{given_by};
@@ -28,7 +27,7 @@ pub use crate::heads::{
     HandsetOutcome, PlayedHandset, centre_setup, joined_lines, judge, numbers_of, outbox_lines,
     with_parties,
 };
-use sms_base::{Digits, Listed, MessageId};
+use sms_base::{Listed, MessageId, Msisdn};
 pub use sms_centre::{Centre, CentreAnswer, CentreEvent, Outputs, Setup as CentreSetup};
 use sms_centre_rows::messages::MessageRow;
 use sms_intake::CentreAccount;
@@ -45,7 +44,7 @@ pub struct PlayedCentre<'a> {
     alloc: Global,
     centre: &'a mut Centre,
     keep: &'a mut MemoryKeep,
-    handsets: &'a [Digits],
+    handsets: &'a [Msisdn],
 }
 
 impl<'a> Model for PlayedCentre<'a> {
@@ -66,7 +65,7 @@ impl<'a> PlayedCentre<'a> {
         alloc: Global,
         centre: &'a mut Centre,
         keep: &'a mut MemoryKeep,
-        handsets: &'a [Digits],
+        handsets: &'a [Msisdn],
     ) -> PlayedCentre<'a>
         requires consistent { IsSomeCentre centre.old (rows_in keep.old) }
         requires handsets { AreHandsets handsets.now }
@@ -142,7 +141,6 @@ impl<'a> PlayedCentre<'a> {
         event: &CentreEvent<'_>,
         given: &mut Listed<GivenRow>,
     ) -> Result<Outputs, AllocError>
-        requires { HasNumber event.now }
         ensures outputs { (c : Core) → Represents c self.old.centre self.old.rows → IfOk result (AreOutputs (happened event.now c)) }
         ensures played { (c : Core) → Represents c self.old.centre self.old.rows
             → OnOk result (Represents (core_of (happened event.now c)) self.new.centre self.new.rows) }

@@ -79,7 +79,7 @@ pub fn outbox_lines(
 {
     let mut lines = Listed::new(alloc);
     for party in parties {
-        put_outbox(party.number(), party.outbox(), &mut lines)?;
+        put_outbox(party.number().digits(), party.outbox(), &mut lines)?;
     }
     Ok(lines)
 }

@@ -15,7 +15,7 @@ ghost use Rattle.sms_player_handset.specs.Meeting.{Meets};
 use crate::laws::{only_ticks_advance_time, rows_rest_on_the_changes};
 use crate::notes::{History, note_entries, note_history, note_memories};
 use crate::stored_handset::StoredHandset;
-use sms_base::{Address, Digits, Listed, Moment};
+use sms_base::{Address, Digits, Listed, Moment, Msisdn};
 use sms_handset::{HandsetEvent, Plan, PlanError, Refusal, Setup};
 use sms_handset_rows::outbox::OutEntry;
 use sms_link::Outgoing;
@@ -27,21 +27,17 @@ use std::marker::Model;
 #[derive(Drop)]
 pub struct PlayedHandset {
     alloc: Global,
-    number: Digits,
+    number: Msisdn,
     stored: StoredHandset,
     history: History,
 }
 
 impl Model for PlayedHandset {
-    ghost use Rattle.sms_base.specs.Address.{IsAddress};
-    ghost use Rattle.sms_base.specs.HandsetNumber.{own_address};
     ghost use Rattle.sms_play.specs.PlayState.{Party};
 
     ghost Value = { Party };
 
     ghost view = { λ h. record { number = h.number; core = h.stored.core; accepted = h.history.accepted; joined = h.history.joined } };
-
-    ghost invariant = { λ h. IsAddress (own_address h.number) };
 }
 
 /// What a handset did with an event.
@@ -130,13 +126,12 @@ impl PlayedHandset {
     /// The handset as a script begins, on a new store of so many slots.
     pub fn new(
         alloc: Global,
-        number: Digits,
+        number: Msisdn,
         slots: u8,
         centre: Address,
         start: Moment,
     ) -> Result<PlayedHandset, AllocError>
         requires slots { 0 < slots }
-        requires number { IsAddress (own_address number) }
         requires centre { IsAddress centre }
         ensures { IfOk result (λ handset. handset ≡ record {
           number = number;
@@ -145,8 +140,9 @@ impl PlayedHandset {
           joined = [];
         }) }
     {
+        number.spells_a_number();
         let setup = Setup {
-            number: Address::of_handset(number),
+            number: Address::of_handset(number.digits()),
             slots,
             centre,
             start,
@@ -164,10 +160,11 @@ impl PlayedHandset {
     }
 
     /// The handset's number, which can be written as the address of a handset.
-    pub fn number(&self) -> Digits
+    pub fn number(&self) -> Msisdn
         ensures number { result ≡ self.now.number }
         ensures address { IsAddress (own_address result) }
     {
+        self.number.spells_a_number();
         self.number
     }
 
@@ -207,7 +204,7 @@ impl PlayedHandset {
         match self.stored.plan(event) {
             Ok(planned) => carry_out(
                 self.alloc,
-                self.number,
+                self.number.digits(),
                 moment,
                 &mut self.stored,
                 planned,

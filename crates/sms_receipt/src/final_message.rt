@@ -1,5 +1,5 @@
 //! A message that ended.
-use sms_base::{Address, Digits, FinalState, MessageId, Moment};
+use sms_base::{Address, FinalState, MessageId, Moment, Msisdn};
 
 /// What a report says of a message that ended.
 #[derive(Clone, Copy, PartialEq, Eq)]
@@ -8,8 +8,8 @@ pub struct Final {
     pub id: MessageId,
     /// Who submitted it.
     pub source: Address,
-    /// The digits 0 to 9 of its handset.
-    pub handset: Digits,
+    /// The number of its handset.
+    pub handset: Msisdn,
     /// TP-MR of the SUBMIT of a handset; 0 of an application's message.
     pub message_reference: u8,
     /// When it was accepted.

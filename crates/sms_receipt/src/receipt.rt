@@ -120,8 +120,8 @@ pub fn receipt_of(alloc: Global, end: &Final) -> Result<Receipt, AllocError>
     ensures { IfOk result (λ receipt. receipt ≡ receipt_of end.now) }
 {
     Ok(Receipt {
-        source: Address::of_handset(end.handset),
-        source_text: ascii_of(alloc, &end.handset)?,
+        source: Address::of_handset(end.handset.digits()),
+        source_text: ascii_of(alloc, &end.handset.digits())?,
         destination: end.source,
         destination_text: ascii_of(alloc, &end.source.digits)?,
         text: receipt_text(alloc, end)?,

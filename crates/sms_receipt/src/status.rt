@@ -30,7 +30,7 @@ pub fn status_report_of(end: &Final) -> StatusReport<'static>
         status_report_qualifier: false,
         user_data_header_indicator: false,
         message_reference: end.message_reference,
-        recipient_address: Address::of_handset(end.handset),
+        recipient_address: Address::of_handset(end.handset.digits()),
         service_centre_time_stamp: end.submitted,
         discharge_time: end.done,
         status: status_of(end.state).octet(),
@@ -44,8 +44,8 @@ pub fn status_report_of(end: &Final) -> StatusReport<'static>
 
 /// The octets of the status report, at most 29. Takes memory once.
 pub fn status_report_octets(alloc: Global, end: &Final) -> Result<Octets, AllocError>
-    requires { IsAddress (own_address end.now.handset) }
     ensures { IfOk result (λ octets. octets ≡ status_octets end.now) }
 {
+    end.handset.spells_a_number();
     write_status_report(alloc, &status_report_of(end))
 }

@@ -1,12 +1,11 @@
 //! What a centre that starts with no rows does with one frame.
 ghost use Rattle.std.specs.Prelude.{◌≡◌, ℕ, [], List, IfOk};
-ghost use Rattle.sms_base.specs.Among.{Among};
 ghost use Rattle.sms_base.specs.HandsetNumber.{own_address};
 ghost use Rattle.sms_base.specs.declared.address.Address.{Address as AddressOf};
 ghost use Rattle.sms_centre.specs.state.CentreState.{Represents};
 ghost use Rattle.sms_centre.specs.plans.EventOutcome.{AreOutputs};
 ghost use Rattle.sms_centre_spec.specs.CentreEvent.{happened, started};
-ghost use Rattle.sms_centre_spec.specs.SoundCore.{AreDifferent, HasNumber};
+ghost use Rattle.sms_centre_spec.specs.SoundCore.{AreDifferent};
 ghost use Rattle.sms_centre_spec.specs.SoundRows.{IsSound, first_rows as first_rows_of};
 ghost use Rattle.sms_base.specs.Address.{IsAddress};
 ghost use Rattle.sms_base.specs.TimeStamp.{IsMoment};
@@ -15,18 +14,16 @@ ghost use Rattle.sms_centre_spec.specs.declared.setup.Setup.{Setup as SetupOf};
 ghost use Rattle.sms_relay.specs.RelayReading.{up_at};
 ghost use Rattle.sms_relay_run.specs.relay_laws.Relay.{IsRelayed};
 ghost use Rattle.sms_relay_run.specs.relay_laws.Relaying.{Relays, destination_of, frame_for, handsets_for, setup_for};
-ghost use Rattle.sms_centre_rows.specs.waiting.SoundAllocations.{IsNumber};
 
 use crate::bodies::NoBodies;
 use crate::relay_laws::{Relayed, setup_for, units_in};
-use sms_base::{Address, Digits, Moment, OctetView};
+use sms_base::{Address, Moment, Msisdn, OctetView};
 use sms_centre::{Centre, CentreEvent, Outputs, RecoverError, Rows, first_rows, with_centre};
 use sms_rows::table::Table;
 use std::alloc::{AllocError, Global};
 
 // The outputs of the centre for the event. Its store refuses nothing, so only memory can be wanting.
 fn plan_and_adopt(centre: &mut Centre, event: &CentreEvent<'_>) -> Result<Outputs, AllocError>
-    requires { HasNumber event.now }
     ensures { (setup : SetupOf) (handsets : List (List ℕ)) → Represents (started (first_rows_of setup) handsets []) centre.old
         → IfOk result (AreOutputs (happened event.now (started (first_rows_of setup) handsets []))) }
 {
@@ -41,11 +38,10 @@ fn plan_and_adopt(centre: &mut Centre, event: &CentreEvent<'_>) -> Result<Output
 fn relay_by(
     alloc: Global,
     centre: &mut Centre,
-    from: Digits,
+    from: Msisdn,
     frame: &[u8],
     to: Option<Address>,
 ) -> Result<Relayed, AllocError>
-    requires { IsNumber from }
     ensures { SendsFor from frame.now to centre.old result }
 {
     let event = CentreEvent::Frame {
@@ -73,16 +69,14 @@ pub(crate) fn relay_started(
     alloc: Global,
     centre: Address,
     now: Moment,
-    handsets: &[Digits],
-    from: Digits,
+    handsets: &[Msisdn],
+    from: Msisdn,
     frame: &[u8],
     to: Option<Address>,
 ) -> Result<Relayed, AllocError>
     requires centre { IsAddress centre }
     requires now { IsMoment now }
-    requires numbers { (number : List ℕ) → Among number handsets.now → IsNumber number }
     requires apart { AreDifferent handsets.now }
-    requires from { IsNumber from }
     ensures { (unit : List ℕ) → handsets.now ≡ handsets_for from (destination_of (up_at unit)) → frame.now ≡ frame_for unit → to ≡ destination_of (up_at unit)
         → Relays centre from now unit → IfOk result (λ r. IsRelayed centre (own_address from) now unit r) }
 {

@@ -1,22 +1,21 @@
 //! One unit of a handset, relayed by a centre that holds nothing.
-ghost use Rattle.std.specs.Prelude.{◌≡◌, ◌<◌, ◌≤◌, ℕ, List, IfOk, IsOk, length};
+ghost use Rattle.std.specs.Prelude.{◌≡◌, ◌<◌, ◌≤◌, ℕ, List, IfOk, IfSome, IsOk, length};
 ghost use Rattle.sms_base.specs.Address.{IsAddress};
-ghost use Rattle.sms_base.specs.Among.{Among};
 ghost use Rattle.sms_base.specs.HandsetNumber.{own_address};
+ghost use Rattle.sms_base.specs.Msisdn.{IsMsisdn};
 ghost use Rattle.sms_base.specs.OwnAddress.{IsOwnAddress};
 ghost use Rattle.sms_base.specs.Reading.{AreOctets};
 ghost use Rattle.sms_base.specs.TimeStamp.{IsMoment};
 ghost use Rattle.sms_relay.specs.RelayReading.{up_at};
 ghost use Rattle.sms_relay_run.specs.relay_laws.Relay.{IsAnswerUnit, IsRelayed};
 ghost use Rattle.sms_relay_run.specs.relay_laws.Relaying.{Relays, destination_of, frame_for, handsets_for};
-ghost use Rattle.sms_centre_rows.specs.waiting.SoundAllocations.{IsNumber};
 
 use crate::centre::relay_started;
 use crate::relay_laws::laws::{an_empty_centre_relays_a_unit, handsets_can_have_links};
 use crate::relay_laws::{
     LONGEST_UNIT, Relayed, destination_of, frame_for, handsets_for, nothing, relay_uncarried,
 };
-use sms_base::{Address, Digits, Moment};
+use sms_base::{Address, Moment, Msisdn};
 use sms_relay::{Rp, read_up};
 use std::alloc::{AllocError, Global};
 
@@ -35,9 +34,10 @@ fn are_octets(octets: &[u8])
 
 fn handsets_between(
     alloc: Global,
-    from: &Digits,
+    from: &Msisdn,
     to: &Option<Address>,
-) -> Result<Vec<Digits>, AllocError>
+) -> Result<Vec<Msisdn>, AllocError>
+    requires { IfSome to.now (λ address. IsMsisdn address.digits) }
     ensures { IfOk result (λ handsets. handsets.items ≡ handsets_for from.now to.now) }
 {
     handsets_for(alloc, *from, *to)
@@ -47,15 +47,14 @@ fn handsets_between(
 fn relay_between(
     alloc: Global,
     centre: Address,
-    from: Digits,
+    from: Msisdn,
     now: Moment,
     frame: &[u8],
     to: Option<Address>,
 ) -> Result<Relayed, AllocError>
     requires centre { IsAddress centre }
     requires now { IsMoment now }
-    requires from { IsNumber from }
-    requires numbers { (number : List ℕ) → Among number (handsets_for from to) → IsNumber number }
+    requires to { IfSome to (λ address. IsMsisdn address.digits) }
     ensures { (unit : List ℕ) → frame.now ≡ frame_for unit → to ≡ destination_of (up_at unit) → Relays centre from now unit
         → IfOk result (λ r. IsRelayed centre (own_address from) now unit r) }
 {
@@ -84,7 +83,8 @@ fn relay_carried(
     are_octets(unit);
     let to = destination_of(unit);
     let frame = frame_for(alloc, unit)?;
-    relay_between(alloc, centre, from.digits, now, frame.as_slice(), to)
+    let number = Msisdn::spelled_by(&from.digits);
+    relay_between(alloc, centre, number, now, frame.as_slice(), to)
 }
 
 // The unit is none that nothing answers.

@@ -28,8 +28,9 @@ pub use list::StoredRow;
 pub use loading::{load, load_columns};
 pub use meta::{Meta, StoreKind, kind_at};
 pub use reading::{
-    address_at, digits_at, flag_at, is_null_at, moment_at, number_at, octet_at, octets_at,
-    optional_moment_at, optional_octet_at, optional_short_at, short_at, text_at, text_of, word_at,
+    address_at, flag_at, handset_at, handset_text, is_null_at, moment_at, number_at, octet_at,
+    octets_at, optional_moment_at, optional_octet_at, optional_short_at, short_at, text_at,
+    text_of, word_at,
 };
 pub use seeking::{SoughtRow, seek};
 pub use transaction::{Lookup, Work, look, transact};

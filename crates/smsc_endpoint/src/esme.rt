@@ -166,7 +166,7 @@ fn is_sendable(end: &Final) -> bool
 {
     addresses_are_tested();
     receipts_can_be_written();
-    let handset = Address::of_handset(end.handset);
+    let handset = Address::of_handset(end.handset.digits());
     is_address(&end.source) && is_address(&handset)
 }
 

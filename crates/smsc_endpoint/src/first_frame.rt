@@ -8,7 +8,7 @@ ghost use Rattle.smsc_endpoint.specs.FirstFrame.{given_by as given_number, is_se
 ghost use Rattle.smsc_endpoint.specs.FirstFrame.{number_of as number_named, refused_by};
 
 use crate::link_access::{LinkAccess, LinkSecret};
-use sms_base::{Digits, digits_of};
+use sms_base::Msisdn;
 use smsc_loop::Note;
 
 fn are_decimal(octets: &[u8]) -> bool
@@ -24,11 +24,11 @@ fn are_digits(octets: &[u8]) -> bool
 }
 
 // The number that the octets are: 1 to 20 digits in ASCII.
-fn number_of(octets: &[u8]) -> Option<Digits>
+fn number_of(octets: &[u8]) -> Option<Msisdn>
     ensures { result ≡ number_named octets.now }
 {
     if octets.len() <= 20 && are_digits(octets) {
-        Some(digits_of(octets))
+        Msisdn::of(octets)
     } else {
         None
     }
@@ -108,7 +108,7 @@ fn is_secret_of(number: &[u8], given: &[u8], secrets: &[LinkSecret]) -> bool
     false
 }
 
-fn number_by(number: &[u8], given: Option<&[u8]>, secrets: &[LinkSecret]) -> Option<Digits>
+fn number_by(number: &[u8], given: Option<&[u8]>, secrets: &[LinkSecret]) -> Option<Msisdn>
     ensures { result ≡ number_with number.now (option_map (λ s. s.now) given.entry) secrets.now }
 {
     match given {
@@ -123,7 +123,7 @@ fn number_by(number: &[u8], given: Option<&[u8]>, secrets: &[LinkSecret]) -> Opt
 }
 
 /// The number whose link a first frame is given.
-pub(crate) fn given_by(access: &LinkAccess, frame: &[u8]) -> Option<Digits>
+pub(crate) fn given_by(access: &LinkAccess, frame: &[u8]) -> Option<Msisdn>
     ensures { result ≡ given_number access.now frame.now }
 {
     match access {

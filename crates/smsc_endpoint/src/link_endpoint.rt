@@ -20,7 +20,7 @@ use crate::link_stage::Stage;
 use crate::outbox::Outbox;
 use crate::refusing::{CONGESTION, PROTOCOL_ERROR};
 use smpp_session::FullAccounts;
-use sms_base::{Digits, Octets};
+use sms_base::{Msisdn, Octets};
 use sms_centre_spec::jobs::{Job, Reply};
 use sms_link::framing::laws::front_is_the_frame;
 use sms_link::framing::{FrameBuffer, FramingFault, is_frame, push_frame};
@@ -49,7 +49,7 @@ pub struct LinkEndpoint {
     alloc: Global,
     access: Arc<LinkAccess>,
     unread: FrameBuffer,
-    handset: Option<Digits>,
+    handset: Option<Msisdn>,
     stage: Stage,
     is_over: bool,
     outbox: Outbox,
@@ -157,7 +157,7 @@ impl LinkEndpoint {
     }
 
     // Names the handset of the link to the keeper.
-    fn name(&mut self, handset: Digits) -> Result<(), AllocError>
+    fn name(&mut self, handset: Msisdn) -> Result<(), AllocError>
         ensures { OnOk result (self.new ≡ naming handset self.old) }
     {
         self.stage = Stage::Named;
@@ -234,7 +234,7 @@ impl LinkEndpoint {
     }
 
     // The other link has not ended yet.
-    fn wait_for_it(&mut self, handset: Digits) -> Result<(), AllocError>
+    fn wait_for_it(&mut self, handset: Msisdn) -> Result<(), AllocError>
         ensures { OnOk result (self.new ≡ waiting_on handset self.old) }
     {
         if self.tries > 0 {
@@ -248,7 +248,7 @@ impl LinkEndpoint {
     }
 
     // The link is up.
-    fn bring_up(&mut self, handset: Digits) -> Result<(), AllocError>
+    fn bring_up(&mut self, handset: Msisdn) -> Result<(), AllocError>
         ensures { OnOk result (ReadsOn (noting (LinkUpNote handset) (record self.old { stage = Up })) self.new) }
     {
         self.stage = Stage::Up;

@@ -2,7 +2,7 @@
 ghost use Rattle.std.specs.Prelude.{◌≡◌};
 
 use smpp_session::BindKind;
-use sms_base::Digits;
+use sms_base::{Digits, Msisdn};
 
 /// How much an endpoint did.
 #[derive(Clone, Copy, PartialEq, Eq)]
@@ -57,15 +57,15 @@ pub enum Note {
     /// A submit_sm was refused with this command_status.
     SubmitRefused(u32),
     /// The link is that of this handset.
-    LinkUp(Digits),
+    LinkUp(Msisdn),
     /// The first frame names no handset.
     NoNumber,
     /// The first frame names this handset, and has another secret than it, or none.
-    WrongSecret(Digits),
+    WrongSecret(Msisdn),
     /// The handset has a link at another seat, which is to end for this one.
-    Taken(Digits),
+    Taken(Msisdn),
     /// The handset's other link did not end in time.
-    NotReplaced(Digits),
+    NotReplaced(Msisdn),
     /// The octets are no stream of frames.
     NoFrames,
     /// The endpoint has left.

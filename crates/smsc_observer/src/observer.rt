@@ -1,6 +1,6 @@
 //! The observer of a run.
 use crate::seated::Seated;
-use sms_base::{Digits, FinalState, MessageId};
+use sms_base::{FinalState, MessageId, Msisdn};
 use sms_centre_spec::Changes;
 use sms_rows::keep::KeepError;
 use smsc_arrivals::PeerKind;
@@ -25,7 +25,7 @@ pub enum Event {
     /// The store refused a group, and could not be read again. Each request is refused until the run has ended.
     Failed,
     /// The store has a new message of this number, to the handset of these digits.
-    Accepted(MessageId, Digits),
+    Accepted(MessageId, Msisdn),
     /// The store has the end of the message of this number.
     Final(MessageId, FinalState),
 }

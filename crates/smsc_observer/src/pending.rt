@@ -2,7 +2,7 @@
 //!
 //! A commit has the rows that it changes. So a run keeps of each message that is pending for which handset it is and when it was
 //! submitted, and of each of its parts that waits how often it failed and when it is offered next.
-use sms_base::{Digits, MessageId, Moment, earlier};
+use sms_base::{MessageId, Moment, Msisdn, earlier};
 use sms_centre_rows::messages::{MessageRow, PartRow};
 use sms_centre_rows::waiting::{Progress, Revision};
 use sms_centre_spec::{Changes, Rows};
@@ -24,14 +24,14 @@ struct WaitingPart {
 // What waits for a handset.
 #[derive(Drop)]
 struct Shelf {
-    handset: Digits,
+    handset: Msisdn,
     parts: Vec<WaitingPart>,
 }
 
 /// A handset for which parts of messages wait.
 #[derive(Clone, Copy, PartialEq, Eq)]
 pub struct WaitingHandset {
-    pub handset: Digits,
+    pub handset: Msisdn,
     /// How many parts wait for it.
     pub waiting: u64,
     /// When the oldest of their messages was submitted.
@@ -46,7 +46,7 @@ pub struct WaitingHandset {
 #[derive(Clone, Copy, PartialEq, Eq)]
 pub struct Pending {
     pub id: MessageId,
-    pub handset: Digits,
+    pub handset: Msisdn,
     pub submitted: Moment,
 }
 
@@ -169,8 +169,8 @@ impl Tally {
     }
 
     // The shelf of the handset is taken away. An empty one where it has none.
-    fn take_shelf(&mut self, handset: &Digits) -> Shelf {
-        let key = Key::digits(handset).number();
+    fn take_shelf(&mut self, handset: &Msisdn) -> Shelf {
+        let key = Key::handset(handset).number();
         match self.shelves.remove(&key) {
             Some(shelf) => {
                 let _ = self.most_first.remove(&place_of(shelf.parts.len(), key));
@@ -189,7 +189,7 @@ impl Tally {
             drop(shelf);
             return Ok(());
         }
-        let key = Key::digits(&shelf.handset).number();
+        let key = Key::handset(&shelf.handset).number();
         self.most_first.insert(place_of(shelf.parts.len(), key))?;
         self.shelves.insert(key, shelf)?;
         Ok(())

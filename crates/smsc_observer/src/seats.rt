@@ -7,7 +7,7 @@ use crate::counters::Counters;
 use crate::observer::Event;
 use crate::seated::SEATS;
 use smpp_session::BindKind;
-use sms_base::{Digits, Moment};
+use sms_base::{Moment, Msisdn};
 use smsc_loop::Note;
 use smsc_status::{SessionKind, SessionLine};
 use std::alloc::{AllocError, Global};
@@ -20,7 +20,7 @@ enum Occupant {
     // A session of the account at this place, bound at that moment.
     Session(u8, SessionKind, Moment),
     // The link of this handset, up since that moment.
-    Link(Digits, Moment),
+    Link(Msisdn, Moment),
 }
 
 /// Who sits at each seat.
@@ -130,7 +130,7 @@ impl SeatTable {
     }
 
     /// The handset whose link is up at the seat of this number, and since when.
-    pub fn link_at(&self, seat: usize) -> Option<(Digits, Moment)> {
+    pub fn link_at(&self, seat: usize) -> Option<(Msisdn, Moment)> {
         match self.seats.get(seat) {
             Some(Occupant::Link(handset, since)) => Some((*handset, *since)),
             _ => None,

@@ -2,7 +2,7 @@
 //!
 //! A commit has the rows that it changes. So the run keeps how many parts each pending message has, how often they failed, and the last cause
 //! by which a handset refused one, until the message has ended.
-use crate::lines::number_text;
+use crate::lines::{name_text, number_text};
 use crate::logging::Log;
 use sms_base::{FinalState, MessageId, Octets, Originator};
 use sms_centre_rows::messages::{MessageRow, PartRow};
@@ -129,7 +129,7 @@ fn line_of(
     course: Course,
     micros: u64,
 ) -> Result<Octets, AllocError> {
-    let source = number_text(alloc, &message.source.digits)?;
+    let source = name_text(alloc, &message.source.digits)?;
     let destination = number_text(alloc, &message.handset)?;
     access_line(
         alloc,

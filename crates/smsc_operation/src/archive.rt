@@ -29,13 +29,14 @@ fn line_of(
 ) -> Result<Octets, AllocError>
     ensures { IfOk result (λ line. line ≡ archive_text (said_of message.now parts ended state)) }
 {
+    let destination = message.handset.digits();
     archive_line(
         alloc,
         &ArchiveLine {
             id: message.id,
             originator: &message.originator,
             source: message.source.digits.as_slice(),
-            destination: message.handset.as_slice(),
+            destination: destination.as_slice(),
             submitted: message.submitted,
             ended,
             parts: parts as u64,

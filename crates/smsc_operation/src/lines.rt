@@ -1,7 +1,7 @@
 //! The lines of the log, in logfmt: `event=bound seat=3 peer=127.0.0.1:51234 account=bank kind=transceiver`.
 use crate::account_names::AccountNames;
 use smpp_session::BindKind;
-use sms_base::{Digits, FinalState, MessageId};
+use sms_base::{Digits, FinalState, MessageId, Msisdn};
 use smsc_loop::{Counts, LeaveReason, Note};
 use smsc_observer::{Event, Refusals, Seated};
 use std::alloc::{AllocError, Global};
@@ -42,12 +42,17 @@ fn reason_word(why: LeaveReason) -> &'static str {
 }
 
 /// Digits, or the characters of a name.
-pub fn number_text(alloc: Global, handset: &Digits) -> Result<String, AllocError> {
+pub fn name_text(alloc: Global, name: &Digits) -> Result<String, AllocError> {
     let mut text = String::new(alloc);
-    for digit in handset.as_slice() {
-        text.push(*digit)?;
+    for character in name.as_slice() {
+        text.push(*character)?;
     }
     Ok(text)
+}
+
+/// The digits of a handset's number.
+pub fn number_text(alloc: Global, handset: &Msisdn) -> Result<String, AllocError> {
+    name_text(alloc, &handset.digits())
 }
 
 /// A part of a line, and how much it matters.
@@ -133,14 +138,14 @@ fn plain(alloc: Global, text: &str) -> Result<String, AllocError> {
     Ok(all)
 }
 
-fn handset_text(alloc: Global, text: &str, handset: &Digits) -> Result<String, AllocError> {
+fn handset_text(alloc: Global, text: &str, handset: &Msisdn) -> Result<String, AllocError> {
     let number = number_text(alloc, handset)?;
     Ok(format!(in alloc; "{text} handset={number}")?)
 }
 
 fn refused_text(alloc: Global, status: u32, name: &Digits) -> Result<String, AllocError> {
     let word = refusal_word(status);
-    let name = bare_or_quoted(alloc, number_text(alloc, name)?.as_str())?;
+    let name = bare_or_quoted(alloc, name_text(alloc, name)?.as_str())?;
     Ok(format!(in alloc; "event=bind_refused account={name} status={status} reason={word}")?)
 }
 
@@ -273,7 +278,7 @@ fn id_text(alloc: Global, id: MessageId) -> Result<String, AllocError> {
     Ok(text)
 }
 
-fn accepted_text(alloc: Global, id: MessageId, handset: &Digits) -> Result<String, AllocError> {
+fn accepted_text(alloc: Global, id: MessageId, handset: &Msisdn) -> Result<String, AllocError> {
     let id = id_text(alloc, id)?;
     let number = number_text(alloc, handset)?;
     Ok(format!(in alloc; "event=accepted id={id} handset={number}")?)

@@ -1,7 +1,7 @@
 //! What waits in a store, by handset.
 //!
 //! What the table says of its lines is proved (`smsc_cli::centre_table`); which lines they are is only tested.
-use sms_base::{Digits, Moment, earlier};
+use sms_base::{Moment, Msisdn, earlier};
 use sms_centre_rows::messages::{MessageRow, PartRow};
 use sms_rows::table::{Key, Table};
 use smsc_cli::centre_table::{StuckLine, attempts_in, due_in, own_parts};
@@ -60,8 +60,8 @@ fn copy_of(line: &StuckLine) -> StuckLine {
 
 type Lines = BTreeMap<u128, StuckLine>;
 
-fn number_of(handset: &Digits) -> u128 {
-    Key::digits(handset).number()
+fn number_of(handset: &Msisdn) -> u128 {
+    Key::handset(handset).number()
 }
 
 fn put_message(

@@ -1,14 +1,14 @@
 //! The links that are up, as a status page shows them.
-use sms_base::Digits;
+use sms_base::Msisdn;
 use smsc_observer::{SEATS, SeatTable};
 use smsc_service::LinkBoard;
 use smsc_status::LinkLine;
 use std::alloc::{AllocError, Global};
 
-fn digits_text(alloc: Global, digits: &Digits) -> Result<String, AllocError> {
+fn digits_text(alloc: Global, number: &Msisdn) -> Result<String, AllocError> {
     let mut text = String::new(alloc);
-    for digit in digits.as_slice() {
-        text.push(*digit)?;
+    for digit in number.as_slice() {
+        text.push(char::from(*digit))?;
     }
     Ok(text)
 }

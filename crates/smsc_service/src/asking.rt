@@ -1,17 +1,16 @@
 //! What a job asks of the centre.
 ghost use Rattle.std.specs.Prelude.{◌≡◌, None};
 ghost use Rattle.smpp_pdu.specs.PduReading.{pdu_at};
-ghost use Rattle.sms_centre_spec.specs.SoundCore.{HasNumber};
 ghost use Rattle.sms_centre_spec.specs.declared.event.CentreEvent.TheVariants.{Frame as FrameOf, LinkDown as LinkDownOf};
 ghost use Rattle.sms_centre_spec.specs.declared.jobs.job.Job.TheVariants.{LinkUp as LinkUpOf};
-ghost use Rattle.smsc_service.specs.Asking.{IfEvent, asked as asked_of, errand_asks as errand_asks_of, of_handset, question, read_as, submission, withdrawal};
+ghost use Rattle.smsc_service.specs.Asking.{asked as asked_of, errand_asks as errand_asks_of, of_handset, question, read_as, submission, withdrawal};
 ghost use Rattle.smsc_service.specs.Seats.{handset_at, seats_in};
 
 use crate::new_account::NewAccount;
 use crate::number::is_number;
 use crate::seat_map::SeatMap;
 use smpp_pdu::{Body, Pdu};
-use sms_base::{Digits, Moment, OctetView, Octets};
+use sms_base::{Moment, Msisdn, OctetView, Octets};
 use sms_centre_spec::jobs::Job;
 use sms_centre_spec::{CentreEvent, Order};
 use sms_keeper::Errand;
@@ -39,7 +38,6 @@ pub enum SeatRequest<'a> {
 
 fn submission(account: u8, body: Body<'_>) -> SeatRequest<'_>
     ensures asked { result ≡ submission account body.entry }
-    ensures number { IfEvent HasNumber result }
 {
     match body {
         Body::SubmitSm(message) => SeatRequest::Event(CentreEvent::Submit { account, message }),
@@ -49,7 +47,6 @@ fn submission(account: u8, body: Body<'_>) -> SeatRequest<'_>
 
 fn question(account: u8, body: Body<'_>) -> SeatRequest<'_>
     ensures asked { result ≡ question account body.entry }
-    ensures number { IfEvent HasNumber result }
 {
     match body {
         Body::QuerySm(query) => SeatRequest::Event(CentreEvent::Query { account, query }),
@@ -59,7 +56,6 @@ fn question(account: u8, body: Body<'_>) -> SeatRequest<'_>
 
 fn withdrawal(account: u8, body: Body<'_>) -> SeatRequest<'_>
     ensures asked { result ≡ withdrawal account body.entry }
-    ensures number { IfEvent HasNumber result }
 {
     match body {
         Body::CancelSm(cancel) => SeatRequest::Event(CentreEvent::Cancel { account, cancel }),
@@ -69,7 +65,6 @@ fn withdrawal(account: u8, body: Body<'_>) -> SeatRequest<'_>
 
 fn submitted(account: u8, pdu: &Octets) -> SeatRequest<'_>
     ensures asked { result ≡ read_as (submission account) (pdu_at pdu.entry.now) }
-    ensures number { IfEvent HasNumber result }
 {
     match Pdu::read(pdu.as_slice()) {
         Ok(pdu) => submission(account, pdu.body),
@@ -79,7 +74,6 @@ fn submitted(account: u8, pdu: &Octets) -> SeatRequest<'_>
 
 fn queried(account: u8, pdu: &Octets) -> SeatRequest<'_>
     ensures asked { result ≡ read_as (question account) (pdu_at pdu.entry.now) }
-    ensures number { IfEvent HasNumber result }
 {
     match Pdu::read(pdu.as_slice()) {
         Ok(pdu) => question(account, pdu.body),
@@ -89,7 +83,6 @@ fn queried(account: u8, pdu: &Octets) -> SeatRequest<'_>
 
 fn cancelled(account: u8, pdu: &Octets) -> SeatRequest<'_>
     ensures asked { result ≡ read_as (withdrawal account) (pdu_at pdu.entry.now) }
-    ensures number { IfEvent HasNumber result }
 {
     match Pdu::read(pdu.as_slice()) {
         Ok(pdu) => withdrawal(account, pdu.body),
@@ -100,15 +93,12 @@ fn cancelled(account: u8, pdu: &Octets) -> SeatRequest<'_>
 // ---- links
 
 // A link for a handset is up.
-fn raised(seat_map: &SeatMap, seat: u32, handset: Digits) -> SeatRequest<'static>
+fn raised(seat_map: &SeatMap, seat: u32, handset: Msisdn) -> SeatRequest<'static>
     ensures asked { result ≡ asked_of (seats_in seat_map.now) seat (LinkUpOf handset) }
-    ensures number { IfEvent HasNumber result }
 {
     // The clause speaks of it.
     let _seat = seat;
-    if !is_number(&handset) {
-        return SeatRequest::Nothing;
-    }
+    is_number(&handset);
     match seat_map.seat_of(handset) {
         Some(_) => SeatRequest::Taken,
         None => SeatRequest::Event(CentreEvent::LinkUp { handset }),
@@ -118,41 +108,32 @@ fn raised(seat_map: &SeatMap, seat: u32, handset: Digits) -> SeatRequest<'static
 // The link at the seat is down.
 fn lowered(seat_map: &SeatMap, seat: u32) -> SeatRequest<'static>
     ensures asked { result ≡ of_handset (λ handset. LinkDownOf handset) (handset_at seat (seats_in seat_map.now).links) }
-    ensures number { IfEvent HasNumber result }
 {
     let Some(handset) = seat_map.handset_at(seat) else {
         return SeatRequest::Nothing;
     };
-    if is_number(&handset) {
-        SeatRequest::Event(CentreEvent::LinkDown { handset })
-    } else {
-        SeatRequest::Nothing
-    }
+    is_number(&handset);
+    SeatRequest::Event(CentreEvent::LinkDown { handset })
 }
 
 // A frame is read on the link at the seat.
 fn framed<'a>(seat_map: &SeatMap, seat: u32, octets: &'a Octets) -> SeatRequest<'a>
     ensures asked { result ≡ of_handset (λ handset. FrameOf handset octets.entry.now None) (handset_at seat (seats_in seat_map.now).links) }
-    ensures number { IfEvent HasNumber result }
 {
     let Some(handset) = seat_map.handset_at(seat) else {
         return SeatRequest::Nothing;
     };
-    if is_number(&handset) {
-        SeatRequest::Event(CentreEvent::Frame {
-            handset,
-            octets: OctetView::of(octets.as_slice()),
-            tag: None,
-        })
-    } else {
-        SeatRequest::Nothing
-    }
+    is_number(&handset);
+    SeatRequest::Event(CentreEvent::Frame {
+        handset,
+        octets: OctetView::of(octets.as_slice()),
+        tag: None,
+    })
 }
 
 /// What no seat asks of the centre.
 pub(crate) fn errand_asks(errand: &Errand) -> SeatRequest<'_>
     ensures asked { result ≡ errand_asks_of errand.entry.now }
-    ensures number { IfEvent HasNumber result }
 {
     match errand {
         Errand::Forget { before, from, most } => SeatRequest::Forget {
@@ -175,7 +156,6 @@ pub(crate) fn errand_asks(errand: &Errand) -> SeatRequest<'_>
 /// What the job of the seat asks of the centre.
 pub fn job_asks<'a>(seat_map: &SeatMap, seat: u32, job: &'a Job) -> SeatRequest<'a>
     ensures asked { result ≡ asked_of (seats_in seat_map.now) seat job.entry.now }
-    ensures number { IfEvent HasNumber result }
 {
     match job {
         Job::Bound { account, receives } => SeatRequest::Event(CentreEvent::Bound {

@@ -3,12 +3,12 @@ ghost use Rattle.std.specs.Prelude.{◌≡◌, IfOk, OnOk, Some, slice_get};
 ghost use Rattle.sms_centre_spec.specs.SoundCore.{AreDifferent};
 ghost use Rattle.sms_centre.specs.state.Recovering.{AreNew};
 ghost use Rattle.smsc_service.specs.Seats.{seats_in};
-ghost use Rattle.smsc_service.specs.BoundSession.{AreNumbers, handsets_of as handsets_of_links, is_among as is_among_of, sessions_of as sessions_of_bound};
+ghost use Rattle.smsc_service.specs.BoundSession.{handsets_of as handsets_of_links, is_among as is_among_of, sessions_of as sessions_of_bound};
 ghost use Rattle.smsc_service.specs.BoundSession.{with_number, with_session};
 
 use crate::number::{is_number, is_same};
 use crate::seat_map::{BoundSession, SeatMap};
-use sms_base::Digits;
+use sms_base::Msisdn;
 use sms_centre::ReceiptSession;
 use sms_centre_spec::Rows;
 use sms_intake::CentreAccount;
@@ -16,7 +16,7 @@ use sms_rows::table::Table;
 use std::alloc::{AllocError, Global};
 
 // Whether the handset is one of these.
-fn is_among(handset: Digits, handsets: &[Digits]) -> bool
+fn is_among(handset: Msisdn, handsets: &[Msisdn]) -> bool
     ensures { result ≡ is_among_of handset handsets.now }
 {
     match handsets {
@@ -31,14 +31,13 @@ fn is_among(handset: Digits, handsets: &[Digits]) -> bool
     }
 }
 
-fn push_new(handset: Digits, handsets: &mut Vec<Digits>) -> Result<(), AllocError>
-    requires numbers { AreNumbers handsets.old.items }
+fn push_new(handset: Msisdn, handsets: &mut Vec<Msisdn>) -> Result<(), AllocError>
     requires apart { AreDifferent handsets.old.items }
     ensures pushed { OnOk result (handsets.new.items ≡ with_number handset handsets.old.items) }
-    ensures numbers { AreNumbers handsets.new.items }
     ensures apart { AreDifferent handsets.new.items }
 {
-    if !is_number(&handset) || is_among(handset, handsets.as_slice()) {
+    is_number(&handset);
+    if is_among(handset, handsets.as_slice()) {
         return Ok(());
     }
     handsets.push(handset)?;
@@ -46,9 +45,8 @@ fn push_new(handset: Digits, handsets: &mut Vec<Digits>) -> Result<(), AllocErro
 }
 
 /// The handsets that have links, each once.
-pub fn handsets_of(alloc: Global, seat_map: &SeatMap) -> Result<Vec<Digits>, AllocError>
+pub fn handsets_of(alloc: Global, seat_map: &SeatMap) -> Result<Vec<Msisdn>, AllocError>
     ensures handsets { IfOk result (λ handsets. handsets.items ≡ handsets_of_links (seats_in seat_map.now).links) }
-    ensures numbers { IfOk result (λ handsets. AreNumbers handsets.items) }
     ensures apart { IfOk result (λ handsets. AreDifferent handsets.items) }
 {
     let mut handsets = Vec::new(alloc);

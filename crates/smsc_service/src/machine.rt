@@ -10,7 +10,7 @@ ghost use Rattle.sms_centre_group.specs.HeldRoom.{HasRoomFor};
 ghost use Rattle.sms_centre.specs.Archiving.{AreArchived, Stays};
 ghost use Rattle.sms_centre_spec.specs.CentreEvent.{happened};
 ghost use Rattle.sms_centre_spec.specs.Draft.{Core, core_of, no_changes, rows_after};
-ghost use Rattle.sms_centre_spec.specs.SoundCore.{HasNumber, IsEvent};
+ghost use Rattle.sms_centre_spec.specs.SoundCore.{IsEvent};
 ghost use Rattle.sms_centre_spec.specs.SoundRows.{IsSound};
 ghost use Rattle.sms_centre_spec.specs.forgetting.Forget.{forget, going_now};
 ghost use Rattle.sms_centre_spec.specs.declared.event.CentreEvent.{CentreEvent as CentreEventOf};
@@ -64,7 +64,6 @@ impl<K: CentreStore + Drop> CentreMachine<K> {
 
     /// What the event leads to. Nothing has changed yet, but that bodies were read. A handset that the event names has a number.
     pub fn plan(&mut self, event: &CentreEvent<'_>) -> Result<Plan, StepError>
-        requires { HasNumber event.now }
         // The store holds the rows from before the group, and with what it changed they are the centre's, without its accounts.
         ensures outcome { (c : Core) (base : RowsOf) → Represents c (centre_in self.old) → IsSound base → bare c.rows ≡ rows_after (held_in (keep_in self.old)) base
             → PlanningOutcome (base, held_in (keep_in self.old)) (group_state K.state (keep_in self.old)) (group_state K.state (keep_in self.new))

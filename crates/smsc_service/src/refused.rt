@@ -9,7 +9,7 @@ ghost use Rattle.smsc_service.specs.Seats.{seats_in};
 
 use crate::number::is_number;
 use crate::seat_map::SeatMap;
-use sms_base::{Carried, Digits, Holder, MessageId};
+use sms_base::{Carried, Holder, MessageId, Msisdn};
 use sms_centre::Centre;
 use sms_centre_spec::jobs::Job;
 use sms_control::{Cp, TransactionFlag};
@@ -99,15 +99,12 @@ fn refused_of(refusal: Refusal, under_way: Option<Carried>) -> Option<RefusedPar
     }
 }
 
-// What is under way to the handset, if it is one.
-fn under_way_for(centre: &Centre, handset: &Digits) -> Option<Carried>
+// What is under way to the handset.
+fn under_way_for(centre: &Centre, handset: &Msisdn) -> Option<Carried>
     ensures { (c : Core) → Represents c centre.now → result ≡ under_way_for_of c (Some handset.now) }
 {
-    if is_number(handset) {
-        centre.under_way(handset)
-    } else {
-        None
-    }
+    is_number(handset);
+    centre.under_way(handset)
 }
 
 // What is under way over the link at the seat, if one is there.

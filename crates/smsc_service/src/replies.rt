@@ -12,7 +12,7 @@ ghost use Rattle.sms_keeper.specs.declared.machine.Stimulus.TheVariants.{Job as 
 use crate::ends::end_after;
 use crate::seat_map::SeatMap;
 use smpp_pdu::CommandStatus;
-use sms_base::{Digits, Octets};
+use sms_base::{Msisdn, Octets};
 use sms_centre::{Centre, CentreAnswer, Plan};
 use sms_centre_rows::reports::Delivery;
 use sms_centre_rows::waiting::Sent;
@@ -25,11 +25,11 @@ type Replies = Vec<Out<Reply>>;
 /// The seat that asks, and the handset whose link is new there, if one is.
 #[derive(Drop)]
 pub struct Requester {
-    pub risen: Option<Digits>,
+    pub risen: Option<Msisdn>,
     pub seat: usize,
 }
 
-fn is_that(risen: Option<Digits>, handset: Digits) -> bool
+fn is_that(risen: Option<Msisdn>, handset: Msisdn) -> bool
     ensures { result ≡ is_that_of risen handset }
 {
     match risen {
@@ -39,7 +39,7 @@ fn is_that(risen: Option<Digits>, handset: Digits) -> bool
 }
 
 // The seat of the handset's link.
-fn seat_for(seat_map: &SeatMap, asker: &Requester, handset: Digits) -> Option<usize>
+fn seat_for(seat_map: &SeatMap, asker: &Requester, handset: Msisdn) -> Option<usize>
     ensures { result ≡ seat_for_of asker.now.risen asker.now.seat (seats_in seat_map.now).links handset }
 {
     if is_that(asker.risen, handset) {

@@ -11,13 +11,13 @@ ghost use Rattle.sms_centre_spec.specs.declared.rows.Rows.{Rows as RowsOf};
 ghost use Rattle.smsc_service.specs.Accounts.{bare, with_accounts};
 ghost use Rattle.smsc_service.specs.Seats.{seats_in};
 ghost use Rattle.smsc_service.specs.Serving.{restarted};
-ghost use Rattle.smsc_service.specs.BoundSession.{AreNumbers, sessions_of as sessions_of_bound};
+ghost use Rattle.smsc_service.specs.BoundSession.{sessions_of as sessions_of_bound};
 
 use crate::bound_session::{handsets_of, sessions_of};
 use crate::seat_map::SeatMap;
 use crate::start_error::StartError;
 use sms_base::lending::put;
-use sms_base::{Digits, Listed};
+use sms_base::{Listed, Msisdn};
 use sms_centre::{Centre, Rows};
 use sms_centre_group::GroupKeep;
 use sms_centre_spec::bodies::CentreStore;
@@ -28,10 +28,9 @@ use std::alloc::Global;
 fn recovered_with(
     alloc: Global,
     rows: Rows,
-    handsets: &[Digits],
+    handsets: &[Msisdn],
     seat_map: &SeatMap,
 ) -> Result<Centre, StartError>
-    requires numbers { AreNumbers handsets.now }
     requires apart { AreDifferent handsets.now }
     ensures { IfOk result (Represents (recovered rows handsets.now (sessions_of_bound rows.setup.accounts (seats_in seat_map.now).bound_sessions))) }
 {

@@ -5,7 +5,7 @@ ghost use Rattle.smsc_service.specs.Seats.{followed, handset_at, is_vacant, link
 
 use crate::number::is_same;
 use crate::seat_table::SeatTable;
-use sms_base::Digits;
+use sms_base::Msisdn;
 use sms_centre_spec::jobs::Job;
 use sms_rows::table::{Key, Row};
 use std::alloc::{AllocError, Global};
@@ -14,7 +14,7 @@ use std::alloc::{AllocError, Global};
 #[derive(Clone, Copy, PartialEq, Eq)]
 pub struct LinkSeat {
     pub seat: u32,
-    pub handset: Digits,
+    pub handset: Msisdn,
 }
 
 impl Row for LinkSeat {
@@ -70,7 +70,7 @@ impl SeatMap {
     }
 
     /// The handset whose link is at the seat.
-    pub fn handset_at(&self, seat: u32) -> Option<Digits>
+    pub fn handset_at(&self, seat: u32) -> Option<Msisdn>
         ensures { result ≡ handset_at seat (seats_in self.now).links }
     {
         match self.links.find(Key::of(u64::from(seat))) {
@@ -80,7 +80,7 @@ impl SeatMap {
     }
 
     /// The seat of the handset's link.
-    pub fn seat_of(&self, handset: Digits) -> Option<u32>
+    pub fn seat_of(&self, handset: Msisdn) -> Option<u32>
         ensures { result ≡ seat_of handset (seats_in self.now).links }
     {
         for link in self.links.as_slice() {
@@ -100,7 +100,7 @@ impl SeatMap {
     }
 
     // The link of the handset is put at the seat, if it is nowhere.
-    fn raise(&mut self, seat: u32, handset: Digits)
+    fn raise(&mut self, seat: u32, handset: Msisdn)
         requires { seat < 32 }
         ensures { seats_in self.new ≡ followed seat (LinkUp handset) (seats_in self.old) }
     {

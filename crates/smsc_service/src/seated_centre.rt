@@ -6,11 +6,11 @@ ghost use Rattle.sms_centre.specs.Planning.{FitsTheCentre};
 ghost use Rattle.sms_centre_group.specs.Grouping.{store_of};
 ghost use Rattle.sms_centre_spec.specs.CentreEvent.{happened};
 ghost use Rattle.sms_centre_spec.specs.forgetting.Forget.{forget, going_now};
-ghost use Rattle.sms_centre_spec.specs.SoundCore.{HasNumber, IsEvent};
+ghost use Rattle.sms_centre_spec.specs.SoundCore.{IsEvent};
 ghost use Rattle.sms_centre_spec.specs.declared.event.CentreEvent.{CentreEvent as CentreEventOf};
 ghost use Rattle.sms_centre_spec.specs.declared.rows.Rows.{Rows as RowsOf};
 ghost use Rattle.smsc_service.specs.declared.asking.SeatRequest.TheVariants.{Enrol, Event, Forget};
-ghost use Rattle.smsc_service.specs.Asking.{IfEvent, IfForget, UnlessEvent, answer_of};
+ghost use Rattle.smsc_service.specs.Asking.{IfForget, UnlessEvent, answer_of};
 ghost use Rattle.smsc_service.specs.Seats.{seats_in};
 ghost use Rattle.sms_keeper.specs.declared.machine.Fate.TheVariants.{Done, NoMemory, Refused};
 ghost use Rattle.smsc_service.specs.Serving.{GivesUp, Serving};
@@ -118,7 +118,6 @@ impl<K: CentreStore + Drop> SeatedCentre<K> {
 
     // An event happens.
     fn happen(&mut self, event: &CentreEvent<'_>, stimulus: &Stimulus<Job>) -> Made
-        requires { HasNumber event.now }
         ensures before { IsHonest K.state self.new → IsHonest K.state self.old }
         ensures refused { (s : Serving) (base : RowsOf) → IfMade K.state base s self.old self.new (result.fate ≡ Refused → RefusedRead self.old self.new) }
         ensures gives { (s : Serving) (base : RowsOf)
@@ -134,7 +133,6 @@ impl<K: CentreStore + Drop> SeatedCentre<K> {
 
     // An event happens, unless it is too late to begin it: then it fails as for want of memory, and nothing changes.
     fn begin(&mut self, event: &CentreEvent<'_>, stimulus: &Stimulus<Job>, is_late: bool) -> Made
-        requires { HasNumber event.now }
         ensures late { is_late ≡ true → (result.fate ≡ NoMemory) × (self.new ≡ self.old) }
         ensures before { IsHonest K.state self.new → IsHonest K.state self.old }
         ensures refused { (s : Serving) (base : RowsOf) → IfMade K.state base s self.old self.new (result.fate ≡ Refused → RefusedRead self.old self.new) }
@@ -227,7 +225,6 @@ impl<K: CentreStore + Drop> SeatedCentre<K> {
         archive: &mut A,
         is_late: bool,
     ) -> Made
-        requires { IfEvent HasNumber asked.now }
         ensures late { is_late ≡ true → self.new ≡ self.old }
         ensures before { IsHonest K.state self.new → IsHonest K.state self.old }
         ensures refused { (s : Serving) (base : RowsOf) → IfMade K.state base s self.old self.new (result.fate ≡ Refused → RefusedRead self.old self.new) }
@@ -260,7 +257,6 @@ impl<K: CentreStore + Drop> SeatedCentre<K> {
         archive: &mut A,
         is_late: bool,
     ) -> Made
-        requires { IfEvent HasNumber asked.now }
         ensures late { is_late ≡ true → self.new ≡ self.old }
         ensures before { IsHonest K.state self.new → IsHonest K.state self.old }
         ensures refused { (s : Serving) (base : RowsOf) → IfMade K.state base s self.old self.new (result.fate ≡ Refused → RefusedRead self.old self.new) }

@@ -7,7 +7,7 @@ ghost use Rattle.smsc_service.specs.ShownLinks.{AreShown, figures_at as figures_
 
 use crate::number::is_number;
 use crate::seat_map::SeatMap;
-use sms_base::Digits;
+use sms_base::Msisdn;
 use sms_centre::{Centre, LinkFigures};
 use sms_centre_spec::jobs::Job;
 use sms_keeper::Stimulus;
@@ -18,15 +18,12 @@ pub(crate) const SEATS: usize = 32;
 /// How the link at each seat is, if one is there.
 pub(crate) type ShownLinks = [Option<LinkFigures>; SEATS];
 
-// How many wait for the handset, and how its link is, if it is one.
-fn figures_for(centre: &Centre, handset: &Digits) -> Option<LinkFigures>
+// How many wait for the handset, and how its link is.
+fn figures_for(centre: &Centre, handset: &Msisdn) -> Option<LinkFigures>
     ensures { (c : Core) → Represents c centre.now → result ≡ figures_for_of c (Some handset.now) }
 {
-    if is_number(handset) {
-        Some(centre.figures(handset))
-    } else {
-        None
-    }
+    is_number(handset);
+    Some(centre.figures(handset))
 }
 
 // How the link at the seat is, if one is there.

@@ -3,10 +3,9 @@ ghost use Rattle.std.specs.Prelude.{◌≡◌, None, IfOk};
 ghost use Rattle.sms_centre.specs.plans.EventOutcome.{IsOutcome};
 ghost use Rattle.sms_centre.specs.state.CentreState.{Represents};
 ghost use Rattle.sms_centre_spec.specs.CentreEvent.{happened};
-ghost use Rattle.sms_centre_spec.specs.SoundCore.{HasNumber};
 ghost use Rattle.sms_centre_spec.specs.declared.event.CentreEvent.{CentreEvent as CentreEventOf};
 ghost use Rattle.sms_keeper.specs.declared.machine.Fate.TheVariants.{Done, Refused};
-ghost use Rattle.smsc_service.specs.Asking.{IfEvent, asked_by as asked_by_of};
+ghost use Rattle.smsc_service.specs.Asking.{asked_by as asked_by_of};
 ghost use Rattle.smsc_service.specs.Seats.{seats_in};
 ghost use Rattle.smsc_service.specs.Serving.{Serving, after, followed_by, gives};
 ghost use Rattle.smsc_service.specs.Replies.{asker, failed_by, nothing_by, risen_by as risen_by_of, seat_answer as seat_answer_of, taken_by, replies_to};
@@ -15,7 +14,7 @@ use crate::asking::{SeatRequest, errand_asks, job_asks};
 use crate::made::Made;
 use crate::replies::{Requester, failed, reply_outs, taken, vacancy};
 use crate::seat_map::SeatMap;
-use sms_base::Digits;
+use sms_base::Msisdn;
 use sms_centre::{Centre, CentreAnswer, CentreEvent, Plan};
 use sms_centre_spec::jobs::{Job, Reply};
 use sms_keeper::{Fate, Out, Outs, Stimulus};
@@ -24,7 +23,6 @@ use std::alloc::{AllocError, Global};
 /// What the stimulus asks of the centre. A hub has 32 seats.
 pub(crate) fn asked_by<'a>(seat_map: &SeatMap, stimulus: &'a Stimulus<Job>) -> SeatRequest<'a>
     ensures asked { result ≡ asked_by_of (seats_in seat_map.now) stimulus.entry.now }
-    ensures number { IfEvent HasNumber result }
 {
     match stimulus {
         Stimulus::Job(seat, job) => {
@@ -53,7 +51,7 @@ pub(crate) fn follow(seat_map: &mut SeatMap, stimulus: &Stimulus<Job>)
 // ---- what it gives
 
 // The handset whose link a job brings up: frames for it are sent to the seat that asks.
-fn risen_by(stimulus: &Stimulus<Job>) -> Option<Digits>
+fn risen_by(stimulus: &Stimulus<Job>) -> Option<Msisdn>
     ensures { result ≡ risen_by_of stimulus.now }
 {
     match stimulus {

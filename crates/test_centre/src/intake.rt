@@ -1,7 +1,7 @@
 //! Submissions and refusals.
 use crate::rows::{are, holds, is_written};
 use smpp_pdu::CommandStatus;
-use sms_base::{Address, Listed, Moment, Octets, Originator, Wish};
+use sms_base::{Address, Listed, Moment, Msisdn, Octets, Originator, Wish};
 use sms_intake::{
     CentreAccount, SmppError, Submission, SubmitError, SubmitRefusal, accepting_report, content_of,
     due_of, from_submit, limit_of, refusing_report, wish_of,
@@ -28,14 +28,14 @@ fn submitted(
     accounts: &[CentreAccount],
     tpdu: &[u8],
 ) -> Option<Result<Submission, SubmitError>> {
-    let from = Address::new(1, 1, "447700900123").ok()?.digits;
+    let from = Msisdn::of(b"447700900123")?;
     let now = Moment::from_seconds(NOW).ok()?;
     Some(from_submit(alloc, accounts, from, now, tpdu))
 }
 
 fn is_hello(submission: &Submission, from: &Address, to: &Address) -> bool {
     submission.source == *from
-        && submission.handset == to.digits
+        && to.handset() == Some(submission.handset)
         && matches!(
             submission.originator,
             Originator::Handset {

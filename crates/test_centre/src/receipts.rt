@@ -2,7 +2,7 @@
 ghost use Rattle.std.specs.Prelude.{◌≡◌, IfOk};
 
 use crate::rows::{are, holds, is_written};
-use sms_base::{Address, Digits, FinalState, MessageId, Moment};
+use sms_base::{Address, FinalState, MessageId, Moment, Msisdn};
 use sms_receipt::{Final, Receipt, receipt_of, receipt_text, status_report_octets};
 use std::alloc::AllocError;
 use std::test::Fail;
@@ -13,7 +13,7 @@ fn delivered() -> Result<Final, Fail> {
     Ok(Final {
         id: MessageId::new(1).ok_or("no identity")?,
         source: Address::new(1, 1, "447700900001")?,
-        handset: Address::new(1, 1, "447700900456")?.digits,
+        handset: Msisdn::of(b"447700900456").ok_or("no number")?,
         message_reference: 0,
         submitted: now,
         done: now,
@@ -22,7 +22,7 @@ fn delivered() -> Result<Final, Fail> {
 }
 
 // A handset's message with the reference 7, delivered two seconds later.
-fn reported(handset: Digits) -> Result<Final, Fail>
+fn reported(handset: Msisdn) -> Result<Final, Fail>
     ensures { IfOk result (λ end. end.handset ≡ handset) }
 {
     Ok(Final {
@@ -58,8 +58,8 @@ const REPORT: &[u8] =
 
 #[test]
 fn a_status_report_has_its_octets(rt: HostRuntime) -> Result<(), Fail> {
-    let to = Address::new(1, 1, "447700900456")?;
-    let end = reported(to.digits)?;
+    let to = Msisdn::of(b"447700900456").ok_or("no number")?;
+    let end = reported(to)?;
     let octets = status_report_octets(rt.alloc(), &end)?;
     holds(are(octets.as_slice(), REPORT), "a status report")
 }

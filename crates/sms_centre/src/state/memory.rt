@@ -1,6 +1,5 @@
 //! What a centre that starts on rows keeps of them in memory.
-ghost use Rattle.std.specs.Prelude.{ℕ, List, IfOk};
-ghost use Rattle.sms_base.specs.Among.{Among};
+ghost use Rattle.std.specs.Prelude.{IfOk};
 ghost use Rattle.sms_centre_messages.specs.references.ReferenceIndex.{Represents as ReferencesRepresent};
 ghost use Rattle.sms_centre_reports.specs.open_reports.OpenReports.{Represents as RepresentsReports};
 ghost use Rattle.sms_centre_messages.specs.message_index.MessageIndex.{Represents as MessagesRepresent};
@@ -8,12 +7,11 @@ ghost use Rattle.sms_centre_reports.specs.report_log.ReportLog.{Represents as Lo
 ghost use Rattle.sms_centre_queue.specs.queues.Representing.{Represents};
 ghost use Rattle.sms_centre_recovery.specs.soundness.RowsOf.{rows_of};
 ghost use Rattle.sms_centre_recovery.specs.starting.Starting.{lines_of};
-ghost use Rattle.sms_centre_rows.specs.waiting.SoundAllocations.{IsNumber};
 ghost use Rattle.sms_centre_spec.specs.SoundCore.{AreDifferent};
 ghost use Rattle.sms_centre_spec.specs.SoundRows.{IsSound, all_for};
 
 use crate::state::queues::queues_of;
-use sms_base::{Digits, Moment};
+use sms_base::{Moment, Msisdn};
 use sms_centre_messages::message_index::MessageIndex;
 use sms_centre_messages::references::ReferenceIndex;
 use sms_centre_queue::queues::DeliveryQueues;
@@ -92,12 +90,11 @@ fn report_memory(alloc: Global, tables: &RowTables) -> Result<ReportMemory, Allo
 fn other_memory(
     alloc: Global,
     tables: &RowTables,
-    handsets: &[Digits],
+    handsets: &[Msisdn],
     are_up: bool,
     now: Moment,
 ) -> Result<OtherMemory, AllocError>
     requires sound { IsSound (rows_of tables.now) }
-    requires numbers { (number : List ℕ) → Among number handsets.now → IsNumber number }
     requires apart { AreDifferent handsets.now }
     ensures queues { IfOk result (λ memory. Represents tables.now.handsets.rows tables.now.references.rows (lines_of are_up handsets.now)
         (λ number. all_for number (rows_of tables.now)) memory.queues) }
@@ -122,12 +119,11 @@ fn other_memory(
 pub(crate) fn memory_of(
     alloc: Global,
     tables: &RowTables,
-    handsets: &[Digits],
+    handsets: &[Msisdn],
     are_up: bool,
     now: Moment,
 ) -> Result<Memory, AllocError>
     requires sound { IsSound (rows_of tables.now) }
-    requires numbers { (number : List ℕ) → Among number handsets.now → IsNumber number }
     requires apart { AreDifferent handsets.now }
     ensures messages { IfOk result (λ memory. MessagesRepresent memory.messages tables.now.messages.rows tables.now.parts.rows) }
     ensures reference_index { IfOk result (λ memory. ReferencesRepresent memory.reference_index tables.now.bars.rows tables.now.messages.rows tables.now.parts.rows) }

@@ -1,13 +1,11 @@
 //! The queues of a centre that starts.
 ghost use Rattle.std.specs.Prelude.{ℕ, List, [], false, IfOk, OnOk};
-ghost use Rattle.sms_base.specs.Among.{Among};
 ghost use Rattle.sms_centre_queue.specs.queues.Plan.{FitsTheQueues, IsAdopted, IsSettled};
 ghost use Rattle.sms_centre_queue.specs.queues.Queues.{DeliveryQueuesOf};
 ghost use Rattle.sms_centre_queue.specs.queues.Representing.{DraftRepresents, Represents};
 ghost use Rattle.sms_centre_recovery.specs.soundness.RowsOf.{rows_of};
 ghost use Rattle.sms_centre_recovery.specs.starting.Starting.{lines_of};
 ghost use Rattle.sms_centre_rows.specs.waiting.References.{Allocations};
-ghost use Rattle.sms_centre_rows.specs.waiting.SoundAllocations.{IsNumber};
 ghost use Rattle.sms_centre_rows.specs.declared.waiting.handset.HandsetRow.{HandsetRow};
 ghost use Rattle.sms_centre_rows.specs.declared.waiting.handset_link.HandsetLink.{HandsetLink};
 ghost use Rattle.sms_centre_rows.specs.declared.waiting.queued_part.QueuedPart.{QueuedPart};
@@ -15,7 +13,7 @@ ghost use Rattle.sms_centre_rows.specs.declared.waiting.reference.ReferenceRow.{
 ghost use Rattle.sms_centre_spec.specs.SoundCore.{AreDifferent};
 ghost use Rattle.sms_centre_spec.specs.SoundRows.{IsSound, all_for};
 
-use sms_base::{Digits, Moment};
+use sms_base::{Moment, Msisdn};
 use sms_centre_queue::queues::laws::an_adopted_plan_represents_its_rows;
 use sms_centre_queue::queues::{DeliveryQueues, DeliveryQueuesDraft, DeliveryQueuesPlan};
 use sms_centre_recovery::soundness::RowTables;
@@ -25,12 +23,11 @@ use std::alloc::{AllocError, Global};
 // Lines to these handsets, and what waits for them, on empty queues.
 fn fill(
     tables: &RowTables,
-    handsets: &[Digits],
+    handsets: &[Msisdn],
     are_up: bool,
     queues: &mut DeliveryQueuesDraft,
 ) -> Result<(), AllocError>
     requires sound { IsSound (rows_of tables.now) }
-    requires numbers { (number : List ℕ) → Among number handsets.now → IsNumber number }
     requires apart { AreDifferent handsets.now }
     ensures { OnOk result ((g : Allocations) → DraftRepresents g (record { lines = []; frames = []; read = [] }) (λ number. []) queues.old
         → DraftRepresents g (record { lines = lines_of are_up handsets.now; frames = []; read = [] })
@@ -45,8 +42,7 @@ fn fill(
 }
 
 // In place of all lines there are lines to these handsets, down as yet.
-fn line_anew(handsets: &[Digits], queues: &mut DeliveryQueuesDraft) -> Result<(), AllocError>
-    requires numbers { (number : List ℕ) → Among number handsets.now → IsNumber number }
+fn line_anew(handsets: &[Msisdn], queues: &mut DeliveryQueuesDraft) -> Result<(), AllocError>
     requires apart { AreDifferent handsets.now }
     ensures { OnOk result ((g : Allocations) (lines : List HandsetLink) (waiting : List ℕ → List QueuedPart)
         → DraftRepresents g (record { lines = lines; frames = []; read = [] }) waiting queues.old
@@ -70,13 +66,12 @@ fn settled(pending: DeliveryQueuesDraft, now: Moment) -> Result<DeliveryQueuesPl
 fn load(
     alloc: Global,
     tables: &RowTables,
-    handsets: &[Digits],
+    handsets: &[Msisdn],
     are_up: bool,
     now: Moment,
     queues: &DeliveryQueues,
 ) -> Result<DeliveryQueuesPlan, AllocError>
     requires sound { IsSound (rows_of tables.now) }
-    requires numbers { (number : List ℕ) → Among number handsets.now → IsNumber number }
     requires apart { AreDifferent handsets.now }
     ensures fits { IfOk result FitsTheQueues }
     ensures consistent { IfOk result (λ settled. (new : DeliveryQueuesOf)
@@ -98,11 +93,10 @@ fn load(
 /// first tick.
 pub(crate) fn settled_anew(
     alloc: Global,
-    handsets: &[Digits],
+    handsets: &[Msisdn],
     now: Moment,
     queues: &DeliveryQueues,
 ) -> Result<DeliveryQueuesPlan, AllocError>
-    requires numbers { (number : List ℕ) → Among number handsets.now → IsNumber number }
     requires apart { AreDifferent handsets.now }
     ensures fits { IfOk result FitsTheQueues }
     ensures consistent { IfOk result (λ settled. (rows : List HandsetRow) (references : List ReferenceRow) (lines : List HandsetLink) (waiting : List ℕ
@@ -125,12 +119,11 @@ pub(crate) fn settled_anew(
 pub(crate) fn queues_of(
     alloc: Global,
     tables: &RowTables,
-    handsets: &[Digits],
+    handsets: &[Msisdn],
     are_up: bool,
     now: Moment,
 ) -> Result<DeliveryQueues, AllocError>
     requires sound { IsSound (rows_of tables.now) }
-    requires numbers { (number : List ℕ) → Among number handsets.now → IsNumber number }
     requires apart { AreDifferent handsets.now }
     ensures { IfOk result (λ queues. Represents tables.now.handsets.rows tables.now.references.rows (lines_of are_up handsets.now)
         (λ number. all_for number (rows_of tables.now)) queues) }

@@ -1,10 +1,8 @@
 //! A centre that starts on the rows of a store.
-ghost use Rattle.std.specs.Prelude.{◌≡◌, ℕ, List, IfErr, IfOk};
-ghost use Rattle.sms_base.specs.Among.{Among};
+ghost use Rattle.std.specs.Prelude.{◌≡◌, IfErr, IfOk};
 ghost use Rattle.sms_centre_recovery.specs.soundness.RowsOf.{rows_of};
 ghost use Rattle.sms_centre.specs.state.Recovering.{AreNew, RefusesRows, begun};
 ghost use Rattle.sms_centre.specs.state.CentreState.{Represents};
-ghost use Rattle.sms_centre_rows.specs.waiting.SoundAllocations.{IsNumber};
 ghost use Rattle.sms_centre_spec.specs.CentreEvent.{recovered, started};
 ghost use Rattle.sms_centre_spec.specs.SoundCore.{AreDifferent};
 ghost use Rattle.sms_centre_spec.specs.SoundRows.{IsSound};
@@ -12,7 +10,7 @@ ghost use Rattle.sms_centre_spec.specs.SoundRows.{IsSound};
 use crate::state::centre_state::CentreState;
 use crate::state::memory::memory_of;
 use crate::state::recover_error::RecoverError;
-use sms_base::Digits;
+use sms_base::{Msisdn, are_numbers};
 use sms_centre_recovery::soundness::RowTables;
 use sms_centre_recovery::starting::moment_of;
 use sms_centre_reports::sessions::ReceiptSession;
@@ -27,10 +25,9 @@ impl CentreState {
     pub fn recover(
         alloc: Global,
         rows: Rows,
-        handsets: &[Digits],
+        handsets: &[Msisdn],
         sessions: Table<ReceiptSession>,
     ) -> Result<CentreState, RecoverError>
-        requires numbers { (number : List ℕ) → Among number handsets.now → IsNumber number }
         requires apart { AreDifferent handsets.now }
         requires sessions { AreNew sessions.rows }
         ensures centre_state { IfOk result (Represents (recovered rows handsets.now sessions.rows)) }
@@ -44,10 +41,9 @@ impl CentreState {
     pub fn start(
         alloc: Global,
         rows: Rows,
-        handsets: &[Digits],
+        handsets: &[Msisdn],
         sessions: Table<ReceiptSession>,
     ) -> Result<CentreState, RecoverError>
-        requires numbers { (number : List ℕ) → Among number handsets.now → IsNumber number }
         requires apart { AreDifferent handsets.now }
         requires sessions { AreNew sessions.rows }
         ensures centre_state { IfOk result (Represents (started rows handsets.now sessions.rows)) }
@@ -60,11 +56,10 @@ impl CentreState {
     fn on(
         alloc: Global,
         rows: Rows,
-        handsets: &[Digits],
+        handsets: &[Msisdn],
         are_up: bool,
         sessions: Table<ReceiptSession>,
     ) -> Result<CentreState, RecoverError>
-        requires numbers { (number : List ℕ) → Among number handsets.now → IsNumber number }
         requires apart { AreDifferent handsets.now }
         requires sessions { AreNew sessions.rows }
         ensures centre_state { IfOk result (Represents (begun are_up rows handsets.now sessions.rows)) }
@@ -78,16 +73,16 @@ impl CentreState {
     fn on_sound(
         alloc: Global,
         tables: RowTables,
-        handsets: &[Digits],
+        handsets: &[Msisdn],
         are_up: bool,
         sessions: Table<ReceiptSession>,
     ) -> Result<CentreState, AllocError>
         requires sound { IsSound (rows_of tables) }
-        requires numbers { (number : List ℕ) → Among number handsets.now → IsNumber number }
         requires apart { AreDifferent handsets.now }
         requires sessions { AreNew sessions.rows }
         ensures { IfOk result (Represents (begun are_up (rows_of tables) handsets.now sessions.rows)) }
     {
+        are_numbers(handsets);
         // By the clause of the call the sessions are in order.
         let _seats = sessions.as_slice();
         let moment = moment_of(&tables);

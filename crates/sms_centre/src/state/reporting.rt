@@ -35,7 +35,7 @@ fn message_line(summary: &MessageSummary) -> ReportedMessage
     ReportedMessage {
         id: summary.id,
         from: summary.source.digits,
-        to: summary.handset,
+        to: summary.handset.digits(),
         state: state_of(summary.state),
     }
 }

@@ -1,11 +1,9 @@
 //! A centre that starts again on its rows.
 ghost use Rattle.std.specs.Prelude.{◌≡◌, ℕ, List, false, OnErr, OnOk};
-ghost use Rattle.sms_base.specs.Among.{Among};
 ghost use Rattle.sms_centre_queue.specs.queues.Representing.{Represents as QueuesRepresent};
 ghost use Rattle.sms_centre.specs.state.Recovering.{AreNew};
 ghost use Rattle.sms_centre.specs.state.CentreState.{Represents as StateRepresents};
 ghost use Rattle.sms_centre_recovery.specs.starting.Starting.{lines_of};
-ghost use Rattle.sms_centre_rows.specs.waiting.SoundAllocations.{IsNumber};
 ghost use Rattle.sms_centre_rows.specs.declared.waiting.handset.HandsetRow.{HandsetRow};
 ghost use Rattle.sms_centre_rows.specs.declared.waiting.handset_link.HandsetLink.{HandsetLink};
 ghost use Rattle.sms_centre_rows.specs.declared.waiting.queued_part.QueuedPart.{QueuedPart};
@@ -16,7 +14,7 @@ ghost use Rattle.sms_centre_spec.specs.SoundCore.{AreDifferent};
 
 use crate::state::centre_state::CentreState;
 use crate::state::queues::settled_anew;
-use sms_base::{Digits, Moment};
+use sms_base::{Moment, Msisdn, are_numbers};
 use sms_centre_queue::queues::DeliveryQueues;
 use sms_centre_reports::sessions::ReceiptSession;
 use sms_rows::table::Table;
@@ -33,10 +31,9 @@ impl CentreState {
         &mut self,
         alloc: Global,
         moment: Moment,
-        handsets: &[Digits],
+        handsets: &[Msisdn],
         sessions: Table<ReceiptSession>,
     ) -> Result<(), AllocError>
-        requires numbers { (number : List ℕ) → Among number handsets.now → IsNumber number }
         requires apart { AreDifferent handsets.now }
         requires sessions { AreNew sessions.rows }
         ensures centre_state { OnOk result ((c : Core) → StateRepresents c self.old → moment ≡ moment_of c.rows
@@ -44,6 +41,7 @@ impl CentreState {
         ensures setup { self.new.setup ≡ self.old.setup }
         ensures same { OnErr result (self.new ≡ self.old) }
     {
+        are_numbers(handsets);
         // By the clause of the call the sessions are in order.
         let _seats = sessions.as_slice();
         renew(alloc, handsets, moment, &mut self.queues)?;
@@ -56,11 +54,10 @@ impl CentreState {
 // What waits for handsets stays, and all lines are new.
 fn renew(
     alloc: Global,
-    handsets: &[Digits],
+    handsets: &[Msisdn],
     now: Moment,
     queues: &mut DeliveryQueues,
 ) -> Result<(), AllocError>
-    requires numbers { (number : List ℕ) → Among number handsets.now → IsNumber number }
     requires apart { AreDifferent handsets.now }
     ensures consistent { OnOk result ((rows : List HandsetRow) (references : List ReferenceRow) (lines : List HandsetLink) (waiting : List ℕ → List QueuedPart)
         → QueuesRepresent rows references lines waiting queues.old

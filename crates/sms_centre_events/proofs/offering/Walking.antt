@@ -1,20 +1,13 @@
 -- Offers to handsets, one after the other.
-use Rattle.std.proofs.Common.{◌≡◌, ℕ, ◌∷◌, List, [], refl, sym, ◌∙◌, ap, subst, inl, inr, ⊎_elim}
+use Rattle.std.proofs.Common.{◌≡◌, ℕ, ◌∷◌, List, [], sym, ◌∙◌, ap, subst}
 use Rattle.sms_base.specs.Among.{Among}
 use Rattle.sms_rows.specs.declared.keep.refusals.Refusals.{Refusals}
 use Rattle.sms_centre_queue.specs.declared.queues.concern.ConcernedHandset.{ConcernedHandset}
-use Rattle.sms_centre_queue.specs.declared.queues.concern.Concern.TheVariants.{Offer}
-use Rattle.sms_centre_queue.specs.queues.Stops.{is_stop, mention_stops}
 use Rattle.sms_centre_queue.specs.queues.Walks.{walk}
-use Rattle.sms_centre_queue.proofs.queues.Allocation.{number_digits}
-use Rattle.sms_centre_queue.proofs.queues.Scanning.{among_filter}
-use Rattle.sms_centre_rows.specs.declared.waiting.handset.HandsetRow.{HandsetRow}
-use Rattle.sms_centre_spec.specs.Draft.{Draft, handsets_in}
-use Rattle.sms_centre_draft.specs.walks.Stepping.{offer_at, stops_in}
+use Rattle.sms_centre_spec.specs.Draft.{Draft}
+use Rattle.sms_centre_draft.specs.walks.Stepping.{offer_at}
 use Rattle.sms_centre_draft.proofs.walks.Acting.{walk_keeps}
-use Rattle.sms_centre_events.specs.offering.Stored.{AreDigits}
-use Rattle.sms_centre_draft.specs.CentreDraft.{Represents, CentreDraftOf, all_waiting}
-use Rattle.sms_rows.specs.table.Keys.{AllDigits}
+use Rattle.sms_centre_draft.specs.CentreDraft.{Represents, CentreDraftOf}
 use Rattle.sms_centre_events.specs.offering.Refusing.{NoneRefused}
 use Rattle.sms_centre_events.proofs.offering.OneOffer.{none_since, offer_reads}
 
@@ -23,7 +16,6 @@ pub record IsLeft (d : Draft) (stops rest : List ConcernedHandset) (held : Type 
   pub draft : Draft
   pub represents : Represents draft w
   pub same : draft.store ≡ d.store
-  pub digits : AreDigits rest
   pub goes : walk offer_at rest draft ≡ walk offer_at stops d
   pub holds : held
   pub none : NoneRefused first refused
@@ -34,14 +26,10 @@ left_next d stops rest s behind held then first refused now w new split left rep
   draft = offer_at s.number left.draft;
   represents = represents;
   same = left.same;
-  digits = λ x among. left.digits x (subst (λ (ss : List ConcernedHandset). Among x ss) (sym split) (inr among));
   goes = sym (ap (λ (ss : List ConcernedHandset). walk offer_at ss left.draft) split) ∙ left.goes;
   holds = holds;
   none = none_since first refused now left.none none;
 }
-
-pub first_digits : (d : Draft) (stops rest : List ConcernedHandset) (s : ConcernedHandset) (behind : List ConcernedHandset) (held : Type 0) (first refused : Refusals) (w : CentreDraftOf) → rest ≡ s ∷ behind → IsLeft d stops rest held first refused w → AllDigits s.number
-first_digits d stops rest s behind held first refused w split left = left.digits s (subst (λ (ss : List ConcernedHandset). Among s ss) (sym split) (inl refl))
 
 pub left_none : (d : Draft) (stops rest : List ConcernedHandset) (held : Type 0) (first refused : Refusals) (w : CentreDraftOf) → rest ≡ [] → IsLeft d stops rest held first refused w → Represents (walk offer_at stops d) w
 left_none d stops rest held first refused w none left =
@@ -53,17 +41,3 @@ pub reads_last : (d : Draft) (stops rest : List ConcernedHandset) (s : Concerned
 reads_last d stops rest s behind held first refused w k split left among =
     subst (λ (e : Draft). Among k e.links.read) (sym (ap (λ (ss : List ConcernedHandset). walk offer_at ss left.draft) split) ∙ left.goes)
     (walk_keeps (λ (e : Draft). Among k e.links.read) offer_at behind (offer_at s.number left.draft) (λ number e read. offer_reads number e k read) among)
-
--- ---- those that are found have digits
-
-mentioned_digits : (hs : List HandsetRow) → ((h : HandsetRow) → Among h hs → AllDigits h.number) → AreDigits (mention_stops hs)
-mentioned_digits [] each s among = absurd among
-mentioned_digits (h ∷ hs) each s among = ⊎_elim
-    (λ (e : s ≡ _). subst (λ (x : ConcernedHandset). AllDigits x.number) (sym e) (each h (inl refl)))
-    (λ (a : Among s (mention_stops hs)). mentioned_digits hs (λ x b. each x (inr b)) s a)
-    among
-
-pub found_digits : (now : ℕ) (d : Draft) (w : CentreDraftOf) → Represents d w → AreDigits (stops_in (Offer now) d)
-found_digits now d w represents s among =
-    mentioned_digits (handsets_in d.store) (λ h a. number_digits h.number (represents.consistent.held.allocations.mentioned h a).number) s
-    (among_filter (is_stop (Offer now) (handsets_in d.store) d.links.lines (all_waiting d.store)) s (mention_stops (handsets_in d.store)) among).0

@@ -2,7 +2,7 @@
 use Rattle.std.specs.Prelude.{◌≡◌, ℕ, List, if◌then◌else◌, true, Option, Some, None}
 use Rattle.sms_base.specs.Among.{Among}
 use Rattle.sms_centre_queue.specs.declared.queues.concern.ConcernedHandset.{ConcernedHandset}
-use Rattle.sms_rows.specs.table.Keys.{AllDigits, pair_key}
+use Rattle.sms_rows.specs.table.Keys.{pair_key}
 use Rattle.sms_centre_rows.specs.declared.messages.part.PartRow.{PartRow}
 use Rattle.sms_centre_rows.specs.messages.Messages.{part_key}
 use Rattle.sms_centre_rows.specs.declared.reports.report.ReportRow.{ReportRow}
@@ -29,7 +29,3 @@ pub record CanOffer {Rows : Type 0} (body_of : Rows → ℕ → Option (List ℕ
   pub sound : IsSound (rows_of s)
   pub stored : Stores (body_of rows) s
   pub centre_is : centre ≡ relay_address s.setup.centre
-
--- each has digits
-abbrev pub AreDigits : List ConcernedHandset → Type 0
-AreDigits stops = (s : ConcernedHandset) → Among s stops → AllDigits s.number

@@ -8,7 +8,7 @@ ghost use Rattle.sms_centre_spec.specs.Draft.{Draft};
 ghost use Rattle.sms_centre_spec.specs.Offering.{offer as offer_of};
 ghost use Rattle.sms_centre_spec.specs.Sessions.{send as send_of};
 ghost use Rattle.sms_centre_events.specs.offering.Refusing.{ReadingOutcome, UnlessMemory};
-ghost use Rattle.sms_centre_events.specs.offering.Stored.{AreDigits, CanOffer};
+ghost use Rattle.sms_centre_events.specs.offering.Stored.{CanOffer};
 ghost use Rattle.sms_centre_draft.specs.CentreDraft.{Represents};
 
 use crate::offering::offers::offer_at;
@@ -25,7 +25,7 @@ fn offer_each<B: BodyKeep>(
     centre: &[u8],
     stops: &[ConcernedHandset],
 ) -> Result<(), PlanError>
-    ensures outcome { (d : Draft) (rows : B.Rows) → Represents d draft.old → AreDigits stops.now
+    ensures outcome { (d : Draft) (rows : B.Rows) → Represents d draft.old
         → CanOffer B.body_of rows centre.now d.store
         → ReadingOutcome (λ _. Represents (walk offer_at_of stops.now d) draft.new) (walk offer_at_of stops.now d).links.read rows
         (B.state bodies.old) (B.state bodies.new) result }

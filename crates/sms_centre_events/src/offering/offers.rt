@@ -2,7 +2,6 @@
 ghost use Rattle.std.specs.Prelude.{◌≡◌, ℕ, List, None, Some};
 ghost use Rattle.sms_base.specs.Among.{Among};
 ghost use Rattle.sms_rows.specs.keep.StoreOutcome.{WasHonest};
-ghost use Rattle.sms_rows.specs.table.Keys.{AllDigits};
 ghost use Rattle.sms_centre_draft.specs.walks.Stepping.{offer_at as offer_at_of};
 ghost use Rattle.sms_centre_spec.specs.Draft.{Draft, waiting_in};
 ghost use Rattle.sms_centre_events.specs.offering.Refusing.{ReadingOutcome};
@@ -13,15 +12,14 @@ ghost use Rattle.sms_centre_draft.specs.CentreDraft.{Represents};
 
 use crate::offering::reading::tpdu;
 use crate::offering::units::send;
-use sms_base::Digits;
-use sms_centre_draft::{CentreDraft, are_digits};
+use sms_base::Msisdn;
+use sms_centre_draft::CentreDraft;
 use sms_centre_rows::waiting::QueuedPart;
 use sms_centre_spec::PlanError;
 use sms_rows::keep::BodyKeep;
 
 // The next that is due for the handset, if its line is ready.
-fn next_for(draft: &CentreDraft<'_>, handset: &Digits) -> Option<QueuedPart>
-    requires digits { AllDigits handset.now }
+fn next_for(draft: &CentreDraft<'_>, handset: &Msisdn) -> Option<QueuedPart>
     ensures { (d : Draft) → Represents d draft.now → result ≡ next_for_of handset.now d }
 {
     if !draft.queues.is_ready(handset) {
@@ -31,8 +29,7 @@ fn next_for(draft: &CentreDraft<'_>, handset: &Digits) -> Option<QueuedPart>
 }
 
 // Whether another is due beside it.
-fn has_more(draft: &CentreDraft<'_>, handset: &Digits, queued: &QueuedPart) -> bool
-    requires digits { AllDigits handset.now }
+fn has_more(draft: &CentreDraft<'_>, handset: &Msisdn, queued: &QueuedPart) -> bool
     ensures { (d : Draft) → Represents d draft.now → result ≡ waits_beside d.store.moment queued.now (waiting_in handset.now d.store) }
 {
     draft.queues.waits_beside(handset, draft.now(), queued)
@@ -43,10 +40,9 @@ fn offer_queued<B: BodyKeep>(
     draft: &mut CentreDraft<'_>,
     bodies: &mut B,
     centre: &[u8],
-    handset: Digits,
+    handset: Msisdn,
     queued: &QueuedPart,
 ) -> Result<(), PlanError>
-    requires digits { AllDigits handset }
     ensures outcome { (d : Draft) (rows : B.Rows) → Represents d draft.old → CanOffer B.body_of rows centre.now d.store
         → Among queued.now (waiting_in handset d.store)
         → ReadingOutcome (λ _. Represents (offer_next handset (Some queued.now) d) draft.new) (offer_next handset (Some queued.now) d).links.read rows
@@ -60,14 +56,13 @@ fn offer_queued<B: BodyKeep>(
     }
 }
 
-// The next that is due for the handset is offered, if its line is ready.
-fn offer_to<B: BodyKeep>(
+/// Offers the next due part to `handset`, if its line is ready.
+pub(crate) fn offer_at<B: BodyKeep>(
     draft: &mut CentreDraft<'_>,
     bodies: &mut B,
     centre: &[u8],
-    handset: Digits,
+    handset: Msisdn,
 ) -> Result<(), PlanError>
-    requires digits { AllDigits handset }
     ensures outcome { (d : Draft) (rows : B.Rows) → Represents d draft.old → CanOffer B.body_of rows centre.now d.store
         → ReadingOutcome (λ _. Represents (offer_at_of handset d) draft.new)
         (offer_at_of handset d).links.read rows (B.state bodies.old) (B.state bodies.new) result }
@@ -77,23 +72,4 @@ fn offer_to<B: BodyKeep>(
         Some(queued) => offer_queued(draft, bodies, centre, handset, &queued),
         None => Ok(()),
     }
-}
-
-/// Offers the next due part to `handset`. A handset whose number isn't digits has no link, and gets none.
-pub(crate) fn offer_at<B: BodyKeep>(
-    draft: &mut CentreDraft<'_>,
-    bodies: &mut B,
-    centre: &[u8],
-    handset: Digits,
-) -> Result<(), PlanError>
-    ensures outcome { (d : Draft) (rows : B.Rows) → Represents d draft.old → AllDigits handset
-        → CanOffer B.body_of rows centre.now d.store
-        → ReadingOutcome (λ _. Represents (offer_at_of handset d) draft.new)
-        (offer_at_of handset d).links.read rows (B.state bodies.old) (B.state bodies.new) result }
-    ensures before { WasHonest (B.state bodies.old) (B.state bodies.new) }
-{
-    if !are_digits(handset.as_slice()) {
-        return Ok(());
-    }
-    offer_to(draft, bodies, centre, handset)
 }

@@ -1,7 +1,6 @@
 //! The unit in which a TPDU is offered, and the transaction that carries it.
 ghost use Rattle.std.specs.Prelude.{◌≡◌, ◌<◌, ◌≤◌, ◌↔◌, length, true, IfOk, OnOk};
 ghost use Rattle.sms_relay.specs.RelayGrammar.{IsCentre, IsTpdu, data_down};
-ghost use Rattle.sms_rows.specs.table.Keys.{AllDigits};
 ghost use Rattle.sms_tpdu.specs.MoreMessages.{with_more_messages};
 ghost use Rattle.sms_centre_spec.specs.Draft.{Draft};
 ghost use Rattle.sms_centre_spec.specs.Offering.{holder_of as holder_of_queued};
@@ -9,7 +8,7 @@ ghost use Rattle.sms_centre_events.specs.offering.Refusing.{UnlessMemory};
 ghost use Rattle.sms_centre_events.specs.offering.Offered.{offer_in};
 ghost use Rattle.sms_centre_draft.specs.CentreDraft.{Represents};
 
-use sms_base::{Digits, Holder, OctetView, Octets};
+use sms_base::{Holder, Msisdn, OctetView, Octets};
 use sms_centre_draft::CentreDraft;
 use sms_centre_rows::waiting::QueuedPart;
 use sms_centre_spec::PlanError;
@@ -84,11 +83,10 @@ fn holder_of(queued: &QueuedPart) -> Holder
 // A transaction to the handset begins with the unit.
 fn begun(
     draft: &mut CentreDraft<'_>,
-    handset: Digits,
+    handset: Msisdn,
     queued: &QueuedPart,
     unit: &[u8],
 ) -> Result<(), AllocError>
-    requires digits { AllDigits handset }
     requires some { 0 < length unit.now }
     requires fits { length unit.now ≤ 248 }
     ensures { (d : Draft) → Represents d draft.old → OnOk result (Represents (offer_in handset unit.now queued.now d) draft.new) }
@@ -103,11 +101,10 @@ fn begun(
 
 fn begin(
     draft: &mut CentreDraft<'_>,
-    handset: Digits,
+    handset: Msisdn,
     queued: &QueuedPart,
     unit: &[u8],
 ) -> Result<(), PlanError>
-    requires digits { AllDigits handset }
     requires some { 0 < length unit.now }
     requires fits { length unit.now ≤ 248 }
     ensures { (d : Draft) → Represents d draft.old → UnlessMemory (λ _. Represents (offer_in handset unit.now queued.now d) draft.new) result }
@@ -122,12 +119,11 @@ fn begin(
 pub(crate) fn send(
     draft: &mut CentreDraft<'_>,
     centre: &[u8],
-    handset: Digits,
+    handset: Msisdn,
     queued: &QueuedPart,
     more: bool,
     tpdu: Octets,
 ) -> Result<(), PlanError>
-    requires digits { AllDigits handset }
     ensures { (d : Draft) → Represents d draft.old → 2 ≤ length centre.now → length centre.now ≤ 11 → length tpdu ≤ 200
         → UnlessMemory (λ _. Represents (offer_in handset (data_down queued.now.reference centre.now (with_more_messages more tpdu))
         queued.now d) draft.new) result }

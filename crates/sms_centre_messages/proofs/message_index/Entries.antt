@@ -30,6 +30,7 @@ preserved_entry old new keeps e m is = record {
   originator = preserved_originator old.accounts.values new.accounts.values keeps.accounts e.originator m.originator is.originator;
   source = keeps.numbers m.source.digits e.source_digits is.source;
   handset = keeps.numbers m.handset e.handset is.handset;
+  number = is.number;
   row = is.row;
 }
 

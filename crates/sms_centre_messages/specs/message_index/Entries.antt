@@ -1,5 +1,6 @@
 -- A message's row in memory: what it shares with others is under places.
 use Rattle.std.specs.Prelude.{◌≡◌, ℕ, ◌+◌, ◌≤◌, List, [], ◌∷◌, Option, Some, None}
+use Rattle.sms_base.specs.Msisdn.{IsMsisdn}
 use Rattle.sms_rows.specs.interning.Interning.{InternedOf, IsAt, Keeps}
 use Rattle.sms_centre_rows.specs.declared.messages.message.MessageRow.{MessageRow}
 use Rattle.sms_base.specs.declared.originator.Originator.{Originator}
@@ -44,6 +45,7 @@ pub record IsEntry (names : NamesOf) (e : MessageEntry) (m : MessageRow) : Type 
   pub originator : IsOriginator names.accounts.values e.originator m.originator
   pub source : IsAt m.source.digits e.source_digits names.numbers.values
   pub handset : IsAt m.handset e.handset names.numbers.values
+  pub number : IsMsisdn m.handset
   pub row : m ≡ row_with e m.originator m.source.digits m.handset
 
 -- entry by entry

@@ -1,6 +1,7 @@
 //! What messages share: numbers and the names of accounts.
-ghost use Rattle.std.specs.Prelude.{◌≡◌, ◌+◌, ◌*◌, ◌<◌, ◌≤◌, Some, IfOk, IsOk, OnOk};
-ghost use Rattle.sms_rows.specs.interning.Interning.{Keeps, TookNumbers, Suffices};
+ghost use Rattle.std.specs.Prelude.{◌≡◌, ◌+◌, ◌*◌, ◌<◌, ◌≤◌, ℕ, List, Some, IfOk, IsOk, OnOk};
+ghost use Rattle.sms_base.specs.Msisdn.{IsMsisdn};
+ghost use Rattle.sms_rows.specs.interning.Interning.{IsAt, Keeps, TookNumbers, Suffices};
 ghost use Rattle.sms_centre_messages.specs.message_index.Entries.{IsEntry, IsOriginator, NamesStay, UsesNames};
 ghost use Rattle.sms_centre_messages.specs.message_index.Summaries.{summary_of};
 ghost use Rattle.sms_centre_rows.specs.declared.messages.message.MessageRow.{MessageRow as MessageRowOf};
@@ -9,7 +10,7 @@ ghost use Rattle.sms_base.specs.declared.originator.Originator.{Originator as Or
 
 use crate::message_index::message_entry::{MessageEntry, OriginatorEntry};
 use crate::message_index::summary::MessageSummary;
-use sms_base::{Address, Octets, Originator};
+use sms_base::{Address, Msisdn, Octets, Originator};
 use sms_centre_rows::messages::MessageRow;
 use sms_rows::interning::{Accounts, AccountsReserve, Numbers, NumbersReserve};
 use std::alloc::{AllocError, Global};
@@ -67,6 +68,14 @@ impl Names {
         }
     }
 
+    // The number of the handset under the place; None where it names none.
+    fn handset(&self, place: usize) -> Option<Msisdn>
+        ensures { (digits : List ℕ) → IsAt digits place self.now.numbers.values → IsMsisdn digits → result ≡ Some digits }
+    {
+        let digits = self.numbers.at(place)?;
+        Msisdn::of_digits(&digits)
+    }
+
     // The row of the entry; None where a place names nothing.
     pub(crate) fn row(
         &self,
@@ -78,7 +87,7 @@ impl Names {
         let Some(digits) = self.numbers.at(entry.source_digits) else {
             return Ok(None);
         };
-        let Some(handset) = self.numbers.at(entry.handset) else {
+        let Some(handset) = self.handset(entry.handset) else {
             return Ok(None);
         };
         let Some(originator) = self.originator(alloc, &entry.originator)? else {
@@ -109,7 +118,7 @@ impl Names {
         ensures { (m : MessageRowOf) → IsEntry self.now entry.now m → result ≡ Some (summary_of m) }
     {
         let source = self.numbers.at(entry.source_digits)?;
-        let handset = self.numbers.at(entry.handset)?;
+        let handset = self.handset(entry.handset)?;
         Some(MessageSummary {
             id: entry.id,
             source: Address {
@@ -177,7 +186,8 @@ impl Names {
         } = row;
         let originator = self.originator_entry(originator)?;
         let source_digits = self.numbers.put(source.digits)?;
-        let handset = self.numbers.put(handset)?;
+        handset.spells_a_number();
+        let handset = self.numbers.put(handset.digits())?;
         Ok(MessageEntry {
             id,
             originator,

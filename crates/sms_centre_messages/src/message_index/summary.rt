@@ -7,7 +7,7 @@ ghost use Rattle.sms_centre_rows.specs.declared.messages.message.MessageRow.{Mes
 ghost use Rattle.sms_centre_rows.specs.declared.messages.part.PartRow.{PartRow as PartRowOf};
 
 use crate::message_index::index::MessageIndex;
-use sms_base::{Address, Digits, FinalState, MessageId};
+use sms_base::{Address, FinalState, MessageId, Msisdn};
 
 /// The source and the destination of a message, and how it ended.
 #[derive(Clone, Copy, PartialEq, Eq)]
@@ -15,8 +15,8 @@ pub struct MessageSummary {
     pub id: MessageId,
     /// TP-OA of its parts.
     pub source: Address,
-    /// The digits 0 to 9 of its destination.
-    pub handset: Digits,
+    /// The number of its destination.
+    pub handset: Msisdn,
     /// How it ended; a message without an end is pending.
     pub state: Option<FinalState>,
 }

@@ -2,7 +2,7 @@
 ghost use Rattle.std.specs.Prelude.{◌≡◌};
 ghost use Rattle.sms_centre_messages.specs.references.Keys.{key_of, pair_of};
 
-use sms_base::{Address, Digits};
+use sms_base::{Address, Digits, Msisdn};
 use sms_rows::interning::Number;
 
 /// The source of a message: TP-OA of its parts.
@@ -25,7 +25,7 @@ pub struct MessageEnds {
 
 impl MessageEnds {
     // That number of a source and a handset.
-    pub(crate) fn of(source: &Address, handset: &Digits, number: u16) -> MessageEnds
+    pub(crate) fn of(source: &Address, handset: &Msisdn, number: u16) -> MessageEnds
         ensures { result ≡ key_of source.now handset.now number }
     {
         MessageEnds {
@@ -36,13 +36,15 @@ impl MessageEnds {
                     digits: source.digits,
                 },
             },
-            handset: Number { digits: *handset },
+            handset: Number {
+                digits: handset.digits(),
+            },
             number,
         }
     }
 
     // That number of the digits of a source and a handset.
-    pub(crate) fn of_digits(source: &Digits, handset: &Digits, number: u16) -> MessageEnds
+    pub(crate) fn of_digits(source: &Digits, handset: &Msisdn, number: u16) -> MessageEnds
         ensures { result ≡ pair_of source.now handset.now number }
     {
         MessageEnds {
@@ -51,7 +53,9 @@ impl MessageEnds {
                 plan: 0,
                 digits: Number { digits: *source },
             },
-            handset: Number { digits: *handset },
+            handset: Number {
+                digits: handset.digits(),
+            },
             number,
         }
     }

@@ -9,7 +9,7 @@ ghost use Rattle.sms_centre_rows.specs.declared.messages.part.PartRow.{PartRow a
 
 use crate::references::counts::Counts;
 use crate::references::message_ends::MessageEnds;
-use sms_base::{Address, Digits};
+use sms_base::{Address, Digits, Msisdn};
 use sms_centre_rows::messages::MessageRow;
 use std::alloc::Global;
 use std::marker::Model;
@@ -67,7 +67,7 @@ impl ReferenceIndex {
 
     /// Whether the reference of a submission's own header was given to a message of its source and handset that isn't
     /// wholly delivered, or to one that was not and is forgotten.
-    pub fn is_taken(&self, source: &Address, handset: &Digits, reference: Option<u16>) -> bool
+    pub fn is_taken(&self, source: &Address, handset: &Msisdn, reference: Option<u16>) -> bool
         ensures { (bs : List BarRowOf) (ms : List MessageRowOf) (ps : List PartRowOf) → Represents self.now bs ms ps
             → result ≡ is_taken reference (held_references source.now handset.now bs ms) }
     {
@@ -78,7 +78,7 @@ impl ReferenceIndex {
     }
 
     // Whether a message that isn't wholly delivered holds the reference, or one did that is forgotten.
-    fn is_held(&self, source: &Address, handset: &Digits, reference: u16) -> bool
+    fn is_held(&self, source: &Address, handset: &Msisdn, reference: u16) -> bool
         ensures { (bs : List BarRowOf) (ms : List MessageRowOf) (ps : List PartRowOf) → Represents self.now bs ms ps
             → result ≡ is_among reference (held_references source.now handset.now bs ms) }
     {
@@ -90,7 +90,7 @@ impl ReferenceIndex {
     }
 
     // Whether one was submitted with the reference.
-    fn is_own(&self, source: &Address, handset: &Digits, reference: u16) -> bool
+    fn is_own(&self, source: &Address, handset: &Msisdn, reference: u16) -> bool
         ensures { (bs : List BarRowOf) (ms : List MessageRowOf) (ps : List PartRowOf) → Represents self.now bs ms ps
             → result ≡ is_among reference (own_references source.now handset.now bs ms ps) }
     {
@@ -102,7 +102,7 @@ impl ReferenceIndex {
     }
 
     // Whether no message may be split under the reference now.
-    fn is_barred(&self, source: &Address, handset: &Digits, reference: u16) -> bool
+    fn is_barred(&self, source: &Address, handset: &Msisdn, reference: u16) -> bool
         ensures { (bs : List BarRowOf) (ms : List MessageRowOf) (ps : List PartRowOf) → Represents self.now bs ms ps
             → result ≡ is_among reference (held_references source.now handset.now bs ms ++ own_references source.now handset.now bs ms ps) }
     {
@@ -114,7 +114,7 @@ impl ReferenceIndex {
 
     /// The reference under which the next message of that source to that handset is split, if one is free. It costs one
     /// look-up for each reference that is tried.
-    pub fn next_split(&self, source: &Address, handset: &Digits) -> Option<u16>
+    pub fn next_split(&self, source: &Address, handset: &Msisdn) -> Option<u16>
         ensures { (bs : List BarRowOf) (ms : List MessageRowOf) (ps : List PartRowOf) → Represents self.now bs ms ps
             → result ≡ next_split source.now handset.now bs ms ps }
     {
@@ -146,7 +146,7 @@ impl ReferenceIndex {
 
     /// Whether a message of that handset is pending under that TP-MR: the digits of its source, those of its destination, and
     /// TP-MR.
-    pub fn has_pending(&self, source: &Digits, handset: &Digits, message_reference: u8) -> bool
+    pub fn has_pending(&self, source: &Digits, handset: &Msisdn, message_reference: u8) -> bool
         ensures { (bs : List BarRowOf) (ms : List MessageRowOf) (ps : List PartRowOf) → Represents self.now bs ms ps
             → result ≡ has_pending source.now handset.now message_reference ms }
     {

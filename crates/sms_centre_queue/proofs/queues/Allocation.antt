@@ -1,6 +1,8 @@
 -- What is shown after a reference was given.
 use Rattle.std.proofs.Common.{◌≡◌, ℕ, ◌<◌, ◌++◌, ◌∷◌, [], List, Option, refl, sym, ◌∙◌, ap, subst}
-use Rattle.sms_rows.specs.table.Keys.{AllDigits, digits_key}
+use Rattle.sms_base.specs.Msisdn.{IsMsisdn}
+use Rattle.sms_base.proofs.Msisdns.{is_number}
+use Rattle.sms_rows.specs.table.Keys.{digits_key}
 use Rattle.sms_rows.specs.table.Since.{oldest_first}
 use Rattle.sms_rows.specs.table.Table.{put}
 use Rattle.sms_rows.specs.declared.table.change.Change.{Change}
@@ -24,8 +26,8 @@ use Rattle.sms_centre_queue.proofs.queues.Moving.{taken_handset, taken_represent
 use Rattle.sms_centre_queue.proofs.queues.Places.{place_given}
 
 -- the digits of a number
-pub number_digits : (number : List ℕ) → IsNumber number → AllDigits number
-number_digits number is = (is.digits.number refl).digits
+pub number_digits : (number : List ℕ) → IsNumber number → IsMsisdn number
+number_digits number is = is_number number is
 
 pub taken_given : (number : List ℕ) (q placed : PlacedQueue) (row : HandsetRow) (was : Option HandsetRow) (reference now : ℕ) (p mid new : DeliveryQueuesDraftOf) → IsTaken number q p mid
     → Becomes (digits_key number) placed (given_to row was reference now mid) new → Becomes (digits_key number) placed (given_to row was reference now p) new
@@ -40,7 +42,7 @@ pub given_next : (number : List ℕ) (row : HandsetRow) (reference now : ℕ) (q
     → Becomes (digits_key number) (with_queue (queue_given row reference now q.queue) q) (given_to row q.queue.row reference now mid) new
     → (g : Allocations) (links : Links) (w : List ℕ → List QueuedPart) → DraftRepresents g links w p → DraftRepresents (give (handset_of number (handsets_of g)) reference now g) links w new
 given_next number row reference now q p mid new is small taken row_is becomes g links w represents =
-    let digits : AllDigits number = number_digits number is in
+    let digits : IsMsisdn number = number_digits number is in
     let hs : List HandsetRow = handsets_of g in
     let rs : List ReferenceRow = references_of g in
     let was = taken_represented number q p mid g links w digits taken represents in

@@ -1,6 +1,7 @@
 -- The queue that is found under the key of a handset's digits is that handset's; and where none is found, nothing was heard of it.
 use Rattle.std.proofs.Common.{◌≡◌, ◌≤◌, ◌^◌, ℕ, List, Option, sym, ◌∙◌, ap, subst}
-use Rattle.sms_rows.specs.table.Keys.{AllDigits, digits_key}
+use Rattle.sms_base.specs.Msisdn.{IsMsisdn}
+use Rattle.sms_rows.specs.table.Keys.{digits_key}
 use Rattle.sms_centre_rows.specs.declared.waiting.handset.HandsetRow.{HandsetRow}
 use Rattle.sms_centre_rows.specs.declared.waiting.handset_link.HandsetLink.{HandsetLink}
 use Rattle.sms_centre_rows.specs.declared.waiting.queued_part.QueuedPart.{QueuedPart}
@@ -12,21 +13,21 @@ use Rattle.sms_centre_queue.specs.declared.queues.placed_queue.PlacedQueue.{Plac
 use Rattle.sms_centre_queue.specs.queues.Queues.{DeliveryQueuesDraftOf, HasNoPlace, at, or_new, placed_of}
 use Rattle.sms_centre_queue.specs.queues.Representing.{DraftRepresents, RepresentsPlaced}
 
-pub asked : (number : List ℕ) (o : Option PlacedQueue) (p : DeliveryQueuesDraftOf) → AllDigits number → o ≡ at (digits_key number) p
+pub asked : (number : List ℕ) (o : Option PlacedQueue) (p : DeliveryQueuesDraftOf) → IsMsisdn number → o ≡ at (digits_key number) p
     → (g : Allocations) (links : Links) (w : List ℕ → List QueuedPart) → DraftRepresents g links w p → RepresentsPlaced number (handsets_of g) (references_of g) (w number) links.lines (or_new number o)
 asked number o p digits is g links w represents =
     subst (λ (x : Option PlacedQueue). RepresentsPlaced number (handsets_of g) (references_of g) (w number) links.lines (or_new number x)) (sym is) (represents.each number digits)
 
-pub asked_waiting : (number : List ℕ) (o : Option PlacedQueue) (p : DeliveryQueuesDraftOf) → AllDigits number → o ≡ at (digits_key number) p
+pub asked_waiting : (number : List ℕ) (o : Option PlacedQueue) (p : DeliveryQueuesDraftOf) → IsMsisdn number → o ≡ at (digits_key number) p
     → (g : Allocations) (links : Links) (w : List ℕ → List QueuedPart) → DraftRepresents g links w p → (or_new number o).queue.waiting ≡ w number
 asked_waiting number o p digits is g links w represents = (asked number o p digits is g links w represents).queue.all_queued
 
-pub asked_line : (number : List ℕ) (o : Option PlacedQueue) (p : DeliveryQueuesDraftOf) → AllDigits number → o ≡ at (digits_key number) p
+pub asked_line : (number : List ℕ) (o : Option PlacedQueue) (p : DeliveryQueuesDraftOf) → IsMsisdn number → o ≡ at (digits_key number) p
     → (g : Allocations) (links : Links) (w : List ℕ → List QueuedPart) → DraftRepresents g links w p → (or_new number o).queue.line ≡ line_of number links.lines
 asked_line number o p digits is g links w represents = (asked number o p digits is g links w represents).queue.line
 
 -- the next reference at a queue is that of its handset
-pub asked_reference : (number : List ℕ) (o : Option PlacedQueue) (p : DeliveryQueuesDraftOf) (now : ℕ) → AllDigits number → o ≡ at (digits_key number) p
+pub asked_reference : (number : List ℕ) (o : Option PlacedQueue) (p : DeliveryQueuesDraftOf) (now : ℕ) → IsMsisdn number → o ≡ at (digits_key number) p
     → (g : Allocations) (links : Links) (w : List ℕ → List QueuedPart) → DraftRepresents g links w p
     → let q : PlacedQueue = or_new number o in
     next_reference (or_new_handset q.queue.line.handset p.next_place q.queue.row) q.queue.waiting q.queue.given now ≡ next_reference (handset_of number (handsets_of g)) (w number) (references_of g) now
@@ -42,7 +43,7 @@ asked_reference number o p now digits is g links w represents =
     ∙ ap (λ (r : Option HandsetRow). next_reference (or_new_handset number (place_after 1 hs) r) (w number) (references_of g) now) one.queue.row
 
 -- no place is left for its handset
-pub asked_place : (number : List ℕ) (p : DeliveryQueuesDraftOf) → AllDigits number → HasNoPlace p.next_place (placed_of number p).queue.row
+pub asked_place : (number : List ℕ) (p : DeliveryQueuesDraftOf) → IsMsisdn number → HasNoPlace p.next_place (placed_of number p).queue.row
     → (g : Allocations) (links : Links) (w : List ℕ → List QueuedPart) → DraftRepresents g links w p → HasNoPlace (place_after 1 (handsets_of g)) (handset_at number (handsets_of g))
 asked_place number p digits none g links w represents =
     (sym (represents.each number digits).queue.row ∙ none.0, subst (λ (n : ℕ). 2 ^ 32 ≤ n) represents.next_place none.1)

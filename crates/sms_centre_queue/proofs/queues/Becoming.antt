@@ -4,7 +4,8 @@ use Rattle.std.specs.Option.{option_or}
 use Rattle.std.proofs.lemmas.Bool.{cases_eq}
 use Rattle.sms_base.proofs.OctetLaws.{cases_octets}
 use Rattle.sms_base.specs.Among.{Among}
-use Rattle.sms_rows.specs.table.Keys.{AllDigits, digits_key}
+use Rattle.sms_base.specs.Msisdn.{IsMsisdn}
+use Rattle.sms_rows.specs.table.Keys.{digits_key}
 use Rattle.sms_rows.specs.table.Since.{oldest_first}
 use Rattle.sms_rows.proofs.table.KeyLaws.{digits_equal}
 use Rattle.sms_centre_rows.specs.declared.waiting.handset_link.HandsetLink.{HandsetLink}
@@ -33,7 +34,7 @@ pub record Also (base : DeliveryQueuesDraftOf) (g : Allocations) (links : Links)
   pub references : base.references ≡ oldest_first g.references.news
   pub frames : base.frames ≡ links.frames
   pub lines : base.lines ≡ length links.lines
-  pub digits : (l : HandsetLink) → Among l links.lines → AllDigits l.handset
+  pub digits : (l : HandsetLink) → Among l links.lines → IsMsisdn l.handset
   pub apart : AreLines links.lines
 
 pub also_represented : (g : Allocations) (links : Links) (w : List ℕ → List QueuedPart) (p : DeliveryQueuesDraftOf) → DraftRepresents g links w p → Also p g links
@@ -49,7 +50,7 @@ also_represented g links w p s = record {
 }
 
 pub represents_next : (number : List ℕ) (placed : PlacedQueue) (p base new : DeliveryQueuesDraftOf) (g g2 : Allocations) (links air2 : Links) (w w2 : List ℕ → List QueuedPart)
-    → AllDigits number → Becomes (digits_key number) placed base new → ((k : ℕ) → at k base ≡ at k p) → base.base ≡ p.base → DraftRepresents g links w p → Also base g2 air2
+    → IsMsisdn number → Becomes (digits_key number) placed base new → ((k : ℕ) → at k base ≡ at k p) → base.base ≡ p.base → DraftRepresents g links w p → Also base g2 air2
     → placed.queue.line.handset ≡ number
     → RepresentsPlaced number (handsets_of g2) (references_of g2) (w2 number) air2.lines placed
     → ((other : List ℕ) (q : PlacedQueue) → ¬ (number ≡ other) → RepresentsPlaced other (handsets_of g) (references_of g) (w other) links.lines q
@@ -63,7 +64,7 @@ represents_next number placed p base new g g2 links air2 w w2 digits becomes sam
       subst (λ (n : List ℕ). RepresentsPlaced n (handsets_of g2) (references_of g2) (w2 n) air2.lines (placed_of n new)) e
       (subst (λ (q : PlacedQueue). RepresentsPlaced number (handsets_of g2) (references_of g2) (w2 number) air2.lines q) (sym here) own))
       (λ (ne : number ≡ other → ⊥).
-      let apart : ¬ (digits_key other ≡ digits_key number) = λ k. ne (sym (digits_equal other number d digits k)) in
+      let apart : ¬ (digits_key other ≡ digits_key number) = λ k. ne (sym (digits_equal other number d.each digits.each k)) in
       let there : placed_of other new ≡ placed_of other p =
       ap (λ (o : Option PlacedQueue). or_new other o) (at_other (digits_key number) (digits_key other) placed base new becomes apart ∙ same (digits_key other)) in
       subst (λ (q : PlacedQueue). RepresentsPlaced other (handsets_of g2) (references_of g2) (w2 other) air2.lines q) (sym there)
@@ -74,7 +75,7 @@ represents_next number placed p base new g g2 links air2 w w2 digits becomes sam
       let is : Some placed ≡ Some q = sym (at_own (digits_key number) placed base new becomes) ∙ ap (λ (k : ℕ). at k new) (sym e) ∙ found in
       let same_one : placed ≡ q = cc in
       subst (λ (x : PlacedQueue). IsNamed key x) same_one
-      (record { digits = subst AllDigits (sym handset) digits; key_is = ap digits_key handset ∙ sym e }))
+      (record { digits = subst IsMsisdn (sym handset) digits; key_is = ap digits_key handset ∙ sym e }))
       (λ (ne : key ≡ digits_key number → ⊥). represents.named key q (sym (same key) ∙ sym (at_other (digits_key number) key placed base new becomes ne) ∙ found))
       (cases_eq key (digits_key number));
   next_place = ap (λ (x : DeliveryQueuesDraftOf). x.next_place) becomes.rest ∙ also.next_place;

@@ -8,7 +8,8 @@ use Rattle.sms_base.specs.Among.{Among}
 use Rattle.sms_control.specs.DueTimers.{is_due, is_timed}
 use Rattle.sms_control.specs.LinkStep.{is_busy}
 use Rattle.sms_control.proofs.QuietTimers.{due_is_timed}
-use Rattle.sms_rows.specs.table.Keys.{AllDigits, digits_key}
+use Rattle.sms_base.specs.Msisdn.{IsMsisdn}
+use Rattle.sms_rows.specs.table.Keys.{digits_key}
 use Rattle.sms_rows.specs.table.Table.{Rises, row_at}
 use Rattle.sms_rows.proofs.table.Tables.{among_found}
 use Rattle.sms_centre_rows.specs.declared.waiting.handset.HandsetRow.{HandsetRow}
@@ -225,17 +226,17 @@ abbrev IsPlaced : Concern → PlacedQueue → ConcernedHandset → Type 0
 IsPlaced purpose q x = order_of purpose q ≡ Some x.order
 
 digits_stop : (purpose : Concern) (g : Allocations) (links : Links) (w : List ℕ → List QueuedPart) (p : DeliveryQueuesDraftOf) (x : ConcernedHandset) → DraftRepresents g links w p → Among x (stops_of purpose (handsets_of g) links.lines)
-    → AllDigits x.number × ((q : PlacedQueue) → RepresentsPlaced x.number (handsets_of g) (references_of g) (w x.number) links.lines q → IsPlaced purpose q x)
+    → IsMsisdn x.number × ((q : PlacedQueue) → RepresentsPlaced x.number (handsets_of g) (references_of g) (w x.number) links.lines q → IsPlaced purpose q x)
 digits_stop purpose g links w p x represents m = by purpose m where
   mention : Among x (mention_stops (handsets_of g))
-      → AllDigits x.number × ((q : PlacedQueue) → RepresentsPlaced x.number (handsets_of g) (references_of g) (w x.number) links.lines q → place_of q.queue.row ≡ Some x.order)
+      → IsMsisdn x.number × ((q : PlacedQueue) → RepresentsPlaced x.number (handsets_of g) (references_of g) (w x.number) links.lines q → place_of q.queue.row ≡ Some x.order)
   mention m =
       let r = among_mention x (handsets_of g) m in
       let h : HandsetRow = r.0 in
       let number : x.number ≡ h.number = ap (λ (s : ConcernedHandset). s.number) r.1.1 in
       let order : x.order ≡ h.place = ap (λ (s : ConcernedHandset). s.order) r.1.1 in
       let is = (represents.sound.mentioned h r.1.0).number in (
-        subst AllDigits (sym number) (number_digits h.number is),
+        subst IsMsisdn (sym number) (number_digits h.number is),
         λ q s.
             ap place_of (s.queue.row ∙ ap (λ (n : List ℕ). handset_at n (handsets_of g)) number
             ∙ row_found (handsets_of g) h (handset_at h.number (handsets_of g)) represents.sound.handset_keys represents.sound.apart r.1.0 refl)
@@ -243,10 +244,10 @@ digits_stop purpose g links w p x represents m = by purpose m where
       )
 
   line : Among x (line_stops 1 links.lines)
-      → AllDigits x.number × ((q : PlacedQueue) → RepresentsPlaced x.number (handsets_of g) (references_of g) (w x.number) links.lines q → line_place q.link_place ≡ Some x.order)
+      → IsMsisdn x.number × ((q : PlacedQueue) → RepresentsPlaced x.number (handsets_of g) (references_of g) (w x.number) links.lines q → line_place q.link_place ≡ Some x.order)
   line m =
       let r = among_line_stop 1 x links.lines (omega arith) represents.apart m in (
-        subst AllDigits (sym r.1.1) (represents.digits r.0 r.1.0),
+        subst IsMsisdn (sym r.1.1) (represents.digits r.0 r.1.0),
         λ q s.
             let link_place : q.link_place ≡ x.order = s.link_place ∙ r.1.2 in
             let some : (q.link_place == 0) ≡ false = ne_eqb q.link_place 0 (λ e. let l = r.1.3 in absurd (omega (arith, e, link_place, l))) in
@@ -254,7 +255,7 @@ digits_stop purpose g links w p x represents m = by purpose m where
       )
 
   by : (purpose : Concern) → Among x (stops_of purpose (handsets_of g) links.lines)
-      → AllDigits x.number × ((q : PlacedQueue) → RepresentsPlaced x.number (handsets_of g) (references_of g) (w x.number) links.lines q → IsPlaced purpose q x)
+      → IsMsisdn x.number × ((q : PlacedQueue) → RepresentsPlaced x.number (handsets_of g) (references_of g) (w x.number) links.lines q → IsPlaced purpose q x)
   by (Offer now) m = mention m
   by (Fire now) m = mention m
   by (FireUnmentioned now) m = line m

@@ -5,7 +5,7 @@ use Rattle.std.proofs.lemmas.Bool.{cases_Bool, cond-true, cond-false, ne_eqb}
 use Rattle.std.proofs.lemmas.Slice.Eq.{bytes_eq-Decides}
 use Rattle.sms_base.proofs.OctetLaws.{cases_octets, differ}
 use Rattle.sms_base.specs.Among.{Among}
-use Rattle.sms_rows.specs.table.Keys.{AllDigits}
+use Rattle.sms_base.specs.Msisdn.{IsMsisdn}
 use Rattle.sms_centre_rows.specs.declared.waiting.handset_link.HandsetLink.{HandsetLink}
 use Rattle.sms_centre_rows.specs.waiting.Links.{line_at, with_line}
 use Rattle.sms_centre_rows.proofs.waiting.LinksRepresented.{put_at_other}
@@ -88,14 +88,14 @@ line_count place line (l ∷ ls) some = ⊎_elim
 
 -- ---- what holds of all lines
 
-pub digits_put : (line : HandsetLink) (ls : List HandsetLink) → AllDigits line.handset → ((l : HandsetLink) → Among l ls → AllDigits l.handset) → (l : HandsetLink) → Among l (with_line line ls) → AllDigits l.handset
+pub digits_put : (line : HandsetLink) (ls : List HandsetLink) → IsMsisdn line.handset → ((l : HandsetLink) → Among l ls → IsMsisdn l.handset) → (l : HandsetLink) → Among l (with_line line ls) → IsMsisdn l.handset
 digits_put line [] d f l m = ⊎_elim
-    (λ (e : l ≡ line). subst (λ (x : HandsetLink). AllDigits x.handset) (sym e) d)
+    (λ (e : l ≡ line). subst (λ (x : HandsetLink). IsMsisdn x.handset) (sym e) d)
     (λ (r : Among l []). elim r [ ])
     m
 digits_put line (x ∷ xs) d f l m = ⊎_elim
     (λ (e : x.handset ≡ line.handset). ⊎_elim
-    (λ (q : l ≡ line). subst (λ (y : HandsetLink). AllDigits y.handset) (sym q) d)
+    (λ (q : l ≡ line). subst (λ (y : HandsetLink). IsMsisdn y.handset) (sym q) d)
     (λ (r : Among l xs). f l (inr r))
     (subst (λ (r : List HandsetLink). Among l r) (put_here line x xs e) m))
     (λ (e : x.handset ≡ line.handset → ⊥). ⊎_elim

@@ -1,6 +1,7 @@
 -- What is shown after each kind of move: what waits changes, a line changes.
 use Rattle.std.proofs.Common.{◌≡◌, ℕ, ◌++◌, List, length, refl, sym, ◌∙◌, ap, subst, arith}
-use Rattle.sms_rows.specs.table.Keys.{AllDigits, digits_key}
+use Rattle.sms_base.specs.Msisdn.{IsMsisdn}
+use Rattle.sms_rows.specs.table.Keys.{digits_key}
 use Rattle.sms_link.specs.declared.outgoing.Outgoing.{Outgoing}
 use Rattle.sms_centre_rows.specs.declared.waiting.handset_link.HandsetLink.{HandsetLink}
 use Rattle.sms_centre_rows.specs.declared.waiting.handset_link.Sent.{Sent}
@@ -33,18 +34,18 @@ taken_counted number q placed n fs p mid new taken becomes = record {
 }
 
 -- the queue that was taken out is that of the handset
-pub taken_represented : (number : List ℕ) (q : PlacedQueue) (p mid : DeliveryQueuesDraftOf) (g : Allocations) (links : Links) (w : List ℕ → List QueuedPart) → AllDigits number → IsTaken number q p mid → DraftRepresents g links w p
+pub taken_represented : (number : List ℕ) (q : PlacedQueue) (p mid : DeliveryQueuesDraftOf) (g : Allocations) (links : Links) (w : List ℕ → List QueuedPart) → IsMsisdn number → IsTaken number q p mid → DraftRepresents g links w p
     → RepresentsPlaced number (handsets_of g) (references_of g) (w number) links.lines q
 taken_represented number q p mid g links w digits taken represents =
     subst (λ (x : PlacedQueue). RepresentsPlaced number (handsets_of g) (references_of g) (w number) links.lines x) (sym taken.is) (represents.each number digits)
 
-pub taken_handset : (number : List ℕ) (q : PlacedQueue) (p mid : DeliveryQueuesDraftOf) (g : Allocations) (links : Links) (w : List ℕ → List QueuedPart) → AllDigits number → IsTaken number q p mid → DraftRepresents g links w p → q.queue.line.handset ≡ number
+pub taken_handset : (number : List ℕ) (q : PlacedQueue) (p mid : DeliveryQueuesDraftOf) (g : Allocations) (links : Links) (w : List ℕ → List QueuedPart) → IsMsisdn number → IsTaken number q p mid → DraftRepresents g links w p → q.queue.line.handset ≡ number
 taken_handset number q p mid g links w digits taken represents =
     ap (λ (l : HandsetLink). l.handset) (taken_represented number q p mid g links w digits taken represents).queue.line ∙ line_of_handset number links.lines
 
 -- ---- what waits
 
-pub waits_next : (number : List ℕ) (f : List QueuedPart → List QueuedPart) (q : PlacedQueue) (p mid new : DeliveryQueuesDraftOf) → AllDigits number → IsTaken number q p mid
+pub waits_next : (number : List ℕ) (f : List QueuedPart → List QueuedPart) (q : PlacedQueue) (p mid new : DeliveryQueuesDraftOf) → IsMsisdn number → IsTaken number q p mid
     → Becomes (digits_key number) (with_queue (record q.queue { waiting = f q.queue.waiting }) q) mid new
     → (g : Allocations) (links : Links) (w w2 : List ℕ → List QueuedPart) → DraftRepresents g links w p → Waits number f w w2 → DraftRepresents g links w2 new
 waits_next number f q p mid new digits taken becomes g links w w2 represents waits =
@@ -60,7 +61,7 @@ waits_next number f q p mid new digits taken becomes g links w w2 represents wai
 
 -- ---- a line
 
-pub line_next : (number : List ℕ) (f : HandsetLink → HandsetLink) (sent : HandsetLink → List Outgoing) (q : PlacedQueue) (p mid new : DeliveryQueuesDraftOf) → AllDigits number → ((l : HandsetLink) → (f l).handset ≡ l.handset) → IsTaken number q p mid
+pub line_next : (number : List ℕ) (f : HandsetLink → HandsetLink) (sent : HandsetLink → List Outgoing) (q : PlacedQueue) (p mid new : DeliveryQueuesDraftOf) → IsMsisdn number → ((l : HandsetLink) → (f l).handset ≡ l.handset) → IsTaken number q p mid
     → Becomes (digits_key number) (on_line (f q.queue.line) (link_place_now q.link_place mid.lines) q) (counted (lines_now q.link_place mid.lines) (mid.frames ++ to_handset number (sent q.queue.line)) mid) new
     → (g : Allocations) (links : Links) (w : List ℕ → List QueuedPart) → DraftRepresents g links w p
     → DraftRepresents g (record links { lines = with_line (f (line_of number links.lines)) links.lines; frames = links.frames ++ to_handset number (sent (line_of number links.lines)) }) w new
@@ -87,7 +88,7 @@ line_next number f sent q p mid new digits keeps taken becomes g links w represe
       references = represents.references;
       frames = ap (λ (x : List Sent). x ++ to_handset number (sent q.queue.line)) frames ∙ ap (λ (l : HandsetLink). links.frames ++ to_handset number (sent l)) is;
       lines = ap (λ (c : ℕ). lines_now c mid.lines) was.link_place ∙ ap (λ (m : ℕ). lines_now (link_place_in number links.lines) m) count ∙ sym count_is;
-      digits = digits_put line links.lines (subst AllDigits (sym handset) digits) represents.digits;
+      digits = digits_put line links.lines (subst IsMsisdn (sym handset) digits) represents.digits;
       apart = apart_put line links.lines represents.apart;
     })
     (ap (λ (l : HandsetLink). (f l).handset) is ∙ handset)

@@ -1,6 +1,7 @@
 -- What is represented after a move, as the code says what it did.
 use Rattle.std.proofs.Common.{◌≡◌, ℕ, ◌<◌, ◌++◌, [], append-nil, List, Result, Ok, Err, Option, refl, sym, ◌∙◌, ap, subst, OnOk}
-use Rattle.sms_rows.specs.table.Keys.{AllDigits, digits_key}
+use Rattle.sms_base.specs.Msisdn.{IsMsisdn}
+use Rattle.sms_rows.specs.table.Keys.{digits_key}
 use Rattle.sms_link.specs.declared.outgoing.Outgoing.{Outgoing}
 use Rattle.sms_link.specs.LinkTurn.{Turn}
 use Rattle.sms_centre_rows.specs.declared.waiting.handset.HandsetRow.{HandsetRow}
@@ -25,7 +26,7 @@ if_ok (Err e) f p = p
 -- ---- what waits
 
 -- it was put back, whatever the change said
-pub waits_done : {X E : Type 0} (number : List ℕ) (f : List QueuedPart → List QueuedPart) (q : PlacedQueue) (s : DeliveryQueueOf) (p mid new : DeliveryQueuesDraftOf) (r : Result X E) → AllDigits number → IsTaken number q p mid
+pub waits_done : {X E : Type 0} (number : List ℕ) (f : List QueuedPart → List QueuedPart) (q : PlacedQueue) (s : DeliveryQueueOf) (p mid new : DeliveryQueuesDraftOf) (r : Result X E) → IsMsisdn number → IsTaken number q p mid
     → OnOk r (s ≡ record q.queue { waiting = f q.queue.waiting }) → Becomes (digits_key number) (with_queue s q) mid new
     → OnOk r ((g : Allocations) (links : Links) (w w2 : List ℕ → List QueuedPart) → DraftRepresents g links w p → Waits number f w w2 → DraftRepresents g links w2 new)
 waits_done number f q s p mid new r digits taken is becomes =
@@ -46,7 +47,7 @@ abbrev pub LinePut : List ℕ → PlacedQueue → DeliveryQueueOf → List Outgo
 LinePut number q s frames mid new =
     Becomes (digits_key number) (record { queue = s; link_place = link_place_now q.link_place mid.lines }) (counted (lines_now q.link_place mid.lines) (mid.frames ++ to_handset number frames) mid) new
 
-pub line_ok : {X E : Type 0} (number : List ℕ) (f : HandsetLink → HandsetLink) (q : PlacedQueue) (s : DeliveryQueueOf) (none : List Outgoing) (p mid new : DeliveryQueuesDraftOf) (r : Result X E) → AllDigits number → ((l : HandsetLink) → (f l).handset ≡ l.handset) → IsTaken number q p mid
+pub line_ok : {X E : Type 0} (number : List ℕ) (f : HandsetLink → HandsetLink) (q : PlacedQueue) (s : DeliveryQueueOf) (none : List Outgoing) (p mid new : DeliveryQueuesDraftOf) (r : Result X E) → IsMsisdn number → ((l : HandsetLink) → (f l).handset ≡ l.handset) → IsTaken number q p mid
     → s ≡ queue_on (f q.queue.line) q.queue → none ≡ [] → OnOk r (LinePut number q s none mid new)
     → OnOk r ((g : Allocations) (links : Links) (w : List ℕ → List QueuedPart) → DraftRepresents g links w p → DraftRepresents g (put_line (f (line_of number links.lines)) links) w new)
 line_ok number f q s none p mid new r digits keeps taken is empty becomes =
@@ -54,7 +55,7 @@ line_ok number f q s none p mid new r digits keeps taken is empty becomes =
     subst (λ (fs : List Sent). DraftRepresents g (record links { lines = with_line (f (line_of number links.lines)) links.lines; frames = fs }) w new) (append-nil links.frames)
     (line_next number f (λ l. []) q p mid new digits keeps taken (subst (λ (x : List Outgoing). LinePut number q (queue_on (f q.queue.line) q.queue) x mid new) empty (subst (λ (x : DeliveryQueueOf). LinePut number q x none mid new) is b)) g links w represents)) becomes
 
-turn_next : (number : List ℕ) (turn : HandsetLink → Turn) (q : PlacedQueue) (s : DeliveryQueueOf) (frames : List Outgoing) (p mid new : DeliveryQueuesDraftOf) → AllDigits number → IsTaken number q p mid
+turn_next : (number : List ℕ) (turn : HandsetLink → Turn) (q : PlacedQueue) (s : DeliveryQueueOf) (frames : List Outgoing) (p mid new : DeliveryQueuesDraftOf) → IsMsisdn number → IsTaken number q p mid
     → s ≡ queue_turned (turn q.queue.line) q.queue → frames ≡ (turn q.queue.line).out.frames → LinePut number q s frames mid new
     → (g : Allocations) (links : Links) (w : List ℕ → List QueuedPart) → DraftRepresents g links w p → DraftRepresents g (turn_line (line_of number links.lines) (turn (line_of number links.lines)) links) w new
 turn_next number turn q s frames p mid new digits taken is sent becomes g links w represents =
@@ -65,7 +66,7 @@ turn_next number turn q s frames p mid new digits taken is sent becomes g links 
     (subst (λ (x : List Outgoing). LinePut number q (queue_turned (turn q.queue.line) q.queue) x mid new) sent (subst (λ (x : DeliveryQueueOf). LinePut number q x frames mid new) is becomes))
     g links w represents)
 
-pub turn_ok : {X E : Type 0} (number : List ℕ) (turn : HandsetLink → Turn) (q : PlacedQueue) (s : DeliveryQueueOf) (frames : List Outgoing) (p mid new : DeliveryQueuesDraftOf) (r : Result X E) → AllDigits number → IsTaken number q p mid
+pub turn_ok : {X E : Type 0} (number : List ℕ) (turn : HandsetLink → Turn) (q : PlacedQueue) (s : DeliveryQueueOf) (frames : List Outgoing) (p mid new : DeliveryQueuesDraftOf) (r : Result X E) → IsMsisdn number → IsTaken number q p mid
     → s ≡ queue_turned (turn q.queue.line) q.queue → frames ≡ (turn q.queue.line).out.frames → OnOk r (LinePut number q s frames mid new)
     → OnOk r ((g : Allocations) (links : Links) (w : List ℕ → List QueuedPart) → DraftRepresents g links w p → DraftRepresents g (turn_line (line_of number links.lines) (turn (line_of number links.lines)) links) w new)
 turn_ok number turn q s frames p mid new r digits taken is sent becomes = if_ok r (turn_next number turn q s frames p mid new digits taken is sent) becomes

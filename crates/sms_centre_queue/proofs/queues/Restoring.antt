@@ -3,7 +3,8 @@ use Rattle.std.proofs.Common.{◌≡◌, ◌⊎◌, ℕ, ◌+◌, List, [], ◌�
 use Rattle.std.specs.Prelude.{if◌then◌else◌}
 use Rattle.std.proofs.lemmas.Bool.{cases_Bool, cond-true, cond-false}
 use Rattle.sms_base.specs.Among.{Among}
-use Rattle.sms_rows.specs.table.Keys.{AllDigits, digits_key, pair_key}
+use Rattle.sms_base.specs.Msisdn.{IsMsisdn}
+use Rattle.sms_rows.specs.table.Keys.{digits_key, pair_key}
 use Rattle.sms_rows.specs.table.Table.{row_at}
 use Rattle.sms_rows.proofs.table.KeyLaws.{digits_equal}
 use Rattle.sms_rows.proofs.table.Tables.{among_found}
@@ -77,13 +78,13 @@ one_row hs rs f g sound m n e =
     cc
 
 -- what stands under the key of a handset
-pub restored_at : (number : List ℕ) (hs : List HandsetRow) (rs : List ReferenceRow) (row : Option HandsetRow) (o : Option PlacedQueue) → SoundAllocations hs rs → AllDigits number → handset_at number hs ≡ row
+pub restored_at : (number : List ℕ) (hs : List HandsetRow) (rs : List ReferenceRow) (row : Option HandsetRow) (o : Option PlacedQueue) → SoundAllocations hs rs → IsMsisdn number → handset_at number hs ≡ row
     → restored_all (digits_key number) hs rs None ≡ o → RepresentsPlaced number hs rs [] [] (or_new number o)
 restored_at number hs rs None None sound digits at is = record { queue = record { row = sym at; given = refl; all_queued = refl; line = refl }; link_place = refl }
 restored_at number hs rs None (Some q) sound digits at is = ⊎_elim
     (λ (s : None ≡ Some q). absurd cc)
     (λ (s : (h : HandsetRow) × (Among h hs × (digits_key number ≡ digits_key h.number) × (q ≡ restored h rs))).
-    let same = digits_equal number s.0.number digits (number_digits s.0.number (sound.mentioned s.0 s.1.0).number) s.1.1 in
+    let same = digits_equal number s.0.number digits.each (number_digits s.0.number (sound.mentioned s.0 s.1.0).number).each s.1.1 in
     absurd (number_none number s.0 hs at s.1.0 (sym same)))
     (from_row (digits_key number) hs rs None q is)
 restored_at number hs rs (Some h) None sound digits at is =
@@ -94,7 +95,7 @@ restored_at number hs rs (Some h) (Some q) sound digits at is = ⊎_elim
     (λ (s : None ≡ Some q). absurd cc)
     (λ (s : (x : HandsetRow) × (Among x hs × (digits_key number ≡ digits_key x.number) × (q ≡ restored x rs))).
     let there = number_found number h hs at in
-    let same = digits_equal number s.0.number digits (number_digits s.0.number (sound.mentioned s.0 s.1.0).number) s.1.1 in
+    let same = digits_equal number s.0.number digits.each (number_digits s.0.number (sound.mentioned s.0 s.1.0).number).each s.1.1 in
     let row : s.0 ≡ h = one_row hs rs s.0 h sound s.1.0 there.0 (sym same ∙ sym there.1) in
     let q_is : q ≡ restored h rs = s.1.2 ∙ ap (λ (x : HandsetRow). restored x rs) row in
     subst (λ (x : PlacedQueue). RepresentsPlaced number hs rs [] [] x) (sym q_is)

@@ -3,7 +3,8 @@
 -- too.
 use Rattle.std.specs.Prelude.{◌≡◌, ℕ, List, [], length, true, None, Some}
 use Rattle.sms_base.specs.Among.{Among}
-use Rattle.sms_rows.specs.table.Keys.{AllDigits, digits_key}
+use Rattle.sms_base.specs.Msisdn.{IsMsisdn}
+use Rattle.sms_rows.specs.table.Keys.{digits_key}
 use Rattle.sms_rows.specs.table.Since.{oldest_first, untouched}
 use Rattle.sms_centre_rows.specs.declared.waiting.handset.HandsetRow.{HandsetRow}
 use Rattle.sms_centre_rows.specs.declared.waiting.handset_link.HandsetLink.{HandsetLink}
@@ -28,7 +29,7 @@ pub record RepresentsPlaced (number : List ℕ) (handsets : List HandsetRow) (re
 
 -- a queue is under the key of its handset
 pub record IsNamed (key : ℕ) (placed : PlacedQueue) : Type 0 where
-  pub digits : AllDigits placed.queue.line.handset
+  pub digits : IsMsisdn placed.queue.line.handset
   pub key_is : digits_key placed.queue.line.handset ≡ key
 
 -- ---- the index: what it leaves out concerns no event but its handset's own
@@ -41,14 +42,14 @@ pub record Indexed (s : SharedQueuesOf) : Type 0 where
 
 pub record DraftRepresents (g : Allocations) (links : Links) (waiting : List ℕ → List QueuedPart) (p : DeliveryQueuesDraftOf) : Type 0 where
   pub sound : SoundAllocations (handsets_of g) (references_of g)
-  pub each : (number : List ℕ) → AllDigits number → RepresentsPlaced number (handsets_of g) (references_of g) (waiting number) links.lines (placed_of number p)
+  pub each : (number : List ℕ) → IsMsisdn number → RepresentsPlaced number (handsets_of g) (references_of g) (waiting number) links.lines (placed_of number p)
   pub named : (key : ℕ) (placed : PlacedQueue) → at key p ≡ Some placed → IsNamed key placed
   pub next_place : p.next_place ≡ place_after 1 (handsets_of g)
   pub handsets : p.handsets ≡ oldest_first g.handsets.news
   pub references : p.references ≡ oldest_first g.references.news
   pub frames : p.frames ≡ links.frames
   pub lines : p.lines ≡ length links.lines
-  pub digits : (l : HandsetLink) → Among l links.lines → AllDigits l.handset
+  pub digits : (l : HandsetLink) → Among l links.lines → IsMsisdn l.handset
   pub apart : AreLines links.lines
   pub indexed : Indexed p.base
 

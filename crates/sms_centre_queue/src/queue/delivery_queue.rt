@@ -14,7 +14,7 @@ ghost use Rattle.sms_centre_queue.specs.queue.Watching.{figures_of};
 use crate::queue::given_references::GivenReferences;
 use crate::queue::link_figures::LinkFigures;
 use sms_base::lending::put;
-use sms_base::{Digits, Holder, Kind, Listed, MessageId, Moment};
+use sms_base::{Holder, Kind, Listed, MessageId, Moment, Msisdn};
 use sms_centre_rows::waiting::{HandsetLink, HandsetRow, QueuedPart, ReferenceRow};
 use sms_link::{Link, LinkOut, Outgoing, Side};
 use sms_rows::table::{Key, Table};
@@ -43,7 +43,7 @@ impl Model for DeliveryQueue {
 
 impl DeliveryQueue {
     /// The queue of a handset of which nothing was heard.
-    pub fn new(alloc: Global, number: Digits) -> DeliveryQueue
+    pub fn new(alloc: Global, number: Msisdn) -> DeliveryQueue
         ensures { result ≡ record { row = None; given = []; waiting = []; line = new_line number } }
     {
         DeliveryQueue {

@@ -2,7 +2,7 @@
 ghost use Rattle.std.specs.Prelude.{◌≡◌};
 ghost use Rattle.sms_centre_queue.specs.queues.Keys.{stop_key};
 
-use sms_base::{Digits, Moment};
+use sms_base::{Moment, Msisdn};
 use sms_rows::table::{Key, Row};
 
 /// A handset that an event concerns, by its place in the order in which the event walks over them.
@@ -12,7 +12,7 @@ pub struct ConcernedHandset {
     /// 1.
     pub order: u64,
     /// The handset's digits.
-    pub number: Digits,
+    pub number: Msisdn,
 }
 
 impl Row for ConcernedHandset {

@@ -1,5 +1,6 @@
 //! The queues of all handsets, within an event.
 ghost use Rattle.std.specs.Prelude.{◌≡◌, ◌++◌, ℕ, List, [], Some, nat_eq, if◌then◌else◌, IfOk, OnOk, option_copied};
+ghost use Rattle.sms_base.specs.Msisdn.{IsMsisdn};
 ghost use Rattle.sms_rows.specs.table.Keys.{digits_key};
 ghost use Rattle.sms_centre_rows.specs.waiting.Links.{to_handset};
 ghost use Rattle.sms_centre_rows.specs.declared.waiting.handset.HandsetRow.{HandsetRow as HandsetRowOf};
@@ -16,7 +17,7 @@ use crate::queues::keyed::put_under;
 use crate::queues::placed_queue::PlacedQueue;
 use crate::queues::shared_queues::SharedQueues;
 use indexmap::IndexMap;
-use sms_base::{Digits, Listed};
+use sms_base::{Listed, Msisdn};
 use sms_centre_rows::waiting::{HandsetRow, ReferenceRow, Sent};
 use sms_link::Outgoing;
 use sms_rows::table::{Change, Key, Table};
@@ -97,10 +98,11 @@ impl DeliveryQueuesDraft {
     }
 
     /// Takes the queue of the handset out, to be put back.
-    pub(crate) fn take_out(&mut self, number: Digits) -> Result<PlacedQueue, AllocError>
-        ensures { IfOk result (λ placed. IsTaken number placed self.old self.new) }
+    pub(crate) fn take_out(&mut self, number: Msisdn) -> Result<PlacedQueue, AllocError>
+        ensures taken { IfOk result (λ placed. IsTaken number placed self.old self.new) }
+        ensures number { IsMsisdn number }
     {
-        let key = Key::digits(&number).number();
+        let key = Key::handset(&number).number();
         if let Some(placed) = self.touched.swap_remove(&key) {
             return Ok(placed);
         }
@@ -111,10 +113,10 @@ impl DeliveryQueuesDraft {
     }
 
     /// Puts the queue of the handset back.
-    pub(crate) fn put_back(&mut self, number: Digits, placed: PlacedQueue) -> Result<(), AllocError>
+    pub(crate) fn put_back(&mut self, number: Msisdn, placed: PlacedQueue) -> Result<(), AllocError>
         ensures { OnOk result (Becomes (digits_key number) placed self.old self.new) }
     {
-        put_under(&mut self.touched, Key::digits(&number).number(), placed)
+        put_under(&mut self.touched, Key::handset(&number).number(), placed)
     }
 
     /// Gives a link that has no place yet one behind all others.
@@ -136,7 +138,7 @@ impl DeliveryQueuesDraft {
     /// Puts the queue of the handset back, whose link is new or has changed, and sends frames on it.
     pub(crate) fn put_line(
         &mut self,
-        number: Digits,
+        number: Msisdn,
         placed: PlacedQueue,
         frames: Listed<Outgoing>,
     ) -> Result<(), AllocError>
@@ -152,7 +154,7 @@ impl DeliveryQueuesDraft {
     // Its link has a place, and the frames are sent on it.
     fn note_line(
         &mut self,
-        number: Digits,
+        number: Msisdn,
         placed: &mut PlacedQueue,
         frames: Listed<Outgoing>,
     ) -> Result<(), AllocError>
@@ -224,7 +226,7 @@ impl DeliveryQueuesDraft {
 // Frames to a handset.
 fn push_sent(
     out: &mut Listed<Sent>,
-    number: Digits,
+    number: Msisdn,
     frames: Listed<Outgoing>,
 ) -> Result<(), AllocError>
     ensures { OnOk result (out.new ≡ out.old ++ to_handset number frames) }

@@ -1,13 +1,12 @@
 //! What an event does with the queue of a handset.
 ghost use Rattle.std.specs.Prelude.{◌≡◌, ◌<◌, ◌≤◌, ◌++◌, ℕ, List, Some, length, IfNone, IfOk, IfSome, OnOk};
 ghost use Rattle.sms_link.specs.LinkTurn.{begun, fired, replied, taken};
-ghost use Rattle.sms_rows.specs.table.Keys.{AllDigits, digits_key, pair_key};
+ghost use Rattle.sms_rows.specs.table.Keys.{digits_key, pair_key};
 ghost use Rattle.sms_rows.specs.table.Table.{put, without};
 ghost use Rattle.sms_centre_rows.specs.waiting.Keys.{queued_key};
 ghost use Rattle.sms_centre_rows.specs.waiting.Links.{Links, emptied, filled, line_of, lowered, put_line as put_line_in, raised, to_handset, turn_line};
 ghost use Rattle.sms_centre_rows.specs.waiting.DeliveryQueues.{queue_given};
 ghost use Rattle.sms_centre_rows.specs.waiting.References.{Allocations, give as give_in, handset_of, handsets_of, or_new_handset};
-ghost use Rattle.sms_centre_rows.specs.waiting.SoundAllocations.{IsNumber};
 ghost use Rattle.sms_centre_rows.specs.waiting.Waiting.{all_at_once, withdrawn};
 ghost use Rattle.sms_centre_rows.specs.declared.waiting.queued_part.QueuedPart.{QueuedPart as QueuedOf};
 ghost use Rattle.sms_centre_queue.specs.queues.LineOrder.{expected};
@@ -16,7 +15,7 @@ ghost use Rattle.sms_centre_queue.specs.queues.Representing.{DraftRepresents, Wa
 
 use crate::queues::draft::DeliveryQueuesDraft;
 use crate::queues::placed_queue::PlacedQueue;
-use sms_base::{Digits, Holder, Kind, Listed, MessageId, Moment};
+use sms_base::{Holder, Kind, Listed, MessageId, Moment, Msisdn};
 use sms_centre_rows::waiting::{HandsetRow, QueuedPart};
 use sms_link::{LinkOut, Upward};
 use sms_rows::table::Change;
@@ -24,8 +23,7 @@ use std::alloc::AllocError;
 
 impl DeliveryQueuesDraft {
     /// Lets one more wait for the handset, or the one of that message and number wait otherwise.
-    pub fn put(&mut self, number: Digits, queued: QueuedPart) -> Result<(), AllocError>
-        requires digits { AllDigits number }
+    pub fn put(&mut self, number: Msisdn, queued: QueuedPart) -> Result<(), AllocError>
         ensures { OnOk result ((g : Allocations) (links : Links) (waiting after : List ℕ → List QueuedOf) → DraftRepresents g links waiting self.old
             → Waits number (put queued_key queued) waiting after → DraftRepresents g links after self.new) }
     {
@@ -36,8 +34,7 @@ impl DeliveryQueuesDraft {
     }
 
     /// Removes what waits for the handset under that message and number.
-    pub fn remove(&mut self, number: Digits, id: MessageId, part: u8) -> Result<(), AllocError>
-        requires digits { AllDigits number }
+    pub fn remove(&mut self, number: Msisdn, id: MessageId, part: u8) -> Result<(), AllocError>
         ensures { OnOk result ((g : Allocations) (links : Links) (waiting after : List ℕ → List QueuedOf) → DraftRepresents g links waiting self.old
             → Waits number (without queued_key (pair_key id part)) waiting after → DraftRepresents g links after self.new) }
     {
@@ -48,8 +45,7 @@ impl DeliveryQueuesDraft {
     }
 
     /// No part of that message waits any more.
-    pub fn withdraw(&mut self, number: Digits, id: MessageId) -> Result<(), AllocError>
-        requires digits { AllDigits number }
+    pub fn withdraw(&mut self, number: Msisdn, id: MessageId) -> Result<(), AllocError>
         ensures { OnOk result ((g : Allocations) (links : Links) (waiting after : List ℕ → List QueuedOf) → DraftRepresents g links waiting self.old
             → Waits number (withdrawn id) waiting after → DraftRepresents g links after self.new) }
     {
@@ -60,8 +56,7 @@ impl DeliveryQueuesDraft {
     }
 
     /// All that waits for the handset is due at that moment.
-    pub fn due_at(&mut self, number: Digits, now: Moment) -> Result<(), AllocError>
-        requires digits { AllDigits number }
+    pub fn due_at(&mut self, number: Msisdn, now: Moment) -> Result<(), AllocError>
         ensures { OnOk result ((g : Allocations) (links : Links) (waiting after : List ℕ → List QueuedOf) → DraftRepresents g links waiting self.old
             → Waits number (all_at_once now) waiting after → DraftRepresents g links after self.new) }
     {
@@ -74,8 +69,7 @@ impl DeliveryQueuesDraft {
 
 impl DeliveryQueuesDraft {
     /// The handset can be reached, and has memory.
-    pub fn raise(&mut self, number: Digits) -> Result<(), AllocError>
-        requires digits { AllDigits number }
+    pub fn raise(&mut self, number: Msisdn) -> Result<(), AllocError>
         ensures { OnOk result ((g : Allocations) (links : Links) (waiting : List ℕ → List QueuedOf) → DraftRepresents g links waiting self.old
             → DraftRepresents g (put_line_in (raised (line_of number links.lines)) links) waiting self.new) }
     {
@@ -86,8 +80,7 @@ impl DeliveryQueuesDraft {
     }
 
     /// The handset's link was up before a recovery, and is up again at the next tick.
-    pub fn expect(&mut self, number: Digits) -> Result<(), AllocError>
-        requires digits { AllDigits number }
+    pub fn expect(&mut self, number: Msisdn) -> Result<(), AllocError>
         ensures { OnOk result ((g : Allocations) (links : Links) (waiting : List ℕ → List QueuedOf) → DraftRepresents g links waiting self.old
             → DraftRepresents g (put_line_in (expected (line_of number links.lines)) links) waiting self.new) }
     {
@@ -98,8 +91,7 @@ impl DeliveryQueuesDraft {
     }
 
     /// The handset can't be reached, and its next connection is a new one.
-    pub fn lower(&mut self, number: Digits) -> Result<(), AllocError>
-        requires digits { AllDigits number }
+    pub fn lower(&mut self, number: Msisdn) -> Result<(), AllocError>
         ensures { OnOk result ((g : Allocations) (links : Links) (waiting : List ℕ → List QueuedOf) → DraftRepresents g links waiting self.old
             → DraftRepresents g (put_line_in (lowered (line_of number links.lines)) links) waiting self.new) }
     {
@@ -110,8 +102,7 @@ impl DeliveryQueuesDraft {
     }
 
     /// The handset has no memory.
-    pub fn fill(&mut self, number: Digits) -> Result<(), AllocError>
-        requires digits { AllDigits number }
+    pub fn fill(&mut self, number: Msisdn) -> Result<(), AllocError>
         ensures { OnOk result ((g : Allocations) (links : Links) (waiting : List ℕ → List QueuedOf) → DraftRepresents g links waiting self.old
             → DraftRepresents g (put_line_in (filled (line_of number links.lines)) links) waiting self.new) }
     {
@@ -122,8 +113,7 @@ impl DeliveryQueuesDraft {
     }
 
     /// The handset has memory again.
-    pub fn empty(&mut self, number: Digits) -> Result<(), AllocError>
-        requires digits { AllDigits number }
+    pub fn empty(&mut self, number: Msisdn) -> Result<(), AllocError>
         ensures { OnOk result ((g : Allocations) (links : Links) (waiting : List ℕ → List QueuedOf) → DraftRepresents g links waiting self.old
             → DraftRepresents g (put_line_in (emptied (line_of number links.lines)) links) waiting self.new) }
     {
@@ -138,13 +128,12 @@ impl DeliveryQueuesDraft {
     /// A transaction to the handset, unless one is under way: a unit of 1 to 248 octets.
     pub fn begin(
         &mut self,
-        number: Digits,
+        number: Msisdn,
         now: Moment,
         reference: u8,
         tag: Holder,
         unit: &[u8],
     ) -> Result<(), AllocError>
-        requires digits { AllDigits number }
         requires some { 0 < length unit.now }
         requires fits { length unit.now ≤ 248 }
         ensures { OnOk result ((g : Allocations) (links : Links) (waiting : List ℕ → List QueuedOf) → DraftRepresents g links waiting self.old
@@ -164,14 +153,13 @@ impl DeliveryQueuesDraft {
     /// The answer in the transaction that the handset began, if one waits for it: a unit of 1 to 248 octets.
     pub fn reply(
         &mut self,
-        number: Digits,
+        number: Msisdn,
         now: Moment,
         kind: Kind,
         reference: u8,
         tag: Holder,
         unit: &[u8],
     ) -> Result<(), AllocError>
-        requires digits { AllDigits number }
         requires some { 0 < length unit.now }
         requires fits { length unit.now ≤ 248 }
         ensures { OnOk result ((g : Allocations) (links : Links) (waiting : List ℕ → List QueuedOf) → DraftRepresents g links waiting self.old
@@ -189,8 +177,7 @@ impl DeliveryQueuesDraft {
     }
 
     /// Takes a frame of the handset, whatever its octets, and gives what its link passes up.
-    pub fn take(&mut self, number: Digits, frame: &[u8]) -> Result<Option<Upward>, AllocError>
-        requires digits { AllDigits number }
+    pub fn take(&mut self, number: Msisdn, frame: &[u8]) -> Result<Option<Upward>, AllocError>
         ensures up { IfOk result (λ up. (g : Allocations) (links : Links) (waiting : List ℕ → List QueuedOf) → DraftRepresents g links waiting self.old
             → up ≡ (taken frame.now (line_of number links.lines).link).out.up) }
         ensures state { OnOk result ((g : Allocations) (links : Links) (waiting : List ℕ → List QueuedOf) → DraftRepresents g links waiting self.old
@@ -207,8 +194,7 @@ impl DeliveryQueuesDraft {
     }
 
     /// Lets the timers of the link fire that are due, and gives what it passes up.
-    pub fn fire(&mut self, number: Digits, now: Moment) -> Result<Option<Upward>, AllocError>
-        requires digits { AllDigits number }
+    pub fn fire(&mut self, number: Msisdn, now: Moment) -> Result<Option<Upward>, AllocError>
         ensures up { IfOk result (λ up. (g : Allocations) (links : Links) (waiting : List ℕ → List QueuedOf) → DraftRepresents g links waiting self.old
             → up ≡ (fired now (line_of number links.lines).link).out.up) }
         ensures state { OnOk result ((g : Allocations) (links : Links) (waiting : List ℕ → List QueuedOf) → DraftRepresents g links waiting self.old
@@ -227,7 +213,7 @@ impl DeliveryQueuesDraft {
     // Puts the queue back, whose link gave that.
     fn put_out(
         &mut self,
-        number: Digits,
+        number: Msisdn,
         placed: PlacedQueue,
         out: LinkOut,
     ) -> Result<Option<Upward>, AllocError>
@@ -248,8 +234,7 @@ impl DeliveryQueuesDraft {
 
 impl DeliveryQueuesDraft {
     /// Gives the reference to the handset. The last place of a handset is 4,294,967,295: a later handset gets none.
-    pub fn give(&mut self, number: Digits, reference: u8, now: Moment) -> Result<(), AllocError>
-        requires is { IsNumber number }
+    pub fn give(&mut self, number: Msisdn, reference: u8, now: Moment) -> Result<(), AllocError>
         ensures { OnOk result ((g : Allocations) (links : Links) (waiting : List ℕ → List QueuedOf) → DraftRepresents g links waiting self.old
             → DraftRepresents (give_in (handset_of number (handsets_of g)) reference now g) links waiting self.new) }
     {

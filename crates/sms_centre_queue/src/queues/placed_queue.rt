@@ -6,7 +6,7 @@ ghost use Rattle.sms_centre_queue.specs.queues.Unlined.{unlined as unlined_of};
 
 use crate::queue::DeliveryQueue;
 use crate::queues::concern::{Concern, ConcernedHandset};
-use sms_base::Digits;
+use sms_base::Msisdn;
 use std::alloc::{AllocError, Global};
 
 /// A queue, and its place among the others.
@@ -19,7 +19,7 @@ pub struct PlacedQueue {
 
 impl PlacedQueue {
     /// The queue of a handset of which nothing was heard.
-    pub(crate) fn new(alloc: Global, number: Digits) -> PlacedQueue
+    pub(crate) fn new(alloc: Global, number: Msisdn) -> PlacedQueue
         ensures { result ≡ new_placed number }
     {
         PlacedQueue {

@@ -1,6 +1,7 @@
 //! What an event asks of queues.
 ghost use Rattle.std.specs.Prelude.{◌≡◌, ◌+◌, ℕ, List, [], IfErr, IfOk};
-ghost use Rattle.sms_rows.specs.table.Keys.{AllDigits, pair_key};
+ghost use Rattle.sms_base.specs.Msisdn.{IsMsisdn};
+ghost use Rattle.sms_rows.specs.table.Keys.{pair_key};
 ghost use Rattle.sms_rows.specs.table.Table.{row_at};
 ghost use Rattle.sms_centre_rows.specs.waiting.Keys.{queued_key};
 ghost use Rattle.sms_centre_rows.specs.waiting.Links.{Links, is_ready as is_ready_of, line_of};
@@ -15,79 +16,73 @@ ghost use Rattle.sms_centre_queue.specs.queues.Stops.{found};
 use crate::queues::concern::{Concern, ConcernedHandset};
 use crate::queues::draft::DeliveryQueuesDraft;
 use crate::queues::placed_queue::PlacedQueue;
-use sms_base::{Carried, Digits, MessageId, Moment};
+use sms_base::{Carried, MessageId, Moment, Msisdn};
 use sms_centre_rows::waiting::QueuedPart;
 use sms_rows::table::Key;
 use std::alloc::AllocError;
 
 impl DeliveryQueuesDraft {
     /// What waits for the handset, in the order of messages and numbers, in memory of its own.
-    pub fn waiting(&self, number: &Digits) -> Result<Vec<QueuedPart>, AllocError>
-        requires digits { AllDigits number.now }
+    pub fn waiting(&self, number: &Msisdn) -> Result<Vec<QueuedPart>, AllocError>
         ensures { (g : Allocations) (links : Links) (waiting : List ℕ → List QueuedOf) → DraftRepresents g links waiting self.now
             → IfOk result (λ all_queued. all_queued.items ≡ waiting number.now) }
     {
-        match self.placed(Key::digits(number).number()) {
+        match self.placed(Key::handset(number).number()) {
             Some(placed) => placed.queue.waiting(),
             None => Ok(Vec::new(self.alloc)),
         }
     }
 
     /// The queued part of that message and number, if it waits for the handset.
-    pub fn queued(&self, number: &Digits, id: MessageId, part: u8) -> Option<QueuedPart>
-        requires digits { AllDigits number.now }
+    pub fn queued(&self, number: &Msisdn, id: MessageId, part: u8) -> Option<QueuedPart>
         ensures { (g : Allocations) (links : Links) (waiting : List ℕ → List QueuedOf) → DraftRepresents g links waiting self.now
             → result ≡ row_at queued_key (pair_key id part) (waiting number.now) }
     {
-        match self.placed(Key::digits(number).number()) {
+        match self.placed(Key::handset(number).number()) {
             Some(placed) => placed.queue.queued(id, part),
             None => None,
         }
     }
 
     /// Of all that is due for the handset, the first to be offered.
-    pub fn next(&self, number: &Digits, now: Moment) -> Option<QueuedPart>
-        requires digits { AllDigits number.now }
+    pub fn next(&self, number: &Msisdn, now: Moment) -> Option<QueuedPart>
         ensures { (g : Allocations) (links : Links) (waiting : List ℕ → List QueuedOf) → DraftRepresents g links waiting self.now
             → result ≡ next_of now (waiting number.now) }
     {
-        match self.placed(Key::digits(number).number()) {
+        match self.placed(Key::handset(number).number()) {
             Some(placed) => placed.queue.next(now),
             None => None,
         }
     }
 
     /// Whether another one is due beside it.
-    pub fn waits_beside(&self, number: &Digits, now: Moment, chosen: &QueuedPart) -> bool
-        requires digits { AllDigits number.now }
+    pub fn waits_beside(&self, number: &Msisdn, now: Moment, chosen: &QueuedPart) -> bool
         ensures { (g : Allocations) (links : Links) (waiting : List ℕ → List QueuedOf) → DraftRepresents g links waiting self.now
             → result ≡ waits_beside_of now chosen.now (waiting number.now) }
     {
-        match self.placed(Key::digits(number).number()) {
+        match self.placed(Key::handset(number).number()) {
             Some(placed) => placed.queue.waits_beside(now, chosen),
             None => false,
         }
     }
 
     /// Whether something may be offered to the handset.
-    pub fn is_ready(&self, number: &Digits) -> bool
-        requires digits { AllDigits number.now }
+    pub fn is_ready(&self, number: &Msisdn) -> bool
         ensures { (g : Allocations) (links : Links) (waiting : List ℕ → List QueuedOf) → DraftRepresents g links waiting self.now
             → result ≡ is_ready_of (line_of number.now links.lines) }
     {
-        match self.placed(Key::digits(number).number()) {
+        match self.placed(Key::handset(number).number()) {
             Some(placed) => placed.queue.line().is_ready(),
             None => false,
         }
     }
 
     /// What the transaction to the handset carries that is under way.
-    pub fn under_way(&self, number: &Digits) -> Option<Carried>
-        requires digits { AllDigits number.now }
+    pub fn under_way(&self, number: &Msisdn) -> Option<Carried>
         ensures { (g : Allocations) (links : Links) (waiting : List ℕ → List QueuedOf) → DraftRepresents g links waiting self.now
             → result ≡ (line_of number.now links.lines).link.under_way }
     {
-        match self.placed(Key::digits(number).number()) {
+        match self.placed(Key::handset(number).number()) {
             Some(placed) => placed.queue.line().link.under_way(),
             None => None,
         }
@@ -95,8 +90,7 @@ impl DeliveryQueuesDraft {
 
     /// The next reference that may be given to the handset. The last place of a handset is 4,294,967,295: a later
     /// handset gets none.
-    pub fn next_reference(&self, number: Digits, now: Moment) -> Result<Option<u8>, AllocError>
-        requires digits { AllDigits number }
+    pub fn next_reference(&self, number: Msisdn, now: Moment) -> Result<Option<u8>, AllocError>
         ensures reference { IfOk result (λ reference. (g : Allocations) (links : Links) (waiting : List ℕ → List QueuedOf)
             → DraftRepresents g links waiting self.now
             → reference ≡ next_reference_of (handset_of number (handsets_of g)) (waiting number) (references_of g) now) }
@@ -108,11 +102,12 @@ impl DeliveryQueuesDraft {
         Ok(reference)
     }
 
-    fn queue_reference(&self, number: Digits, now: Moment) -> Result<Option<u8>, AllocError>
+    fn queue_reference(&self, number: Msisdn, now: Moment) -> Result<Option<u8>, AllocError>
         ensures reference { IfOk result (λ reference. reference ≡ reference_of (placed_of number self.now) self.now.next_place now) }
         ensures err { IfErr result (λ error. HasNoPlace self.now.next_place (placed_of number self.now).queue.row) }
+        ensures number { IsMsisdn number }
     {
-        match self.placed(Key::digits(&number).number()) {
+        match self.placed(Key::handset(&number).number()) {
             Some(placed) => self.reference_at(placed, now),
             None => {
                 let placed = PlacedQueue::new(self.alloc, number);

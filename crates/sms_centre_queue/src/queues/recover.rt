@@ -96,7 +96,7 @@ fn restore(
         ≡ (if nat_eq key (digits_key handset.now.number) then Some (restored handset.now references.now.rows) else under key queues.old.entries)) }
 {
     let placed = restored_there(alloc, handset, references)?;
-    insert(queues, Key::digits(&handset.number).number(), placed)
+    insert(queues, Key::handset(&handset.number).number(), placed)
 }
 
 #[tactic(auto, using(crate::proofs::queues::Listing::placed_as))]

@@ -1,6 +1,5 @@
 //! What an operator may want to know of the link to a handset.
 ghost use Rattle.std.specs.Prelude.{◌≡◌, ℕ, List, option_copied};
-ghost use Rattle.sms_rows.specs.table.Keys.{AllDigits};
 ghost use Rattle.sms_centre_rows.specs.waiting.Links.{line_of};
 ghost use Rattle.sms_centre_rows.specs.declared.waiting.handset.HandsetRow.{HandsetRow};
 ghost use Rattle.sms_centre_rows.specs.declared.waiting.handset_link.HandsetLink.{HandsetLink};
@@ -13,7 +12,7 @@ ghost use Rattle.sms_centre_queue.specs.queues.Representing.{Represents};
 use crate::queue::LinkFigures;
 use crate::queues::delivery_queues::DeliveryQueues;
 use crate::queues::placed_queue::PlacedQueue;
-use sms_base::{Carried, Digits};
+use sms_base::{Carried, Msisdn};
 use sms_rows::table::Key;
 
 impl DeliveryQueues {
@@ -28,12 +27,12 @@ impl DeliveryQueues {
     }
 
     /// How many parts and status reports wait for the handset, and how its link is.
-    pub fn figures(&self, number: &Digits) -> LinkFigures
+    pub fn figures(&self, number: &Msisdn) -> LinkFigures
         ensures { (handsets : List HandsetRow) (references : List ReferenceRow) (lines : List HandsetLink) (waiting : List ℕ → List QueuedPart)
-            → Represents handsets references lines waiting self.now → AllDigits number.now → result ≡ figures_of (waiting number.now)
+            → Represents handsets references lines waiting self.now → result ≡ figures_of (waiting number.now)
             (line_of number.now lines) }
     {
-        match self.placed(Key::digits(number).number()) {
+        match self.placed(Key::handset(number).number()) {
             Some(placed) => placed.queue.figures(),
             None => LinkFigures {
                 waiting: 0,
@@ -44,11 +43,11 @@ impl DeliveryQueues {
     }
 
     /// What the transaction to the handset carries that is under way.
-    pub fn under_way(&self, number: &Digits) -> Option<Carried>
+    pub fn under_way(&self, number: &Msisdn) -> Option<Carried>
         ensures { (handsets : List HandsetRow) (references : List ReferenceRow) (lines : List HandsetLink) (waiting : List ℕ → List QueuedPart)
-            → Represents handsets references lines waiting self.now → AllDigits number.now → result ≡ (line_of number.now lines).link.under_way }
+            → Represents handsets references lines waiting self.now → result ≡ (line_of number.now lines).link.under_way }
     {
-        match self.placed(Key::digits(number).number()) {
+        match self.placed(Key::handset(number).number()) {
             Some(placed) => placed.queue.line().link.under_way(),
             None => None,
         }

@@ -7,7 +7,7 @@ use Rattle.sms_base.proofs.OctetLaws.{differ}
 use Rattle.sms_base.specs.Among.{Among}
 use Rattle.sms_base.specs.declared.originator.Originator.{Originator}
 use Rattle.sms_base.specs.declared.originator.Originator.TheVariants.{Application, Handset}
-use Rattle.sms_rows.specs.table.Keys.{AllDigits}
+use Rattle.sms_base.specs.Msisdn.{IsMsisdn}
 use Rattle.sms_rows.specs.table.Table.{AllAbove, Rises, insert, put}
 use Rattle.sms_rows.proofs.table.Places.{without_gap}
 use Rattle.sms_rows.proofs.table.Tables.{found_among, insert_here}
@@ -88,26 +88,3 @@ module _ (ms : List MessageRow) (w : List ℕ → List QueuedPart) where
     λ other ne. cond-false (reports_to other r (message_at r.id ms)) (put queued_key (report_queued r) (with_reports other ms rs (w other))) (with_reports other ms rs (w other))
         (ap (λ (o : Option MessageRow). reports_to other r o) found ∙ reports_other other r m ne),
   )
-
--- ---- whose digits are digits
-
-pub handset_digits : (rows : Rows) (id : ℕ) (m : MessageRow) → IsSound rows → message_at id rows.messages ≡ Some m → AllDigits m.handset
-handset_digits rows id m sound found = number_digits m.handset (sound.messages.each_message m (found_among message_key id m rows.messages found)).handset
-
--- a status report is of a handset's message
-from_handset : (kind : ReportKind) (o : Originator) (m : MessageRow) (r : ReportRow) → is_status kind ≡ true → FitsOriginator kind o m r → HasReportAddress o m.source → IsNumber m.source.digits
-from_handset Receipt o m r e fits told = absurd cc
-from_handset (Status reference tpdu) (Application account) m r e fits told = elim fits [ ]
-from_handset (Status reference tpdu) (Handset n) m r e fits told = told
-from_handset Unsent o m r e fits told = absurd cc
-
-pub source_digits : (rows : Rows) (r : ReportRow) (m : MessageRow) → IsSound rows → Among r rows.reports → is_open_status r ≡ true → message_at r.id rows.messages ≡ Some m → AllDigits m.source.digits
-source_digits rows r m sound there waits found =
-    let is = (sound.reports.each r there).message in
-    let same : is.0 ≡ m = some_same (sym is.1.0 ∙ found) in
-    let fits : FitsOriginator r.kind m.originator m r = subst (λ (x : MessageRow). FitsOriginator r.kind x.originator x r) same is.1.1.1 in
-    number_digits m.source.digits
-    (from_handset r.kind m.originator m r (and_parts (is_status r.kind) (not r.progress.is_done) waits).0 fits (sound.report_addresses m (found_among message_key r.id m rows.messages found)))
-  where
-    some_same : {x y : MessageRow} → Some x ≡ Some y → x ≡ y
-    some_same e = cc

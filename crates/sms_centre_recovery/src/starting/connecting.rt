@@ -1,21 +1,17 @@
 //! Lines to the handsets that a centre starts with.
 ghost use Rattle.std.specs.Prelude.{ℕ, List, [], OnOk};
-ghost use Rattle.sms_base.specs.Among.{Among};
 ghost use Rattle.sms_centre_queue.specs.queues.Representing.{DraftRepresents};
 ghost use Rattle.sms_centre_recovery.specs.starting.Starting.{connected, lines_of};
-ghost use Rattle.sms_rows.specs.table.Keys.{AllDigits};
 ghost use Rattle.sms_centre_rows.specs.waiting.Links.{Links, line_of, put_line};
 ghost use Rattle.sms_centre_rows.specs.waiting.References.{Allocations};
-ghost use Rattle.sms_centre_rows.specs.waiting.SoundAllocations.{IsNumber};
 ghost use Rattle.sms_centre_rows.specs.declared.waiting.queued_part.QueuedPart.{QueuedPart as QueuedOf};
 ghost use Rattle.sms_centre_spec.specs.SoundCore.{AreDifferent};
 
-use sms_base::Digits;
+use sms_base::Msisdn;
 use sms_centre_queue::queues::DeliveryQueuesDraft;
 use std::alloc::AllocError;
 
-fn connect(handset: Digits, is_up: bool, queues: &mut DeliveryQueuesDraft) -> Result<(), AllocError>
-    requires { AllDigits handset }
+fn connect(handset: Msisdn, is_up: bool, queues: &mut DeliveryQueuesDraft) -> Result<(), AllocError>
     ensures { OnOk result ((g : Allocations) (links : Links) (waiting : List ℕ → List QueuedOf) → DraftRepresents g links waiting queues.old
         → DraftRepresents g (put_line (connected is_up (line_of handset links.lines)) links) waiting queues.new) }
 {
@@ -28,12 +24,11 @@ fn connect(handset: Digits, is_up: bool, queues: &mut DeliveryQueuesDraft) -> Re
 
 /// Lines to these handsets, where there are none.
 pub fn connect_all(
-    handsets: &[Digits],
+    handsets: &[Msisdn],
     are_up: bool,
     queues: &mut DeliveryQueuesDraft,
 ) -> Result<(), AllocError>
-    requires numbers { (number : List ℕ) → Among number handsets.now → IsNumber number }
-    requires apart { AreDifferent handsets.now }
+    requires { AreDifferent handsets.now }
     ensures { OnOk result ((g : Allocations) (waiting : List ℕ → List QueuedOf)
         → DraftRepresents g (record { lines = []; frames = []; read = [] }) waiting queues.old
         → DraftRepresents g (record { lines = lines_of are_up handsets.now; frames = []; read = [] }) waiting queues.new) }

@@ -7,16 +7,17 @@ ghost use Rattle.sms_centre_rows.specs.declared.messages.part.PartRow.{PartRow a
 ghost use Rattle.sms_centre_rows.specs.reports.Reports.{is_open_status as is_open_status_of};
 ghost use Rattle.sms_centre_rows.specs.reports.Waiting.{report_queued as report_queued_of, with_reports};
 ghost use Rattle.sms_centre_rows.specs.declared.reports.report.ReportRow.{ReportRow as ReportRowOf};
-ghost use Rattle.sms_centre_queue.specs.queues.Representing.{DraftRepresents};
+ghost use Rattle.sms_centre_queue.specs.queues.Representing.{DraftRepresents, Waits};
 ghost use Rattle.sms_centre_recovery.specs.soundness.RowsOf.{rows_of};
-ghost use Rattle.sms_rows.specs.table.Table.{Rises};
+ghost use Rattle.sms_rows.specs.table.Table.{Rises, put as put_in};
+ghost use Rattle.sms_centre_rows.specs.waiting.Keys.{queued_key};
 ghost use Rattle.sms_centre_rows.specs.waiting.Links.{Links};
 ghost use Rattle.sms_centre_rows.specs.waiting.References.{Allocations};
 ghost use Rattle.sms_centre_rows.specs.declared.waiting.queued_part.QueuedPart.{QueuedPart as QueuedOf};
 ghost use Rattle.sms_centre_spec.specs.SoundRows.{IsSound};
 
 use crate::soundness::RowTables;
-use sms_base::MessageId;
+use sms_base::{Digits, MessageId, Msisdn};
 use sms_centre_queue::queues::DeliveryQueuesDraft;
 use sms_centre_rows::conditions::status_reference;
 use sms_centre_rows::messages::{MessageRow, PartRow};
@@ -113,6 +114,21 @@ fn report_queued(report: &ReportRow) -> QueuedPart
     }
 }
 
+// A status report waits for a source. What is no number has no queue.
+fn put_for(
+    queues: &mut DeliveryQueuesDraft,
+    source: &Digits,
+    queued: QueuedPart,
+) -> Result<(), AllocError>
+    ensures { OnOk result ((g : Allocations) (links : Links) (waiting after : List ℕ → List QueuedOf) → DraftRepresents g links waiting queues.old
+        → Waits source.now (put_in queued_key queued) waiting after → DraftRepresents g links after queues.new) }
+{
+    match Msisdn::of_digits(source) {
+        Some(number) => queues.put(number, queued),
+        None => Ok(()),
+    }
+}
+
 // The status report waits, if it does.
 fn put_report(
     tables: &RowTables,
@@ -131,7 +147,7 @@ fn put_report(
     let Some(message) = tables.messages.find(Key::of(report.id.number())) else {
         return Ok(());
     };
-    queues.put(message.source.digits, report_queued(report))
+    put_for(queues, &message.source.digits, report_queued(report))
 }
 
 /// Adds all of these status reports that wait, beside what waits already. The last is added first.

@@ -5,7 +5,7 @@ ghost use Rattle.sms_centre_rows.specs.conditions.Differing.{differ as differ_of
 ghost use Rattle.sms_centre_rows.specs.conditions.AllocationTest.{is_given as is_given_of, is_mentioned as is_mentioned_of, number_key};
 
 use crate::conditions::differ::differ;
-use crate::conditions::message_rows::{is_handset, is_octet};
+use crate::conditions::message_rows::{is_octet, passes};
 use crate::waiting::{HandsetRow, ReferenceRow};
 use sms_rows::table::{Key, Table};
 use std::alloc::{AllocError, Global};
@@ -14,8 +14,8 @@ fn is_mentioned(references: &Table<ReferenceRow>, handset: &HandsetRow) -> bool
     ensures { result ≡ is_mentioned_of references.now.rows handset.now }
 {
     let last = Key::pair(u64::from(handset.place), handset.last_reference);
-    (0 < handset.place && is_handset(&handset.number))
-        && (is_octet(handset.last_reference) && references.find(last).is_some())
+    passes(&handset.number);
+    0 < handset.place && (is_octet(handset.last_reference) && references.find(last).is_some())
 }
 
 /// Whether each handset has a place and a number that can be written, and its last reference was given.
@@ -55,6 +55,6 @@ fn number_keys(alloc: Global, handsets: &[HandsetRow]) -> Result<Vec<u128>, Allo
 {
     handsets
         .iter()
-        .map(|handset| Key::digits(&handset.number).number())
+        .map(|handset| Key::handset(&handset.number).number())
         .collect(alloc)
 }

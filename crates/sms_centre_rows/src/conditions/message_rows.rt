@@ -1,5 +1,5 @@
 //! Whether rows of messages, parts and priorities are sound.
-ghost use Rattle.std.specs.Prelude.{◌≡◌, Some, nat_lt};
+ghost use Rattle.std.specs.Prelude.{◌≡◌, Some, nat_lt, true};
 ghost use Rattle.sms_centre_rows.specs.messages.SplitReferences.{is_same_address as is_same_address_of};
 ghost use Rattle.sms_tpdu.specs.TpduReading.{down_at};
 ghost use Rattle.sms_tpdu.specs.declared.carrier.Carrier.TheVariants.{InData as Data};
@@ -11,7 +11,7 @@ ghost use Rattle.std.specs.List.{list_all};
 
 use crate::conditions::addresses::is_address;
 use crate::messages::{MessageRow, PartRow, PriorityRow, is_delivered};
-use sms_base::{Address, Digits, FinalState, MessageId, Moment};
+use sms_base::{Address, Digits, FinalState, MessageId, Moment, Msisdn};
 use sms_rows::table::{Key, Table};
 use sms_tpdu::{Carrier, Down, read_down};
 
@@ -29,6 +29,13 @@ pub fn is_handset(digits: &Digits) -> bool
     ensures { result ≡ is_handset_of digits.now }
 {
     is_address(&Address::of_handset(*digits))
+}
+
+// The number of a handset is one.
+pub(crate) fn passes(number: &Msisdn)
+    ensures { is_handset_of number.now ≡ true }
+{
+    number.spells_a_number();
 }
 
 // ---- messages
@@ -66,8 +73,8 @@ fn has_rows(parts: &Table<PartRow>, priorities: &Table<PriorityRow>, id: Message
 fn is_message(parts: &Table<PartRow>, priorities: &Table<PriorityRow>, message: &MessageRow) -> bool
     ensures { result ≡ is_message_of parts.now.rows priorities.now.rows message.now }
 {
-    ((is_id(message.id) && is_address(&message.source))
-        && (is_handset(&message.handset) && ends_so(message.state, message.done)))
+    passes(&message.handset);
+    (is_id(message.id) && is_address(&message.source) && ends_so(message.state, message.done))
         && (delivery_agrees(parts, message) && has_rows(parts, priorities, message.id))
 }
 

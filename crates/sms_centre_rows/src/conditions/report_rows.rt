@@ -22,7 +22,9 @@ fn is_status_of(message_reference: u8, message: &MessageRow, made: Moment, tpdu:
     match read_down(tpdu, Carrier::InData) {
         Ok(Down::StatusReport(report)) => {
             (report.message_reference == message_reference
-                && report.recipient_address.digits.as_slice() == message.handset.as_slice())
+                && message
+                    .handset
+                    .is_spelled(report.recipient_address.digits.as_slice()))
                 && ((report.service_centre_time_stamp.seconds() == message.submitted.seconds()
                     && report.discharge_time.seconds() == made.seconds())
                     && report.no_more_messages_to_send)

@@ -34,7 +34,7 @@ fn split_of(message: &MessageRow) -> Option<Split>
             digits: message.source.digits,
         },
         handset: Number {
-            digits: message.handset,
+            digits: message.handset.digits(),
         },
         reference,
     })

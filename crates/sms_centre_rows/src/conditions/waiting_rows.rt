@@ -2,9 +2,11 @@
 ghost use Rattle.std.specs.Prelude.{◌≡◌, ℕ, nat_eq, filter_map, if◌then◌else◌, IfOk, OnOk, Some};
 ghost use Rattle.std.specs.List.{list_all};
 ghost use Rattle.std.specs.Map.{lookup};
+ghost use Rattle.std.specs.Option.{option_map};
+ghost use Rattle.sms_rows.specs.table.Keys.{pair_key};
 ghost use Rattle.sms_centre_rows.specs.conditions.Differing.{differ as differ_of};
 ghost use Rattle.sms_centre_rows.specs.conditions.AllocationTest.{number_key};
-ghost use Rattle.sms_centre_rows.specs.conditions.WaitingTest.{Places, hold_at as hold_at_of, holds as holds_of, is_row as is_row_of};
+ghost use Rattle.sms_centre_rows.specs.conditions.WaitingTest.{Places, holds as holds_of, is_row as is_row_of};
 ghost use Rattle.sms_centre_rows.specs.conditions.WaitingTest.{part_given as part_given_of, part_hold as part_hold_of, part_waits_at as part_waits_at_of};
 ghost use Rattle.sms_centre_rows.specs.conditions.WaitingTest.{report_given as report_given_of, report_hold as report_hold_of};
 ghost use Rattle.sms_centre_rows.specs.conditions.WaitingTest.{report_waits_at as report_waits_at_of};
@@ -15,7 +17,7 @@ use crate::messages::{MessageRow, PartRow};
 use crate::reports::{ReportKind, ReportRow};
 use crate::waiting::{HandsetRow, ReferenceRow};
 use indexmap::IndexMap;
-use sms_base::Digits;
+use sms_base::{Digits, Msisdn};
 use sms_rows::table::{Key, Table};
 use std::alloc::{AllocError, Global};
 
@@ -37,17 +39,17 @@ fn note_place(places: &mut IndexMap<u128, u32>, handset: &HandsetRow) -> Result<
     ensures { OnOk result ((key : ℕ) → lookup (nat_eq key) places.new.entries
         ≡ (if nat_eq key (number_key handset.now) then Some handset.now.place else lookup (nat_eq key) places.old.entries)) }
 {
-    match places.insert(Key::digits(&handset.number).number(), handset.place) {
+    match places.insert(Key::handset(&handset.number).number(), handset.place) {
         Ok(_) => Ok(()),
         Err(_) => Err(AllocError),
     }
 }
 
-// The key of a reference at the handset of that number.
-fn hold_at(places: &IndexMap<u128, u32>, number: &Digits, reference: u8) -> Option<Key>
-    ensures { result ≡ hold_at_of places.now.entries reference number.now }
+// The key of a reference at the handset whose number has that key.
+fn hold_at(places: &IndexMap<u128, u32>, number: Key, reference: u8) -> Option<Key>
+    ensures { result ≡ option_map (λ (place : ℕ). pair_key place reference) (lookup (nat_eq number) places.now.entries) }
 {
-    match places.get(&Key::digits(number).number()) {
+    match places.get(&number.number()) {
         Some(place) => Some(Key::pair(u64::from(*place), reference)),
         None => None,
     }
@@ -64,7 +66,7 @@ fn is_row(references: &Table<ReferenceRow>, hold: Option<Key>) -> bool
 
 // ---- parts
 
-fn part_waits_at(part: &PartRow, message: &MessageRow) -> Option<Digits>
+fn part_waits_at(part: &PartRow, message: &MessageRow) -> Option<Msisdn>
     ensures { result ≡ part_waits_at_of part.now (Some message.now) }
 {
     if !part.progress.is_done && message.state.is_none() {
@@ -86,7 +88,10 @@ fn part_given(
         return true;
     };
     match part_waits_at(part, message) {
-        Some(number) => is_row(references, hold_at(places, &number, part.reference)),
+        Some(number) => is_row(
+            references,
+            hold_at(places, Key::handset(&number), part.reference),
+        ),
         None => true,
     }
 }
@@ -114,7 +119,7 @@ fn part_hold(
 {
     let message = messages.find(Key::of(part.id.number()))?;
     let number = part_waits_at(part, message)?;
-    let key = hold_at(places, &number, part.reference)?;
+    let key = hold_at(places, Key::handset(&number), part.reference)?;
     Some(key.number())
 }
 
@@ -173,7 +178,7 @@ fn report_given(
     match report_waits_at(report, message) {
         Some(number) => is_row(
             references,
-            hold_at(places, &number, status_reference(report)),
+            hold_at(places, Key::digits(&number), status_reference(report)),
         ),
         None => true,
     }
@@ -200,7 +205,7 @@ fn report_hold(
 {
     let message = messages.find(Key::of(report.id.number()))?;
     let number = report_waits_at(report, message)?;
-    let key = hold_at(places, &number, status_reference(report))?;
+    let key = hold_at(places, Key::digits(&number), status_reference(report))?;
     Some(key.number())
 }
 

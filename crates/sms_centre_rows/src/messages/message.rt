@@ -3,7 +3,7 @@ ghost use Rattle.std.specs.Prelude.{◌≡◌};
 ghost use Rattle.sms_centre_rows.specs.messages.Messages.{message_key};
 ghost use Rattle.sms_centre_rows.specs.messages.SplitReferences.{is_delivered as is_delivered_of};
 
-use sms_base::{Address, Digits, FinalState, MessageId, Moment, Originator, Wish};
+use sms_base::{Address, FinalState, MessageId, Moment, Msisdn, Originator, Wish};
 use sms_rows::table::{Key, Row};
 
 /// A message that was accepted.
@@ -13,8 +13,8 @@ pub struct MessageRow {
     pub originator: Originator,
     /// TP-OA of its parts.
     pub source: Address,
-    /// The digits 0 to 9 of its destination.
-    pub handset: Digits,
+    /// The number of its destination.
+    pub handset: Msisdn,
     pub data_coding_scheme: u8,
     pub protocol_identifier: u8,
     pub wish: Wish,

@@ -4,7 +4,7 @@ ghost use Rattle.sms_centre_rows.specs.waiting.Keys.{handset_key};
 ghost use Rattle.sms_centre_rows.specs.waiting.References.{given_row, mentioned as mentioned_of};
 
 use crate::waiting::reference::ReferenceRow;
-use sms_base::{Digits, Moment};
+use sms_base::{Moment, Msisdn};
 use sms_rows::table::{Key, Row};
 
 /// A handset that was given a reference.
@@ -12,8 +12,7 @@ use sms_rows::table::{Key, Row};
 pub struct HandsetRow {
     /// The handset's place in the order of first mention, from 1.
     pub place: u32,
-    /// The handset's digits 0 to 9.
-    pub number: Digits,
+    pub number: Msisdn,
     /// The reference that was given last, 0 to 255.
     pub last_reference: u8,
 }

@@ -2,23 +2,21 @@
 ghost use Rattle.std.specs.Prelude.{◌≡◌, IfOk};
 ghost use Rattle.sms_centre_rows.specs.waiting.Links.{is_ready, new_line};
 
-use sms_base::Digits;
+use sms_base::Msisdn;
 use sms_link::{Link, Outgoing, Side};
 use std::alloc::{AllocError, Global};
 
 /// A frame to a handset.
 #[derive(Drop)]
 pub struct Sent {
-    /// The handset's digits 0 to 9.
-    pub handset: Digits,
+    pub handset: Msisdn,
     pub frame: Outgoing,
 }
 
 /// The line to a handset: the centre's end of its link, and whether the handset can be reached.
 #[derive(Drop)]
 pub struct HandsetLink {
-    /// The handset's digits 0 to 9.
-    pub handset: Digits,
+    pub handset: Msisdn,
     pub is_up: bool,
     /// The link was up before a recovery, and is up again at the next tick.
     pub is_awaited: bool,
@@ -29,7 +27,7 @@ pub struct HandsetLink {
 
 impl HandsetLink {
     /// The line to a handset of which nothing was heard.
-    pub fn new(alloc: Global, handset: Digits) -> HandsetLink
+    pub fn new(alloc: Global, handset: Msisdn) -> HandsetLink
         ensures { result ≡ new_line handset }
     {
         HandsetLink {

@@ -2,7 +2,7 @@
 ghost use Rattle.std.specs.Prelude.{◌≡◌};
 ghost use Rattle.sms_centre_spec.specs.jobs.Requests.{is_request};
 
-use sms_base::{Digits, MessageId, Octets};
+use sms_base::{MessageId, Msisdn, Octets};
 
 /// What the seat of a session or a link asks of the centre. An account is named by its place in the setup, from 0.
 #[derive(Drop)]
@@ -20,7 +20,7 @@ pub enum Job {
     /// The receipt of the message was accepted in its session, or refused.
     DeliverAnswered { id: MessageId, is_accepted: bool },
     /// The link of the seat is that of the handset, which can be reached.
-    LinkUp { handset: Digits },
+    LinkUp { handset: Msisdn },
     /// The link of the seat is no longer.
     LinkDown,
     /// A frame that arrived on its link.

@@ -18,7 +18,7 @@ fn destination_of(messages: &Table<MessageRow>, id: MessageId) -> Digits
     ensures { result ≡ destination_in (message_at id messages.now.rows) }
 {
     match messages.find(Key::of(id.number())) {
-        Some(message) => message.handset,
+        Some(message) => message.handset.digits(),
         None => Digits::new(),
     }
 }

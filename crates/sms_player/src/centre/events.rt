@@ -6,7 +6,7 @@ ghost use Rattle.sms_centre.specs.Planning.{FitsTheCentre};
 ghost use Rattle.sms_store_memory.specs.centre.RowsInKeep.{rows_in};
 ghost use Rattle.sms_centre_spec.specs.CentreEvent.{happened};
 ghost use Rattle.sms_centre_spec.specs.Draft.{Core, core_of, rows_after};
-ghost use Rattle.sms_centre_spec.specs.SoundCore.{HasNumber, IsEvent};
+ghost use Rattle.sms_centre_spec.specs.SoundCore.{IsEvent};
 ghost use Rattle.sms_centre_spec.specs.declared.event.CentreEvent.{CentreEvent as CentreEventOf};
 ghost use Rattle.sms_play.specs.CentreSide.{parts_given, reports_given, given_by};
 ghost use Rattle.sms_player.specs.centre.PlayedCentre.{Represents as PlayedRepresents, IsSomeCentre};
@@ -24,7 +24,6 @@ use std::alloc::AllocError;
 
 // What the event leads to. A store in memory refuses a read only for want of memory.
 fn plan(centre: &Centre, keep: &mut MemoryKeep, event: &CentreEvent<'_>) -> Result<Plan, AllocError>
-    requires { HasNumber event.now }
     ensures plan { (c : Core) → PlayedRepresents c centre.now (rows_in keep.old) → IfOk result (λ p. IsOutcome (happened event.now c) p.plan) }
     ensures same { (c : Core) → PlayedRepresents c centre.now (rows_in keep.old) → rows_in keep.new ≡ c.rows }
     ensures fits { IfOk result (FitsTheCentre centre.now) }
@@ -127,7 +126,6 @@ pub(crate) fn meet(
     event: &CentreEvent<'_>,
     given: &mut Listed<GivenRow>,
 ) -> Result<Outputs, AllocError>
-    requires number { HasNumber event.now }
     requires consistent { IsSomeCentre centre.old (rows_in keep.old) }
     ensures outputs { (c : Core) → PlayedRepresents c centre.old (rows_in keep.old) → IfOk result (AreOutputs (happened event.now c)) }
     ensures played { (c : Core) → PlayedRepresents c centre.old (rows_in keep.old)

@@ -13,7 +13,7 @@ ghost use Rattle.sms_player.specs.centre.PlayedCentre.{Represents as PlayedRepre
 
 use crate::centre::sessions::sessions_of;
 use sms_base::lending::lend;
-use sms_base::{Digits, Moment};
+use sms_base::{Moment, Msisdn};
 use sms_centre::{Centre, ReceiptSession, RecoverError, Rows, Setup, first_rows, with_centre};
 use sms_centre_recovery::starting::moment_among;
 use sms_centre_spec::octets::copy_of_setup;
@@ -27,7 +27,7 @@ use std::alloc::{AllocError, Global};
 fn lend_started<R, W: FnOnce(&mut Centre) -> R>(
     alloc: Global,
     rows: Rows,
-    handsets: &[Digits],
+    handsets: &[Msisdn],
     sessions: Table<ReceiptSession>,
     work: W,
 ) -> Result<R, AllocError>
@@ -53,7 +53,7 @@ fn lend_started<R, W: FnOnce(&mut Centre) -> R>(
 pub fn with_first_centre<R, W: FnOnce(&mut Centre) -> R>(
     alloc: Global,
     setup: &Setup,
-    handsets: &[Digits],
+    handsets: &[Msisdn],
     work: W,
 ) -> Result<R, AllocError>
     requires setup { IsSetup setup.now }
@@ -107,7 +107,7 @@ pub(crate) fn restart(
     alloc: Global,
     centre: &mut Centre,
     keep: &MemoryKeep,
-    handsets: &[Digits],
+    handsets: &[Msisdn],
 ) -> Result<(), AllocError>
     requires consistent { IsSomeCentre centre.old (rows_in keep.now) }
     requires handsets { AreHandsets handsets.now }

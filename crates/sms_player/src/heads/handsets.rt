@@ -1,8 +1,6 @@
 //! The handsets of a head.
 ghost use Rattle.std.specs.Prelude.{◌≡◌, ◌<◌, IfOk, true};
 ghost use Rattle.std.specs.Fn.{FnOnceReturnsAtMut};
-ghost use Rattle.sms_base.specs.Address.{IsAddress};
-ghost use Rattle.sms_base.specs.HandsetNumber.{own_address};
 ghost use Rattle.sms_player.specs.heads.Heads.{party_of as party_of_head};
 ghost use Rattle.sms_play.specs.PlayState.{numbers_of as numbers_of_parties};
 ghost use Rattle.sms_play.specs.Setups.{are_handsets as are_handsets_of, can_be_played, is_handset as is_handset_of, is_number as is_number_of};
@@ -10,7 +8,7 @@ ghost use Rattle.sms_play.specs.Setups.{parties_of as parties_of_head};
 
 use crate::heads::centre::centre_of;
 use sms_base::lending::lend;
-use sms_base::{Digits, Moment, digits_of};
+use sms_base::{Moment, Msisdn};
 use sms_player_handset::PlayedHandset;
 use sms_script::{HandsetSetup, Setup};
 use std::alloc::{AllocError, Global};
@@ -24,12 +22,14 @@ fn slots_of(handset: &HandsetSetup<'_>) -> u8
     handset.slots as u8
 }
 
-fn number_of(handset: &HandsetSetup<'_>) -> Digits
+fn number_of(handset: &HandsetSetup<'_>) -> Msisdn
     requires { is_handset_of handset.now ≡ true }
-    ensures number { result ≡ handset.now.number }
-    ensures address { IsAddress (own_address result) }
+    ensures { result ≡ handset.now.number }
 {
-    digits_of(handset.number.as_slice())
+    match Msisdn::of(handset.number.as_slice()) {
+        Some(number) => number,
+        None => unreachable!(),
+    }
 }
 
 fn party_of(
@@ -85,7 +85,7 @@ fn parties_of(
 ///
 /// # Errors
 /// A growth was refused.
-pub fn numbers_of(alloc: Global, parties: &[PlayedHandset]) -> Result<Vec<Digits>, AllocError>
+pub fn numbers_of(alloc: Global, parties: &[PlayedHandset]) -> Result<Vec<Msisdn>, AllocError>
     ensures { IfOk result (λ numbers. numbers.items ≡ numbers_of_parties parties.now) }
 {
     let mut numbers = Vec::new(alloc);

@@ -29,7 +29,7 @@ use crate::playing::Playing;
 use crate::playing::places::{
     account_place, digits_place, number_at, numbers_entries, party_place,
 };
-use sms_base::{Carried, Digits, Holder, Moment, OctetView, Octets};
+use sms_base::{Carried, Digits, Holder, Moment, Msisdn, OctetView, Octets};
 use sms_centre_spec::is_event;
 use sms_handset::{HandsetEvent, TextView};
 use sms_intake::latin_text;
@@ -104,7 +104,7 @@ impl<'a> Playing<'a> {
         digits_place(number, self.parties)
     }
 
-    pub(crate) fn number_at(&self, place: usize) -> Digits
+    pub(crate) fn number_at(&self, place: usize) -> Msisdn
         requires { place < length self.now.parties }
         ensures number { (party : Party) → IsFirstAt place party self.now.parties → result ≡ party.number }
         ensures address { IsAddress (own_address result) }

@@ -51,7 +51,7 @@ pub(crate) fn send_down(frames: Listed<Sent>, bag: &mut Listed<FrameRow>) -> Res
     ensures { OnOk result (bag.new ≡ all_sent_down frames bag.old) }
 {
     for sent in frames.into_vec() {
-        send(Direction::Down, sent.handset, sent.frame, bag)?;
+        send(Direction::Down, sent.handset.digits(), sent.frame, bag)?;
     }
     Ok(())
 }

@@ -10,7 +10,7 @@ ghost use Rattle.sms_play.specs.Meeting.{account_from};
 ghost use Rattle.sms_player.specs.playing.Places.{IsFirstAt, place_from};
 
 use crate::centre::PlayedHandset;
-use sms_base::Digits;
+use sms_base::{Digits, Msisdn};
 use sms_intake::CentreAccount;
 use sms_script::names::spell;
 
@@ -35,7 +35,7 @@ pub(crate) fn party_place(number: &[u8], parties: &[PlayedHandset]) -> Option<us
     ensures within { IfSome result (λ place. place < length parties.now) }
 {
     for place in 0..parties.len() {
-        if spell(number, &parties[place].number()) {
+        if spell(number, &parties[place].number().digits()) {
             return Some(place);
         }
     }
@@ -54,7 +54,7 @@ pub(crate) fn digits_place(number: &Digits, parties: &[PlayedHandset]) -> Option
     ensures within { IfSome result (λ place. place < length parties.now) }
 {
     for place in 0..parties.len() {
-        if is_same(&parties[place].number(), number) {
+        if is_same(&parties[place].number().digits(), number) {
             return Some(place);
         }
     }
@@ -62,7 +62,7 @@ pub(crate) fn digits_place(number: &Digits, parties: &[PlayedHandset]) -> Option
 }
 
 /// The number of the handset at that place.
-pub(crate) fn number_at(parties: &[PlayedHandset], place: usize) -> Digits
+pub(crate) fn number_at(parties: &[PlayedHandset], place: usize) -> Msisdn
     requires { place < length parties.now }
     ensures number { (party : Party) → IsFirstAt place party parties.now → result ≡ party.number }
     ensures address { IsAddress (own_address result) }

@@ -2,7 +2,6 @@
 ghost use Rattle.std.specs.Prelude.{◌≡◌, ◌<◌, ◌++◌, ℕ, length, slice_set, true, Err, IfOk, OnOk, if◌then◌else◌};
 ghost use Rattle.sms_centre_spec.specs.CentreEvent.{happened};
 ghost use Rattle.sms_centre_spec.specs.Draft.{Draft as DraftOf};
-ghost use Rattle.sms_centre_spec.specs.SoundCore.{HasNumber};
 ghost use Rattle.sms_centre_spec.specs.declared.event.CentreEvent.TheVariants.{DeliverAnswered};
 ghost use Rattle.sms_handset.specs.FaultCodes.{refusal_code};
 ghost use Rattle.sms_handset.specs.declared.event.HandsetEvent.{HandsetEvent as HandsetEventOf};
@@ -134,7 +133,6 @@ impl<'a> Playing<'a> {
 
     // The centre meets an event, and its rows change; its frames are to go out.
     fn commit_centre(&mut self, happening: &CentreEvent<'_>) -> Result<Outputs, AllocError>
-        requires { HasNumber happening.now }
         ensures represents { (c : PlayState) → Represents c self.old → OnOk result (Represents (committed (happened happening.now c.centre) c) self.new) }
         ensures outputs { (c : PlayState) → Represents c self.old
             → IfOk result (λ outputs. GivesOutputs (happened happening.now c.centre) outputs.frames outputs.answer outputs.deliveries) }
@@ -145,7 +143,6 @@ impl<'a> Playing<'a> {
 
     // The same, and its frames go out.
     fn hear(&mut self, happening: &CentreEvent<'_>) -> Result<Heard, AllocError>
-        requires { HasNumber happening.now }
         ensures represents { (c : PlayState) → Represents c self.old → OnOk result (Represents (done_of (happened happening.now c.centre) c) self.new) }
         ensures deliveries { (c : PlayState) → Represents c self.old
             → IfOk result (λ heard. heard.deliveries ≡ (happened happening.now c.centre).bindings.deliveries) }
@@ -201,7 +198,6 @@ impl<'a> Playing<'a> {
 
     // The centre meets an event, and nothing stops it.
     fn centre_meets(&mut self, event: u64, happening: &CentreEvent<'_>) -> Result<(), AllocError>
-        requires { HasNumber happening.now }
         ensures { (c : PlayState) → Represents c self.old → OnOk result (Represents (centre_meets_of event happening.now c) self.new) }
     {
         let heard = self.hear(happening)?;
@@ -223,7 +219,6 @@ impl<'a> Playing<'a> {
         stop: StopPoint,
         happening: &CentreEvent<'_>,
     ) -> Result<(), AllocError>
-        requires { HasNumber happening.now }
         ensures { (c : PlayState) → Represents c self.old → OnOk result (Represents (centre_restarted (stored stop (AtCentre happening.now) c)) self.new) }
     {
         match stop {
@@ -253,7 +248,6 @@ impl<'a> Playing<'a> {
         is_answered: bool,
         happening: &CentreEvent<'_>,
     ) -> Result<(), AllocError>
-        requires { HasNumber happening.now }
         ensures { (c : PlayState) (act : ActOf) → Represents c self.old → is_answered_act act ≡ is_answered
             → OnOk result (Represents (met_as stop event act (AtCentre happening.now) c) self.new) }
     {
@@ -328,7 +322,7 @@ impl<'a> Playing<'a> {
         ensures { (c : PlayState) (party : Party) → Represents c self.old → IsFirstAt place party c.parties
             → OnOk result (Represents (handset_meets_of event party happening.now c) self.new) }
     {
-        let number = self.number_at(place);
+        let number = self.number_at(place).digits();
         let met = self.commit_handset(place, happening)?;
         match met {
             HandsetOutcome::Done(frames) => self.done(event, number, frames, is_owners(happening)),

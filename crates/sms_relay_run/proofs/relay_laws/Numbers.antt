@@ -1,10 +1,13 @@
 -- The sender and the destination have numbers, and are two or one.
 use Rattle.std.proofs.Common.{◌≡◌, List, [], ◌∷◌, ℕ, true, false, Option, Some, None, Result, Ok, Err, refl, sym, ◌∙◌, subst, ⊎_elim}
+use Rattle.std.specs.Prelude.{IfSome}
 use Rattle.std.specs.Str.{bytes_eq}
 use Rattle.std.proofs.lemmas.Bool.{cond_both}
 use Rattle.std.proofs.lemmas.Slice.Eq.{bytes_eq-Decides}
 use Rattle.sms_base.specs.Among.{Among}
 use Rattle.sms_base.specs.HandsetNumber.{names_handset}
+use Rattle.sms_base.specs.Msisdn.{IsMsisdn}
+use Rattle.sms_base.proofs.Msisdns.{is_number}
 use Rattle.sms_base.specs.Reading.{AreOctets}
 use Rattle.sms_base.specs.declared.address.Address.{Address}
 use Rattle.sms_relay.specs.RelayReading.{up_at}
@@ -54,6 +57,12 @@ are_numbers from unit is are number among = ⊎_elim
     (λ (e : number ≡ from). subst (λ (n : List ℕ). IsNumber n) (sym e) is)
     (λ (a : Among number (others_for from (destination_of (up_at unit)))). among_others from (destination_of (up_at unit)) number (unit_named unit (up_at unit) are refl) a)
     among
+
+pub destination_named : (unit : List ℕ) → AreOctets unit → IfSome (destination_of (up_at unit)) (λ to. IsMsisdn to.digits)
+destination_named unit are = by (destination_of (up_at unit)) (unit_named unit (up_at unit) are refl) where
+  by : (o : Option Address) → HasNumber o → IfSome o (λ to. IsMsisdn to.digits)
+  by None h = tt
+  by (Some to) h = is_number to.digits h
 
 pub are_different : (from : List ℕ) (to : Option Address) → AreDifferent (handsets_for from to)
 are_different from None = (λ a. a, tt)

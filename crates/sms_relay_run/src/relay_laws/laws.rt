@@ -1,5 +1,6 @@
 //! Laws of a centre without rows, over definitions alone.
-ghost use Rattle.std.specs.Prelude.{ℕ, ◌<◌, ◌≤◌, length, List, Option};
+ghost use Rattle.std.specs.Prelude.{ℕ, ◌<◌, ◌≤◌, length, List, Option, IfSome};
+ghost use Rattle.sms_base.specs.Msisdn.{IsMsisdn};
 ghost use Rattle.sms_base.specs.Reading.{AreOctets};
 ghost use Rattle.sms_base.specs.TimeStamp.{IsMoment};
 ghost use Rattle.sms_base.specs.declared.address.Address.{Address};
@@ -22,5 +23,6 @@ pub fn an_empty_centre_relays_a_unit()
 pub fn handsets_can_have_links()
     ensures numbers { (from : List ℕ) (unit : List ℕ) → IsNumber from → AreOctets unit → (number : List ℕ)
         → Among number (handsets_for from (destination_of (up_at unit))) → IsNumber number }
+    ensures named { (unit : List ℕ) → AreOctets unit → IfSome (destination_of (up_at unit)) (λ to. IsMsisdn to.digits) }
     ensures apart { (from : List ℕ) (to : Option Address) → AreDifferent (handsets_for from to) }
 {}

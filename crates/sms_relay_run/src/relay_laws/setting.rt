@@ -1,11 +1,12 @@
 //! A centre without rows, and the frame that brings it a unit.
-ghost use Rattle.std.specs.Prelude.{◌≡◌, ◌<◌, ◌≤◌, IfOk, length};
+ghost use Rattle.std.specs.Prelude.{◌≡◌, ◌<◌, ◌≤◌, IfOk, IfSome, length};
+ghost use Rattle.sms_base.specs.Msisdn.{IsMsisdn};
 ghost use Rattle.sms_relay.specs.RelayReading.{up_at};
 ghost use Rattle.sms_relay_run.specs.relay_laws.Relaying.{destination_in, destination_of, frame_for, handsets_for, setup_for};
 ghost use Rattle.sms_tpdu.specs.TpduReading.{up_at as tpdu_up_at};
 ghost use Rattle.sms_tpdu.specs.declared.carrier.Carrier.TheVariants.{InData};
 
-use sms_base::{Address, Digits, Listed, Moment, OctetView, Octets};
+use sms_base::{Address, Listed, Moment, Msisdn, OctetView, Octets};
 use sms_centre_spec::Setup;
 use sms_control::{Cp, Transaction, TransactionFlag, TransactionIdentifier};
 use sms_relay::{Rp, read_up};
@@ -61,16 +62,18 @@ pub fn destination_of(unit: &[u8]) -> Option<Address>
 /// The sender, and the destination where it is another.
 pub fn handsets_for(
     alloc: Global,
-    from: Digits,
+    from: Msisdn,
     to: Option<Address>,
-) -> Result<Vec<Digits>, AllocError>
+) -> Result<Vec<Msisdn>, AllocError>
+    requires { IfSome to (λ address. IsMsisdn address.digits) }
     ensures { IfOk result (λ handsets. handsets.items ≡ handsets_for from to) }
 {
     let mut handsets = Vec::new(alloc);
     handsets.push(from)?;
     if let Some(to) = to {
-        if to.digits != from {
-            handsets.push(to.digits)?;
+        let number = Msisdn::spelled_by(&to.digits);
+        if from != number {
+            handsets.push(number)?;
         }
     }
     Ok(handsets)

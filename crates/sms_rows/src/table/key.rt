@@ -1,11 +1,12 @@
 //! The keys of rows.
 ghost use Rattle.std.specs.Prelude.{◌≡◌, ◌<◌, ◌≤◌, ◌^◌, length};
+ghost use Rattle.sms_base.specs.Msisdn.{IsMsisdn};
 ghost use Rattle.sms_rows.specs.table.Keys.{digit_code as digit_code_of, digits_key, pair_key};
 
-use sms_base::{Digits, semi_octet_of};
+use sms_base::{Digits, Msisdn, semi_octet_of};
 use std::marker::Model;
 
-/// The key of a row: a number, a number and a small one, digits, or digits and a small number.
+/// The key of a row: a number, a number and a small one, or digits.
 ///
 /// Contracts see a key as one number, which orders the rows. Keys of one kind are equal exactly where what they were
 /// made of is. Those of a first part are neighbours. A table has keys of one kind.
@@ -59,12 +60,13 @@ impl Key {
         }
     }
 
-    /// The key of digits and a small number.
-    pub fn digits_and(digits: &Digits, second: u8) -> Key
-        ensures { result ≡ pair_key (digits_key digits.now) second }
+    /// The key of a handset's number.
+    pub fn handset(number: &Msisdn) -> Key
+        ensures key { result ≡ digits_key number.now }
+        ensures number { IsMsisdn number.now }
     {
         Key {
-            place: 256 * digits_place(digits.as_few()) + u128::from(second),
+            place: octets_place(number.as_slice()),
         }
     }
 }
@@ -82,6 +84,19 @@ fn digits_place(digits: &[char]) -> u128
     place
 }
 
+// The number of the digits to the base 16, one an octet.
+fn octets_place(octets: &[u8]) -> u128
+    requires { length octets.now ≤ 20 }
+    ensures value { result ≡ digits_key octets.now }
+    ensures small { result < 16 ^ 20 }
+{
+    let mut place: u128 = 0;
+    for octet in octets {
+        place = 16 * place + u128::from(octet_code(*octet));
+    }
+    place
+}
+
 // The semi-octet of a digit, and one more, so that no digit counts as nothing.
 fn digit_code(digit: char) -> u8
     ensures value { result ≡ digit_code_of digit }
@@ -91,4 +106,12 @@ fn digit_code(digit: char) -> u8
         Some(semi_octet) => semi_octet + 1,
         None => 0,
     }
+}
+
+// That of an octet that is the code of a digit.
+fn octet_code(octet: u8) -> u8
+    ensures value { result ≡ digit_code_of octet }
+    ensures small { result ≤ 15 }
+{
+    digit_code(char::from(octet))
 }

@@ -2,7 +2,9 @@
 use Rattle.std.proofs.Common.{Option, Some, None, List, [], ◌∷◌, ap₂, encode_utf8_all, ◌≡◌, ℕ, ℤ, pos, ◌<◌, ◌/◌, ◌%◌, Bool, true, false, cond, ◌&&◌, ◌==◌, refl, ap, sym, subst, length, nat_lt, ◌∙◌, arith, int_eq}
 use Rattle.std.specs.Ordering.{is_eq}
 use Rattle.std.proofs.lemmas.Int.{ints}
+use Rattle.std.proofs.lemmas.Bool.{and_from}
 use Rattle.std.proofs.lemmas.Bool.Decides.{nat_tests}
+use lib.Utf8.{scalar, low_scalar}
 use Rattle.sqlite.specs.declared.types.Value.{Value}
 use Rattle.sqlite.specs.declared.types.Value.TheVariants.{Null, Int, Text}
 use Rattle.sqlite.specs.Order.{Row}
@@ -23,6 +25,8 @@ use Rattle.sqlite_value.proofs.OrderLemmas.{value_cmp-Int}
 use Rattle.sqlite_value.specs.Order.{column}
 use Rattle.sms_rows.specs.table.Keys.{pair_key}
 use Rattle.sms_base.specs.AddressKind.{type_number}
+use Rattle.sms_base.specs.Msisdn.{AllDigits}
+use Rattle.sms_base.specs.SemiOctet.{is_digit}
 use Rattle.sms_base.specs.declared.address.Address.{Address}
 use Rattle.sms_base.specs.declared.type_of_number.TypeOfNumber.{TypeOfNumber}
 use Rattle.sms_base.specs.declared.type_of_number.TypeOfNumber.TheVariants.{Unknown, International, National, NetworkSpecific, Subscriber, Alphanumeric, Abbreviated}
@@ -103,6 +107,14 @@ has_in row cols at value same low is = record {
 -- a text is read as the characters that it was written from
 pub characters_back : (characters : List ℕ) → all_scalars characters ≡ true → characters_in (Text (encode_utf8_all characters)) ≡ characters
 characters_back characters are = chars-encodes characters are
+
+digit_low : (c : ℕ) → is_digit c ≡ true → c < 55296
+digit_low c h = grind (arith, nat_tests)
+
+-- digits are characters
+pub digits_spelled : (digits : List ℕ) → AllDigits digits → all_scalars digits ≡ true
+digits_spelled [] h = refl
+digits_spelled (c ∷ cs) h = and_from (scalar c) (all_scalars cs) (low_scalar c (digit_low c h.0)) (digits_spelled cs h.1)
 
 -- what there may be is read as it was written
 pub given_back : {A : Type 0} (write : A → Value) (read : Value → A) (o : Option A) → ((x : A) → if_given read (write x) ≡ Some x) → if_given read (or_none write o) ≡ o

@@ -4,6 +4,7 @@ ghost use Rattle.std.specs.Prelude.{IsNone, IsUtf8, chars, encode_utf8_all, stri
 ghost use Rattle.std.specs.Str.{all_scalars};
 ghost use Rattle.sqlite.specs.declared.types.Value.TheVariants.{Blob, Text};
 ghost use Rattle.sms_base.specs.AddressKind.{type_of as type_numbered, type_number};
+ghost use Rattle.sms_base.specs.Msisdn.{IsMsisdn};
 ghost use Rattle.sms_base.specs.TimeStamp.{IsMoment};
 ghost use Rattle.sms_base.specs.declared.address.Address.{Address as AddressOf};
 ghost use Rattle.sqlite_sql.specs.Ops.{is_null};
@@ -13,7 +14,7 @@ ghost use Rattle.sms_store_sql.specs.listing.Columns.{IsOctet, IsShort, IsWord, 
 ghost use Rattle.sms_store_sql.specs.listing.Columns.{number_in, octets_in, or_none, text_in};
 ghost use Rattle.sms_store_sql.specs.listing.Reading.{HasAt, LacksMemory};
 
-use sms_base::{Address, Digits, Moment, Octets, TypeOfNumber};
+use sms_base::{Address, Digits, Moment, Msisdn, Octets, TypeOfNumber};
 use sqlite::types::ValueRef;
 use sqlite::{Error, Row};
 use std::alloc::{AllocError, Global};
@@ -136,13 +137,25 @@ pub fn text_at(row: &Row, at: usize) -> Result<String, Error>
 }
 
 /// The text in the column, if it has at most 20 characters.
-pub fn digits_at(row: &Row, at: usize) -> Result<Digits, Error>
+fn digits_at(row: &Row, at: usize) -> Result<Digits, Error>
     ensures value { IfOk result (λ digits. digits ≡ characters_in (column row.now at)) }
     ensures only { (digits : List ℕ) → AreFew digits → HasAt row.now at (Text (encode_utf8_all digits)) → IfErr result LacksMemory }
 {
     let text = text_at(row, at)?;
     match digits_of(text.as_str()) {
         Some(digits) => Ok(digits),
+        None => Err(Error::Utf8Error(at)),
+    }
+}
+
+/// The number of a handset in the column.
+pub fn handset_at(row: &Row, at: usize) -> Result<Msisdn, Error>
+    ensures value { IfOk result (λ number. number ≡ characters_in (column row.now at)) }
+    ensures only { (digits : List ℕ) → IsMsisdn digits → HasAt row.now at (Text (encode_utf8_all digits)) → IfErr result LacksMemory }
+{
+    let digits = digits_at(row, at)?;
+    match Msisdn::of_digits(&digits) {
+        Some(number) => Ok(number),
         None => Err(Error::Utf8Error(at)),
     }
 }
@@ -193,6 +206,17 @@ pub fn text_of(alloc: Global, characters: &[char]) -> Result<String, Error>
         put_character(&mut text, *character)?;
     }
     Ok(text)
+}
+
+/// The text of the number of a handset.
+pub fn handset_text(alloc: Global, number: &Msisdn) -> Result<String, Error>
+    ensures text { IfOk result (λ text. string_bytes text ≡ encode_utf8_all number.now) }
+    ensures number { IsMsisdn number.now }
+    ensures only { IfErr result LacksMemory }
+{
+    number.spells_a_number();
+    let digits = number.digits();
+    text_of(alloc, digits.as_slice())
 }
 
 fn put_character(text: &mut String, character: char) -> Result<(), AllocError>

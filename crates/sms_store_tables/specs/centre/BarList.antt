@@ -6,11 +6,12 @@ use Rattle.sqlite.specs.Listing.{understood}
 use Rattle.sqlite_tied.specs.Compute.{everything}
 use Rattle.sms_store_sql.specs.listing.Columns.{IsShort, characters_in, flag, flag_in, number, number_in}
 use Rattle.sms_store_sql.specs.listing.Listing.{TableOf, ListOf, IsList, table_of}
-use Rattle.sms_store_sql.proofs.listing.Columns.{address_back, cast_flag, cast_int, cast_row_same, characters_back, flag_back, one_found}
+use Rattle.sms_store_sql.proofs.listing.Columns.{address_back, cast_flag, cast_int, cast_row_same, characters_back, digits_spelled, flag_back, one_found}
 use Rattle.sms_store_tables.specs.centre.CentreSchema.{bar_plan, centre_schema}
 use Rattle.sms_store_tables.specs.centre.Types.{BarRow}
 use Rattle.sms_base.specs.AddressKind.{type_number}
-use Rattle.sms_store_sql.specs.listing.Addresses.{AreFew, IsStoredAddress, address_in}
+use Rattle.sms_base.specs.Msisdn.{IsMsisdn}
+use Rattle.sms_store_sql.specs.listing.Addresses.{IsStoredAddress, address_in}
 use Rattle.sms_store_tables.specs.Tabled.{tabled, IsTabled, computed, listed, KeepsKinds, FindsItsKey, AgreesInItsKey, IsReadBack}
 
 abbrev pub bar_table : TableOf
@@ -19,7 +20,7 @@ bar_table = tabled centre_schema 7 15 bar_plan
 -- a bar with its numbers in their ranges
 pub record IsStoredBar (b : BarRow) : Type 0 where
   pub source : IsStoredAddress b.source
-  pub handset : AreFew b.handset
+  pub handset : IsMsisdn b.handset
   pub reference : IsShort b.reference
 
 abbrev pub bar_list : ListOf BarRow
@@ -52,7 +53,7 @@ finds n id x fits = one_found x.place n
 reads_back : IsReadBack bar_list
 reads_back x fits =
     let a = address_back x.source fits.source.digits.are in
-    let h = characters_back x.handset fits.handset.are in
+    let h = characters_back x.handset (digits_spelled x.handset fits.handset.each) in
     let own = flag_back x.is_own in λ i. record { place = x.place; source = a i; handset = h i; reference = x.reference; is_own = own i }
 
 agrees : AgreesInItsKey bar_list

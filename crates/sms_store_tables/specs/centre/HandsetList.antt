@@ -3,11 +3,11 @@ use Rattle.std.specs.Prelude.{[], ◌∷◌, encode_utf8_all, refl}
 use Rattle.sqlite.specs.declared.types.Value.TheVariants.{Text}
 use Rattle.sqlite_value.specs.Order.{column}
 use Rattle.sqlite.specs.Listing.{understood}
+use Rattle.sms_base.specs.Msisdn.{IsMsisdn}
 use Rattle.sqlite_tied.specs.Compute.{everything}
-use Rattle.sms_store_sql.specs.listing.Addresses.{AreFew}
 use Rattle.sms_store_sql.specs.listing.Columns.{IsOctet, IsWord, number, number_in, characters_in}
 use Rattle.sms_store_sql.specs.listing.Listing.{TableOf, ListOf, IsList, table_of}
-use Rattle.sms_store_sql.proofs.listing.Columns.{one_found, cast_int, cast_row_same, characters_back}
+use Rattle.sms_store_sql.proofs.listing.Columns.{one_found, cast_int, cast_row_same, characters_back, digits_spelled}
 use Rattle.sms_store_tables.specs.centre.CentreSchema.{centre_schema, handset_plan}
 use Rattle.sms_store_tables.specs.centre.Types.{HandsetRow}
 use Rattle.sms_store_tables.specs.Tabled.{tabled, IsTabled, computed, listed, KeepsKinds, FindsItsKey, AgreesInItsKey, IsReadBack}
@@ -18,7 +18,7 @@ handset_table = tabled centre_schema 4 8 handset_plan
 -- a handset with its numbers in their ranges
 pub record IsStoredHandset (h : HandsetRow) : Type 0 where
   pub place : IsWord h.place
-  pub number : AreFew h.number
+  pub number : IsMsisdn h.number
   pub last_reference : IsOctet h.last_reference
 
 abbrev pub handset_list : ListOf HandsetRow
@@ -40,7 +40,7 @@ finds : FindsItsKey handset_list
 finds n id x fits = one_found x.place n
 
 reads_back : IsReadBack handset_list
-reads_back x fits = let d = characters_back x.number fits.number.are in λ i. record { place = x.place; number = d i; last_reference = x.last_reference }
+reads_back x fits = let d = characters_back x.number (digits_spelled x.number fits.number.each) in λ i. record { place = x.place; number = d i; last_reference = x.last_reference }
 
 agrees : AgreesInItsKey handset_list
 unfolding everything

@@ -5,14 +5,15 @@ use Rattle.sqlite_value.specs.Order.{column}
 use Rattle.sqlite.specs.Listing.{understood}
 use Rattle.sqlite_tied.specs.Compute.{everything}
 use Rattle.sms_base.specs.MessageId.{IsMessageId}
+use Rattle.sms_base.specs.Msisdn.{IsMsisdn}
 use Rattle.sms_base.specs.TimeStamp.{IsMoment}
 use Rattle.sms_store_sql.specs.listing.Columns.{IsOctet, IsShort, number, number_in, text_in, characters_in, if_given, or_none}
 use Rattle.sms_store_sql.specs.listing.Listing.{TableOf, ListOf, IsList, table_of}
-use Rattle.sms_store_sql.proofs.listing.Columns.{one_found, cast_int, cast_row_same, cast_optional, characters_back, given_back}
+use Rattle.sms_store_sql.proofs.listing.Columns.{one_found, cast_int, cast_row_same, cast_optional, characters_back, digits_spelled, given_back}
 use Rattle.sms_store_tables.specs.centre.CentreSchema.{centre_schema, message_plan}
 use Rattle.sms_store_tables.specs.centre.Types.{MessageRow}
 use Rattle.sms_base.specs.AddressKind.{type_number}
-use Rattle.sms_store_sql.specs.listing.Addresses.{AreFew, IsStoredAddress, address_in}
+use Rattle.sms_store_sql.specs.listing.Addresses.{IsStoredAddress, address_in}
 use Rattle.sms_store_sql.proofs.listing.Columns.{address_back}
 use Rattle.sms_store_tables.specs.centre.Pieces.{IsStoredOriginator, account_of, mark_of, originator_in, originator_back, mark_stays, wish_word, wish_in}
 use Rattle.sms_store_tables.specs.centre.Pieces.{wish_back, state_word, state_in, state_back}
@@ -26,7 +27,7 @@ pub record IsStoredMessage (m : MessageRow) : Type 0 where
   pub id : IsMessageId m.id
   pub originator : IsStoredOriginator m.originator
   pub source : IsStoredAddress m.source
-  pub handset : AreFew m.handset
+  pub handset : IsMsisdn m.handset
   pub data_coding_scheme : IsOctet m.data_coding_scheme
   pub protocol_identifier : IsOctet m.protocol_identifier
   pub submitted : IsMoment m.submitted
@@ -85,7 +86,7 @@ reads_back : IsReadBack message_list
 reads_back x fits =
     let o = originator_back x.originator in
     let a = address_back x.source fits.source.digits.are in
-    let h = characters_back x.handset fits.handset.are in
+    let h = characters_back x.handset (digits_spelled x.handset fits.handset.each) in
     let w = wish_back x.wish in
     let split = given_back number number_in x.split_reference (λ n. refl) in
     let s = state_back x.state in

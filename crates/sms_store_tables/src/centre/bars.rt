@@ -7,7 +7,8 @@ use crate::key::{integer_of, place_value};
 use sms_centre_rows::messages::BarRow;
 use sms_rows::table::Key;
 use sms_store_sql::listing::{
-    StoredRow, address_at, digits_at, flag_at, number_at, run, run_counted, short_at, text_of,
+    StoredRow, address_at, flag_at, handset_at, handset_text, number_at, run, run_counted,
+    short_at, text_of,
 };
 use sqlite::{Alter, Error, Row, Transaction, params};
 use std::alloc::Global;
@@ -36,7 +37,7 @@ impl StoredRow<CentreStore> for BarRow {
     ) -> Result<usize, Error> {
         let place = place_value(self.place)?;
         let source = text_of(alloc, self.source.digits.as_few())?;
-        let handset = text_of(alloc, self.handset.as_few())?;
+        let handset = handset_text(alloc, &self.handset)?;
         run_counted(
             tx,
             text,
@@ -64,7 +65,7 @@ impl StoredRow<CentreStore> for BarRow {
     fn read(_alloc: Global, row: &Row) -> Result<BarRow, Error> {
         let place = number_at(row, 0)?;
         let source = address_at(row, 1)?;
-        let handset = digits_at(row, 4)?;
+        let handset = handset_at(row, 4)?;
         let reference = short_at(row, 5)?;
         let is_own = flag_at(row, 6)?;
         Ok(BarRow {

@@ -6,7 +6,9 @@ use crate::centre::kind::CentreStore;
 use crate::key::integer_of;
 use sms_centre_rows::waiting::HandsetRow;
 use sms_rows::table::Key;
-use sms_store_sql::listing::{StoredRow, digits_at, octet_at, run, run_counted, text_of, word_at};
+use sms_store_sql::listing::{
+    StoredRow, handset_at, handset_text, octet_at, run, run_counted, word_at,
+};
 use sqlite::{Alter, Error, Row, Transaction, params};
 use std::alloc::Global;
 
@@ -32,7 +34,7 @@ impl StoredRow<CentreStore> for HandsetRow {
         tx: &mut Transaction<'_, S>,
         text: &str,
     ) -> Result<usize, Error> {
-        let number = text_of(alloc, self.number.as_few())?;
+        let number = handset_text(alloc, &self.number)?;
         run_counted(
             tx,
             text,
@@ -46,7 +48,7 @@ impl StoredRow<CentreStore> for HandsetRow {
 
     fn read(_alloc: Global, row: &Row) -> Result<HandsetRow, Error> {
         let place = word_at(row, 0)?;
-        let number = digits_at(row, 1)?;
+        let number = handset_at(row, 1)?;
         let last_reference = octet_at(row, 2)?;
         Ok(HandsetRow {
             place,

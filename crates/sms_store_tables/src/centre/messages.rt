@@ -11,8 +11,8 @@ use crate::key::{id_value, integer_of, moment_value};
 use sms_centre_rows::messages::MessageRow;
 use sms_rows::table::Key;
 use sms_store_sql::listing::{
-    StoredRow, address_at, digits_at, moment_at, octet_at, optional_moment_at, optional_short_at,
-    run, run_counted, text_of,
+    StoredRow, address_at, handset_at, handset_text, moment_at, octet_at, optional_moment_at,
+    optional_short_at, run, run_counted, text_of,
 };
 use sqlite::{Alter, Error, Row, Transaction, params};
 use std::alloc::Global;
@@ -43,7 +43,7 @@ impl StoredRow<CentreStore> for MessageRow {
         let submitted = moment_value(self.submitted)?;
         let limit = moment_value(self.limit)?;
         let source = text_of(alloc, self.source.digits.as_few())?;
-        let handset = text_of(alloc, self.handset.as_few())?;
+        let handset = handset_text(alloc, &self.handset)?;
         run_counted(
             tx,
             text,
@@ -80,7 +80,7 @@ impl StoredRow<CentreStore> for MessageRow {
         let id = id_at(row, 0)?;
         let originator = originator_at(row, 1)?;
         let source = address_at(row, 3)?;
-        let handset = digits_at(row, 6)?;
+        let handset = handset_at(row, 6)?;
         let data_coding_scheme = octet_at(row, 7)?;
         let protocol_identifier = octet_at(row, 8)?;
         let wish = wish_at(row, 9)?;

@@ -17,7 +17,7 @@ ghost use Rattle.sms_player.specs.centre.PlayedCentre.{IsSomeCentre};
 
 use crate::running::ending::{Judged, finish};
 use crate::running::verdict::Finder;
-use sms_base::{Digits, Moment};
+use sms_base::{Moment, Msisdn};
 use sms_player::centre::{
     Centre, CentreSetup, MemoryKeep, PlayedCentre, PlayedHandset, centre_setup,
     handsets_can_have_links, judge, numbers_of, with_first_centre, with_first_keep, with_parties,
@@ -30,7 +30,7 @@ use std::alloc::{AllocError, Global};
 #[derive(Drop)]
 struct Opening {
     setup: CentreSetup,
-    handsets: Vec<Digits>,
+    handsets: Vec<Msisdn>,
 }
 
 fn opening_of(
@@ -59,7 +59,7 @@ fn play_by<W: Finder>(
     alloc: Global,
     centre: &mut Centre,
     keep: &mut MemoryKeep,
-    handsets: &[Digits],
+    handsets: &[Msisdn],
     parties: &mut [PlayedHandset],
     events: &[WorldEvent<'_>],
     watcher: &mut W,
@@ -84,7 +84,7 @@ fn play_at<W: Finder>(
     alloc: Global,
     setup: &CentreSetup,
     centre: &mut Centre,
-    handsets: &[Digits],
+    handsets: &[Msisdn],
     parties: &mut [PlayedHandset],
     events: &[WorldEvent<'_>],
     watcher: &mut W,
@@ -111,7 +111,7 @@ fn play_at<W: Finder>(
 fn play_from<W: Finder>(
     alloc: Global,
     setup: &CentreSetup,
-    handsets: &[Digits],
+    handsets: &[Msisdn],
     parties: &mut [PlayedHandset],
     events: &[WorldEvent<'_>],
     watcher: &mut W,

@@ -39,7 +39,8 @@ fn put_parties(out: &mut Octets, message: &MessageRow) -> Result<(), AllocError>
 {
     put_id(out, message.id)?;
     put_name(out, 22, message.source.digits.as_slice())?;
-    put_name(out, 22, message.handset.as_slice())?;
+    let handset = message.handset.digits();
+    put_name(out, 22, handset.as_slice())?;
     put_cell(out, 8, state_word(message.state).as_bytes())
 }
 

@@ -93,7 +93,7 @@ fn is_state(state: Option<FinalState>, wanted: Option<&str>) -> bool
 fn is_between(filter: &Filter<'_>, message: &MessageRow) -> bool
     ensures { result ≡ is_between_of filter.now message.now }
 {
-    is_text(&message.source.digits, filter.from) && is_text(&message.handset, filter.to)
+    is_text(&message.source.digits, filter.from) && is_text(&message.handset.digits(), filter.to)
 }
 
 fn is_named(filter: &Filter<'_>, message: &MessageRow) -> bool

@@ -5,13 +5,13 @@ ghost use Rattle.smsc_cli.specs.columns.Columns.{lines};
 
 use crate::centre_table::messages::{put_due, put_moment};
 use crate::columns::{put_name, put_number};
-use sms_base::{Digits, Moment, Octets};
+use sms_base::{Moment, Msisdn, Octets};
 use std::alloc::{AllocError, Global};
 
 /// What waits for a handset.
 #[derive(Clone, Copy)]
 pub struct StuckLine {
-    pub handset: Digits,
+    pub handset: Msisdn,
     /// How many short messages wait for it.
     pub waiting: u64,
     /// When the oldest of their messages was submitted.
@@ -26,7 +26,8 @@ pub struct StuckLine {
 fn put_waiting(out: &mut Octets, line: &StuckLine) -> Result<(), AllocError>
     ensures { OnOk result (out.new ≡ out.old ++ what_waits line.now) }
 {
-    put_name(out, 22, line.handset.as_slice())?;
+    let handset = line.handset.digits();
+    put_name(out, 22, handset.as_slice())?;
     put_number(out, 8, line.waiting)?;
     put_moment(out, line.since)
 }

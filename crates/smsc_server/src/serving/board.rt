@@ -5,7 +5,7 @@ use crate::serving::occupancy::Seating;
 use crate::serving::orders::Orders;
 use mio::Waker;
 use smpp_session::FullAccounts;
-use sms_base::Digits;
+use sms_base::Msisdn;
 use sms_centre_spec::jobs::Job;
 use smsc_arrivals::PeerKind;
 use smsc_observer::Seated;
@@ -134,12 +134,12 @@ impl Board {
     }
 
     /// The handset has its link at the seat of this number; none has without one.
-    pub(crate) fn link<R: Wait>(&self, rt: &R, seat: usize, handset: Option<Digits>) {
+    pub(crate) fn link<R: Wait>(&self, rt: &R, seat: usize, handset: Option<Msisdn>) {
         self.links.lock(rt).put(seat, handset);
     }
 
     /// The handset has a newer link at the seat of this number: the other one is to end.
-    pub(crate) fn replace<R: Wait>(&self, rt: &R, seat: usize, handset: &Digits) {
+    pub(crate) fn replace<R: Wait>(&self, rt: &R, seat: usize, handset: &Msisdn) {
         // No other connection begins at that seat meanwhile: the older link forgets its handset first.
         let links = self.links.lock(rt);
         if let Some(other) = links.other(seat, handset) {

@@ -2,18 +2,18 @@
 ghost use Rattle.std.specs.Prelude.{◌≡◌, ◌≢◌, ℕ, None, IfOk, IfNone, IfSome, bytes_eq, false, replicate, slice_set, true};
 ghost use Rattle.smsc_server.specs.serving.LinkPlaces.{is_at as is_at_of};
 
-use sms_base::Digits;
+use sms_base::Msisdn;
 use smsc_observer::SEATS;
 use std::alloc::{AllocError, Global};
 
 /// The handset at each seat that has a link.
 #[derive(Drop)]
 pub(crate) struct LinkSeats {
-    handsets: Vec<Option<Digits>>,
+    handsets: Vec<Option<Msisdn>>,
 }
 
 // No link at any seat.
-fn no_links(alloc: Global) -> Result<Vec<Option<Digits>>, AllocError>
+fn no_links(alloc: Global) -> Result<Vec<Option<Msisdn>>, AllocError>
     ensures { IfOk result (λ handsets. handsets.items ≡ replicate 32 None) }
 {
     let mut handsets = Vec::with_capacity(alloc, SEATS)?;
@@ -23,10 +23,10 @@ fn no_links(alloc: Global) -> Result<Vec<Option<Digits>>, AllocError>
     Ok(handsets)
 }
 
-fn is_same(one: &Digits, other: &Digits) -> bool
+fn is_same(one: &Msisdn, other: &Msisdn) -> bool
     ensures { result ≡ bytes_eq one.now other.now }
 {
-    one.as_slice() == other.as_slice()
+    one == other
 }
 
 impl LinkSeats {
@@ -39,7 +39,7 @@ impl LinkSeats {
     }
 
     /// The handset has its link at the seat of this number; none has without one.
-    pub(crate) fn put(&mut self, seat: usize, handset: Option<Digits>)
+    pub(crate) fn put(&mut self, seat: usize, handset: Option<Msisdn>)
         ensures { self.new.handsets.items ≡ slice_set self.old.handsets.items seat handset }
     {
         if let Some(place) = self.handsets.get_mut(seat) {
@@ -48,7 +48,7 @@ impl LinkSeats {
     }
 
     // Whether the handset has its link at the seat.
-    fn is_at(&self, seat: usize, handset: &Digits) -> bool
+    fn is_at(&self, seat: usize, handset: &Msisdn) -> bool
         ensures { result ≡ is_at_of handset.now seat self.now.handsets.items }
     {
         match self.handsets.get(seat) {
@@ -58,7 +58,7 @@ impl LinkSeats {
     }
 
     /// Another seat at which the handset has a link.
-    pub(crate) fn other(&self, seat: usize, handset: &Digits) -> Option<usize>
+    pub(crate) fn other(&self, seat: usize, handset: &Msisdn) -> Option<usize>
         ensures some { IfSome result (λ other. (other ≢ seat) × (is_at_of handset.now other self.now.handsets.items ≡ true)) }
         ensures none { IfNone result ((other : ℕ) → other ≢ seat → is_at_of handset.now other self.now.handsets.items ≡ false) }
     {

@@ -1,7 +1,7 @@
 //! What waits for a handset, and its line.
-use crate::indexes::names::{START, digits, message};
+use crate::indexes::names::{START, message};
 use crate::rows::{failed_at, holds};
-use sms_base::{Holder, Kind, Listed, Moment};
+use sms_base::{Holder, Kind, Listed, Moment, Msisdn};
 use sms_centre_queue::queue::DeliveryQueue;
 use sms_centre_rows::waiting::QueuedPart;
 use sms_link::{LinkOut, Outgoing};
@@ -296,7 +296,7 @@ fn go(queue: &mut DeliveryQueue, start: Moment, course: &Course) -> Result<(), F
 }
 
 fn plays(alloc: Global, start: Moment, course: &Course) -> Result<(), Fail> {
-    match digits("447700900456") {
+    match Msisdn::of(b"447700900456") {
         Some(number) => {
             let mut queue = DeliveryQueue::new(alloc, number);
             let went = go(&mut queue, start, course);

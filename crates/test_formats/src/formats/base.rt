@@ -1,7 +1,7 @@
 //! Moments, addresses, identities and lists: worked values, and each call at its greatest size.
 use crate::examples::LEAP_DAY;
 use crate::rows::{are, holds};
-use sms_base::{Address, Listed, MessageId, Moment, Octets, TypeOfNumber};
+use sms_base::{Address, Listed, MessageId, Moment, Msisdn, Octets, TypeOfNumber};
 use std::alloc::{AllocError, Global};
 use std::test::Fail;
 
@@ -81,6 +81,48 @@ const ADDRESSES: &[AddressRow] = &[
     (1, 16, "", Err("A5")),
 ];
 
+// Whether the octets spell the number of a handset, which then spells them again.
+fn spells_number(octets: &[u8]) -> bool {
+    match Msisdn::of(octets) {
+        Some(number) => {
+            number.as_slice() == octets && Msisdn::of_digits(&number.digits()) == Some(number)
+        }
+        None => false,
+    }
+}
+
+// The longest number has 20 digits. A plus sign is no digit.
+const NUMBERS: &[(&[u8], bool)] = &[
+    (b"447700900123", true),
+    (b"0", true),
+    (b"0123456789*#abc01234", true),
+    (b"", false),
+    (b"123456789012345678901", false),
+    (b"12x", false),
+    (b"+447700900123", false),
+];
+
+// The digits of the handset that an address names, if it names one.
+fn names_handset(ton: u8, text: &str) -> bool {
+    match Address::new(ton, 1, text) {
+        Ok(address) => match address.handset() {
+            Some(number) => number.as_slice() == text.as_bytes(),
+            None => false,
+        },
+        Err(_) => false,
+    }
+}
+
+// Unknown, international and national numbers of the digits 0 to 9 name handsets.
+const NAMED: &[(u8, &str, bool)] = &[
+    (0, "7700900123", true),
+    (1, "447700900123", true),
+    (2, "7700900123", true),
+    (3, "7700900123", false),
+    (5, "7700900123", false),
+    (1, "44770*", false),
+];
+
 fn identity_digits(number: u64) -> Option<[u8; 10]> {
     match MessageId::new(number) {
         Some(id) => Some(id.digits()),
@@ -114,6 +156,12 @@ fn moments_addresses_and_identities_are_read() -> Result<(), Fail> {
     }
     for (ton, npi, text, address) in ADDRESSES {
         holds(address_of(*ton, *npi, text) == *address, text)?;
+    }
+    for (octets, are_number) in NUMBERS {
+        holds(spells_number(octets) == *are_number, "a handset's number")?;
+    }
+    for (ton, text, is_named) in NAMED {
+        holds(names_handset(*ton, text) == *is_named, text)?;
     }
     for (text, number) in IDENTITIES {
         holds(identity_number(text) == *number, "an identity")?;

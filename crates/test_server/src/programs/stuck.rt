@@ -1,12 +1,12 @@
 //! The table of what waits, by handset.
 use crate::rows::holds;
-use sms_base::{Address, Digits, Moment};
+use sms_base::{Moment, Msisdn};
 use smsc_cli::centre_table::{StuckLine, stuck_table};
 use std::alloc::Global;
 use std::test::Fail;
 
-fn digits(text: &str) -> Option<Digits> {
-    Some(Address::new(1, 1, text).ok()?.digits)
+fn digits(text: &str) -> Option<Msisdn> {
+    Msisdn::of(text.as_bytes())
 }
 
 // 2026-11-26 04:46:01 at UTC, by `date -u -d @1795668361`, and so many seconds on.

@@ -4,7 +4,7 @@ use crate::service::centre::logins;
 use smpp_pdu::CommandStatus;
 use smpp_session::{BindKind, FullAccounts};
 use sms_base::lending::lend;
-use sms_base::{Address, FinalState, MessageId, Moment, Octets};
+use sms_base::{Address, FinalState, MessageId, Moment, Msisdn, Octets};
 use sms_centre_spec::CentreAnswer;
 use sms_centre_spec::jobs::{Job, Reply};
 use sms_receipt::Final;
@@ -143,7 +143,7 @@ pub(crate) fn end() -> Option<Final> {
     Some(Final {
         id: MessageId::new(1)?,
         source: Address::new(1, 1, "447700900001").ok()?,
-        handset: Address::new(1, 1, "447700900456").ok()?.digits,
+        handset: Msisdn::of(b"447700900456")?,
         message_reference: 0,
         submitted: moment,
         done: moment,

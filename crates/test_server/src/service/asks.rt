@@ -1,5 +1,5 @@
 //! What happens to a service.
-use sms_base::{Address, MessageId, Moment, Octets};
+use sms_base::{MessageId, Moment, Msisdn, Octets};
 use sms_centre_spec::jobs::Job;
 use sms_keeper::Stimulus;
 use std::alloc::Global;
@@ -61,7 +61,7 @@ pub(crate) fn job(alloc: Global, asked: &Request) -> Option<Job> {
             is_accepted: true,
         }),
         Request::Rises => Some(Job::LinkUp {
-            handset: Address::new(1, 1, "447700900456").ok()?.digits,
+            handset: Msisdn::of(b"447700900456")?,
         }),
         Request::Falls => Some(Job::LinkDown),
         Request::Sends(octets) => Some(Job::Frame {

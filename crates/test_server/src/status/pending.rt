@@ -1,6 +1,6 @@
 //! What is pending, by handset, as one commit after another says.
 use crate::rows::turn_holds;
-use sms_base::{Address, Digits, FinalState, Listed, MessageId, Moment, Octets, Originator, Wish};
+use sms_base::{Address, FinalState, Listed, MessageId, Moment, Msisdn, Octets, Originator, Wish};
 use sms_centre_rows::messages::{MessageRow, PartRow};
 use sms_centre_rows::waiting::{Progress, Revision};
 use sms_centre_spec::Changes;
@@ -15,8 +15,8 @@ fn at(seconds: u64) -> Option<Moment> {
     Moment::from_seconds(1_795_668_361 + seconds % 100_000).ok()
 }
 
-fn digits(handset: &str) -> Option<Digits> {
-    Some(Address::new(1, 1, handset).ok()?.digits)
+fn digits(handset: &str) -> Option<Msisdn> {
+    Msisdn::of(handset.as_bytes())
 }
 
 // ---- rows

@@ -15,6 +15,6 @@ returns-then-is_on_way_to c = λ core state represents stands there.
 pub returns : goal.returns
 returns c = λ core state represents stands there.
     let m = c.args.message.now in
-    c.is_on_way_to-2.ensures core represents
+    c.is_on_way_back.ensures core represents
     ∙ ap (λ (b : Bool). b || is_carried m.id (line_of m.source.digits core.lines).link.under_way) (sym (sym (c.is_on_way_to.ensures core represents) ∙ c.if-is_on_way_to.false))
     ∙ way_by_ends core stands.centre.sound m there

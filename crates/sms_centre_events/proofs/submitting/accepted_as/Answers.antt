@@ -1,6 +1,5 @@
 use Rattle.std.proofs.Common.{Bool, Option, subst}
 use Rattle.std.specs.Prelude.{IfOk}
-use Rattle.sms_centre_queue.proofs.queues.Allocation.{number_digits}
 use Rattle.sms_centre_spec.specs.Draft.{Store}
 use Rattle.sms_centre_spec.specs.Requests.{accepted}
 use Rattle.sms_centre_spec.specs.Shares.{unless_too_much}
@@ -9,9 +8,6 @@ use Rattle.sms_centre_draft.specs.Submitting.{Accepts}
 use Rattle.sms_centre_events.specs.SubmitOutcomes.{LeadsTo}
 use Rattle.sms_centre_events.proofs.Entered.{entered, none_free}
 use Rattle.sms_centre_events.proofs.submitting.accepted_as.Goals as goal
-
-pub entered_as-requires : goal.entered_as-requires
-entered_as-requires c = record { digits = number_digits c.args.submission.now.handset c.requires.submission.handset }
 
 pub returns-then-not-is_accepted : goal.returns-then-not-is_accepted
 returns-then-not-is_accepted c = λ d represents holds fresh.

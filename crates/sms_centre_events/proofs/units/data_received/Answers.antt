@@ -8,7 +8,7 @@ use Rattle.sms_centre_events.proofs.units.data_received.Goals as goal
 
 pub submit_received-requires-clause-submission : goal.submit_received-requires-clause-submission
 submit_received-requires-clause-submission c =
-    tpdu_fits c.accounts-accounts.result.now c.args.handset c.now-now.result c.args.tpdu.now (up_at InData c.args.tpdu.now) c.in-Ok.submission c.requires.number
+    tpdu_fits c.accounts-accounts.result.now c.args.handset c.now-now.result c.args.tpdu.now (up_at InData c.args.tpdu.now) c.in-Ok.submission c.spells_a_number.ensures.address
     (are_octets c.args.tpdu.now (λ i. omega (arith, c.type_inv.tpdu i))) refl c.in-Ok.ensures
 
 pub submit_received-requires-clause-single : goal.submit_received-requires-clause-single

@@ -6,15 +6,15 @@ use Rattle.sms_centre_events.proofs.Walked.{left_next, left_none}
 use Rattle.sms_centre_events.proofs.walks.fire_each.Goals as goal
 
 pub loop-stop-init : goal.loop-stop-init
-loop-stop-init c = λ d represents digits. record { draft = d; represents = represents; digits = digits; goes = refl }
+loop-stop-init c = λ d represents. record { draft = d; represents = represents; goes = refl }
 
 pub loop-stop-preserved : goal.loop-stop-preserved
-loop-stop-preserved c = λ d represents digits.
+loop-stop-preserved c = λ d represents.
     let i = c.loop-stop.stop-index in
-    left_next fire_on d c.args.stops.now (drop i c.args.stops.now) c.stop-item.result (drop (i + 1) c.args.stops.now) c.loop-stop.draft c.fire_on.new.draft
-    (drop_item c.args.stops.now i c.stop-item.result (omega (arith, c.loop-stop-test.true)) c.stop-item.is) (c.loop-stop.invariant d represents digits) c.in_ok-fire_on.ensures
+    left_next fire_on d c.args.stops.now (drop i c.args.stops.now) c.stop-item.result (drop (i + 1) c.args.stops.now) c.loop-stop.draft c.fire.new.draft
+    (drop_item c.args.stops.now i c.stop-item.result (omega (arith, c.loop-stop-test.true)) c.stop-item.is) (c.loop-stop.invariant d represents) c.in_ok-fire.ensures
 
 pub returns : goal.returns
-returns c = λ d represents digits.
+returns c = λ d represents.
     left_none fire_on d c.args.stops.now (drop c.loop-stop.stop-index c.args.stops.now) c.loop-stop.draft
-    (drop_of_length-le c.args.stops.now (omega (arith, c.loop-stop-test.false))) (c.loop-stop.invariant d represents digits)
+    (drop_of_length-le c.args.stops.now (omega (arith, c.loop-stop-test.false))) (c.loop-stop.invariant d represents)

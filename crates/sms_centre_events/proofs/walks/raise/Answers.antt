@@ -4,8 +4,6 @@ use Rattle.sms_centre_queue.specs.declared.queues.concern.Concern.TheVariants.{A
 use Rattle.sms_centre_queue.specs.queues.Walks.{walk}
 use Rattle.sms_centre_spec.specs.CentreEvent.{raise}
 use Rattle.sms_centre_spec.specs.Draft.{Draft}
-use Rattle.sms_centre_events.specs.Walking.{AreDigits}
-use Rattle.sms_centre_events.proofs.Walked.{found_digits}
 use Rattle.sms_centre_draft.specs.CentreDraft.{Represents}
 use Rattle.sms_centre_events.proofs.walks.raise.Goals as goal
 
@@ -14,4 +12,4 @@ returns c = λ d represents.
     let are = c.as_slice.ensures.value ∙ c.in_ok-awaited.ensures d represents in
     subst (λ (e : Draft). OnOk c.raise_each.result (Represents e c.raise_each.new.draft))
     (ap (λ (ss : List ConcernedHandset). walk raise ss d) are ∙ sym (c.links_rise_where_found.ensures d represents.queues.apart))
-    (c.raise_each.ensures d represents (subst (λ (ss : List ConcernedHandset). AreDigits ss) (sym are) (found_digits Awaited d c.args.draft.now represents)))
+    (c.raise_each.ensures d represents)

@@ -2,9 +2,8 @@ use Rattle.std.proofs.Common.{drop}
 use Rattle.sms_centre_spec.specs.Draft.{Draft}
 use Rattle.sms_centre_spec.specs.CentreEvent.{raise}
 use Rattle.sms_centre_draft.specs.CentreDraft.{Represents}
-use Rattle.sms_centre_events.specs.Walking.{AreDigits}
 use Rattle.sms_centre_events.proofs.Walked.{IsLeft}
 use Rattle.sms_centre_events.proofs.walks.raise_each.Given as goal
 
 abbrev pub invariant-loop-stop : goal.invariant-loop-stop
-invariant-loop-stop l = (d : Draft) → Represents d l.initial.draft → AreDigits l.stops → IsLeft raise d l.stops (drop l.stop-index l.stops) l.draft
+invariant-loop-stop l = (d : Draft) → Represents d l.initial.draft → IsLeft raise d l.stops (drop l.stop-index l.stops) l.draft

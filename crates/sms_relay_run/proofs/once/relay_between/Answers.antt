@@ -1,13 +1,8 @@
 use Rattle.std.proofs.Common.{List, ℕ, Option, sym, ◌∙◌, ap, subst}
-use Rattle.sms_base.specs.Among.{Among}
 use Rattle.sms_base.specs.declared.address.Address.{Address}
 use Rattle.sms_centre_spec.specs.SoundCore.{AreDifferent}
 use Rattle.sms_relay_run.specs.relay_laws.Relaying.{handsets_for}
 use Rattle.sms_relay_run.proofs.once.relay_between.Goals as goal
-
-pub relay_started-requires-clause-numbers : goal.relay_started-requires-clause-numbers
-relay_started-requires-clause-numbers c = λ number among.
-    c.requires.numbers number (subst (λ (ns : List (List ℕ)). Among number ns) (c.as_slice.ensures.value ∙ c.in_ok-handsets.ensures) among)
 
 pub relay_started-requires-clause-apart : goal.relay_started-requires-clause-apart
 relay_started-requires-clause-apart c =

@@ -1,10 +1,7 @@
 use Rattle.std.proofs.Common.{List, ℕ, sym, ◌∙◌, ap}
 use Rattle.smsc_service.specs.BoundSession.{is_among}
-use Rattle.smsc_service.proofs.Sittings.{apart_snoc, not_among, numbers_snoc}
+use Rattle.smsc_service.proofs.Sittings.{apart_snoc, not_among}
 use Rattle.smsc_service.proofs.bound_session.push_new.Goals as goal
-
-pub returns-clause-numbers : goal.returns-clause-numbers
-returns-clause-numbers c = numbers_snoc c.args.handsets.now.items c.args.handset c.push.new.self.items c.in_ok-push.ensures.items c.requires.numbers (c.is_number.ensures.number c.if-not-is_number.false)
 
 pub returns-clause-apart : goal.returns-clause-apart
 returns-clause-apart c =

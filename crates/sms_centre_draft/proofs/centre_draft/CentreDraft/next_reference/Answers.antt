@@ -4,7 +4,7 @@ use Rattle.sms_centre_draft.proofs.RepresentedMoves.{next_told}
 use Rattle.sms_centre_draft.proofs.centre_draft.CentreDraft.next_reference.Goals as goal
 
 pub returns : goal.returns
-returns c = λ d represents is.
+returns c = λ d represents.
     let w : CentreDraftOf = record { setup = c.self.inside.setup.now; moment = c.self.inside.moment; messages = c.self.inside.messages; queues = c.self.inside.queues; reports = c.self.inside.reports; bindings = c.self.inside.bindings; answer = c.self.inside.answer } in
     let was : Represents d w = subst (λ (x : CentreDraftOf). Represents d x) (sym c.self.view_is) represents in
-    next_told c.args.number c.in_ok-reference.reference d w was (c.in_ok-reference.ensures is d.store.allocations d.links (all_waiting d.store) was.queues)
+    next_told c.args.number c.in_ok-reference.reference d w was (c.in_ok-reference.ensures.reference d.store.allocations d.links (all_waiting d.store) was.queues)

@@ -16,7 +16,7 @@ returns c = λ d p represents there is of done.
     let was : Represents d w = subst (λ (x : CentreDraftOf). Represents d x) (sym c.self.view_is) represents in
     let m = c.args.message.now in
     let q = c.args.progress.now in
-    part_far_represented d w p q c.amend_part.new.self c.remove.new.queues was there (λ e. let bad : true ≡ false = sym done ∙ e in absurd cc)
+    part_far_represented d w p q c.amend_part.new.self c.remove.new.self was there (λ e. let bad : true ≡ false = sym done ∙ e in absurd cc)
     (c.in_ok-amend_part.ensures d.store.messages p was.messages there is)
     (c.in_ok-remove.ensures d.store.allocations d.links (all_waiting d.store) (all_waiting (with_part_at p q d.store)) was.queues
     (subst (λ (e : PartEntry). Waits m.handset (without queued_key (pair_key e.id e.number)) (all_waiting d.store) (all_waiting (with_part_at p q d.store))) is

@@ -12,7 +12,7 @@ pub returns : goal.returns
 returns c = λ d represents there pending.
     let w : CentreDraftOf = record { setup = c.self.inside.setup.now; moment = c.self.inside.moment; messages = c.self.inside.messages; queues = c.self.inside.queues; reports = c.self.inside.reports; bindings = c.self.inside.bindings; answer = c.self.inside.answer } in
     let was : Represents d w = subst (λ (x : CentreDraftOf). Represents d x) (sym c.self.view_is) represents in
-    ended_represented d w c.args.message.now c.args.state c.put_message.new.self c.withdraw.new.queues was there pending
+    ended_represented d w c.args.message.now c.args.state c.put_message.new.self c.withdraw.new.self was there pending
     (subst (λ (r : MessageRow). RepresentsMessages c.put_message.new.self (put_message r d.store.messages)) c.in_ok-row.ensures (c.in_ok-put_message.ensures d.store.messages was.messages))
     (c.in_ok-withdraw.ensures d.store.allocations d.links (all_waiting d.store) (all_waiting (with_message (ended c.args.state d.store.moment c.args.message.now) d.store)) was.queues
     (ended_waits d.store c.args.message.now c.args.state was.consistent.held there))

@@ -9,7 +9,7 @@ use Rattle.sms_centre_queue.specs.queues.Representing.{Waits}
 use Rattle.sms_centre_spec.specs.Draft.{handsets_in, with_given}
 use Rattle.sms_centre_spec.specs.Submitting.{put_part_of}
 use Rattle.sms_centre_draft.specs.CentreDraft.{Represents, CentreDraftOf, all_waiting}
-use Rattle.sms_centre_draft.proofs.Entering.{given_number, given_represented, given_waits}
+use Rattle.sms_centre_draft.proofs.Entering.{given_represented, given_waits}
 use Rattle.sms_centre_draft.proofs.centre_draft.CentreDraft.put_part.Goals as goal
 
 pub returns : goal.returns
@@ -20,11 +20,11 @@ returns c = λ d represents can few next.
     let b = c.args.body.now in
     let h = handset_of u.handset (handsets_in d.store) in
     let after = all_waiting (put_part_of c.args.id u c.args.number b c.args.reference (with_given h c.args.reference d.store)) in
-    given_represented d w c.args.id u c.args.number b c.args.reference c.put_part.new.self c.put.new.queues was can few next
+    given_represented d w c.args.id u c.args.number b c.args.reference c.put_part.new.self c.put.new.self was can few next
     (subst (λ (r : PartRow). RepresentsMessages c.put_part.new.self (put_part r d.store.messages))
     (c.part_of-row.ensures ∙ ap (λ (t : List ℕ). record { id = c.args.id; number = c.args.number; reference = c.args.reference; tpdu = t; key = b.key; progress = record { is_done = false; attempts = 0; due = u.due } }) c.in_ok-tpdu.ensures.is)
     (c.in_ok-put_part.ensures d.store.messages was.messages))
     (c.in_ok-put.ensures (give h c.args.reference w.moment d.store.allocations) d.links (all_waiting d.store) after
-    (c.in_ok-give.ensures (given_number d w c.args.id u c.args.number was can) d.store.allocations d.links (all_waiting d.store) was.queues)
+    (c.in_ok-give.ensures d.store.allocations d.links (all_waiting d.store) was.queues)
     (subst (λ (k : ℕ). Waits u.handset (put queued_key (record { id = c.args.id; number = c.args.number; reference = c.args.reference; priority = k; due = u.due })) (all_waiting d.store) after) (sym c.level-priority.ensures.value)
     (given_waits d w c.args.id u c.args.number b c.args.reference was can few)))

@@ -16,8 +16,8 @@ returns c = λ d r represents there is status of done.
     let was : Represents d w = subst (λ (x : CentreDraftOf). Represents d x) (sym c.self.view_is) represents in
     let m = c.args.message.now in
     let q = c.args.progress.now in
-    report_far_represented d w r q c.amend_status.new.self c.remove.new.queues was there (λ e. let bad : true ≡ false = sym done ∙ e in absurd cc)
+    report_far_represented d w r q c.amend_status.new.self c.remove_report.new.queues was there (λ e. let bad : true ≡ false = sym done ∙ e in absurd cc)
     (c.in_ok-amend_status.ensures (messages_in d.store) d.store.reports r was.reports there is status)
-    (c.in_ok-remove.ensures d.store.allocations d.links (all_waiting d.store) (all_waiting (with_report_at r q d.store)) was.queues
+    (c.in_ok-remove_report.ensures d.store.allocations d.links (all_waiting d.store) (all_waiting (with_report_at r q d.store)) was.queues
     (subst (λ (e : ReportEntry). Waits m.source.digits (without queued_key (pair_key e.id 0)) (all_waiting d.store) (all_waiting (with_report_at r q d.store))) (sym is)
     (status_done_waits d.store r q m was.consistent.held there of done)))

@@ -17,9 +17,9 @@ returns c = λ d r represents there is open_now of off.
     let was : Represents d w = subst (λ (x : CentreDraftOf). Represents d x) (sym c.self.view_is) represents in
     let m = c.args.message.now in
     let q = c.args.progress.now in
-    report_far_represented d w r q c.amend_status.new.self c.put_off.new.queues was there (λ e. open_undone r open_now)
+    report_far_represented d w r q c.amend_status.new.self c.put_report_off.new.queues was there (λ e. open_undone r open_now)
     (c.in_ok-amend_status.ensures (messages_in d.store) d.store.reports r was.reports there is (open_is_status r open_now))
-    (c.in_ok-put_off.ensures d.store.allocations d.links (all_waiting d.store) (all_waiting (with_report_at r q d.store)) (report_queued r) was.queues
+    (c.in_ok-put_report_off.ensures d.store.allocations d.links (all_waiting d.store) (all_waiting (with_report_at r q d.store)) (report_queued r) was.queues
     (subst (λ (e : ReportEntry). row_at queued_key (pair_key e.id 0) (all_waiting d.store m.source.digits) ≡ Some (report_queued r)) (sym is)
     (status_waiting d.store r m was.consistent.held there of open_now))
     (status_off_waits d.store r q m was.consistent.held there of (open_is_status r open_now) off))

@@ -1,10 +1,8 @@
 use Rattle.std.proofs.Common.{◌≡◌, ℕ, List, [], Bool, true, false, take, refl, sym, subst, arith}
 use Rattle.std.proofs.lemmas.List.{take_all}
-use Rattle.sms_base.specs.Among.{Among}
 use Rattle.sms_centre_queue.specs.queues.Representing.{DraftRepresents}
-use Rattle.sms_centre_queue.proofs.queues.Allocation.{number_digits}
 use Rattle.sms_centre_recovery.specs.starting.Starting.{lines_of}
-use Rattle.sms_centre_recovery.proofs.starting.LinesNew.{among_at, next_line}
+use Rattle.sms_centre_recovery.proofs.starting.LinesNew.{next_line}
 use Rattle.sms_centre_rows.specs.declared.waiting.handset_link.HandsetLink.{HandsetLink}
 use Rattle.sms_centre_recovery.proofs.starting.connecting.connect_all.Goals as goal
 
@@ -16,19 +14,12 @@ pub loop-handset-init : goal.loop-handset-init
 loop-handset-init c = λ g waiting represents.
     subst (λ (ls : List HandsetLink). DraftRepresents g (record { lines = ls; frames = []; read = [] }) waiting c.args.queues.now) (none_yet c.args.are_up) represents
 
-pub connect-requires : goal.connect-requires
-connect-requires c =
-    let handsets = c.args.handsets.now in
-    let handset = c.handset-item.result in
-    number_digits handset
-    (c.requires.numbers handset (subst (λ (n : List ℕ). Among n handsets) (sym c.handset-item.is) (among_at c.loop-handset.handset-index handsets handset (omega (arith, c.loop-handset-test.true)))))
-
 pub loop-handset-preserved : goal.loop-handset-preserved
 loop-handset-preserved c = λ g waiting represents.
     let handsets = c.args.handsets.now in
     let i = c.loop-handset.handset-index in
     subst (λ (ls : List HandsetLink). DraftRepresents g (record { lines = ls; frames = []; read = [] }) waiting c.connect.new.queues)
-    (next_line c.args.are_up i handsets c.handset-item.result c.requires.apart (omega (arith, c.loop-handset-test.true)) c.handset-item.is)
+    (next_line c.args.are_up i handsets c.handset-item.result c.requires (omega (arith, c.loop-handset-test.true)) c.handset-item.is)
     (c.in_ok-connect.ensures g (record { lines = lines_of c.args.are_up (take i handsets); frames = []; read = [] }) waiting (c.loop-handset.invariant g waiting represents))
 
 pub returns : goal.returns

@@ -2,20 +2,12 @@ use Rattle.std.proofs.Common.{◌≡◌, ℕ, List, ◌∷◌, Some, sym, ◌∙
 use Rattle.sms_centre_rows.specs.messages.Messages.{message_at, message_key}
 use Rattle.sms_centre_rows.specs.messages.OpenParts.{parts_waiting}
 use Rattle.sms_centre_queue.specs.queues.Representing.{Waits}
-use Rattle.sms_centre_recovery.specs.soundness.RowsOf.{rows_of}
 use Rattle.sms_rows.specs.table.Table.{put, row_at}
 use Rattle.sms_centre_rows.specs.declared.waiting.queued_part.QueuedPart.{QueuedPart}
 use Rattle.sms_centre_rows.specs.waiting.Keys.{queued_key}
-use Rattle.sms_centre_recovery.proofs.starting.QueuedWait.{handset_digits, part_waits}
+use Rattle.sms_centre_recovery.proofs.starting.QueuedWait.{part_waits}
 use Rattle.sms_centre_recovery.proofs.starting.filling.put_part.Goals as goal
 use Rattle.sms_centre_queue.proofs.queues.RepresentedMoves.{if_ok}
-
-pub put-requires : goal.put-requires
-put-requires c =
-    let ms = c.args.tables.now.messages.rows in
-    let key = c.of.ensures ∙ c.number.ensures.value in
-    let found : message_at c.args.part.now.id ms ≡ Some c.in-Some.message.now = ap (λ (n : ℕ). row_at message_key n ms) (sym key) ∙ sym c.in-Some.ensures in
-    record { digits = handset_digits (rows_of c.args.tables.now) c.args.part.now.id c.in-Some.message.now c.requires found }
 
 pub returns : goal.returns
 returns c =

@@ -1,11 +1,9 @@
-use Rattle.std.proofs.Common.{◌≤◌, ◌∙◌, length, List, sym, subst, ℕ}
-use Rattle.sms_base.specs.Address.{IsAddress}
-use Rattle.sms_base.specs.HandsetNumber.{own_address}
-use Rattle.sms_player.proofs.heads.Beginnings.{few_digits, handset_is, number_is}
+use Rattle.std.proofs.Common.{List, ℕ, sym, subst}
+use Rattle.sms_base.specs.Msisdn.{IsMsisdn}
+use Rattle.sms_base.proofs.Msisdns.{is_number}
+use Rattle.sms_player.proofs.heads.Beginnings.{handset_is, number_is}
 use Rattle.sms_player.proofs.heads.handsets.number_of.Goals as goal
 
-pub digits_of-requires : goal.digits_of-requires
-digits_of-requires c = subst (λ (digits : List ℕ). length digits ≤ 20) (sym c.as_slice.ensures) (few_digits c.args.handset.now.number (handset_is c.args.handset.now c.requires).number)
-
-pub returns-clause-address : goal.returns-clause-address
-returns-clause-address c = subst (λ (digits : List ℕ). IsAddress (own_address digits)) (sym (c.digits_of.ensures ∙ c.as_slice.ensures)) (number_is c.args.handset.now.number (handset_is c.args.handset.now c.requires).number)
+pub unreachable-requires : goal.unreachable-requires
+unreachable-requires c =
+    c.in-None.ensures (subst (λ (digits : List ℕ). IsMsisdn digits) (sym c.as_slice.ensures) (is_number c.args.handset.now.number (number_is c.args.handset.now.number (handset_is c.args.handset.now c.requires).number)))

@@ -19,5 +19,5 @@ returns-in-Ok c =
       log = memory.log;
       sessions = c.args.sessions;
     } in
-    begun_represents c.args.are_up rows c.args.handsets.now c.args.sessions.rows c.requires.sound c.requires.numbers c.requires.apart c.requires.sessions c.as_slice-seats.ensures.order
+    begun_represents c.args.are_up rows c.args.handsets.now c.args.sessions.rows c.requires.sound c.are_numbers.ensures c.requires.apart c.requires.sessions c.as_slice-seats.ensures.order
     centre_state c.setup_of.ensures c.moment_of-moment.ensures holds.messages holds.reference_index holds.queues holds.reports holds.log refl

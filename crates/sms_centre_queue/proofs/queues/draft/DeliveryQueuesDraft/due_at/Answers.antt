@@ -4,5 +4,5 @@ use Rattle.sms_centre_queue.proofs.queues.draft.DeliveryQueuesDraft.due_at.Goals
 
 pub returns : goal.returns
 returns c =
-    waits_done c.args.number (all_at_once c.args.now) c.in_ok-placed.placed c.due_at-done.new.self c.args.self.now c.take_out.new.self c.put_back.new.self c.due_at-done.result c.requires.digits
-    c.in_ok-placed.ensures c.due_at-done.ensures c.in_ok-put_back.ensures
+    waits_done c.args.number (all_at_once c.args.now) c.in_ok-placed.placed c.due_at-done.new.self c.args.self.now c.take_out.new.self c.put_back.new.self c.due_at-done.result c.take_out.ensures.number
+    c.in_ok-placed.ensures.taken c.due_at-done.ensures c.in_ok-put_back.ensures

@@ -5,5 +5,5 @@ use Rattle.sms_centre_queue.proofs.queues.draft.DeliveryQueuesDraft.expect.Goals
 
 pub returns : goal.returns
 returns c =
-    line_ok c.args.number expected c.in_ok-placed.placed c.expect.new.self c.new-none.result c.args.self.now c.take_out.new.self c.put_line.new.self c.put_line.result c.requires.digits (λ l. refl)
-    c.in_ok-placed.ensures c.expect.ensures c.new-none.ensures c.put_line.ensures
+    line_ok c.args.number expected c.in_ok-placed.placed c.expect.new.self c.new-none.result c.args.self.now c.take_out.new.self c.put_line.new.self c.put_line.result c.take_out.ensures.number (λ l. refl)
+    c.in_ok-placed.ensures.taken c.expect.ensures c.new-none.ensures c.put_line.ensures

@@ -5,5 +5,5 @@ use Rattle.sms_centre_queue.proofs.queues.draft.DeliveryQueuesDraft.raise.Goals 
 
 pub returns : goal.returns
 returns c =
-    line_ok c.args.number raised c.in_ok-placed.placed c.raise.new.self c.new-none.result c.args.self.now c.take_out.new.self c.put_line.new.self c.put_line.result c.requires.digits (λ l. refl)
-    c.in_ok-placed.ensures c.raise.ensures c.new-none.ensures c.put_line.ensures
+    line_ok c.args.number raised c.in_ok-placed.placed c.raise.new.self c.new-none.result c.args.self.now c.take_out.new.self c.put_line.new.self c.put_line.result c.take_out.ensures.number (λ l. refl)
+    c.in_ok-placed.ensures.taken c.raise.ensures c.new-none.ensures c.put_line.ensures

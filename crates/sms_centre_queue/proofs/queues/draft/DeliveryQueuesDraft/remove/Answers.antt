@@ -6,5 +6,5 @@ use Rattle.sms_centre_queue.proofs.queues.draft.DeliveryQueuesDraft.remove.Goals
 
 pub returns : goal.returns
 returns c =
-    waits_done c.args.number (without queued_key (pair_key c.args.id c.args.part)) c.in_ok-placed.placed c.remove-done.new.self c.args.self.now c.take_out.new.self c.put_back.new.self c.remove-done.result c.requires.digits
-    c.in_ok-placed.ensures c.remove-done.ensures c.in_ok-put_back.ensures
+    waits_done c.args.number (without queued_key (pair_key c.args.id c.args.part)) c.in_ok-placed.placed c.remove-done.new.self c.args.self.now c.take_out.new.self c.put_back.new.self c.remove-done.result c.take_out.ensures.number
+    c.in_ok-placed.ensures.taken c.remove-done.ensures c.in_ok-put_back.ensures

@@ -4,5 +4,5 @@ use Rattle.sms_centre_queue.proofs.queues.draft.DeliveryQueuesDraft.withdraw.Goa
 
 pub returns : goal.returns
 returns c =
-    waits_done c.args.number (withdrawn c.args.id) c.in_ok-placed.placed c.withdraw-done.new.self c.args.self.now c.take_out.new.self c.put_back.new.self c.withdraw-done.result c.requires.digits
-    c.in_ok-placed.ensures c.withdraw-done.ensures c.in_ok-put_back.ensures
+    waits_done c.args.number (withdrawn c.args.id) c.in_ok-placed.placed c.withdraw-done.new.self c.args.self.now c.take_out.new.self c.put_back.new.self c.withdraw-done.result c.take_out.ensures.number
+    c.in_ok-placed.ensures.taken c.withdraw-done.ensures c.in_ok-put_back.ensures

@@ -4,4 +4,4 @@ use Rattle.sms_store_tables.proofs.centre.bars.BarRowStoredRowCentreStore.write.
 
 pub returns-clause-done : goal.returns-clause-done
 returns-clause-done g c clean live inside =
-    ran_with g.S.Store c.args.tx.now.conn.now c.run_counted.new.tx.conn.now _ _ _ _ c.run_counted.ensures.done (rw (c.params-to_sql.ensures, c.params-to_sql-2.ensures, c.params-to_sql-3.ensures, c.params-to_sql-4.ensures, c.params-to_sql-5.ensures) (rw (c.params-to_sql-6.ensures, c.params-to_sql-7.ensures, c.from.ensures, c.from-2.ensures, c.from-3.ensures, c.in_ok-place.ensures.value) (rw (c.in_ok-source.ensures.text, c.as_few.ensures.value, c.in_ok-handset.ensures.text, c.as_few-2.ensures.value, c.number.ensures) refl))) clean live inside
+    ran_with g.S.Store c.args.tx.now.conn.now c.run_counted.new.tx.conn.now _ _ _ _ c.run_counted.ensures.done (rw (c.params-to_sql.ensures, c.params-to_sql-2.ensures, c.params-to_sql-3.ensures, c.params-to_sql-4.ensures, c.params-to_sql-5.ensures) (rw (c.params-to_sql-6.ensures, c.params-to_sql-7.ensures, c.from.ensures, c.from-2.ensures, c.from-3.ensures, c.in_ok-place.ensures.value) (rw (c.in_ok-source.ensures.text, c.as_few.ensures.value, c.in_ok-handset.ensures.text, c.number.ensures) refl))) clean live inside

@@ -5,7 +5,7 @@ use Rattle.sms_centre_draft.specs.CentreDraft.{Represents}
 use Rattle.sms_centre_events.specs.offering.Refusing.{SucceedsOrRefuses}
 use Rattle.sms_centre_events.specs.offering.Offered.{offer_next}
 use Rattle.sms_centre_events.proofs.offering.OneOffer.{next_among, offer_is_next}
-use Rattle.sms_centre_events.proofs.offering.offers.offer_to.Goals as goal
+use Rattle.sms_centre_events.proofs.offering.offers.offer_at.Goals as goal
 
 pub returns-in-Some-clause-outcome : goal.returns-in-Some-clause-outcome
 returns-in-Some-clause-outcome g c = λ d rows represents can honest holds.
