@@ -6,6 +6,7 @@ pub mod MessageIds
 pub mod CodeTables
 pub mod FaultSteps
 pub mod HandsetNumbers
+pub mod KeysOfDigits
 pub mod Msisdns
 pub mod NameWalk
 pub mod NumberWalk

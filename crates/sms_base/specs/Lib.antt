@@ -3,6 +3,7 @@ pub mod AddressKind
 pub mod Among
 pub mod Alphabet
 pub mod Digits
+pub mod DigitsKey
 pub mod FaultCodes
 pub mod FaultReasons
 pub mod FinalWords

@@ -13,6 +13,7 @@
 //! - `carried`: what a frame carries: its kind, its reference and its holder
 //! - `clock`: the civil calendar as seconds
 //! - `cursor`: octets that are read from left to right
+//! - `digit_keys`: the number by which digits are kept
 //! - `digits`: up to 20 characters of an address
 //! - `final_state`: how a message ends
 //! - `holder`: for whom a reference was given
@@ -40,6 +41,7 @@ mod alphabet;
 mod carried;
 mod clock;
 mod cursor;
+mod digit_keys;
 mod digit_octets;
 mod digits;
 mod final_state;
@@ -69,6 +71,7 @@ pub use alphabet::{
 };
 pub use carried::{Carried, Kind};
 pub use cursor::Cursor;
+pub use digit_keys::digits_key;
 pub use digit_octets::digits_of;
 pub use digits::Digits;
 pub use final_state::FinalState;

@@ -1,18 +1,17 @@
 //! The numbers of handsets.
 ghost use Rattle.std.specs.Cmp.Rules.{comparing};
-ghost use Rattle.std.specs.List.{list_all};
 ghost use Rattle.std.specs.Option.{SomeIff};
-ghost use Rattle.std.specs.Prelude.{◌≡◌, ◌↔◌, ◌≤◌, ℕ, List, length, true};
+ghost use Rattle.std.specs.Prelude.{◌≡◌, ℕ, List};
 ghost use Rattle.std.specs.Str.{bytes_eq};
 ghost use Rattle.std.proofs.Common.{rules};
 ghost use Rattle.sms_base.specs.Address.{IsAddress};
 ghost use Rattle.sms_base.specs.Among.{Among};
-ghost use Rattle.sms_base.specs.Digits.{padded};
+ghost use Rattle.sms_base.specs.DigitsKey.{digits_key};
 ghost use Rattle.sms_base.specs.HandsetNumber.{own_address};
-ghost use Rattle.sms_base.specs.Msisdn.{AllDigits, IsMsisdn};
-ghost use Rattle.sms_base.specs.SemiOctet.{is_digit};
+ghost use Rattle.sms_base.specs.Msisdn.{IsMsisdn};
 
-use crate::address_text::{are_digits, is_digit};
+use crate::address_text::are_digits;
+use crate::digit_keys::{digits_key, spelled};
 use crate::digit_octets::digits_of;
 use crate::digits::Digits;
 use std::marker::Model;
@@ -22,27 +21,26 @@ const MOST_DIGITS: usize = 20;
 
 /// The number of a handset: 1 to 20 digits `0-9*#abc`.
 ///
-/// A value without memory of its own, seen by contracts as the list of the digits' codes.
+/// A value without memory of its own, kept as the key of its digits. Contracts see it as the list of the digits' codes.
 #[derive(Clone, Copy)]
 pub struct Msisdn {
-    octets: [u8; 20],
-    len: u8,
+    key: u128,
 }
 
 impl Model for Msisdn {
-    ghost use Rattle.std.specs.Prelude.{ℕ, List, length, take};
-    ghost use Rattle.sms_base.specs.Digits.{IsPadded, gives_back, padded};
-    ghost use Rattle.sms_base.specs.Msisdn.{IsMsisdn};
+    ghost use Rattle.std.specs.Prelude.{◌≡◌, ℕ, List};
+    ghost use Rattle.sms_base.specs.DigitsKey.{digits_key, spelled};
+    ghost use Rattle.sms_base.specs.Msisdn.{IsMsisdn, given_back};
 
     ghost Value = { List ℕ };
 
-    ghost view = { λ m. take m.len m.octets };
+    ghost view = { λ m. spelled m.key };
 
-    ghost invariant = { λ m. IsPadded m.octets m.len × IsMsisdn (take m.len m.octets) };
+    ghost invariant = { λ m. IsMsisdn (spelled m.key) × (digits_key (spelled m.key) ≡ m.key) };
 
-    ghost inverse = { λ digits. record { octets = padded digits; len = length digits } };
+    ghost inverse = { λ digits. record { key = digits_key digits } };
 
-    ghost inverse_ok = { λ m h. gives_back (λ octets len. record { octets = octets; len = len }) m.octets m.len h.0 };
+    ghost inverse_ok = { λ m h. given_back (λ key. record { key = key }) m.key h.1 };
 }
 
 impl PartialEq for Msisdn {
@@ -51,7 +49,7 @@ impl PartialEq for Msisdn {
     ghost laws = { Prim.search (comparing, rules) };
 
     fn eq(&self, other: &Msisdn) -> bool {
-        self.as_slice() == other.as_slice()
+        self.key == other.key
     }
 }
 
@@ -64,11 +62,10 @@ impl Msisdn {
     pub fn of(octets: &[u8]) -> Option<Msisdn>
         ensures { SomeIff result (IsMsisdn octets.now) octets.now }
     {
-        if is_number(octets) {
-            Some(made(octets))
-        } else {
-            None
+        if octets.len() > MOST_DIGITS {
+            return None;
         }
+        Msisdn::of_digits(&digits_of(octets))
     }
 
     /// The number that the characters spell, if they do.
@@ -76,11 +73,10 @@ impl Msisdn {
         ensures { SomeIff result (IsMsisdn digits.now) digits.now }
     {
         let characters = digits.as_few();
-        if !are_digits(characters) {
+        if characters.is_empty() || !are_digits(characters) {
             return None;
         }
-        let filled = filled_by(characters);
-        Msisdn::of(&filled[..characters.len()])
+        Some(made(characters))
     }
 
     /// The number that the characters spell.
@@ -94,13 +90,12 @@ impl Msisdn {
         }
     }
 
-    /// The digits in order, one an octet.
-    pub fn as_slice(&self) -> &[u8]
-        ensures value { result.now ≡ self.now }
+    /// The key of its digits, by which it is found.
+    pub fn key(&self) -> u128
+        ensures key { result ≡ digits_key self.now }
         ensures number { IsMsisdn self.now }
     {
-        let len = usize::from(self.len);
-        &self.octets[..len]
+        self.key
     }
 
     /// Whether these characters are its digits.
@@ -116,14 +111,14 @@ impl Msisdn {
         ensures number { IsMsisdn self.now }
         ensures address { IsAddress (own_address self.now) }
     {
-        let _len = &self.len;
+        let _key = &self.key;
     }
 
-    /// The digits as those of an address.
+    /// The digits in order, as those of an address.
     pub fn digits(&self) -> Digits
         ensures { result ≡ self.now }
     {
-        digits_of(self.as_slice())
+        spelled(self.key)
     }
 }
 
@@ -136,53 +131,12 @@ pub fn are_numbers(numbers: &[Msisdn])
     }
 }
 
-// Whether each octet is a digit.
-fn are_digit_octets(octets: &[u8]) -> bool
-    ensures { (result ≡ true) ↔ AllDigits octets.now }
-{
-    octets.iter().all(|octet| is_digit(char::from(*octet)))
-}
-
-// Whether the octets spell a number.
-fn is_number(octets: &[u8]) -> bool
-    ensures { (result ≡ true) ↔ IsMsisdn octets.now }
-{
-    if octets.is_empty() || octets.len() > MOST_DIGITS {
-        return false;
-    }
-    are_digit_octets(octets)
-}
-
-// The number that the octets spell.
-fn made(octets: &[u8]) -> Msisdn
-    requires { IsMsisdn octets.now }
-    ensures { result ≡ octets.now }
+// The number of these digits.
+fn made(digits: &[char]) -> Msisdn
+    requires { IsMsisdn digits.now }
+    ensures { result ≡ digits.now }
 {
     Msisdn {
-        octets: filled(octets),
-        len: octets.len() as u8,
+        key: digits_key(digits),
     }
-}
-
-// The octets, with zeros behind them.
-fn filled(octets: &[u8]) -> [u8; 20]
-    requires { length octets.now ≤ 20 }
-    ensures { result ≡ padded octets.now }
-{
-    let mut filled = [0; 20];
-    filled[..octets.len()].copy_from_slice(octets);
-    filled
-}
-
-// The octets of digits, with zeros behind them.
-fn filled_by(digits: &[char]) -> [u8; 20]
-    requires few { length digits.now ≤ 20 }
-    requires digits { list_all is_digit digits.now ≡ true }
-    ensures { result ≡ padded digits.now }
-{
-    let mut filled = [0; 20];
-    for i in 0..digits.len() {
-        filled[i] = digits[i] as u8;
-    }
-    filled
 }

@@ -76,7 +76,7 @@ fn is_for(bar: &BarRow, claim: &Claim) -> bool
     ensures { result ≡ is_for_of claim.now bar.now }
 {
     is_same_address(&bar.source, &claim.source)
-        && bar.handset.as_slice() == claim.handset.as_slice()
+        && bar.handset == claim.handset
         && bar.is_own
         && bar.reference == claim.reference
 }

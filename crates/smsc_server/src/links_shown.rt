@@ -7,8 +7,9 @@ use std::alloc::{AllocError, Global};
 
 fn digits_text(alloc: Global, number: &Msisdn) -> Result<String, AllocError> {
     let mut text = String::new(alloc);
-    for digit in number.as_slice() {
-        text.push(char::from(*digit))?;
+    let digits = number.digits();
+    for digit in digits.as_slice() {
+        text.push(*digit)?;
     }
     Ok(text)
 }

@@ -7,7 +7,7 @@ use Rattle.sms_base.specs.Among.{Among}
 use Rattle.sms_base.specs.Msisdn.{IsMsisdn}
 use Rattle.sms_rows.specs.table.Keys.{digits_key}
 use Rattle.sms_rows.specs.table.Since.{oldest_first}
-use Rattle.sms_rows.proofs.table.KeyLaws.{digits_equal}
+use Rattle.sms_base.proofs.KeysOfDigits.{digits_equal}
 use Rattle.sms_centre_rows.specs.declared.waiting.handset_link.HandsetLink.{HandsetLink}
 use Rattle.sms_centre_rows.specs.declared.waiting.queued_part.QueuedPart.{QueuedPart}
 use Rattle.sms_centre_rows.specs.waiting.Links.{Links}

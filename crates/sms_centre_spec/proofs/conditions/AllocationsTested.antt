@@ -3,9 +3,10 @@ use Rattle.std.proofs.Common.{◌≡◌, ℕ, List, map, true, refl, ap, is_some
 use Rattle.std.specs.Prelude.{◌&&◌, nat_lt}
 use Rattle.std.proofs.lemmas.Bool.{and_from, and_parts, lt-ltb, ltb-true}
 use Rattle.sms_base.specs.HandsetNumber.{own_address}
-use Rattle.sms_rows.specs.table.Keys.{AllDigits, digits_key}
+use Rattle.sms_base.specs.Msisdn.{AllDigits}
+use Rattle.sms_rows.specs.table.Keys.{digits_key}
 use Rattle.sms_rows.specs.table.Table.{Rises, row_at}
-use Rattle.sms_rows.proofs.table.KeyLaws.{digits_equal}
+use Rattle.sms_base.proofs.KeysOfDigits.{digits_equal}
 use Rattle.sms_centre_rows.specs.declared.waiting.handset.HandsetRow.{HandsetRow}
 use Rattle.sms_centre_rows.specs.declared.waiting.reference.ReferenceRow.{ReferenceRow}
 use Rattle.sms_centre_rows.specs.waiting.Keys.{handset_key, reference_key}

@@ -6,7 +6,7 @@ use Rattle.sms_base.proofs.OctetLaws.{cases_octets}
 use Rattle.sms_base.specs.Among.{Among}
 use Rattle.sms_rows.specs.table.Keys.{digits_key, pair_key}
 use Rattle.sms_rows.specs.table.Table.{Rises}
-use Rattle.sms_rows.proofs.table.KeyLaws.{digits_equal}
+use Rattle.sms_base.proofs.KeysOfDigits.{digits_equal}
 use Rattle.sms_centre_rows.specs.declared.waiting.handset.HandsetRow.{HandsetRow}
 use Rattle.sms_centre_rows.specs.declared.waiting.reference.ReferenceRow.{ReferenceRow}
 use Rattle.sms_centre_rows.specs.waiting.Keys.{handset_key}

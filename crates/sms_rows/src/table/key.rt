@@ -1,9 +1,9 @@
 //! The keys of rows.
-ghost use Rattle.std.specs.Prelude.{◌≡◌, ◌<◌, ◌≤◌, ◌^◌, length};
+ghost use Rattle.std.specs.Prelude.{◌≡◌};
 ghost use Rattle.sms_base.specs.Msisdn.{IsMsisdn};
-ghost use Rattle.sms_rows.specs.table.Keys.{digit_code as digit_code_of, digits_key, pair_key};
+ghost use Rattle.sms_rows.specs.table.Keys.{digits_key, pair_key};
 
-use sms_base::{Digits, Msisdn, semi_octet_of};
+use sms_base::{Digits, Msisdn, digits_key};
 use std::marker::Model;
 
 /// The key of a row: a number, a number and a small one, or digits.
@@ -56,7 +56,7 @@ impl Key {
         ensures { result ≡ digits_key digits.now }
     {
         Key {
-            place: digits_place(digits.as_few()),
+            place: digits_key(digits.as_few()),
         }
     }
 
@@ -66,52 +66,7 @@ impl Key {
         ensures number { IsMsisdn number.now }
     {
         Key {
-            place: octets_place(number.as_slice()),
+            place: number.key(),
         }
     }
-}
-
-// The number of the digits to the base 16.
-fn digits_place(digits: &[char]) -> u128
-    requires { length digits.now ≤ 20 }
-    ensures value { result ≡ digits_key digits.now }
-    ensures small { result < 16 ^ 20 }
-{
-    let mut place: u128 = 0;
-    for digit in digits {
-        place = 16 * place + u128::from(digit_code(*digit));
-    }
-    place
-}
-
-// The number of the digits to the base 16, one an octet.
-fn octets_place(octets: &[u8]) -> u128
-    requires { length octets.now ≤ 20 }
-    ensures value { result ≡ digits_key octets.now }
-    ensures small { result < 16 ^ 20 }
-{
-    let mut place: u128 = 0;
-    for octet in octets {
-        place = 16 * place + u128::from(octet_code(*octet));
-    }
-    place
-}
-
-// The semi-octet of a digit, and one more, so that no digit counts as nothing.
-fn digit_code(digit: char) -> u8
-    ensures value { result ≡ digit_code_of digit }
-    ensures small { result ≤ 15 }
-{
-    match semi_octet_of(digit) {
-        Some(semi_octet) => semi_octet + 1,
-        None => 0,
-    }
-}
-
-// That of an octet that is the code of a digit.
-fn octet_code(octet: u8) -> u8
-    ensures value { result ≡ digit_code_of octet }
-    ensures small { result ≤ 15 }
-{
-    digit_code(char::from(octet))
 }

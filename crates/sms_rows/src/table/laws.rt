@@ -1,6 +1,7 @@
 //! Laws of tables and keys, over their definitions alone.
 ghost use Rattle.std.specs.Prelude.{◌≡◌, ◌<◌, ◌≤◌, ℕ, List, length, max};
-ghost use Rattle.sms_rows.specs.table.Keys.{AllDigits, digits_key, pair_key};
+ghost use Rattle.sms_base.specs.Msisdn.{AllDigits};
+ghost use Rattle.sms_rows.specs.table.Keys.{digits_key, pair_key};
 ghost use Rattle.sms_rows.specs.table.Since.{oldest_first, rows_after};
 ghost use Rattle.sms_rows.specs.table.Table.{HasRoom, RowsInMemory, Rises, all_applied, left_by, newest_of, row_at, reserve_for};
 ghost use Rattle.sms_rows.specs.declared.table.change.Change.{Change};

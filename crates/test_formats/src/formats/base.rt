@@ -81,32 +81,38 @@ const ADDRESSES: &[AddressRow] = &[
     (1, 16, "", Err("A5")),
 ];
 
-// Whether the octets spell the number of a handset, which then spells them again.
-fn spells_number(octets: &[u8]) -> bool {
-    match Msisdn::of(octets) {
+// Whether the digits of the number are those of the text.
+fn is_spelled(number: &Msisdn, text: &str) -> bool {
+    let digits = number.digits();
+    digits.as_slice().iter().copied().eq(text.chars())
+}
+
+// Whether the text spells the number of a handset, which then spells it again.
+fn spells_number(text: &str) -> bool {
+    match Msisdn::of(text.as_bytes()) {
         Some(number) => {
-            number.as_slice() == octets && Msisdn::of_digits(&number.digits()) == Some(number)
+            is_spelled(&number, text) && Msisdn::of_digits(&number.digits()) == Some(number)
         }
         None => false,
     }
 }
 
 // The longest number has 20 digits. A plus sign is no digit.
-const NUMBERS: &[(&[u8], bool)] = &[
-    (b"447700900123", true),
-    (b"0", true),
-    (b"0123456789*#abc01234", true),
-    (b"", false),
-    (b"123456789012345678901", false),
-    (b"12x", false),
-    (b"+447700900123", false),
+const NUMBERS: &[(&str, bool)] = &[
+    ("447700900123", true),
+    ("0", true),
+    ("0123456789*#abc01234", true),
+    ("", false),
+    ("123456789012345678901", false),
+    ("12x", false),
+    ("+447700900123", false),
 ];
 
 // The digits of the handset that an address names, if it names one.
 fn names_handset(ton: u8, text: &str) -> bool {
     match Address::new(ton, 1, text) {
         Ok(address) => match address.handset() {
-            Some(number) => number.as_slice() == text.as_bytes(),
+            Some(number) => is_spelled(&number, text),
             None => false,
         },
         Err(_) => false,
@@ -157,8 +163,8 @@ fn moments_addresses_and_identities_are_read() -> Result<(), Fail> {
     for (ton, npi, text, address) in ADDRESSES {
         holds(address_of(*ton, *npi, text) == *address, text)?;
     }
-    for (octets, are_number) in NUMBERS {
-        holds(spells_number(octets) == *are_number, "a handset's number")?;
+    for (text, is_number) in NUMBERS {
+        holds(spells_number(text) == *is_number, text)?;
     }
     for (ton, text, is_named) in NAMED {
         holds(names_handset(*ton, text) == *is_named, text)?;

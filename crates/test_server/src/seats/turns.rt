@@ -265,7 +265,7 @@ fn is_noted(note: &Option<Note>, noted: &Noted) -> bool {
         }
         (Noted::NoNumber, Some(Note::NoNumber)) => true,
         (Noted::WrongSecret(wanted), Some(Note::WrongSecret(number))) => {
-            number.as_slice() == *wanted
+            number.is_spelled(*wanted)
         }
         (Noted::NoFrames, Some(Note::NoFrames)) => true,
         (Noted::WrongBinds, Some(Note::WrongBinds)) => true,

@@ -1,4 +1,4 @@
-use Rattle.sms_rows.proofs.table.KeyLaws.{digits_equal}
+use Rattle.sms_base.proofs.KeysOfDigits.{digits_equal}
 use Rattle.sms_rows.proofs.table.laws.equal_digits.Goals as goal
 
 pub returns : goal.returns

@@ -1,7 +1,7 @@
 use Rattle.std.proofs.Common.{◌≡◌, ◌<◌, drop}
-use Rattle.sms_rows.specs.table.Keys.{digits_from, digits_key}
-use Rattle.sms_rows.proofs.table.KeyLaws.{room}
-use Rattle.sms_rows.proofs.table.key.digits_place.Given as goal
+use Rattle.sms_base.specs.DigitsKey.{digits_from, digits_key}
+use Rattle.sms_base.proofs.KeysOfDigits.{room}
+use Rattle.sms_base.proofs.digit_keys.digits_key.Given as goal
 
 abbrev pub invariant-loop-digit : goal.invariant-loop-digit
 invariant-loop-digit l = record {

@@ -1,8 +1,8 @@
 use Rattle.std.proofs.Common.{arith, ◌≡◌, ◌<◌, ◌*◌, ◌+◌, suc, refl, sym, ap, ◌∙◌, subst, length, drop, get_or}
 use Rattle.std.proofs.Math.Seq.{drop-cons, drop-length}
-use Rattle.sms_rows.specs.table.Keys.{digit_code as digit_code_of, digits_from, digits_key}
-use Rattle.sms_rows.proofs.table.KeyLaws.{room, room_of_twenty, room_of_nineteen}
-use Rattle.sms_rows.proofs.table.key.digits_place.Goals as goal
+use Rattle.sms_base.specs.DigitsKey.{digit_code as digit_code_of, digits_from, digits_key}
+use Rattle.sms_base.proofs.KeysOfDigits.{room, room_of_twenty, room_of_nineteen}
+use Rattle.sms_base.proofs.digit_keys.digits_key.Goals as goal
 
 pub loop-digit-init : goal.loop-digit-init
 loop-digit-init c = record { rest = refl; small = omega arith }
