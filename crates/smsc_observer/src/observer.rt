@@ -24,7 +24,7 @@ pub enum Event {
     Reopened,
     /// The store refused a group, and could not be read again. Each request is refused until the run has ended.
     Failed,
-    /// The store has a new message of this number, to the handset of these digits.
+    /// The store has a new message of this number, to that handset.
     Accepted(MessageId, Msisdn),
     /// The store has the end of the message of this number.
     Final(MessageId, FinalState),

@@ -1,7 +1,6 @@
 -- The TPDUs that the store gives, and those that the event made.
 use Rattle.std.specs.Prelude.{◌≡◌, ℕ, List, if◌then◌else◌, true, Option, Some, None}
 use Rattle.sms_base.specs.Among.{Among}
-use Rattle.sms_centre_queue.specs.declared.queues.concern.ConcernedHandset.{ConcernedHandset}
 use Rattle.sms_rows.specs.table.Keys.{pair_key}
 use Rattle.sms_centre_rows.specs.declared.messages.part.PartRow.{PartRow}
 use Rattle.sms_centre_rows.specs.messages.Messages.{part_key}

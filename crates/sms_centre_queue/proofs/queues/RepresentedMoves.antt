@@ -1,5 +1,5 @@
 -- What is represented after a move, as the code says what it did.
-use Rattle.std.proofs.Common.{◌≡◌, ℕ, ◌<◌, ◌++◌, [], append-nil, List, Result, Ok, Err, Option, refl, sym, ◌∙◌, ap, subst, OnOk}
+use Rattle.std.proofs.Common.{◌≡◌, ℕ, ◌<◌, ◌++◌, [], append-nil, List, Result, Ok, Err, refl, sym, subst, OnOk}
 use Rattle.sms_base.specs.Msisdn.{IsMsisdn}
 use Rattle.sms_rows.specs.table.Keys.{digits_key}
 use Rattle.sms_link.specs.declared.outgoing.Outgoing.{Outgoing}

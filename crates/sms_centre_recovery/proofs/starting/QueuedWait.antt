@@ -4,32 +4,21 @@ use Rattle.std.specs.Prelude.{◌&&◌, not}
 use Rattle.std.proofs.lemmas.Bool.{and_from, and_parts, cond-true, cond-false}
 use Rattle.std.proofs.lemmas.Slice.Eq.{bytes_eq-Decides}
 use Rattle.sms_base.proofs.OctetLaws.{differ}
-use Rattle.sms_base.specs.Among.{Among}
-use Rattle.sms_base.specs.declared.originator.Originator.{Originator}
-use Rattle.sms_base.specs.declared.originator.Originator.TheVariants.{Application, Handset}
-use Rattle.sms_base.specs.Msisdn.{IsMsisdn}
 use Rattle.sms_rows.specs.table.Table.{AllAbove, Rises, insert, put}
 use Rattle.sms_rows.proofs.table.Places.{without_gap}
-use Rattle.sms_rows.proofs.table.Tables.{found_among, insert_here}
+use Rattle.sms_rows.proofs.table.Tables.{insert_here}
 use Rattle.sms_centre_rows.specs.declared.messages.message.MessageRow.{MessageRow}
 use Rattle.sms_centre_rows.specs.declared.messages.part.PartRow.{PartRow}
 use Rattle.sms_centre_rows.specs.declared.messages.priority.PriorityRow.{PriorityRow}
-use Rattle.sms_centre_rows.specs.messages.Messages.{is_pending, message_at, message_key, part_key}
+use Rattle.sms_centre_rows.specs.messages.Messages.{is_pending, message_at, part_key}
 use Rattle.sms_centre_rows.specs.messages.OpenParts.{is_open_part, part_queued, parts_waiting, waits_for}
 use Rattle.sms_centre_rows.proofs.messages.PartsWaiting.{rises_waiting}
-use Rattle.sms_centre_rows.specs.declared.reports.report.ReportKind.{ReportKind}
-use Rattle.sms_centre_rows.specs.declared.reports.report.ReportKind.TheVariants.{Receipt, Status, Unsent}
 use Rattle.sms_centre_rows.specs.declared.reports.report.ReportRow.{ReportRow}
-use Rattle.sms_centre_rows.specs.reports.Reports.{is_open_status, is_status}
-use Rattle.sms_centre_rows.specs.reports.SoundReports.{FitsOriginator}
+use Rattle.sms_centre_rows.specs.reports.Reports.{is_open_status}
 use Rattle.sms_centre_rows.specs.reports.Waiting.{report_queued, reports_to, with_reports}
 use Rattle.sms_centre_queue.specs.queues.Representing.{Waits}
-use Rattle.sms_centre_queue.proofs.queues.Allocation.{number_digits}
 use Rattle.sms_centre_rows.specs.declared.waiting.queued_part.QueuedPart.{QueuedPart}
 use Rattle.sms_centre_rows.specs.waiting.Keys.{queued_key}
-use Rattle.sms_centre_rows.specs.waiting.SoundAllocations.{IsNumber}
-use Rattle.sms_centre_spec.specs.declared.rows.Rows.{Rows}
-use Rattle.sms_centre_spec.specs.SoundRows.{HasReportAddress, IsSound}
 
 -- ---- a row that goes before all others
 

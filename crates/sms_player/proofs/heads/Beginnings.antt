@@ -1,17 +1,16 @@
 -- What a head says that can be played.
-use Rattle.std.proofs.Common.{◌≡◌, ℕ, suc, ◌<◌, ◌≤◌, ◌+◌, get_or, drop, arith, List, [], ◌∷◌, length, Bool, true, false, refl, sym, ap, subst, ⊎_elim}
-use Rattle.std.specs.List.{AllByRecursion, list_all}
+use Rattle.std.proofs.Common.{◌≡◌, ℕ, suc, ◌<◌, ◌≤◌, ◌+◌, get_or, drop, List, [], ◌∷◌, length, Bool, true, false, refl, sym, ap, subst, ⊎_elim}
+use Rattle.std.specs.List.{list_all}
 use Rattle.std.specs.Prelude.{◌&&◌, nat_le, nat_lt, not}
 use Rattle.std.specs.Str.{bytes_eq}
 use Rattle.std.proofs.lemmas.Bool.{and_parts, leb-true, ltb-true, or_left, or_right}
-use Rattle.std.proofs.lemmas.Bool.Decides.{nat_tests}
 use Rattle.std.proofs.lemmas.Slice.Eq.{bytes_eq-Decides}
 use Rattle.sms_base.proofs.Lists.{drop_item}
+use Rattle.sms_base.proofs.Msisdns.{decimal_number, own_is_address}
 use Rattle.sms_base.specs.Address.{IsAddress}
 use Rattle.sms_base.specs.Among.{Among}
 use Rattle.sms_base.specs.declared.address.Address.{Address}
 use Rattle.sms_base.specs.HandsetNumber.{is_decimal, own_address}
-use Rattle.sms_base.specs.SemiOctet.{is_digit}
 use Rattle.sms_base.specs.TimeStamp.{IsMoment}
 use Rattle.sms_centre_rows.specs.waiting.SoundAllocations.{IsNumber}
 use Rattle.sms_intake.specs.declared.submission.CentreAccount.{CentreAccount}
@@ -26,25 +25,11 @@ use Rattle.sms_player.specs.heads.Heads.{AreHandsets}
 
 -- ---- numbers
 
-pub decimal_digit : (c : ℕ) → is_decimal c ≡ true → is_digit c ≡ true
-decimal_digit c h = grind (arith, nat_tests)
-
-pub all_digits : (text : List ℕ) → list_all is_decimal text ≡ true → AllByRecursion (λ c. is_digit c ≡ true) text
-all_digits [] e = tt
-all_digits (c ∷ cs) e = let p = and_parts (is_decimal c) (list_all is_decimal cs) e in (decimal_digit c p.0, all_digits cs p.1)
-
 pub number_is : (digits : List ℕ) → is_number digits ≡ true → IsNumber digits
 number_is digits e =
     let a = and_parts (nat_lt 0 (length digits) && nat_le (length digits) 20) (list_all is_decimal digits) e in
     let b = and_parts (nat_lt 0 (length digits)) (nat_le (length digits) 20) a.0 in
-    record {
-      npi = (let l : 1 < 16 = omega arith in l);
-      digits = record {
-        some = ltb-true 0 (length digits) b.0;
-        number = λ plain. record { few = leb-true (length digits) 20 b.1; digits = all_digits digits a.1 };
-        name = λ named. absurd cc;
-      };
-    }
+    own_is_address digits (decimal_number digits (ltb-true 0 (length digits) b.0) (leb-true (length digits) 20 b.1) a.1)
 
 pub few_digits : (digits : List ℕ) → is_number digits ≡ true → length digits ≤ 20
 few_digits digits e =

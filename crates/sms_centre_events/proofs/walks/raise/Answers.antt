@@ -1,6 +1,5 @@
 use Rattle.std.proofs.Common.{List, OnOk, sym, ◌∙◌, ap, subst}
 use Rattle.sms_centre_queue.specs.declared.queues.concern.ConcernedHandset.{ConcernedHandset}
-use Rattle.sms_centre_queue.specs.declared.queues.concern.Concern.TheVariants.{Awaited}
 use Rattle.sms_centre_queue.specs.queues.Walks.{walk}
 use Rattle.sms_centre_spec.specs.CentreEvent.{raise}
 use Rattle.sms_centre_spec.specs.Draft.{Draft}
