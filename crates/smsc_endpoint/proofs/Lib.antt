@@ -5,6 +5,7 @@ pub mod EsmeEnds
 pub mod EsmeRuns
 pub mod EsmeTurns
 pub mod LinkEnds
+pub mod LinkNumbers
 pub mod LinkRuns
 pub mod LinkSends
 pub mod LinkSteps

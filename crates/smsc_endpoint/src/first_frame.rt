@@ -5,7 +5,7 @@ ghost use Rattle.std.specs.Str.{bytes_eq};
 ghost use Rattle.sms_base.specs.HandsetNumber.{is_decimal};
 ghost use Rattle.smsc_endpoint.specs.FirstFrame.{are_digits as are_digits_of, before_space as before_space_of, behind_space as behind_space_of};
 ghost use Rattle.smsc_endpoint.specs.FirstFrame.{given_by as given_number, is_secret_of as is_secret, next_octet, number_by as number_with};
-ghost use Rattle.smsc_endpoint.specs.FirstFrame.{number_of as number_named, refused_by};
+ghost use Rattle.smsc_endpoint.specs.FirstFrame.{is_number as is_number_of, number_of as number_named, refused_by};
 
 use crate::link_access::{LinkAccess, LinkSecret};
 use sms_base::Msisdn;
@@ -23,15 +23,20 @@ fn are_digits(octets: &[u8]) -> bool
     1 <= octets.len() && are_decimal(octets)
 }
 
+fn is_number(octets: &[u8]) -> bool
+    ensures { result ≡ is_number_of octets.now }
+{
+    octets.len() <= 20 && are_digits(octets)
+}
+
 // The number that the octets are: 1 to 20 digits in ASCII.
 fn number_of(octets: &[u8]) -> Option<Msisdn>
     ensures { result ≡ number_named octets.now }
 {
-    if octets.len() <= 20 && are_digits(octets) {
-        Msisdn::of(octets)
-    } else {
-        None
+    if !is_number(octets) {
+        return None;
     }
+    Msisdn::of(octets)
 }
 
 // How many octets are before the first space. A frame has 251 at most.
