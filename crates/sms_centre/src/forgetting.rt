@@ -318,7 +318,8 @@ fn forget_all(
     draft: &mut CentreDraft<'_>,
     ids: &[MessageId],
 ) -> Result<Listed<Change<BarRow>>, AllocError>
-    ensures plan { (before from most : ℕ) (c : Core) → DraftRepresents (draft_of c) draft.old → StateRepresents c state.now → ids.now ≡ going_now before from most c
+    ensures plan { (before from most : ℕ) (c : Core) → DraftRepresents (draft_of c) draft.old → StateRepresents c state.now
+        → ids.now ≡ going_now before from most c
         → OnOk result (DraftRepresents (forget_of before from most c) draft.new) }
     ensures bars { (c : Core) → StateRepresents c state.now
         → IfOk result (λ bars. bars ≡ bars_put (claims_by ids.now c.rows.messages c.rows.parts) c.rows.bars) }
