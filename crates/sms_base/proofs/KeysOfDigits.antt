@@ -168,6 +168,10 @@ few_onto n (x ∷ xs) done l =
     let m : suc (length xs) + length done ≤ n = l in
     let r : length xs + suc (length done) ≤ n = omega (arith, m) in few_onto n xs (x ∷ done) r
 
+pub spelled_is : (key : ℕ) → last_first 20 (turned_onto 20 key 0) ≡ spelled key
+unfolding spelled
+spelled_is key = refl
+
 pub key_spells : (digits : List ℕ) → AllDigits digits → length digits ≤ 20 → spelled (digits_key digits) ≡ digits
 unfolding spelled
 key_spells digits h l =
