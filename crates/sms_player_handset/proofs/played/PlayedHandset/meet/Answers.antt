@@ -15,7 +15,8 @@ returns-in-Ok c =
     (meets_planned c.carry_out.result old new c.args.given.now c.carry_out.new.given (happened c.args.event.now old.core) plans.0 c.in-Ok.planned.outcome c.moment_after-moment.result
     plans.1.0 plans.1.1.outcome (c.rows_rest_on_the_changes.ensures c.args.event.now old.core)
     (c.only_ticks_advance_time.ensures c.args.event.now old.core plans.0 plans.1.0 ∙ sym c.moment_after-moment.ensures) refl
-    c.carry_out.ensures.met c.carry_out.ensures.state c.carry_out.ensures.accepted c.carry_out.ensures.joined c.carry_out.ensures.given)
+    c.carry_out.ensures.met c.carry_out.ensures.state (rw (c.digits.ensures) at (c.carry_out.ensures.accepted)) (rw (c.digits.ensures) at (c.carry_out.ensures.joined))
+    (rw (c.digits.ensures) at (c.carry_out.ensures.given)))
 
 pub carry_out-requires-clause-moment : goal.carry_out-requires-clause-moment
 carry_out-requires-clause-moment c =
