@@ -3,13 +3,27 @@ use Rattle.sms_base.specs.Among.{Among}
 use Rattle.sms_centre_rows.specs.declared.reports.delivery.Delivery.{Delivery}
 use Rattle.sms_centre_rows.specs.declared.waiting.handset_link.Sent.{Sent}
 use Rattle.sms_centre_spec.specs.declared.event.CentreEvent.{CentreEvent}
+use Rattle.sms_centre_spec.specs.declared.event.CentreEvent.TheVariants.{Submit, Query, Cancel, Bound, Unbound, DeliverAnswered, Frame, LinkUp, LinkDown, Ordered, Tick}
 use Rattle.sms_centre_spec.specs.CentreEvent.{happened}
 use Rattle.sms_centre_spec.specs.Draft.{Core, core_of}
 use Rattle.sms_centre_spec.specs.Held.{SoundHeld}
 use Rattle.sms_centre_spec.specs.Keeping.{Keeps}
 use Rattle.sms_centre_spec.specs.SoundCore.{Brings, IsEvent, IsReceiptRow, IsSoundCore}
-use Rattle.sms_centre_spec.proofs.PduFits.{event_gives, has_number}
-use Rattle.sms_centre_spec.proofs.SoundEvents.{IsAfter, core_after, event_after}
+use Rattle.sms_centre_spec.proofs.PduFits.{event_gives}
+use Rattle.sms_centre_spec.proofs.SoundEvents.{HasNumber, IsAfter, core_after, event_after}
+
+has_number : (event : CentreEvent) → IsEvent event → HasNumber event
+has_number (Submit account m) is = tt
+has_number (Query account q) is = tt
+has_number (Cancel account q) is = tt
+has_number (Bound session account receives) is = tt
+has_number (Unbound session) is = tt
+has_number (DeliverAnswered session id b) is = tt
+has_number (Frame handset octets tag) is = is.0
+has_number (LinkUp handset) is = is
+has_number (LinkDown handset) is = is
+has_number (Ordered order id) is = tt
+has_number (Tick now) is = tt
 
 after : (event : CentreEvent) (c : Core) → IsSoundCore c → IsEvent event → IsAfter c (happened event c)
 after event c s is = event_after event c s (has_number event is) (event_gives event c s is)

@@ -37,7 +37,7 @@ use Rattle.sms_intake.specs.declared.submission.Submission.{Submission}
 use Rattle.sms_intake.specs.declared.submission.Text.{Text}
 use Rattle.sms_centre_spec.specs.Draft.{Core}
 use Rattle.sms_centre_spec.specs.Requests.{account_at}
-use Rattle.sms_centre_spec.specs.SoundCore.{HasNumber, IsEvent, IsSoundCore}
+use Rattle.sms_centre_spec.specs.SoundCore.{IsEvent, IsSoundCore}
 use Rattle.sms_centre_spec.specs.Consistent.{IsBody, IsSubmission}
 use Rattle.sms_centre_spec.specs.Submitted.{AccountGives, EventGives}
 use Rattle.sms_centre_spec.proofs.SmppFits.{FitsText, content_fits, key_header, single_fits, whole_fits}
@@ -164,19 +164,6 @@ account_among (suc place) a (x ∷ xs) e = inr (account_among place a xs e)
 account_fits : (place : ℕ) (accounts : List CentreAccount) (now : ℕ) (m : Message) (o : Option CentreAccount) → ((a : CentreAccount) → Among a accounts → IsAddress a.address) → account_at place accounts ≡ o → AccountGives o now m
 account_fits place accounts now m None are e = tt
 account_fits place accounts now m (Some a) are e = λ u f. pdu_fits a now m u (are a (account_among place a accounts e)) f
-
-pub has_number : (event : CentreEvent) → IsEvent event → HasNumber event
-has_number (Submit account m) is = tt
-has_number (Query account q) is = tt
-has_number (Cancel account q) is = tt
-has_number (Bound session account receives) is = tt
-has_number (Unbound session) is = tt
-has_number (DeliverAnswered session id b) is = tt
-has_number (Frame handset octets tag) is = is.0
-has_number (LinkUp handset) is = is
-has_number (LinkDown handset) is = is
-has_number (Ordered order id) is = tt
-has_number (Tick now) is = tt
 
 pub event_gives : (event : CentreEvent) (c : Core) → IsSoundCore c → IsEvent event → EventGives event c
 event_gives (Submit account m) c s is = account_fits account c.rows.setup.accounts c.moment m (account_at account c.rows.setup.accounts) s.rows.setup.accounts refl

@@ -12,6 +12,7 @@ use Rattle.sms_centre_rows.specs.reports.Receipts.{session_key}
 use Rattle.sms_centre_rows.specs.reports.Reports.{is_receipt}
 use Rattle.sms_centre_rows.specs.declared.waiting.handset_link.HandsetLink.{HandsetLink}
 use Rattle.sms_centre_rows.specs.waiting.Links.{line_of}
+use Rattle.sms_centre_rows.specs.waiting.SoundAllocations.{IsNumber}
 use Rattle.sms_centre_spec.specs.declared.event.CentreEvent.{CentreEvent}
 use Rattle.sms_centre_spec.specs.declared.event.CentreEvent.TheVariants.{Submit, Query, Cancel, Bound, Unbound, DeliverAnswered, Frame, LinkUp, LinkDown, Ordered, Tick}
 use Rattle.sms_centre_spec.specs.declared.rows.Rows.{Rows}
@@ -21,7 +22,7 @@ use Rattle.sms_centre_spec.specs.Keeping.{Keeps}
 use Rattle.sms_centre_spec.specs.Orders.{ordered}
 use Rattle.sms_centre_spec.specs.Requests.{account_at, cancel, query, submit}
 use Rattle.sms_centre_spec.specs.Sessions.{bind, deliver_answered, unbind}
-use Rattle.sms_centre_spec.specs.SoundCore.{Brings, BringsKind, HasNumber, IsReceiptRow, IsSentFor, IsSoundCore, IsUnderWay}
+use Rattle.sms_centre_spec.specs.SoundCore.{Brings, BringsKind, IsReceiptRow, IsSentFor, IsSoundCore, IsUnderWay}
 use Rattle.sms_centre_spec.specs.Submitted.{EventGives}
 use Rattle.sms_centre_spec.proofs.Keeping.{keeps_same}
 use Rattle.sms_centre_spec.proofs.KeepingSteady.{SoundSince, since_steady}
@@ -100,6 +101,20 @@ sides_begin : (c : Core) → IsSoundCore c → Sides c.rows (draft_of c)
 sides_begin c s = (record { each = s.each_line; apart = s.apart; sent = λ f among. absurd among }, record { keys = s.session_keys; each = s.each_session; sent = λ x among. absurd among })
 
 -- ---- every event
+
+-- a handset that is named has a number
+abbrev pub HasNumber : CentreEvent → Type 0
+HasNumber (Submit account message) = Unit {0}
+HasNumber (Query account wanted) = Unit {0}
+HasNumber (Cancel account wanted) = Unit {0}
+HasNumber (Bound session account receives) = Unit {0}
+HasNumber (Unbound session) = Unit {0}
+HasNumber (DeliverAnswered session id is_accepted) = Unit {0}
+HasNumber (Frame handset octets tag) = IsNumber handset
+HasNumber (LinkUp handset) = IsNumber handset
+HasNumber (LinkDown handset) = IsNumber handset
+HasNumber (Ordered order id) = Unit {0}
+HasNumber (Tick now) = Unit {0}
 
 pub event_after : (event : CentreEvent) (c : Core) → IsSoundCore c → HasNumber event → EventGives event c → IsAfter c (happened event c)
 event_after (Submit account m) c s is g =

@@ -97,21 +97,7 @@ pub record IsSoundCore (c : Core) : Type 0 where
 
 -- ---- the events of a centre
 
--- a handset that is named has a number
-abbrev pub HasNumber : CentreEvent → Type 0
-HasNumber (Submit account message) = Unit {0}
-HasNumber (Query account wanted) = Unit {0}
-HasNumber (Cancel account wanted) = Unit {0}
-HasNumber (Bound session account receives) = Unit {0}
-HasNumber (Unbound session) = Unit {0}
-HasNumber (DeliverAnswered session id is_accepted) = Unit {0}
-HasNumber (Frame handset octets tag) = IsNumber handset
-HasNumber (LinkUp handset) = IsNumber handset
-HasNumber (LinkDown handset) = IsNumber handset
-HasNumber (Ordered order id) = Unit {0}
-HasNumber (Tick now) = Unit {0}
-
--- so it has, octets are octets, and moments are of the years that time stamps write
+-- a handset that is named has a number, octets are octets, and moments are of the years that time stamps write
 abbrev pub IsEvent : CentreEvent → Type 0
 IsEvent (Submit account message) = Unit {0}
 IsEvent (Query account wanted) = Unit {0}

@@ -49,7 +49,7 @@ use Rattle.sms_rows.specs.table.Table.{Rises}
 use Rattle.sms_rows.proofs.table.Tables.{among_put, found_among, found_key, rises_put}
 use Rattle.sms_centre.specs.Enrolling.{rows_with}
 use Rattle.smsc_service.specs.Asking.{IfEvent, asked_by}
-use Rattle.smsc_service.specs.BoundSession.{AreNumbers, handsets_from, handsets_of, is_among, sessions_from, sessions_of, with_number, with_session}
+use Rattle.smsc_service.specs.BoundSession.{handsets_from, handsets_of, is_among, sessions_from, sessions_of, with_number, with_session}
 use Rattle.smsc_service.specs.Numbers.{is_number}
 use Rattle.smsc_service.specs.Replies.{answer_for, answer_out, end_in, end_of, ended, failed, failed_by, frame_out, frame_outs, nothing_by, receipt_out, receipt_outs, replies_at, risen_by, seat_for, taken_by, vacancy}
 use Rattle.smsc_service.specs.Seats.{Seats, nobody}
@@ -68,6 +68,9 @@ use Rattle.smsc_service.proofs.Sittings.{among_snoc, different_snoc, not_among}
 use Rattle.sms_centre.proofs.Enrolled.{core_more}
 
 -- ---- a centre that starts again
+
+abbrev AreNumbers : List (List ℕ) → Type 0
+AreNumbers numbers = (number : List ℕ) → Among number numbers → IsNumber number
 
 numbers_snoc : (ns : List (List ℕ)) (m : List ℕ) → AreNumbers ns → IsNumber m → AreNumbers (ns ++ m ∷ [])
 numbers_snoc ns m h k n there = ⊎_elim (λ x. h n x) (λ is. subst IsNumber (sym is) k) (among_snoc n ns m there)

@@ -8,18 +8,13 @@ use Rattle.sms_centre_rows.specs.reports.Receipts.{Session, session_key}
 use Rattle.sms_centre.specs.state.Recovering.{AreNew}
 use Rattle.sms_rows.proofs.table.Tables.{among_put}
 use Rattle.sms_rows.specs.table.Table.{put}
-use Rattle.sms_centre_rows.specs.waiting.SoundAllocations.{IsNumber}
-use Rattle.smsc_service.specs.BoundSession.{AreNumbers, is_among}
+use Rattle.smsc_service.specs.BoundSession.{is_among}
 
 pub among_snoc : (n : List ℕ) (ns : List (List ℕ)) (m : List ℕ) → Among n (ns ++ m ∷ []) → Among n ns ⊎ (n ≡ m)
 among_snoc n [] m (inl e) = inr e
 among_snoc n [] m (inr x) = absurd x
 among_snoc n (k ∷ ns) m (inl e) = inl (inl e)
 among_snoc n (k ∷ ns) m (inr x) = ⊎_elim (λ h. inl (inr h)) (λ e. inr e) (among_snoc n ns m x)
-
-pub numbers_snoc : (ns : List (List ℕ)) (m : List ℕ) (all : List (List ℕ)) → all ≡ ns ++ m ∷ [] → AreNumbers ns → IsNumber m → AreNumbers all
-numbers_snoc ns m all e h k n there =
-    ⊎_elim (λ x. h n x) (λ is. subst IsNumber (sym is) k) (among_snoc n ns m (subst (λ l. Among n l) e there))
 
 pub different_snoc : (ns : List (List ℕ)) (m : List ℕ) → AreDifferent ns → ¬ Among m ns → AreDifferent (ns ++ m ∷ [])
 different_snoc [] m d new = ((λ x. x), tt)

@@ -1,10 +1,8 @@
 -- The handsets and sessions of the seats, as a centre that starts again has them.
 use Rattle.std.specs.Prelude.{ℕ, ◌||◌, not, List, [], ◌∷◌, ◌++◌, Option, Some, None, Bool, true, false, if◌then◌else◌, bytes_eq, slice_get}
-use Rattle.sms_base.specs.Among.{Among}
 use Rattle.sms_intake.specs.declared.submission.CentreAccount.{CentreAccount}
 use Rattle.sms_centre_rows.specs.reports.Receipts.{Session, session_key}
 use Rattle.sms_rows.specs.table.Table.{put}
-use Rattle.sms_centre_rows.specs.waiting.SoundAllocations.{IsNumber}
 use Rattle.smsc_service.specs.declared.seat_map.LinkSeat.{LinkSeat}
 use Rattle.smsc_service.specs.declared.seat_map.BoundSession.{BoundSession}
 use Rattle.smsc_service.specs.Numbers.{is_number}
@@ -24,10 +22,6 @@ handsets_from numbers (link ∷ links) = handsets_from (with_number link.handset
 
 abbrev pub handsets_of : List LinkSeat → List (List ℕ)
 handsets_of links = handsets_from [] links
-
--- each is the number of a handset
-abbrev pub AreNumbers : List (List ℕ) → Type 0
-AreNumbers numbers = (number : List ℕ) → Among number numbers → IsNumber number
 
 -- ---- sessions, of the accounts that are there
 
