@@ -163,7 +163,9 @@ last_little (suc n) (x ∷ xs) h l =
     ∙ ap (λ (zs : List ℕ). x ∷ zs) (last_little n xs h.1 (omega (arith, m)))
 
 few_onto : (n : ℕ) (xs done : List ℕ) → length xs + length done ≤ n → length (onto xs done) ≤ n
-few_onto n [] done l = l
+few_onto n [] done l =
+    let m : 0 + length done ≤ n = l in
+    omega (arith, m)
 few_onto n (x ∷ xs) done l =
     let m : suc (length xs) + length done ≤ n = l in
     let r : length xs + suc (length done) ≤ n = omega (arith, m) in few_onto n xs (x ∷ done) r

@@ -43,7 +43,7 @@ fn turned(key: u128) -> u128
 {
     let mut rest = key;
     let mut onto: u128 = 0;
-    for _step in 0..20 {
+    for _step in 0..20_u8 {
         if rest == 0 {
             return onto;
         }
@@ -59,7 +59,7 @@ fn last_first(key: u128) -> Digits
 {
     let mut rest = key;
     let mut digits = Digits::new();
-    for _step in 0..20 {
+    for _step in 0..20_u8 {
         if rest == 0 {
             return digits;
         }

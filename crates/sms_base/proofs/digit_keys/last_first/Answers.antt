@@ -8,8 +8,8 @@ pub loop-step-init : goal.loop-step-init
 loop-step-init c =
     let all : 20 - 0 ≡ 20 = omega arith in
     record {
-      same = ap (λ (ds : List ℕ). ds ++ last_first_of (20 - 0) c.args.key) c.new.ensures ∙ ap (λ (n : ℕ). last_first_of n c.args.key) all;
-      few = ap (λ (ds : List ℕ). length ds) c.new.ensures;
+      same = ap (λ (ds : List ℕ). ds ++ last_first_of (20 - 0) c.args.key) c.new-digits.ensures ∙ ap (λ (n : ℕ). last_first_of n c.args.key) all;
+      few = ap (λ (ds : List ℕ). length ds) c.new-digits.ensures;
     }
 
 pub push-requires : goal.push-requires
