@@ -1,9 +1,11 @@
 //! The numbers of handsets.
 ghost use Rattle.std.specs.Cmp.Rules.{comparing};
+ghost use Rattle.std.specs.Hash as fed;
 ghost use Rattle.std.specs.Option.{SomeIff};
 ghost use Rattle.std.specs.Prelude.{◌≡◌, ℕ, List};
 ghost use Rattle.std.specs.Str.{bytes_eq};
-ghost use Rattle.std.proofs.Common.{rules};
+ghost use Rattle.std.proofs.Common.{ap, rules};
+ghost use Rattle.std.proofs.lemmas.Slice.Eq.{bytes_eq-Decides};
 ghost use Rattle.sms_base.specs.Address.{IsAddress};
 ghost use Rattle.sms_base.specs.Among.{Among};
 ghost use Rattle.sms_base.specs.DigitsKey.{digits_key};
@@ -14,6 +16,7 @@ use crate::address_text::are_digits;
 use crate::digit_keys::{digits_key, spelled};
 use crate::digit_octets::digits_of;
 use crate::digits::Digits;
+use std::hash::{Hash, Hasher};
 use std::marker::Model;
 
 // Digits of a number, semi-octets of an address (3GPP TS 23.040 9.1.2.5).
@@ -55,6 +58,16 @@ impl PartialEq for Msisdn {
 
 impl Eq for Msisdn {
     ghost laws = { Prim.search (comparing, rules) };
+}
+
+impl Hash for Msisdn {
+    ghost hash_input = { λ a. fed.u128 (digits_key a) };
+
+    ghost respects_eq = { λ a b same. ap (λ digits. fed.u128 (digits_key digits)) ((bytes_eq-Decides a b).0 same) };
+
+    fn hash<H: Hasher>(&self, state: &mut H) {
+        self.key().hash(state);
+    }
 }
 
 impl Msisdn {

@@ -211,7 +211,7 @@ pub holds_taken : (m : MessageRow) (state : FinalState) (reference : ℕ) (old n
 holds_taken m state reference old new split undelivered done taken = λ key.
     taken key
     ∙ ap (λ (n : ℕ). counted key old - n)
-    (same_both (is_same_sender (key_of m.source m.handset reference).source key.source) (bytes_eq m.handset key.handset.digits) (nat_eq reference key.number)
+    (same_both (is_same_sender (key_of m.source m.handset reference).source key.source) (bytes_eq m.handset key.handset) (nat_eq reference key.number)
     ∙ ap (λ (d : Bool). one_if (is_of key m && (not d && (reference == key.number)))) (sym undelivered)
     ∙ ap (λ (o : Option ℕ). one_if (is_of key m && (not (is_delivered m.state) && is_reference key.number o))) (sym split)
     ∙ chosen (is_delivered (Some state)) (holds key m) done)
@@ -249,7 +249,7 @@ pub owns_added : (m : MessageRow) (key : Option ConcatKey) (reference : ℕ) (ol
 owns_added m key reference old new own added = λ q small.
     added q small
     ∙ ap (λ (n : ℕ). counted q old + n)
-    (arrived_same (is_same_sender (key_of m.source m.handset reference).source q.source) (bytes_eq m.handset q.handset.digits) reference q.number
+    (arrived_same (is_same_sender (key_of m.source m.handset reference).source q.source) (bytes_eq m.handset q.handset) reference q.number
     ∙ ap (λ (o : Option ℕ). one_if (is_reference q.number (if is_of q m then o else None))) (sym own))
 
 pub owns_none : (m : MessageRow) (key : Option ConcatKey) (old : CountsOf) → unless_split m.split_reference (wide_in key) ≡ None → BringsOwn m key old old

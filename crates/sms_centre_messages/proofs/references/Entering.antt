@@ -124,7 +124,7 @@ pub holds_added : (m : MessageRow) (reference : ℕ) (old new : CountsOf) → m.
 holds_added m reference old new split open' added = λ key small.
     added key small
     ∙ ap (λ (n : ℕ). counted key old + n)
-    (same_both (is_same_sender (key_of m.source m.handset reference).source key.source) (bytes_eq m.handset key.handset.digits) (nat_eq reference key.number)
+    (same_both (is_same_sender (key_of m.source m.handset reference).source key.source) (bytes_eq m.handset key.handset) (nat_eq reference key.number)
     ∙ ap (λ (d : Bool). one_if (is_of key m && (not d && (reference == key.number)))) (sym open')
     ∙ ap (λ (o : Option ℕ). one_if (is_of key m && (not (is_delivered m.state) && is_reference key.number o))) (sym split))
 

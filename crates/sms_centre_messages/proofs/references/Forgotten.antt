@@ -206,7 +206,7 @@ free_holds key m e = of m.split_reference refl (is_delivered m.state) refl e
     s = is_same_sender (record { type_of_number = type_number m.source.ton; plan = m.source.npi; digits = record { digits = m.source.digits } }) key.source
 
     h : Bool
-    h = bytes_eq m.handset key.handset.digits
+    h = bytes_eq m.handset key.handset
 
     none : (a b r : Bool) → (((a && (b && r)) && true) || false) ≡ false → one_if ((a && b) && (true && r)) ≡ 0
     none true true true q = let bad : true ≡ false = q in absurd cc
@@ -246,7 +246,7 @@ free_wide key p m e = of (unless_split m.split_reference (wide_in p.key)) refl e
     of None q f = ap (λ (o : Option ℕ). is_reference key.number (if is_of key m then o else None)) q ∙ nothing (is_of key m)
     of (Some n) q f =
         ap (λ (o : Option ℕ). is_reference key.number (if is_of key m then o else None)) q
-        ∙ none (is_same_sender (record { type_of_number = type_number m.source.ton; plan = m.source.npi; digits = record { digits = m.source.digits } }) key.source) (bytes_eq m.handset key.handset.digits)
+        ∙ none (is_same_sender (record { type_of_number = type_number m.source.ton; plan = m.source.npi; digits = record { digits = m.source.digits } }) key.source) (bytes_eq m.handset key.handset)
         (n == key.number) n refl (sym (ap (λ (o : Option ℕ). any (claimed (is_own_at key)) (claims_of_header m o)) q) ∙ f)
 
 ended_repeats : (source handset : List ℕ) (reference : ℕ) (m : MessageRow) → is_pending m ≡ false → one_if (repeats source handset reference m) ≡ 0

@@ -16,7 +16,7 @@ use Rattle.sms_centre_messages.specs.references.Keys.{is_same, is_same_sender}
 abbrev made : ℕ → ℕ → List ℕ → List ℕ → ℕ → MessageEnds
 made kind plan source handset number = record {
   source = record { type_of_number = kind; plan = plan; digits = record { digits = source } };
-  handset = record { digits = handset };
+  handset = handset;
   number = number;
 }
 
@@ -25,17 +25,17 @@ same_number a b e = grind (arith, nat_tests)
 
 pub same_key : (a b : MessageEnds) → is_same a b ≡ true → a ≡ b
 same_key a b e =
-    let parts = and_parts (is_same_sender a.source b.source) (bytes_eq a.handset.digits b.handset.digits && nat_eq a.number b.number) e in
+    let parts = and_parts (is_same_sender a.source b.source) (bytes_eq a.handset b.handset && nat_eq a.number b.number) e in
     let sender = and_parts (nat_eq a.source.type_of_number b.source.type_of_number) (nat_eq a.source.plan b.source.plan && bytes_eq a.source.digits.digits b.source.digits.digits) parts.0 in
     let inner = and_parts (nat_eq a.source.plan b.source.plan) (bytes_eq a.source.digits.digits b.source.digits.digits) sender.1 in
-    let outer = and_parts (bytes_eq a.handset.digits b.handset.digits) (nat_eq a.number b.number) parts.1 in
+    let outer = and_parts (bytes_eq a.handset b.handset) (nat_eq a.number b.number) parts.1 in
     let source : a.source.digits.digits ≡ b.source.digits.digits = (bytes_eq-Decides a.source.digits.digits b.source.digits.digits).0 inner.1 in
-    let handset : a.handset.digits ≡ b.handset.digits = (bytes_eq-Decides a.handset.digits b.handset.digits).0 outer.0 in
-    ap (λ (n : ℕ). made n a.source.plan a.source.digits.digits a.handset.digits a.number) (same_number a.source.type_of_number b.source.type_of_number sender.0)
-    ∙ ap (λ (n : ℕ). made b.source.type_of_number n a.source.digits.digits a.handset.digits a.number) (same_number a.source.plan b.source.plan inner.0)
-    ∙ ap (λ (l : List ℕ). made b.source.type_of_number b.source.plan l a.handset.digits a.number) source
+    let handset : a.handset ≡ b.handset = (bytes_eq-Decides a.handset b.handset).0 outer.0 in
+    ap (λ (n : ℕ). made n a.source.plan a.source.digits.digits a.handset a.number) (same_number a.source.type_of_number b.source.type_of_number sender.0)
+    ∙ ap (λ (n : ℕ). made b.source.type_of_number n a.source.digits.digits a.handset a.number) (same_number a.source.plan b.source.plan inner.0)
+    ∙ ap (λ (l : List ℕ). made b.source.type_of_number b.source.plan l a.handset a.number) source
     ∙ ap (λ (l : List ℕ). made b.source.type_of_number b.source.plan b.source.digits.digits l a.number) handset
-    ∙ ap (λ (n : ℕ). made b.source.type_of_number b.source.plan b.source.digits.digits b.handset.digits n) (same_number a.number b.number outer.1)
+    ∙ ap (λ (n : ℕ). made b.source.type_of_number b.source.plan b.source.digits.digits b.handset n) (same_number a.number b.number outer.1)
 
 -- ---- one is written
 
@@ -110,10 +110,10 @@ not_missing key k none some =
 
 pub same_here : (a b : MessageEnds) → a ≡ b → is_same a b ≡ true
 same_here a b e = subst (λ (k : MessageEnds). is_same a k ≡ true) e
-    (and_from (is_same_sender a.source a.source) (bytes_eq a.handset.digits a.handset.digits && nat_eq a.number a.number)
+    (and_from (is_same_sender a.source a.source) (bytes_eq a.handset a.handset && nat_eq a.number a.number)
     (and_from (nat_eq a.source.type_of_number a.source.type_of_number) (nat_eq a.source.plan a.source.plan && bytes_eq a.source.digits.digits a.source.digits.digits)
     (eq-eqb a.source.type_of_number a.source.type_of_number refl)
     (and_from (nat_eq a.source.plan a.source.plan) (bytes_eq a.source.digits.digits a.source.digits.digits)
     (eq-eqb a.source.plan a.source.plan refl) ((bytes_eq-Decides a.source.digits.digits a.source.digits.digits).1 refl)))
-    (and_from (bytes_eq a.handset.digits a.handset.digits) (nat_eq a.number a.number)
-    ((bytes_eq-Decides a.handset.digits a.handset.digits).1 refl) (eq-eqb a.number a.number refl)))
+    (and_from (bytes_eq a.handset a.handset) (nat_eq a.number a.number)
+    ((bytes_eq-Decides a.handset a.handset).1 refl) (eq-eqb a.number a.number refl)))

@@ -10,7 +10,7 @@ use Rattle.sms_centre_messages.specs.declared.references.message_ends.Sender.{Se
 abbrev pub key_of : Address → List ℕ → ℕ → MessageEnds
 key_of source handset number = record {
   source = record { type_of_number = type_number source.ton; plan = source.npi; digits = record { digits = source.digits } };
-  handset = record { digits = handset };
+  handset = handset;
   number = number;
 }
 
@@ -18,7 +18,7 @@ key_of source handset number = record {
 abbrev pub pair_of : List ℕ → List ℕ → ℕ → MessageEnds
 pair_of source handset number = record {
   source = record { type_of_number = 0; plan = 0; digits = record { digits = source } };
-  handset = record { digits = handset };
+  handset = handset;
   number = number;
 }
 
@@ -26,4 +26,4 @@ abbrev pub is_same_sender : Sender → Sender → Bool
 is_same_sender a b = nat_eq a.type_of_number b.type_of_number && (nat_eq a.plan b.plan && bytes_eq a.digits.digits b.digits.digits)
 
 abbrev pub is_same : MessageEnds → MessageEnds → Bool
-is_same a b = is_same_sender a.source b.source && (bytes_eq a.handset.digits b.handset.digits && nat_eq a.number b.number)
+is_same a b = is_same_sender a.source b.source && (bytes_eq a.handset b.handset && nat_eq a.number b.number)

@@ -30,7 +30,7 @@ total f (x ∷ xs) = f x + total f xs
 abbrev pub is_of : MessageEnds → MessageRow → Bool
 is_of key m =
     is_same_sender (record { type_of_number = type_number m.source.ton; plan = m.source.npi; digits = record { digits = m.source.digits } }) key.source
-    && bytes_eq m.handset key.handset.digits
+    && bytes_eq m.handset key.handset
 
 abbrev pub is_reference : ℕ → Option ℕ → Bool
 is_reference n None = false
@@ -56,7 +56,7 @@ submitted_with key ms p = one_if (is_reference key.number (wide_of key p (messag
 abbrev pub is_at : MessageEnds → BarRow → Bool
 is_at key b =
     is_same_sender (record { type_of_number = type_number b.source.ton; plan = b.source.npi; digits = record { digits = b.source.digits } }) key.source
-    && (bytes_eq b.handset key.handset.digits && (b.reference == key.number))
+    && (bytes_eq b.handset key.handset && (b.reference == key.number))
 
 -- the centre gave it, or a header had it
 abbrev pub is_held_at : MessageEnds → BarRow → Bool

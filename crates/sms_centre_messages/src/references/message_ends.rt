@@ -19,7 +19,7 @@ pub struct Sender {
 #[derive(Clone, Copy, PartialEq, Eq, Hash)]
 pub struct MessageEnds {
     pub source: Sender,
-    pub handset: Number,
+    pub handset: Msisdn,
     pub number: u16,
 }
 
@@ -36,9 +36,7 @@ impl MessageEnds {
                     digits: source.digits,
                 },
             },
-            handset: Number {
-                digits: handset.digits(),
-            },
+            handset: *handset,
             number,
         }
     }
@@ -53,9 +51,7 @@ impl MessageEnds {
                 plan: 0,
                 digits: Number { digits: *source },
             },
-            handset: Number {
-                digits: handset.digits(),
-            },
+            handset: *handset,
             number,
         }
     }
