@@ -1,6 +1,5 @@
 //! What waits for handsets, by rows.
 ghost use Rattle.std.specs.Prelude.{◌≡◌, ℕ, List, [], ◌∷◌, Some, OnOk};
-ghost use Rattle.sms_base.specs.Among.{Among};
 ghost use Rattle.sms_centre_rows.specs.messages.Messages.{part_key, priority_of as priority_of_rows};
 ghost use Rattle.sms_centre_rows.specs.messages.OpenParts.{is_open_part, part_queued as part_queued_of, parts_waiting};
 ghost use Rattle.sms_centre_rows.specs.declared.messages.part.PartRow.{PartRow as PartRowOf};
@@ -8,13 +7,11 @@ ghost use Rattle.sms_centre_rows.specs.reports.Reports.{is_open_status as is_ope
 ghost use Rattle.sms_centre_rows.specs.reports.Waiting.{report_queued as report_queued_of, with_reports};
 ghost use Rattle.sms_centre_rows.specs.declared.reports.report.ReportRow.{ReportRow as ReportRowOf};
 ghost use Rattle.sms_centre_queue.specs.queues.Representing.{DraftRepresents, Waits};
-ghost use Rattle.sms_centre_recovery.specs.soundness.RowsOf.{rows_of};
 ghost use Rattle.sms_rows.specs.table.Table.{Rises, put as put_in};
 ghost use Rattle.sms_centre_rows.specs.waiting.Keys.{queued_key};
 ghost use Rattle.sms_centre_rows.specs.waiting.Links.{Links};
 ghost use Rattle.sms_centre_rows.specs.waiting.References.{Allocations};
 ghost use Rattle.sms_centre_rows.specs.declared.waiting.queued_part.QueuedPart.{QueuedPart as QueuedOf};
-ghost use Rattle.sms_centre_spec.specs.SoundRows.{IsSound};
 
 use crate::soundness::RowTables;
 use sms_base::{Digits, MessageId, Msisdn};
@@ -61,7 +58,6 @@ fn put_part(
     part: &PartRow,
     queues: &mut DeliveryQueuesDraft,
 ) -> Result<(), AllocError>
-    requires { IsSound (rows_of tables.now) }
     ensures { OnOk result ((g : Allocations) (links : Links) (ps : List PartRowOf) → Rises part_key (part.now ∷ ps)
         → DraftRepresents g links (λ number. parts_waiting number tables.now.messages.rows tables.now.priorities.rows ps) queues.old
         → DraftRepresents g links (λ number. parts_waiting number tables.now.messages.rows tables.now.priorities.rows (part.now ∷ ps)) queues.new) }
@@ -82,8 +78,7 @@ pub fn put_parts(
     parts: &[PartRow],
     queues: &mut DeliveryQueuesDraft,
 ) -> Result<(), AllocError>
-    requires sound { IsSound (rows_of tables.now) }
-    requires order { Rises part_key parts.now }
+    requires { Rises part_key parts.now }
     ensures { OnOk result ((g : Allocations) (links : Links) → DraftRepresents g links (λ number. []) queues.old
         → DraftRepresents g links (λ number. parts_waiting number tables.now.messages.rows tables.now.priorities.rows parts.now) queues.new) }
 {
@@ -135,8 +130,6 @@ fn put_report(
     report: &ReportRow,
     queues: &mut DeliveryQueuesDraft,
 ) -> Result<(), AllocError>
-    requires sound { IsSound (rows_of tables.now) }
-    requires there { Among report.now tables.now.reports.rows }
     ensures { OnOk result ((g : Allocations) (links : Links) (rs : List ReportRowOf) (waiting : List ℕ → List QueuedOf)
         → DraftRepresents g links (λ number. with_reports number tables.now.messages.rows rs (waiting number)) queues.old
         → DraftRepresents g links (λ number. with_reports number tables.now.messages.rows (report.now ∷ rs) (waiting number)) queues.new) }
@@ -156,8 +149,6 @@ pub fn put_reports(
     reports: &[ReportRow],
     queues: &mut DeliveryQueuesDraft,
 ) -> Result<(), AllocError>
-    requires sound { IsSound (rows_of tables.now) }
-    requires there { (r : ReportRowOf) → Among r reports.now → Among r tables.now.reports.rows }
     ensures { OnOk result ((g : Allocations) (links : Links) (waiting : List ℕ → List QueuedOf) → DraftRepresents g links waiting queues.old
         → DraftRepresents g links (λ number. with_reports number tables.now.messages.rows reports.now (waiting number)) queues.new) }
 {

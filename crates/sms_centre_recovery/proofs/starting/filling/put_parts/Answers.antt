@@ -25,7 +25,7 @@ loop-i-preserved c = λ g links represents.
     let next = next_back parts i part (omega arith) c.index-parts-parts.is in
     subst (λ (ps : List PartRow). DraftRepresents g links (λ (number : List ℕ). parts_waiting number tables.messages.rows tables.priorities.rows ps) c.put_part.new.queues) (sym next)
     (c.in_ok-put_part.ensures g links (drop (length parts - i) parts)
-    (subst (λ (ps : List PartRow). Rises part_key ps) next (rises_drop part_key (length parts - (i + 1)) parts c.requires.order))
+    (subst (λ (ps : List PartRow). Rises part_key ps) next (rises_drop part_key (length parts - (i + 1)) parts c.requires))
     (c.loop-i.invariant g links represents))
 
 pub returns : goal.returns

@@ -1,10 +1,8 @@
 use Rattle.std.proofs.Common.{ℕ, List, ◌-◌, ◌≡◌, length, drop, sym, subst, arith}
 use Rattle.std.proofs.lemmas.List.{drop_all}
-use Rattle.sms_base.specs.Among.{Among}
 use Rattle.sms_centre_rows.specs.declared.reports.report.ReportRow.{ReportRow}
 use Rattle.sms_centre_rows.specs.reports.Waiting.{with_reports}
 use Rattle.sms_centre_queue.specs.queues.Representing.{DraftRepresents}
-use Rattle.sms_centre_recovery.proofs.starting.LinesNew.{among_at}
 use Rattle.sms_centre_recovery.proofs.starting.RowsSeen.{next_back}
 use Rattle.sms_centre_recovery.proofs.starting.filling.put_reports.Goals as goal
 
@@ -14,13 +12,6 @@ loop-i-init c = λ g links waiting represents.
     let messages = c.args.tables.now.messages.rows in
     subst (λ (rs : List ReportRow). DraftRepresents g links (λ (number : List ℕ). with_reports number messages rs (waiting number)) c.args.queues.now)
     (sym (drop_all (length reports - 0) reports (omega arith))) represents
-
-pub put_report-requires-clause-there : goal.put_report-requires-clause-there
-put_report-requires-clause-there c =
-    let reports = c.args.reports.now in
-    let place = length reports - 1 - c.loop-i.i in
-    let report = c.index-reports-reports.result in
-    c.requires.there report (subst (λ (r : ReportRow). Among r reports) (sym c.index-reports-reports.is) (among_at place reports report (omega arith)))
 
 pub loop-i-preserved : goal.loop-i-preserved
 loop-i-preserved c = λ g links waiting represents.
