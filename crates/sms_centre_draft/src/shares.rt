@@ -8,7 +8,7 @@ ghost use Rattle.sms_centre_spec.specs.Shares.{takes_too_much as takes_too_much_
 ghost use Rattle.sms_centre_draft.specs.CentreDraft.{Represents};
 
 use crate::centre_draft::CentreDraft;
-use sms_base::{Msisdn, Originator};
+use sms_base::Originator;
 use sms_centre_rows::messages::MessageRow;
 use sms_centre_rows::waiting::QueuedPart;
 use sms_intake::Submission;

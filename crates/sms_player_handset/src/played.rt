@@ -159,12 +159,10 @@ impl PlayedHandset {
         })
     }
 
-    /// The handset's number, which can be written as the address of a handset.
+    /// The handset's number.
     pub fn number(&self) -> Msisdn
-        ensures number { result ≡ self.now.number }
-        ensures address { IsAddress (own_address result) }
+        ensures { result ≡ self.now.number }
     {
-        self.number.spells_a_number();
         self.number
     }
 

@@ -1,7 +1,5 @@
 //! Status reports.
 ghost use Rattle.std.specs.Prelude.{◌≡◌, ◌<◌, length, IfOk};
-ghost use Rattle.sms_base.specs.Address.{IsAddress};
-ghost use Rattle.sms_base.specs.HandsetNumber.{own_address};
 ghost use Rattle.sms_receipt.specs.StatusReports.{status_octets, status_of, status_report_of};
 
 use crate::final_message::Final;

@@ -1,9 +1,7 @@
 //! The events of a script.
 ghost use Rattle.std.specs.Prelude.{◌≡◌, ◌<◌, ◌≤◌, ◌^◌, ℕ, true, false, length, Err, IfOk, IfSome, OnOk};
 ghost use Rattle.std.specs.Str.{chars, is_utf8};
-ghost use Rattle.sms_base.specs.Address.{IsAddress};
 ghost use Rattle.sms_base.specs.Among.{Among};
-ghost use Rattle.sms_base.specs.HandsetNumber.{own_address};
 ghost use Rattle.sms_centre_spec.specs.SoundCore.{IsEvent};
 ghost use Rattle.sms_centre_spec.specs.declared.event.CentreEvent.TheVariants.{Submit as CentreSubmit, Frame as CentreFrame};
 ghost use Rattle.sms_play.specs.growth.Growth.{IsFit, IsCentreEvent};
@@ -106,8 +104,7 @@ impl<'a> Playing<'a> {
 
     pub(crate) fn number_at(&self, place: usize) -> Msisdn
         requires { place < length self.now.parties }
-        ensures number { (party : Party) → IsFirstAt place party self.now.parties → result ≡ party.number }
-        ensures address { IsAddress (own_address result) }
+        ensures { (party : Party) → IsFirstAt place party self.now.parties → result ≡ party.number }
     {
         number_at(self.parties, place)
     }

@@ -1,8 +1,6 @@
 //! The places of accounts and handsets among those of a script.
 ghost use Rattle.std.specs.Prelude.{◌≡◌, ◌≤◌, ◌<◌, ◌^◌, ℕ, length, Err, IfSome};
 ghost use Rattle.std.specs.Str.{bytes_eq};
-ghost use Rattle.sms_base.specs.Address.{IsAddress};
-ghost use Rattle.sms_base.specs.HandsetNumber.{own_address};
 ghost use Rattle.sms_handset.specs.HandsetEvent.{deleted, discarded};
 ghost use Rattle.sms_handset.specs.declared.refusal.Refusal.TheVariants.{NoEntry};
 ghost use Rattle.sms_play.specs.PlayState.{Party};
@@ -64,8 +62,7 @@ pub(crate) fn digits_place(number: &Digits, parties: &[PlayedHandset]) -> Option
 /// The number of the handset at that place.
 pub(crate) fn number_at(parties: &[PlayedHandset], place: usize) -> Msisdn
     requires { place < length parties.now }
-    ensures number { (party : Party) → IsFirstAt place party parties.now → result ≡ party.number }
-    ensures address { IsAddress (own_address result) }
+    ensures { (party : Party) → IsFirstAt place party parties.now → result ≡ party.number }
 {
     parties[place].number()
 }

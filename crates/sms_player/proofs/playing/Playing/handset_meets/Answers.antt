@@ -15,7 +15,7 @@ pub returns-in-Done : goal.returns-in-Done
 returns-in-Done c = λ play party shown first.
     let met = subst (λ (m : HandsetOutcome). MeetsAs m party play c.commit_handset.new.self (happened c.args.happening.now party.core)) c.in-Done.is (c.in_ok-met.ensures.meets play party shown first) in
     met_done c.done.result c.args.event c.args.happening.now party play c.done.new.self met.0 c.is_owners.result met.1.0 c.is_owners.ensures
-    (c.done.ensures play party met.0 c.args.place first met.1.2 (c.digits-number.ensures ∙ c.number_at.ensures.number party (subst (λ (ps : List Party). IsFirstAt c.args.place party ps) (sym shown.parties) first)) met.1.1)
+    (c.done.ensures play party met.0 c.args.place first met.1.2 (c.digits-number.ensures ∙ c.number_at.ensures party (subst (λ (ps : List Party). IsFirstAt c.args.place party ps) (sym shown.parties) first)) met.1.1)
 
 pub returns-in-Refused : goal.returns-in-Refused
 returns-in-Refused c = λ play party shown first.
