@@ -8,8 +8,7 @@ pub invariant_of-result : goal.invariant_of-result
 invariant_of-result c =
     let digits = c.args.digits.now in
     let back : spelled c.digits_key.result ≡ digits =
-    ap (λ (key : ℕ). spelled key) c.digits_key.ensures.value ∙ key_spells digits c.requires.each c.requires.few in
-    (
+    ap (λ (key : ℕ). spelled key) c.digits_key.ensures.value ∙ key_spells digits c.requires.each c.requires.few in (
       subst (λ (ds : List ℕ). IsMsisdn ds) (sym back) c.requires,
       ap (λ (ds : List ℕ). digits_key ds) back ∙ sym c.digits_key.ensures.value,
     )
