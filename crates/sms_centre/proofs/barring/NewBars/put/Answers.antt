@@ -9,5 +9,5 @@ returns c = record {
   place = c.in-Some.place;
   was = c.in-Some.is;
   changes = c.in_ok-push.ensures.items ∙ ap (λ (b : BarRow). c.args.self.now.changes.items ++ Put b ∷ []) c.bar_of.ensures;
-  next = λ n e. added_one _ c.checked_add.result c.in-Some.place n c.checked_add.ensures e;
+  next = λ n e. added_one _ c.checked_add-self.result c.in-Some.place n c.checked_add-self.ensures e;
 }
