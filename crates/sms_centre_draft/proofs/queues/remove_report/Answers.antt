@@ -1,0 +1,14 @@
+use Rattle.std.proofs.Common.{ℕ, List, OnOk, subst}
+use Rattle.sms_rows.specs.table.Keys.{pair_key}
+use Rattle.sms_rows.specs.table.Table.{without}
+use Rattle.sms_centre_queue.specs.queues.Representing.{DraftRepresents, Waits}
+use Rattle.sms_centre_rows.specs.declared.waiting.queued_part.QueuedPart.{QueuedPart}
+use Rattle.sms_centre_rows.specs.waiting.Keys.{queued_key}
+use Rattle.sms_centre_rows.specs.waiting.Links.{Links}
+use Rattle.sms_centre_rows.specs.waiting.References.{Allocations}
+use Rattle.sms_centre_draft.proofs.queues.remove_report.Goals as goal
+
+pub returns-in-Some : goal.returns-in-Some
+returns-in-Some c =
+    subst (λ (source : List ℕ). OnOk c.remove.result ((g : Allocations) (links : Links) (waiting after : List ℕ → List QueuedPart) → DraftRepresents g links waiting c.args.queues.now
+    → Waits source (without queued_key (pair_key c.args.id 0)) waiting after → DraftRepresents g links after c.remove.new.self)) c.in-Some.ensures.1 c.remove.ensures
