@@ -35,4 +35,5 @@ commit_text micros = codes " commit_seconds=" ++ millionths_text micros
 
 unfoldable pub access_text : AccessLine → Option (List ℕ) → List ℕ → List ℕ → List ℕ
 access_text a account source destination =
-    number_text a.id ++ (originator_text account source ++ (parties_text source destination ++ (course_text a ++ (last_cause_text a.last_cause ++ commit_text a.commit_micros))))
+    number_text a.id
+    ++ (originator_text account source ++ (parties_text source destination ++ (course_text a ++ (last_cause_text a.last_cause ++ commit_text a.commit_micros))))

@@ -69,4 +69,5 @@ end_text state wish = final_word state ++ (codes "\",\"receipt\":\"" ++ (wish_wo
 
 unfoldable pub archive_text : Forgotten → List ℕ
 archive_text m =
-    number_text m.id ++ (originator_text m.originator ++ (parties_text m.source m.destination ++ (course_text m.submitted m.ended m.parts ++ end_text m.state m.wish)))
+    number_text m.id
+    ++ (originator_text m.originator ++ (parties_text m.source m.destination ++ (course_text m.submitted m.ended m.parts ++ end_text m.state m.wish)))

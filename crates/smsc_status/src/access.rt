@@ -127,7 +127,8 @@ fn put_commit(out: &mut Octets, micros: u64) -> Result<(), AllocError>
 
 #[tactic(auto, unfolding(crate::specs::Access::access_text))]
 fn put_line(out: &mut Octets, line: &AccessLine<'_>) -> Result<(), AllocError>
-    ensures { OnOk result (out.new ≡ out.old ++ access_text line.entry.now (option_map (λ s. s.now) line.entry.now.account) line.entry.now.source.now line.entry.now.destination.now) }
+    ensures { OnOk result (out.new ≡ out.old ++ access_text line.entry.now (option_map (λ s. s.now) line.entry.now.account)
+        line.entry.now.source.now line.entry.now.destination.now) }
 {
     put_number(out, line.id)?;
     put_originator(out, line.account, line.source)?;
@@ -139,7 +140,8 @@ fn put_line(out: &mut Octets, line: &AccessLine<'_>) -> Result<(), AllocError>
 
 /// The line of a message at its end, in logfmt.
 pub fn access_line(alloc: Global, line: &AccessLine<'_>) -> Result<Octets, AllocError>
-    ensures { IfOk result (λ text. text ≡ access_text line.entry.now (option_map (λ s. s.now) line.entry.now.account) line.entry.now.source.now line.entry.now.destination.now) }
+    ensures { IfOk result (λ text. text ≡ access_text line.entry.now (option_map (λ s. s.now) line.entry.now.account)
+        line.entry.now.source.now line.entry.now.destination.now) }
 {
     let mut out = Octets::with_capacity(alloc, 256)?;
     put_line(&mut out, line)?;

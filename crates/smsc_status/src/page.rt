@@ -280,7 +280,8 @@ fn put_both_charts(
 }
 
 fn put_charts(alloc: Global, out: &mut Octets, samples: &[Sample]) -> Result<(), AllocError>
-    ensures { OnOk result (out.new ≡ out.old ++ charts_text (map (λ (s : SampleOf). s.submissions) samples.now) (map (λ (s : SampleOf). s.deliveries) samples.now)) }
+    ensures { OnOk result (out.new ≡ out.old ++ charts_text (map (λ (s : SampleOf). s.submissions) samples.now)
+        (map (λ (s : SampleOf). s.deliveries) samples.now)) }
 {
     let submissions = submissions_of(alloc, samples)?;
     let deliveries = deliveries_of(alloc, samples)?;
