@@ -52,10 +52,8 @@ impl Counts {
             let map = IndexMap::new(alloc);
             return Ok(CountsReserve { map });
         }
-        let Some(wanted) = len.checked_add(extra) else {
-            return Err(AllocError);
-        };
-        let Some(capacity) = len.checked_add(wanted) else {
+        // A map's memory doubles by itself: its sizes go by powers of two.
+        let Some(capacity) = len.checked_add(extra) else {
             return Err(AllocError);
         };
         let map = IndexMap::with_capacity(alloc, capacity)?;

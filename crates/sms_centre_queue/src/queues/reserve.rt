@@ -38,10 +38,8 @@ pub(crate) fn make_reserve<V: Drop>(
         let map = IndexMap::new(alloc);
         return Ok(MapReserve { map });
     }
-    let Some(wanted) = len.checked_add(extra) else {
-        return Err(AllocError);
-    };
-    let Some(capacity) = len.checked_add(wanted) else {
+    // A map's memory doubles by itself: its sizes go by powers of two.
+    let Some(capacity) = len.checked_add(extra) else {
         return Err(AllocError);
     };
     let map = IndexMap::with_capacity(alloc, capacity)?;

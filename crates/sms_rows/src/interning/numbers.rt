@@ -103,10 +103,8 @@ impl Numbers {
             let set = IndexSet::new(alloc);
             return Ok(NumbersReserve { set });
         }
-        let Some(wanted) = len.checked_add(extra) else {
-            return Err(AllocError);
-        };
-        let Some(capacity) = len.checked_add(wanted) else {
+        // A set's memory doubles by itself: its sizes go by powers of two.
+        let Some(capacity) = len.checked_add(extra) else {
             return Err(AllocError);
         };
         let set = IndexSet::with_capacity(alloc, capacity)?;
