@@ -11,5 +11,5 @@ returns-in_err-text-clause-only c digits few has =
 pub returns-clause-only : goal.returns-clause-only
 returns-clause-only c digits few has =
     let spelled = c.in_ok-text.ensures.value ∙ ap text_in has.is in
-    let same = ap (λ text. length (chars text)) (c.as_str.ensures.value ∙ spelled) ∙ ap length (chars-encodes digits few.are) in
+    let same = ap (λ text. length (chars text)) spelled ∙ ap length (chars-encodes digits few.are) in
     absurd (omega (arith, same, few.few, c.in-None.ensures.none))
