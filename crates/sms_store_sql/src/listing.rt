@@ -32,4 +32,4 @@ pub use reading::{
     optional_moment_at, optional_octet_at, optional_short_at, short_at, text_at, text_of, word_at,
 };
 pub use seeking::{SoughtRow, seek};
-pub use transaction::{Lookup, Work, look, transact};
+pub use transaction::{InTransaction, Lookup, Survey, Work, look, transact};
