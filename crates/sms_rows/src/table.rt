@@ -16,10 +16,10 @@ mod draft;
 mod key;
 pub mod laws;
 
+use crate::table::beside::start_in;
 pub use change::{Change, are_removals};
 pub use draft::{TableDraft, TablePlan, adopt};
 pub use key::Key;
-use crate::table::beside::start_in;
 use std::alloc::{AllocError, Global};
 use std::marker::Model;
 

@@ -34,6 +34,11 @@ pub record Gathers {X : Type 0} (l : ListOf X) (old new : State) (found : List X
   pub shown : Shown l.table.select [] old new rows
   pub read : found ≡ map l.reads rows
 
+-- outside a transaction the database is as it was, or the connection is closed
+pub record StaysOutside (old new : State) : Type 0 where
+  pub was_open : IsTrue new.is_open → IsTrue old.is_open
+  pub same : old.now ≡ old.committed → IsTrue new.is_open → (new.now ≡ old.now) × (new.committed ≡ old.committed)
+
 -- in a database of this schema a stop leaves nothing new
 abbrev pub SparesOwn : Schema → State → State → Type 0
 SparesOwn schema old new = Survives old new (λ _. old.now.schema ≡ schema → ⊥)

@@ -3,7 +3,7 @@ ghost use Rattle.std.specs.Prelude.{◌≡◌, false, IfErr, IfOk, IsPermutation
 ghost use Rattle.std.specs.List.{AllByRecursion};
 ghost use Rattle.sqlite.specs.Held.{state};
 ghost use Rattle.sms_store_sql.specs.listing.Causes.{IsOfNoRow};
-ghost use Rattle.sms_store_sql.specs.listing.Inside.{Finds, Gathers, Spares, SparesOwn, Stays};
+ghost use Rattle.sms_store_sql.specs.listing.Inside.{Finds, Gathers, Spares, SparesOwn, Stays, StaysOutside};
 ghost use Rattle.sms_store_sql.specs.listing.Listing.{AreColumnsOf, Represents};
 ghost use Rattle.sms_store_sql.specs.listing.Reading.{LacksMemory};
 ghost use Rattle.sqlite.specs.State.{HasCleanDisk, IsUnchanged};
@@ -51,7 +51,8 @@ fn gather<K, T: Drop + StoredRow<K>, S: Alter>(
         → IfOk result (λ found. Gathers T.list (state S.Store conn.old) (state S.Store conn.new) found.items) }
     ensures back { HasCleanDisk (state S.Store conn.new) → (state S.Store conn.old).now.schema ≡ T.list.table.schema
         → (xs : List T) → Represents T.list ((state S.Store conn.old).now.trees T.list.table.tree) xs → IfErr result IsOfNoRow }
-    ensures uncommitted { Stays S.Store conn.old conn.new T.list }
+    ensures stays { HasCleanDisk (state S.Store conn.new) → (state S.Store conn.old).now.schema ≡ T.list.table.schema
+        → StaysOutside (state S.Store conn.old) (state S.Store conn.new) }
     ensures survives { SparesOwn T.list.table.schema (state S.Store conn.old) (state S.Store conn.new) }
 {
     let mut found = Vec::new(alloc);
@@ -75,7 +76,8 @@ pub fn load<K, T: Drop + StoredRow<K>, S: Alter>(
     ensures found { Finds S.Store conn.old conn.new T.list (λ rows. rows.items) result }
     ensures back { HasCleanDisk (state S.Store conn.new) → (state S.Store conn.old).now.schema ≡ T.list.table.schema
         → (xs : List T) → Represents T.list ((state S.Store conn.old).now.trees T.list.table.tree) xs → IfErr result IsOfNoRow }
-    ensures uncommitted { Stays S.Store conn.old conn.new T.list }
+    ensures stays { HasCleanDisk (state S.Store conn.new) → (state S.Store conn.old).now.schema ≡ T.list.table.schema
+        → StaysOutside (state S.Store conn.old) (state S.Store conn.new) }
     ensures survives { SparesOwn T.list.table.schema (state S.Store conn.old) (state S.Store conn.new) }
 {
     in_order(gather::<K, T, S>(alloc, conn)?)
