@@ -1,13 +1,14 @@
 -- What is known of rows that are read one at a time.
-use Rattle.std.proofs.Common.{◌≡◌, ◌⊎◌, inl, inr, ℕ, List, [], ◌∷◌, ◌++◌, map, IsTrue, refl, sym, ◌∙◌, ap, ap₂, subst, arith}
+use Rattle.std.proofs.Common.{◌≡◌, ◌⊎◌, inl, inr, ℕ, List, [], ◌∷◌, ◌++◌, map, IsTrue, Ok, refl, sym, ◌∙◌, ap, ap₂, subst, arith}
 use Rattle.std.specs.List.{AllByRecursion}
 use Rattle.sqlite.specs.Effect.{Database}
 use Rattle.sqlite.specs.Order.{Row}
 use Rattle.sqlite.specs.Schema.{Schema}
 use Rattle.sqlite.specs.Tree.{Trees}
-use Rattle.sqlite.specs.Listing.{understood}
-use Rattle.sqlite.specs.State.{State, HasCleanDisk, IsRolledBack, IsUnchanged, Survives, Begins, CommitsShowing}
-use Rattle.sqlite.proofs.Callers.{EndsIn, IsPlain, begins_shown, command_of, never_commits}
+use Rattle.sqlite.specs.Clock.{timed}
+use Rattle.sqlite.specs.Listing.{IsSourceOf, reads_listing, understood}
+use Rattle.sqlite.specs.State.{State, HasCleanDisk, IsRolledBack, IsUnchanged, Survives, Begins, CommitsShowing, Shown, ShowsRows}
+use Rattle.sqlite.proofs.Callers.{EndsIn, IsPlain, begins_shown, command_of, never_commits, unchanged_then}
 use Rattle.sqlite.proofs.StateLemmas.{survives_then, survives_weaker}
 use Rattle.sms_store_sql.specs.listing.Inside.{SparesOwn, StaysOutside}
 use Rattle.sms_store_sql.specs.listing.Listing.{IsList, ListOf, Represents}
@@ -108,3 +109,18 @@ module _ {X : Type 0} (l : ListOf X) (is : IsList l) where
       subst (λ k. EndsIn k db _) (sym known) tt) in
       let found = finds l is now now ((given ++ row ∷ []) ++ whole.0) ours_now whole.1 xs held_now in
       seen_behind l.columns l.Fits given row whole.0 found.0 found.1 found.3
+
+-- ---- the end of the rows
+
+-- what is shown of a database that did not change since
+pub shown_since : (sql : List ℕ) (params : Row) (old now new : State) (rows : List Row) → IsPlain (understood now.now.schema sql) → IsUnchanged old now → Shown sql params now new rows → Shown sql params old new rows
+unfolding Shown
+shown_since sql params old now new rows plain same h =
+    let none = (subst IsPlain h.1.is plain).0 in
+    let full = timed params h.0.formats h.1.now in
+    let it = subst (ShowsRows now new sql h.0 full rows) none h.2 in (
+      h.0,
+      record { is = subst (λ (db : Database). understood db.schema sql ≡ Ok h.0) same.0.now_is h.1.is; whole = h.1.whole; given = h.1.given; now = h.1.now },
+      subst (ShowsRows old new sql h.0 full rows) (sym none)
+      (it.0, subst (λ (db : Database). IsSourceOf (reads_listing db.schema sql) db it.0) same.0.now_is it.1, it.2, unchanged_then old now new same it.3),
+    )
