@@ -1,6 +1,5 @@
 -- Tests that each row of a list passes, and tests that hold together.
-use Rattle.std.proofs.Common.{◌≡◌, ◌&&◌, ℕ, zero, suc, ◌<◌, ◌≤◌, List, [], ◌∷◌, length, drop, get_or, Bool, true, false, Option, Some, None, refl, sym, ◌∙◌, ap, inl, inr, ⊎_elim, is_some, arith}
-use Rattle.std.proofs.Math.ListN.{drop_of_length-le}
+use Rattle.std.proofs.Common.{◌≡◌, List, [], ◌∷◌, Bool, true, Option, Some, None, refl, ◌∙◌, ap, inl, inr, ⊎_elim, is_some}
 use Rattle.std.specs.List.{AllByRecursion, list_all}
 use Rattle.std.proofs.lemmas.Bool.{and_from, and_parts}
 use Rattle.sms_base.specs.Among.{Among}
@@ -29,21 +28,3 @@ there_is (Some x) e = (x, refl)
 
 pub is_there : {A : Type 0} (o : Option A) (x : A) → o ≡ Some x → is_some o ≡ true
 is_there o x e = ap (λ p. is_some p) e
-
--- ---- one after another
-
-all_behind : {A : Type 0} (test : A → Bool) (xs : List A) (i : ℕ) (x : A) → i < length xs → x ≡ get_or xs i x → list_all test (drop i xs) ≡ (test x && list_all test (drop (suc i) xs))
-all_behind test [] i x l e = absurd (omega arith)
-all_behind test (y ∷ ys) zero x l e = ap (λ z. test z && list_all test ys) (sym e)
-all_behind test (y ∷ ys) (suc i) x l e = all_behind test ys i x (omega arith) e
-
-pub all_passed : {A : Type 0} (test : A → Bool) (xs : List A) (i : ℕ) (x : A) → i < length xs → x ≡ get_or xs i x → list_all test (drop i xs) ≡ list_all test xs → test x ≡ true
-    → list_all test (drop (suc i) xs) ≡ list_all test xs
-all_passed test xs i x l e before passes = ap (λ b. b && list_all test (drop (suc i) xs)) (sym passes) ∙ sym (all_behind test xs i x l e) ∙ before
-
-pub one_failed : {A : Type 0} (test : A → Bool) (xs : List A) (i : ℕ) (x : A) → i < length xs → x ≡ get_or xs i x → list_all test (drop i xs) ≡ list_all test xs → test x ≡ false
-    → false ≡ list_all test xs
-one_failed test xs i x l e before fails = ap (λ b. b && list_all test (drop (suc i) xs)) (sym fails) ∙ sym (all_behind test xs i x l e) ∙ before
-
-pub none_left : {A : Type 0} (test : A → Bool) (xs : List A) (i : ℕ) → length xs ≤ i → list_all test (drop i xs) ≡ list_all test xs → true ≡ list_all test xs
-none_left test xs i l before = ap (λ ys. list_all test ys) (sym (drop_of_length-le xs l)) ∙ before
