@@ -92,6 +92,11 @@ seen_behind write P [] r tail (s ∷ ss) e fit = (s, fit.0, let same : r ≡ wri
 seen_behind write P (f ∷ front) r tail [] e fit = absurd cc
 seen_behind write P (f ∷ front) r tail (s ∷ ss) e fit = seen_behind write P front r tail ss (let rest : (front ++ r ∷ []) ++ tail ≡ map write ss = cc in rest) fit.1
 
+-- one more is read
+pub read_more : {X R : Type 0} (read : R → X) (rows : List R) (row : R) → map read rows ++ read row ∷ [] ≡ map read (rows ++ row ∷ [])
+read_more read [] row = refl
+read_more read (r ∷ rs) row = ap (λ xs. read r ∷ xs) (read_more read rs row)
+
 module _ {X : Type 0} (l : ListOf X) (is : IsList l) where
   pub reads_all : (xs : List X) → AllByRecursion l.Fits xs → map l.reads (map l.columns xs) ≡ xs
   reads_all [] fit = refl
@@ -106,7 +111,7 @@ module _ {X : Type 0} (l : ListOf X) (is : IsList l) where
       let whole = begins_shown l.table.select [] now now (given ++ row ∷ []) begins (unchanged_here now same.0.is_open)
       (λ c db it source.
       let known = ap command_of (sym it.is ∙ ap (λ s. understood s l.table.select) ours_now) ∙ is.selects in
-      subst (λ k. EndsIn k db _) (sym known) tt) in
+      subst (λ k. EndsIn k db (timed [] c.formats it.now)) (sym known) tt) in
       let found = finds l is now now ((given ++ row ∷ []) ++ whole.0) ours_now whole.1 xs held_now in
       seen_behind l.columns l.Fits given row whole.0 found.0 found.1 found.3
 

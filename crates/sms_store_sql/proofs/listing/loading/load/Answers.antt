@@ -25,3 +25,8 @@ returns-clause-found g c clean ours =
 
 pub returns-clause-back : goal.returns-clause-back
 returns-clause-back g c clean ours xs held = of_memory_alone c.in_order.result c.in_order.ensures.only
+
+pub returns-in_err-gather-clause-back : goal.returns-in_err-gather-clause-back
+returns-in_err-gather-clause-back g c clean ours xs held =
+    let none = c.in_err-gather.ensures.back clean ours xs held in
+    search (rules, none)
