@@ -14,7 +14,7 @@ pub returns-in_err-rows-clause-back : goal.returns-in_err-rows-clause-back
 returns-in_err-rows-clause-back g c clean ours xs held =
     let list = g.T.StoredRow.list in
     let refused = c.query.follows.holds-at-none in
-    let fails : FailsToQuery list.table.select [] (state g.S.Store c.args.conn.now) (state g.S.Store c.query.follows.lender-at-none) c.in_err-rows.field-0 = search rules in
+    let fails : FailsToQuery list.table.select [] (state g.S.Store c.args.conn.now) (state g.S.Store c.query.follows.lender-at-none) c.in_err-rows.field-0.0 = search rules in
     let plain = subst (λ s. IsPlain (understood s list.table.select)) (sym ours) g.met.T.StoredRow.is_list.selects_alone in
     let none = of_query list.table.select [] _ _ _ plain (inl fails) in
     search (rules, none)
@@ -23,7 +23,7 @@ pub returns-in_err-rows-clause-stays : goal.returns-in_err-rows-clause-stays
 returns-in_err-rows-clause-stays g c clean ours =
     let list = g.T.StoredRow.list in
     let refused = c.query.follows.holds-at-none in
-    let fails : FailsToQuery list.table.select [] (state g.S.Store c.args.conn.now) (state g.S.Store c.query.follows.lender-at-none) c.in_err-rows.field-0 = search rules in
+    let fails : FailsToQuery list.table.select [] (state g.S.Store c.args.conn.now) (state g.S.Store c.query.follows.lender-at-none) c.in_err-rows.field-0.0 = search rules in
     stays_if _ _ (fails_quietly list.table.select [] _ _ _ fails)
 
 pub returns-in_err-rows-clause-survives : goal.returns-in_err-rows-clause-survives
