@@ -10,11 +10,13 @@ ghost use Rattle.std.specs.Prelude.{IsOk, IfOk, IfErr, option_copied};
 ghost use Rattle.sms_rows.specs.table.Table.{HasRoom, IsAt, IsGap, IsRange, Rises, all_applied, applied, is_there, put, row_at, rows_between, rows_from};
 ghost use Rattle.sms_rows.specs.table.Table.{reserve_for, without, without_all};
 
+mod beside;
 mod change;
 mod draft;
 mod key;
 pub mod laws;
 
+use crate::table::beside::start_in;
 pub use change::{Change, are_removals};
 pub use draft::{TableDraft, TablePlan, adopt};
 pub use key::Key;
@@ -125,6 +127,36 @@ impl<T: Drop + Row> Table<T> {
             Ok(place) => Some(&self.items[place]),
             Err(_) => None,
         }
+    }
+
+    /// The row of that key, if there is one. It is looked for at the place first, which becomes its own: a walk through two
+    /// tables finds each row beside the last one. Any place gives the same answer.
+    pub fn find_beside(&self, place: &mut usize, key: Key) -> Option<&T>
+        ensures { option_copied result ≡ row_at T.key key self.now.rows }
+    {
+        let rows = self.items.as_slice();
+        let start = start_in(rows, *place, key);
+        *place = start;
+        if start == rows.len() {
+            return None;
+        }
+        if key.number() < rows[start].key().number() {
+            None
+        } else {
+            Some(&rows[start])
+        }
+    }
+
+    /// As `rows_between`. They are looked for at the place first, which becomes theirs. Any place gives the same answer.
+    pub fn rows_beside(&self, place: &mut usize, first: Key, end: Key) -> &[T]
+        ensures { result.now ≡ rows_between T.key first end self.now.rows }
+    {
+        let rows = self.items.as_slice();
+        let start = start_in(rows, *place, first);
+        *place = start;
+        let behind = &rows[start..];
+        let len = start_in(behind, 0, end);
+        &behind[..len]
     }
 
     /// The rows whose keys are not below the one and below the other.

@@ -16,6 +16,7 @@ pub mod Refused
 pub mod Sought
 pub mod Statements
 pub mod Steps
+pub mod Streaming
 pub mod Trees
 pub mod Updates
 pub mod Verdicts

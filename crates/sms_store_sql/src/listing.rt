@@ -2,10 +2,11 @@
 //!
 //! A type of rows gives its table in a kind of store, its three texts and its columns (`StoredRow`). `put`, `remove`,
 //! `write` and `load` store it, and are proved here once for every list. Inside one transaction the table has the list
-//! with its changes. Every other table stays, nothing is committed, and a stop leaves nothing new. `load` gives the
-//! rows in the order of their keys, `find` the row of one key (`FoundRow`), `seek` those of another number
-//! (`SoughtRow`). A whole transaction's changes are a `Work`, what it reads is a `Lookup`. `transact` and `look` commit
-//! all of it or nothing, and a stop inside leaves the database from before or after.
+//! with its changes. Every other table stays, nothing is committed, and a stop leaves nothing new. `find` gives the row
+//! of one key (`FoundRow`), `seek` those of another number (`SoughtRow`). `load` gives all rows in the order of their
+//! keys. It reads each as it comes, outside a transaction. A whole transaction's changes are a `Work`, what it reads is
+//! a `Lookup`. `transact` and `look` commit all of it or nothing, and a stop inside leaves the database from before or
+//! after. What is read in a transaction or outside one is a `Survey`.
 
 mod cause;
 mod closing;
@@ -33,4 +34,4 @@ pub use reading::{
     text_of, word_at,
 };
 pub use seeking::{SoughtRow, seek};
-pub use transaction::{Lookup, Work, look, transact};
+pub use transaction::{InTransaction, Lookup, Survey, Work, look, transact};

@@ -1,5 +1,5 @@
 -- What waits, as one more of the rows is looked at.
-use Rattle.std.proofs.Common.{◌≡◌, ℕ, zero, List, [], ◌∷◌, Bool, true, false, Option, Some, refl, sym, ◌∙◌, ap, subst, bytes_eq}
+use Rattle.std.proofs.Common.{◌≡◌, ℕ, zero, List, [], ◌∷◌, Bool, true, false, Option, None, Some, refl, sym, ◌∙◌, ap, subst, bytes_eq}
 use Rattle.std.specs.Prelude.{◌&&◌, not}
 use Rattle.std.proofs.lemmas.Bool.{and_from, and_parts, cond-true, cond-false}
 use Rattle.std.proofs.lemmas.Slice.Eq.{bytes_eq-Decides}
@@ -55,6 +55,14 @@ module _ (ms : List MessageRow) (qs : List PriorityRow) where
         λ other ne. cond-false (waits_for other p (message_at p.id ms)) (part_queued p qs ∷ parts_waiting other ms qs ps) (parts_waiting other ms qs ps)
             (ap (λ (o : Option MessageRow). waits_for other p o) found ∙ waits_other other p m ne),
       )
+
+  done_waits : (h : List ℕ) (p : PartRow) (o : Option MessageRow) → p.progress.is_done ≡ true → waits_for h p o ≡ false
+  done_waits h p None done = refl
+  done_waits h p (Some m) done = ap (λ (b : Bool). not b && (is_pending m && bytes_eq m.handset h)) done
+
+  -- a part that is done does not wait
+  pub part_done : (h : List ℕ) (p : PartRow) (ps : List PartRow) → p.progress.is_done ≡ true → parts_waiting h ms qs (p ∷ ps) ≡ parts_waiting h ms qs ps
+  part_done h p ps done = cond-false (waits_for h p (message_at p.id ms)) (part_queued p qs ∷ parts_waiting h ms qs ps) (parts_waiting h ms qs ps) (done_waits h p (message_at p.id ms) done)
 
 -- ---- status reports
 

@@ -62,6 +62,9 @@ fn put_part(
         → DraftRepresents g links (λ number. parts_waiting number tables.now.messages.rows tables.now.priorities.rows ps) queues.old
         → DraftRepresents g links (λ number. parts_waiting number tables.now.messages.rows tables.now.priorities.rows (part.now ∷ ps)) queues.new) }
 {
+    if part.progress.is_done {
+        return Ok(());
+    }
     let Some(message) = tables.messages.find(Key::of(part.id.number())) else {
         return Ok(());
     };

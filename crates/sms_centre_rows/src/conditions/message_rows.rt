@@ -55,27 +55,49 @@ fn are_done(parts: &[PartRow]) -> bool
     parts.iter().all(|part| part.progress.is_done)
 }
 
-fn delivery_agrees(parts: &Table<PartRow>, message: &MessageRow) -> bool
+/// Where the rows of a message are looked for: beside those of the one before it.
+#[derive(Clone, Copy)]
+struct Places {
+    part: usize,
+    priority: usize,
+}
+
+fn delivery_agrees(parts: &Table<PartRow>, places: &mut Places, message: &MessageRow) -> bool
     ensures { result ≡ delivery_agrees_of parts.now.rows message.now }
 {
     let id = message.id.number();
-    let own = parts.rows_between(Key::pair(id, 0), Key::pair(id + 1, 0));
+    let own = parts.rows_beside(&mut places.part, Key::pair(id, 0), Key::pair(id + 1, 0));
     is_delivered(message.state) == are_done(own)
 }
 
-fn has_rows(parts: &Table<PartRow>, priorities: &Table<PriorityRow>, id: MessageId) -> bool
+fn has_rows(
+    parts: &Table<PartRow>,
+    priorities: &Table<PriorityRow>,
+    places: &mut Places,
+    id: MessageId,
+) -> bool
     ensures { result ≡ has_rows_of parts.now.rows priorities.now.rows id }
 {
-    parts.find(Key::pair(id.number(), 1)).is_some()
-        && priorities.find(Key::of(id.number())).is_some()
+    let part = parts.find_beside(&mut places.part, Key::pair(id.number(), 1));
+    let priority = priorities.find_beside(&mut places.priority, Key::of(id.number()));
+    part.is_some() && priority.is_some()
 }
 
-fn is_message(parts: &Table<PartRow>, priorities: &Table<PriorityRow>, message: &MessageRow) -> bool
+fn is_message(
+    parts: &Table<PartRow>,
+    priorities: &Table<PriorityRow>,
+    places: &mut Places,
+    message: &MessageRow,
+) -> bool
     ensures { result ≡ is_message_of parts.now.rows priorities.now.rows message.now }
 {
     passes(&message.handset);
-    (is_id(message.id) && is_address(&message.source) && ends_so(message.state, message.done))
-        && (delivery_agrees(parts, message) && has_rows(parts, priorities, message.id))
+    let is_written = is_id(message.id)
+        && is_address(&message.source)
+        && ends_so(message.state, message.done);
+    let agrees = delivery_agrees(parts, places, message);
+    let has_rows = has_rows(parts, priorities, places, message.id);
+    is_written && (agrees && has_rows)
 }
 
 /// Whether each message has a number, addresses that can be written, its first part and its priority. It has the moment
@@ -87,9 +109,16 @@ pub fn are_messages(
 ) -> bool
     ensures { result ≡ list_all (λ m. is_message_of parts.now.rows priorities.now.rows m) messages.now }
 {
-    messages
-        .iter()
-        .all(|message| is_message(parts, priorities, message))
+    let mut places = Places {
+        part: 0,
+        priority: 0,
+    };
+    for message in messages {
+        if !is_message(parts, priorities, &mut places, message) {
+            return false;
+        }
+    }
+    true
 }
 
 // ---- parts
@@ -129,10 +158,10 @@ pub(crate) fn is_octet(number: u8) -> bool
     u16::from(number) < 256
 }
 
-fn is_part(messages: &Table<MessageRow>, part: &PartRow) -> bool
+fn is_part(messages: &Table<MessageRow>, place: &mut usize, part: &PartRow) -> bool
     ensures { result ≡ is_part_of messages.now.rows part.now }
 {
-    match messages.find(Key::of(part.id.number())) {
+    match messages.find_beside(place, Key::of(part.id.number())) {
         Some(message) => {
             carries(part, message)
                 && ((0 < part.number && part.number <= 20) && is_octet(part.reference))
@@ -145,22 +174,33 @@ fn is_part(messages: &Table<MessageRow>, part: &PartRow) -> bool
 pub fn are_parts(parts: &[PartRow], messages: &Table<MessageRow>) -> bool
     ensures { result ≡ list_all (λ p. is_part_of messages.now.rows p) parts.now }
 {
-    parts.iter().all(|part| is_part(messages, part))
+    let mut place = 0;
+    for part in parts {
+        if !is_part(messages, &mut place, part) {
+            return false;
+        }
+    }
+    true
 }
 
 // ---- priorities
 
-fn is_priority(messages: &Table<MessageRow>, priority: &PriorityRow) -> bool
+fn is_priority(messages: &Table<MessageRow>, place: &mut usize, priority: &PriorityRow) -> bool
     ensures { result ≡ is_priority_of messages.now.rows priority.now }
 {
-    priority.priority <= 3 && messages.find(Key::of(priority.id.number())).is_some()
+    let message = messages.find_beside(place, Key::of(priority.id.number()));
+    priority.priority <= 3 && message.is_some()
 }
 
 /// Whether each priority is at most 3 and that of a message.
 pub fn are_priorities(priorities: &[PriorityRow], messages: &Table<MessageRow>) -> bool
     ensures { result ≡ list_all (λ p. is_priority_of messages.now.rows p) priorities.now }
 {
-    priorities
-        .iter()
-        .all(|priority| is_priority(messages, priority))
+    let mut place = 0;
+    for priority in priorities {
+        if !is_priority(messages, &mut place, priority) {
+            return false;
+        }
+    }
+    true
 }

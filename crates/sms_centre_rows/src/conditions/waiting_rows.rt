@@ -84,6 +84,10 @@ fn part_given(
 ) -> bool
     ensures { result ≡ part_given_of places.now.entries references.now.rows messages.now.rows part.now }
 {
+    // What is done waits nowhere.
+    if part.progress.is_done {
+        return true;
+    }
     let Some(message) = messages.find(Key::of(part.id.number())) else {
         return true;
     };
@@ -117,6 +121,9 @@ fn part_hold(
 ) -> Option<u128>
     ensures { result ≡ part_hold_of places.now.entries messages.now.rows part.now }
 {
+    if part.progress.is_done {
+        return None;
+    }
     let message = messages.find(Key::of(part.id.number()))?;
     let number = part_waits_at(part, message)?;
     let key = hold_at(places, Key::handset(&number), part.reference)?;

@@ -1,11 +1,11 @@
 -- Places in a table: what an edit at a place does, and what a search by halves finds.
-use Rattle.std.proofs.Common.{◌≡◌, ℕ, zero, suc, ◌+◌, ◌<◌, ◌≤◌, arith, List, [], ◌∷◌, true, false, refl, sym, ◌∙◌, ap, subst, length, take, drop, get_or, Some, None}
+use Rattle.std.proofs.Common.{◌≡◌, ℕ, zero, suc, ◌+◌, ◌-◌, ◌<◌, ◌≤◌, arith, List, [], ◌∷◌, true, false, refl, sym, ◌∙◌, ap, subst, length, take, drop, get_or, Some, None}
 use Rattle.std.proofs.Math.ListN.{set}
 use Rattle.std.specs.List.{AllWithin, AllAdjacentBelow}
 use Rattle.std.specs.List.Sorted.{IsNonDecreasingBy, IsPartitionPoint}
 use Rattle.std.specs.List as holes
 use Rattle.std.specs.Prelude.{nat_lt}
-use Rattle.std.proofs.lemmas.Bool.{ltb-true, ltb-false, cond-true, cond-false}
+use Rattle.std.proofs.lemmas.Bool.{ltb-true, ltb-false, lt-ltb, le-ltb, cond-true, cond-false}
 use Rattle.sms_rows.specs.table.Table.{row_at, rows_before, rows_from, without, insert, put, AllAbove, Rises, IsAt, IsGap}
 use Rattle.sms_rows.proofs.table.Tables.{row_here, row_behind, without_here, without_behind, insert_here, insert_behind, above_lower}
 
@@ -119,6 +119,25 @@ module _ {A : Type 0} (key : A → ℕ) where
   pub searched_gap : (n place : ℕ) (xs : List A) → Rises key xs → place ≤ length xs → IsPartitionPoint (λ x. nat_lt (key x) n ≡ true) (λ x. nat_lt (key x) n ≡ false) xs place
       → ((d : A) → place < length xs → ¬ (key (get_or xs place d) ≡ n)) → IsGap key n place xs
   searched_gap n place xs r l point ne = gap_point n place xs r l point.0 point.1 ne
+
+  -- ---- a place at which rows are looked for first
+
+  same_inside : (i : ℕ) (xs : List A) (d e : A) → i < length xs → get_or xs i d ≡ get_or xs i e
+  same_inside i [] d e l = absurd (omega arith)
+  same_inside zero (x ∷ xs) d e l = refl
+  same_inside (suc i) (x ∷ xs) d e l = same_inside i xs d e (omega arith)
+
+  pub all_lower : (n place : ℕ) (xs : List A) (d : A) → Rises key xs → 0 < place → place ≤ length xs → key (get_or xs (place - 1) d) < n → AllWithin (λ x. nat_lt (key x) n ≡ true) xs 0 place
+  all_lower n place xs d r some l last k f a b =
+      let up : key (get_or xs k f) ≤ key (get_or xs (place - 1) f) = keys_rise xs r k (place - 1) f (omega arith) (omega arith) in
+      let same : key (get_or xs (place - 1) f) ≡ key (get_or xs (place - 1) d) = ap key (same_inside (place - 1) xs f d (omega arith)) in
+      lt-ltb (key (get_or xs k f)) n (omega (arith, up, same, last))
+
+  pub none_lower : (n place : ℕ) (xs : List A) (d : A) → Rises key xs → place < length xs → n ≤ key (get_or xs place d) → AllWithin (λ x. nat_lt (key x) n ≡ false) xs place (length xs)
+  none_lower n place xs d r l first k f a b =
+      let up : key (get_or xs place f) ≤ key (get_or xs k f) = keys_rise xs r place k f (omega arith) (omega arith) in
+      let same : key (get_or xs place f) ≡ key (get_or xs place d) = ap key (same_inside place xs f d l) in
+      le-ltb (key (get_or xs k f)) n (omega (arith, up, same, first))
 
   -- a row inside is the same at each default
   pub above_not : (n place : ℕ) (xs : List A) (d e : A) → place < length xs → n < key (get_or xs place d) → ¬ (key (get_or xs place e) ≡ n)

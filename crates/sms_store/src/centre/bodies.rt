@@ -17,7 +17,7 @@ use sms_centre_rows::messages::PartRow;
 use sms_centre_rows::reports::{ReportKind, ReportRow};
 use sms_rows::keep::{BodyKeep, KeepError};
 use sms_rows::table::Key;
-use sms_store_sql::listing::{Lookup, find, look_or_close, seek};
+use sms_store_sql::listing::{InTransaction, Lookup, find, look_or_close, seek};
 use sms_store_tables::centre::CentreStore;
 use sqlite::{Alter, Error, Transaction};
 use std::alloc::Global;
@@ -107,12 +107,9 @@ impl<S: Alter> CentreKeep<S> {
         ensures setup { setup_in self.new ≡ setup_in self.old }
         ensures same { refusals_in self.new ≡ refusals_in self.old }
     {
-        match look_or_close(
-            self.alloc,
-            &mut self.conn,
-            &mut self.health,
-            &PartAt { key },
-        ) {
+        let lookup = PartAt { key };
+        let wanted = InTransaction { lookup: &lookup };
+        match look_or_close(self.alloc, &mut self.conn, &mut self.health, &wanted) {
             Ok(part) => Ok(octets_of_part(part)),
             Err(error) => Err(error),
         }
@@ -130,7 +127,8 @@ impl<S: Alter> CentreKeep<S> {
         let lookup = ReportsOf {
             id: key.number() / 256,
         };
-        match look_or_close(self.alloc, &mut self.conn, &mut self.health, &lookup) {
+        let wanted = InTransaction { lookup: &lookup };
+        match look_or_close(self.alloc, &mut self.conn, &mut self.health, &wanted) {
             Ok(reports) => Ok(octets_of_first(reports)),
             Err(error) => Err(error),
         }

@@ -15,7 +15,7 @@ use sms_centre_spec::{Changes, Rows, Setup};
 use sms_store_sql::listing::{load, write};
 use sms_store_tables::amending::write_revisions;
 use sms_store_tables::centre::CentreStore;
-use sqlite::{Alter, Error, Transaction};
+use sqlite::{Alter, Connection, Error, Transaction};
 use std::alloc::Global;
 
 impl Kept for Setup {
@@ -46,14 +46,14 @@ impl Kept for Setup {
         write::<CentreStore, BarRow, S>(alloc, tx, changes.bars.as_slice())
     }
 
-    fn read<S: Alter>(&self, alloc: Global, tx: &mut Transaction<'_, S>) -> Result<Rows, Error> {
-        let messages = load::<CentreStore, MessageRow, S>(alloc, tx)?;
-        let parts = load::<CentreStore, PartRow, S>(alloc, tx)?;
-        let references = load::<CentreStore, ReferenceRow, S>(alloc, tx)?;
-        let handsets = load::<CentreStore, HandsetRow, S>(alloc, tx)?;
-        let reports = load::<CentreStore, ReportRow, S>(alloc, tx)?;
-        let priorities = load::<CentreStore, PriorityRow, S>(alloc, tx)?;
-        let bars = load::<CentreStore, BarRow, S>(alloc, tx)?;
+    fn read<S: Alter>(&self, alloc: Global, conn: &mut Connection<S>) -> Result<Rows, Error> {
+        let messages = load::<CentreStore, MessageRow, S>(alloc, conn)?;
+        let parts = load::<CentreStore, PartRow, S>(alloc, conn)?;
+        let references = load::<CentreStore, ReferenceRow, S>(alloc, conn)?;
+        let handsets = load::<CentreStore, HandsetRow, S>(alloc, conn)?;
+        let reports = load::<CentreStore, ReportRow, S>(alloc, conn)?;
+        let priorities = load::<CentreStore, PriorityRow, S>(alloc, conn)?;
+        let bars = load::<CentreStore, BarRow, S>(alloc, conn)?;
         let setup = copy_of_setup(alloc, self)?;
         Ok(Rows {
             messages: Listed::from_vec(messages),

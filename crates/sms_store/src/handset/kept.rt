@@ -13,7 +13,7 @@ use sms_base::Listed;
 use sms_handset::{Changes, Counters, DiscardedGroup, Entry, LastAccepted, OutEntry, Rows, Setup};
 use sms_store_sql::listing::{load, write};
 use sms_store_tables::handset::HandsetStore;
-use sqlite::{Alter, Error, Transaction};
+use sqlite::{Alter, Connection, Error, Transaction};
 use std::alloc::Global;
 
 impl Kept for Setup {
@@ -42,12 +42,12 @@ impl Kept for Setup {
         write_counters(alloc, tx, changes.counters)
     }
 
-    fn read<S: Alter>(&self, alloc: Global, tx: &mut Transaction<'_, S>) -> Result<Rows, Error> {
-        let entries = load::<HandsetStore, Entry, S>(alloc, tx)?;
-        let last = load::<HandsetStore, LastAccepted, S>(alloc, tx)?;
-        let outbox = load::<HandsetStore, OutEntry, S>(alloc, tx)?;
-        let marks = load::<HandsetStore, DiscardedGroup, S>(alloc, tx)?;
-        let counted = load::<HandsetStore, CountersRow, S>(alloc, tx)?;
+    fn read<S: Alter>(&self, alloc: Global, conn: &mut Connection<S>) -> Result<Rows, Error> {
+        let entries = load::<HandsetStore, Entry, S>(alloc, conn)?;
+        let last = load::<HandsetStore, LastAccepted, S>(alloc, conn)?;
+        let outbox = load::<HandsetStore, OutEntry, S>(alloc, conn)?;
+        let marks = load::<HandsetStore, DiscardedGroup, S>(alloc, conn)?;
+        let counted = load::<HandsetStore, CountersRow, S>(alloc, conn)?;
         let counters = counters_in(&counted)?;
         Ok(Rows {
             entries: Listed::from_vec(entries),

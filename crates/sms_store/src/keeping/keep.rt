@@ -9,8 +9,8 @@ ghost use Rattle.sms_store.specs.keeping.InKeep.{IsClosed, connection_in, setup_
 
 use crate::keeping::sides::Kept;
 use sms_rows::keep::{Keep, KeepError, Refusals, RowStore};
-use sms_store_sql::listing::{Health, Lookup, Work, look_or_close, transact_or_close};
-use sqlite::{Alter, Connection, Error, Transaction};
+use sms_store_sql::listing::{Health, Survey, Work, look_or_close, transact_or_close};
+use sqlite::{Alter, Connection, Error, ErrorCode, Transaction};
 use std::alloc::Global;
 
 /// The rows of a side in a database: a file, or memory.
@@ -60,7 +60,7 @@ struct All<'a, P: Kept> {
     setup: &'a P,
 }
 
-impl<'a, P: Kept> Lookup for All<'a, P> {
+impl<'a, P: Kept> Survey for All<'a, P> {
     type Found = P::Rows;
 
     ghost schema = { λ all. P.stores.schema };
@@ -69,8 +69,11 @@ impl<'a, P: Kept> Lookup for All<'a, P> {
 
     ghost finds = { λ all db found. FindsRows P.stores all.setup.now db found };
 
-    fn read<S: Alter>(&self, alloc: Global, tx: &mut Transaction<'_, S>) -> Result<P::Rows, Error> {
-        self.setup.read(alloc, tx)
+    fn survey<S: Alter>(&self, alloc: Global, conn: &mut Connection<S>) -> Result<P::Rows, Error> {
+        if !conn.is_autocommit() {
+            return Err(Error::SqliteFailure(ErrorCode::TransactionState));
+        }
+        self.setup.read(alloc, conn)
     }
 }
 

@@ -1,9 +1,9 @@
 //! What one side keeps, and how a database becomes its store.
 ghost use Rattle.std.specs.Prelude.{◌≡◌, false, IfErr, IfOk, OnOk};
 ghost use Rattle.sqlite.specs.Held.{state};
-ghost use Rattle.sqlite.specs.State.{HasCleanDisk, IsUnchanged, KeepsCommit};
+ghost use Rattle.sqlite.specs.State.{HasCleanDisk, IsUnchanged};
 ghost use Rattle.sms_store_sql.specs.listing.Causes.{IsOfNoRow};
-ghost use Rattle.sms_store_sql.specs.listing.Inside.{MakesStep, Keeps, Spares};
+ghost use Rattle.sms_store_sql.specs.listing.Inside.{MakesStep, Keeps, Spares, SparesOwn, StaysOutside};
 ghost use Rattle.sms_store_sql.specs.listing.Transaction.{Leads};
 ghost use Rattle.sms_store.specs.keeping.Opened.{IsAsItWas, IsOpened, LeavesStore};
 ghost use Rattle.sms_store.specs.keeping.Stores.{AreStores, FindsRows, Founds, HasRows, StoresOf, Turns};
@@ -44,21 +44,17 @@ pub trait Kept: Drop {
         ensures uncommitted { Keeps S.Store tx.old.conn.now tx.new.conn.now }
         ensures survives { Spares S.Store tx.old.conn.now tx.new.conn.now };
 
-    /// Reads all rows.
-    fn read<S: Alter>(
-        &self,
-        alloc: Global,
-        tx: &mut Transaction<'_, S>,
-    ) -> Result<Self::Rows, Error>
-        ensures same_reference { tx.new.conn.ghost_name ≡ tx.old.conn.ghost_name }
-        ensures found { HasCleanDisk (state S.Store tx.new.conn.now) → (state S.Store tx.old.conn.now).now.schema ≡ stores.schema
-            → IfOk result (λ found. IsUnchanged (state S.Store tx.old.conn.now) (state S.Store tx.new.conn.now) × FindsRows stores self.now
-            (state S.Store tx.old.conn.now).now found) }
-        ensures back { HasCleanDisk (state S.Store tx.new.conn.now) → (state S.Store tx.old.conn.now).now.schema ≡ stores.schema
-            → HasRows stores self.now (state S.Store tx.old.conn.now).now → IfErr result IsOfNoRow }
-        ensures uncommitted { HasCleanDisk (state S.Store tx.new.conn.now) → (state S.Store tx.old.conn.now).now.schema ≡ stores.schema
-            → KeepsCommit (state S.Store tx.old.conn.now) (state S.Store tx.new.conn.now) }
-        ensures survives { Spares S.Store tx.old.conn.now tx.new.conn.now };
+    /// Reads all rows, outside a transaction.
+    fn read<S: Alter>(&self, alloc: Global, conn: &mut Connection<S>) -> Result<Self::Rows, Error>
+        ensures mode { conn.old.in_transaction ≡ false → conn.new.in_transaction ≡ false }
+        ensures found { HasCleanDisk (state S.Store conn.new) → (state S.Store conn.old).now.schema ≡ stores.schema
+            → IfOk result (λ found. IsUnchanged (state S.Store conn.old) (state S.Store conn.new) × FindsRows stores self.now
+            (state S.Store conn.old).now found) }
+        ensures back { HasCleanDisk (state S.Store conn.new) → (state S.Store conn.old).now.schema ≡ stores.schema
+            → HasRows stores self.now (state S.Store conn.old).now → IfErr result IsOfNoRow }
+        ensures stays { HasCleanDisk (state S.Store conn.new) → (state S.Store conn.old).now.schema ≡ stores.schema
+            → StaysOutside (state S.Store conn.old) (state S.Store conn.new) }
+        ensures survives { SparesOwn stores.schema (state S.Store conn.old) (state S.Store conn.new) };
 
     /// The stores are of one set of rows each.
     ghost lawful: { AreStores stores };

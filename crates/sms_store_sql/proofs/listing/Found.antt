@@ -95,7 +95,7 @@ sorted_is key rows sorted xs same order wanted rises = ordered_once key xs sorte
 
 -- ---- why a query fails
 
-fails_quietly : (sql : List ℕ) (params : Row) (old new : State) (e : Error) → FailsToQuery sql params old new e → IsUnchanged old new ⊎ IsRolledBack old new
+pub fails_quietly : (sql : List ℕ) (params : Row) (old new : State) (e : Error) → FailsToQuery sql params old new e → IsUnchanged old new ⊎ IsRolledBack old new
 unfolding FailsToQuery IsNotRun
 fails_quietly sql params old new e (inl (inl h)) = inl h.1
 fails_quietly sql params old new e (inl (inr h)) = inr h.3

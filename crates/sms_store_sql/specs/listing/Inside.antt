@@ -1,9 +1,10 @@
 -- Statements on lists inside one transaction.
-use Rattle.std.specs.Prelude.{◌≡◌, ◌≢◌, ℕ, List, IsTrue, true, Result, Ok, OnOk, IfOk}
+use Rattle.std.specs.Prelude.{◌≡◌, ◌≢◌, ℕ, List, [], map, IsTrue, true, Result, Ok, OnOk, IfOk}
 use Rattle.sqlite.specs.declared.error.Error.{Error}
 use Rattle.sqlite.specs.Store.{Ghosts}
 use Rattle.sqlite.specs.Order.{Row}
-use Rattle.sqlite.specs.State.{State, HasCleanDisk, Shows, IsUnchanged, Executes, KeepsCommit, Survives}
+use Rattle.sqlite.specs.Schema.{Schema}
+use Rattle.sqlite.specs.State.{State, HasCleanDisk, Shows, Shown, IsUnchanged, Executes, KeepsCommit, Survives}
 use Rattle.sqlite.specs.Held.{Held, state}
 use Rattle.sqlite_rules.specs.Edit.{IsNoIndex}
 use Rattle.sms_store_sql.specs.listing.Listing.{ListOf, Represents}
@@ -26,6 +27,21 @@ pub record Alters {X : Type 0} (l : ListOf X) (change : List X → List X) (old 
   pub changed : old.now.schema ≡ l.table.schema → (xs : List X) → Represents l (old.now.trees l.table.tree) xs
       → Represents l (new.now.trees l.table.tree) (change xs)
   pub others : old.now.schema ≡ l.table.schema → (tree : ℕ) → tree ≢ l.table.tree → IsNoIndex l.table.schema tree → new.now.trees tree ≡ old.now.trees tree
+
+-- the rows that were read are those that the list's text shows, and nothing changed
+pub record Gathers {X : Type 0} (l : ListOf X) (old new : State) (found : List X) : Type 0 where
+  pub rows : List Row
+  pub shown : Shown l.table.select [] old new rows
+  pub read : found ≡ map l.reads rows
+
+-- outside a transaction the database is as it was, or the connection is closed
+pub record StaysOutside (old new : State) : Type 0 where
+  pub was_open : IsTrue new.is_open → IsTrue old.is_open
+  pub same : old.now ≡ old.committed → IsTrue new.is_open → (new.now ≡ old.now) × (new.committed ≡ old.committed)
+
+-- in a database of this schema a stop leaves nothing new
+abbrev pub SparesOwn : Schema → State → State → Type 0
+SparesOwn schema old new = Survives old new (λ _. old.now.schema ≡ schema → ⊥)
 
 module _ {S : Type 0} (g : Ghosts S) (old new : Held S) where
   -- a call inside an open transaction makes the step, where it answers Ok

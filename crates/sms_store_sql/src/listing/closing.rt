@@ -12,7 +12,7 @@ ghost use Rattle.sms_store_sql.specs.listing.Closing.{IsAsItWas, IsShut, LeavesE
 ghost use Rattle.sms_store_sql.specs.listing.Transaction.{Committed};
 
 use crate::listing::cause::{load_cause_of, write_cause_of};
-use crate::listing::transaction::{Lookup, Work, look, transact};
+use crate::listing::transaction::{Survey, Work, transact};
 use sms_rows::keep::KeepError;
 use sqlite::{Alter, Connection, Error, Transaction};
 use std::alloc::Global;
@@ -134,32 +134,31 @@ pub fn transact_or_close<W: Work, S: Alter>(
     }
 }
 
-/// Reads in one transaction, as `look` does, for a keep. A keep that is closed refuses with `Closed`, and a keep that
-/// refused so is closed.
-pub fn look_or_close<L: Lookup, S: Alter>(
+/// Reads for a keep. A keep that is closed refuses with `Closed`, and a keep that refused so is closed.
+pub fn look_or_close<V: Survey, S: Alter>(
     alloc: Global,
     conn: &mut Connection<S>,
     health: &mut Health,
-    lookup: &L,
-) -> Result<L::Found, KeepError>
-    ensures ok { HasCleanDisk (state S.Store conn.new) → (state S.Store conn.old).now.schema ≡ L.schema lookup.now
+    wanted: &V,
+) -> Result<V::Found, KeepError>
+    ensures ok { HasCleanDisk (state S.Store conn.new) → (state S.Store conn.old).now.schema ≡ V.schema wanted.now
         → IfOk result (λ found. Shows (state S.Store conn.old) (state S.Store conn.new) (state S.Store conn.old).now (state S.Store conn.old).now false
-        × L.finds lookup.now (state S.Store conn.old).now found) }
+        × V.finds wanted.now (state S.Store conn.old).now found) }
     ensures sound { OnOk result (health.new ≡ known.Sound) }
     ensures closed { HasCleanDisk (state S.Store conn.new) → IsShut health.old (state S.Store conn.old) → result ≡ Err refusal.Closed }
-    ensures err { HasCleanDisk (state S.Store conn.new) → (state S.Store conn.old).now.schema ≡ L.schema lookup.now
+    ensures err { HasCleanDisk (state S.Store conn.new) → (state S.Store conn.old).now.schema ≡ V.schema wanted.now
         → OnErr result (IsAsItWas (state S.Store conn.old) (state S.Store conn.new)) }
-    ensures back { HasCleanDisk (state S.Store conn.new) → (state S.Store conn.old).now.schema ≡ L.schema lookup.now
-        → L.has lookup.now (state S.Store conn.old).now → result ≢ Err refusal.NotThisStore }
+    ensures back { HasCleanDisk (state S.Store conn.new) → (state S.Store conn.old).now.schema ≡ V.schema wanted.now
+        → V.has wanted.now (state S.Store conn.old).now → result ≢ Err refusal.NotThisStore }
     ensures refused { IfErr result (λ e. health.new ≡ health_after e) }
     ensures named { IfErr result (λ e. e ≢ refusal.OldVersion) }
     ensures mode { conn.old.in_transaction ≡ false → conn.new.in_transaction ≡ false }
     ensures stop { Survives (state S.Store conn.old) (state S.Store conn.new)
-        (λ trees. IsTrue (state S.Store conn.old).is_open → (state S.Store conn.old).now.schema ≡ L.schema lookup.now → trees ≡
+        (λ trees. IsTrue (state S.Store conn.old).is_open → (state S.Store conn.old).now.schema ≡ V.schema wanted.now → trees ≡
         (state S.Store conn.old).now.trees) }
 {
     admit(alloc, conn, health)?;
-    match look(alloc, conn, lookup) {
+    match wanted.survey(alloc, conn) {
         Ok(found) => Ok(found),
         Err(error) => {
             let cause = load_cause_of(error);

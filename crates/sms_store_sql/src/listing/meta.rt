@@ -50,10 +50,10 @@ pub fn kind_at(row: &Columns, at: usize) -> Result<StoreKind, Error>
     ensures only { (kind : StoreKind) → HasAt row.now at (Text (kind_word kind)) → IfErr result LacksMemory }
 {
     let word = text_at(row, at)?;
-    if word.as_str() == "handset" {
+    if word == "handset" {
         return Ok(StoreKind::Handset);
     }
-    if word.as_str() == "centre" {
+    if word == "centre" {
         return Ok(StoreKind::Centre);
     }
     Err(Error::Utf8Error(at))

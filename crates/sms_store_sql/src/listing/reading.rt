@@ -15,7 +15,7 @@ ghost use Rattle.sms_store_sql.specs.listing.Columns.{number_in, octets_in, or_n
 ghost use Rattle.sms_store_sql.specs.listing.Reading.{HasAt, LacksMemory};
 
 use sms_base::{Address, Digits, Moment, Msisdn, Octets, TypeOfNumber};
-use sqlite::types::ValueRef;
+use sqlite::types::{Type, ValueRef};
 use sqlite::{Error, Row};
 use std::alloc::{AllocError, Global};
 
@@ -127,13 +127,15 @@ pub fn octets_at(row: &Row, at: usize) -> Result<Octets, Error>
     Ok(Octets::from_vec(octets))
 }
 
-/// The text in the column.
-pub fn text_at(row: &Row, at: usize) -> Result<String, Error>
-    ensures value { IfOk result (λ text. string_bytes text ≡ text_in (column row.now at)) }
-    ensures only { (text : List ℕ) → IsUtf8 text → HasAt row.now at (Text text) → IfErr result LacksMemory }
+/// The text in the column, where it lies.
+pub fn text_at<'a>(row: &'a Row, at: usize) -> Result<&'a str, Error>
+    ensures value { IfOk result (λ text. text.now ≡ text_in (column row.entry.now at)) }
+    ensures only { (text : List ℕ) → IsUtf8 text → HasAt row.entry.now at (Text text) → IfErr result LacksMemory }
 {
-    let text: String = row.get(at)?;
-    Ok(text)
+    match row.get_ref(at)? {
+        ValueRef::Text(octets) => str::from_utf8(octets).map_err(|_| Error::Utf8Error(at)),
+        value => Err(Error::InvalidColumnType(at, Type::of(value))),
+    }
 }
 
 /// The text in the column, if it has at most 20 characters.
@@ -142,7 +144,7 @@ fn digits_at(row: &Row, at: usize) -> Result<Digits, Error>
     ensures only { (digits : List ℕ) → AreFew digits → HasAt row.now at (Text (encode_utf8_all digits)) → IfErr result LacksMemory }
 {
     let text = text_at(row, at)?;
-    match digits_of(text.as_str()) {
+    match digits_of(text) {
         Some(digits) => Ok(digits),
         None => Err(Error::Utf8Error(at)),
     }

@@ -54,6 +54,38 @@ pub trait Lookup {
         ensures survives { Spares S.Store tx.old.conn.now tx.new.conn.now };
 }
 
+/// What is read of a database, in one transaction (`InTransaction`) or by queries one behind another.
+pub trait Survey {
+    type Found: Drop;
+
+    /// The schema of the databases in which it finds something.
+    ghost schema: { Self → Schema };
+
+    /// What it finds in a database.
+    ghost finds: { Self → Database → Self.Found → Type 0 };
+
+    /// Whether a database has what is looked for, so that it is read unless the disk or memory fails.
+    ghost has: { Self → Database → Type 0 };
+
+    /// Reads, which changes nothing.
+    fn survey<S: Alter>(
+        &self,
+        alloc: Global,
+        conn: &mut Connection<S>,
+    ) -> Result<Self::Found, Error>
+        ensures mode { conn.old.in_transaction ≡ false → conn.new.in_transaction ≡ false }
+        ensures ok { HasCleanDisk (state S.Store conn.new) → (state S.Store conn.old).now.schema ≡ schema self.now
+            → IfOk result (λ found. Shows (state S.Store conn.old) (state S.Store conn.new) (state S.Store conn.old).now (state S.Store conn.old).now false
+            × finds self.now (state S.Store conn.old).now found) }
+        ensures err { HasCleanDisk (state S.Store conn.new) → (state S.Store conn.old).now.schema ≡ schema self.now → IsTrue (state S.Store conn.new).is_open
+            → OnErr result (((state S.Store conn.new).now ≡ (state S.Store conn.old).now) ×
+            ((state S.Store conn.new).committed ≡ (state S.Store conn.old).committed)) }
+        ensures back { HasCleanDisk (state S.Store conn.new) → (state S.Store conn.old).now.schema ≡ schema self.now
+            → has self.now (state S.Store conn.old).now → IfErr result IsOfNoRow }
+        ensures stop { Survives (state S.Store conn.old) (state S.Store conn.new) (λ trees. (state S.Store conn.old).now.schema ≡ schema self.now
+            → trees ≡ (state S.Store conn.old).now.trees) };
+}
+
 /// Makes the change in one transaction: all of it or nothing. A stop inside the call leaves the database as it was,
 /// or as the change makes it.
 pub fn transact<W: Work, S: Alter>(
@@ -102,4 +134,23 @@ pub fn look<L: Lookup, S: Alter>(
     let found = lookup.read(alloc, &mut tx)?;
     tx.commit()?;
     Ok(found)
+}
+
+/// What one transaction reads.
+pub struct InTransaction<'a, L: Lookup> {
+    pub lookup: &'a L,
+}
+
+impl<'a, L: Lookup> Survey for InTransaction<'a, L> {
+    type Found = L::Found;
+
+    ghost schema = { λ it. L.schema it.lookup.now };
+
+    ghost has = { λ it db. L.has it.lookup.now db };
+
+    ghost finds = { λ it db found. L.finds it.lookup.now db found };
+
+    fn survey<S: Alter>(&self, alloc: Global, conn: &mut Connection<S>) -> Result<L::Found, Error> {
+        look(alloc, conn, self.lookup)
+    }
 }

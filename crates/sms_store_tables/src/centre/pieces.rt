@@ -188,8 +188,7 @@ pub(crate) fn wish_at(row: &Row, at: usize) -> Result<Wish, Error>
     ensures value { IfOk result (λ wish. wish ≡ wish_in (text_in (column row.now at))) }
     ensures only { (wish : Wish) → HasAt row.now at (Text (wish_word wish)) → IfErr result LacksMemory }
 {
-    let text = text_at(row, at)?;
-    let word = text.as_str();
+    let word = text_at(row, at)?;
     if word == "nothing" {
         return Ok(Wish::Nothing);
     }
@@ -218,8 +217,7 @@ pub(crate) fn state_at(row: &Row, at: usize) -> Result<Option<FinalState>, Error
     ensures value { IfOk result (λ state. state ≡ state_in (text_in (column row.now at))) }
     ensures only { (state : Option FinalState) → HasAt row.now at (Text (state_word state)) → IfErr result LacksMemory }
 {
-    let text = text_at(row, at)?;
-    let word = text.as_str();
+    let word = text_at(row, at)?;
     if word == "pending" {
         return Ok(None);
     }
@@ -275,8 +273,7 @@ pub(crate) fn report_kind_at(row: &Row, at: usize) -> Result<ReportKind, Error>
     ensures only { (kind : ReportKindOf) → IsStoredKind kind → HasAt row.now at (Text (kind_word kind)) → HasAt row.now (at + 1) (kind_reference kind)
         → HasAt row.now (at + 2) (kind_tpdu kind) → IfErr result LacksMemory }
 {
-    let text = text_at(row, at)?;
-    let word = text.as_str();
+    let word = text_at(row, at)?;
     if word == "receipt" {
         return Ok(ReportKind::Receipt);
     }

@@ -92,14 +92,14 @@ fn message_at(row: &Row) -> Result<Message, Error>
     ensures only { (e : EntryOf) → IsStoredMessage e.message → row.now ≡ row_columns e → IfErr result LacksMemory }
 {
     let kind = text_at(row, 2)?;
-    if kind.as_str() == "single" {
+    if kind == "single" {
         let tpdu = octets_at(row, 12)?;
         return Ok(Message::Single { tpdu });
     }
-    if kind.as_str() == "part" {
+    if kind == "part" {
         return part_at(row);
     }
-    if kind.as_str() == "joined" {
+    if kind == "joined" {
         return joined_at(row);
     }
     Err(Error::Utf8Error(2))

@@ -27,8 +27,7 @@ pub(crate) fn state_at(row: &Row, at: usize) -> Result<EntryState, Error>
     ensures value { IfOk result (λ state. state ≡ state_in (text_in (column row.now at))) }
     ensures only { (state : EntryState) → HasAt row.now at (Text (state_word state)) → IfErr result LacksMemory }
 {
-    let text = text_at(row, at)?;
-    let word = text.as_str();
+    let word = text_at(row, at)?;
     if word == "queued" {
         return Ok(EntryState::Queued);
     }
@@ -62,8 +61,7 @@ pub(crate) fn coding_at(row: &Row, at: usize) -> Result<Coding, Error>
     ensures value { IfOk result (λ coding. coding ≡ coding_in (text_in (column row.now at))) }
     ensures only { (coding : Coding) → HasAt row.now at (Text (coding_word coding)) → IfErr result LacksMemory }
 {
-    let text = text_at(row, at)?;
-    let word = text.as_str();
+    let word = text_at(row, at)?;
     if word == "septets" {
         return Ok(Coding::Septets);
     }

@@ -1,11 +1,11 @@
 use Rattle.std.proofs.Common.{◌≡◌, ℕ, List, ◌∷◌, Some, sym, ◌∙◌, ap, subst}
 use Rattle.sms_centre_rows.specs.messages.Messages.{message_at, message_key}
 use Rattle.sms_centre_rows.specs.messages.OpenParts.{parts_waiting}
-use Rattle.sms_centre_queue.specs.queues.Representing.{Waits}
+use Rattle.sms_centre_queue.specs.queues.Representing.{DraftRepresents, Waits}
 use Rattle.sms_rows.specs.table.Table.{put, row_at}
 use Rattle.sms_centre_rows.specs.declared.waiting.queued_part.QueuedPart.{QueuedPart}
 use Rattle.sms_centre_rows.specs.waiting.Keys.{queued_key}
-use Rattle.sms_centre_recovery.proofs.starting.QueuedWait.{part_waits}
+use Rattle.sms_centre_recovery.proofs.starting.QueuedWait.{part_done, part_waits}
 use Rattle.sms_centre_recovery.proofs.starting.filling.put_part.Goals as goal
 use Rattle.sms_centre_queue.proofs.queues.RepresentedMoves.{if_ok}
 
@@ -25,3 +25,9 @@ returns c =
     (subst (λ (l : QueuedPart). Waits m.handset (put queued_key l) (λ (h : List ℕ). parts_waiting h ms qs ps) (λ (h : List ℕ). parts_waiting h ms qs (p ∷ ps))) (sym c.part_queued.ensures)
     (part_waits ms qs p m ps found open_part rises)))
     c.put.ensures
+
+pub returns-then-is_done : goal.returns-then-is_done
+returns-then-is_done c g links ps rises represents =
+    let t = c.args.tables.now in
+    subst (λ (waiting : List ℕ → List QueuedPart). DraftRepresents g links waiting c.args.queues.now)
+    (λ i h. sym (part_done t.messages.rows t.priorities.rows h c.args.part.now ps c.if-is_done.true) i) represents

@@ -10,37 +10,37 @@ use Rattle.sms_store_sql.proofs.listing.closing.look_or_close.Goals as goal
 
 pub returns-in-Ok-clause-ok : goal.returns-in-Ok-clause-ok
 returns-in-Ok-clause-ok g c clean ours =
-    let early : HasCleanDisk (state g.S.Store c.admit.new.conn) = omega (arith, c.look.ensures.stop.clean) in
+    let early : HasCleanDisk (state g.S.Store c.admit.new.conn) = omega (arith, c.survey.ensures.stop.clean) in
     let rest = c.in_ok-admit.ensures.ok early in
-    looked_then (g.L.Lookup.finds c.args.lookup.now) _ _ _ c.in-Ok.found rest (c.in-Ok.ensures.ok clean (schema_then _ _ _ rest ours))
+    looked_then (g.V.Survey.finds c.args.wanted.now) _ _ _ c.in-Ok.found rest (c.in-Ok.ensures.ok clean (schema_then _ _ _ rest ours))
 
 pub returns-in-Ok-clause-stop : goal.returns-in-Ok-clause-stop
 returns-in-Ok-clause-stop g c =
-    survives_look (g.L.Lookup.schema c.args.lookup.now) (state g.S.Store c.args.conn.now) (state g.S.Store c.admit.new.conn) (state g.S.Store c.look.new.conn)
-    (λ clean. let early : HasCleanDisk (state g.S.Store c.admit.new.conn) = omega (arith, c.look.ensures.stop.clean) in c.in_ok-admit.ensures.ok early) c.admit.ensures.stop c.look.ensures.stop
+    survives_look (g.V.Survey.schema c.args.wanted.now) (state g.S.Store c.args.conn.now) (state g.S.Store c.admit.new.conn) (state g.S.Store c.survey.new.conn)
+    (λ clean. let early : HasCleanDisk (state g.S.Store c.admit.new.conn) = omega (arith, c.survey.ensures.stop.clean) in c.in_ok-admit.ensures.ok early) c.admit.ensures.stop c.survey.ensures.stop
 
 pub returns-in-Err-clause-err : goal.returns-in-Err-clause-err
 returns-in-Err-clause-err g c clean ours =
-    let early : HasCleanDisk (state g.S.Store c.admit.new.conn) = omega (arith, c.look.ensures.stop.clean) in
+    let early : HasCleanDisk (state g.S.Store c.admit.new.conn) = omega (arith, c.survey.ensures.stop.clean) in
     let rest = c.in_ok-admit.ensures.ok early in
-    spared_then (state g.S.Store c.args.conn.now) (state g.S.Store c.admit.new.conn) (state g.S.Store c.look.new.conn) rest (c.in-Err.ensures.err clean (schema_then _ _ _ rest ours))
+    spared_then (state g.S.Store c.args.conn.now) (state g.S.Store c.admit.new.conn) (state g.S.Store c.survey.new.conn) rest (c.in-Err.ensures.err clean (schema_then _ _ _ rest ours))
 
 pub returns-in-Err-clause-stop : goal.returns-in-Err-clause-stop
 returns-in-Err-clause-stop g c =
-    survives_look (g.L.Lookup.schema c.args.lookup.now) (state g.S.Store c.args.conn.now) (state g.S.Store c.admit.new.conn) (state g.S.Store c.look.new.conn)
-    (λ clean. let early : HasCleanDisk (state g.S.Store c.admit.new.conn) = omega (arith, c.look.ensures.stop.clean) in c.in_ok-admit.ensures.ok early) c.admit.ensures.stop c.look.ensures.stop
+    survives_look (g.V.Survey.schema c.args.wanted.now) (state g.S.Store c.args.conn.now) (state g.S.Store c.admit.new.conn) (state g.S.Store c.survey.new.conn)
+    (λ clean. let early : HasCleanDisk (state g.S.Store c.admit.new.conn) = omega (arith, c.survey.ensures.stop.clean) in c.in_ok-admit.ensures.ok early) c.admit.ensures.stop c.survey.ensures.stop
 
 pub returns-in_err-admit-clause-stop : goal.returns-in_err-admit-clause-stop
-returns-in_err-admit-clause-stop g c = survives_unlooked (g.L.Lookup.schema c.args.lookup.now) (state g.S.Store c.args.conn.now) (state g.S.Store c.admit.new.conn) c.admit.ensures.stop
+returns-in_err-admit-clause-stop g c = survives_unlooked (g.V.Survey.schema c.args.wanted.now) (state g.S.Store c.args.conn.now) (state g.S.Store c.admit.new.conn) c.admit.ensures.stop
 
 pub returns-in-Ok-clause-closed : goal.returns-in-Ok-clause-closed
 returns-in-Ok-clause-closed g c clean shut =
-    let early : HasCleanDisk (state g.S.Store c.admit.new.conn) = omega (arith, c.look.ensures.stop.clean) in
+    let early : HasCleanDisk (state g.S.Store c.admit.new.conn) = omega (arith, c.survey.ensures.stop.clean) in
     let no : ⊥ = c.in_ok-admit.ensures.closed early shut in absurd no
 
 pub returns-in-Err-clause-closed : goal.returns-in-Err-clause-closed
 returns-in-Err-clause-closed g c clean shut =
-    let early : HasCleanDisk (state g.S.Store c.admit.new.conn) = omega (arith, c.look.ensures.stop.clean) in
+    let early : HasCleanDisk (state g.S.Store c.admit.new.conn) = omega (arith, c.survey.ensures.stop.clean) in
     let no : ⊥ = c.in_ok-admit.ensures.closed early shut in absurd no
 
 pub returns-in_err-admit-clause-refused : goal.returns-in_err-admit-clause-refused
@@ -51,9 +51,9 @@ returns-in_err-admit-clause-refused g c =
 
 pub returns-in-Err-clause-back : goal.returns-in-Err-clause-back
 returns-in-Err-clause-back g c clean ours has same =
-    let early : HasCleanDisk (state g.S.Store c.admit.new.conn) = omega (arith, c.look.ensures.stop.clean) in
+    let early : HasCleanDisk (state g.S.Store c.admit.new.conn) = omega (arith, c.survey.ensures.stop.clean) in
     let rest = c.in_ok-admit.ensures.ok early in
-    let none = c.in-Err.ensures.back clean (schema_then _ _ _ rest ours) (subst (g.L.Lookup.has c.args.lookup.now) (sym rest.now_is) has) in
+    let none = c.in-Err.ensures.back clean (schema_then _ _ _ rest ours) (subst (g.V.Survey.has c.args.wanted.now) (sym rest.now_is) has) in
     let is : c.load_cause_of-cause.result ≡ NotThisStore = cc in
     none (sym c.load_cause_of-cause.ensures ∙ is)
 

@@ -18,7 +18,7 @@ returns-in_err-tpdu-clause-only c e stored same =
 pub returns-then-eq-2-clause-only : goal.returns-then-eq-2-clause-only
 returns-then-eq-2-clause-only c e stored same =
     let has = entry_has _ e.number e.slots e.message same in
-    let spelled = c.as_str-2.ensures.value ∙ c.in_ok-kind.ensures.value ∙ ap text_in has.kind.is in
+    let spelled = c.in_ok-kind.ensures.value ∙ ap text_in has.kind.is in
     let word : bytes_eq (kind_of e.message) (codes "part") ≡ true = ap (λ w. bytes_eq w (codes "part")) (sym spelled) ∙ sym c.eq-2.ensures ∙ c.if-eq-2.true in
     let it = as_part e.message word stored in
     c.part_at.ensures.only e.number e.slots it.group it.part it.tpdu it.stored
@@ -27,7 +27,7 @@ returns-then-eq-2-clause-only c e stored same =
 pub returns-then-eq-3-clause-only : goal.returns-then-eq-3-clause-only
 returns-then-eq-3-clause-only c e stored same =
     let has = entry_has _ e.number e.slots e.message same in
-    let spelled = c.as_str-3.ensures.value ∙ c.in_ok-kind.ensures.value ∙ ap text_in has.kind.is in
+    let spelled = c.in_ok-kind.ensures.value ∙ ap text_in has.kind.is in
     let word : bytes_eq (kind_of e.message) (codes "joined") ≡ true = ap (λ w. bytes_eq w (codes "joined")) (sym spelled) ∙ sym c.eq-3.ensures ∙ c.if-eq-3.true in
     let it = as_joined e.message word stored in
     c.joined_at.ensures.only e.number e.slots it.source it.content it.stored

@@ -3,5 +3,5 @@ use Rattle.sms_store_tables.specs.handset.Words.{state_word}
 use Rattle.sms_store_tables.proofs.handset.RowsRead.{state_utf8}
 use Rattle.sms_store_tables.proofs.handset.words.state_at.Goals as goal
 
-pub returns-in_err-text-clause-only : goal.returns-in_err-text-clause-only
-returns-in_err-text-clause-only c x has = let lacks = c.in_err-text.ensures.only (state_word x) (state_utf8 x) has in search (rules, lacks)
+pub returns-in_err-word-clause-only : goal.returns-in_err-word-clause-only
+returns-in_err-word-clause-only c x has = let lacks = c.in_err-word.ensures.only (state_word x) (state_utf8 x) has in search (rules, lacks)

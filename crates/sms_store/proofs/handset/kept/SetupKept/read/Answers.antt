@@ -3,6 +3,8 @@ use Rattle.sqlite.specs.Effect.{Database}
 use Rattle.sqlite.specs.State.{HasCleanDisk}
 use Rattle.sqlite.specs.Held.{state}
 use Rattle.sqlite.proofs.Callers.{unchanged_then}
+use Rattle.sms_store_sql.proofs.listing.Streaming.{carries_none, carries_on, carries_to, stays_carried, stays_then}
+use Rattle.sms_store.specs.handset.HandsetRows.{handset_stores}
 use Rattle.sms_store.proofs.handset.Loading.{found_rows}
 use Rattle.sms_store.proofs.keeping.Lists.{moved}
 use Rattle.sms_store.specs.handset.CountersList.{count_list}
@@ -14,10 +16,10 @@ use Rattle.sms_store.proofs.handset.kept.SetupKept.read.Goals as goal
 
 pub returns-clause-found : goal.returns-clause-found
 returns-clause-found g c clean ours =
-    let at4 : HasCleanDisk (state g.S.Store c.load-4.new.tx.conn.now) = omega (arith, c.load-5.ensures.survives.clean) in
-    let at3 : HasCleanDisk (state g.S.Store c.load-3.new.tx.conn.now) = omega (arith, at4, c.load-4.ensures.survives.clean) in
-    let at2 : HasCleanDisk (state g.S.Store c.load-2.new.tx.conn.now) = omega (arith, at3, c.load-3.ensures.survives.clean) in
-    let at1 : HasCleanDisk (state g.S.Store c.load.new.tx.conn.now) = omega (arith, at2, c.load-2.ensures.survives.clean) in
+    let at4 : HasCleanDisk (state g.S.Store c.load-4.new.conn) = omega (arith, c.load-5.ensures.survives.clean) in
+    let at3 : HasCleanDisk (state g.S.Store c.load-3.new.conn) = omega (arith, at4, c.load-4.ensures.survives.clean) in
+    let at2 : HasCleanDisk (state g.S.Store c.load-2.new.conn) = omega (arith, at3, c.load-3.ensures.survives.clean) in
+    let at1 : HasCleanDisk (state g.S.Store c.load.new.conn) = omega (arith, at2, c.load-2.ensures.survives.clean) in
     let schema = λ (d : Database). d.schema in
     let f1 = c.in_ok-entries.ensures.found at1 ours in
     let d1 = f1.0.0.now_is in
@@ -38,7 +40,7 @@ returns-in_err-entries-clause-back g c clean ours has =
 
 pub returns-in_err-last-clause-back : goal.returns-in_err-last-clause-back
 returns-in_err-last-clause-back g c clean ours has =
-    let at1 : HasCleanDisk (state g.S.Store c.load.new.tx.conn.now) = omega (arith, clean, c.load-2.ensures.survives.clean) in
+    let at1 : HasCleanDisk (state g.S.Store c.load.new.conn) = omega (arith, clean, c.load-2.ensures.survives.clean) in
     let schema = λ (d : Database). d.schema in
     let f1 = c.in_ok-entries.ensures.found at1 ours in
     let d1 = f1.0.0.now_is in
@@ -47,8 +49,8 @@ returns-in_err-last-clause-back g c clean ours has =
 
 pub returns-in_err-outbox-clause-back : goal.returns-in_err-outbox-clause-back
 returns-in_err-outbox-clause-back g c clean ours has =
-    let at2 : HasCleanDisk (state g.S.Store c.load-2.new.tx.conn.now) = omega (arith, clean, c.load-3.ensures.survives.clean) in
-    let at1 : HasCleanDisk (state g.S.Store c.load.new.tx.conn.now) = omega (arith, at2, c.load-2.ensures.survives.clean) in
+    let at2 : HasCleanDisk (state g.S.Store c.load-2.new.conn) = omega (arith, clean, c.load-3.ensures.survives.clean) in
+    let at1 : HasCleanDisk (state g.S.Store c.load.new.conn) = omega (arith, at2, c.load-2.ensures.survives.clean) in
     let schema = λ (d : Database). d.schema in
     let f1 = c.in_ok-entries.ensures.found at1 ours in
     let d1 = f1.0.0.now_is in
@@ -59,9 +61,9 @@ returns-in_err-outbox-clause-back g c clean ours has =
 
 pub returns-in_err-marks-clause-back : goal.returns-in_err-marks-clause-back
 returns-in_err-marks-clause-back g c clean ours has =
-    let at3 : HasCleanDisk (state g.S.Store c.load-3.new.tx.conn.now) = omega (arith, clean, c.load-4.ensures.survives.clean) in
-    let at2 : HasCleanDisk (state g.S.Store c.load-2.new.tx.conn.now) = omega (arith, at3, c.load-3.ensures.survives.clean) in
-    let at1 : HasCleanDisk (state g.S.Store c.load.new.tx.conn.now) = omega (arith, at2, c.load-2.ensures.survives.clean) in
+    let at3 : HasCleanDisk (state g.S.Store c.load-3.new.conn) = omega (arith, clean, c.load-4.ensures.survives.clean) in
+    let at2 : HasCleanDisk (state g.S.Store c.load-2.new.conn) = omega (arith, at3, c.load-3.ensures.survives.clean) in
+    let at1 : HasCleanDisk (state g.S.Store c.load.new.conn) = omega (arith, at2, c.load-2.ensures.survives.clean) in
     let schema = λ (d : Database). d.schema in
     let f1 = c.in_ok-entries.ensures.found at1 ours in
     let d1 = f1.0.0.now_is in
@@ -74,10 +76,10 @@ returns-in_err-marks-clause-back g c clean ours has =
 
 pub returns-in_err-counted-clause-back : goal.returns-in_err-counted-clause-back
 returns-in_err-counted-clause-back g c clean ours has =
-    let at4 : HasCleanDisk (state g.S.Store c.load-4.new.tx.conn.now) = omega (arith, clean, c.load-5.ensures.survives.clean) in
-    let at3 : HasCleanDisk (state g.S.Store c.load-3.new.tx.conn.now) = omega (arith, at4, c.load-4.ensures.survives.clean) in
-    let at2 : HasCleanDisk (state g.S.Store c.load-2.new.tx.conn.now) = omega (arith, at3, c.load-3.ensures.survives.clean) in
-    let at1 : HasCleanDisk (state g.S.Store c.load.new.tx.conn.now) = omega (arith, at2, c.load-2.ensures.survives.clean) in
+    let at4 : HasCleanDisk (state g.S.Store c.load-4.new.conn) = omega (arith, clean, c.load-5.ensures.survives.clean) in
+    let at3 : HasCleanDisk (state g.S.Store c.load-3.new.conn) = omega (arith, at4, c.load-4.ensures.survives.clean) in
+    let at2 : HasCleanDisk (state g.S.Store c.load-2.new.conn) = omega (arith, at3, c.load-3.ensures.survives.clean) in
+    let at1 : HasCleanDisk (state g.S.Store c.load.new.conn) = omega (arith, at2, c.load-2.ensures.survives.clean) in
     let schema = λ (d : Database). d.schema in
     let f1 = c.in_ok-entries.ensures.found at1 ours in
     let d1 = f1.0.0.now_is in
@@ -92,10 +94,10 @@ returns-in_err-counted-clause-back g c clean ours has =
 
 pub returns-in_err-counters-clause-back : goal.returns-in_err-counters-clause-back
 returns-in_err-counters-clause-back g c clean ours has =
-    let at4 : HasCleanDisk (state g.S.Store c.load-4.new.tx.conn.now) = omega (arith, clean, c.load-5.ensures.survives.clean) in
-    let at3 : HasCleanDisk (state g.S.Store c.load-3.new.tx.conn.now) = omega (arith, at4, c.load-4.ensures.survives.clean) in
-    let at2 : HasCleanDisk (state g.S.Store c.load-2.new.tx.conn.now) = omega (arith, at3, c.load-3.ensures.survives.clean) in
-    let at1 : HasCleanDisk (state g.S.Store c.load.new.tx.conn.now) = omega (arith, at2, c.load-2.ensures.survives.clean) in
+    let at4 : HasCleanDisk (state g.S.Store c.load-4.new.conn) = omega (arith, clean, c.load-5.ensures.survives.clean) in
+    let at3 : HasCleanDisk (state g.S.Store c.load-3.new.conn) = omega (arith, at4, c.load-4.ensures.survives.clean) in
+    let at2 : HasCleanDisk (state g.S.Store c.load-2.new.conn) = omega (arith, at3, c.load-3.ensures.survives.clean) in
+    let at1 : HasCleanDisk (state g.S.Store c.load.new.conn) = omega (arith, at2, c.load-2.ensures.survives.clean) in
     let schema = λ (d : Database). d.schema in
     let f1 = c.in_ok-entries.ensures.found at1 ours in
     let d1 = f1.0.0.now_is in
@@ -109,3 +111,103 @@ returns-in_err-counters-clause-back g c clean ours has =
     let one = f5.1 (counters_row has.0.counters ∷ []) (moved count_list _ _ (counters_row has.0.counters ∷ []) d4 has.1.0.counters) in
     let ok = c.in_err-counters.ensures.always (counters_row has.0.counters) (c.deref.ensures.value ∙ one) in
     absurd (true≢false (sym ok))
+
+pub returns-in_err-last-clause-survives : goal.returns-in_err-last-clause-survives
+returns-in_err-last-clause-survives g c =
+    let k0 = carries_none handset_stores.schema (state g.S.Store c.args.conn.now) in
+    let k1 = carries_on handset_stores.schema _ _ _ k0 c.load.ensures.survives (λ clean ours. (c.in_ok-entries.ensures.found clean ours).0) in
+    carries_to handset_stores.schema _ _ _ k1 c.load-2.ensures.survives
+
+pub returns-in_err-last-clause-stays : goal.returns-in_err-last-clause-stays
+returns-in_err-last-clause-stays g c =
+    let k0 = carries_none handset_stores.schema (state g.S.Store c.args.conn.now) in
+    let k1 = carries_on handset_stores.schema _ _ _ k0 c.load.ensures.survives (λ clean ours. (c.in_ok-entries.ensures.found clean ours).0) in
+    stays_then handset_stores.schema _ _ _ k1 c.load-2.ensures.survives c.load-2.ensures.stays
+
+pub returns-in_err-outbox-clause-survives : goal.returns-in_err-outbox-clause-survives
+returns-in_err-outbox-clause-survives g c =
+    let k0 = carries_none handset_stores.schema (state g.S.Store c.args.conn.now) in
+    let k1 = carries_on handset_stores.schema _ _ _ k0 c.load.ensures.survives (λ clean ours. (c.in_ok-entries.ensures.found clean ours).0) in
+    let k2 = carries_on handset_stores.schema _ _ _ k1 c.load-2.ensures.survives (λ clean ours. (c.in_ok-last.ensures.found clean ours).0) in
+    carries_to handset_stores.schema _ _ _ k2 c.load-3.ensures.survives
+
+pub returns-in_err-outbox-clause-stays : goal.returns-in_err-outbox-clause-stays
+returns-in_err-outbox-clause-stays g c =
+    let k0 = carries_none handset_stores.schema (state g.S.Store c.args.conn.now) in
+    let k1 = carries_on handset_stores.schema _ _ _ k0 c.load.ensures.survives (λ clean ours. (c.in_ok-entries.ensures.found clean ours).0) in
+    let k2 = carries_on handset_stores.schema _ _ _ k1 c.load-2.ensures.survives (λ clean ours. (c.in_ok-last.ensures.found clean ours).0) in
+    stays_then handset_stores.schema _ _ _ k2 c.load-3.ensures.survives c.load-3.ensures.stays
+
+pub returns-in_err-marks-clause-survives : goal.returns-in_err-marks-clause-survives
+returns-in_err-marks-clause-survives g c =
+    let k0 = carries_none handset_stores.schema (state g.S.Store c.args.conn.now) in
+    let k1 = carries_on handset_stores.schema _ _ _ k0 c.load.ensures.survives (λ clean ours. (c.in_ok-entries.ensures.found clean ours).0) in
+    let k2 = carries_on handset_stores.schema _ _ _ k1 c.load-2.ensures.survives (λ clean ours. (c.in_ok-last.ensures.found clean ours).0) in
+    let k3 = carries_on handset_stores.schema _ _ _ k2 c.load-3.ensures.survives (λ clean ours. (c.in_ok-outbox.ensures.found clean ours).0) in
+    carries_to handset_stores.schema _ _ _ k3 c.load-4.ensures.survives
+
+pub returns-in_err-marks-clause-stays : goal.returns-in_err-marks-clause-stays
+returns-in_err-marks-clause-stays g c =
+    let k0 = carries_none handset_stores.schema (state g.S.Store c.args.conn.now) in
+    let k1 = carries_on handset_stores.schema _ _ _ k0 c.load.ensures.survives (λ clean ours. (c.in_ok-entries.ensures.found clean ours).0) in
+    let k2 = carries_on handset_stores.schema _ _ _ k1 c.load-2.ensures.survives (λ clean ours. (c.in_ok-last.ensures.found clean ours).0) in
+    let k3 = carries_on handset_stores.schema _ _ _ k2 c.load-3.ensures.survives (λ clean ours. (c.in_ok-outbox.ensures.found clean ours).0) in
+    stays_then handset_stores.schema _ _ _ k3 c.load-4.ensures.survives c.load-4.ensures.stays
+
+pub returns-in_err-counted-clause-survives : goal.returns-in_err-counted-clause-survives
+returns-in_err-counted-clause-survives g c =
+    let k0 = carries_none handset_stores.schema (state g.S.Store c.args.conn.now) in
+    let k1 = carries_on handset_stores.schema _ _ _ k0 c.load.ensures.survives (λ clean ours. (c.in_ok-entries.ensures.found clean ours).0) in
+    let k2 = carries_on handset_stores.schema _ _ _ k1 c.load-2.ensures.survives (λ clean ours. (c.in_ok-last.ensures.found clean ours).0) in
+    let k3 = carries_on handset_stores.schema _ _ _ k2 c.load-3.ensures.survives (λ clean ours. (c.in_ok-outbox.ensures.found clean ours).0) in
+    let k4 = carries_on handset_stores.schema _ _ _ k3 c.load-4.ensures.survives (λ clean ours. (c.in_ok-marks.ensures.found clean ours).0) in
+    carries_to handset_stores.schema _ _ _ k4 c.load-5.ensures.survives
+
+pub returns-in_err-counted-clause-stays : goal.returns-in_err-counted-clause-stays
+returns-in_err-counted-clause-stays g c =
+    let k0 = carries_none handset_stores.schema (state g.S.Store c.args.conn.now) in
+    let k1 = carries_on handset_stores.schema _ _ _ k0 c.load.ensures.survives (λ clean ours. (c.in_ok-entries.ensures.found clean ours).0) in
+    let k2 = carries_on handset_stores.schema _ _ _ k1 c.load-2.ensures.survives (λ clean ours. (c.in_ok-last.ensures.found clean ours).0) in
+    let k3 = carries_on handset_stores.schema _ _ _ k2 c.load-3.ensures.survives (λ clean ours. (c.in_ok-outbox.ensures.found clean ours).0) in
+    let k4 = carries_on handset_stores.schema _ _ _ k3 c.load-4.ensures.survives (λ clean ours. (c.in_ok-marks.ensures.found clean ours).0) in
+    stays_then handset_stores.schema _ _ _ k4 c.load-5.ensures.survives c.load-5.ensures.stays
+
+pub returns-in_err-counters-clause-survives : goal.returns-in_err-counters-clause-survives
+returns-in_err-counters-clause-survives g c =
+    let k0 = carries_none handset_stores.schema (state g.S.Store c.args.conn.now) in
+    let k1 = carries_on handset_stores.schema _ _ _ k0 c.load.ensures.survives (λ clean ours. (c.in_ok-entries.ensures.found clean ours).0) in
+    let k2 = carries_on handset_stores.schema _ _ _ k1 c.load-2.ensures.survives (λ clean ours. (c.in_ok-last.ensures.found clean ours).0) in
+    let k3 = carries_on handset_stores.schema _ _ _ k2 c.load-3.ensures.survives (λ clean ours. (c.in_ok-outbox.ensures.found clean ours).0) in
+    let k4 = carries_on handset_stores.schema _ _ _ k3 c.load-4.ensures.survives (λ clean ours. (c.in_ok-marks.ensures.found clean ours).0) in
+    let k5 = carries_on handset_stores.schema _ _ _ k4 c.load-5.ensures.survives (λ clean ours. (c.in_ok-counted.ensures.found clean ours).0) in
+    k5.0
+
+pub returns-in_err-counters-clause-stays : goal.returns-in_err-counters-clause-stays
+returns-in_err-counters-clause-stays g c =
+    let k0 = carries_none handset_stores.schema (state g.S.Store c.args.conn.now) in
+    let k1 = carries_on handset_stores.schema _ _ _ k0 c.load.ensures.survives (λ clean ours. (c.in_ok-entries.ensures.found clean ours).0) in
+    let k2 = carries_on handset_stores.schema _ _ _ k1 c.load-2.ensures.survives (λ clean ours. (c.in_ok-last.ensures.found clean ours).0) in
+    let k3 = carries_on handset_stores.schema _ _ _ k2 c.load-3.ensures.survives (λ clean ours. (c.in_ok-outbox.ensures.found clean ours).0) in
+    let k4 = carries_on handset_stores.schema _ _ _ k3 c.load-4.ensures.survives (λ clean ours. (c.in_ok-marks.ensures.found clean ours).0) in
+    let k5 = carries_on handset_stores.schema _ _ _ k4 c.load-5.ensures.survives (λ clean ours. (c.in_ok-counted.ensures.found clean ours).0) in
+    stays_carried handset_stores.schema _ _ k5
+
+pub returns-clause-survives : goal.returns-clause-survives
+returns-clause-survives g c =
+    let k0 = carries_none handset_stores.schema (state g.S.Store c.args.conn.now) in
+    let k1 = carries_on handset_stores.schema _ _ _ k0 c.load.ensures.survives (λ clean ours. (c.in_ok-entries.ensures.found clean ours).0) in
+    let k2 = carries_on handset_stores.schema _ _ _ k1 c.load-2.ensures.survives (λ clean ours. (c.in_ok-last.ensures.found clean ours).0) in
+    let k3 = carries_on handset_stores.schema _ _ _ k2 c.load-3.ensures.survives (λ clean ours. (c.in_ok-outbox.ensures.found clean ours).0) in
+    let k4 = carries_on handset_stores.schema _ _ _ k3 c.load-4.ensures.survives (λ clean ours. (c.in_ok-marks.ensures.found clean ours).0) in
+    let k5 = carries_on handset_stores.schema _ _ _ k4 c.load-5.ensures.survives (λ clean ours. (c.in_ok-counted.ensures.found clean ours).0) in
+    k5.0
+
+pub returns-clause-stays : goal.returns-clause-stays
+returns-clause-stays g c =
+    let k0 = carries_none handset_stores.schema (state g.S.Store c.args.conn.now) in
+    let k1 = carries_on handset_stores.schema _ _ _ k0 c.load.ensures.survives (λ clean ours. (c.in_ok-entries.ensures.found clean ours).0) in
+    let k2 = carries_on handset_stores.schema _ _ _ k1 c.load-2.ensures.survives (λ clean ours. (c.in_ok-last.ensures.found clean ours).0) in
+    let k3 = carries_on handset_stores.schema _ _ _ k2 c.load-3.ensures.survives (λ clean ours. (c.in_ok-outbox.ensures.found clean ours).0) in
+    let k4 = carries_on handset_stores.schema _ _ _ k3 c.load-4.ensures.survives (λ clean ours. (c.in_ok-marks.ensures.found clean ours).0) in
+    let k5 = carries_on handset_stores.schema _ _ _ k4 c.load-5.ensures.survives (λ clean ours. (c.in_ok-counted.ensures.found clean ours).0) in
+    stays_carried handset_stores.schema _ _ k5
