@@ -11,9 +11,7 @@ use Rattle.sms_store_sql.specs.listing.Inside.{Alters}
 use Rattle.sms_store_sql.specs.listing.Listing.{ListOf, Represents}
 use Rattle.sms_store_sql.specs.listing.Transaction.{Leaves, IsOpenStore}
 use Rattle.sms_store_tables.specs.centre.BarList.{bar_list}
-use Rattle.sms_store_tables.specs.centre.MetaList.{meta_list}
-use Rattle.sms_store_tables.specs.centre.SecondMetaList.{meta_list as second_list}
-use Rattle.sms_store_tables.specs.centre.FirstMetaList.{meta_list as first_list}
+use Rattle.sms_store_tables.specs.centre.MetaList.{first_list, meta_list, second_list}
 use Rattle.sms_store_tables.specs.centre.MessageList.{message_list}
 use Rattle.sms_store_tables.specs.centre.PartList.{part_list}
 use Rattle.sms_store_tables.specs.centre.ReferenceList.{reference_list}

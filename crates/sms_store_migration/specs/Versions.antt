@@ -6,15 +6,13 @@ use Rattle.sms_store_sql.specs.listing.Listing.{Represents}
 use Rattle.sms_store_sql.specs.declared.listing.meta.StoreKind.TheVariants.{Centre}
 use Rattle.sms_store_tables.specs.centre.CentreSchema.{centre_schema, first_schema, second_schema}
 use Rattle.sms_store_tables.specs.centre.BarList.{bar_list}
-use Rattle.sms_store_tables.specs.centre.FirstMetaList.{meta_list as first_list}
-use Rattle.sms_store_tables.specs.centre.MetaList.{meta_list}
+use Rattle.sms_store_tables.specs.centre.MetaList.{first_list, meta_list, second_list}
 use Rattle.sms_store_tables.specs.centre.MessageList.{message_list}
 use Rattle.sms_store_tables.specs.centre.PartList.{part_list}
 use Rattle.sms_store_tables.specs.centre.ReferenceList.{reference_list}
 use Rattle.sms_store_tables.specs.centre.HandsetList.{handset_list}
 use Rattle.sms_store_tables.specs.centre.ReportList.{report_list}
 use Rattle.sms_store_tables.specs.centre.PriorityList.{priority_list}
-use Rattle.sms_store_tables.specs.centre.SecondMetaList.{meta_list as second_list}
 use Rattle.sms_store_migration.specs.Types.{Rows, Meta}
 
 -- what a centre's store of that version says of itself

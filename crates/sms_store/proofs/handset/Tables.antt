@@ -24,9 +24,9 @@ use Rattle.sms_store.specs.handset.CountersList.{count_list}
 use Rattle.sms_store.specs.handset.Types.{Counters}
 use Rattle.sms_store.proofs.handset.Turning.{free_0, free_2, free_4, free_6, free_8, free_10}
 use Rattle.sms_store.proofs.keeping.Lists.{holds_none, other_list}
-use Rattle.sms_store_tables.specs.TablePlan.{made}
-use Rattle.sms_store_tables.specs.Texts.{create_text}
-use Rattle.sms_store_tables.specs.MetaTable.{meta_plan}
+use Rattle.sms_store_sql.specs.tabled.TablePlan.{made}
+use Rattle.sms_store_sql.specs.tabled.Texts.{create_text}
+use Rattle.sms_store_sql.specs.tabled.MetaTable.{meta_plan}
 
 abbrev first_counters : Counters
 first_counters = record { entry = 1; message_reference = 0; reference = 0; concat_reference = 0; notice = 0; is_memory_full = Rattle.std.proofs.Common.false }

@@ -8,9 +8,7 @@ use Rattle.sms_rows.specs.declared.keep.error.KeepError.TheVariants.{OldVersion,
 use Rattle.sms_store_sql.specs.declared.listing.meta.StoreKind.TheVariants.{Centre}
 use Rattle.sms_store_sql.specs.schema.Blank.{no_tables}
 use Rattle.sms_store_tables.specs.centre.CentreSchema.{centre_schema, first_schema, second_schema}
-use Rattle.sms_store_tables.specs.centre.MetaList.{meta_list}
-use Rattle.sms_store_tables.specs.centre.FirstMetaList.{meta_list as first_list}
-use Rattle.sms_store_tables.specs.centre.SecondMetaList.{meta_list as second_list}
+use Rattle.sms_store_tables.specs.centre.MetaList.{first_list, meta_list, second_list}
 use Rattle.sms_store.specs.keeping.Refusing.{Says, RefusesBy}
 
 -- it has the tables of version 3, of version 2 or of version 1, and what it says of itself is judged so

@@ -1,9 +1,7 @@
 //! What a store says of itself, read in one transaction.
 ghost use Rattle.std.specs.Prelude.{⊤};
 ghost use Rattle.sms_store_tables.specs.centre.CentreSchema.{centre_schema, first_schema, second_schema};
-ghost use Rattle.sms_store_tables.specs.centre.FirstMetaList.{meta_list as first_list};
-ghost use Rattle.sms_store_tables.specs.centre.MetaList.{meta_list};
-ghost use Rattle.sms_store_tables.specs.centre.SecondMetaList.{meta_list as second_list};
+ghost use Rattle.sms_store_tables.specs.centre.MetaList.{first_list, meta_list, second_list};
 ghost use Rattle.sms_store_sql.specs.declared.listing.meta.StoreKind.TheVariants.{Centre};
 ghost use Rattle.sms_store.specs.keeping.Refusing.{FindsJudgement};
 

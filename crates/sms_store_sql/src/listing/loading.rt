@@ -53,7 +53,8 @@ pub fn load<K, T: Drop + StoredRow<K>, S: Alter>(
     ensures uncommitted { Stays S.Store tx.old.conn.now tx.new.conn.now T.list }
     ensures survives { Spares S.Store tx.old.conn.now tx.new.conn.now }
 {
-    let rows = tx.query_all(T::select(), &[])?;
+    let table = T::table();
+    let rows = tx.query_all(table.select, &[])?;
     in_order(rows_of::<K, T>(alloc, &rows)?)
 }
 
@@ -70,6 +71,7 @@ pub fn load_columns<K, T: Drop + StoredRow<K>, S: Alter>(
     ensures uncommitted { Stays S.Store tx.old.conn.now tx.new.conn.now T.list }
     ensures survives { Spares S.Store tx.old.conn.now tx.new.conn.now }
 {
-    let rows = tx.query_all(T::select(), &[])?;
+    let table = T::table();
+    let rows = tx.query_all(table.select, &[])?;
     Ok(rows)
 }

@@ -1,0 +1,5 @@
+pub mod MetaTable
+pub mod TablePlan
+pub mod Tabled
+pub mod Texts
+pub mod TwoColumns
