@@ -1,3 +1,4 @@
+pub mod References
 pub mod amending
 pub mod centre
 pub mod handset

@@ -32,21 +32,7 @@ kind_utf8 Unsent = (codes "unsent", (refl, refl))
 
 -- ---- the place of a part in a long message
 
-pub bits_octet : (r : ConcatReference) → IsOctet (reference_bits r)
-bits_octet (EightBit r) = omega arith
-bits_octet (SixteenBit r) = omega arith
-
 module _ (row : Row) (at : ℕ) where
-  pub narrow : (r : ConcatReference) → nat_eq (reference_bits r) 8 ≡ true → IsStoredReference r → HasAt row at (number (reference_number r))
-      → (n : ℕ) × IsOctet n × HasAt row at (number n)
-  narrow (EightBit r) eight stored has = (r, stored, has)
-  narrow (SixteenBit r) eight stored has = absurd cc
-
-  pub wide : (r : ConcatReference) → nat_eq (reference_bits r) 8 ≡ false → IsStoredReference r → HasAt row at (number (reference_number r))
-      → (n : ℕ) × IsShort n × HasAt row at (number n)
-  wide (EightBit r) other stored has = absurd cc
-  wide (SixteenBit r) other stored has = (r, stored, has)
-
   pub some_key : (key : Option ConcatKey) → is_null (or_none (λ (k : ConcatKey). number (reference_bits k.reference)) key) ≡ false → IfSome key IsStoredKey
       → HasKey row at key → (k : ConcatKey) × IsStoredKey k × HasKey row at (Some k)
   some_key None given stored has = absurd cc

@@ -30,23 +30,6 @@ coding_utf8 Octets = (codes "octets", (refl, refl))
 coding_utf8 Ucs2 = (codes "ucs2", (refl, refl))
 coding_utf8 Compressed = (codes "compressed", (refl, refl))
 
--- ---- the reference of a group
-
-pub bits_octet : (r : ConcatReference) → IsOctet (reference_bits r)
-bits_octet (EightBit r) = omega arith
-bits_octet (SixteenBit r) = omega arith
-
-module _ (row : Row) (at : ℕ) where
-  pub narrow : (r : ConcatReference) → nat_eq (reference_bits r) 8 ≡ true → IsStoredReference r → HasAt row at (number (reference_number r))
-      → (n : ℕ) × IsOctet n × HasAt row at (number n)
-  narrow (EightBit r) eight stored has = (r, stored, has)
-  narrow (SixteenBit r) eight stored has = absurd cc
-
-  pub wide : (r : ConcatReference) → nat_eq (reference_bits r) 8 ≡ false → IsStoredReference r → HasAt row at (number (reference_number r))
-      → (n : ℕ) × IsShort n × HasAt row at (number n)
-  wide (EightBit r) other stored has = absurd cc
-  wide (SixteenBit r) other stored has = (r, stored, has)
-
 -- ---- an entry
 
 -- the word of a message

@@ -2,7 +2,8 @@
 ghost use Rattle.std.specs.Prelude.{refl};
 ghost use Rattle.sms_store_tables.specs.handset.DiscardedGroupList.{mark_is_list, mark_list};
 
-use crate::handset::group::{bits_of, group_at, number_of};
+use crate::handset::group::group_at;
+use crate::references::{reference_bits, reference_number};
 use crate::handset::kind::HandsetStore;
 use sms_handset_rows::inbox::DiscardedGroup;
 use sms_store_sql::listing::{Counted, StoredRow, octets_at, run_counted, text_of, word_at};
@@ -33,8 +34,8 @@ impl StoredRow<HandsetStore> for DiscardedGroup {
                 u32::from(group.source.ton.number()),
                 u32::from(group.source.npi),
                 &source,
-                bits_of(group.reference),
-                number_of(group.reference),
+                reference_bits(group.reference),
+                reference_number(group.reference),
                 u32::from(group.total),
                 self.seen.as_slice()
             ],

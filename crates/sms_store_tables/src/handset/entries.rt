@@ -9,7 +9,8 @@ ghost use Rattle.sms_store_sql.specs.listing.Reading.{LacksMemory};
 ghost use Rattle.sms_store_tables.specs.handset.Types.{Joined, Part, Single};
 ghost use Rattle.sms_store_tables.specs.handset.EntryList.{IsStoredMessage, entry_is_list, entry_list, joined_in, message_in, part_in, row_columns};
 
-use crate::handset::group::{bits_of, group_at, number_of};
+use crate::handset::group::group_at;
+use crate::references::{reference_bits, reference_number};
 use crate::handset::kind::HandsetStore;
 use crate::handset::words::{coding_at, coding_word};
 use sms_base::{Address, Octets};
@@ -186,8 +187,8 @@ fn write_part<S: Alter>(
             u32::from(group.source.ton.number()),
             u32::from(group.source.npi),
             &source,
-            bits_of(group.reference),
-            number_of(group.reference),
+            reference_bits(group.reference),
+            reference_number(group.reference),
             u32::from(group.total),
             u32::from(part),
             none,

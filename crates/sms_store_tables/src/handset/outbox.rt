@@ -10,6 +10,7 @@ ghost use Rattle.sms_store_tables.specs.handset.OutEntryList.{out_is_list, out_l
 
 use crate::handset::kind::HandsetStore;
 use crate::handset::words::{state_at, state_word};
+use crate::key::seconds_of;
 use sms_base::Moment;
 use sms_handset_rows::outbox::{OutEntry, SubmitTpdu};
 use sms_store_sql::listing::{
@@ -98,24 +99,6 @@ fn submit_at(row: &Row, at: usize) -> Result<SubmitTpdu, Error>
         return Err(Error::IntegralValueOutOfRange(at));
     }
     Ok(SubmitTpdu::of(octets))
-}
-
-// A moment in seconds, which fit an integer of SQLite's.
-fn seconds_of(moment: Option<Moment>) -> Option<i64>
-    ensures value { or_null Int result ≡ or_none number moment }
-    ensures stored { IfSome moment IsMoment }
-{
-    match moment {
-        Some(moment) => Some(seconds(moment)),
-        None => None,
-    }
-}
-
-fn seconds(moment: Moment) -> i64
-    ensures value { result ≡ pos moment }
-    ensures range { IsMoment moment }
-{
-    moment.seconds() as i64
 }
 
 fn word_of(octet: Option<u8>) -> Option<u32>
