@@ -2,4 +2,3 @@ pub mod MetaTable
 pub mod TablePlan
 pub mod Tabled
 pub mod Texts
-pub mod TwoColumns

@@ -8,7 +8,8 @@ use Rattle.sms_store_sql.specs.listing.Listing.{ListOf, IsList}
 use Rattle.sms_store_sql.proofs.listing.Columns.{one_found, cast_int, cast_flag, flag_back}
 use Rattle.sms_store_tables.specs.handset.HandsetSchema.{handset_schema, count_plan}
 use Rattle.sms_store.specs.handset.Types.{Counters, CountersRow}
-use Rattle.sms_store_sql.specs.tabled.Tabled.{Computes, IsReadBack, computed, listed, rows_by_one, tabled}
+use Rattle.sms_store_sql.specs.tabled.Tabled.{Computes, IsReadBack, computed, rows_by_one, tabled}
+use Rattle.sms_store_sql.proofs.tabled.Listed.{listed}
 
 -- counters in their ranges
 pub record AreStored (c : Counters) : Type 0 where

@@ -8,7 +8,7 @@ ghost use Rattle.sms_store.specs.centre.Founding.{MakesFirst, MakesNext};
 use sms_centre_rows::messages::{MessageRow, PartRow};
 use sms_centre_rows::reports::ReportRow;
 use sms_centre_rows::waiting::{HandsetRow, ReferenceRow};
-use sms_store_sql::listing::{Meta, make_three};
+use sms_store_sql::listing::{Meta, make};
 use sms_store_tables::centre::CentreStore;
 use sqlite::{Alter, Error, Transaction};
 
@@ -18,7 +18,9 @@ pub(crate) fn make_first_tables<S: Alter>(tx: &mut Transaction<'_, S>) -> Result
     ensures uncommitted { Keeps S.Store tx.old.conn.now tx.new.conn.now }
     ensures survives { Spares S.Store tx.old.conn.now tx.new.conn.now }
 {
-    make_three::<CentreStore, Meta, MessageRow, PartRow, S>(tx)
+    make::<CentreStore, Meta, S>(tx)?;
+    make::<CentreStore, MessageRow, S>(tx)?;
+    make::<CentreStore, PartRow, S>(tx)
 }
 
 pub(crate) fn make_next_tables<S: Alter>(tx: &mut Transaction<'_, S>) -> Result<(), Error>
@@ -27,5 +29,7 @@ pub(crate) fn make_next_tables<S: Alter>(tx: &mut Transaction<'_, S>) -> Result<
     ensures uncommitted { Keeps S.Store tx.old.conn.now tx.new.conn.now }
     ensures survives { Spares S.Store tx.old.conn.now tx.new.conn.now }
 {
-    make_three::<CentreStore, ReferenceRow, HandsetRow, ReportRow, S>(tx)
+    make::<CentreStore, ReferenceRow, S>(tx)?;
+    make::<CentreStore, HandsetRow, S>(tx)?;
+    make::<CentreStore, ReportRow, S>(tx)
 }

@@ -7,7 +7,7 @@ ghost use Rattle.sms_store.specs.handset.Founding.{Declares, MakesFirst, MakesLa
 
 use crate::handset::counters::CountersRow;
 use sms_handset::{Counters, DiscardedGroup, Entry, LastAccepted, OutEntry};
-use sms_store_sql::listing::{Meta, StoreKind, make_three, put};
+use sms_store_sql::listing::{Meta, StoreKind, make, put};
 use sms_store_tables::handset::HandsetStore;
 use sqlite::{Alter, Error, Transaction};
 use std::alloc::Global;
@@ -29,7 +29,9 @@ fn make_first_tables<S: Alter>(tx: &mut Transaction<'_, S>) -> Result<(), Error>
     ensures uncommitted { Keeps S.Store tx.old.conn.now tx.new.conn.now }
     ensures survives { Spares S.Store tx.old.conn.now tx.new.conn.now }
 {
-    make_three::<HandsetStore, Meta, Entry, LastAccepted, S>(tx)
+    make::<HandsetStore, Meta, S>(tx)?;
+    make::<HandsetStore, Entry, S>(tx)?;
+    make::<HandsetStore, LastAccepted, S>(tx)
 }
 
 fn make_last_tables<S: Alter>(tx: &mut Transaction<'_, S>) -> Result<(), Error>
@@ -38,7 +40,9 @@ fn make_last_tables<S: Alter>(tx: &mut Transaction<'_, S>) -> Result<(), Error>
     ensures uncommitted { Keeps S.Store tx.old.conn.now tx.new.conn.now }
     ensures survives { Spares S.Store tx.old.conn.now tx.new.conn.now }
 {
-    make_three::<HandsetStore, OutEntry, DiscardedGroup, CountersRow, S>(tx)
+    make::<HandsetStore, OutEntry, S>(tx)?;
+    make::<HandsetStore, DiscardedGroup, S>(tx)?;
+    make::<HandsetStore, CountersRow, S>(tx)
 }
 
 /// Writes what the store is, and the counters of a new handset.

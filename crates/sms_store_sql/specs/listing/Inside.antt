@@ -1,5 +1,5 @@
 -- Statements on lists inside one transaction.
-use Rattle.std.specs.Prelude.{◌≡◌, ◌≢◌, ℕ, List, [], IsTrue, true, Result, Ok, OnOk, IfOk}
+use Rattle.std.specs.Prelude.{◌≡◌, ◌≢◌, ℕ, List, IsTrue, true, Result, Ok, OnOk, IfOk}
 use Rattle.sqlite.specs.declared.error.Error.{Error}
 use Rattle.sqlite.specs.Store.{Ghosts}
 use Rattle.sqlite.specs.Order.{Row}
@@ -17,15 +17,6 @@ pub record Ran (sql : List ℕ) (params : Row) (old new : State) : Type 0 where
 -- it ran on that many rows
 pub record RanOn (sql : List ℕ) (params : Row) (count : ℕ) (old new : State) : Type 0 where
   pub ran : Executes sql params old new (Ok count)
-  pub inside : Shows old new new.now old.committed true
-
--- three statements ran, one after another
-pub record RanThree (first second third : List ℕ) (old new : State) : Type 0 where
-  pub next : State
-  pub last : State
-  pub one : Ran first [] old next
-  pub two : Ran second [] next last
-  pub three : Ran third [] last new
   pub inside : Shows old new new.now old.committed true
 
 -- The transaction continues. In a store of this schema the list makes that change, and every other table is as it was.

@@ -9,7 +9,6 @@ use Rattle.sms_store_sql.specs.declared.listing.meta.Meta.{Meta}
 use Rattle.sms_store_sql.specs.listing.Columns.{IsWord, number, number_in, text_in}
 use Rattle.sms_store_sql.specs.listing.Listing.{ListOf, IsList, given}
 use Rattle.sms_store_sql.specs.listing.Meta.{kind_word, kind_in, kind_back}
-use Rattle.sms_store_sql.proofs.listing.Columns.{one_found, cast_int}
 use Rattle.sms_store_sql.specs.tabled.TablePlan.{TablePlan}
 use Rattle.sms_store_sql.specs.tabled.Tabled.{IsTabled, AgreesInItsKey, IsReadBack, listed, rows_by_one, tabled}
 
@@ -25,17 +24,3 @@ meta_list_in schema =
 -- the table is there, and is a list
 abbrev pub HasMeta : Schema → Type 0
 HasMeta schema = IsTabled (tabled schema 0 0 meta_plan)
-
-module _ (schema : Schema) where
-  reads_back : IsReadBack (meta_list_in schema)
-  reads_back x fits = let k = kind_back x.kind in λ i. record { version = x.version; kind = k i }
-
-  agrees : AgreesInItsKey (meta_list_in schema)
-  unfolding everything
-  agrees x id new y = refl
-
-  pub meta_listed : HasMeta schema → IsList (meta_list_in schema)
-  meta_listed has =
-      listed (meta_list_in schema) (has, agrees) (λ x. refl) (λ id x. refl) (λ x id y. refl) (λ x. (cast_int _, (refl, tt)))
-      (λ n id x fits. one_found x.version n) (λ x id y fits suits. one_found y.version x.version)
-      reads_back

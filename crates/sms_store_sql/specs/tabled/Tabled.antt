@@ -22,7 +22,6 @@ use Rattle.sms_store_sql.specs.listing.Listing.{TableOf, ListOf, IsList, table_o
 use Rattle.sms_store_sql.specs.listing.Listing.{equals, is_key_index}
 use Rattle.sms_store_sql.specs.listing.Columns.{number}
 use Rattle.sms_store_sql.specs.listing.Making.{Adds}
-use Rattle.sms_store_sql.proofs.listing.Columns.{AllSuit, cast_row_same}
 use Rattle.sms_store_sql.specs.tabled.TablePlan.{TablePlan, names_of, key_places, made}
 use Rattle.sms_store_sql.specs.tabled.Texts.{create_text, delete_text, update_text, insert_text, select_text}
 
@@ -141,32 +140,3 @@ module _ {X : Type 0} (l : ListOf X) where
   -- what holds of the list by computation alone
   abbrev pub Computes : Type 0
   Computes = IsTabled l.table × AgreesInItsKey
-
-  -- the columns' kinds leave each value as it is
-  abbrev pub SuitsKinds : Type 0
-  SuitsKinds = (x : X) → AllSuit l.table.columns (l.columns x)
-
-  pub listed : Computes → IsWritten → IsRead → IsSet → SuitsKinds → FindsItsKey → MeetsItsKey → IsReadBack → IsList l
-  listed computes written read sets suits finds meets reads_back = let t = computes.0 in record {
-    there = t.there;
-    deletes = t.deletes.0;
-    deletes_alone = t.deletes.1;
-    updates = t.updates.0;
-    updates_alone = t.updates.1;
-    inserts = t.inserts.0;
-    inserts_alone = t.inserts.1;
-    selects = t.selects.0;
-    selects_alone = t.selects.1;
-    is_no_listing = t.is_no_listing;
-    own_tree = t.own_tree;
-    free = t.free;
-    written = written;
-    read = read;
-    stays = λ x. cast_row_same (table_of l.table) (l.columns x) (suits x);
-    finds = finds;
-    meets = meets;
-    guarded = t.guarded;
-    agrees = computes.1;
-    sets = sets;
-    reads_back = reads_back;
-  }

@@ -2,7 +2,7 @@
 ghost use Rattle.std.specs.Prelude.{◌≡◌, [], IfOk};
 ghost use Rattle.sqlite.specs.Held.{state};
 ghost use Rattle.sqlite.specs.Values.{bound};
-ghost use Rattle.sms_store_sql.specs.listing.Inside.{Alters, Counts, MakesStep, Keeps, Ran, RanOn, RanThree, Spares};
+ghost use Rattle.sms_store_sql.specs.listing.Inside.{Alters, Counts, MakesStep, Keeps, Ran, RanOn, Spares};
 ghost use Rattle.sms_rows.specs.table.Table.{all_applied, applied, put as put_row, without};
 
 use crate::listing::keyed::run_at;
@@ -50,27 +50,6 @@ pub fn make<K, T: Drop + StoredRow<K>, S: Alter>(tx: &mut Transaction<'_, S>) ->
 {
     let table = T::table();
     run(tx, table.create, &[])
-}
-
-/// Makes the tables of three lists, one after another.
-pub fn make_three<
-    K,
-    A: Drop + StoredRow<K>,
-    B: Drop + StoredRow<K>,
-    C: Drop + StoredRow<K>,
-    S: Alter,
->(
-    tx: &mut Transaction<'_, S>,
-) -> Result<(), Error>
-    ensures same_reference { tx.new.conn.ghost_name ≡ tx.old.conn.ghost_name }
-    ensures done { MakesStep S.Store tx.old.conn.now tx.new.conn.now
-        (RanThree A.list.table.create B.list.table.create C.list.table.create) result }
-    ensures uncommitted { Keeps S.Store tx.old.conn.now tx.new.conn.now }
-    ensures survives { Spares S.Store tx.old.conn.now tx.new.conn.now }
-{
-    make::<K, A, S>(tx)?;
-    make::<K, B, S>(tx)?;
-    make::<K, C, S>(tx)
 }
 
 /// Removes the row of the key, if there is one.

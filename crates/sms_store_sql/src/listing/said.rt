@@ -1,7 +1,8 @@
 //! The table that says what a store is, in every kind of store.
 ghost use Rattle.std.specs.Prelude.{refl};
 ghost use Rattle.sqlite.specs.Schema.{Schema};
-ghost use Rattle.sms_store_sql.specs.tabled.MetaTable.{HasMeta, meta_list_in, meta_listed};
+ghost use Rattle.sms_store_sql.specs.listing.Listing.{IsList};
+ghost use Rattle.sms_store_sql.specs.tabled.MetaTable.{meta_list_in};
 
 use crate::listing::inside::run_counted;
 use crate::listing::list::{Counted, StoredRow};
@@ -17,8 +18,8 @@ pub trait KindOfStore {
     /// Its tables.
     ghost schema: { Schema };
 
-    /// The table that says what it is is the first of them.
-    ghost has_meta: { HasMeta schema };
+    /// The first of them is the table that says what it is.
+    ghost meta_is_list: { IsList (meta_list_in schema) };
 }
 
 impl<K: KindOfStore> StoredRow<K> for Meta {
@@ -40,5 +41,5 @@ impl<K: KindOfStore> StoredRow<K> for Meta {
 
     ghost one_key = { λ x. refl };
 
-    ghost is_list = { meta_listed K.schema K.has_meta };
+    ghost is_list = { K.meta_is_list };
 }

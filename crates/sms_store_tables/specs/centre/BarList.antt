@@ -11,7 +11,8 @@ use Rattle.sms_store_tables.specs.centre.CentreSchema.{bar_plan, centre_schema}
 use Rattle.sms_store_tables.specs.centre.Types.{BarRow}
 use Rattle.sms_base.specs.AddressKind.{type_number}
 use Rattle.sms_store_sql.specs.listing.Addresses.{AreFew, IsStoredAddress, address_in}
-use Rattle.sms_store_sql.specs.tabled.Tabled.{Computes, IsReadBack, computed, listed, rows_by_one, tabled}
+use Rattle.sms_store_sql.specs.tabled.Tabled.{Computes, IsReadBack, computed, rows_by_one, tabled}
+use Rattle.sms_store_sql.proofs.tabled.Listed.{listed}
 
 -- a bar with its numbers in their ranges
 pub record IsStoredBar (b : BarRow) : Type 0 where

@@ -10,7 +10,8 @@ use Rattle.sms_store_sql.specs.listing.Listing.{ListOf, IsList}
 use Rattle.sms_store_sql.proofs.listing.Columns.{one_found, cast_int, characters_back}
 use Rattle.sms_store_tables.specs.centre.CentreSchema.{centre_schema, handset_plan}
 use Rattle.sms_store_tables.specs.centre.Types.{HandsetRow}
-use Rattle.sms_store_sql.specs.tabled.Tabled.{Computes, IsReadBack, computed, listed, rows_by_one, tabled}
+use Rattle.sms_store_sql.specs.tabled.Tabled.{Computes, IsReadBack, computed, rows_by_one, tabled}
+use Rattle.sms_store_sql.proofs.tabled.Listed.{listed}
 
 -- a handset with its numbers in their ranges
 pub record IsStoredHandset (h : HandsetRow) : Type 0 where

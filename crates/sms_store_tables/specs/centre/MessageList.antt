@@ -16,7 +16,8 @@ use Rattle.sms_store_sql.specs.listing.Addresses.{AreFew, IsStoredAddress, addre
 use Rattle.sms_store_sql.proofs.listing.Columns.{address_back}
 use Rattle.sms_store_tables.specs.centre.Pieces.{IsStoredOriginator, account_of, mark_of, originator_in, originator_back, mark_stays, wish_word, wish_in}
 use Rattle.sms_store_tables.specs.centre.Pieces.{wish_back, state_word, state_in, state_back}
-use Rattle.sms_store_sql.specs.tabled.Tabled.{Computes, IsReadBack, SuitsKinds, computed, listed, rows_by_one, tabled}
+use Rattle.sms_store_sql.specs.tabled.Tabled.{Computes, IsReadBack, computed, rows_by_one, tabled}
+use Rattle.sms_store_sql.proofs.tabled.Listed.{SuitsKinds, listed}
 
 -- a message with its numbers in their ranges
 pub record IsStoredMessage (m : MessageRow) : Type 0 where

@@ -19,8 +19,9 @@ use Rattle.sms_store_tables.specs.centre.Pieces.{IsStoredKey, IsStoredProgress, 
 use Rattle.sms_store_tables.specs.centre.Pieces.{progress_columns, progress_names}
 use Rattle.sms_store_tables.specs.amending.Amending.{AmendsOne}
 use Rattle.sms_centre_rows.specs.messages.Messages.{part_reaching}
-use Rattle.sms_store_sql.specs.tabled.Tabled.{Computes, IsCompiledTo, IsReadBack, SuitsKinds, computed, listed, rows_by_two, tabled}
-use Rattle.sms_store_sql.specs.tabled.TwoColumns.{two_found, two_meet}
+use Rattle.sms_store_sql.specs.tabled.Tabled.{Computes, IsCompiledTo, IsReadBack, computed, rows_by_two, tabled}
+use Rattle.sms_store_sql.proofs.tabled.Listed.{SuitsKinds, listed}
+use Rattle.sms_store_sql.proofs.tabled.TwoColumns.{two_found, two_meet}
 use Rattle.sms_store_sql.specs.tabled.Texts.{find_text, amend_text}
 
 -- a part with its numbers in their ranges

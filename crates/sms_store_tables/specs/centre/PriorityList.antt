@@ -9,7 +9,8 @@ use Rattle.sms_store_sql.specs.listing.Listing.{ListOf, IsList}
 use Rattle.sms_store_sql.proofs.listing.Columns.{one_found, cast_int}
 use Rattle.sms_store_tables.specs.centre.CentreSchema.{centre_schema, priority_plan}
 use Rattle.sms_store_tables.specs.centre.Types.{PriorityRow}
-use Rattle.sms_store_sql.specs.tabled.Tabled.{Computes, computed, listed, rows_by_one, tabled}
+use Rattle.sms_store_sql.specs.tabled.Tabled.{Computes, computed, rows_by_one, tabled}
+use Rattle.sms_store_sql.proofs.tabled.Listed.{listed}
 
 -- a priority with its numbers in their ranges
 pub record IsStoredPriority (p : PriorityRow) : Type 0 where

@@ -10,8 +10,9 @@ use Rattle.sms_store_sql.proofs.listing.Columns.{cast_int}
 use Rattle.sms_store_tables.specs.centre.CentreSchema.{centre_schema, reference_plan}
 use Rattle.sms_store_tables.specs.centre.Types.{ReferenceRow}
 use Rattle.sms_rows.specs.table.Keys.{pair_key}
-use Rattle.sms_store_sql.specs.tabled.Tabled.{Computes, computed, listed, rows_by_two, tabled}
-use Rattle.sms_store_sql.specs.tabled.TwoColumns.{two_found, two_meet}
+use Rattle.sms_store_sql.specs.tabled.Tabled.{Computes, computed, rows_by_two, tabled}
+use Rattle.sms_store_sql.proofs.tabled.Listed.{listed}
+use Rattle.sms_store_sql.proofs.tabled.TwoColumns.{two_found, two_meet}
 
 -- a reference with its numbers in their ranges
 pub record IsStoredReference (r : ReferenceRow) : Type 0 where

@@ -20,7 +20,8 @@ use Rattle.sms_store_tables.specs.centre.Pieces.{IsStoredKind, IsStoredProgress,
 use Rattle.sms_store_tables.specs.centre.Pieces.{progress_in, progress_back, progress_columns, progress_names}
 use Rattle.sms_store_tables.specs.amending.Amending.{AmendsOne}
 use Rattle.sms_centre_rows.specs.reports.Reports.{report_reaching}
-use Rattle.sms_store_sql.specs.tabled.Tabled.{Computes, IsCompiledTo, IsReadBack, computed, listed, rows_by_one, tabled}
+use Rattle.sms_store_sql.specs.tabled.Tabled.{Computes, IsCompiledTo, IsReadBack, computed, rows_by_one, tabled}
+use Rattle.sms_store_sql.proofs.tabled.Listed.{listed}
 use Rattle.sms_store_sql.specs.tabled.Texts.{find_text, amend_text, seek_text}
 
 -- a report with its numbers in their ranges

@@ -11,7 +11,8 @@ use Rattle.sms_store_tables.specs.handset.HandsetSchema.{handset_schema, mark_pl
 use Rattle.sms_store_tables.specs.handset.Types.{DiscardedGroup}
 use Rattle.sms_base.specs.AddressKind.{type_number}
 use Rattle.sms_store_tables.specs.handset.Groups.{IsStoredGroup, reference_bits, reference_number, group_in, group_back}
-use Rattle.sms_store_sql.specs.tabled.Tabled.{Computes, IsReadBack, computed, listed, rows_by_one, tabled}
+use Rattle.sms_store_sql.specs.tabled.Tabled.{Computes, IsReadBack, computed, rows_by_one, tabled}
+use Rattle.sms_store_sql.proofs.tabled.Listed.{listed}
 
 -- a mark with its numbers in their ranges
 pub record IsStoredMark (m : DiscardedGroup) : Type 0 where

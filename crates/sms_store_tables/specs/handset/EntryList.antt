@@ -22,7 +22,8 @@ use Rattle.sms_store_sql.proofs.listing.Columns.{AllSuit, address_back}
 use Rattle.sms_store_tables.specs.handset.Types.{Single, Part, Joined}
 use Rattle.sms_store_tables.specs.handset.Groups.{IsStoredGroup, reference_bits, reference_number, group_in, group_back}
 use Rattle.sms_store_tables.specs.handset.Words.{coding_word, coding_in, coding_back}
-use Rattle.sms_store_sql.specs.tabled.Tabled.{Computes, IsReadBack, computed, listed, rows_by_one, tabled}
+use Rattle.sms_store_sql.specs.tabled.Tabled.{Computes, IsReadBack, computed, rows_by_one, tabled}
+use Rattle.sms_store_sql.proofs.tabled.Listed.{listed}
 
 abbrev pub message_columns : Message → Row
 message_columns (Single tpdu) = Text (codes "single") ∷ Null ∷ Null ∷ Null ∷ Null ∷ Null ∷ Null ∷ Null ∷ Null ∷ Null ∷ Blob tpdu ∷ []

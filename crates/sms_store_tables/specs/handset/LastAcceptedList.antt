@@ -9,7 +9,8 @@ use Rattle.sms_store_sql.specs.listing.Listing.{ListOf, IsList}
 use Rattle.sms_store_sql.proofs.listing.Columns.{one_found, cast_int}
 use Rattle.sms_store_tables.specs.handset.HandsetSchema.{handset_schema, last_plan}
 use Rattle.sms_store_tables.specs.handset.Types.{LastAccepted}
-use Rattle.sms_store_sql.specs.tabled.Tabled.{Computes, computed, listed, rows_by_one, tabled}
+use Rattle.sms_store_sql.specs.tabled.Tabled.{Computes, computed, rows_by_one, tabled}
+use Rattle.sms_store_sql.proofs.tabled.Listed.{listed}
 
 abbrev pub last_list : ListOf LastAccepted
 last_list =

@@ -14,7 +14,8 @@ use Rattle.sms_base.specs.AddressKind.{type_number}
 use Rattle.sms_store_sql.specs.listing.Addresses.{IsStoredAddress, address_in}
 use Rattle.sms_store_sql.proofs.listing.Columns.{address_back}
 use Rattle.sms_store_tables.specs.handset.Words.{state_word, state_in, state_back}
-use Rattle.sms_store_sql.specs.tabled.Tabled.{Computes, IsReadBack, SuitsKinds, computed, listed, rows_by_one, tabled}
+use Rattle.sms_store_sql.specs.tabled.Tabled.{Computes, IsReadBack, computed, rows_by_one, tabled}
+use Rattle.sms_store_sql.proofs.tabled.Listed.{SuitsKinds, listed}
 
 -- an entry with its numbers in their ranges, and a SUBMIT of 1 to 200 octets
 pub record IsStoredOutEntry (o : OutEntry) : Type 0 where

@@ -1,6 +1,6 @@
 //! The kinds of store.
 ghost use Rattle.sms_store_tables.specs.centre.CentreSchema.{centre_schema, first_schema, second_schema};
-ghost use Rattle.sms_store_tables.specs.centre.MetaList.{first_has_meta, has_meta, second_has_meta};
+ghost use Rattle.sms_store_tables.specs.centre.MetaList.{first_is_list, meta_is_list, second_is_list};
 
 use sms_store_sql::listing::KindOfStore;
 
@@ -16,17 +16,17 @@ pub struct FirstCentreStore;
 impl KindOfStore for CentreStore {
     ghost schema = { centre_schema };
 
-    ghost has_meta = { has_meta };
+    ghost meta_is_list = { meta_is_list };
 }
 
 impl KindOfStore for SecondCentreStore {
     ghost schema = { second_schema };
 
-    ghost has_meta = { second_has_meta };
+    ghost meta_is_list = { second_is_list };
 }
 
 impl KindOfStore for FirstCentreStore {
     ghost schema = { first_schema };
 
-    ghost has_meta = { first_has_meta };
+    ghost meta_is_list = { first_is_list };
 }

@@ -1,6 +1,6 @@
 //! The kind of store.
 ghost use Rattle.sms_store_tables.specs.handset.HandsetSchema.{handset_schema};
-ghost use Rattle.sms_store_tables.specs.handset.MetaList.{has_meta};
+ghost use Rattle.sms_store_tables.specs.handset.MetaList.{meta_is_list};
 
 use sms_store_sql::listing::KindOfStore;
 
@@ -10,5 +10,5 @@ pub struct HandsetStore;
 impl KindOfStore for HandsetStore {
     ghost schema = { handset_schema };
 
-    ghost has_meta = { has_meta };
+    ghost meta_is_list = { meta_is_list };
 }
