@@ -23,17 +23,17 @@ abbrev pub count_list : ListOf CountersRow
 count_list =
     rows_by_one CountersRow (tabled handset_schema 5 10 count_plan) (λ c. 1)
     (λ c. number 1 ∷ number c.counters.entry ∷ number c.counters.message_reference ∷ number c.counters.reference ∷ number c.counters.concat_reference
-      ∷ number c.counters.notice ∷ flag c.counters.is_memory_full ∷ [])
+    ∷ number c.counters.notice ∷ flag c.counters.is_memory_full ∷ [])
     (λ row. record {
       counters =
-            record {
-              entry = number_in (column row 1);
-              message_reference = number_in (column row 2);
-              reference = number_in (column row 3);
-              concat_reference = number_in (column row 4);
-              notice = number_in (column row 5);
-              is_memory_full = flag_in (column row 6);
-            };
+          record {
+            entry = number_in (column row 1);
+            message_reference = number_in (column row 2);
+            reference = number_in (column row 3);
+            concat_reference = number_in (column row 4);
+            notice = number_in (column row 5);
+            is_memory_full = flag_in (column row 6);
+          };
     })
     (λ c. AreStored c.counters)
 

@@ -5,7 +5,9 @@ ghost use Rattle.sms_store.specs.handset.CountersList.{count_is_list, count_list
 
 use sms_handset::Counters;
 use sms_rows::table::{Key, Row as Keyed};
-use sms_store_sql::listing::{Counted, StoredRow, flag_at, octet_at, run_counted, short_at, word_at};
+use sms_store_sql::listing::{
+    Counted, StoredRow, flag_at, octet_at, run_counted, short_at, word_at,
+};
 use sms_store_sql::schema::StoredTable;
 use sms_store_tables::handset::{HandsetStore, counters_table};
 use sqlite::{Alter, Error, Row, Transaction, params};

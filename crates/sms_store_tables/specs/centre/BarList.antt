@@ -24,7 +24,7 @@ abbrev pub bar_list : ListOf BarRow
 bar_list =
     rows_by_one BarRow (tabled centre_schema 7 15 bar_plan) (λ x. x.place)
     (λ b. number b.place ∷ number (type_number b.source.ton) ∷ number b.source.npi ∷ Text (encode_utf8_all b.source.digits)
-      ∷ Text (encode_utf8_all b.handset) ∷ number b.reference ∷ flag b.is_own ∷ [])
+    ∷ Text (encode_utf8_all b.handset) ∷ number b.reference ∷ flag b.is_own ∷ [])
     (λ row. record {
       place = number_in (column row 0);
       source = address_in (column row 1) (column row 2) (column row 3);

@@ -36,9 +36,9 @@ abbrev pub message_list : ListOf MessageRow
 message_list =
     rows_by_one MessageRow (tabled centre_schema 1 2 message_plan) (λ x. x.id)
     (λ m. number m.id ∷ account_of m.originator ∷ mark_of m.originator ∷ number (type_number m.source.ton) ∷ number m.source.npi
-      ∷ Text (encode_utf8_all m.source.digits) ∷ Text (encode_utf8_all m.handset) ∷ number m.data_coding_scheme ∷ number m.protocol_identifier
-      ∷ Text (wish_word m.wish) ∷ number m.submitted ∷ number m.limit ∷ or_none number m.split_reference ∷ Text (state_word m.state) ∷ or_none number m.done
-      ∷ [])
+    ∷ Text (encode_utf8_all m.source.digits) ∷ Text (encode_utf8_all m.handset) ∷ number m.data_coding_scheme ∷ number m.protocol_identifier
+    ∷ Text (wish_word m.wish) ∷ number m.submitted ∷ number m.limit ∷ or_none number m.split_reference ∷ Text (state_word m.state) ∷ or_none number m.done
+    ∷ [])
     (λ row. record {
       id = number_in (column row 0);
       originator = originator_in (column row 1) (column row 2);
@@ -60,8 +60,7 @@ message_list =
 suits : SuitsKinds message_list
 suits x =
     let split = cast_optional number x.split_reference (λ n. cast_int _) in
-    let done = cast_optional number x.done (λ n. cast_int _) in
-    (
+    let done = cast_optional number x.done (λ n. cast_int _) in (
       cast_int _,
       (
         refl,

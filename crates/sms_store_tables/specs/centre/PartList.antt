@@ -36,8 +36,8 @@ abbrev pub part_list : ListOf PartRow
 part_list =
     rows_by_two PartRow (tabled centre_schema 2 4 part_plan) (λ x. pair_key x.id x.number)
     (λ p. number p.id ∷ number p.number ∷ number p.reference ∷ Blob p.tpdu ∷ or_none (λ (k : ConcatKey). number (reference_bits k.reference)) p.key
-      ∷ or_none (λ (k : ConcatKey). number (reference_number k.reference)) p.key ∷ or_none (λ (k : ConcatKey). number k.total) p.key
-      ∷ or_none (λ (k : ConcatKey). number k.number) p.key ∷ flag p.progress.is_done ∷ number p.progress.attempts ∷ number p.progress.due ∷ [])
+    ∷ or_none (λ (k : ConcatKey). number (reference_number k.reference)) p.key ∷ or_none (λ (k : ConcatKey). number k.total) p.key
+    ∷ or_none (λ (k : ConcatKey). number k.number) p.key ∷ flag p.progress.is_done ∷ number p.progress.attempts ∷ number p.progress.due ∷ [])
     (λ row. record {
       id = number_in (column row 0);
       number = number_in (column row 1);
@@ -52,8 +52,7 @@ part_list =
 
 suits : SuitsKinds part_list
 suits x =
-    let may = λ (write : ConcatKey → ℕ). cast_optional (λ (k : ConcatKey). number (write k)) x.key (λ k. cast_int _) in
-    (
+    let may = λ (write : ConcatKey → ℕ). cast_optional (λ (k : ConcatKey). number (write k)) x.key (λ k. cast_int _) in (
       cast_int _,
       (
         cast_int _,

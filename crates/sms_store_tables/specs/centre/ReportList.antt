@@ -35,7 +35,7 @@ abbrev pub report_list : ListOf ReportRow
 report_list =
     rows_by_one ReportRow (tabled centre_schema 5 10 report_plan) (λ x. x.place)
     (λ r. number r.place ∷ number r.id ∷ Text (kind_word r.kind) ∷ kind_reference r.kind ∷ kind_tpdu r.kind ∷ number r.made ∷ flag r.progress.is_done
-      ∷ number r.progress.attempts ∷ number r.progress.due ∷ [])
+    ∷ number r.progress.attempts ∷ number r.progress.due ∷ [])
     (λ row. record {
       place = number_in (column row 0);
       id = number_in (column row 1);

@@ -23,7 +23,7 @@ abbrev pub mark_list : ListOf DiscardedGroup
 mark_list =
     rows_by_one DiscardedGroup (tabled handset_schema 4 8 mark_plan) (λ x. x.number)
     (λ m. number m.number ∷ number (type_number m.group.source.ton) ∷ number m.group.source.npi ∷ Text (encode_utf8_all m.group.source.digits)
-      ∷ number (reference_bits m.group.reference) ∷ number (reference_number m.group.reference) ∷ number m.group.total ∷ Blob m.seen ∷ [])
+    ∷ number (reference_bits m.group.reference) ∷ number (reference_number m.group.reference) ∷ number m.group.total ∷ Blob m.seen ∷ [])
     (λ row. record {
       number = number_in (column row 0);
       group = group_in (column row 1) (column row 2) (column row 3) (column row 4) (column row 5) (column row 6);

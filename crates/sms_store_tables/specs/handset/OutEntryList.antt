@@ -32,8 +32,8 @@ abbrev pub out_list : ListOf OutEntry
 out_list =
     rows_by_one OutEntry (tabled handset_schema 3 6 out_plan) (λ x. x.number)
     (λ o. number o.number ∷ number o.message_reference ∷ number o.reference ∷ number (type_number o.destination.ton) ∷ number o.destination.npi
-      ∷ Text (encode_utf8_all o.destination.digits) ∷ Blob o.tpdu ∷ flag o.is_long ∷ Text (state_word o.state) ∷ number o.tries ∷ flag o.rejects_duplicates
-      ∷ or_none number o.due ∷ or_none number o.status ∷ [])
+    ∷ Text (encode_utf8_all o.destination.digits) ∷ Blob o.tpdu ∷ flag o.is_long ∷ Text (state_word o.state) ∷ number o.tries ∷ flag o.rejects_duplicates
+    ∷ or_none number o.due ∷ or_none number o.status ∷ [])
     (λ row. record {
       number = number_in (column row 0);
       message_reference = number_in (column row 1);
@@ -54,8 +54,7 @@ out_list =
 suits : SuitsKinds out_list
 suits x =
     let due = cast_optional number x.due (λ n. cast_int _) in
-    let status = cast_optional number x.status (λ n. cast_int _) in
-    (
+    let status = cast_optional number x.status (λ n. cast_int _) in (
       cast_int _,
       (
         cast_int _,

@@ -4,8 +4,7 @@ ghost use Rattle.sms_store_tables.specs.centre.MessageList.{message_is_list, mes
 
 use crate::centre::kind::CentreStore;
 use crate::centre::pieces::{
-    account_of, id_at, mark_of, originator_at, short_of, state_at, state_word, wish_at,
-    wish_word,
+    account_of, id_at, mark_of, originator_at, short_of, state_at, state_word, wish_at, wish_word,
 };
 use crate::key::{id_value, moment_value, seconds_of};
 use sms_centre_rows::messages::MessageRow;

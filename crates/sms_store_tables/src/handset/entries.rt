@@ -10,9 +10,9 @@ ghost use Rattle.sms_store_tables.specs.handset.Types.{Joined, Part, Single};
 ghost use Rattle.sms_store_tables.specs.handset.EntryList.{IsStoredMessage, entry_is_list, entry_list, joined_in, message_in, part_in, row_columns};
 
 use crate::handset::group::group_at;
-use crate::references::{reference_bits, reference_number};
 use crate::handset::kind::HandsetStore;
 use crate::handset::words::{coding_at, coding_word};
+use crate::references::{reference_bits, reference_number};
 use sms_base::{Address, Octets};
 use sms_concat::Content;
 use sms_handset_rows::inbox::{Entry, Group, Message};
