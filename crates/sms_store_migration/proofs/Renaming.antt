@@ -1,5 +1,5 @@
 -- What a whole migration makes of a store of an earlier version.
-use Rattle.std.proofs.Common.{◌≡◌, ◌⊎◌, inl, inr, ℕ, IsTrue, List, [], ◌∷◌, refl, sym, ap, subst, ◌∙◌, arith, IsPermutation}
+use Rattle.std.proofs.Common.{◌≡◌, ◌⊎◌, inl, inr, ℕ, IsTrue, List, [], ◌∷◌, refl, sym, ap, subst, ◌∙◌, arith}
 use Rattle.std.proofs.lemmas.List.Sorted.{IsPermutation-refl}
 use Rattle.sqlite.specs.Effect.{Database}
 use Rattle.sqlite.specs.Order.{Row}
@@ -22,8 +22,8 @@ use Rattle.sms_store_tables.specs.centre.HandsetList.{handset_list}
 use Rattle.sms_store_tables.specs.centre.ReportList.{report_list}
 use Rattle.sms_store_tables.specs.centre.PriorityList.{priority_list}
 use Rattle.sms_store_tables.specs.centre.Completing.{Completes, MakesBars}
-use Rattle.sms_store_migration.specs.Migrating.{Ranks, Renames, Migrates, MigratesSecond, migrated}
-use Rattle.sms_store_migration.specs.Versions.{AreStore, IsFirstStore, IsSecondStore, IsStore, centre_meta, first_meta, meta_of, second_meta}
+use Rattle.sms_store_migration.specs.Migrating.{Ranks, Renames, Migrates, MigratesSecond}
+use Rattle.sms_store_migration.specs.Versions.{AreStore, IsStore, centre_meta, first_meta, meta_of, second_meta}
 use Rattle.sms_store_migration.specs.Types.{BarRow, Rows, Meta}
 use Rattle.sms_store_migration.proofs.Apart.{free_0, free_2, free_4, free_6, free_8, free_10, free_12, free_15}
 

@@ -1,15 +1,12 @@
 -- What the texts that make the tables lead to.
-use Rattle.std.proofs.Common.{◌≡◌, ◌≢◌, ℕ, List, [], ◌∷◌, refl, sym, ap, subst, ◌∙◌, arith}
-use Rattle.std.proofs.lemmas.List.Sorted.{IsPermutation-refl}
+use Rattle.std.proofs.Common.{◌≡◌, ◌≢◌, List, [], ◌∷◌, refl, ◌∙◌, arith}
 use Rattle.sqlite.specs.Effect.{Database}
-use Rattle.sqlite.specs.Order.{Row}
 use Rattle.sqlite.specs.State.{State}
 use Rattle.sqlite_rules.specs.Edit.{IsNoIndex}
 use Rattle.sms_rows.specs.table.Table.{put}
 use Rattle.sms_store_sql.specs.schema.Blank.{no_tables}
 use Rattle.sms_store_sql.specs.listing.Inside.{Alters, Ran}
 use Rattle.sms_store_sql.specs.listing.Listing.{ListOf, Represents}
-use Rattle.sms_store_sql.specs.listing.Transaction.{Leads}
 use Rattle.sms_store_sql.proofs.listing.Making.{makes}
 use Rattle.sms_store_tables.specs.handset.HandsetSchema.{with_meta, with_entry, with_last, with_out, with_mark, handset_schema, adds_meta, adds_entry, adds_last, adds_out, adds_mark, adds_count, count_plan, entry_plan, last_plan, mark_plan, out_plan}
 use Rattle.sms_store.specs.keeping.Stores.{Founds}

@@ -1,7 +1,7 @@
 -- Why a database is no centre's store of the wanted version. Where version 3 is wanted, each earlier one is refused as such. Where an
 -- earlier one will do, of its tables only those below it. No such store is one with other tables, or one that says another kind or a later
 -- version. One that does not say what it is is none, too.
-use Rattle.std.specs.Prelude.{◌≡◌, ◌≢◌, ◌⊎◌, ℕ, max, Result, Ok, Err}
+use Rattle.std.specs.Prelude.{◌≢◌, ◌⊎◌, ℕ, max, Result, Err}
 use Rattle.sqlite.specs.Effect.{Database}
 use Rattle.sms_rows.specs.declared.keep.error.KeepError.{KeepError}
 use Rattle.sms_rows.specs.declared.keep.error.KeepError.TheVariants.{OldVersion, NotThisStore}

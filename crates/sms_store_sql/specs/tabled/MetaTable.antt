@@ -1,16 +1,15 @@
 -- The table that says what a store is, and the list of its rows, whatever other tables the store has.
-use Rattle.std.specs.Prelude.{[], ◌∷◌, codes, refl}
+use Rattle.std.specs.Prelude.{[], ◌∷◌, codes}
 use Rattle.sqlite.specs.declared.types.Value.TheVariants.{Text}
 use Rattle.sqlite.specs.Kind.TheVariants as kinds
 use Rattle.sqlite.specs.Schema.{Schema}
 use Rattle.sqlite_value.specs.Order.{column}
-use Rattle.sqlite_tied.specs.Compute.{everything}
 use Rattle.sms_store_sql.specs.declared.listing.meta.Meta.{Meta}
 use Rattle.sms_store_sql.specs.listing.Columns.{IsWord, number, number_in, text_in}
-use Rattle.sms_store_sql.specs.listing.Listing.{ListOf, IsList, given}
-use Rattle.sms_store_sql.specs.listing.Meta.{kind_word, kind_in, kind_back}
+use Rattle.sms_store_sql.specs.listing.Listing.{ListOf, given}
+use Rattle.sms_store_sql.specs.listing.Meta.{kind_word, kind_in}
 use Rattle.sms_store_sql.specs.tabled.TablePlan.{TablePlan}
-use Rattle.sms_store_sql.specs.tabled.Tabled.{IsTabled, AgreesInItsKey, IsReadBack, listed, rows_by_one, tabled}
+use Rattle.sms_store_sql.specs.tabled.Tabled.{IsTabled, rows_by_one, tabled}
 
 abbrev pub meta_plan : TablePlan
 meta_plan = record { name = codes "meta"; columns = given (codes "version") kinds.Integer ∷ given (codes "kind") kinds.Text ∷ []; key = 1 }

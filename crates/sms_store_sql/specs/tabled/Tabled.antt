@@ -18,7 +18,7 @@ use Rattle.sqlite_schema.specs.declared.schema.Keys.{Keys}
 use Rattle.sqlite_schema.specs.Rules.{agree}
 use Rattle.sqlite_sql.specs.Term.{eval_all}
 use Rattle.sqlite_value.specs.Keys.{plain}
-use Rattle.sms_store_sql.specs.listing.Listing.{TableOf, ListOf, IsList, table_of, rowids_where, rows_where, whole_table, given_from, row_of, columns_of}
+use Rattle.sms_store_sql.specs.listing.Listing.{TableOf, ListOf, table_of, rowids_where, rows_where, whole_table, given_from, row_of, columns_of}
 use Rattle.sms_store_sql.specs.listing.Listing.{equals, is_key_index}
 use Rattle.sms_store_sql.specs.listing.Columns.{number}
 use Rattle.sms_store_sql.specs.listing.Making.{Adds}

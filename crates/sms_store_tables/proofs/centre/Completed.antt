@@ -1,5 +1,5 @@
 -- What the texts lead to that make what version 1 lacks.
-use Rattle.std.proofs.Common.{◌≡◌, List, ℕ, [], refl, ◌∙◌}
+use Rattle.std.proofs.Common.{List, ℕ, [], refl, ◌∙◌}
 use Rattle.sqlite.specs.Effect.{Database}
 use Rattle.sqlite.specs.Order.{Row}
 use Rattle.sqlite.specs.State.{State}

@@ -1,12 +1,12 @@
 -- What is written in several columns, or as a word, has each column as its reader wants it.
-use Rattle.std.proofs.Common.{◌≡◌, ℕ, ◌+◌, ◌<◌, true, false, nat_eq, bytes_eq, List, Option, Some, None, IfSome, IsUtf8, codes, refl, arith}
+use Rattle.std.proofs.Common.{◌≡◌, ℕ, true, false, bytes_eq, List, Option, Some, None, IfSome, IsUtf8, codes, refl}
 use Rattle.sqlite.specs.Order.{Row}
 use Rattle.sqlite.specs.declared.types.Value.TheVariants.{Blob}
 use Rattle.sqlite_sql.specs.Ops.{is_null}
-use Rattle.sms_store_sql.specs.listing.Columns.{IsOctet, IsShort, number, or_none}
+use Rattle.sms_store_sql.specs.listing.Columns.{IsOctet, number, or_none}
 use Rattle.sms_store_sql.specs.listing.Reading.{HasAt}
-use Rattle.sms_store_tables.specs.centre.Pieces.{HasKey, IsStoredKey, IsStoredKind, IsStoredOriginator, IsStoredReference, account_of, kind_reference, kind_tpdu, kind_word, mark_of, reference_bits, reference_number, state_word, wish_word}
-use Rattle.sms_store_tables.specs.centre.Types.{FinalState, Delivered, Expired, Deleted, Undeliverable, ConcatKey, ConcatReference, EightBit, SixteenBit, Originator, Application, Handset, Wish, Nothing, Always, OnFailure, ReportKind, Receipt, Status, Unsent}
+use Rattle.sms_store_tables.specs.centre.Pieces.{HasKey, IsStoredKey, IsStoredKind, IsStoredOriginator, account_of, kind_reference, kind_tpdu, kind_word, mark_of, reference_bits, state_word, wish_word}
+use Rattle.sms_store_tables.specs.centre.Types.{FinalState, Delivered, Expired, Deleted, Undeliverable, ConcatKey, Originator, Application, Handset, Wish, Nothing, Always, OnFailure, ReportKind, Receipt, Status, Unsent}
 
 -- ---- words
 

@@ -34,7 +34,7 @@ reads_back x fits = let d = characters_back x.number fits.number.are in λ i. re
 computes : Computes handset_list
 unfolding understood everything
 computes = (
-  computed handset_list.table refl (refl, (refl, refl)) (refl, (refl, refl)) (refl, (refl, refl)) (refl, (refl, refl)) refl (λ db. refl) (λ keys olds news. refl) refl,
+  computed handset_list.table refl (refl, (refl, refl)) (refl, (refl, refl)) (refl, (refl, refl)) (refl, (refl, refl)) refl (λ d. refl) (λ k o n. refl) refl,
   λ x id new y. refl,
 )
 

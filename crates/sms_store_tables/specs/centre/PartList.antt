@@ -1,25 +1,23 @@
 -- The parts of messages.
-use Rattle.std.specs.Prelude.{◌≡◌, ℕ, ◌++◌, ◌==◌, ℤ, List, [], ◌∷◌, IfSome, refl}
-use Rattle.std.specs.List.{list_all}
-use Rattle.sqlite.specs.declared.types.Value.TheVariants.{Int, Blob}
+use Rattle.std.specs.Prelude.{ℕ, ◌++◌, List, [], ◌∷◌, IfSome, refl}
+use Rattle.sqlite.specs.declared.types.Value.TheVariants.{Blob}
 use Rattle.sqlite_value.specs.Order.{column}
-use Rattle.sqlite.specs.Term.{Term, col, holds}
-use Rattle.sqlite.specs.Command.TheVariants.{Update}
+use Rattle.sqlite.specs.Term.{Term}
 use Rattle.sqlite.specs.Listing.{understood}
 use Rattle.sqlite_tied.specs.Compute.{everything}
 use Rattle.sms_base.specs.MessageId.{IsMessageId}
 use Rattle.sms_store_sql.specs.listing.Columns.{IsOctet, number, number_in, octets_in, flag, or_none}
 use Rattle.sms_store_sql.specs.listing.Finding.{FindsOne}
-use Rattle.sms_store_sql.specs.listing.Listing.{rows_where, ListOf, IsList, given_from, columns_of}
+use Rattle.sms_store_sql.specs.listing.Listing.{ListOf, IsList, given_from, columns_of}
 use Rattle.sms_store_sql.proofs.listing.Columns.{cast_int, cast_flag, cast_optional}
 use Rattle.sms_store_tables.specs.centre.CentreSchema.{centre_schema, part_plan}
-use Rattle.sms_store_tables.specs.centre.Types.{PartRow, ConcatKey, Progress}
+use Rattle.sms_store_tables.specs.centre.Types.{PartRow, ConcatKey}
 use Rattle.sms_rows.specs.table.Keys.{pair_key}
 use Rattle.sms_store_tables.specs.centre.Pieces.{IsStoredKey, IsStoredProgress, reference_bits, reference_number, key_in, key_back, progress_in, progress_back}
 use Rattle.sms_store_tables.specs.centre.Pieces.{progress_columns, progress_names}
-use Rattle.sms_store_tables.specs.amending.Amending.{AmendsOne}
+use Rattle.sms_store_tables.specs.amending.Amending.{AmendsOne, ChangesColumns, FindsToAmend}
 use Rattle.sms_centre_rows.specs.messages.Messages.{part_reaching}
-use Rattle.sms_store_sql.specs.tabled.Tabled.{Computes, IsCompiledTo, IsReadBack, computed, rows_by_two, tabled}
+use Rattle.sms_store_sql.specs.tabled.Tabled.{Computes, IsReadBack, computed, rows_by_two, tabled}
 use Rattle.sms_store_sql.proofs.tabled.Listed.{SuitsKinds, listed}
 use Rattle.sms_store_sql.proofs.tabled.TwoColumns.{two_found, two_meet}
 use Rattle.sms_store_sql.specs.tabled.Texts.{find_text, amend_text}
@@ -81,7 +79,7 @@ reads_back x fits =
 computes : Computes part_list
 unfolding understood everything
 computes = (
-  computed part_list.table refl (refl, (refl, refl)) (refl, (refl, refl)) (refl, (refl, refl)) (refl, (refl, refl)) refl (λ db. refl) (λ keys olds news. refl) refl,
+  computed part_list.table refl (refl, (refl, refl)) (refl, (refl, refl)) (refl, (refl, refl)) (refl, (refl, refl)) refl (λ d. refl) (λ k o n. refl) refl,
   λ x id new y. refl,
 )
 
@@ -111,13 +109,11 @@ amend_part = amend_text part_plan progress_names
 abbrev pub part_amended : List Term
 part_amended = columns_of 8 ++ given_from 2 3
 
-amending : IsCompiledTo part_list.table amend_part
-    (Update part_list.table.place (record { lets = []; body = rows_where part_list.table.tree part_list.table.tests (col 1 0 ∷ col 1 0 ∷ part_amended) }))
+amending : ChangesColumns part_list amend_part part_amended
 unfolding understood everything
 amending = (refl, (refl, refl))
 
-amend_finds : (n : ℕ) (q : Progress) (id : ℤ) (x : PartRow) → part_list.Fits x
-    → list_all (holds ((part_list.key_columns n ++ progress_columns q) ∷ (Int id ∷ part_list.columns x) ∷ [])) part_list.table.tests ≡ (part_list.key x == n)
+amend_finds : FindsToAmend part_list progress_columns
 amend_finds n q id x fits = two_found x.id x.number n fits.number
 
 pub part_amends : AmendsOne part_list amend_part part_reaching progress_columns part_amended

@@ -1,6 +1,6 @@
 -- What the store has in several columns, or as a word.
 pub use Rattle.sms_store_tables.specs.References.{IsStoredReference, reference_bits, reference_number}
-use Rattle.std.specs.Prelude.{◌≡◌, ℕ, ◌+◌, ⊤, nat_eq, if◌then◌else◌, List, [], ◌∷◌, codes, Option, Some, None, refl}
+use Rattle.std.specs.Prelude.{◌≡◌, ℕ, ◌+◌, ⊤, if◌then◌else◌, List, [], ◌∷◌, codes, Option, Some, None, refl}
 use Rattle.sqlite.specs.Order.{Row}
 use Rattle.sqlite.specs.declared.types.Value.{Value}
 use Rattle.sqlite.specs.declared.types.Value.TheVariants.{Null, Blob}
@@ -8,11 +8,11 @@ use Rattle.sqlite.specs.Cast.{cast}
 use Rattle.sqlite.specs.Kind.TheVariants.{Integer}
 use Rattle.sqlite_sql.specs.Ops.{is_null}
 use Rattle.sms_base.specs.TimeStamp.{IsMoment}
-use Rattle.sms_store_sql.specs.listing.Columns.{IsOctet, IsShort, number, number_in, octets_in, flag, flag_in, or_none, is_word}
+use Rattle.sms_store_sql.specs.listing.Columns.{IsOctet, number, number_in, octets_in, flag, flag_in, or_none, is_word}
 use Rattle.sms_store_sql.specs.listing.Reading.{HasAt}
 use Rattle.sms_store_sql.proofs.listing.Columns.{cast_int, cast_null, flag_back}
 use Rattle.sms_store_tables.specs.References.{reference_back, reference_in}
-use Rattle.sms_store_tables.specs.centre.Types.{FinalState, Delivered, Expired, Deleted, Undeliverable, ConcatKey, ConcatReference, EightBit, SixteenBit}
+use Rattle.sms_store_tables.specs.centre.Types.{FinalState, Delivered, Expired, Deleted, Undeliverable, ConcatKey}
 use Rattle.sms_store_tables.specs.centre.Types.{Originator, Application, Handset, Wish, Nothing, Always, OnFailure, ReportKind, Receipt, Status, Unsent}
 use Rattle.sms_store_tables.specs.centre.Types.{Progress}
 

@@ -32,7 +32,7 @@ reference_list =
 computes : Computes reference_list
 unfolding understood everything
 computes = (
-  computed reference_list.table refl (refl, (refl, refl)) (refl, (refl, refl)) (refl, (refl, refl)) (refl, (refl, refl)) refl (λ db. refl) (λ keys olds news. refl) refl,
+  computed reference_list.table refl (refl, (refl, refl)) (refl, (refl, refl)) (refl, (refl, refl)) (refl, (refl, refl)) refl (λ d. refl) (λ k o n. refl) refl,
   λ x id new y. refl,
 )
 

@@ -3,8 +3,8 @@ use Rattle.std.specs.Prelude.{◌≡◌, ℕ, ◌++◌, ◌==◌, ℤ, List, [],
 use Rattle.std.specs.List.{list_all}
 use Rattle.sqlite.specs.declared.types.Value.TheVariants.{Int, Text}
 use Rattle.sqlite_value.specs.Order.{column}
-use Rattle.sqlite.specs.Term.{Term, col, holds}
-use Rattle.sqlite.specs.Command.TheVariants.{Update, Select}
+use Rattle.sqlite.specs.Term.{Term, holds}
+use Rattle.sqlite.specs.Command.TheVariants.{Select}
 use Rattle.sqlite.specs.Listing.{understood}
 use Rattle.sqlite_tied.specs.Compute.{everything}
 use Rattle.sms_base.specs.MessageId.{IsMessageId}
@@ -15,10 +15,10 @@ use Rattle.sms_store_sql.specs.listing.Seeking.{SeeksBy}
 use Rattle.sms_store_sql.specs.listing.Listing.{rows_where, ListOf, IsList, given_from, columns_of, equals}
 use Rattle.sms_store_sql.proofs.listing.Columns.{one_found, cast_int, cast_flag}
 use Rattle.sms_store_tables.specs.centre.CentreSchema.{centre_schema, report_plan}
-use Rattle.sms_store_tables.specs.centre.Types.{ReportRow, Progress}
+use Rattle.sms_store_tables.specs.centre.Types.{ReportRow}
 use Rattle.sms_store_tables.specs.centre.Pieces.{IsStoredKind, IsStoredProgress, kind_word, kind_reference, kind_tpdu, kind_in, kind_back, reference_stays}
 use Rattle.sms_store_tables.specs.centre.Pieces.{progress_in, progress_back, progress_columns, progress_names}
-use Rattle.sms_store_tables.specs.amending.Amending.{AmendsOne}
+use Rattle.sms_store_tables.specs.amending.Amending.{AmendsOne, ChangesColumns, FindsToAmend}
 use Rattle.sms_centre_rows.specs.reports.Reports.{report_reaching}
 use Rattle.sms_store_sql.specs.tabled.Tabled.{Computes, IsCompiledTo, IsReadBack, computed, rows_by_one, tabled}
 use Rattle.sms_store_sql.proofs.tabled.Listed.{listed}
@@ -56,7 +56,7 @@ reads_back x fits =
 computes : Computes report_list
 unfolding understood everything
 computes = (
-  computed report_list.table refl (refl, (refl, refl)) (refl, (refl, refl)) (refl, (refl, refl)) (refl, (refl, refl)) refl (λ db. refl) (λ keys olds news. refl) refl,
+  computed report_list.table refl (refl, (refl, refl)) (refl, (refl, refl)) (refl, (refl, refl)) (refl, (refl, refl)) refl (λ d. refl) (λ k o n. refl) refl,
   λ x id new y. refl,
 )
 
@@ -85,13 +85,11 @@ amend_report = amend_text report_plan progress_names
 abbrev pub report_amended : List Term
 report_amended = columns_of 6 ++ given_from 1 3
 
-amending : IsCompiledTo report_list.table amend_report
-    (Update report_list.table.place (record { lets = []; body = rows_where report_list.table.tree report_list.table.tests (col 1 0 ∷ col 1 0 ∷ report_amended) }))
+amending : ChangesColumns report_list amend_report report_amended
 unfolding understood everything
 amending = (refl, (refl, refl))
 
-amend_finds : (n : ℕ) (q : Progress) (id : ℤ) (x : ReportRow) → report_list.Fits x
-    → list_all (holds ((report_list.key_columns n ++ progress_columns q) ∷ (Int id ∷ report_list.columns x) ∷ [])) report_list.table.tests ≡ (report_list.key x == n)
+amend_finds : FindsToAmend report_list progress_columns
 amend_finds n q id x fits = one_found x.place n
 
 pub report_amends : AmendsOne report_list amend_report report_reaching progress_columns report_amended

@@ -39,7 +39,7 @@ reads_back x fits = let g = group_back x.group fits.group.source.digits.are in �
 computes : Computes mark_list
 unfolding understood everything
 computes = (
-  computed mark_list.table refl (refl, (refl, refl)) (refl, (refl, refl)) (refl, (refl, refl)) (refl, (refl, refl)) refl (λ db. refl) (λ keys olds news. refl) refl,
+  computed mark_list.table refl (refl, (refl, refl)) (refl, (refl, refl)) (refl, (refl, refl)) (refl, (refl, refl)) refl (λ d. refl) (λ k o n. refl) refl,
   λ x id new y. refl,
 )
 

@@ -118,7 +118,7 @@ reads_back x fits = let m = message_back x.number x.slots x.message fits.message
 computes : Computes entry_list
 unfolding understood everything
 computes = (
-  computed entry_list.table refl (refl, (refl, refl)) (refl, (refl, refl)) (refl, (refl, refl)) (refl, (refl, refl)) refl (λ db. refl) (λ keys olds news. refl) refl,
+  computed entry_list.table refl (refl, (refl, refl)) (refl, (refl, refl)) (refl, (refl, refl)) (refl, (refl, refl)) refl (λ d. refl) (λ k o n. refl) refl,
   λ x id new y. refl,
 )
 

@@ -1,12 +1,12 @@
 -- Groups of parts in six columns.
 pub use Rattle.sms_store_tables.specs.References.{IsStoredReference, reference_bits, reference_number}
-use Rattle.std.specs.Prelude.{◌≡◌, ℕ, ◌+◌, true, nat_eq, if◌then◌else◌, encode_utf8_all, refl}
+use Rattle.std.specs.Prelude.{◌≡◌, ℕ, ◌+◌, true, encode_utf8_all}
 use Rattle.std.specs.Str.{all_scalars}
 use Rattle.sqlite.specs.Order.{Row}
 use Rattle.sqlite.specs.declared.types.Value.{Value}
 use Rattle.sqlite.specs.declared.types.Value.TheVariants.{Text}
 use Rattle.sms_base.specs.AddressKind.{type_number}
-use Rattle.sms_store_sql.specs.listing.Columns.{IsOctet, IsShort, number, number_in}
+use Rattle.sms_store_sql.specs.listing.Columns.{IsOctet, number, number_in}
 use Rattle.sms_store_sql.specs.listing.Addresses.{IsStoredAddress, address_in}
 use Rattle.sms_store_sql.specs.listing.Reading.{HasAt}
 use Rattle.sms_store_sql.proofs.listing.Columns.{address_back}

@@ -24,7 +24,7 @@ last_list =
 computes : Computes last_list
 unfolding understood everything
 computes = (
-  computed last_list.table refl (refl, (refl, refl)) (refl, (refl, refl)) (refl, (refl, refl)) (refl, (refl, refl)) refl (λ db. refl) (λ keys olds news. refl) refl,
+  computed last_list.table refl (refl, (refl, refl)) (refl, (refl, refl)) (refl, (refl, refl)) (refl, (refl, refl)) refl (λ d. refl) (λ k o n. refl) refl,
   λ x id new y. refl,
 )
 

@@ -1,7 +1,7 @@
 use Rattle.std.proofs.Common.{◌≡◌, [], ◌∷◌, map, refl, sym, ◌∙◌}
-use Rattle.sms_store_sql.specs.schema.StoredTable.{index_planned, table_planned}
+use Rattle.sms_store_sql.specs.schema.StoredTable.{table_planned}
 use Rattle.sms_store_sql.proofs.schema.Judging.{first_planned}
-use Rattle.sms_store_tables.specs.centre.CentreSchema.{centre_indexes, centre_tables}
+use Rattle.sms_store_tables.specs.centre.CentreSchema.{centre_tables}
 use Rattle.sms_store_tables.proofs.centre.schema.has_first.Goals as goal
 
 pub returns-clause-yes : goal.returns-clause-yes

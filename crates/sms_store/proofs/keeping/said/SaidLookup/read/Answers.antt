@@ -1,4 +1,4 @@
-use Rattle.std.proofs.Common.{rules, ◌≡◌, ◌∙◌}
+use Rattle.std.proofs.Common.{rules, ◌∙◌}
 use Rattle.sms_store_sql.proofs.listing.Verdicts.{judged_alike}
 use Rattle.sms_store.proofs.keeping.said.SaidLookup.read.Goals as goal
 
