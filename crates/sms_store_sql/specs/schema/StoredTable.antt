@@ -10,7 +10,8 @@ use Rattle.sms_store_sql.specs.listing.Listing.{keyed_table}
 use Rattle.sms_store_sql.specs.schema.ColumnPlan.{column_of}
 
 abbrev pub index_planned : IndexPlan → Index
-index_planned plan = record { name = plan.name.now; tree = plan.tree; table = plan.table; columns = plan.columns.now; order = plain; is_unique = plan.is_unique }
+index_planned plan =
+    record { name = plan.name.now; tree = plan.tree; table = plan.table; columns = plan.columns.now; order = plain; is_unique = plan.is_unique }
 
 abbrev pub table_planned : StoredTable → Table
 table_planned plan = keyed_table plan.name.now plan.tree (map column_of plan.columns.now) plan.key.now

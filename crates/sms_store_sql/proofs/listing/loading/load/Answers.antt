@@ -11,7 +11,7 @@ pub returns-clause-found : goal.returns-clause-found
 returns-clause-found g c clean ours =
     let list = g.T.StoredRow.list in
     let is = g.met.T.StoredRow.is_list in
-    let shown = rw c.table.ensures.select at (c.in_ok-rows.ensures.ok clean) in
+    let shown = rw c.table-table.ensures.select at (c.in_ok-rows.ensures.ok clean) in
     let plain = subst (λ s. IsPlain (understood s list.table.select)) (sym ours) is.selects_alone in
     let kept = shown_unchanged list.table.select [] _ _ _ plain shown in
     let made = rw c.deref.ensures.value at c.in_ok-rows_of.ensures.found in
@@ -24,31 +24,31 @@ returns-clause-found g c clean ours =
     )) c.in_order.ensures.sorted
 
 pub returns-in_err-rows-clause-uncommitted : goal.returns-in_err-rows-clause-uncommitted
-returns-in_err-rows-clause-uncommitted g c clean ours = keeps_if_refused g.T.StoredRow.list.table.select [] _ _ _ (rw c.table.ensures.select at (c.in_err-rows.ensures.err clean))
+returns-in_err-rows-clause-uncommitted g c clean ours = keeps_if_refused g.T.StoredRow.list.table.select [] _ _ _ (rw c.table-table.ensures.select at (c.in_err-rows.ensures.err clean))
 
 pub returns-in_err-rows_of-clause-uncommitted : goal.returns-in_err-rows_of-clause-uncommitted
 returns-in_err-rows_of-clause-uncommitted g c clean ours =
     let list = g.T.StoredRow.list in
     let plain = subst (λ s. IsPlain (understood s list.table.select)) (sym ours) g.met.T.StoredRow.is_list.selects_alone in
-    keeps_if _ _ (inl (shown_unchanged list.table.select [] _ _ _ plain (rw c.table.ensures.select at (c.in_ok-rows.ensures.ok clean))))
+    keeps_if _ _ (inl (shown_unchanged list.table.select [] _ _ _ plain (rw c.table-table.ensures.select at (c.in_ok-rows.ensures.ok clean))))
 
 pub returns-clause-uncommitted : goal.returns-clause-uncommitted
 returns-clause-uncommitted g c clean ours =
     let list = g.T.StoredRow.list in
     let plain = subst (λ s. IsPlain (understood s list.table.select)) (sym ours) g.met.T.StoredRow.is_list.selects_alone in
-    keeps_if _ _ (inl (shown_unchanged list.table.select [] _ _ _ plain (rw c.table.ensures.select at (c.in_ok-rows.ensures.ok clean))))
+    keeps_if _ _ (inl (shown_unchanged list.table.select [] _ _ _ plain (rw c.table-table.ensures.select at (c.in_ok-rows.ensures.ok clean))))
 
 pub returns-in_err-rows-clause-back : goal.returns-in_err-rows-clause-back
 returns-in_err-rows-clause-back g c clean ours xs held =
     let list = g.T.StoredRow.list in
     let plain = subst (λ s. IsPlain (understood s list.table.select)) (sym ours) g.met.T.StoredRow.is_list.selects_alone in
-    let none = of_query list.table.select [] _ _ _ plain (rw c.table.ensures.select at (c.in_err-rows.ensures.err clean)) in
+    let none = of_query list.table.select [] _ _ _ plain (rw c.table-table.ensures.select at (c.in_err-rows.ensures.err clean)) in
     search (rules, none)
 
 pub returns-in_err-rows_of-clause-back : goal.returns-in_err-rows_of-clause-back
 returns-in_err-rows_of-clause-back g c clean ours xs held =
     let list = g.T.StoredRow.list in
-    let shown = rw c.table.ensures.select at (c.in_ok-rows.ensures.ok clean) in
+    let shown = rw c.table-table.ensures.select at (c.in_ok-rows.ensures.ok clean) in
     let found = finds list g.met.T.StoredRow.is_list _ _ _ ours shown xs held in
     let lacks = (rw c.deref.ensures.value at c.in_err-rows_of.ensures.back) found.0 found.3 found.1 in
     let none = of_memory _ lacks in

@@ -6,10 +6,10 @@ use Rattle.sms_store_tables.proofs.centre.schema.has_first.Goals as goal
 
 pub returns-clause-yes : goal.returns-clause-yes
 returns-clause-yes c is =
-    let same : map table_planned (c.table.result ∷ c.table-2.result ∷ c.table-3.result ∷ c.table-4.result ∷ c.table-5.result ∷ c.table-6.result ∷ c.table-7.result ∷ c.table-8.result ∷ []) ≡ centre_tables = rw (c.table.ensures.planned, c.table-2.ensures.planned, c.table-3.ensures.planned, c.table-4.ensures.planned, c.table-5.ensures.planned, c.table-6.ensures.planned, c.table-7.ensures.planned, c.table-8.ensures.planned) refl in
-    c.is_schema.ensures.yes is ∙ first_planned c.args.tables c.args.indexes _ _ _ _ same (rw (c.table.ensures.index, c.table-2.ensures.index, c.table-3.ensures.index, c.table-4.ensures.index, c.table-5.ensures.index, c.table-6.ensures.index, c.table-7.ensures.index, c.table-8.ensures.index) refl)
+    let same : map table_planned (c.table-meta.result ∷ c.table-message.result ∷ c.table-part.result ∷ c.table-reference.result ∷ c.table-handset.result ∷ c.table-report.result ∷ c.table-priority.result ∷ c.table-bar.result ∷ []) ≡ centre_tables = rw (c.table-meta.ensures.planned, c.table-message.ensures.planned, c.table-part.ensures.planned, c.table-reference.ensures.planned, c.table-handset.ensures.planned, c.table-report.ensures.planned, c.table-priority.ensures.planned, c.table-bar.ensures.planned) refl in
+    c.is_schema.ensures.yes is ∙ first_planned c.args.tables c.args.indexes _ _ _ _ same (rw (c.table-meta.ensures.index, c.table-message.ensures.index, c.table-part.ensures.index, c.table-reference.ensures.index, c.table-handset.ensures.index, c.table-report.ensures.index, c.table-priority.ensures.index, c.table-bar.ensures.index) refl)
 
 pub returns-clause-always : goal.returns-clause-always
 returns-clause-always c is =
-    let same : map table_planned (c.table.result ∷ c.table-2.result ∷ c.table-3.result ∷ c.table-4.result ∷ c.table-5.result ∷ c.table-6.result ∷ c.table-7.result ∷ c.table-8.result ∷ []) ≡ centre_tables = rw (c.table.ensures.planned, c.table-2.ensures.planned, c.table-3.ensures.planned, c.table-4.ensures.planned, c.table-5.ensures.planned, c.table-6.ensures.planned, c.table-7.ensures.planned, c.table-8.ensures.planned) refl in
-    c.is_schema.ensures.always (is ∙ sym (first_planned c.args.tables c.args.indexes _ _ _ _ same (rw (c.table.ensures.index, c.table-2.ensures.index, c.table-3.ensures.index, c.table-4.ensures.index, c.table-5.ensures.index, c.table-6.ensures.index, c.table-7.ensures.index, c.table-8.ensures.index) refl)))
+    let same : map table_planned (c.table-meta.result ∷ c.table-message.result ∷ c.table-part.result ∷ c.table-reference.result ∷ c.table-handset.result ∷ c.table-report.result ∷ c.table-priority.result ∷ c.table-bar.result ∷ []) ≡ centre_tables = rw (c.table-meta.ensures.planned, c.table-message.ensures.planned, c.table-part.ensures.planned, c.table-reference.ensures.planned, c.table-handset.ensures.planned, c.table-report.ensures.planned, c.table-priority.ensures.planned, c.table-bar.ensures.planned) refl in
+    c.is_schema.ensures.always (is ∙ sym (first_planned c.args.tables c.args.indexes _ _ _ _ same (rw (c.table-meta.ensures.index, c.table-message.ensures.index, c.table-part.ensures.index, c.table-reference.ensures.index, c.table-handset.ensures.index, c.table-report.ensures.index, c.table-priority.ensures.index, c.table-bar.ensures.index) refl)))
