@@ -10,7 +10,6 @@ mod closing;
 mod founding;
 mod gathering;
 mod kept;
-mod kind;
 mod migrating;
 mod readying;
 mod tables;

@@ -8,7 +8,6 @@ mod commit;
 mod counters;
 mod founding;
 mod kept;
-mod kind;
 mod readying;
 
 use crate::keeping::StoreKeep;

@@ -8,10 +8,12 @@ mod closing;
 mod keep;
 mod opening;
 mod readying;
+mod said;
 mod sides;
 
 pub use closing::what_was_left_is_found;
 pub use keep::StoreKeep;
 pub use opening::in_memory;
 pub(crate) use readying::{found, judge_said};
+pub(crate) use said::Said;
 pub use sides::{Kept, Openable};

@@ -36,7 +36,7 @@ use Rattle.sms_store_sql.proofs.listing.Statements.{same_value, went}
 use Rattle.sms_rows.specs.table.Table.{Rises}
 use Rattle.sms_store_tables.specs.centre.CentreSchema.{centre_schema}
 use Rattle.sms_store_tables.specs.centre.MessageList.{message_list, message_is_list}
-use Rattle.sms_store_tables.specs.centre.PriorityList.{priority_list, priority_is_list, priority_table}
+use Rattle.sms_store_tables.specs.centre.PriorityList.{priority_list, priority_is_list}
 use Rattle.sms_store_migration.specs.Migrating.{Ranks, lowest}
 use Rattle.sms_store_migration.specs.Types.{MessageRow, PriorityRow}
 
@@ -106,7 +106,7 @@ fits_lowest : (ms : List MessageRow) → AllByRecursion message_list.Fits ms →
 fits_lowest [] h = tt
 fits_lowest (m ∷ ms) h = (record { id = h.0.id; priority = omega arith }, fits_lowest ms h.1)
 
-as_they_are : (ps : List PriorityRow) → map (λ s. cast_row (table_of priority_table) (drop 0 s)) (coming priority_list priority_is_list ps) ≡ coming priority_list priority_is_list ps
+as_they_are : (ps : List PriorityRow) → map (λ s. cast_row (table_of priority_list.table) (drop 0 s)) (coming priority_list priority_is_list ps) ≡ coming priority_list priority_is_list ps
 as_they_are [] = refl
 as_they_are (p ∷ ps) = ap₂ (λ r rs. r ∷ rs) (priority_is_list.stays p) (as_they_are ps)
 
@@ -157,7 +157,7 @@ ranks old new h has none messages held =
     let whole : new.now.trees ≡ written.0 = ap (λ (d : Database). d.trees) now ∙ trees in
     let found = selected db messages held given.0 (given.1.answer Null) in
     let made = λ (rows : List Row). put_all (db 12) (numbered Chosen (db 12) rows) in
-    let sources = ap (map (λ s. cast_row (table_of priority_table) (drop 0 s))) found.1 ∙ as_they_are found.0 in
+    let sources = ap (map (λ s. cast_row (table_of priority_list.table) (drop 0 s))) found.1 ∙ as_they_are found.0 in
     let full = fills priority_list priority_is_list found.0 (db 12) [] (no_rows (db 12) none) in
     let rows : new.now.trees 12 ≡ made (coming priority_list priority_is_list found.0) = ap (λ (a : Trees). a 12) whole ∙ step.rows ∙ ap made sources in
     record {

@@ -1,8 +1,9 @@
 -- What a whole migration makes of a store of an earlier version.
-use Rattle.std.proofs.Common.{◌≡◌, ◌⊎◌, inl, inr, ℕ, IsTrue, List, [], ◌∷◌, refl, sym, ap, subst, ◌∙◌, arith, IsPermutation}
+use Rattle.std.proofs.Common.{◌≡◌, ◌⊎◌, inl, inr, ℕ, IsTrue, List, [], ◌∷◌, refl, sym, ap, subst, ◌∙◌, arith}
 use Rattle.std.proofs.lemmas.List.Sorted.{IsPermutation-refl}
 use Rattle.sqlite.specs.Effect.{Database}
 use Rattle.sqlite.specs.Order.{Row}
+use Rattle.sqlite.specs.Schema.{Schema}
 use Rattle.sqlite.specs.State.{State}
 use Rattle.sqlite.specs.Tree.{Trees}
 use Rattle.sms_rows.specs.table.Table.{put, without}
@@ -12,8 +13,8 @@ use Rattle.sms_store_sql.specs.listing.Listing.{ListOf, Represents}
 use Rattle.sms_store_sql.specs.listing.Transaction.{Leaves, IsOpenStore}
 use Rattle.sms_store_tables.specs.centre.BarList.{bar_list}
 use Rattle.sms_store_tables.specs.centre.MetaList.{meta_list}
-use Rattle.sms_store_tables.specs.centre.SecondMetaList.{meta_list as second_list}
-use Rattle.sms_store_tables.specs.centre.FirstMetaList.{meta_list as first_list}
+use Rattle.sms_store_tables.specs.centre.CentreSchema.{first_schema, second_schema}
+use Rattle.sms_store_sql.specs.tabled.MetaTable.{meta_list_in}
 use Rattle.sms_store_tables.specs.centre.MessageList.{message_list}
 use Rattle.sms_store_tables.specs.centre.PartList.{part_list}
 use Rattle.sms_store_tables.specs.centre.ReferenceList.{reference_list}
@@ -21,8 +22,8 @@ use Rattle.sms_store_tables.specs.centre.HandsetList.{handset_list}
 use Rattle.sms_store_tables.specs.centre.ReportList.{report_list}
 use Rattle.sms_store_tables.specs.centre.PriorityList.{priority_list}
 use Rattle.sms_store_tables.specs.centre.Completing.{Completes, MakesBars}
-use Rattle.sms_store_migration.specs.Migrating.{Ranks, Renames, Migrates, MigratesSecond, migrated}
-use Rattle.sms_store_migration.specs.Versions.{AreStore, IsFirstStore, IsSecondStore, IsStore, centre_meta, first_meta, meta_of, second_meta}
+use Rattle.sms_store_migration.specs.Migrating.{Ranks, Renames, Migrates, MigratesSecond}
+use Rattle.sms_store_migration.specs.Versions.{AreStore, IsStore, centre_meta, first_meta, meta_of, second_meta}
 use Rattle.sms_store_migration.specs.Types.{BarRow, Rows, Meta}
 use Rattle.sms_store_migration.proofs.Apart.{free_0, free_2, free_4, free_6, free_8, free_10, free_12, free_15}
 
@@ -37,11 +38,8 @@ no_bars rows tree none e =
     (record { entries = []; keyed = tt; stored = none; listed = IsPermutation-refl []; rises = tt; fit = tt })
 
 -- the row of the store is the same in all versions
-said_now : (rows : List Row) (said : List Meta) → Represents first_list rows said → Represents meta_list rows said
-said_now rows said h = record { entries = h.entries; keyed = h.keyed; stored = h.stored; listed = h.listed; rises = h.rises; fit = h.fit }
-
-second_now : (rows : List Row) (said : List Meta) → Represents second_list rows said → Represents meta_list rows said
-second_now rows said h = record { entries = h.entries; keyed = h.keyed; stored = h.stored; listed = h.listed; rises = h.rises; fit = h.fit }
+said_now : (tables : Schema) (rows : List Row) (said : List Meta) → Represents (meta_list_in tables) rows said → Represents meta_list rows said
+said_now tables rows said h = record { entries = h.entries; keyed = h.keyed; stored = h.stored; listed = h.listed; rises = h.rises; fit = h.fit }
 
 pub renames : (version : ℕ) (a b c : State) → Alters meta_list (without meta_list.key version) a b → Alters meta_list (put meta_list.key centre_meta) b c → Renames version a.now c.now
 renames version a b c p q has held =
@@ -58,7 +56,7 @@ pub migrates : (a b c d : Database) → Completes a b → Ranks b c → Renames 
 migrates a b c d p q r rows is =
     let made = p is.schema in
     let ranked = q made.schema made.ranks rows.messages (moved message_list (a.trees 2) (b.trees 2) rows.messages made.others.1.0 is.messages) in
-    let named = r ranked.schema (moved meta_list (a.trees 0) (c.trees 0) (first_meta ∷ []) (ranked.others 0 (λ (e : 0 ≡ 12). omega (arith, e)) free_0 ∙ made.others.0) (said_now _ _ is.meta)) in
+    let named = r ranked.schema (moved meta_list (a.trees 0) (c.trees 0) (first_meta ∷ []) (ranked.others 0 (λ (e : 0 ≡ 12). omega (arith, e)) free_0 ∙ made.others.0) (said_now first_schema _ _ is.meta)) in
     record {
       schema = named.schema;
       meta = named.meta;
@@ -75,7 +73,7 @@ migrates a b c d p q r rows is =
 pub migrates_second : (a b c : Database) → MakesBars a b → Renames 2 b c → MigratesSecond a c
 migrates_second a b c p r rows is =
     let made = p is.schema in
-    let named = r made.schema (moved meta_list (a.trees 0) (b.trees 0) (second_meta ∷ []) made.others.0 (second_now _ _ is.meta)) in
+    let named = r made.schema (moved meta_list (a.trees 0) (b.trees 0) (second_meta ∷ []) made.others.0 (said_now second_schema _ _ is.meta)) in
     record {
       schema = named.schema;
       meta = named.meta;

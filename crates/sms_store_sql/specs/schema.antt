@@ -1,3 +1,4 @@
 pub mod Blank
 pub mod ColumnPlan
 pub mod Judged
+pub mod StoredTable

@@ -3,4 +3,3 @@ pub mod Indexing
 pub mod Parameters
 pub mod PiecesRead
 pub mod Queries
-mod SameItems

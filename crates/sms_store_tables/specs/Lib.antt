@@ -1,8 +1,4 @@
+pub mod References
 pub mod amending
 pub mod centre
 pub mod handset
-pub mod MetaTable
-pub mod TablePlan
-pub mod Tabled
-pub mod Texts
-pub mod TwoColumns

@@ -1,7 +1,6 @@
 pub mod BarList
 pub mod CentreSchema
 pub mod Completing
-pub mod FirstMetaList
 pub mod HandsetList
 pub mod Indexing
 pub mod MessageList
@@ -11,5 +10,4 @@ pub mod Pieces
 pub mod PriorityList
 pub mod ReferenceList
 pub mod ReportList
-pub mod SecondMetaList
 pub mod Types

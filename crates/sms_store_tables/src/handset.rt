@@ -14,4 +14,4 @@ mod schema;
 mod words;
 
 pub use kind::HandsetStore;
-pub use schema::is_handset_schema;
+pub use schema::{counters_table, is_handset_schema};

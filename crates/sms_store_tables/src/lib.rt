@@ -5,7 +5,7 @@
 //! is proved without them.
 //!
 //! - `amending`: one text that changes how far a row is
-//! - `centre`: the tables of a centre's store, versions 1 and 2
+//! - `centre`: the tables of a centre's store, versions 1 to 3
 //! - `handset`: the tables of a handset's store
 #![tactic(auto)]
 
@@ -13,5 +13,4 @@ pub mod amending;
 pub mod centre;
 pub mod handset;
 mod key;
-
-pub use key::integer_of;
+mod references;

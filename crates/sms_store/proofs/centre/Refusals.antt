@@ -1,5 +1,5 @@
 -- Why a database is refused, step by step.
-use Rattle.std.proofs.Common.{◌≡◌, ◌≢◌, ◌⊎◌, ◌<◌, refl, inl, inr, false, true, Bool, if◌then◌else◌, nat_lt, ℕ, List, [], ◌∷◌, arith, Result, Ok, Err}
+use Rattle.std.proofs.Common.{◌≡◌, ◌≢◌, ◌<◌, refl, inl, inr, false, true, Bool, if◌then◌else◌, nat_lt, ℕ, List, [], ◌∷◌, arith, Result, Ok, Err}
 use Rattle.std.proofs.lemmas.Bool.Decides.{nat_tests}
 use Rattle.sqlite.specs.Effect.{Database}
 use Rattle.sms_rows.specs.declared.keep.error.KeepError.{KeepError}
@@ -7,9 +7,7 @@ use Rattle.sms_rows.specs.declared.keep.error.KeepError.TheVariants.{OldVersion,
 use Rattle.sms_store_sql.specs.declared.listing.meta.StoreKind.TheVariants.{Centre}
 use Rattle.sms_store_sql.specs.schema.Judged.{judged, same_kind}
 use Rattle.sms_store_tables.specs.centre.CentreSchema.{centre_schema, first_schema, second_schema}
-use Rattle.sms_store_tables.specs.centre.MetaList.{meta_list}
-use Rattle.sms_store_tables.specs.centre.FirstMetaList.{meta_list as first_list}
-use Rattle.sms_store_tables.specs.centre.SecondMetaList.{meta_list as second_list}
+use Rattle.sms_store_tables.specs.centre.MetaList.{first_list, meta_list, second_list}
 use Rattle.sms_store.specs.keeping.Refusing.{RefusesSaid}
 use Rattle.sms_store.specs.centre.Refusing.{SaysNow, SaysFirst, SaysSecond, IsOldNow, IsOtherNow, RefusesNow, IsOld, IsOther, Refuses}
 use Rattle.sms_store.specs.centre.Types.{Meta}

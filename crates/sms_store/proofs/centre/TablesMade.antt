@@ -1,8 +1,6 @@
 -- What the texts that make the tables lead to.
-use Rattle.std.proofs.Common.{◌≡◌, ◌≢◌, List, [], refl, ◌∙◌, arith}
-use Rattle.std.proofs.lemmas.List.Sorted.{IsPermutation-refl}
+use Rattle.std.proofs.Common.{◌≡◌, ◌≢◌, [], refl, ◌∙◌, arith}
 use Rattle.sqlite.specs.Effect.{Database}
-use Rattle.sqlite.specs.Order.{Row}
 use Rattle.sqlite.specs.State.{State}
 use Rattle.sqlite_rules.specs.Edit.{IsNoIndex}
 use Rattle.sms_rows.specs.table.Table.{put}
@@ -26,9 +24,9 @@ use Rattle.sms_store_tables.specs.centre.Completing.{Completes}
 use Rattle.sms_store_migration.proofs.Apart.{free_2, free_4, free_6, free_8, free_10, free_12, free_15}
 use Rattle.sms_store.specs.centre.Founding.{HasFirst, HasNext, MakesFirst, MakesNext, Tabulates, Declares}
 use Rattle.sms_store.proofs.keeping.Lists.{holds_none, other_list}
-use Rattle.sms_store_tables.specs.TablePlan.{made}
-use Rattle.sms_store_tables.specs.Texts.{create_text}
-use Rattle.sms_store_tables.specs.MetaTable.{meta_plan}
+use Rattle.sms_store_sql.specs.tabled.TablePlan.{made}
+use Rattle.sms_store_sql.specs.tabled.Texts.{create_text}
+use Rattle.sms_store_sql.specs.tabled.MetaTable.{meta_plan}
 
 pub first_made : (a b c d : State) → Ran (create_text meta_plan) [] a b → Ran (create_text message_plan) [] b c → Ran (create_text part_plan) [] c d → MakesFirst a.now d.now
 first_made a b c d p q r has =

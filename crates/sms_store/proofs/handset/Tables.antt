@@ -1,15 +1,12 @@
 -- What the texts that make the tables lead to.
-use Rattle.std.proofs.Common.{◌≡◌, ◌≢◌, ℕ, List, [], ◌∷◌, refl, sym, ap, subst, ◌∙◌, arith}
-use Rattle.std.proofs.lemmas.List.Sorted.{IsPermutation-refl}
+use Rattle.std.proofs.Common.{◌≡◌, ◌≢◌, List, [], ◌∷◌, refl, ◌∙◌, arith}
 use Rattle.sqlite.specs.Effect.{Database}
-use Rattle.sqlite.specs.Order.{Row}
 use Rattle.sqlite.specs.State.{State}
 use Rattle.sqlite_rules.specs.Edit.{IsNoIndex}
 use Rattle.sms_rows.specs.table.Table.{put}
 use Rattle.sms_store_sql.specs.schema.Blank.{no_tables}
 use Rattle.sms_store_sql.specs.listing.Inside.{Alters, Ran}
 use Rattle.sms_store_sql.specs.listing.Listing.{ListOf, Represents}
-use Rattle.sms_store_sql.specs.listing.Transaction.{Leads}
 use Rattle.sms_store_sql.proofs.listing.Making.{makes}
 use Rattle.sms_store_tables.specs.handset.HandsetSchema.{with_meta, with_entry, with_last, with_out, with_mark, handset_schema, adds_meta, adds_entry, adds_last, adds_out, adds_mark, adds_count, count_plan, entry_plan, last_plan, mark_plan, out_plan}
 use Rattle.sms_store.specs.keeping.Stores.{Founds}
@@ -24,9 +21,9 @@ use Rattle.sms_store.specs.handset.CountersList.{count_list}
 use Rattle.sms_store.specs.handset.Types.{Counters}
 use Rattle.sms_store.proofs.handset.Turning.{free_0, free_2, free_4, free_6, free_8, free_10}
 use Rattle.sms_store.proofs.keeping.Lists.{holds_none, other_list}
-use Rattle.sms_store_tables.specs.TablePlan.{made}
-use Rattle.sms_store_tables.specs.Texts.{create_text}
-use Rattle.sms_store_tables.specs.MetaTable.{meta_plan}
+use Rattle.sms_store_sql.specs.tabled.TablePlan.{made}
+use Rattle.sms_store_sql.specs.tabled.Texts.{create_text}
+use Rattle.sms_store_sql.specs.tabled.MetaTable.{meta_plan}
 
 abbrev first_counters : Counters
 first_counters = record { entry = 1; message_reference = 0; reference = 0; concat_reference = 0; notice = 0; is_memory_full = Rattle.std.proofs.Common.false }

@@ -1,16 +1,14 @@
 -- Why a database is no centre's store of the wanted version. Where version 3 is wanted, each earlier one is refused as such. Where an
 -- earlier one will do, of its tables only those below it. No such store is one with other tables, or one that says another kind or a later
 -- version. One that does not say what it is is none, too.
-use Rattle.std.specs.Prelude.{◌≡◌, ◌≢◌, ◌⊎◌, ℕ, max, Result, Ok, Err}
+use Rattle.std.specs.Prelude.{◌≢◌, ◌⊎◌, ℕ, max, Result, Err}
 use Rattle.sqlite.specs.Effect.{Database}
 use Rattle.sms_rows.specs.declared.keep.error.KeepError.{KeepError}
 use Rattle.sms_rows.specs.declared.keep.error.KeepError.TheVariants.{OldVersion, NotThisStore}
 use Rattle.sms_store_sql.specs.declared.listing.meta.StoreKind.TheVariants.{Centre}
 use Rattle.sms_store_sql.specs.schema.Blank.{no_tables}
 use Rattle.sms_store_tables.specs.centre.CentreSchema.{centre_schema, first_schema, second_schema}
-use Rattle.sms_store_tables.specs.centre.MetaList.{meta_list}
-use Rattle.sms_store_tables.specs.centre.FirstMetaList.{meta_list as first_list}
-use Rattle.sms_store_tables.specs.centre.SecondMetaList.{meta_list as second_list}
+use Rattle.sms_store_tables.specs.centre.MetaList.{first_list, meta_list, second_list}
 use Rattle.sms_store.specs.keeping.Refusing.{Says, RefusesBy}
 
 -- it has the tables of version 3, of version 2 or of version 1, and what it says of itself is judged so

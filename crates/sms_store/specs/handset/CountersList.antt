@@ -4,14 +4,12 @@ use Rattle.sqlite_value.specs.Order.{column}
 use Rattle.sqlite.specs.Listing.{understood}
 use Rattle.sqlite_tied.specs.Compute.{everything}
 use Rattle.sms_store_sql.specs.listing.Columns.{IsOctet, IsShort, IsWord, number, number_in, flag, flag_in}
-use Rattle.sms_store_sql.specs.listing.Listing.{TableOf, ListOf, IsList, table_of}
-use Rattle.sms_store_sql.proofs.listing.Columns.{one_found, cast_int, cast_row_same, cast_flag, flag_back}
+use Rattle.sms_store_sql.specs.listing.Listing.{ListOf, IsList}
+use Rattle.sms_store_sql.proofs.listing.Columns.{one_found, cast_int, cast_flag, flag_back}
 use Rattle.sms_store_tables.specs.handset.HandsetSchema.{handset_schema, count_plan}
 use Rattle.sms_store.specs.handset.Types.{Counters, CountersRow}
-use Rattle.sms_store_tables.specs.Tabled.{tabled, IsTabled, computed, listed, KeepsKinds, FindsItsKey, AgreesInItsKey, IsReadBack}
-
-abbrev pub count_table : TableOf
-count_table = tabled handset_schema 5 10 count_plan
+use Rattle.sms_store_sql.specs.tabled.Tabled.{Computes, IsReadBack, computed, rows_by_one, tabled}
+use Rattle.sms_store_sql.proofs.tabled.Listed.{listed}
 
 -- counters in their ranges
 pub record AreStored (c : Counters) : Type 0 where
@@ -22,36 +20,24 @@ pub record AreStored (c : Counters) : Type 0 where
   pub notice : IsWord c.notice
 
 abbrev pub count_list : ListOf CountersRow
-count_list = record {
-  table = count_table;
-  key = λ c. 1;
-  columns =
-      λ c. number 1 ∷ number c.counters.entry ∷ number c.counters.message_reference ∷ number c.counters.reference ∷ number c.counters.concat_reference
-      ∷ number c.counters.notice ∷ flag c.counters.is_memory_full ∷ [];
-  reads = λ row. record {
-    counters =
-        record {
-          entry = number_in (column row 1);
-          message_reference = number_in (column row 2);
-          reference = number_in (column row 3);
-          concat_reference = number_in (column row 4);
-          notice = number_in (column row 5);
-          is_memory_full = flag_in (column row 6);
-        };
-  };
-  key_columns = λ n. number n ∷ [];
-  Fits = λ c. AreStored c.counters;
-}
+count_list =
+    rows_by_one CountersRow (tabled handset_schema 5 10 count_plan) (λ c. 1)
+    (λ c. number 1 ∷ number c.counters.entry ∷ number c.counters.message_reference ∷ number c.counters.reference ∷ number c.counters.concat_reference
+    ∷ number c.counters.notice ∷ flag c.counters.is_memory_full ∷ [])
+    (λ row. record {
+      counters =
+          record {
+            entry = number_in (column row 1);
+            message_reference = number_in (column row 2);
+            reference = number_in (column row 3);
+            concat_reference = number_in (column row 4);
+            notice = number_in (column row 5);
+            is_memory_full = flag_in (column row 6);
+          };
+    })
+    (λ c. AreStored c.counters)
 
 -- ---- what the rows are
-
-stays : KeepsKinds count_list
-stays x =
-    cast_row_same (table_of count_table) _
-    (cast_int _, (cast_int _, (cast_int _, (cast_int _, (cast_int _, (cast_int _, (cast_flag x.counters.is_memory_full, tt)))))))
-
-finds : FindsItsKey count_list
-finds n id x fits = one_found 1 n
 
 reads_back : IsReadBack count_list
 reads_back x fits =
@@ -67,17 +53,16 @@ reads_back x fits =
           };
     }
 
-agrees : AgreesInItsKey count_list
-unfolding everything
-agrees x id new y = refl
-
-in_schema : IsTabled count_table
+computes : Computes count_list
 unfolding understood everything
-in_schema =
-    computed count_table refl (refl, (refl, refl)) (refl, (refl, refl)) (refl, (refl, refl)) (refl, (refl, refl)) refl (λ db. refl)
-    (λ keys olds news. refl) refl
+computes = (
+  computed count_list.table refl (refl, (refl, refl)) (refl, (refl, refl)) (refl, (refl, refl)) (refl, (refl, refl)) refl (λ d. refl) (λ k o n. refl) refl,
+  λ x id new y. refl,
+)
 
 pub count_is_list : IsList count_list
 count_is_list =
-    listed count_list in_schema (λ x. refl) (λ id x. refl) (λ x id y. refl) stays finds
-    (λ x id y fits suits. finds (count_list.key x) id y suits) agrees reads_back
+    listed count_list computes (λ x. refl) (λ id x. refl) (λ x id y. refl)
+    (λ x. (cast_int _, (cast_int _, (cast_int _, (cast_int _, (cast_int _, (cast_int _, (cast_flag x.counters.is_memory_full, tt))))))))
+    (λ n id x fits. one_found 1 n) (λ x id y fits suits. one_found 1 1)
+    reads_back

@@ -9,8 +9,7 @@ ghost use Rattle.sms_store_sql.specs.listing.Transaction.{Committed};
 ghost use Rattle.sms_store_migration.specs.Migrating.{Migrates, MigratesSecond};
 ghost use Rattle.sms_store.specs.centre.Migrating.{IsMigrated, Migrated};
 ghost use Rattle.sms_store_tables.specs.centre.CentreSchema.{first_schema, second_schema};
-ghost use Rattle.sms_store_tables.specs.centre.FirstMetaList.{meta_list as first_list};
-ghost use Rattle.sms_store_tables.specs.centre.SecondMetaList.{meta_list as second_list};
+ghost use Rattle.sms_store_tables.specs.centre.MetaList.{first_list, second_list};
 ghost use Rattle.sms_store_sql.specs.declared.listing.meta.StoreKind.TheVariants.{Centre};
 ghost use Rattle.sms_store.specs.centre.CentreRows.{centre_stores};
 ghost use Rattle.sms_store.specs.centre.Refusing.{Refuses, SaysFirst, SaysSecond};
@@ -20,16 +19,18 @@ ghost use Rattle.sms_store.specs.keeping.Opened.{IsAsItWas, IsIn, IsOfNoStore, L
 ghost use Rattle.sms_store.specs.keeping.Refusing.{RefusesSaid};
 
 use crate::centre::CentreKeep;
-use crate::centre::kind::{SaidFirst, SaidSecond};
 use crate::centre::readying::ready_current;
-use crate::keeping::{StoreKeep, judge_said};
+use crate::keeping::{Said, StoreKeep, judge_said};
 use sms_centre_spec::Setup;
 use sms_rows::keep::{KeepError, Refusals};
 use sms_store_migration::{raise, raise_second};
-use sms_store_sql::listing::{Health, write_cause_of};
-use sms_store_tables::centre::{is_first_schema, is_second_schema};
+use sms_store_sql::listing::{Health, StoreKind, write_cause_of};
+use sms_store_tables::centre::{
+    FirstCentreStore, SecondCentreStore, is_first_schema, is_second_schema,
+};
 use sqlite::{Alter, Connection, File, FileFrom, FileStore, Start, Unknown};
 use std::alloc::Global;
+use std::marker::PhantomData;
 
 // Makes a store that says that it is of version 1 one of version 3.
 fn raise_first<S: Alter>(alloc: Global, conn: &mut Connection<S>) -> Result<(), KeepError>
@@ -42,7 +43,12 @@ fn raise_first<S: Alter>(alloc: Global, conn: &mut Connection<S>) -> Result<(), 
         × IsAsItWas (state S.Store conn.old) (state S.Store conn.new)) }
     ensures stop { (state S.Store conn.old).now.schema ≡ first_schema → LeavesStore centre_stores (state S.Store conn.old) (state S.Store conn.new) }
 {
-    match judge_said::<Setup, SaidFirst, S>(alloc, conn, &SaidFirst { version: 1 }) {
+    let said = Said::<FirstCentreStore> {
+        kind: StoreKind::Centre,
+        version: 1,
+        of: PhantomData,
+    };
+    match judge_said::<Setup, Said<FirstCentreStore>, S>(alloc, conn, &said) {
         Ok(()) => raise(alloc, conn),
         Err(error) => Err(error),
     }
@@ -59,7 +65,12 @@ fn raise_second_said<S: Alter>(alloc: Global, conn: &mut Connection<S>) -> Resul
         × IsAsItWas (state S.Store conn.old) (state S.Store conn.new)) }
     ensures stop { (state S.Store conn.old).now.schema ≡ second_schema → LeavesStore centre_stores (state S.Store conn.old) (state S.Store conn.new) }
 {
-    match judge_said::<Setup, SaidSecond, S>(alloc, conn, &SaidSecond { version: 2 }) {
+    let said = Said::<SecondCentreStore> {
+        kind: StoreKind::Centre,
+        version: 2,
+        of: PhantomData,
+    };
+    match judge_said::<Setup, Said<SecondCentreStore>, S>(alloc, conn, &said) {
         Ok(()) => raise_second(alloc, conn),
         Err(error) => Err(error),
     }

@@ -7,14 +7,18 @@ ghost use Rattle.sms_store.specs.centre.Refusing.{Refuses, RefusesNow};
 ghost use Rattle.sms_store_tables.specs.centre.CentreSchema.{first_schema, second_schema};
 ghost use Rattle.sms_store.specs.keeping.Opened.{IsAsItWas, IsOpened, LeavesStore};
 
-use crate::centre::kind::{Said, SaidFirst, SaidSecond};
-use crate::keeping::{Openable, found, judge_said};
+use crate::keeping::{Openable, Said, found, judge_said};
 use sms_centre_spec::Setup;
 use sms_rows::keep::KeepError;
+use sms_store_sql::listing::StoreKind;
 use sms_store_sql::schema::is_blank;
-use sms_store_tables::centre::{is_centre_schema, is_first_schema, is_second_schema};
+use sms_store_tables::centre::{
+    CentreStore, FirstCentreStore, SecondCentreStore, is_centre_schema, is_first_schema,
+    is_second_schema,
+};
 use sqlite::{Alter, Connection};
 use std::alloc::Global;
+use std::marker::PhantomData;
 
 /// An empty database becomes the store of a centre's first rows. One with the tables of version 3 must say that it is a
 /// centre's store.
@@ -35,7 +39,12 @@ pub(crate) fn ready_current<S: Alter>(
     if !is_centre_schema(conn.schema()) {
         return Err(KeepError::NotThisStore);
     }
-    judge_said::<Setup, Said, S>(alloc, conn, &Said { version: 3 })
+    let said = Said::<CentreStore> {
+        kind: StoreKind::Centre,
+        version: 3,
+        of: PhantomData,
+    };
+    judge_said::<Setup, Said<CentreStore>, S>(alloc, conn, &said)
 }
 
 // One with the tables of version 1 is refused as one of an earlier version.
@@ -47,7 +56,12 @@ fn refuse_first<S: Alter>(alloc: Global, conn: &mut Connection<S>) -> Result<(),
         × IsAsItWas (state S.Store conn.old) (state S.Store conn.new)) }
     ensures stop { (state S.Store conn.old).now.schema ≡ first_schema → LeavesStore centre_stores (state S.Store conn.old) (state S.Store conn.new) }
 {
-    match judge_said::<Setup, SaidFirst, S>(alloc, conn, &SaidFirst { version: 3 }) {
+    let said = Said::<FirstCentreStore> {
+        kind: StoreKind::Centre,
+        version: 3,
+        of: PhantomData,
+    };
+    match judge_said::<Setup, Said<FirstCentreStore>, S>(alloc, conn, &said) {
         Ok(()) => Err(KeepError::NotThisStore),
         Err(error) => Err(error),
     }
@@ -62,7 +76,12 @@ fn refuse_second<S: Alter>(alloc: Global, conn: &mut Connection<S>) -> Result<()
         × IsAsItWas (state S.Store conn.old) (state S.Store conn.new)) }
     ensures stop { (state S.Store conn.old).now.schema ≡ second_schema → LeavesStore centre_stores (state S.Store conn.old) (state S.Store conn.new) }
 {
-    match judge_said::<Setup, SaidSecond, S>(alloc, conn, &SaidSecond { version: 3 }) {
+    let said = Said::<SecondCentreStore> {
+        kind: StoreKind::Centre,
+        version: 3,
+        of: PhantomData,
+    };
+    match judge_said::<Setup, Said<SecondCentreStore>, S>(alloc, conn, &said) {
         Ok(()) => Err(KeepError::NotThisStore),
         Err(error) => Err(error),
     }

@@ -5,9 +5,11 @@ ghost use Rattle.sms_store.specs.handset.CountersList.{count_is_list, count_list
 
 use sms_handset::Counters;
 use sms_rows::table::{Key, Row as Keyed};
-use sms_store_sql::listing::{StoredRow, flag_at, octet_at, run, run_counted, short_at, word_at};
-use sms_store_tables::handset::HandsetStore;
-use sms_store_tables::integer_of;
+use sms_store_sql::listing::{
+    Counted, StoredRow, flag_at, octet_at, run_counted, short_at, word_at,
+};
+use sms_store_sql::schema::StoredTable;
+use sms_store_tables::handset::{HandsetStore, counters_table};
 use sqlite::{Alter, Error, Row, Transaction, params};
 use std::alloc::Global;
 
@@ -28,25 +30,11 @@ impl Keyed for CountersRow {
 impl StoredRow<HandsetStore> for CountersRow {
     ghost list = { count_list };
 
-    fn delete<S: Alter>(tx: &mut Transaction<'_, S>, key: Key) -> Result<(), Error> {
-        let place = integer_of(key)?;
-        run(tx, "DELETE FROM counters WHERE place = ?1", params![&place])
+    fn table() -> StoredTable {
+        counters_table()
     }
 
-    fn update_text() -> &'static str {
-        "UPDATE counters SET place = ?1, next_entry = ?2, next_message_reference = ?3, next_reference = ?4, next_concat_reference = ?5, next_notice = ?6, is_memory_full = ?7 WHERE place = ?1"
-    }
-
-    fn insert_text() -> &'static str {
-        "INSERT INTO counters (place, next_entry, next_message_reference, next_reference, next_concat_reference, next_notice, is_memory_full) VALUES (?1, ?2, ?3, ?4, ?5, ?6, ?7)"
-    }
-
-    fn write<S: Alter>(
-        &self,
-        _alloc: Global,
-        tx: &mut Transaction<'_, S>,
-        text: &str,
-    ) -> Result<usize, Error> {
+    fn write<S: Alter>(&self, _alloc: Global, tx: &mut Transaction<'_, S>, text: &str) -> Counted {
         let counters = &self.counters;
         run_counted(
             tx,
@@ -61,10 +49,6 @@ impl StoredRow<HandsetStore> for CountersRow {
                 counters.is_memory_full
             ],
         )
-    }
-
-    fn select() -> &'static str {
-        "SELECT place, next_entry, next_message_reference, next_reference, next_concat_reference, next_notice, is_memory_full FROM counters"
     }
 
     fn read(_alloc: Global, row: &Row) -> Result<CountersRow, Error> {

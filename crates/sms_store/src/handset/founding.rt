@@ -6,8 +6,8 @@ ghost use Rattle.sms_store_sql.specs.listing.Transaction.{Leads};
 ghost use Rattle.sms_store.specs.handset.Founding.{Declares, MakesFirst, MakesLast, Tabulates};
 
 use crate::handset::counters::CountersRow;
-use sms_handset::Counters;
-use sms_store_sql::listing::{Meta, StoreKind, put, run};
+use sms_handset::{Counters, DiscardedGroup, Entry, LastAccepted, OutEntry};
+use sms_store_sql::listing::{Meta, StoreKind, make, put};
 use sms_store_tables::handset::HandsetStore;
 use sqlite::{Alter, Error, Transaction};
 use std::alloc::Global;
@@ -29,21 +29,9 @@ fn make_first_tables<S: Alter>(tx: &mut Transaction<'_, S>) -> Result<(), Error>
     ensures uncommitted { Keeps S.Store tx.old.conn.now tx.new.conn.now }
     ensures survives { Spares S.Store tx.old.conn.now tx.new.conn.now }
 {
-    run(
-        tx,
-        "CREATE TABLE meta (version INTEGER NOT NULL, kind TEXT NOT NULL, UNIQUE (version)) STRICT",
-        &[],
-    )?;
-    run(
-        tx,
-        "CREATE TABLE entry (number INTEGER NOT NULL, slots INTEGER NOT NULL, kind TEXT NOT NULL, source_ton INTEGER, source_npi INTEGER, source TEXT, reference_bits INTEGER, reference INTEGER, total INTEGER, part INTEGER, coding TEXT, data_coding_scheme INTEGER, octets BLOB NOT NULL, UNIQUE (number)) STRICT",
-        &[],
-    )?;
-    run(
-        tx,
-        "CREATE TABLE last_accepted (reference INTEGER NOT NULL, tpdu BLOB NOT NULL, UNIQUE (reference)) STRICT",
-        &[],
-    )
+    make::<HandsetStore, Meta, S>(tx)?;
+    make::<HandsetStore, Entry, S>(tx)?;
+    make::<HandsetStore, LastAccepted, S>(tx)
 }
 
 fn make_last_tables<S: Alter>(tx: &mut Transaction<'_, S>) -> Result<(), Error>
@@ -52,21 +40,9 @@ fn make_last_tables<S: Alter>(tx: &mut Transaction<'_, S>) -> Result<(), Error>
     ensures uncommitted { Keeps S.Store tx.old.conn.now tx.new.conn.now }
     ensures survives { Spares S.Store tx.old.conn.now tx.new.conn.now }
 {
-    run(
-        tx,
-        "CREATE TABLE outbox (number INTEGER NOT NULL, message_reference INTEGER NOT NULL, reference INTEGER NOT NULL, destination_ton INTEGER NOT NULL, destination_npi INTEGER NOT NULL, destination TEXT NOT NULL, tpdu BLOB NOT NULL, is_long INTEGER NOT NULL, state TEXT NOT NULL, tries INTEGER NOT NULL, rejects_duplicates INTEGER NOT NULL, due INTEGER, status INTEGER, UNIQUE (number)) STRICT",
-        &[],
-    )?;
-    run(
-        tx,
-        "CREATE TABLE discarded_group (number INTEGER NOT NULL, source_ton INTEGER NOT NULL, source_npi INTEGER NOT NULL, source TEXT NOT NULL, reference_bits INTEGER NOT NULL, reference INTEGER NOT NULL, total INTEGER NOT NULL, seen BLOB NOT NULL, UNIQUE (number)) STRICT",
-        &[],
-    )?;
-    run(
-        tx,
-        "CREATE TABLE counters (place INTEGER NOT NULL, next_entry INTEGER NOT NULL, next_message_reference INTEGER NOT NULL, next_reference INTEGER NOT NULL, next_concat_reference INTEGER NOT NULL, next_notice INTEGER NOT NULL, is_memory_full INTEGER NOT NULL, UNIQUE (place)) STRICT",
-        &[],
-    )
+    make::<HandsetStore, OutEntry, S>(tx)?;
+    make::<HandsetStore, DiscardedGroup, S>(tx)?;
+    make::<HandsetStore, CountersRow, S>(tx)
 }
 
 /// Writes what the store is, and the counters of a new handset.

@@ -38,6 +38,7 @@ part_table = record {
   name = codes "part";
   columns = given (codes "message") Integer ∷ given (codes "number") Integer ∷ [];
   key = 1 ∷ 2 ∷ [];
+  create = codes "CREATE TABLE part (message INTEGER NOT NULL, number INTEGER NOT NULL, UNIQUE (message, number)) STRICT";
   delete = codes "DELETE FROM part WHERE message = ?1 AND number = ?2";
   tests = equals 1 0 ∷ equals 2 1 ∷ [];
   update = codes "UPDATE part SET message = ?1, number = ?2 WHERE message = ?1 AND number = ?2";

@@ -127,5 +127,5 @@ shown_since sql params old now new rows plain same h =
       h.0,
       record { is = subst (λ (db : Database). understood db.schema sql ≡ Ok h.0) same.0.now_is h.1.is; whole = h.1.whole; given = h.1.given; now = h.1.now },
       subst (ShowsRows old new sql h.0 full rows) (sym none)
-      (it.0, subst (λ (db : Database). IsSourceOf (reads_listing db.schema sql) db it.0) same.0.now_is it.1, it.2, unchanged_then old now new same it.3),
+          (it.0, subst (λ (db : Database). IsSourceOf (reads_listing db.schema sql) db it.0) same.0.now_is it.1, it.2, unchanged_then old now new same it.3),
     )

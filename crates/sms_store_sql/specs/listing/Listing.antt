@@ -1,5 +1,6 @@
 -- A list of rows as a table of a database. Each row of the list is one row of the table, under a rowid of its own.
-use Rattle.std.specs.Prelude.{◌≡◌, ℕ, zero, suc, ◌+◌, ◌==◌, ◌/◌, ◌&&◌, Bool, ℤ, pos, negsuc, true, false, List, [], ◌∷◌, map, length, slice_get, Some, None}
+use Rattle.std.specs.Prelude.{◌≡◌, ℕ, zero, suc, ◌+◌, ◌==◌, ◌/◌, ◌%◌, ◌&&◌, nat_eq, if◌then◌else◌, Bool, ℤ, pos, negsuc, true, false}
+use Rattle.std.specs.Prelude.{List, [], ◌∷◌, ◌++◌, map, codes, length, slice_get, Some, None}
 use Rattle.std.specs.Prelude.{IsPermutation}
 use Rattle.std.specs.List.{list_all, list_any, AllByRecursion}
 use Rattle.std.specs.Str.{bytes_eq}
@@ -98,7 +99,7 @@ rows_where tree tests shown = record {
 abbrev pub equals : ℕ → ℕ → Term
 equals at given = op2 (Compare Eq Binary) (col 1 at) (col 0 given)
 
--- A list as a table. It says where the table is in the schema of its store. It has the texts that remove the row of a
+-- A list as a table. It says where the table is in the schema of its store. It has the texts that make the table, remove the row of a
 -- key, change the row of a key, add a row and read all rows. It has what these texts are compiled to, too.
 pub record TableOf : Type 0 where
   pub schema : Schema
@@ -109,6 +110,8 @@ pub record TableOf : Type 0 where
   pub columns : List Column
   -- the places of the columns that make the key
   pub key : List ℕ
+  -- the text that makes it
+  pub create : List ℕ
   pub delete : List ℕ
   pub tests : List Term
   pub update : List ℕ
@@ -121,6 +124,21 @@ pub record TableOf : Type 0 where
 
 abbrev pub table_of : TableOf → Table
 table_of t = keyed_table t.name t.tree t.columns t.key
+
+-- the index that SQLite makes for the key of a table: its tree is the one behind that of the table
+abbrev pub key_index_of : TableOf → Index
+key_index_of t = record {
+  name = codes "sqlite_autoindex_" ++ t.name ++ codes "_1";
+  tree = t.tree + 1;
+  table = t.tree;
+  columns = t.key;
+  order = plain;
+  is_unique = true;
+}
+
+-- a key as the values that find its row, by how many columns it is: a pair's key is that of two numbers
+abbrev pub key_values : ℕ → ℕ → Row
+key_values width n = if nat_eq width 1 then Int (pos n) ∷ [] else Int (pos (n / 256)) ∷ Int (pos (n % 256)) ∷ []
 
 -- A list of rows: its table, the key of a row, its columns, and the row that columns spell. It also has the columns that
 -- find a key, and which rows there are.

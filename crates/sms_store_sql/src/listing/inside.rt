@@ -1,11 +1,12 @@
 //! Statements inside one transaction.
-ghost use Rattle.std.specs.Prelude.{◌≡◌, IfOk};
+ghost use Rattle.std.specs.Prelude.{◌≡◌, [], IfOk};
 ghost use Rattle.sqlite.specs.Held.{state};
 ghost use Rattle.sqlite.specs.Values.{bound};
 ghost use Rattle.sms_store_sql.specs.listing.Inside.{Alters, Counts, MakesStep, Keeps, Ran, RanOn, Spares};
 ghost use Rattle.sms_rows.specs.table.Table.{all_applied, applied, put as put_row, without};
 
-use crate::listing::list::StoredRow;
+use crate::listing::keyed::run_at;
+use crate::listing::list::{Counted, StoredRow};
 use sms_rows::table::{Change, Key};
 use sqlite::types::ValueRef;
 use sqlite::{Alter, Error, Transaction};
@@ -31,13 +32,24 @@ pub fn run_counted<S: Alter>(
     tx: &mut Transaction<'_, S>,
     sql: &str,
     params: &[ValueRef<'_>],
-) -> Result<usize, Error>
+) -> Counted
     ensures same_reference { tx.new.conn.ghost_name ≡ tx.old.conn.ghost_name }
     ensures done { Counts S.Store tx.old.conn.now tx.new.conn.now (RanOn sql.now (bound params.now)) result }
     ensures uncommitted { Keeps S.Store tx.old.conn.now tx.new.conn.now }
     ensures survives { Spares S.Store tx.old.conn.now tx.new.conn.now }
 {
     tx.execute(sql, params)
+}
+
+/// Makes the table of the list.
+pub fn make<K, T: Drop + StoredRow<K>, S: Alter>(tx: &mut Transaction<'_, S>) -> Result<(), Error>
+    ensures same_reference { tx.new.conn.ghost_name ≡ tx.old.conn.ghost_name }
+    ensures done { MakesStep S.Store tx.old.conn.now tx.new.conn.now (Ran T.list.table.create []) result }
+    ensures uncommitted { Keeps S.Store tx.old.conn.now tx.new.conn.now }
+    ensures survives { Spares S.Store tx.old.conn.now tx.new.conn.now }
+{
+    let table = T::table();
+    run(tx, table.create, &[])
 }
 
 /// Removes the row of the key, if there is one.
@@ -50,7 +62,8 @@ pub fn remove<K, T: Drop + StoredRow<K>, S: Alter>(
     ensures uncommitted { Keeps S.Store tx.old.conn.now tx.new.conn.now }
     ensures survives { Spares S.Store tx.old.conn.now tx.new.conn.now }
 {
-    T::delete(tx, key)
+    let table = T::table();
+    run_at(tx, table.delete, table.key.len(), key)
 }
 
 /// Puts the row in the place of that of its key, or where its key belongs.
@@ -66,9 +79,10 @@ pub fn put<K, T: Drop + StoredRow<K>, S: Alter>(
 {
     // A row that is there is changed under the rowid that it has. That writes its page alone. A row that is removed and
     // added again writes the page that it leaves, the last page of the table, and a page of the index of its key.
-    let changed = row.write(alloc, tx, T::update_text())?;
+    let table = T::table();
+    let changed = row.write(alloc, tx, table.update)?;
     if changed == 0 {
-        row.write(alloc, tx, T::insert_text())?;
+        row.write(alloc, tx, table.insert)?;
     }
     Ok(())
 }
@@ -84,7 +98,8 @@ pub fn add<K, T: Drop + StoredRow<K>, S: Alter>(
     ensures uncommitted { Keeps S.Store tx.old.conn.now tx.new.conn.now }
     ensures survives { Spares S.Store tx.old.conn.now tx.new.conn.now }
 {
-    row.write(alloc, tx, T::insert_text())?;
+    let table = T::table();
+    row.write(alloc, tx, table.insert)?;
     Ok(())
 }
 

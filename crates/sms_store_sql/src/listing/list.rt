@@ -1,41 +1,36 @@
 //! What a list says of its table.
-ghost use Rattle.std.specs.Prelude.{◌≡◌, IfErr, IfOk};
-ghost use Rattle.sqlite.specs.Held.{state};
-ghost use Rattle.sms_store_sql.specs.listing.Inside.{Counts, MakesStep, Keeps, Ran, RanOn, Spares};
-ghost use Rattle.sms_store_sql.specs.listing.Listing.{IsList, ListOf};
+ghost use Rattle.std.specs.Prelude.{◌≡◌, ℕ, length, IfErr, IfOk};
+ghost use Rattle.sms_store_sql.specs.listing.Inside.{Counts, Keeps, RanOn, Spares};
+ghost use Rattle.sms_store_sql.specs.listing.Listing.{IsList, ListOf, key_index_of, key_values, table_of};
 ghost use Rattle.sms_store_sql.specs.listing.Reading.{LacksMemory};
+ghost use Rattle.sms_store_sql.specs.schema.StoredTable.{index_planned, table_planned};
 
-use sms_rows::table::{Key, Row};
+use crate::schema::StoredTable;
+use sms_rows::table::Row;
 use sqlite::{Alter, Error, Transaction};
 use std::alloc::Global;
+
+/// How many rows a statement was on.
+pub type Counted = Result<usize, Error>;
 
 /// A row of a list that has a table of its own.
 pub trait StoredRow<K>: Row {
     /// The list and its table.
     ghost list: { ListOf Self };
 
-    /// Runs the text that removes the row of a key.
-    fn delete<S: Alter>(tx: &mut Transaction<'_, S>, key: Key) -> Result<(), Error>
-        ensures same_reference { tx.new.conn.ghost_name ≡ tx.old.conn.ghost_name }
-        ensures done { MakesStep S.Store tx.old.conn.now tx.new.conn.now (Ran list.table.delete (list.key_columns key)) result }
-        ensures uncommitted { Keeps S.Store tx.old.conn.now tx.new.conn.now }
-        ensures survives { Spares S.Store tx.old.conn.now tx.new.conn.now };
+    /// The table, with its texts.
+    fn table() -> StoredTable
+        ensures planned { table_planned result ≡ table_of list.table }
+        ensures index { index_planned result.index ≡ key_index_of list.table }
+        ensures create { result.create.now ≡ list.table.create }
+        ensures delete { result.delete.now ≡ list.table.delete }
+        ensures update { result.update.now ≡ list.table.update }
+        ensures insert { result.insert.now ≡ list.table.insert }
+        ensures select { result.select.now ≡ list.table.select }
+        ensures key { (n : ℕ) → key_values (length result.key.now) n ≡ list.key_columns n };
 
-    /// The text that changes the row of a key. Its values are those of the text that adds one.
-    fn update_text() -> &'static str
-        ensures { result.now ≡ list.table.update };
-
-    /// The text that adds a row.
-    fn insert_text() -> &'static str
-        ensures { result.now ≡ list.table.insert };
-
-    /// Runs such a text with the columns of the row as its values, and gives how many rows it was on.
-    fn write<S: Alter>(
-        &self,
-        alloc: Global,
-        tx: &mut Transaction<'_, S>,
-        text: &str,
-    ) -> Result<usize, Error>
+    /// Runs the text that adds a row or changes one, with the columns of the row as its values.
+    fn write<S: Alter>(&self, alloc: Global, tx: &mut Transaction<'_, S>, text: &str) -> Counted
         ensures same_reference { tx.new.conn.ghost_name ≡ tx.old.conn.ghost_name }
         ensures done { Counts S.Store tx.old.conn.now tx.new.conn.now (RanOn text.now (list.columns self.now)) result }
         ensures uncommitted { Keeps S.Store tx.old.conn.now tx.new.conn.now }
@@ -47,10 +42,6 @@ pub trait StoredRow<K>: Row {
     fn is_first(&self) -> bool {
         false
     }
-
-    /// The text that reads all rows.
-    fn select() -> &'static str
-        ensures { result.now ≡ list.table.select };
 
     /// Reads the columns of a row. An error means columns that no row of the list has, or want of memory: what `write`
     /// writes is read again.

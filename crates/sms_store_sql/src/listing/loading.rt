@@ -55,8 +55,9 @@ fn gather<K, T: Drop + StoredRow<K>, S: Alter>(
         → StaysOutside (state S.Store conn.old) (state S.Store conn.new) }
     ensures survives { SparesOwn T.list.table.schema (state S.Store conn.old) (state S.Store conn.new) }
 {
+    let table = T::table();
     let mut found = Vec::new(alloc);
-    let mut rows = conn.query(T::select(), &[])?;
+    let mut rows = conn.query(table.select, &[])?;
     'rows: for _ in 0..u64::MAX {
         let Some(row) = rows.next()? else {
             return Ok(found);
@@ -96,6 +97,7 @@ pub fn load_columns<K, T: Drop + StoredRow<K>, S: Alter>(
     ensures uncommitted { Stays S.Store tx.old.conn.now tx.new.conn.now T.list }
     ensures survives { Spares S.Store tx.old.conn.now tx.new.conn.now }
 {
-    let rows = tx.query_all(T::select(), &[])?;
+    let table = T::table();
+    let rows = tx.query_all(table.select, &[])?;
     Ok(rows)
 }

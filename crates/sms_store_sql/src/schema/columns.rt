@@ -1,8 +1,7 @@
 //! Columns.
-ghost use Rattle.std.specs.Prelude.{◌≡◌, IsTrue, map};
-ghost use Rattle.sms_store_sql.specs.listing.Listing.{given as given_column, optional as optional_column};
 ghost use Rattle.sms_store_sql.specs.schema.ColumnPlan.{column_of};
 
+use crate::schema::plan::Plan;
 use sqlite_schema::schema::{Column, Kind};
 use sqlite_value::keys::Collation;
 use sqlite_value::value::Value;
@@ -16,55 +15,18 @@ pub struct ColumnPlan {
     pub is_optional: bool,
 }
 
-/// A column that holds no NULL.
-pub fn given(name: &'static str, kind: Kind) -> ColumnPlan
-    ensures { column_of result ≡ given_column name.now kind }
-{
-    ColumnPlan {
-        name,
-        kind,
-        is_optional: false,
-    }
-}
+impl Plan for ColumnPlan {
+    type Made = Column;
 
-/// A column that may hold NULL.
-pub fn optional(name: &'static str, kind: Kind) -> ColumnPlan
-    ensures { column_of result ≡ optional_column name.now kind }
-{
-    ColumnPlan {
-        name,
-        kind,
-        is_optional: true,
-    }
-}
+    ghost planned = { column_of };
 
-fn is_column(column: &Column, plan: &ColumnPlan) -> bool
-    ensures yes { IsTrue result → column.now ≡ column_of plan.now }
-    ensures always { column.now ≡ column_of plan.now → IsTrue result }
-{
-    if column.name.as_slice() != plan.name.as_bytes() || column.kind != plan.kind {
-        return false;
-    }
-    if !column.is_strict || column.not_null == plan.is_optional {
-        return false;
-    }
-    matches!(&column.default, Value::Null) && column.collation == Collation::Binary
-}
-
-/// Whether the columns are these, in this order.
-pub(crate) fn are_columns(columns: &[Column], plan: &[ColumnPlan]) -> bool
-    ensures yes { IsTrue result → columns.now ≡ map column_of plan.now }
-    ensures always { columns.now ≡ map column_of plan.now → IsTrue result }
-{
-    if columns.len() != plan.len() {
-        return false;
-    }
-    for i in 0..plan.len() {
-        let column = &columns[i];
-        let wish = &plan[i];
-        if !is_column(column, wish) {
+    fn is(&self, made: &Column) -> bool {
+        if made.name.as_slice() != self.name.as_bytes() || made.kind != self.kind {
             return false;
         }
+        if !made.is_strict || made.not_null == self.is_optional {
+            return false;
+        }
+        matches!(&made.default, Value::Null) && made.collation == Collation::Binary
     }
-    true
 }

@@ -1,13 +1,15 @@
-//! Tables and the indexes of their keys.
-ghost use Rattle.std.specs.Prelude.{◌≡◌, IsTrue, true, [], ◌∷◌, map};
+//! Tables and whole schemas.
+ghost use Rattle.std.specs.Prelude.{◌≡◌, IsTrue, [], ◌∷◌};
 ghost use Rattle.sqlite_value.specs.Keys.{plain};
 ghost use Rattle.sms_store_sql.specs.listing.Listing.{keyed_table};
-ghost use Rattle.sms_store_sql.specs.schema.ColumnPlan.{column_of};
+ghost use Rattle.sms_store_sql.specs.schema.StoredTable.{schema_planned, table_planned};
 
-use crate::schema::columns::{ColumnPlan, are_columns};
+use crate::schema::columns::ColumnPlan;
+use crate::schema::indexes::IndexPlan;
+use crate::schema::plan::{Plan, are_planned};
 use sqlite_items::Items;
 use sqlite_schema::code::Terms;
-use sqlite_schema::schema::{Index, Stamps, Table};
+use sqlite_schema::schema::{Schema, Stamps, Table};
 use sqlite_value::keys::Order;
 
 fn are_places(places: &Items<usize>, key: &[usize]) -> bool
@@ -69,23 +71,46 @@ fn is_keyed(table: &Table, name: &str, tree: u32, key: &[usize]) -> bool
     table.computed.is_empty() && has_no_checks(&table.checks) && has_no_stamps(&table.stamps)
 }
 
-/// Whether it is the table of that name and tree, with these columns and this key: their places from 1.
-pub fn is_table(table: &Table, name: &str, tree: u32, columns: &[ColumnPlan], key: &[usize]) -> bool
-    ensures yes { IsTrue result → table.now ≡ keyed_table name.now tree (map column_of columns.now) key.now }
-    ensures always { table.now ≡ keyed_table name.now tree (map column_of columns.now) key.now → IsTrue result }
-{
-    is_keyed(table, name, tree, key) && are_columns(table.columns.as_slice(), columns)
+/// A table that a store is to have, with its texts. `table!` makes it of one list of its columns.
+#[derive(Clone, Copy)]
+pub struct StoredTable {
+    pub name: &'static str,
+    /// The number of its tree.
+    pub tree: u32,
+    pub columns: &'static [ColumnPlan],
+    /// The places of the columns that make its key, from 1.
+    pub key: &'static [usize],
+    /// The index that SQLite makes for its key.
+    pub index: IndexPlan,
+    /// The text that makes the table.
+    pub create: &'static str,
+    /// The text that removes the row of a key.
+    pub delete: &'static str,
+    /// The text that changes the row of a key. Its values are those of the text that adds one.
+    pub update: &'static str,
+    /// The text that adds a row.
+    pub insert: &'static str,
+    /// The text that reads all rows.
+    pub select: &'static str,
 }
 
-/// Whether it is the index of that name and tree, for a key of that table.
-pub fn is_index(index: &Index, name: &str, tree: u32, table: u32, places: &[usize]) -> bool
-    ensures yes { IsTrue result → index.now ≡ record { name = name.now; tree = tree; table = table; columns = places.now; order = plain; is_unique = true } }
-    ensures always { index.now ≡ record { name = name.now; tree = tree; table = table; columns = places.now; order = plain; is_unique = true } → IsTrue result }
+impl Plan for StoredTable {
+    type Made = Table;
+
+    ghost planned = { table_planned };
+
+    fn is(&self, made: &Table) -> bool {
+        is_keyed(made, self.name, self.tree, self.key)
+            && are_planned(made.columns.as_slice(), self.columns)
+    }
+}
+
+/// Whether the schema has these tables and indexes, in this order, and no view.
+pub fn is_schema(schema: &Schema, tables: &[StoredTable], indexes: &[IndexPlan]) -> bool
+    ensures yes { IsTrue result → schema.now ≡ schema_planned tables.now indexes.now }
+    ensures always { schema.now ≡ schema_planned tables.now indexes.now → IsTrue result }
 {
-    index.name.as_slice() == name.as_bytes()
-        && index.tree == tree
-        && index.table == table
-        && are_places(&index.columns, places)
-        && (index.order == Order::PLAIN)
-        && index.is_unique
+    schema.views.is_empty()
+        && are_planned(schema.tables.as_slice(), tables)
+        && are_planned(schema.indexes.as_slice(), indexes)
 }

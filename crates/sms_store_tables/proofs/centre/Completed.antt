@@ -1,5 +1,5 @@
 -- What the texts lead to that make what version 1 lacks.
-use Rattle.std.proofs.Common.{◌≡◌, List, ℕ, [], refl, ◌∙◌}
+use Rattle.std.proofs.Common.{List, ℕ, [], refl, ◌∙◌}
 use Rattle.sqlite.specs.Effect.{Database}
 use Rattle.sqlite.specs.Order.{Row}
 use Rattle.sqlite.specs.State.{State}
@@ -9,8 +9,8 @@ use Rattle.sms_store_sql.proofs.listing.Making.{makes}
 use Rattle.sms_store_tables.specs.centre.CentreSchema.{first_schema, second_schema, with_priority, centre_schema, adds_bar, adds_priority, bar_plan, create_report_message, report_message_made, adds_report_message, priority_plan, report_plan}
 use Rattle.sms_store_tables.proofs.centre.Indexing.{indexes}
 use Rattle.sms_store_tables.specs.centre.Completing.{Completes, IndexesReports, MakesBars, MakesPriority, MakesSecond}
-use Rattle.sms_store_tables.specs.TablePlan.{defined, made}
-use Rattle.sms_store_tables.specs.Texts.{create_text}
+use Rattle.sms_store_sql.specs.tabled.TablePlan.{defined, made}
+use Rattle.sms_store_sql.specs.tabled.Texts.{create_text}
 
 pub ran_leads : (P : Database → Database → Type 0) (sql : List ℕ) (params : Row) (a b : State) → (Ran sql params a b → P a.now b.now) → Ran sql params a b → Leads P a b
 ran_leads P sql params a b turn h = record { inside = h.inside; changed = turn h }

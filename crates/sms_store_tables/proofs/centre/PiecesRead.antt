@@ -1,12 +1,12 @@
 -- What is written in several columns, or as a word, has each column as its reader wants it.
-use Rattle.std.proofs.Common.{◌≡◌, ℕ, ◌+◌, ◌<◌, true, false, nat_eq, bytes_eq, List, Option, Some, None, IfSome, IsUtf8, codes, refl, arith}
+use Rattle.std.proofs.Common.{◌≡◌, ℕ, true, false, bytes_eq, List, Option, Some, None, IfSome, IsUtf8, codes, refl}
 use Rattle.sqlite.specs.Order.{Row}
 use Rattle.sqlite.specs.declared.types.Value.TheVariants.{Blob}
 use Rattle.sqlite_sql.specs.Ops.{is_null}
-use Rattle.sms_store_sql.specs.listing.Columns.{IsOctet, IsShort, number, or_none}
+use Rattle.sms_store_sql.specs.listing.Columns.{IsOctet, number, or_none}
 use Rattle.sms_store_sql.specs.listing.Reading.{HasAt}
-use Rattle.sms_store_tables.specs.centre.Pieces.{HasKey, IsStoredKey, IsStoredKind, IsStoredOriginator, IsStoredReference, account_of, kind_reference, kind_tpdu, kind_word, mark_of, reference_bits, reference_number, state_word, wish_word}
-use Rattle.sms_store_tables.specs.centre.Types.{FinalState, Delivered, Expired, Deleted, Undeliverable, ConcatKey, ConcatReference, EightBit, SixteenBit, Originator, Application, Handset, Wish, Nothing, Always, OnFailure, ReportKind, Receipt, Status, Unsent}
+use Rattle.sms_store_tables.specs.centre.Pieces.{HasKey, IsStoredKey, IsStoredKind, IsStoredOriginator, account_of, kind_reference, kind_tpdu, kind_word, mark_of, reference_bits, state_word, wish_word}
+use Rattle.sms_store_tables.specs.centre.Types.{FinalState, Delivered, Expired, Deleted, Undeliverable, ConcatKey, Originator, Application, Handset, Wish, Nothing, Always, OnFailure, ReportKind, Receipt, Status, Unsent}
 
 -- ---- words
 
@@ -32,21 +32,7 @@ kind_utf8 Unsent = (codes "unsent", (refl, refl))
 
 -- ---- the place of a part in a long message
 
-pub bits_octet : (r : ConcatReference) → IsOctet (reference_bits r)
-bits_octet (EightBit r) = omega arith
-bits_octet (SixteenBit r) = omega arith
-
 module _ (row : Row) (at : ℕ) where
-  pub narrow : (r : ConcatReference) → nat_eq (reference_bits r) 8 ≡ true → IsStoredReference r → HasAt row at (number (reference_number r))
-      → (n : ℕ) × IsOctet n × HasAt row at (number n)
-  narrow (EightBit r) eight stored has = (r, stored, has)
-  narrow (SixteenBit r) eight stored has = absurd cc
-
-  pub wide : (r : ConcatReference) → nat_eq (reference_bits r) 8 ≡ false → IsStoredReference r → HasAt row at (number (reference_number r))
-      → (n : ℕ) × IsShort n × HasAt row at (number n)
-  wide (EightBit r) other stored has = absurd cc
-  wide (SixteenBit r) other stored has = (r, stored, has)
-
   pub some_key : (key : Option ConcatKey) → is_null (or_none (λ (k : ConcatKey). number (reference_bits k.reference)) key) ≡ false → IfSome key IsStoredKey
       → HasKey row at key → (k : ConcatKey) × IsStoredKey k × HasKey row at (Some k)
   some_key None given stored has = absurd cc

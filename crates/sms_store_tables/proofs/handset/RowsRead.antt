@@ -1,17 +1,14 @@
 -- What is written in several columns, or as a word, has each column as its reader wants it.
-use Rattle.std.proofs.Common.{◌≡◌, ℕ, ◌+◌, ◌<◌, true, false, nat_eq, bytes_eq, List, IsUtf8, Result, Ok, Err, IfOk, codes, encode_utf8_all, refl, sym, subst, ap, ◌∙◌, arith}
+use Rattle.std.proofs.Common.{◌≡◌, ℕ, true, bytes_eq, List, IsUtf8, Result, Ok, Err, IfOk, codes, refl, sym, subst}
 use Rattle.sqlite.specs.Order.{Row}
-use Rattle.sqlite_value.specs.Order.{column}
 use Rattle.sqlite.specs.declared.types.Value.TheVariants.{Blob, Text}
-use Rattle.sms_base.specs.AddressKind.{type_number}
 use Rattle.sms_base.specs.declared.address.Address.{Address}
-use Rattle.sms_store_sql.specs.listing.Columns.{IsOctet, IsShort, IsWord, number, text_in}
+use Rattle.sms_store_sql.specs.listing.Columns.{IsOctet, IsWord, number}
 use Rattle.sms_store_sql.specs.listing.Reading.{HasAt}
 use Rattle.sms_store_sql.proofs.listing.Columns.{has_in}
-use Rattle.sms_store_tables.specs.handset.Groups.{IsStoredReference, reference_bits, reference_number}
 use Rattle.sms_store_tables.specs.handset.Words.{coding_word, state_word}
 use Rattle.sms_store_tables.specs.handset.EntryList.{IsStoredEntry, IsStoredMessage, row_columns}
-use Rattle.sms_store_tables.specs.handset.Types.{Coding, Septets, Octets, Ucs2, Compressed, EntryState, Queued, Sending, Sent, Failed, Unsure, ConcatReference, EightBit, SixteenBit, Content, Entry, Group, Message, Single, Part, Joined}
+use Rattle.sms_store_tables.specs.handset.Types.{Coding, Septets, Octets, Ucs2, Compressed, EntryState, Queued, Sending, Sent, Failed, Unsure, Content, Entry, Group, Message, Single, Part, Joined}
 
 -- ---- words
 
@@ -29,23 +26,6 @@ coding_utf8 Septets = (codes "septets", (refl, refl))
 coding_utf8 Octets = (codes "octets", (refl, refl))
 coding_utf8 Ucs2 = (codes "ucs2", (refl, refl))
 coding_utf8 Compressed = (codes "compressed", (refl, refl))
-
--- ---- the reference of a group
-
-pub bits_octet : (r : ConcatReference) → IsOctet (reference_bits r)
-bits_octet (EightBit r) = omega arith
-bits_octet (SixteenBit r) = omega arith
-
-module _ (row : Row) (at : ℕ) where
-  pub narrow : (r : ConcatReference) → nat_eq (reference_bits r) 8 ≡ true → IsStoredReference r → HasAt row at (number (reference_number r))
-      → (n : ℕ) × IsOctet n × HasAt row at (number n)
-  narrow (EightBit r) eight stored has = (r, stored, has)
-  narrow (SixteenBit r) eight stored has = absurd cc
-
-  pub wide : (r : ConcatReference) → nat_eq (reference_bits r) 8 ≡ false → IsStoredReference r → HasAt row at (number (reference_number r))
-      → (n : ℕ) × IsShort n × HasAt row at (number n)
-  wide (EightBit r) other stored has = absurd cc
-  wide (SixteenBit r) other stored has = (r, stored, has)
 
 -- ---- an entry
 

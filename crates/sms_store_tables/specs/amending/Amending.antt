@@ -9,8 +9,22 @@ use Rattle.sqlite.specs.Listing.{understood}
 use Rattle.sqlite_sql.specs.Term.{eval_all}
 use Rattle.sqlite.proofs.Callers.{IsPlain, command_of}
 use Rattle.sms_store_sql.specs.listing.Listing.{rows_where, ListOf}
+use Rattle.sms_store_sql.specs.tabled.Tabled.{IsCompiledTo}
 use Rattle.sms_store_tables.specs.centre.Pieces.{IsStoredProgress}
 use Rattle.sms_centre_rows.specs.declared.waiting.progress.Progress.{Progress}
+
+module _ {X : Type 0} (l : ListOf X) where
+  -- the text is compiled to the change of a row that reads its rowid, and writes that rowid and these columns
+  abbrev pub ChangesColumns : List ℕ → List Term → Type 0
+  ChangesColumns text shown =
+      IsCompiledTo l.table text
+      (Update l.table.place (record { lets = []; body = rows_where l.table.tree l.table.tests (col 1 0 ∷ col 1 0 ∷ shown) }))
+
+  -- the row of the key is found, whatever is to be written
+  abbrev pub FindsToAmend : (Progress → Row) → Type 0
+  FindsToAmend written =
+      (n : ℕ) (q : Progress) (id : ℤ) (x : X) → l.Fits x
+      → list_all (holds ((l.key_columns n ++ written q) ∷ (Int id ∷ l.columns x) ∷ [])) l.table.tests ≡ (l.key x == n)
 
 -- What makes a text the one that changes how far the row of a key is. The key is before the progress among its values; the
 -- first two hold by computation.
@@ -19,9 +33,7 @@ pub record AmendsOne {X : Type 0} (l : ListOf X) (text : List ℕ) (reaching : P
   pub updates : command_of (understood l.table.schema text)
       ≡ Update l.table.place (record { lets = []; body = rows_where l.table.tree l.table.tests (col 1 0 ∷ col 1 0 ∷ shown) })
   pub alone : IsPlain (understood l.table.schema text)
-  -- it finds the row of the key, whatever is to be written
-  pub finds : (n : ℕ) (q : Progress) (id : ℤ) (x : X) → l.Fits x
-      → list_all (holds ((l.key_columns n ++ written q) ∷ (Int id ∷ l.columns x) ∷ [])) l.table.tests ≡ (l.key x == n)
+  pub finds : FindsToAmend l written
   -- its columns are then those of the row that is so far
   pub gives_columns : (n : ℕ) (q : Progress) (id : ℤ) (x : X)
       → eval_all shown ((l.key_columns n ++ written q) ∷ (Int id ∷ l.columns x) ∷ []) ≡ l.columns (reaching q x)

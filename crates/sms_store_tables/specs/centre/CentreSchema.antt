@@ -1,6 +1,6 @@
 -- The tables of a centre's store, in the order in which they are made. That of priorities is of version 2, and with it the index that
 -- finds the reports of a message. That of bars is of version 3.
-use Rattle.std.specs.Prelude.{◌≡◌, ℕ, false, List, [], ◌∷◌, codes, refl}
+use Rattle.std.specs.Prelude.{◌≡◌, ℕ, false, List, [], ◌∷◌, codes, take, refl}
 use Rattle.sqlite.specs.Schema.{Schema}
 use Rattle.sqlite.specs.Table.{Table}
 use Rattle.sqlite.specs.Kind.TheVariants.{Integer, Text, Blob}
@@ -12,9 +12,9 @@ use Rattle.sms_store_tables.specs.centre.Indexing.{AddsIndex}
 use Rattle.sqlite_schema.specs.declared.schema.Index.{Index}
 use Rattle.sqlite_value.specs.Keys.{plain}
 use Rattle.sms_store_sql.specs.schema.Blank.{no_tables}
-use Rattle.sms_store_tables.specs.TablePlan.{TablePlan, made, defined, key_index}
-use Rattle.sms_store_tables.specs.Tabled.{AddsPlan}
-use Rattle.sms_store_tables.specs.MetaTable.{meta_plan}
+use Rattle.sms_store_sql.specs.tabled.TablePlan.{TablePlan, made, defined, key_index}
+use Rattle.sms_store_sql.specs.tabled.Tabled.{AddsPlan}
+use Rattle.sms_store_sql.specs.tabled.MetaTable.{meta_plan}
 
 -- ---- the tables
 
@@ -173,28 +173,6 @@ centre_schema = with_bar
 abbrev pub report_message_index : Index
 report_message_index = record { name = codes "report_message"; tree = 14; table = 10; columns = 2 ∷ []; order = plain; is_unique = false }
 
--- all tables and indexes of version 1
-abbrev pub first_tables : List Table
-first_tables =
-    defined 0 meta_plan ∷ defined 2 message_plan ∷ defined 4 part_plan ∷ defined 6 reference_plan ∷ defined 8 handset_plan ∷ defined 10 report_plan ∷ []
-
-abbrev pub first_indexes : List Index
-first_indexes =
-    key_index 0 meta_plan ∷ key_index 2 message_plan ∷ key_index 4 part_plan ∷ key_index 6 reference_plan
-    ∷ key_index 8 handset_plan ∷ key_index 10 report_plan ∷ []
-
--- of version 2
-abbrev pub second_tables : List Table
-second_tables =
-    defined 0 meta_plan ∷ defined 2 message_plan ∷ defined 4 part_plan ∷ defined 6 reference_plan ∷ defined 8 handset_plan
-    ∷ defined 10 report_plan ∷ defined 12 priority_plan ∷ []
-
-abbrev pub second_indexes : List Index
-second_indexes =
-    key_index 0 meta_plan ∷ key_index 2 message_plan ∷ key_index 4 part_plan ∷ key_index 6 reference_plan
-    ∷ key_index 8 handset_plan ∷ key_index 10 report_plan ∷ key_index 12 priority_plan ∷ report_message_index ∷ []
-
--- and of version 3
 abbrev pub centre_tables : List Table
 centre_tables =
     defined 0 meta_plan ∷ defined 2 message_plan ∷ defined 4 part_plan ∷ defined 6 reference_plan ∷ defined 8 handset_plan
@@ -205,26 +183,18 @@ centre_indexes =
     key_index 0 meta_plan ∷ key_index 2 message_plan ∷ key_index 4 part_plan ∷ key_index 6 reference_plan
     ∷ key_index 8 handset_plan ∷ key_index 10 report_plan ∷ key_index 12 priority_plan ∷ report_message_index ∷ key_index 15 bar_plan ∷ []
 
-pub first_schema_is : first_schema ≡ record {
-  tables = first_tables;
-  indexes = first_indexes;
-  views = [];
-}
+-- so many of them, the first that are made
+abbrev pub first_made : ℕ → ℕ → Schema
+first_made tables indexes = record { tables = take tables centre_tables; indexes = take indexes centre_indexes; views = [] }
+
+pub first_schema_is : first_schema ≡ first_made 6 6
 unfolding everything
 first_schema_is = refl
 
-pub second_schema_is : second_schema ≡ record {
-  tables = second_tables;
-  indexes = second_indexes;
-  views = [];
-}
+pub second_schema_is : second_schema ≡ first_made 7 8
 unfolding everything
 second_schema_is = refl
 
-pub schema_is : centre_schema ≡ record {
-  tables = centre_tables;
-  indexes = centre_indexes;
-  views = [];
-}
+pub schema_is : centre_schema ≡ first_made 8 9
 unfolding everything
 schema_is = refl

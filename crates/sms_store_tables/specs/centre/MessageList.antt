@@ -8,8 +8,8 @@ use Rattle.sms_base.specs.MessageId.{IsMessageId}
 use Rattle.sms_base.specs.Msisdn.{IsMsisdn}
 use Rattle.sms_base.specs.TimeStamp.{IsMoment}
 use Rattle.sms_store_sql.specs.listing.Columns.{IsOctet, IsShort, number, number_in, text_in, characters_in, if_given, or_none}
-use Rattle.sms_store_sql.specs.listing.Listing.{TableOf, ListOf, IsList, table_of}
-use Rattle.sms_store_sql.proofs.listing.Columns.{one_found, cast_int, cast_row_same, cast_optional, characters_back, digits_spelled, given_back}
+use Rattle.sms_store_sql.specs.listing.Listing.{ListOf, IsList}
+use Rattle.sms_store_sql.proofs.listing.Columns.{one_found, cast_int, cast_optional, characters_back, digits_spelled, given_back}
 use Rattle.sms_store_tables.specs.centre.CentreSchema.{centre_schema, message_plan}
 use Rattle.sms_store_tables.specs.centre.Types.{MessageRow}
 use Rattle.sms_base.specs.AddressKind.{type_number}
@@ -17,10 +17,8 @@ use Rattle.sms_store_sql.specs.listing.Addresses.{IsStoredAddress, address_in}
 use Rattle.sms_store_sql.proofs.listing.Columns.{address_back}
 use Rattle.sms_store_tables.specs.centre.Pieces.{IsStoredOriginator, account_of, mark_of, originator_in, originator_back, mark_stays, wish_word, wish_in}
 use Rattle.sms_store_tables.specs.centre.Pieces.{wish_back, state_word, state_in, state_back}
-use Rattle.sms_store_tables.specs.Tabled.{tabled, IsTabled, computed, listed, KeepsKinds, FindsItsKey, AgreesInItsKey, IsReadBack}
-
-abbrev pub message_table : TableOf
-message_table = tabled centre_schema 1 2 message_plan
+use Rattle.sms_store_sql.specs.tabled.Tabled.{Computes, IsReadBack, computed, rows_by_one, tabled}
+use Rattle.sms_store_sql.proofs.tabled.Listed.{SuitsKinds, listed}
 
 -- a message with its numbers in their ranges
 pub record IsStoredMessage (m : MessageRow) : Type 0 where
@@ -36,39 +34,34 @@ pub record IsStoredMessage (m : MessageRow) : Type 0 where
   pub done : IfSome m.done IsMoment
 
 abbrev pub message_list : ListOf MessageRow
-message_list = record {
-  table = message_table;
-  key = λ x. x.id;
-  columns =
-      λ m. number m.id ∷ account_of m.originator ∷ mark_of m.originator ∷ number (type_number m.source.ton) ∷ number m.source.npi
-      ∷ Text (encode_utf8_all m.source.digits) ∷ Text (encode_utf8_all m.handset) ∷ number m.data_coding_scheme ∷ number m.protocol_identifier
-      ∷ Text (wish_word m.wish) ∷ number m.submitted ∷ number m.limit ∷ or_none number m.split_reference ∷ Text (state_word m.state) ∷ or_none number m.done
-      ∷ [];
-  reads = λ row. record {
-    id = number_in (column row 0);
-    originator = originator_in (column row 1) (column row 2);
-    source = address_in (column row 3) (column row 4) (column row 5);
-    handset = characters_in (column row 6);
-    data_coding_scheme = number_in (column row 7);
-    protocol_identifier = number_in (column row 8);
-    wish = wish_in (text_in (column row 9));
-    submitted = number_in (column row 10);
-    limit = number_in (column row 11);
-    split_reference = if_given number_in (column row 12);
-    state = state_in (text_in (column row 13));
-    done = if_given number_in (column row 14);
-  };
-  key_columns = λ n. number n ∷ [];
-  Fits = IsStoredMessage;
-}
+message_list =
+    rows_by_one MessageRow (tabled centre_schema 1 2 message_plan) (λ x. x.id)
+    (λ m. number m.id ∷ account_of m.originator ∷ mark_of m.originator ∷ number (type_number m.source.ton) ∷ number m.source.npi
+    ∷ Text (encode_utf8_all m.source.digits) ∷ Text (encode_utf8_all m.handset) ∷ number m.data_coding_scheme ∷ number m.protocol_identifier
+    ∷ Text (wish_word m.wish) ∷ number m.submitted ∷ number m.limit ∷ or_none number m.split_reference ∷ Text (state_word m.state) ∷ or_none number m.done
+    ∷ [])
+    (λ row. record {
+      id = number_in (column row 0);
+      originator = originator_in (column row 1) (column row 2);
+      source = address_in (column row 3) (column row 4) (column row 5);
+      handset = characters_in (column row 6);
+      data_coding_scheme = number_in (column row 7);
+      protocol_identifier = number_in (column row 8);
+      wish = wish_in (text_in (column row 9));
+      submitted = number_in (column row 10);
+      limit = number_in (column row 11);
+      split_reference = if_given number_in (column row 12);
+      state = state_in (text_in (column row 13));
+      done = if_given number_in (column row 14);
+    })
+    IsStoredMessage
 
 -- ---- what the rows are
 
-stays : KeepsKinds message_list
-stays x =
+suits : SuitsKinds message_list
+suits x =
     let split = cast_optional number x.split_reference (λ n. cast_int _) in
-    let done = cast_optional number x.done (λ n. cast_int _) in
-    cast_row_same (table_of message_table) _ (
+    let done = cast_optional number x.done (λ n. cast_int _) in (
       cast_int _,
       (
         refl,
@@ -78,9 +71,6 @@ stays x =
         ),
       ),
     )
-
-finds : FindsItsKey message_list
-finds n id x fits = one_found x.id n
 
 reads_back : IsReadBack message_list
 reads_back x fits =
@@ -106,17 +96,16 @@ reads_back x fits =
       done = done i;
     }
 
-agrees : AgreesInItsKey message_list
-unfolding everything
-agrees x id new y = refl
-
-in_schema : IsTabled message_table
+computes : Computes message_list
 unfolding understood everything
-in_schema =
-    computed message_table refl (refl, (refl, refl)) (refl, (refl, refl)) (refl, (refl, refl)) (refl, (refl, refl)) refl (λ db. refl)
-    (λ keys olds news. refl) refl
+computes = (
+  computed message_list.table refl (refl, (refl, refl)) (refl, (refl, refl)) (refl, (refl, refl)) (refl, (refl, refl)) refl (λ d. refl) (λ k o n. refl) refl,
+  λ x id new y. refl,
+)
 
 pub message_is_list : IsList message_list
 message_is_list =
-    listed message_list in_schema (λ x. refl) (λ id x. refl) (λ x id y. refl) stays finds
-    (λ x id y fits suits. finds (message_list.key x) id y suits) agrees reads_back
+    listed message_list computes (λ x. refl) (λ id x. refl) (λ x id y. refl)
+    suits
+    (λ n id x fits. one_found x.id n) (λ x id y fits suits. one_found y.id x.id)
+    reads_back

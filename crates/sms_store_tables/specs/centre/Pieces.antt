@@ -1,5 +1,6 @@
 -- What the store has in several columns, or as a word.
-use Rattle.std.specs.Prelude.{◌≡◌, ℕ, ◌+◌, ⊤, nat_eq, if◌then◌else◌, List, [], ◌∷◌, codes, Option, Some, None, refl}
+pub use Rattle.sms_store_tables.specs.References.{IsStoredReference, reference_bits, reference_number}
+use Rattle.std.specs.Prelude.{◌≡◌, ℕ, ◌+◌, ⊤, if◌then◌else◌, List, [], ◌∷◌, codes, Option, Some, None, refl}
 use Rattle.sqlite.specs.Order.{Row}
 use Rattle.sqlite.specs.declared.types.Value.{Value}
 use Rattle.sqlite.specs.declared.types.Value.TheVariants.{Null, Blob}
@@ -7,37 +8,22 @@ use Rattle.sqlite.specs.Cast.{cast}
 use Rattle.sqlite.specs.Kind.TheVariants.{Integer}
 use Rattle.sqlite_sql.specs.Ops.{is_null}
 use Rattle.sms_base.specs.TimeStamp.{IsMoment}
-use Rattle.sms_store_sql.specs.listing.Columns.{IsOctet, IsShort, number, number_in, octets_in, flag, flag_in, or_none, is_word}
+use Rattle.sms_store_sql.specs.listing.Columns.{IsOctet, number, number_in, octets_in, flag, flag_in, or_none, is_word}
 use Rattle.sms_store_sql.specs.listing.Reading.{HasAt}
 use Rattle.sms_store_sql.proofs.listing.Columns.{cast_int, cast_null, flag_back}
-use Rattle.sms_store_tables.specs.centre.Types.{FinalState, Delivered, Expired, Deleted, Undeliverable, ConcatKey, ConcatReference, EightBit, SixteenBit}
+use Rattle.sms_store_tables.specs.References.{reference_back, reference_in}
+use Rattle.sms_store_tables.specs.centre.Types.{FinalState, Delivered, Expired, Deleted, Undeliverable, ConcatKey}
 use Rattle.sms_store_tables.specs.centre.Types.{Originator, Application, Handset, Wish, Nothing, Always, OnFailure, ReportKind, Receipt, Status, Unsent}
 use Rattle.sms_store_tables.specs.centre.Types.{Progress}
 
 -- ---- the place of a part in a long message
-
--- how many bits the reference has: 8 (3GPP TS 23.040 9.2.3.24.1) or 16 (9.2.3.24.8)
-abbrev pub reference_bits : ConcatReference → ℕ
-reference_bits (EightBit r) = 8
-reference_bits (SixteenBit r) = 16
-
-abbrev pub reference_number : ConcatReference → ℕ
-reference_number (EightBit r) = r
-reference_number (SixteenBit r) = r
-
-abbrev pub reference_in : Value → Value → ConcatReference
-reference_in bits reference = if nat_eq (number_in bits) 8 then EightBit (number_in reference) else SixteenBit (number_in reference)
 
 -- none where its first column is NULL
 abbrev pub key_in : Value → Value → Value → Value → Option ConcatKey
 key_in bits reference total part =
     if is_null bits then None else Some (record { reference = reference_in bits reference; total = number_in total; number = number_in part })
 
--- a reference in its range, and a part with it
-abbrev pub IsStoredReference : ConcatReference → Type 0
-IsStoredReference (EightBit r) = IsOctet r
-IsStoredReference (SixteenBit r) = IsShort r
-
+-- a part in its ranges
 pub record IsStoredKey (key : ConcatKey) : Type 0 where
   pub reference : IsStoredReference key.reference
   pub total : IsOctet key.total
@@ -49,10 +35,6 @@ pub record HasKey (row : Row) (at : ℕ) (key : Option ConcatKey) : Type 0 where
   pub reference : HasAt row (at + 1) (or_none (λ (k : ConcatKey). number (reference_number k.reference)) key)
   pub total : HasAt row (at + 2) (or_none (λ (k : ConcatKey). number k.total) key)
   pub number_is : HasAt row (at + 3) (or_none (λ (k : ConcatKey). number k.number) key)
-
-reference_back : (r : ConcatReference) → reference_in (number (reference_bits r)) (number (reference_number r)) ≡ r
-reference_back (EightBit r) = refl
-reference_back (SixteenBit r) = refl
 
 pub key_back : (key : Option ConcatKey)
     → key_in (or_none (λ (k : ConcatKey). number (reference_bits k.reference)) key) (or_none (λ (k : ConcatKey). number (reference_number k.reference)) key)

@@ -3,8 +3,8 @@ use Rattle.std.specs.Prelude.{◌≡◌, ℕ, ◌++◌, ◌==◌, ℤ, List, [],
 use Rattle.std.specs.List.{list_all}
 use Rattle.sqlite.specs.declared.types.Value.TheVariants.{Int, Text}
 use Rattle.sqlite_value.specs.Order.{column}
-use Rattle.sqlite.specs.Term.{Term, col, holds}
-use Rattle.sqlite.specs.Command.TheVariants.{Update, Select}
+use Rattle.sqlite.specs.Term.{Term, holds}
+use Rattle.sqlite.specs.Command.TheVariants.{Select}
 use Rattle.sqlite.specs.Listing.{understood}
 use Rattle.sqlite_tied.specs.Compute.{everything}
 use Rattle.sms_base.specs.MessageId.{IsMessageId}
@@ -12,19 +12,17 @@ use Rattle.sms_base.specs.TimeStamp.{IsMoment}
 use Rattle.sms_store_sql.specs.listing.Columns.{number, number_in, text_in, flag}
 use Rattle.sms_store_sql.specs.listing.Finding.{FindsOne}
 use Rattle.sms_store_sql.specs.listing.Seeking.{SeeksBy}
-use Rattle.sms_store_sql.specs.listing.Listing.{rows_where, TableOf, ListOf, IsList, table_of, given_from, columns_of, equals}
-use Rattle.sms_store_sql.proofs.listing.Columns.{one_found, cast_int, cast_row_same, cast_flag}
+use Rattle.sms_store_sql.specs.listing.Listing.{rows_where, ListOf, IsList, given_from, columns_of, equals}
+use Rattle.sms_store_sql.proofs.listing.Columns.{one_found, cast_int, cast_flag}
 use Rattle.sms_store_tables.specs.centre.CentreSchema.{centre_schema, report_plan}
-use Rattle.sms_store_tables.specs.centre.Types.{ReportRow, Progress}
+use Rattle.sms_store_tables.specs.centre.Types.{ReportRow}
 use Rattle.sms_store_tables.specs.centre.Pieces.{IsStoredKind, IsStoredProgress, kind_word, kind_reference, kind_tpdu, kind_in, kind_back, reference_stays}
 use Rattle.sms_store_tables.specs.centre.Pieces.{progress_in, progress_back, progress_columns, progress_names}
-use Rattle.sms_store_tables.specs.amending.Amending.{AmendsOne}
+use Rattle.sms_store_tables.specs.amending.Amending.{AmendsOne, ChangesColumns, FindsToAmend}
 use Rattle.sms_centre_rows.specs.reports.Reports.{report_reaching}
-use Rattle.sms_store_tables.specs.Tabled.{tabled, IsTabled, computed, listed, KeepsKinds, FindsItsKey, AgreesInItsKey, IsReadBack, IsCompiledTo}
-use Rattle.sms_store_tables.specs.Texts.{find_text, amend_text, seek_text}
-
-abbrev pub report_table : TableOf
-report_table = tabled centre_schema 5 10 report_plan
+use Rattle.sms_store_sql.specs.tabled.Tabled.{Computes, IsCompiledTo, IsReadBack, computed, rows_by_one, tabled}
+use Rattle.sms_store_sql.proofs.tabled.Listed.{listed}
+use Rattle.sms_store_sql.specs.tabled.Texts.{find_text, amend_text, seek_text}
 
 -- a report with its numbers in their ranges
 pub record IsStoredReport (r : ReportRow) : Type 0 where
@@ -34,32 +32,20 @@ pub record IsStoredReport (r : ReportRow) : Type 0 where
   pub progress : IsStoredProgress r.progress
 
 abbrev pub report_list : ListOf ReportRow
-report_list = record {
-  table = report_table;
-  key = λ x. x.place;
-  columns =
-      λ r. number r.place ∷ number r.id ∷ Text (kind_word r.kind) ∷ kind_reference r.kind ∷ kind_tpdu r.kind ∷ number r.made ∷ flag r.progress.is_done
-      ∷ number r.progress.attempts ∷ number r.progress.due ∷ [];
-  reads = λ row. record {
-    place = number_in (column row 0);
-    id = number_in (column row 1);
-    kind = kind_in (text_in (column row 2)) (column row 3) (column row 4);
-    made = number_in (column row 5);
-    progress = progress_in (column row 6) (column row 7) (column row 8);
-  };
-  key_columns = λ n. number n ∷ [];
-  Fits = IsStoredReport;
-}
+report_list =
+    rows_by_one ReportRow (tabled centre_schema 5 10 report_plan) (λ x. x.place)
+    (λ r. number r.place ∷ number r.id ∷ Text (kind_word r.kind) ∷ kind_reference r.kind ∷ kind_tpdu r.kind ∷ number r.made ∷ flag r.progress.is_done
+    ∷ number r.progress.attempts ∷ number r.progress.due ∷ [])
+    (λ row. record {
+      place = number_in (column row 0);
+      id = number_in (column row 1);
+      kind = kind_in (text_in (column row 2)) (column row 3) (column row 4);
+      made = number_in (column row 5);
+      progress = progress_in (column row 6) (column row 7) (column row 8);
+    })
+    IsStoredReport
 
 -- ---- what the rows are
-
-stays : KeepsKinds report_list
-stays x =
-    cast_row_same (table_of report_table) _
-    (cast_int _, (cast_int _, (refl, (reference_stays x.kind, (refl, (cast_int _, (cast_flag x.progress.is_done, (cast_int _, (cast_int _, tt)))))))))
-
-finds : FindsItsKey report_list
-finds n id x fits = one_found x.place n
 
 reads_back : IsReadBack report_list
 reads_back x fits =
@@ -67,20 +53,19 @@ reads_back x fits =
     let p = progress_back x.progress in
     λ i. record { place = x.place; id = x.id; kind = k i; made = x.made; progress = p i }
 
-agrees : AgreesInItsKey report_list
-unfolding everything
-agrees x id new y = refl
-
-in_schema : IsTabled report_table
+computes : Computes report_list
 unfolding understood everything
-in_schema =
-    computed report_table refl (refl, (refl, refl)) (refl, (refl, refl)) (refl, (refl, refl)) (refl, (refl, refl)) refl (λ db. refl)
-    (λ keys olds news. refl) refl
+computes = (
+  computed report_list.table refl (refl, (refl, refl)) (refl, (refl, refl)) (refl, (refl, refl)) (refl, (refl, refl)) refl (λ d. refl) (λ k o n. refl) refl,
+  λ x id new y. refl,
+)
 
 pub report_is_list : IsList report_list
 report_is_list =
-    listed report_list in_schema (λ x. refl) (λ id x. refl) (λ x id y. refl) stays finds
-    (λ x id y fits suits. finds (report_list.key x) id y suits) agrees reads_back
+    listed report_list computes (λ x. refl) (λ id x. refl) (λ x id y. refl)
+    (λ x. (cast_int _, (cast_int _, (refl, (reference_stays x.kind, (refl, (cast_int _, (cast_flag x.progress.is_done, (cast_int _, (cast_int _, tt))))))))))
+    (λ n id x fits. one_found x.place n) (λ x id y fits suits. one_found y.place x.place)
+    reads_back
 
 -- ---- the row of a key
 
@@ -100,13 +85,11 @@ amend_report = amend_text report_plan progress_names
 abbrev pub report_amended : List Term
 report_amended = columns_of 6 ++ given_from 1 3
 
-amending : IsCompiledTo report_table amend_report
-    (Update report_table.place (record { lets = []; body = rows_where report_table.tree report_table.tests (col 1 0 ∷ col 1 0 ∷ report_amended) }))
+amending : ChangesColumns report_list amend_report report_amended
 unfolding understood everything
 amending = (refl, (refl, refl))
 
-amend_finds : (n : ℕ) (q : Progress) (id : ℤ) (x : ReportRow) → report_list.Fits x
-    → list_all (holds ((report_list.key_columns n ++ progress_columns q) ∷ (Int id ∷ report_list.columns x) ∷ [])) report_table.tests ≡ (report_list.key x == n)
+amend_finds : FindsToAmend report_list progress_columns
 amend_finds n q id x fits = one_found x.place n
 
 pub report_amends : AmendsOne report_list amend_report report_reaching progress_columns report_amended
@@ -131,8 +114,8 @@ seek_report = seek_text report_plan (codes "message")
 abbrev pub message_tests : List Term
 message_tests = equals 2 0 ∷ []
 
-seeking : IsCompiledTo report_table seek_report
-    (Select (record { lets = []; body = rows_where report_table.tree message_tests report_table.projected }) report_table.names)
+seeking : IsCompiledTo report_list.table seek_report
+    (Select (record { lets = []; body = rows_where report_list.table.tree message_tests report_list.table.projected }) report_list.table.names)
 unfolding understood everything
 seeking = (refl, (refl, refl))
 

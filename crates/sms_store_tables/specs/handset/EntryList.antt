@@ -1,6 +1,6 @@
 -- The inbox. What a row does not have is NULL. That is of a single entry all but its octets, of a part how its content is coded, of a
 -- joined one its group.
-use Rattle.std.specs.Prelude.{◌≡◌, ℕ, ℤ, ⊤, List, [], ◌∷◌, codes, encode_utf8_all, refl}
+use Rattle.std.specs.Prelude.{◌≡◌, ℕ, ℤ, ⊤, [], ◌∷◌, codes, encode_utf8_all, refl}
 use Rattle.std.proofs.Common.{ap}
 use Rattle.sqlite.specs.declared.types.Value.TheVariants.{Null, Int, Text, Blob}
 use Rattle.sqlite.specs.Order.{Row}
@@ -10,8 +10,8 @@ use Rattle.sqlite.specs.Effect.{value_rows}
 use Rattle.sqlite_sql.specs.Term.{eval_all}
 use Rattle.sqlite_tied.specs.Compute.{everything}
 use Rattle.sms_store_sql.specs.listing.Columns.{IsOctet, IsWord, number, number_in, octets_in, text_in}
-use Rattle.sms_store_sql.specs.listing.Listing.{TableOf, ListOf, IsList, table_of, given_from, row_of, columns_of}
-use Rattle.sms_store_sql.proofs.listing.Columns.{one_found, cast_null, cast_int, cast_row_same}
+use Rattle.sms_store_sql.specs.listing.Listing.{ListOf, IsList, given_from, row_of, columns_of}
+use Rattle.sms_store_sql.proofs.listing.Columns.{one_found, cast_null, cast_int}
 use Rattle.sms_store_tables.specs.handset.HandsetSchema.{handset_schema, entry_plan}
 use Rattle.sms_store_tables.specs.handset.Types.{Entry, Group, Message, Content}
 use Rattle.std.specs.Prelude.{if◌then◌else◌, drop, refl}
@@ -22,10 +22,8 @@ use Rattle.sms_store_sql.proofs.listing.Columns.{AllSuit, address_back}
 use Rattle.sms_store_tables.specs.handset.Types.{Single, Part, Joined}
 use Rattle.sms_store_tables.specs.handset.Groups.{IsStoredGroup, reference_bits, reference_number, group_in, group_back}
 use Rattle.sms_store_tables.specs.handset.Words.{coding_word, coding_in, coding_back}
-use Rattle.sms_store_tables.specs.Tabled.{tabled, IsTabled, computed, listed, KeepsKinds, FindsItsKey, AgreesInItsKey, IsReadBack}
-
-abbrev pub entry_table : TableOf
-entry_table = tabled handset_schema 1 2 entry_plan
+use Rattle.sms_store_sql.specs.tabled.Tabled.{Computes, IsReadBack, computed, rows_by_one, tabled}
+use Rattle.sms_store_sql.proofs.tabled.Listed.{listed}
 
 abbrev pub message_columns : Message → Row
 message_columns (Single tpdu) = Text (codes "single") ∷ Null ∷ Null ∷ Null ∷ Null ∷ Null ∷ Null ∷ Null ∷ Null ∷ Null ∷ Blob tpdu ∷ []
@@ -73,39 +71,19 @@ pub record IsStoredEntry (e : Entry) : Type 0 where
   pub message : IsStoredMessage e.message
 
 abbrev pub entry_list : ListOf Entry
-entry_list = record {
-  table = entry_table;
-  key = λ x. x.number;
-  columns = row_columns;
-  reads = entry_in;
-  key_columns = λ n. number n ∷ [];
-  Fits = IsStoredEntry;
-}
+entry_list =
+    rows_by_one Entry (tabled handset_schema 1 2 entry_plan) (λ x. x.number)
+    row_columns
+    entry_in
+    IsStoredEntry
 
 -- ---- what the rows are
 
-stays : KeepsKinds entry_list
-stays x = cast_row_same (table_of entry_table) _ (cast_int _, (cast_int _, suits x.message))
-  where
-    suits : (m : Message) → AllSuit (drop 2 entry_plan.columns) (message_columns m)
-    suits (Single tpdu) = (refl, (cast_null, (cast_null, (refl, (cast_null, (cast_null, (cast_null, (cast_null, (refl, (cast_null, (refl, tt)))))))))))
-    suits (Part g n tpdu) = (refl, (cast_int _, (cast_int _, (refl, (cast_int _, (cast_int _, (cast_int _, (cast_int _, (refl, (cast_null, (refl, tt)))))))))))
-    suits (Joined source content) =
-        (refl, (cast_int _, (cast_int _, (refl, (cast_null, (cast_null, (cast_null, (cast_null, (refl, (cast_int _, (refl, tt)))))))))))
-
-finds : FindsItsKey entry_list
-finds n id x fits = one_found x.number n
-
-reads_back : IsReadBack entry_list
-reads_back x fits = let m = message_back x.number x.slots x.message fits.message in λ i. record { number = x.number; slots = x.slots; message = m i }
-  where
-    message_back : (number slots : ℕ) (m : Message) → IsStoredMessage m → message_in (row_columns (record { number = number; slots = slots; message = m })) ≡ m
-    message_back number slots (Single tpdu) fits = refl
-    message_back number slots (Part g n tpdu) fits = ap (λ (h : Group). Part h n tpdu) (group_back g fits.0.source.digits.are)
-    message_back number slots (Joined source content) fits =
-        let a = address_back source fits.0.digits.are in
-        let c = coding_back content.coding in
-        λ i. Joined (a i) (record { coding = c i; dcs = content.dcs; units = content.units })
+suits : (m : Message) → AllSuit (drop 2 entry_plan.columns) (message_columns m)
+suits (Single tpdu) = (refl, (cast_null, (cast_null, (refl, (cast_null, (cast_null, (cast_null, (cast_null, (refl, (cast_null, (refl, tt)))))))))))
+suits (Part g n tpdu) = (refl, (cast_int _, (cast_int _, (refl, (cast_int _, (cast_int _, (cast_int _, (cast_int _, (refl, (cast_null, (refl, tt)))))))))))
+suits (Joined source content) =
+    (refl, (cast_int _, (cast_int _, (refl, (cast_null, (cast_null, (cast_null, (cast_null, (refl, (cast_int _, (refl, tt)))))))))))
 
 written : (number slots : ℕ) (m : Message) → let row =
     row_columns (record { number = number; slots = slots; message = m }) in value_rows row 14 1 (row_of 13) ≡ (Null ∷ row) ∷ []
@@ -126,18 +104,28 @@ sets number slots (Single tpdu) id found = refl
 sets number slots (Part g n tpdu) id found = refl
 sets number slots (Joined source content) id found = refl
 
-agrees : AgreesInItsKey entry_list
-unfolding everything
-agrees x id new y = refl
+reads_back : IsReadBack entry_list
+reads_back x fits = let m = message_back x.number x.slots x.message fits.message in λ i. record { number = x.number; slots = x.slots; message = m i }
+  where
+    message_back : (number slots : ℕ) (m : Message) → IsStoredMessage m → message_in (row_columns (record { number = number; slots = slots; message = m })) ≡ m
+    message_back number slots (Single tpdu) fits = refl
+    message_back number slots (Part g n tpdu) fits = ap (λ (h : Group). Part h n tpdu) (group_back g fits.0.source.digits.are)
+    message_back number slots (Joined source content) fits =
+        let a = address_back source fits.0.digits.are in
+        let c = coding_back content.coding in
+        λ i. Joined (a i) (record { coding = c i; dcs = content.dcs; units = content.units })
 
-in_schema : IsTabled entry_table
+computes : Computes entry_list
 unfolding understood everything
-in_schema =
-    computed entry_table refl (refl, (refl, refl)) (refl, (refl, refl)) (refl, (refl, refl)) (refl, (refl, refl)) refl (λ db. refl)
-    (λ keys olds news. refl) refl
+computes = (
+  computed entry_list.table refl (refl, (refl, refl)) (refl, (refl, refl)) (refl, (refl, refl)) (refl, (refl, refl)) refl (λ d. refl) (λ k o n. refl) refl,
+  λ x id new y. refl,
+)
 
 pub entry_is_list : IsList entry_list
 entry_is_list =
-    listed entry_list in_schema (λ x. written x.number x.slots x.message) (λ id x. selects_columns id x.number x.slots x.message)
-    (λ x id y. sets x.number x.slots x.message id (row_columns y)) stays finds
-    (λ x id y fits suits. finds (entry_list.key x) id y suits) agrees reads_back
+    listed entry_list computes (λ x. written x.number x.slots x.message) (λ id x. selects_columns id x.number x.slots x.message)
+    (λ x id y. sets x.number x.slots x.message id (row_columns y))
+    (λ x. (cast_int _, (cast_int _, suits x.message)))
+    (λ n id x fits. one_found x.number n) (λ x id y fits suits. one_found y.number x.number)
+    reads_back

@@ -9,9 +9,9 @@ use Rattle.sqlite.specs.Listing.{understood}
 use Rattle.sms_store_sql.specs.listing.Listing.{given, optional}
 use Rattle.sqlite_schema.specs.declared.schema.Index.{Index}
 use Rattle.sms_store_sql.specs.schema.Blank.{no_tables}
-use Rattle.sms_store_tables.specs.TablePlan.{TablePlan, made, defined, key_index}
-use Rattle.sms_store_tables.specs.Tabled.{AddsPlan}
-use Rattle.sms_store_tables.specs.MetaTable.{meta_plan}
+use Rattle.sms_store_sql.specs.tabled.TablePlan.{TablePlan, made, defined, key_index}
+use Rattle.sms_store_sql.specs.tabled.Tabled.{AddsPlan}
+use Rattle.sms_store_sql.specs.tabled.MetaTable.{meta_plan}
 
 -- ---- the tables
 
@@ -125,10 +125,9 @@ handset_indexes =
     key_index 0 meta_plan ∷ key_index 2 entry_plan ∷ key_index 4 last_plan ∷ key_index 6 out_plan
     ∷ key_index 8 mark_plan ∷ key_index 10 count_plan ∷ []
 
-pub schema_is : handset_schema ≡ record {
-  tables = handset_tables;
-  indexes = handset_indexes;
-  views = [];
-}
+abbrev pub handset_made : Schema
+handset_made = record { tables = handset_tables; indexes = handset_indexes; views = [] }
+
+pub schema_is : handset_schema ≡ handset_made
 unfolding everything
 schema_is = refl

@@ -3,38 +3,29 @@ ghost use Rattle.std.specs.Prelude.{refl};
 ghost use Rattle.sms_store_tables.specs.centre.BarList.{bar_is_list, bar_list};
 
 use crate::centre::kind::CentreStore;
-use crate::key::{integer_of, place_value};
+use crate::key::place_value;
 use sms_centre_rows::messages::BarRow;
-use sms_rows::table::Key;
 use sms_store_sql::listing::{
-    StoredRow, address_at, flag_at, handset_at, handset_text, number_at, run, run_counted,
+    Counted, StoredRow, address_at, flag_at, handset_at, handset_text, number_at, run_counted,
     short_at, text_of,
 };
+use sms_store_sql::schema::StoredTable;
+use sms_store_sql::table;
 use sqlite::{Alter, Error, Row, Transaction, params};
 use std::alloc::Global;
 
 impl StoredRow<CentreStore> for BarRow {
     ghost list = { bar_list };
 
-    fn delete<S: Alter>(tx: &mut Transaction<'_, S>, key: Key) -> Result<(), Error> {
-        let place = integer_of(key)?;
-        run(tx, "DELETE FROM bar WHERE place = ?1", params![&place])
+    fn table() -> StoredTable {
+        table!(bar in 15, key place,
+            place INTEGER NOT NULL, source_ton INTEGER NOT NULL, source_npi INTEGER NOT NULL,
+            source TEXT NOT NULL, handset TEXT NOT NULL, reference INTEGER NOT NULL,
+            is_own INTEGER NOT NULL,
+        )
     }
 
-    fn update_text() -> &'static str {
-        "UPDATE bar SET place = ?1, source_ton = ?2, source_npi = ?3, source = ?4, handset = ?5, reference = ?6, is_own = ?7 WHERE place = ?1"
-    }
-
-    fn insert_text() -> &'static str {
-        "INSERT INTO bar (place, source_ton, source_npi, source, handset, reference, is_own) VALUES (?1, ?2, ?3, ?4, ?5, ?6, ?7)"
-    }
-
-    fn write<S: Alter>(
-        &self,
-        alloc: Global,
-        tx: &mut Transaction<'_, S>,
-        text: &str,
-    ) -> Result<usize, Error> {
+    fn write<S: Alter>(&self, alloc: Global, tx: &mut Transaction<'_, S>, text: &str) -> Counted {
         let place = place_value(self.place)?;
         let source = text_of(alloc, self.source.digits.as_few())?;
         let handset = handset_text(alloc, &self.handset)?;
@@ -56,10 +47,6 @@ impl StoredRow<CentreStore> for BarRow {
     // A bar is put once.
     fn is_first(&self) -> bool {
         true
-    }
-
-    fn select() -> &'static str {
-        "SELECT place, source_ton, source_npi, source, handset, reference, is_own FROM bar"
     }
 
     fn read(_alloc: Global, row: &Row) -> Result<BarRow, Error> {

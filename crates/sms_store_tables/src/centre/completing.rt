@@ -5,7 +5,9 @@ ghost use Rattle.sms_store_sql.specs.listing.Inside.{MakesStep, Keeps, Spares};
 ghost use Rattle.sms_store_sql.specs.listing.Transaction.{Leads};
 ghost use Rattle.sms_store_tables.specs.centre.Completing.{Completes, IndexesReports, MakesBars, MakesPriority, MakesSecond};
 
-use sms_store_sql::listing::run;
+use crate::centre::kind::CentreStore;
+use sms_centre_rows::messages::{BarRow, PriorityRow};
+use sms_store_sql::listing::{make, run};
 use sqlite::{Alter, Error, Transaction};
 
 fn make_priority_table<S: Alter>(tx: &mut Transaction<'_, S>) -> Result<(), Error>
@@ -14,11 +16,7 @@ fn make_priority_table<S: Alter>(tx: &mut Transaction<'_, S>) -> Result<(), Erro
     ensures uncommitted { Keeps S.Store tx.old.conn.now tx.new.conn.now }
     ensures survives { Spares S.Store tx.old.conn.now tx.new.conn.now }
 {
-    run(
-        tx,
-        "CREATE TABLE priority (message INTEGER NOT NULL, priority INTEGER NOT NULL, UNIQUE (message)) STRICT",
-        &[],
-    )
+    make::<CentreStore, PriorityRow, S>(tx)
 }
 
 // By it the octets of a status report are found without a walk over all reports.
@@ -38,11 +36,7 @@ pub fn make_bar_table<S: Alter>(tx: &mut Transaction<'_, S>) -> Result<(), Error
     ensures uncommitted { Keeps S.Store tx.old.conn.now tx.new.conn.now }
     ensures survives { Spares S.Store tx.old.conn.now tx.new.conn.now }
 {
-    run(
-        tx,
-        "CREATE TABLE bar (place INTEGER NOT NULL, source_ton INTEGER NOT NULL, source_npi INTEGER NOT NULL, source TEXT NOT NULL, handset TEXT NOT NULL, reference INTEGER NOT NULL, is_own INTEGER NOT NULL, UNIQUE (place)) STRICT",
-        &[],
-    )
+    make::<CentreStore, BarRow, S>(tx)
 }
 
 /// Makes what version 1 lacks: the table of priorities, the index of the reports by their messages, and the table of bars.

@@ -4,41 +4,33 @@ ghost use Rattle.sms_store_tables.specs.centre.MessageList.{message_is_list, mes
 
 use crate::centre::kind::CentreStore;
 use crate::centre::pieces::{
-    account_of, id_at, mark_of, originator_at, seconds_of, short_of, state_at, state_word, wish_at,
-    wish_word,
+    account_of, id_at, mark_of, originator_at, short_of, state_at, state_word, wish_at, wish_word,
 };
-use crate::key::{id_value, integer_of, moment_value};
+use crate::key::{id_value, moment_value, seconds_of};
 use sms_centre_rows::messages::MessageRow;
-use sms_rows::table::Key;
 use sms_store_sql::listing::{
-    StoredRow, address_at, handset_at, handset_text, moment_at, octet_at, optional_moment_at,
-    optional_short_at, run, run_counted, text_of,
+    Counted, StoredRow, address_at, handset_at, handset_text, moment_at, octet_at,
+    optional_moment_at, optional_short_at, run_counted, text_of,
 };
+use sms_store_sql::schema::StoredTable;
+use sms_store_sql::table;
 use sqlite::{Alter, Error, Row, Transaction, params};
 use std::alloc::Global;
 
 impl StoredRow<CentreStore> for MessageRow {
     ghost list = { message_list };
 
-    fn delete<S: Alter>(tx: &mut Transaction<'_, S>, key: Key) -> Result<(), Error> {
-        let id = integer_of(key)?;
-        run(tx, "DELETE FROM message WHERE id = ?1", params![&id])
+    fn table() -> StoredTable {
+        table!(message in 2, key id,
+            id INTEGER NOT NULL, account BLOB, message_reference INTEGER,
+            source_ton INTEGER NOT NULL, source_npi INTEGER NOT NULL, source TEXT NOT NULL,
+            handset TEXT NOT NULL, data_coding_scheme INTEGER NOT NULL,
+            protocol_identifier INTEGER NOT NULL, wish TEXT NOT NULL, submitted INTEGER NOT NULL,
+            expires INTEGER NOT NULL, split_reference INTEGER, state TEXT NOT NULL, done INTEGER,
+        )
     }
 
-    fn update_text() -> &'static str {
-        "UPDATE message SET id = ?1, account = ?2, message_reference = ?3, source_ton = ?4, source_npi = ?5, source = ?6, handset = ?7, data_coding_scheme = ?8, protocol_identifier = ?9, wish = ?10, submitted = ?11, expires = ?12, split_reference = ?13, state = ?14, done = ?15 WHERE id = ?1"
-    }
-
-    fn insert_text() -> &'static str {
-        "INSERT INTO message (id, account, message_reference, source_ton, source_npi, source, handset, data_coding_scheme, protocol_identifier, wish, submitted, expires, split_reference, state, done) VALUES (?1, ?2, ?3, ?4, ?5, ?6, ?7, ?8, ?9, ?10, ?11, ?12, ?13, ?14, ?15)"
-    }
-
-    fn write<S: Alter>(
-        &self,
-        alloc: Global,
-        tx: &mut Transaction<'_, S>,
-        text: &str,
-    ) -> Result<usize, Error> {
+    fn write<S: Alter>(&self, alloc: Global, tx: &mut Transaction<'_, S>, text: &str) -> Counted {
         let id = id_value(self.id)?;
         let submitted = moment_value(self.submitted)?;
         let limit = moment_value(self.limit)?;
@@ -70,10 +62,6 @@ impl StoredRow<CentreStore> for MessageRow {
     // A message is put once while it is pending, and again as it ends.
     fn is_first(&self) -> bool {
         self.state.is_none()
-    }
-
-    fn select() -> &'static str {
-        "SELECT id, account, message_reference, source_ton, source_npi, source, handset, data_coding_scheme, protocol_identifier, wish, submitted, expires, split_reference, state, done FROM message"
     }
 
     fn read(_alloc: Global, row: &Row) -> Result<MessageRow, Error> {

@@ -9,40 +9,31 @@ use crate::centre::kind::CentreStore;
 use crate::centre::pieces::{
     bits_of, concat_number_of, concat_total_of, id_at, key_at, number_of, progress_at,
 };
-use crate::key::{id_value, integers_of, moment_value};
+use crate::key::{id_value, moment_value};
 use sms_centre_rows::messages::PartRow;
 use sms_centre_rows::waiting::Progress;
 use sms_rows::table::Key;
-use sms_store_sql::listing::{FoundRow, StoredRow, octet_at, octets_at, run, run_counted};
+use sms_store_sql::listing::{
+    Counted, FoundRow, StoredRow, integers_of, octet_at, octets_at, run, run_counted,
+};
+use sms_store_sql::schema::StoredTable;
+use sms_store_sql::table;
 use sqlite::{Alter, Error, Row, Transaction, params};
 use std::alloc::Global;
 
 impl StoredRow<CentreStore> for PartRow {
     ghost list = { part_list };
 
-    fn delete<S: Alter>(tx: &mut Transaction<'_, S>, key: Key) -> Result<(), Error> {
-        let pair = integers_of(key)?;
-        run(
-            tx,
-            "DELETE FROM part WHERE message = ?1 AND number = ?2",
-            params![&pair.0, &pair.1],
+    fn table() -> StoredTable {
+        table!(part in 4, key message number,
+            message INTEGER NOT NULL, number INTEGER NOT NULL, reference INTEGER NOT NULL,
+            tpdu BLOB NOT NULL, concat_bits INTEGER, concat_reference INTEGER, concat_total INTEGER,
+            concat_number INTEGER, is_done INTEGER NOT NULL, attempts INTEGER NOT NULL,
+            due INTEGER NOT NULL,
         )
     }
 
-    fn update_text() -> &'static str {
-        "UPDATE part SET message = ?1, number = ?2, reference = ?3, tpdu = ?4, concat_bits = ?5, concat_reference = ?6, concat_total = ?7, concat_number = ?8, is_done = ?9, attempts = ?10, due = ?11 WHERE message = ?1 AND number = ?2"
-    }
-
-    fn insert_text() -> &'static str {
-        "INSERT INTO part (message, number, reference, tpdu, concat_bits, concat_reference, concat_total, concat_number, is_done, attempts, due) VALUES (?1, ?2, ?3, ?4, ?5, ?6, ?7, ?8, ?9, ?10, ?11)"
-    }
-
-    fn write<S: Alter>(
-        &self,
-        _alloc: Global,
-        tx: &mut Transaction<'_, S>,
-        text: &str,
-    ) -> Result<usize, Error> {
+    fn write<S: Alter>(&self, _alloc: Global, tx: &mut Transaction<'_, S>, text: &str) -> Counted {
         let id = id_value(self.id)?;
         let due = moment_value(self.progress.due)?;
         run_counted(
@@ -62,10 +53,6 @@ impl StoredRow<CentreStore> for PartRow {
                 &due
             ],
         )
-    }
-
-    fn select() -> &'static str {
-        "SELECT message, number, reference, tpdu, concat_bits, concat_reference, concat_total, concat_number, is_done, attempts, due FROM part"
     }
 
     fn read(_alloc: Global, row: &Row) -> Result<PartRow, Error> {

@@ -4,7 +4,6 @@ ghost use Rattle.sqlite.specs.Values.{or_null};
 ghost use Rattle.sqlite.specs.declared.types.Value.TheVariants.{Blob, Int, Text};
 ghost use Rattle.sqlite_value.specs.Order.{column};
 ghost use Rattle.sms_alphabet.specs.declared.concat_key.ConcatKey.{ConcatKey as KeyOf};
-ghost use Rattle.sms_alphabet.specs.declared.concat_key.ConcatReference.{ConcatReference as ReferenceOf};
 ghost use Rattle.sms_base.specs.MessageId.{IsMessageId};
 ghost use Rattle.sms_base.specs.TimeStamp.{IsMoment};
 ghost use Rattle.sms_base.specs.declared.originator.Originator.{Originator as OriginatorOf};
@@ -12,16 +11,17 @@ ghost use Rattle.sms_centre_rows.specs.declared.reports.report.ReportKind.{Repor
 ghost use Rattle.sms_centre_rows.specs.declared.waiting.progress.Progress.{Progress as ProgressOf};
 ghost use Rattle.sms_store_sql.specs.listing.Columns.{IsShort, flag, number, number_in, or_none, text_in};
 ghost use Rattle.sms_store_sql.specs.listing.Reading.{HasAt, LacksMemory};
-ghost use Rattle.sms_store_tables.specs.centre.Pieces.{HasKey, IsStoredKey, IsStoredKind, IsStoredOriginator, IsStoredProgress, IsStoredReference, account_of};
+ghost use Rattle.sms_store_tables.specs.centre.Pieces.{HasKey, IsStoredKey, IsStoredKind, IsStoredOriginator, IsStoredProgress, account_of};
 ghost use Rattle.sms_store_tables.specs.centre.Pieces.{key_in, kind_in, kind_reference, kind_tpdu, kind_word, mark_of, originator_in, progress_in};
-ghost use Rattle.sms_store_tables.specs.centre.Pieces.{reference_bits, reference_in, reference_number, state_in, state_word, wish_in, wish_word};
+ghost use Rattle.sms_store_tables.specs.centre.Pieces.{reference_bits, reference_number, state_in, state_word, wish_in, wish_word};
 
-use sms_base::{FinalState, MessageId, Moment, Originator, Wish};
+use crate::references::{reference_at, reference_bits, reference_number};
+use sms_base::{FinalState, MessageId, Originator, Wish};
 use sms_centre_rows::reports::ReportKind;
 use sms_centre_rows::waiting::Progress;
-use sms_concat::{ConcatKey, ConcatReference};
+use sms_concat::ConcatKey;
 use sms_store_sql::listing::{
-    flag_at, is_null_at, moment_at, number_at, octet_at, octets_at, short_at, text_at,
+    flag_at, is_null_at, moment_at, number_at, octet_at, octets_at, text_at,
 };
 use sqlite::{Error, Row};
 
@@ -88,24 +88,6 @@ pub(crate) fn concat_number_of(key: Option<ConcatKey>) -> Option<u32>
     }
 }
 
-fn reference_bits(reference: ConcatReference) -> u32
-    ensures { result ≡ reference_bits reference }
-{
-    match reference {
-        ConcatReference::EightBit(_) => 8,
-        ConcatReference::SixteenBit(_) => 16,
-    }
-}
-
-fn reference_number(reference: ConcatReference) -> u32
-    ensures { result ≡ reference_number reference }
-{
-    match reference {
-        ConcatReference::EightBit(number) => u32::from(number),
-        ConcatReference::SixteenBit(number) => u32::from(number),
-    }
-}
-
 pub(crate) fn key_at(row: &Row, at: usize) -> Result<Option<ConcatKey>, Error>
     requires { at < 1000 }
     ensures value { IfOk result (λ key. key ≡ key_in (column row.now at) (column row.now (at + 1)) (column row.now (at + 2)) (column row.now (at + 3))) }
@@ -122,20 +104,6 @@ pub(crate) fn key_at(row: &Row, at: usize) -> Result<Option<ConcatKey>, Error>
         total,
         number,
     }))
-}
-
-fn reference_at(row: &Row, bits: usize, value: usize) -> Result<ConcatReference, Error>
-    ensures value { IfOk result (λ reference. reference ≡ reference_in (column row.now bits) (column row.now value)) }
-    ensures only { (r : ReferenceOf) → IsStoredReference r → HasAt row.now bits (number (reference_bits r)) → HasAt row.now value (number (reference_number r))
-        → IfErr result LacksMemory }
-{
-    let width = octet_at(row, bits)?;
-    if width == 8 {
-        let number = octet_at(row, value)?;
-        return Ok(ConcatReference::EightBit(number));
-    }
-    let number = short_at(row, value)?;
-    Ok(ConcatReference::SixteenBit(number))
 }
 
 // ---- who submitted a message
@@ -289,23 +257,6 @@ pub(crate) fn report_kind_at(row: &Row, at: usize) -> Result<ReportKind, Error>
 }
 
 // ---- numbers that may be missing
-
-pub(crate) fn seconds_of(moment: Option<Moment>) -> Option<i64>
-    ensures value { or_null Int result ≡ or_none number moment }
-    ensures stored { IfSome moment IsMoment }
-{
-    match moment {
-        Some(moment) => Some(seconds(moment)),
-        None => None,
-    }
-}
-
-fn seconds(moment: Moment) -> i64
-    ensures value { result ≡ pos moment }
-    ensures range { IsMoment moment }
-{
-    moment.seconds() as i64
-}
 
 pub(crate) fn short_of(short: Option<u16>) -> Option<u32>
     ensures value { or_null (λ n. Int (pos n)) result ≡ or_none number short }

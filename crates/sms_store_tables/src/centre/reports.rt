@@ -10,38 +10,31 @@ use crate::centre::kind::CentreStore;
 use crate::centre::pieces::{
     id_at, kind_reference, kind_tpdu, kind_word, progress_at, report_kind_at,
 };
-use crate::key::{id_value, integer, integer_of, moment_value, place_value};
+use crate::key::{id_value, moment_value, place_value};
 use sms_centre_rows::reports::ReportRow;
 use sms_centre_rows::waiting::Progress;
 use sms_rows::table::Key;
 use sms_store_sql::listing::{
-    FoundRow, SoughtRow, StoredRow, moment_at, number_at, run, run_counted,
+    Counted, FoundRow, SoughtRow, StoredRow, integer, integer_of, moment_at, number_at, run,
+    run_counted,
 };
+use sms_store_sql::schema::StoredTable;
+use sms_store_sql::table;
 use sqlite::{Alter, Error, Row, Transaction, params};
 use std::alloc::Global;
 
 impl StoredRow<CentreStore> for ReportRow {
     ghost list = { report_list };
 
-    fn delete<S: Alter>(tx: &mut Transaction<'_, S>, key: Key) -> Result<(), Error> {
-        let place = integer_of(key)?;
-        run(tx, "DELETE FROM report WHERE place = ?1", params![&place])
+    fn table() -> StoredTable {
+        table!(report in 10, key place,
+            place INTEGER NOT NULL, message INTEGER NOT NULL, kind TEXT NOT NULL, reference INTEGER,
+            tpdu BLOB, made INTEGER NOT NULL, is_done INTEGER NOT NULL, attempts INTEGER NOT NULL,
+            due INTEGER NOT NULL,
+        )
     }
 
-    fn update_text() -> &'static str {
-        "UPDATE report SET place = ?1, message = ?2, kind = ?3, reference = ?4, tpdu = ?5, made = ?6, is_done = ?7, attempts = ?8, due = ?9 WHERE place = ?1"
-    }
-
-    fn insert_text() -> &'static str {
-        "INSERT INTO report (place, message, kind, reference, tpdu, made, is_done, attempts, due) VALUES (?1, ?2, ?3, ?4, ?5, ?6, ?7, ?8, ?9)"
-    }
-
-    fn write<S: Alter>(
-        &self,
-        _alloc: Global,
-        tx: &mut Transaction<'_, S>,
-        text: &str,
-    ) -> Result<usize, Error> {
+    fn write<S: Alter>(&self, _alloc: Global, tx: &mut Transaction<'_, S>, text: &str) -> Counted {
         let place = place_value(self.place)?;
         let id = id_value(self.id)?;
         let made = moment_value(self.made)?;
@@ -61,10 +54,6 @@ impl StoredRow<CentreStore> for ReportRow {
                 &due
             ],
         )
-    }
-
-    fn select() -> &'static str {
-        "SELECT place, message, kind, reference, tpdu, made, is_done, attempts, due FROM report"
     }
 
     fn read(_alloc: Global, row: &Row) -> Result<ReportRow, Error> {

@@ -2,41 +2,28 @@
 ghost use Rattle.std.specs.Prelude.{refl};
 ghost use Rattle.sms_store_tables.specs.handset.DiscardedGroupList.{mark_is_list, mark_list};
 
-use crate::handset::group::{bits_of, group_at, number_of};
+use crate::handset::group::group_at;
 use crate::handset::kind::HandsetStore;
-use crate::key::integer_of;
+use crate::references::{reference_bits, reference_number};
 use sms_handset_rows::inbox::DiscardedGroup;
-use sms_rows::table::Key;
-use sms_store_sql::listing::{StoredRow, octets_at, run, run_counted, text_of, word_at};
+use sms_store_sql::listing::{Counted, StoredRow, octets_at, run_counted, text_of, word_at};
+use sms_store_sql::schema::StoredTable;
+use sms_store_sql::table;
 use sqlite::{Alter, Error, Row, Transaction, params};
 use std::alloc::Global;
 
 impl StoredRow<HandsetStore> for DiscardedGroup {
     ghost list = { mark_list };
 
-    fn delete<S: Alter>(tx: &mut Transaction<'_, S>, key: Key) -> Result<(), Error> {
-        let number = integer_of(key)?;
-        run(
-            tx,
-            "DELETE FROM discarded_group WHERE number = ?1",
-            params![&number],
+    fn table() -> StoredTable {
+        table!(discarded_group in 8, key number,
+            number INTEGER NOT NULL, source_ton INTEGER NOT NULL, source_npi INTEGER NOT NULL,
+            source TEXT NOT NULL, reference_bits INTEGER NOT NULL, reference INTEGER NOT NULL,
+            total INTEGER NOT NULL, seen BLOB NOT NULL,
         )
     }
 
-    fn update_text() -> &'static str {
-        "UPDATE discarded_group SET number = ?1, source_ton = ?2, source_npi = ?3, source = ?4, reference_bits = ?5, reference = ?6, total = ?7, seen = ?8 WHERE number = ?1"
-    }
-
-    fn insert_text() -> &'static str {
-        "INSERT INTO discarded_group (number, source_ton, source_npi, source, reference_bits, reference, total, seen) VALUES (?1, ?2, ?3, ?4, ?5, ?6, ?7, ?8)"
-    }
-
-    fn write<S: Alter>(
-        &self,
-        alloc: Global,
-        tx: &mut Transaction<'_, S>,
-        text: &str,
-    ) -> Result<usize, Error> {
+    fn write<S: Alter>(&self, alloc: Global, tx: &mut Transaction<'_, S>, text: &str) -> Counted {
         let group = &self.group;
         let source = text_of(alloc, group.source.digits.as_few())?;
         run_counted(
@@ -47,16 +34,12 @@ impl StoredRow<HandsetStore> for DiscardedGroup {
                 u32::from(group.source.ton.number()),
                 u32::from(group.source.npi),
                 &source,
-                bits_of(group.reference),
-                number_of(group.reference),
+                reference_bits(group.reference),
+                reference_number(group.reference),
                 u32::from(group.total),
                 self.seen.as_slice()
             ],
         )
-    }
-
-    fn select() -> &'static str {
-        "SELECT number, source_ton, source_npi, source, reference_bits, reference, total, seen FROM discarded_group"
     }
 
     fn read(_alloc: Global, row: &Row) -> Result<DiscardedGroup, Error> {

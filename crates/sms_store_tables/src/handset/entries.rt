@@ -9,42 +9,34 @@ ghost use Rattle.sms_store_sql.specs.listing.Reading.{LacksMemory};
 ghost use Rattle.sms_store_tables.specs.handset.Types.{Joined, Part, Single};
 ghost use Rattle.sms_store_tables.specs.handset.EntryList.{IsStoredMessage, entry_is_list, entry_list, joined_in, message_in, part_in, row_columns};
 
-use crate::handset::group::{bits_of, group_at, number_of};
+use crate::handset::group::group_at;
 use crate::handset::kind::HandsetStore;
 use crate::handset::words::{coding_at, coding_word};
-use crate::key::integer_of;
+use crate::references::{reference_bits, reference_number};
 use sms_base::{Address, Octets};
 use sms_concat::Content;
 use sms_handset_rows::inbox::{Entry, Group, Message};
-use sms_rows::table::Key;
 use sms_store_sql::listing::{
-    StoredRow, address_at, octet_at, octets_at, run, run_counted, text_at, text_of, word_at,
+    Counted, StoredRow, address_at, octet_at, octets_at, run_counted, text_at, text_of, word_at,
 };
+use sms_store_sql::schema::StoredTable;
+use sms_store_sql::table;
 use sqlite::{Alter, Error, Row, Transaction, params};
 use std::alloc::Global;
 
 impl StoredRow<HandsetStore> for Entry {
     ghost list = { entry_list };
 
-    fn delete<S: Alter>(tx: &mut Transaction<'_, S>, key: Key) -> Result<(), Error> {
-        let number = integer_of(key)?;
-        run(tx, "DELETE FROM entry WHERE number = ?1", params![&number])
+    fn table() -> StoredTable {
+        table!(entry in 2, key number,
+            number INTEGER NOT NULL, slots INTEGER NOT NULL, kind TEXT NOT NULL, source_ton INTEGER,
+            source_npi INTEGER, source TEXT, reference_bits INTEGER, reference INTEGER,
+            total INTEGER, part INTEGER, coding TEXT, data_coding_scheme INTEGER,
+            octets BLOB NOT NULL,
+        )
     }
 
-    fn update_text() -> &'static str {
-        "UPDATE entry SET number = ?1, slots = ?2, kind = ?3, source_ton = ?4, source_npi = ?5, source = ?6, reference_bits = ?7, reference = ?8, total = ?9, part = ?10, coding = ?11, data_coding_scheme = ?12, octets = ?13 WHERE number = ?1"
-    }
-
-    fn insert_text() -> &'static str {
-        "INSERT INTO entry (number, slots, kind, source_ton, source_npi, source, reference_bits, reference, total, part, coding, data_coding_scheme, octets) VALUES (?1, ?2, ?3, ?4, ?5, ?6, ?7, ?8, ?9, ?10, ?11, ?12, ?13)"
-    }
-
-    fn write<S: Alter>(
-        &self,
-        alloc: Global,
-        tx: &mut Transaction<'_, S>,
-        text: &str,
-    ) -> Result<usize, Error> {
+    fn write<S: Alter>(&self, alloc: Global, tx: &mut Transaction<'_, S>, text: &str) -> Counted {
         match &self.message {
             Message::Single { tpdu } => write_single(self.number, self.slots, tpdu, tx, text),
             Message::Part {
@@ -65,10 +57,6 @@ impl StoredRow<HandsetStore> for Entry {
                 write_joined(alloc, self.number, self.slots, source, content, tx, text)
             }
         }
-    }
-
-    fn select() -> &'static str {
-        "SELECT number, slots, kind, source_ton, source_npi, source, reference_bits, reference, total, part, coding, data_coding_scheme, octets FROM entry"
     }
 
     fn read(_alloc: Global, row: &Row) -> Result<Entry, Error> {
@@ -199,8 +187,8 @@ fn write_part<S: Alter>(
             u32::from(group.source.ton.number()),
             u32::from(group.source.npi),
             &source,
-            bits_of(group.reference),
-            number_of(group.reference),
+            reference_bits(group.reference),
+            reference_number(group.reference),
             u32::from(group.total),
             u32::from(part),
             none,

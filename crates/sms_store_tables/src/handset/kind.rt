@@ -1,52 +1,14 @@
-//! The kind of store, and what it says of itself.
-ghost use Rattle.std.specs.Prelude.{refl};
-ghost use Rattle.sms_store_tables.specs.handset.MetaList.{meta_is_list, meta_list};
+//! The kind of store.
+ghost use Rattle.sms_store_tables.specs.handset.HandsetSchema.{handset_schema};
+ghost use Rattle.sms_store_tables.specs.handset.MetaList.{meta_is_list};
 
-use crate::key::integer_of;
-use sms_rows::table::Key;
-use sms_store_sql::listing::{Meta, StoredRow, kind_at, run, run_counted, word_at};
-use sqlite::{Alter, Error, Row, Transaction, params};
-use std::alloc::Global;
+use sms_store_sql::listing::KindOfStore;
 
 /// The store of a handset. No value of it is made.
 pub struct HandsetStore;
 
-impl StoredRow<HandsetStore> for Meta {
-    ghost list = { meta_list };
+impl KindOfStore for HandsetStore {
+    ghost schema = { handset_schema };
 
-    fn delete<S: Alter>(tx: &mut Transaction<'_, S>, key: Key) -> Result<(), Error> {
-        let version = integer_of(key)?;
-        run(tx, "DELETE FROM meta WHERE version = ?1", params![&version])
-    }
-
-    fn update_text() -> &'static str {
-        "UPDATE meta SET version = ?1, kind = ?2 WHERE version = ?1"
-    }
-
-    fn insert_text() -> &'static str {
-        "INSERT INTO meta (version, kind) VALUES (?1, ?2)"
-    }
-
-    fn write<S: Alter>(
-        &self,
-        _alloc: Global,
-        tx: &mut Transaction<'_, S>,
-        text: &str,
-    ) -> Result<usize, Error> {
-        run_counted(tx, text, params![self.version, self.kind.word()])
-    }
-
-    fn select() -> &'static str {
-        "SELECT version, kind FROM meta"
-    }
-
-    fn read(_alloc: Global, row: &Row) -> Result<Meta, Error> {
-        let version = word_at(row, 0)?;
-        let kind = kind_at(row, 1)?;
-        Ok(Meta { version, kind })
-    }
-
-    ghost one_key = { λ x. refl };
-
-    ghost is_list = { meta_is_list };
+    ghost meta_is_list = { meta_is_list };
 }

@@ -10,39 +10,32 @@ ghost use Rattle.sms_store_tables.specs.handset.OutEntryList.{out_is_list, out_l
 
 use crate::handset::kind::HandsetStore;
 use crate::handset::words::{state_at, state_word};
-use crate::key::integer_of;
+use crate::key::seconds_of;
 use sms_base::Moment;
 use sms_handset_rows::outbox::{OutEntry, SubmitTpdu};
-use sms_rows::table::Key;
 use sms_store_sql::listing::{
-    StoredRow, address_at, flag_at, octet_at, octets_at, optional_moment_at, optional_octet_at,
-    run, run_counted, text_of, word_at,
+    Counted, StoredRow, address_at, flag_at, octet_at, octets_at, optional_moment_at,
+    optional_octet_at, run_counted, text_of, word_at,
 };
+use sms_store_sql::schema::StoredTable;
+use sms_store_sql::table;
 use sqlite::{Alter, Error, Row, Transaction, params};
 use std::alloc::Global;
 
 impl StoredRow<HandsetStore> for OutEntry {
     ghost list = { out_list };
 
-    fn delete<S: Alter>(tx: &mut Transaction<'_, S>, key: Key) -> Result<(), Error> {
-        let number = integer_of(key)?;
-        run(tx, "DELETE FROM outbox WHERE number = ?1", params![&number])
+    fn table() -> StoredTable {
+        table!(outbox in 6, key number,
+            number INTEGER NOT NULL, message_reference INTEGER NOT NULL, reference INTEGER NOT NULL,
+            destination_ton INTEGER NOT NULL, destination_npi INTEGER NOT NULL,
+            destination TEXT NOT NULL, tpdu BLOB NOT NULL, is_long INTEGER NOT NULL,
+            state TEXT NOT NULL, tries INTEGER NOT NULL, rejects_duplicates INTEGER NOT NULL,
+            due INTEGER, status INTEGER,
+        )
     }
 
-    fn update_text() -> &'static str {
-        "UPDATE outbox SET number = ?1, message_reference = ?2, reference = ?3, destination_ton = ?4, destination_npi = ?5, destination = ?6, tpdu = ?7, is_long = ?8, state = ?9, tries = ?10, rejects_duplicates = ?11, due = ?12, status = ?13 WHERE number = ?1"
-    }
-
-    fn insert_text() -> &'static str {
-        "INSERT INTO outbox (number, message_reference, reference, destination_ton, destination_npi, destination, tpdu, is_long, state, tries, rejects_duplicates, due, status) VALUES (?1, ?2, ?3, ?4, ?5, ?6, ?7, ?8, ?9, ?10, ?11, ?12, ?13)"
-    }
-
-    fn write<S: Alter>(
-        &self,
-        alloc: Global,
-        tx: &mut Transaction<'_, S>,
-        text: &str,
-    ) -> Result<usize, Error> {
+    fn write<S: Alter>(&self, alloc: Global, tx: &mut Transaction<'_, S>, text: &str) -> Counted {
         let destination = text_of(alloc, self.destination.digits.as_few())?;
         run_counted(
             tx,
@@ -63,10 +56,6 @@ impl StoredRow<HandsetStore> for OutEntry {
                 word_of(self.status)
             ],
         )
-    }
-
-    fn select() -> &'static str {
-        "SELECT number, message_reference, reference, destination_ton, destination_npi, destination, tpdu, is_long, state, tries, rejects_duplicates, due, status FROM outbox"
     }
 
     fn read(_alloc: Global, row: &Row) -> Result<OutEntry, Error> {
@@ -110,24 +99,6 @@ fn submit_at(row: &Row, at: usize) -> Result<SubmitTpdu, Error>
         return Err(Error::IntegralValueOutOfRange(at));
     }
     Ok(SubmitTpdu::of(octets))
-}
-
-// A moment in seconds, which fit an integer of SQLite's.
-fn seconds_of(moment: Option<Moment>) -> Option<i64>
-    ensures value { or_null Int result ≡ or_none number moment }
-    ensures stored { IfSome moment IsMoment }
-{
-    match moment {
-        Some(moment) => Some(seconds(moment)),
-        None => None,
-    }
-}
-
-fn seconds(moment: Moment) -> i64
-    ensures value { result ≡ pos moment }
-    ensures range { IsMoment moment }
-{
-    moment.seconds() as i64
 }
 
 fn word_of(octet: Option<u8>) -> Option<u32>

@@ -4,7 +4,7 @@ use Rattle.sms_rows.specs.declared.keep.error.KeepError.TheVariants.{OldVersion,
 use Rattle.sms_store_sql.proofs.listing.Steps.{ok_then}
 use Rattle.sms_store_sql.specs.declared.listing.meta.StoreKind.TheVariants.{Centre}
 use Rattle.sms_store_tables.specs.centre.CentreSchema.{second_schema}
-use Rattle.sms_store_tables.specs.centre.SecondMetaList.{meta_list as second_list}
+use Rattle.sms_store_tables.specs.centre.MetaList.{second_list}
 use Rattle.sms_store.specs.centre.Refusing.{SaysSecond}
 use Rattle.sms_store.proofs.centre.Raised.{left_by_raise_second, unraised}
 use Rattle.sms_store.proofs.centre.Renaming.{raised_second_then}

@@ -1,7 +1,7 @@
 use Rattle.std.proofs.Common.{Ok}
 use Rattle.sms_store_sql.specs.declared.listing.meta.StoreKind.TheVariants.{Centre}
 use Rattle.sms_store_tables.specs.centre.CentreSchema.{first_schema}
-use Rattle.sms_store_tables.specs.centre.FirstMetaList.{meta_list as first_list}
+use Rattle.sms_store_tables.specs.centre.MetaList.{first_list}
 use Rattle.sms_store.proofs.centre.Refusals.{refuses_first_now, refuses_later_first}
 use Rattle.sms_store.proofs.keeping.Leaving.{shown_as_it_was}
 use Rattle.sms_store.proofs.keeping.Openings.{refuses_found, says_judged}

@@ -1,7 +1,7 @@
 use Rattle.std.proofs.Common.{Ok}
 use Rattle.sms_store_sql.specs.declared.listing.meta.StoreKind.TheVariants.{Centre}
 use Rattle.sms_store_tables.specs.centre.CentreSchema.{second_schema}
-use Rattle.sms_store_tables.specs.centre.SecondMetaList.{meta_list as second_list}
+use Rattle.sms_store_tables.specs.centre.MetaList.{second_list}
 use Rattle.sms_store.proofs.centre.Refusals.{refuses_later_second, refuses_second_now}
 use Rattle.sms_store.proofs.keeping.Leaving.{shown_as_it_was}
 use Rattle.sms_store.proofs.keeping.Openings.{refuses_found, says_judged}

@@ -1,11 +1,10 @@
-use Rattle.std.proofs.Common.{◌≡◌, false, true, sym, ◌∙◌}
+use Rattle.std.proofs.Common.{sym, ◌∙◌}
+use Rattle.sms_store_sql.proofs.schema.Judging.{not_wanted}
 use Rattle.sms_store_tables.specs.centre.CentreSchema.{first_schema_is}
 use Rattle.sms_store_tables.proofs.centre.schema.is_first_schema.Goals as goal
 
 pub returns-clause-yes : goal.returns-clause-yes
-returns-clause-yes c is = c.has_first_tables.ensures.yes is ∙ sym first_schema_is
+returns-clause-yes c is = c.has_first.ensures.yes is ∙ sym first_schema_is
 
 pub returns-clause-no : goal.returns-clause-no
-returns-clause-no c off is =
-    let on = c.has_first_tables.ensures.always (is ∙ first_schema_is) in
-    absurd (let e : true ≡ false = sym on ∙ off in cc)
+returns-clause-no c off = not_wanted _ _ _ _ first_schema_is c.has_first.ensures.always off

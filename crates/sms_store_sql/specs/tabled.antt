@@ -1,0 +1,4 @@
+pub mod MetaTable
+pub mod TablePlan
+pub mod Tabled
+pub mod Texts

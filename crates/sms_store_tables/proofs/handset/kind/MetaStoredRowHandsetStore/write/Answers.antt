@@ -1,5 +1,0 @@
-use Rattle.sms_store_tables.proofs.handset.kind.MetaStoredRowHandsetStore.write.Goals as goal
-
-pub returns-clause-done : goal.returns-clause-done
-returns-clause-done g c clean live inside =
-    rw (c.params-to_sql.ensures, c.params-to_sql-2.ensures, c.word.ensures) at (c.run_counted.ensures.done clean live inside)

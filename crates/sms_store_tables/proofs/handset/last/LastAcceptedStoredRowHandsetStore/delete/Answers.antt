@@ -1,5 +1,0 @@
-use Rattle.sms_store_tables.proofs.handset.last.LastAcceptedStoredRowHandsetStore.delete.Goals as goal
-
-pub returns-clause-done : goal.returns-clause-done
-returns-clause-done g c clean live inside =
-    rw (c.params-to_sql.ensures, c.in_ok-reference.ensures.value) at (c.run.ensures.done clean live inside)
