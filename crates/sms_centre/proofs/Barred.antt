@@ -1,6 +1,6 @@
 -- Bars that are put one by one.
-use Rattle.std.proofs.Common.{◌≡◌, ℕ, ◌+◌, List, [], ◌∷◌, ◌++◌, append-nil, append_assoc, Bool, true, false, Option, Some, Result, Ok, Err, OnOk, refl, sym, ◌∙◌, ap, subst}
-use Rattle.std.specs.Prelude.{◌==◌, ◌&&◌, ◌||◌, MatchOption, if◌then◌else◌}
+use Rattle.std.proofs.Common.{◌≡◌, ℕ, ◌+◌, List, [], ◌∷◌, ◌++◌, append-nil, append_assoc, Bool, true, false, Option, Some, None, Result, Ok, Err, OnOk, refl, sym, ◌∙◌, ap, subst}
+use Rattle.std.specs.Prelude.{◌==◌, ◌&&◌, ◌||◌, SomeIff, if◌then◌else◌}
 use Rattle.std.specs.List.{list_any}
 use Rattle.std.proofs.lemmas.Bool.{cond-false, cond-true}
 use Rattle.sms_base.proofs.Bools.{or_assoc}
@@ -22,9 +22,9 @@ on_ok_turned (Ok a) f h = f h
 on_ok_turned (Err e) f h = tt
 
 -- one more than a number, if it is a number still
-pub added_one : (N : Type 0) (o : Option ℕ) (m n : ℕ) → MatchOption o N (λ (x : ℕ). x ≡ m + 1) → o ≡ Some n → n ≡ m + 1
-added_one N None m n h e = absurd cc
-added_one N (Some x) m n h e = let same : x ≡ n = cc in sym same ∙ h
+pub added_one : (P : Type 0) (o : Option ℕ) (m n : ℕ) → SomeIff o P (m + 1) → o ≡ Some n → n ≡ m + 1
+added_one P None m n h e = absurd cc
+added_one P (Some x) m n h e = let same : x ≡ n = cc in sym same ∙ h.1
 
 -- ---- whether a bar stands
 

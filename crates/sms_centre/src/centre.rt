@@ -358,6 +358,13 @@ impl Centre {
         self.centre_state.first_accounts(self.alloc, count)
     }
 
+    /// How many messages it has.
+    pub fn message_count(&self) -> usize
+        ensures { (c : Core) → Represents c self.now → result ≡ length c.rows.messages }
+    {
+        self.centre_state.messages.len()
+    }
+
     /// The message of that number, in memory of its own.
     pub fn message(&self, id: MessageId) -> Result<Option<Message>, AllocError>
         ensures { (c : Core) → Represents c self.now → IfOk result (λ row. row ≡ message_at id c.rows.messages) }

@@ -3,14 +3,12 @@ ghost use Rattle.std.specs.Prelude.{◌≡◌, ◌∷◌, [], ◌++◌, ◌+◌,
 ghost use Rattle.sms_rows.specs.table.Table.{Rises};
 ghost use Rattle.sms_centre_rows.specs.declared.reports.report.ReportRow.{ReportRow as ReportRowOf};
 ghost use Rattle.sms_centre_rows.specs.messages.Messages.{message_at};
-ghost use Rattle.sms_centre_rows.specs.reports.Reports.{report_of};
 ghost use Rattle.sms_centre_rows.specs.waiting.Links.{line_of};
 ghost use Rattle.sms_centre_reports.specs.report_log.ByMessage.{reports_between};
 ghost use Rattle.sms_centre_reports.specs.report_log.ReportLog.{Represents as LogRepresents};
 ghost use Rattle.sms_centre_spec.specs.Draft.{Core, Draft, changes_in, draft_of};
 ghost use Rattle.sms_centre_spec.specs.forgetting.Forget.{bars_put, claims_by, forget as forget_of, going_now, is_carried as is_carried_of, is_held_for as is_held_for_of};
 ghost use Rattle.sms_centre_spec.specs.forgetting.Forget.{is_on_way as is_on_way_of, may_go_now as may_go_now_of, next_from as next_from_of};
-ghost use Rattle.sms_centre_spec.specs.forgetting.Forgetting.{is_reported as is_reported_of};
 ghost use Rattle.sms_centre_spec.specs.forgetting.Forgetting.{may_go as may_go_of};
 ghost use Rattle.sms_centre_draft.specs.CentreDraft.{Represents as DraftRepresents};
 ghost use Rattle.sms_centre_draft.specs.Forgetting.{ArePlaced};
@@ -30,21 +28,12 @@ use sms_base::{Carried, Digits, Holder, Listed, MessageId, Moment};
 use sms_centre_draft::{CentreDraft, are_digits};
 use sms_centre_messages::message_index::has_ended;
 use sms_centre_reports::report_log::{MessageReport, ReportLog};
+use sms_centre_reports::reported::is_reported;
 use sms_centre_rows::messages::{BarRow, MessageRow as Message};
 use sms_rows::table::{Change, Table};
 use std::alloc::{AllocError, Global};
 
 // ---- what is asked of a message
-
-// Its report is closed, and a later one gives the next place; or it has none.
-fn is_reported(state: &CentreState, id: MessageId) -> bool
-    ensures { (c : Core) → StateRepresents c state.now → result ≡ is_reported_of c.rows.reports (report_of id c.rows.reports) }
-{
-    if state.reports.find(id).is_some() {
-        return false;
-    }
-    !state.log.is_of_last(id)
-}
 
 fn may_go(state: &CentreState, before: Moment, message: &Message) -> bool
     ensures { (c : Core) → StateRepresents c state.now → result ≡ may_go_of before c.rows message.now }
@@ -52,7 +41,7 @@ fn may_go(state: &CentreState, before: Moment, message: &Message) -> bool
     if !has_ended(message, before) {
         return false;
     }
-    if !is_reported(state, message.id) {
+    if !is_reported(&state.reports, &state.log, message.id) {
         return false;
     }
     if !state.reference_index.leaves_split(message) {
@@ -322,7 +311,8 @@ fn forget_all(
     draft: &mut CentreDraft<'_>,
     ids: &[MessageId],
 ) -> Result<Listed<Change<BarRow>>, AllocError>
-    ensures plan { (before from most : ℕ) (c : Core) → DraftRepresents (draft_of c) draft.old → StateRepresents c state.now → ids.now ≡ going_now before from most c
+    ensures plan { (before from most : ℕ) (c : Core) → DraftRepresents (draft_of c) draft.old → StateRepresents c state.now
+        → ids.now ≡ going_now before from most c
         → OnOk result (DraftRepresents (forget_of before from most c) draft.new) }
     ensures bars { (c : Core) → StateRepresents c state.now
         → IfOk result (λ bars. bars ≡ bars_put (claims_by ids.now c.rows.messages c.rows.parts) c.rows.bars) }

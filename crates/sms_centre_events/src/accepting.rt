@@ -86,7 +86,8 @@ fn accept_split(
     requires submission { IsSubmission submission.now }
     requires whole { submission.now.text ≡ Whole content.now }
     requires units { AreUnits content.now.coding content.now.units }
-    ensures { (d : Draft) → DraftRepresents d draft.old → ReferencesRepresent reference_index.now (bars_in d.store) (messages_in d.store) (parts_in d.store) → IsNewId id d.store
+    ensures { (d : Draft) → DraftRepresents d draft.old
+        → ReferencesRepresent reference_index.now (bars_in d.store) (messages_in d.store) (parts_in d.store) → IsNewId id d.store
         → IfOk result (Accepts (accept_split_of id (next_split submission.now.source submission.now.handset (bars_in d.store)
         (messages_in d.store) (parts_in d.store)) submission.now d.store) d draft.new) }
 {
@@ -110,7 +111,8 @@ fn accept_whole(
     requires submission { IsSubmission submission.now }
     requires whole { submission.now.text ≡ Whole content.now }
     requires units { AreUnits content.now.coding content.now.units }
-    ensures { (d : Draft) → DraftRepresents d draft.old → ReferencesRepresent reference_index.now (bars_in d.store) (messages_in d.store) (parts_in d.store) → IsNewId id d.store
+    ensures { (d : Draft) → DraftRepresents d draft.old
+        → ReferencesRepresent reference_index.now (bars_in d.store) (messages_in d.store) (parts_in d.store) → IsNewId id d.store
         → IfOk result (Accepts (accept_as_of id submission.now d.store) d draft.new) }
 {
     if is_long(content) {
@@ -129,7 +131,8 @@ pub(crate) fn accept_as(
 ) -> Result<bool, AllocError>
     requires submission { IsSubmission submission.now }
     requires units { HasUnits submission.now.text }
-    ensures { (d : Draft) → DraftRepresents d draft.old → ReferencesRepresent reference_index.now (bars_in d.store) (messages_in d.store) (parts_in d.store) → IsNewId id d.store
+    ensures { (d : Draft) → DraftRepresents d draft.old
+        → ReferencesRepresent reference_index.now (bars_in d.store) (messages_in d.store) (parts_in d.store) → IsNewId id d.store
         → IfOk result (Accepts (accept_as_of id submission.now d.store) d draft.new) }
 {
     match &submission.text {

@@ -76,7 +76,8 @@ fn accepted_as(
 ) -> Result<SubmitOutcome, AllocError>
     requires submission { IsSubmission submission.now }
     requires units { HasUnits submission.now.text }
-    ensures { (d : Draft) → DraftRepresents d draft.old → ReferencesRepresent reference_index.now (bars_in d.store) (messages_in d.store) (parts_in d.store) → IsNewId id d.store
+    ensures { (d : Draft) → DraftRepresents d draft.old
+        → ReferencesRepresent reference_index.now (bars_in d.store) (messages_in d.store) (parts_in d.store) → IsNewId id d.store
         → IfOk result (LeadsTo (accepted_of id (unless_too_much submission.now (accept_as_of id submission.now d.store)) d) d draft.new) }
 {
     let is_accepted = accept_as(draft, reference_index, id, submission)?;

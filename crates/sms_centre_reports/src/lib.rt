@@ -7,10 +7,12 @@
 //! - `awaited`: laws: what sessions wait for, over all events
 //! - `open_reports`: the receipts and status reports that are open
 //! - `report_log`: all reports that were made
+//! - `reported`: whether the end of a message was reported
 //! - `sessions`: the sessions of applications, and the receipts that were sent in them
 #![tactic(auto)]
 
 pub mod awaited;
 pub mod open_reports;
 pub mod report_log;
+pub mod reported;
 pub mod sessions;

@@ -72,7 +72,8 @@ impl<K: CentreStore + Drop> LoadedKeep<K> {
     pub fn give(&mut self) -> Result<Rows, KeepError>
         ensures once { IfSome (read_in self.old) (λ rows. (result ≡ Ok rows) × (store_of self.new ≡ store_of self.old)) }
         ensures taken { read_in self.new ≡ None }
-        ensures outcome { (rows : RowsOf) → StoreOutcome (λ found. found ≡ rows) rows rows (loaded_state K.state self.old) (loaded_state K.state self.new) result }
+        ensures outcome { (rows : RowsOf) → StoreOutcome (λ found. found ≡ rows) rows rows
+            (loaded_state K.state self.old) (loaded_state K.state self.new) result }
         ensures closed { IfClosed (loaded_state K.state self.old) (loaded_state K.state self.new) (OnOk result ⊥) }
         ensures back { (rows : RowsOf) → IfHeld rows (loaded_state K.state self.old) (loaded_state K.state self.new) (result ≢ Err NotThisStore) }
         ensures named { IfErr result (λ error. error ≢ OldVersion) }

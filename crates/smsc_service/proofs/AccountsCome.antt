@@ -39,6 +39,7 @@ bare_sound rows s = record {
   reports = s.reports;
   waiting = s.waiting;
   splits = s.splits;
+  bars = s.bars;
 }
 
 -- with their accounts they are what they were

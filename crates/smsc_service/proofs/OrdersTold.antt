@@ -3,6 +3,7 @@ use Rattle.std.proofs.Common.{◌≡◌, ℕ, Bool, true, false, Option, Some, N
 use Rattle.std.specs.Prelude.{if◌then◌else◌}
 use Rattle.std.proofs.lemmas.Bool.{cond-false, cond-true}
 use Rattle.sms_base.specs.declared.final_state.FinalState.{FinalState}
+use Rattle.sms_base.specs.declared.final_state.FinalState.TheVariants.{Delivered, Expired, Deleted as DeletedState, Undeliverable}
 use Rattle.sms_centre_rows.specs.declared.messages.message.MessageRow.{MessageRow}
 use Rattle.sms_centre_rows.specs.messages.Messages.{is_pending, message_at}
 use Rattle.sms_centre_spec.specs.declared.event.CentreEvent.TheVariants.{Ordered}
@@ -13,7 +14,7 @@ use Rattle.sms_centre_spec.specs.CentreEvent.{happened}
 use Rattle.sms_centre_spec.specs.Draft.{Core}
 use Rattle.sms_centre_spec.proofs.OrdersDone.{delete_does, delete_fails, none_ordered, retry_does}
 use Rattle.smsc_service.specs.declared.order_desk.OrderOutcome.{OrderOutcome}
-use Rattle.smsc_service.specs.declared.order_desk.OrderOutcome.TheVariants.{Deleted, HasEnded, Failed}
+use Rattle.smsc_service.specs.declared.order_desk.OrderOutcome.TheVariants.{Waits, Ended, Deleted, HasEnded, Unknown, Enrolled, Failed}
 use Rattle.smsc_service.specs.Outcomes.{number_of, of_state, outcome_at, outcome_for, told_by}
 
 none_told : (order : Order) (id : ℕ) (c : Core) → message_at id c.rows.messages ≡ None
@@ -45,4 +46,12 @@ order_told order id c = by order (message_at id c.rows.messages) refl where
 
 pub outcome_kept : (outcome : OrderOutcome) → outcome_at (number_of outcome) ≡ outcome
 outcome_kept Failed = refl
-outcome_kept _ = refl
+outcome_kept Waits = refl
+outcome_kept Deleted = refl
+outcome_kept HasEnded = refl
+outcome_kept Unknown = refl
+outcome_kept (Ended Delivered) = refl
+outcome_kept (Ended Expired) = refl
+outcome_kept (Ended DeletedState) = refl
+outcome_kept (Ended Undeliverable) = refl
+outcome_kept Enrolled = refl

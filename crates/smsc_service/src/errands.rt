@@ -1,7 +1,9 @@
 //! What a service does that no seat asks.
-ghost use Rattle.std.specs.Prelude.{◌≡◌, IfSome};
+ghost use Rattle.std.specs.Prelude.{◌≡◌, IfSome, length};
+ghost use Rattle.sms_centre.specs.state.CentreState.{Represents};
+ghost use Rattle.sms_centre_spec.specs.Draft.{Core};
 ghost use Rattle.smsc_service.specs.Outcomes.{told_of_account};
-ghost use Rattle.smsc_service.specs.Sparing.{Spares};
+ghost use Rattle.smsc_service.specs.Sparing.{Behind, Rests, Spares, asked_at, is_due as is_due_of, rest_of};
 
 use crate::order_desk::{OrderDesk, OrderOutcome, outcome_of};
 use sms_base::{MessageId, Moment};
@@ -13,10 +15,11 @@ use std::sync::Arc;
 // A call looks at so many messages.
 const MOST: u16 = 200;
 
-// So many seconds lie between two calls, of which a million messages a day need no more.
-const STEP: u64 = 1;
+// A call passes all messages that the centre has in memory, so many of them in less than a tenth of a second. For each so many it rests a
+// second more, so that it takes a tenth of the time at most.
+const PASSED_A_SECOND: u64 = 2_500_000;
 
-// And between two walks through the messages, and behind a call that was not done.
+// So many seconds lie at least between two walks through the messages, and behind a call that was not done.
 const REST: u64 = 10;
 
 /// What a service forgets as it runs: messages that ended so many seconds ago, each of which goes to the archive first.
@@ -38,8 +41,8 @@ pub struct Errands<A: Archive + Drop> {
     pub(crate) archive: A,
     // The number from which the next call looks.
     from: u64,
-    // The second from which on it may look.
-    due: u64,
+    // The moment from which on it may look. Where there is none it may look at once.
+    pub(crate) due: Option<Moment>,
 }
 
 // Whether the message of that number was submitted before that moment. Those behind it were submitted later.
@@ -68,6 +71,13 @@ pub(crate) fn walks_to(centre: &Centre, stimulus: &Stimulus<Job>) -> u64 {
     }
 }
 
+/// How many seconds a walk rests behind a call: one at least, of which a million messages a day need no more.
+pub(crate) fn rest_behind(centre: &Centre) -> u64
+    ensures { (c : Core) → Represents c centre.now → result ≡ rest_of (length c.rows.messages) }
+{
+    1 + centre.message_count() as u64 / PASSED_A_SECOND
+}
+
 // What came of an account that was to come.
 fn account_outcome(fate: Fate) -> OrderOutcome
     ensures { result ≡ told_of_account fate }
@@ -88,16 +98,26 @@ impl<A: Archive + Drop> Errands<A> {
             keep,
             archive,
             from: 1,
-            due: 0,
+            due: None,
+        }
+    }
+
+    // Whether it may look at that moment.
+    fn is_due(&self, now: Moment) -> bool
+        ensures { result ≡ is_due_of self.now.due now }
+    {
+        match self.due {
+            Some(due) => due.seconds() <= now.seconds(),
+            None => true,
         }
     }
 
     // What it is to forget at that moment.
     fn forgets(&self, now: Moment) -> Option<Errand>
-        ensures { IfSome result (Spares self.now.keep now) }
+        ensures { IfSome result (Spares self.now.keep self.now.due now) }
     {
         let keep = self.keep?;
-        if now.seconds() < self.due {
+        if !self.is_due(now) {
             return None;
         }
         let before = Moment::from_seconds(now.seconds().saturating_sub(keep)).ok()?;
@@ -111,7 +131,7 @@ impl<A: Archive + Drop> Errands<A> {
     /// The next one, if there is one at that moment.
     #[tactic(auto, using(crate::proofs::Spared::spares))]
     pub(crate) fn next(&self, now: Moment) -> Option<Errand>
-        ensures { IfSome result (Spares self.now.keep now) }
+        ensures { IfSome result (Spares self.now.keep self.now.due now) }
     {
         match self.desk.waiting() {
             Some(order) => Some(order),
@@ -119,40 +139,46 @@ impl<A: Archive + Drop> Errands<A> {
         }
     }
 
-    // The walk goes on from that number. From 0 it begins anew after a rest, and so it does where the call was not done.
-    fn walk_on(&mut self, before: Moment, next: u64, fate: Fate)
-        ensures { self.new.archive ≡ self.old.archive }
+    // The walk goes on from that number after that many seconds. From 0 it begins anew after a longer rest, and so it does where the call
+    // was not done.
+    fn walk_on(&mut self, before: Moment, next: u64, rest: u64, fate: Fate)
+        ensures archive { self.new.archive ≡ self.old.archive }
+        ensures rests { Rests (asked_at self.old.keep before) rest self.new.due }
     {
-        let now = before.seconds().saturating_add(self.keep.unwrap_or(0));
+        let asked = before.plus(self.keep.unwrap_or(0));
         if matches!(fate, Fate::Done) && next != 0 {
             self.from = next;
-            self.due = now.saturating_add(STEP);
+            self.due = Some(asked.plus(rest));
         } else {
             self.from = 1;
-            self.due = now.saturating_add(REST);
+            self.due = Some(asked.plus(rest.max(REST)));
         }
     }
 
     // The order was asked of the centre; so its owner is told, if it is committed.
     fn take_order(&mut self, outcome: OrderOutcome)
-        ensures { self.new.archive ≡ self.old.archive }
+        ensures archive { self.new.archive ≡ self.old.archive }
+        ensures due { self.new.due ≡ self.old.due }
     {
         self.desk.take();
         self.told = Some(outcome);
     }
 
-    /// The stimulus was asked of the centre, with that fate and answer. Behind it a walk goes on from that number.
+    /// The stimulus was asked of the centre, with that fate and answer. Behind it a walk goes on from that number, after so many seconds
+    /// at least.
     pub(crate) fn note(
         &mut self,
         stimulus: &Stimulus<Job>,
         fate: Fate,
         answer: Option<CentreAnswer>,
         next: u64,
+        rest: u64,
     )
-        ensures { self.new.archive ≡ self.old.archive }
+        ensures archive { self.new.archive ≡ self.old.archive }
+        ensures pace { Behind stimulus.now (λ before. Rests (asked_at self.old.keep before) rest self.new.due) (self.new.due ≡ self.old.due) }
     {
         match stimulus {
-            Stimulus::Own(Errand::Forget { before, .. }) => self.walk_on(*before, next, fate),
+            Stimulus::Own(Errand::Forget { before, .. }) => self.walk_on(*before, next, rest, fate),
             Stimulus::Own(Errand::Enrol(_)) => self.take_order(account_outcome(fate)),
             Stimulus::Own(Errand::Retry(_) | Errand::Delete(_)) => self.take_order(outcome_of(
                 answer,
@@ -163,7 +189,8 @@ impl<A: Archive + Drop> Errands<A> {
 
     /// The group is committed, or refused: whoever ordered something is told what came of it.
     pub(crate) fn tell(&mut self, is_committed: bool)
-        ensures { self.new.archive ≡ self.old.archive }
+        ensures archive { self.new.archive ≡ self.old.archive }
+        ensures due { self.new.due ≡ self.old.due }
     {
         if let Some(outcome) = self.told {
             self.told = None;

@@ -66,7 +66,8 @@ impl<K: CentreStore + Drop> CentreMachine<K> {
     pub fn plan(&mut self, event: &CentreEvent<'_>) -> Result<Plan, StepError>
         requires { HasNumber event.now }
         // The store holds the rows from before the group, and with what it changed they are the centre's, without its accounts.
-        ensures outcome { (c : Core) (base : RowsOf) → Represents c (centre_in self.old) → IsSound base → bare c.rows ≡ rows_after (held_in (keep_in self.old)) base
+        ensures outcome { (c : Core) (base : RowsOf) → Represents c (centre_in self.old) → IsSound base
+            → bare c.rows ≡ rows_after (held_in (keep_in self.old)) base
             → PlanningOutcome (base, held_in (keep_in self.old)) (group_state K.state (keep_in self.old)) (group_state K.state (keep_in self.new))
             (happened event.now c) result }
         ensures fits { IfOk result (FitsTheCentre (centre_in self.new)) }
@@ -109,7 +110,8 @@ impl<K: CentreStore + Drop> CentreMachine<K> {
             → IsOutcome (happened event c) planned.plan → Spans (K.state (store_of (keep_in self.old))) (held_in (keep_in self.old)) base (bare c.rows)
             → MatchResult result (λ outputs. HoldsEvent K.state base (core_of (happened event c)) self.new) (λ error. HoldsEvent K.state base c self.new) }
         ensures forgotten { (before from most : ℕ) (c : Core) (base : RowsOf) → Represents c (centre_in self.old)
-            → IsOutcome (forget before from most c) planned.plan → Spans (K.state (store_of (keep_in self.old))) (held_in (keep_in self.old)) base (bare c.rows)
+            → IsOutcome (forget before from most c) planned.plan
+            → Spans (K.state (store_of (keep_in self.old))) (held_in (keep_in self.old)) base (bare c.rows)
             → MatchResult result (λ outputs. HoldsEvent K.state base (core_of (forget before from most c)) self.new)
             (λ error. HoldsEvent K.state base c self.new) }
         ensures store { store_of (keep_in self.new) ≡ store_of (keep_in self.old) }
@@ -135,7 +137,8 @@ impl<K: CentreStore + Drop> CentreMachine<K> {
             → IsOutcome (happened event c) planned.plan → Spans (K.state (store_of (keep_in self.old))) (held_in (keep_in self.old)) base (bare c.rows)
             → MatchResult result (λ outputs. HoldsEvent K.state base (core_of (happened event c)) self.new) (λ error. HoldsEvent K.state base c self.new) }
         ensures forgotten { (before from most : ℕ) (c : Core) (base : RowsOf) → Represents c (centre_in self.old)
-            → IsOutcome (forget before from most c) planned.plan → Spans (K.state (store_of (keep_in self.old))) (held_in (keep_in self.old)) base (bare c.rows)
+            → IsOutcome (forget before from most c) planned.plan
+            → Spans (K.state (store_of (keep_in self.old))) (held_in (keep_in self.old)) base (bare c.rows)
             → MatchResult result (λ outputs. HoldsEvent K.state base (core_of (forget before from most c)) self.new)
             (λ error. HoldsEvent K.state base c self.new) }
         ensures store { store_of (keep_in self.new) ≡ store_of (keep_in self.old) }

@@ -4,7 +4,8 @@ ghost use Rattle.sms_centre.specs.state.CentreState.{Represents};
 ghost use Rattle.sms_centre_spec.specs.Draft.{Core};
 ghost use Rattle.sms_control.specs.ControlReading.{cp_at};
 ghost use Rattle.sms_relay.specs.RelayReading.{up_at};
-ghost use Rattle.smsc_service.specs.Refused.{part_refused_by, refusal_of_frame, refusal_of_unit, refusal_to as refusal_to_of, refused_at as refused_at_of, refused_of as refused_of_of, refused_part, under_way_at as under_way_at_of, under_way_for as under_way_for_of};
+ghost use Rattle.smsc_service.specs.Refused.{part_refused_by, refusal_of_frame, refusal_of_unit, refusal_to as refusal_to_of, refused_at as refused_at_of};
+ghost use Rattle.smsc_service.specs.Refused.{refused_of as refused_of_of, refused_part, under_way_at as under_way_at_of, under_way_for as under_way_for_of};
 ghost use Rattle.smsc_service.specs.Seats.{seats_in};
 
 use crate::number::is_number;

@@ -6,7 +6,8 @@ ghost use Rattle.sms_centre_rows.specs.messages.Messages.{message_at, message_ke
 ghost use Rattle.sms_centre.specs.state.CentreState.{Represents};
 ghost use Rattle.sms_rows.specs.table.Table.{all_applied};
 ghost use Rattle.smsc_service.specs.Seats.{seats_in};
-ghost use Rattle.smsc_service.specs.Replies.{answer_out, end_of, failed as failed_of, for_seat, frame_out, frame_outs, is_that as is_that_of, nothing_by, receipt_out, receipt_outs, seat_for as seat_for_of, replies_at, vacancy as vacancy_of};
+ghost use Rattle.smsc_service.specs.Replies.{answer_out, end_of, failed as failed_of, for_seat, frame_out, frame_outs, is_that as is_that_of, nothing_by};
+ghost use Rattle.smsc_service.specs.Replies.{receipt_out, receipt_outs, seat_for as seat_for_of, replies_at, vacancy as vacancy_of};
 ghost use Rattle.sms_keeper.specs.declared.machine.Stimulus.TheVariants.{Job as JobOf};
 
 use crate::ends::end_after;

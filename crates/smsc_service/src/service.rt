@@ -8,12 +8,13 @@ ghost use Rattle.smsc_service.specs.Seats.{nobody, seats_in};
 ghost use Rattle.smsc_service.specs.Stepping.{OneRefused};
 ghost use Rattle.smsc_service.specs.Serving.{Serving, restarted};
 ghost use Rattle.smsc_service.specs.Course.{after, gives};
-ghost use Rattle.smsc_service.specs.Sparing.{Spares, kept_by};
-ghost use Rattle.smsc_service.specs.InService.{HasArchived, HasHonestStore, IfAwaited, IsAwaitedBy, IsBroken, IsRefusedBy, IsRunning, IsServedBy, archive_in, refusals_of, store_in};
+ghost use Rattle.smsc_service.specs.Sparing.{Spares, due_in, kept_by};
+ghost use Rattle.smsc_service.specs.InService.{HasArchived, HasHonestStore, IfAwaited, IsAwaitedBy, IsBroken, IsRefusedBy, IsRunning, IsServedBy};
+ghost use Rattle.smsc_service.specs.InService.{archive_in, refusals_of, store_in};
 
 use crate::causes::cause_told_by;
 use crate::cutoff::Cutoff;
-use crate::errands::{Errands, walks_to};
+use crate::errands::{Errands, rest_behind, walks_to};
 use crate::link_board::LinkBoard;
 use crate::machine::CentreMachine;
 use crate::made::Made;
@@ -230,9 +231,9 @@ impl<K: CentreStore + Drop, A: Archive + Drop> Machine<Job, Reply> for Service<K
 
     ghost after = { λ s stimulus fate. after s stimulus fate };
 
-    // No message is forgotten before its time.
+    // No message is forgotten before its time, and no walk goes on before it is due.
     fn errand(&self, now: Moment) -> Option<Errand>
-        ensures { IfSome result (Spares (kept_by self.now) now) }
+        ensures { IfSome result (Spares (kept_by self.now) (due_in self.now) now) }
     {
         self.errands.next(now)
     }
@@ -242,10 +243,11 @@ impl<K: CentreStore + Drop, A: Archive + Drop> Machine<Job, Reply> for Service<K
         let if_refused = refused_with_group(&mut self.resumed, stimulus);
         let is_late = self.cutoff.is_past();
         let next = walks_to(&self.seated.machine.centre, stimulus);
+        let rest = rest_behind(&self.seated.machine.centre);
         self.count_cause(stimulus);
         let archive = &mut self.errands.archive;
         let Made { fate, outs, told } = self.seated.answer(&asked, stimulus, archive, is_late);
-        self.errands.note(stimulus, fate, told, next);
+        self.errands.note(stimulus, fate, told, next, rest);
         self.shows = shown_links::are_shown_after(self.shows, stimulus);
         Step {
             fate,

@@ -4,11 +4,10 @@
 //! suspended until it comes again. One that the run does not know comes behind those that it knows: the centre takes it first, and only then
 //! it may bind. All else of an account a run has from its beginning. So a file that says something else of an account changes nothing, as one
 //! with a fault does.
-use crate::setup::{
-    KnownAccount, MOST_ACCOUNTS, allowance_of, copy_of_account, known_of, login_of, source_at,
-};
+use crate::setup::{KnownAccount, MOST_ACCOUNTS, allowance_of, known_of, login_of, source_at};
 use smpp_session::{Account as Login, Password};
 use sms_base::Octets;
+use sms_centre_spec::octets::copy_of_account;
 use smsc_cli::words::{ServerRun, TableAccount};
 use smsc_operation::account_file::{accounts_in, document_of, judge_file, line_at, read_file};
 use smsc_operation::account_names::AccountNames;

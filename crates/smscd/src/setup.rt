@@ -115,18 +115,6 @@ fn account_of(alloc: Global, account: &TableAccount<'_>) -> Result<CentreAccount
     })
 }
 
-/// The account, in memory of its own.
-pub fn copy_of_account(
-    alloc: Global,
-    account: &CentreAccount,
-) -> Result<CentreAccount, AllocError> {
-    Ok(CentreAccount {
-        name: Octets::copy_of(alloc, account.name.as_slice())?,
-        address: account.address,
-        sources: Listed::from_vec(Vec::from_slice(alloc, account.sources.as_slice())?),
-    })
-}
-
 /// The account, as a run knows it from now on.
 pub fn known_of(alloc: Global, account: &TableAccount<'_>) -> Result<KnownAccount, AllocError> {
     Ok(KnownAccount {

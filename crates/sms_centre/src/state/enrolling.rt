@@ -5,32 +5,9 @@ ghost use Rattle.sms_centre.specs.Enrolling.{accounts_of, accounts_with, state_w
 use crate::state::centre_state::CentreState;
 use sms_base::Listed;
 use sms_centre_rows::conditions::is_address;
-use sms_centre_spec::octets::copy_of_octets;
+use sms_centre_spec::octets::{copy_of_account, copy_of_accounts};
 use sms_intake::CentreAccount;
 use std::alloc::{AllocError, Global};
-
-// The account, in memory of its own.
-fn copy_of(alloc: Global, account: &CentreAccount) -> Result<CentreAccount, AllocError>
-    ensures { IfOk result (λ copy. copy ≡ account.now) }
-{
-    let name = copy_of_octets(alloc, &account.name)?;
-    let sources = Vec::from_slice(alloc, account.sources.as_slice())?;
-    Ok(CentreAccount {
-        name,
-        address: account.address,
-        sources: Listed::from_vec(sources),
-    })
-}
-
-fn copies_of(alloc: Global, accounts: &[CentreAccount]) -> Result<Vec<CentreAccount>, AllocError>
-    ensures { IfOk result (λ copies. copies.items ≡ accounts.now) }
-{
-    let mut copies = Vec::new(alloc);
-    for account in accounts {
-        copies.push(copy_of(alloc, account)?)?;
-    }
-    Ok(copies)
-}
 
 // The first so many, or all where there are fewer.
 fn first_of(accounts: &[CentreAccount], count: usize) -> &[CentreAccount]
@@ -54,7 +31,7 @@ fn add(
     if !is_address(&account.address) {
         return Ok(());
     }
-    match copy_of(alloc, account) {
+    match copy_of_account(alloc, account) {
         Ok(copy) => accounts.push(copy),
         Err(error) => Err(error),
     }
@@ -81,6 +58,6 @@ impl CentreState {
     ) -> Result<Vec<CentreAccount>, AllocError>
         ensures { IfOk result (λ first. first.items ≡ take count (accounts_of self.now)) }
     {
-        copies_of(alloc, first_of(self.setup.accounts.as_slice(), count))
+        copy_of_accounts(alloc, first_of(self.setup.accounts.as_slice(), count))
     }
 }

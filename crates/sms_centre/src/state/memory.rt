@@ -54,7 +54,8 @@ pub(crate) struct Memory {
 
 fn message_memory(alloc: Global, tables: &RowTables) -> Result<MessageMemory, AllocError>
     ensures messages { IfOk result (λ memory. MessagesRepresent memory.messages tables.now.messages.rows tables.now.parts.rows) }
-    ensures reference_index { IfOk result (λ memory. ReferencesRepresent memory.reference_index tables.now.bars.rows tables.now.messages.rows tables.now.parts.rows) }
+    ensures reference_index { IfOk result
+        (λ memory. ReferencesRepresent memory.reference_index tables.now.bars.rows tables.now.messages.rows tables.now.parts.rows) }
 {
     let rows = tables.messages.as_slice();
     let parts = tables.parts.as_slice();
@@ -130,7 +131,8 @@ pub(crate) fn memory_of(
     requires numbers { (number : List ℕ) → Among number handsets.now → IsNumber number }
     requires apart { AreDifferent handsets.now }
     ensures messages { IfOk result (λ memory. MessagesRepresent memory.messages tables.now.messages.rows tables.now.parts.rows) }
-    ensures reference_index { IfOk result (λ memory. ReferencesRepresent memory.reference_index tables.now.bars.rows tables.now.messages.rows tables.now.parts.rows) }
+    ensures reference_index { IfOk result
+        (λ memory. ReferencesRepresent memory.reference_index tables.now.bars.rows tables.now.messages.rows tables.now.parts.rows) }
     ensures queues { IfOk result (λ memory. Represents tables.now.handsets.rows tables.now.references.rows (lines_of are_up handsets.now)
         (λ number. all_for number (rows_of tables.now)) memory.queues) }
     ensures reports { IfOk result (λ memory. RepresentsReports tables.now.messages.rows memory.reports tables.now.reports.rows) }

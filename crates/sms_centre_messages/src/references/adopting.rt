@@ -77,7 +77,8 @@ impl ReferenceIndex {
     // The changes of messages, where so many of parts are to follow.
     fn apply_all(&mut self, messages: &[Change<MessageRow>], parts: usize)
         requires { HasRoomFor (length messages.now) parts self.old }
-        ensures holds { (bs : List BarRowOf) (ms : List MessageRowOf) (ps : List PartRowOf) → Represents self.old bs ms ps → Rises message_key ms → AreMoves messages.now ms ps
+        ensures holds { (bs : List BarRowOf) (ms : List MessageRowOf) (ps : List PartRowOf)
+            → Represents self.old bs ms ps → Rises message_key ms → AreMoves messages.now ms ps
             → Represents self.new bs (all_applied message_key messages.now ms) ps }
         ensures room { HasRoomFor 0 parts self.new }
         ensures kept { AreRemovals messages.now → self.new ≡ self.old }
@@ -90,7 +91,8 @@ impl ReferenceIndex {
 
     fn apply(&mut self, change: &Change<MessageRow>)
         requires { HasRoomFor 1 0 self.old }
-        ensures holds { (bs : List BarRowOf) (ms : List MessageRowOf) (ps : List PartRowOf) → Represents self.old bs ms ps → Rises message_key ms → IsMove change.now ms ps
+        ensures holds { (bs : List BarRowOf) (ms : List MessageRowOf) (ps : List PartRowOf)
+            → Represents self.old bs ms ps → Rises message_key ms → IsMove change.now ms ps
             → Represents self.new bs (applied message_key change.now ms) ps }
         ensures room { (n p : ℕ) → HasRoomFor (n + 1) p self.old → HasRoomFor n p self.new }
         ensures kept { IsRemoval change.now → self.new ≡ self.old }
@@ -103,7 +105,8 @@ impl ReferenceIndex {
 
     fn put(&mut self, row: &MessageRow)
         requires { HasRoomFor 1 0 self.old }
-        ensures holds { (bs : List BarRowOf) (ms : List MessageRowOf) (ps : List PartRowOf) → Represents self.old bs ms ps → Rises message_key ms → IsMoveTo row.now.state row.now ms ps
+        ensures holds { (bs : List BarRowOf) (ms : List MessageRowOf) (ps : List PartRowOf)
+            → Represents self.old bs ms ps → Rises message_key ms → IsMoveTo row.now.state row.now ms ps
             → Represents self.new bs (put message_key row.now ms) ps }
         ensures room { (n p : ℕ) → HasRoomFor (n + 1) p self.old → HasRoomFor n p self.new }
         ensures bars { SameBars self.old self.new }
@@ -116,7 +119,8 @@ impl ReferenceIndex {
 
     fn enter_ready(&mut self, row: &MessageRow)
         requires { HasRoomFor 1 0 self.old }
-        ensures holds { (bs : List BarRowOf) (ms : List MessageRowOf) (ps : List PartRowOf) → Represents self.old bs ms ps → IsNewest row.now ms ps → AreFew ms ps
+        ensures holds { (bs : List BarRowOf) (ms : List MessageRowOf) (ps : List PartRowOf)
+            → Represents self.old bs ms ps → IsNewest row.now ms ps → AreFew ms ps
             → Represents self.new bs (put message_key row.now ms) ps }
         ensures room { (n p : ℕ) → HasRoomFor (n + 1) p self.old → HasRoomFor n p self.new }
         ensures bars { SameBars self.old self.new }
@@ -130,7 +134,8 @@ impl ReferenceIndex {
     // The changes of parts, whose messages were put by the others.
     fn apply_parts(&mut self, parts: &[Revision<PartRow>], messages: &[Change<MessageRow>])
         requires { HasRoomFor 0 (length parts.now) self.old }
-        ensures moved { (bs : List BarRowOf) (base ms : List MessageRowOf) (ps : List PartRowOf) → ms ≡ all_applied message_key messages.now base → Represents self.old bs ms ps
+        ensures moved { (bs : List BarRowOf) (base ms : List MessageRowOf) (ps : List PartRowOf) → ms ≡ all_applied message_key messages.now base
+            → Represents self.old bs ms ps
             → Rises part_key ps → ArePartMoves messages.now parts.now ms ps
             → Represents self.new bs ms (all_revised part_key part_reaching parts.now ps) }
         ensures kept { ArePartRemovals parts.now → self.new ≡ self.old }
@@ -143,7 +148,8 @@ impl ReferenceIndex {
 
     fn apply_part(&mut self, revision: &Revision<PartRow>, messages: &[Change<MessageRow>])
         requires { HasRoomFor 0 1 self.old }
-        ensures holds { (bs : List BarRowOf) (base ms : List MessageRowOf) (ps : List PartRowOf) → ms ≡ all_applied message_key messages.now base → Represents self.old bs ms ps
+        ensures holds { (bs : List BarRowOf) (base ms : List MessageRowOf) (ps : List PartRowOf) → ms ≡ all_applied message_key messages.now base
+            → Represents self.old bs ms ps
             → Rises part_key ps
             → IsPartMove messages.now revision.now ms ps → Represents self.new bs ms (revised part_key part_reaching revision.now ps) }
         ensures room { (n : ℕ) → HasRoomFor 0 (n + 1) self.old → HasRoomFor 0 n self.new }
@@ -159,7 +165,8 @@ impl ReferenceIndex {
 
     fn put_part(&mut self, part: &PartRow, messages: &[Change<MessageRow>])
         requires { HasRoomFor 0 1 self.old }
-        ensures holds { (bs : List BarRowOf) (base ms : List MessageRowOf) (ps : List PartRowOf) → ms ≡ all_applied message_key messages.now base → Represents self.old bs ms ps
+        ensures holds { (bs : List BarRowOf) (base ms : List MessageRowOf) (ps : List PartRowOf) → ms ≡ all_applied message_key messages.now base
+            → Represents self.old bs ms ps
             → Rises part_key ps
             → IsPartMove messages.now (PutPart part.now) ms ps → Represents self.new bs ms (put part_key part.now ps) }
         ensures room { (n : ℕ) → HasRoomFor 0 (n + 1) self.old → HasRoomFor 0 n self.new }

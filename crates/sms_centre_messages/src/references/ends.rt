@@ -21,7 +21,8 @@ use std::alloc::AllocError;
 impl ReferenceIndex {
     /// A message that is pending ends so. The row is the one before its end, or the one after it.
     pub fn end(&mut self, row: &MessageRow, state: FinalState)
-        ensures holds { (bs : List BarRowOf) (ms : List MessageRowOf) (ps : List PartRowOf) (m : MessageRowOf) (moment : ℕ) → Represents self.old bs ms ps → Rises message_key ms
+        ensures holds { (bs : List BarRowOf) (ms : List MessageRowOf) (ps : List PartRowOf) (m : MessageRowOf) (moment : ℕ)
+            → Represents self.old bs ms ps → Rises message_key ms
             → message_at m.id ms ≡ Some m → is_pending m ≡ true
             → still row.now ≡ still m → Represents self.new bs (put message_key (ended state moment m) ms) ps }
         ensures room { (n p : ℕ) → HasRoomFor (n + 1) p self.old → HasRoomFor n p self.new }

@@ -18,7 +18,8 @@ use std::alloc::AllocError;
 impl ReferenceIndex {
     /// Adds a message behind all others, with no parts yet.
     pub fn enter(&mut self, row: &MessageRow) -> Result<(), AllocError>
-        ensures holds { (bs : List BarRowOf) (ms : List MessageRowOf) (ps : List PartRowOf) → Represents self.old bs ms ps → IsNewest row.now ms ps → AreFew ms ps
+        ensures holds { (bs : List BarRowOf) (ms : List MessageRowOf) (ps : List PartRowOf)
+            → Represents self.old bs ms ps → IsNewest row.now ms ps → AreFew ms ps
             → OnOk result (Represents self.new bs (put message_key row.now ms) ps) }
         ensures room { (n p : ℕ) → HasRoomFor (n + 1) p self.old → OnOk result (HasRoomFor n p self.new) }
         ensures ready { HasRoomFor 1 0 self.old → IsOk result }

@@ -28,7 +28,8 @@ pub fn copy_of_kind_octets(alloc: Global, kind: &ReportKind) -> Result<Option<Oc
     }
 }
 
-fn copy_of_account(alloc: Global, account: &CentreAccount) -> Result<CentreAccount, AllocError>
+/// The account, in memory of its own.
+pub fn copy_of_account(alloc: Global, account: &CentreAccount) -> Result<CentreAccount, AllocError>
     ensures { IfOk result (λ copy. copy ≡ account.now) }
 {
     let name = copy_of_octets(alloc, &account.name)?;
@@ -40,7 +41,8 @@ fn copy_of_account(alloc: Global, account: &CentreAccount) -> Result<CentreAccou
     })
 }
 
-fn copy_of_accounts(
+/// The accounts, in memory of their own.
+pub fn copy_of_accounts(
     alloc: Global,
     accounts: &[CentreAccount],
 ) -> Result<Vec<CentreAccount>, AllocError>

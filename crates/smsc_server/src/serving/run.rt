@@ -289,8 +289,9 @@ fn with_parts<L: Drop, K: Drop, A: Drop>(
 }
 
 /// Starts a centre with the rows of a keep and these accounts, and serves the connections of two ports. The keep was opened without accounts. The
-/// run ends once as many connections were served as are given, or it is ordered to end. Then it gives the listeners back, the keep and the archive. At most 32 connections are open at once. Those beyond
-/// wait unaccepted, and each is accepted as a seat becomes free. As it runs it forgets what it is to forget.
+/// run ends once as many connections were served as are given, or it is ordered to end. Then it gives the listeners back, the keep and the
+/// archive. At most 32 connections are open at once. Those beyond wait unaccepted, and each is accepted as a seat becomes free. As it runs it
+/// forgets what it is to forget.
 ///
 /// # Errors
 /// The store gave no rows, or they are not sound. A growth, a thread or a file was refused. Or the store refused a step and could not

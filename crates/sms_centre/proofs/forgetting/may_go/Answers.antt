@@ -14,10 +14,12 @@ returns-then-not-has_ended c = λ core represents.
 
 pub returns-then-not-is_reported : goal.returns-then-not-is_reported
 returns-then-not-is_reported c = λ core represents.
+    let s : CentreStateOf = record { setup = c.state.inside.setup; moment = c.state.inside.moment; messages = c.state.inside.messages; reference_index = c.state.inside.reference_index; queues = c.state.inside.queues; reports = c.state.inside.reports; log = c.state.inside.log; sessions = c.state.inside.sessions } in
+    let was : StateRepresents core s = subst (λ (x : CentreStateOf). StateRepresents core x) (sym c.state.view_is) represents in
     let m = c.args.message.now in
     sym (and_right (is_some m.state && is_before c.args.before m.done) (is_reported core.rows.reports (report_of m.id core.rows.reports) && (leaves_split m core.rows.messages && leaves_number m core.rows.messages))
     (and_left (is_reported core.rows.reports (report_of m.id core.rows.reports)) (leaves_split m core.rows.messages && leaves_number m core.rows.messages)
-    (sym (c.is_reported.ensures core represents) ∙ c.if-not-is_reported.true)))
+    (sym (c.is_reported.ensures core.rows.messages core.rows.reports was.centre.reports_are was.log was.centre.sound.rows.reports) ∙ c.if-not-is_reported.true)))
 
 pub returns-then-not-leaves_split : goal.returns-then-not-leaves_split
 returns-then-not-leaves_split c = λ core represents.
@@ -35,7 +37,7 @@ returns c = λ core represents.
     let was : StateRepresents core s = subst (λ (x : CentreStateOf). StateRepresents core x) (sym c.state.view_is) represents in
     let m = c.args.message.now in
     let ended = sym c.has_ended.ensures ∙ c.if-not-has_ended.false in
-    let reported = sym (c.is_reported.ensures core represents) ∙ c.if-not-is_reported.false in
+    let reported = sym (c.is_reported.ensures core.rows.messages core.rows.reports was.centre.reports_are was.log was.centre.sound.rows.reports) ∙ c.if-not-is_reported.false in
     let split = sym (c.leaves_split.ensures core.rows.bars core.rows.messages core.rows.parts was.reference_index) ∙ c.if-not-leaves_split.false in
     c.leaves_number.ensures core.rows.messages core.rows.parts was.centre.messages_are
     ∙ ap (λ (b : Bool). b && leaves_number m core.rows.messages) (sym split)

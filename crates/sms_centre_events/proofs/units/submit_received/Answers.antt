@@ -40,4 +40,4 @@ returns c = λ d represents knows.
     else (if is_reference_taken u d.store then refuse a.handset a.reference a.tag ReferenceTaken d else submit_accepted a.handset a.reference a.tag (accept u d.store) d)) a.handset a.tag d new))
     (sym single)
     (subst (λ (b : Bool). IfOk c.submit_accepted.result (LeadsTo (if b then refuse a.handset a.reference a.tag ReferenceTaken d else submit_accepted a.handset a.reference a.tag (accept u d.store) d) a.handset a.tag d new))
-    (sym free) (c.submit_accepted.ensures d represents knows))
+    (sym free) (c.submit_accepted.ensures d represents knows.messages))

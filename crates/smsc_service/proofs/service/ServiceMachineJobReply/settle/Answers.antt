@@ -15,7 +15,7 @@ returns-in-Ok-clause-settled g c = λ honest s r running.
     let standing = running.standing in
     let centre = subst (λ (x : CentreStateOf). Represents s.serving.core x) (sym c.in-Ok.ensures.same) standing.made.centre in
     let archived : AreHad (g.A.Archive.keeps c.tell.new.self.archive) s.gone = λ x k.
-    subst (λ (a : g.row.A.Denot). g.A.Archive.keeps a x.message x.parts) (sym c.tell.ensures) (running.archived x k) in
+    subst (λ (a : g.row.A.Denot). g.A.Archive.keeps a x.message x.parts) (sym c.tell.ensures.archive) (running.archived x k) in
     record {
       standing = record {
         made = record {
