@@ -4,6 +4,7 @@ pub mod DueNow
 pub mod Entering
 pub mod MessagesGo
 pub mod FoundOpen
+pub mod Judged
 pub mod MovesWaiting
 pub mod NumbersThere
 pub mod OthersWaiting

@@ -17,7 +17,7 @@
 //! - `receiving`: everything that waits for a handset is due now (3GPP TS 24.011 7.3.2)
 //! - `rows`: rows that change
 //! - `sessions`: what sessions do with receipts
-//! - `shares`: how many of a handset's references an account holds
+//! - `shares`: how many of a handset's references are free, and how many an account holds
 //! - `queues`: moves of the queues by the numbers of handsets
 //! - `submitting`: a submission becomes a message with all its parts, or nothing
 //! - `transfers`: how a transfer to a handset ends (3GPP TS 24.011 8.2.5.4)

@@ -5,6 +5,7 @@ pub mod AllocationsSound
 pub mod LinksRepresented
 pub mod Mentions
 pub mod Passing
+pub mod FreeCounted
 pub mod ReferencesRepresented
 pub mod Revising
 pub mod Showing

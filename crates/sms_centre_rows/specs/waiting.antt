@@ -2,6 +2,7 @@ pub mod Keys
 pub mod Revisions
 pub mod Waiting
 pub mod References
+pub mod FreeReferences
 pub mod Links
 pub mod DeliveryQueues
 pub mod Retry

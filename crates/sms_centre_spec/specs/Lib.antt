@@ -5,6 +5,7 @@ pub mod Draft
 pub mod MessageNumbers
 pub mod Submitting
 pub mod Shares
+pub mod Room
 pub mod Ends
 pub mod Transfers
 pub mod Offering

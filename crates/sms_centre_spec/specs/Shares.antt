@@ -42,3 +42,14 @@ abbrev pub unless_too_much : Submission → Option Store → Option Store
 unless_too_much submission None = None
 unless_too_much submission (Some s) =
     if takes_too_much submission.originator (messages_in s) (waiting_in submission.handset s) then None else Some s
+
+-- ---- judged before the submission comes
+
+-- with so many parts more the account would hold more than half of what is free beside others
+abbrev pub would_hold_too_much : List ℕ → ℕ → List MessageRow → List QueuedPart → Bool
+would_hold_too_much account parts messages waiting =
+    nat_lt (256 - held_by_others account messages waiting) (2 * (held_by account messages waiting + parts))
+
+abbrev pub would_take_too_much : Originator → ℕ → List MessageRow → List QueuedPart → Bool
+would_take_too_much (Application account) parts messages waiting = would_hold_too_much account parts messages waiting
+would_take_too_much (Handset reference) parts messages waiting = false

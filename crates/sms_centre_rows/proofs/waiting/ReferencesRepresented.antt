@@ -12,7 +12,9 @@ use Rattle.sms_centre_rows.specs.declared.waiting.reference.ReferenceRow.{Refere
 use Rattle.sms_centre_rows.specs.waiting.Keys.{handset_key, reference_key}
 use Rattle.sms_centre_rows.specs.waiting.References.{first_passing, following, given_row, handset_at, is_free, is_held, is_late, mentioned, next_reference, or_new_handset, place_after}
 use Rattle.sms_centre_rows.specs.waiting.DeliveryQueueRows.{RepresentsGiven}
+use Rattle.sms_centre_rows.specs.waiting.FreeReferences.{free_references}
 use Rattle.sms_centre_rows.specs.waiting.SoundAllocations.{SoundAllocations, reference_at}
+use Rattle.sms_centre_rows.proofs.waiting.FreeCounted.{below_alike}
 use Rattle.sms_centre_rows.proofs.waiting.Mentions.{below_next_place, number_found, put_number, put_number_other, row_fits}
 
 -- ---- tests that agree find the same
@@ -58,6 +60,14 @@ next_represented number hs rs given waiting o now sound at represents =
     let first : following h.last_reference < 256 = omega arith in
     passing_alike (is_free h waiting rs now) (is_free h waiting given now) 256 (following h.last_reference)
     (λ r small. free_alike h waiting rs given now r (represented_at number hs rs given o sound at represents r small)) first
+
+-- as many are free
+pub free_represented : (number : List ℕ) (hs : List HandsetRow) (rs given : List ReferenceRow) (waiting : List QueuedPart) (o : Option HandsetRow) (now : ℕ) → SoundAllocations hs rs → handset_at number hs ≡ o → RepresentsGiven o rs given
+    → free_references (or_new_handset number (place_after 1 hs) o) waiting rs now ≡ free_references (or_new_handset number (place_after 1 hs) o) waiting given now
+free_represented number hs rs given waiting o now sound at represents =
+    let h : HandsetRow = or_new_handset number (place_after 1 hs) o in
+    below_alike (is_free h waiting rs now) (is_free h waiting given now) 256
+    (λ r small. free_alike h waiting rs given now r (represented_at number hs rs given o sound at represents r small))
 
 -- ---- a giving, on its own queue
 
