@@ -14,3 +14,4 @@ pub mod Sending
 pub mod RepresentedMoves
 pub mod SharesHeld
 pub mod Steps
+pub mod Verdicts

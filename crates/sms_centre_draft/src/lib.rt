@@ -10,6 +10,7 @@
 //! - `asking`: questions over many handsets or reports, and receipts that are sent
 //! - `ends`: how a message ends, and its report
 //! - `forgetting`: messages that leave the centre
+//! - `laws`: laws: a submission ends as the rows before it judge it
 //! - `links`: links that are lost, and timers that fire
 //! - `moves`: one change of what the centre keeps, each
 //! - `numbers`: the numbers of handsets
@@ -31,6 +32,7 @@ mod asking;
 mod centre_draft;
 mod ends;
 mod forgetting;
+pub mod laws;
 mod links;
 mod moves;
 mod numbers;

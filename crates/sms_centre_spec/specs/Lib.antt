@@ -10,6 +10,7 @@ pub mod Ends
 pub mod Transfers
 pub mod Offering
 pub mod Receiving
+pub mod Judging
 pub mod Requests
 pub mod Orders
 pub mod Sessions
