@@ -8,8 +8,9 @@ use Rattle.sms_centre_rows.specs.declared.waiting.queued_part.QueuedPart.{Queued
 use Rattle.sms_centre_rows.specs.waiting.Links.{Links, line_of}
 use Rattle.sms_centre_rows.specs.waiting.References.{Allocations, handset_at, handset_of, handsets_of, next_reference, or_new_handset, place_after, references_of}
 use Rattle.sms_centre_queue.specs.queue.FreeReferences.{free_references}
-use Rattle.sms_centre_rows.proofs.waiting.ReferencesRepresented.{free_represented, next_represented}
+use Rattle.sms_centre_rows.proofs.waiting.ReferencesRepresented.{next_represented}
 use Rattle.sms_centre_rows.proofs.waiting.LinksRepresented.{line_of_handset}
+use Rattle.sms_centre_queue.proofs.queue.FreeCounted.{free_represented}
 use Rattle.sms_centre_queue.specs.declared.queues.placed_queue.PlacedQueue.{PlacedQueue}
 use Rattle.sms_centre_queue.specs.queues.Queues.{DeliveryQueuesDraftOf, HasNoPlace, at, free_at, or_new, placed_of}
 use Rattle.sms_centre_queue.specs.queues.Representing.{DraftRepresents, RepresentsPlaced}
