@@ -71,8 +71,8 @@ fn sync_in<F: Ledger>(ledger: &mut Option<F>) -> Result<(), NotArchived>
 }
 
 fn opened(rt: &HostRuntime, path: Option<&str>) -> io::Result<Option<LineFile>>
-    ensures opened { IfOk result (λ ledger. is_some ledger ≡ is_some path) }
-    ensures refused { IfErr result (λ _. IsSome path) }
+    ensures opened { IfOk result (λ ledger. is_some ledger ≡ is_some path.entry) }
+    ensures refused { IfErr result (λ _. IsSome path.entry) }
 {
     match path {
         Some(path) => {
@@ -89,8 +89,8 @@ impl RunArchive<LineFile> {
     /// # Errors
     /// The file at the path could not be opened.
     pub fn open(rt: &HostRuntime, path: Option<&str>) -> io::Result<RunArchive<LineFile>>
-        ensures ledger { IfOk result (λ archive. is_some (ledger_in archive) ≡ is_some path) }
-        ensures refused { IfErr result (λ _. IsSome path) }
+        ensures ledger { IfOk result (λ archive. is_some (ledger_in archive) ≡ is_some path.entry) }
+        ensures refused { IfErr result (λ _. IsSome path.entry) }
     {
         Ok(RunArchive {
             alloc: rt.alloc(),

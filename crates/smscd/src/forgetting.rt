@@ -30,7 +30,7 @@ fn kept_of(run: &ServerRun<'_>, start: Moment, newest: Moment) -> Option<u64>
 
 // A run that forgets nothing needs no archive.
 fn path_of(keep: Option<u64>, path: Option<&str>) -> Option<&str>
-    ensures { IsSome keep → is_some result ≡ is_some path }
+    ensures { IsSome keep → is_some result ≡ is_some path.entry }
 {
     match keep {
         Some(_) => path,
@@ -45,7 +45,7 @@ fn archive_of<R: Wait + Clock + Copy>(
     watchers: &Watchers<R>,
     path: Option<&str>,
 ) -> Result<FileArchive<R>, AllocError>
-    ensures { IfOk result (λ logged. IfSome (archive_in logged) (λ archive. is_some (ledger_in archive) ≡ is_some path)) }
+    ensures { IfOk result (λ logged. IfSome (archive_in logged) (λ archive. is_some (ledger_in archive) ≡ is_some path.entry)) }
 {
     let log = Arc::try_clone(&watchers.log)?;
     let gone = watchers.gone()?;
