@@ -1,5 +1,5 @@
 //! The file to which a run writes what it forgets: a line of JSON a message, and never a text.
-ghost use Rattle.std.specs.Prelude.{◌≡◌, ℕ, List, IfErr, IfOk, IsSome, OnOk, is_some};
+ghost use Rattle.std.specs.Prelude.{◌≡◌, ℕ, List, IfErr, IfOk, OnOk, is_some, true};
 ghost use Rattle.smsc_status.specs.Archive.{archive_text};
 ghost use Rattle.smsc_operation.specs.Archiving.{HasLine, IsSoOfLine, ledger_in, said_of};
 
@@ -72,7 +72,7 @@ fn sync_in<F: Ledger>(ledger: &mut Option<F>) -> Result<(), NotArchived>
 
 fn opened(rt: &HostRuntime, path: Option<&str>) -> io::Result<Option<LineFile>>
     ensures opened { IfOk result (λ ledger. is_some ledger ≡ is_some path.entry) }
-    ensures refused { IfErr result (λ _. IsSome path.entry) }
+    ensures refused { IfErr result (λ _. is_some path.entry ≡ true) }
 {
     match path {
         Some(path) => {
@@ -90,7 +90,7 @@ impl RunArchive<LineFile> {
     /// The file at the path could not be opened.
     pub fn open(rt: &HostRuntime, path: Option<&str>) -> io::Result<RunArchive<LineFile>>
         ensures ledger { IfOk result (λ archive. is_some (ledger_in archive) ≡ is_some path.entry) }
-        ensures refused { IfErr result (λ _. IsSome path.entry) }
+        ensures refused { IfErr result (λ _. is_some path.entry ≡ true) }
     {
         Ok(RunArchive {
             alloc: rt.alloc(),

@@ -1,5 +1,5 @@
 //! What a run forgets as it goes on.
-ghost use Rattle.std.specs.Prelude.{◌≡◌, ◌≤◌, ◌*◌, IfOk, IfSome, IsSome, IsSomeAnd, MatchOption, None, is_some};
+ghost use Rattle.std.specs.Prelude.{◌≡◌, ◌≤◌, ◌*◌, IfOk, IfSome, IsSomeAnd, MatchOption, None, is_some, true};
 ghost use Rattle.smsc_operation.specs.Archiving.{archive_in, ledger_in};
 
 use crate::watchers::Watchers;
@@ -30,7 +30,7 @@ fn kept_of(run: &ServerRun<'_>, start: Moment, newest: Moment) -> Option<u64>
 
 // A run that forgets nothing needs no archive.
 fn path_of(keep: Option<u64>, path: Option<&str>) -> Option<&str>
-    ensures { IsSome keep → is_some result ≡ is_some path.entry }
+    ensures { is_some keep ≡ true → is_some result ≡ is_some path.entry }
 {
     match keep {
         Some(_) => path,
@@ -66,7 +66,7 @@ pub fn forgetting_of<R: Wait + Clock + Copy>(
     ensures keep { IfOk result (λ forgetting. MatchOption run.now.keep (forgetting.keep ≡ None)
         (λ days. IsSomeAnd forgetting.keep (λ seconds. 86400 * days ≤ seconds))) }
     // What goes has its line where the words name a file for that, if the file could be opened.
-    ensures archive { IfOk result (λ forgetting. IsSome forgetting.keep
+    ensures archive { IfOk result (λ forgetting. is_some forgetting.keep ≡ true
         → IfSome (archive_in forgetting.archive) (λ archive. is_some (ledger_in archive) ≡ is_some run.now.archive)) }
 {
     let keep = kept_of(run, start, newest);
