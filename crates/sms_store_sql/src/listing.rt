@@ -10,6 +10,7 @@
 
 mod cause;
 mod closing;
+mod fields;
 mod finding;
 mod inside;
 mod judging;

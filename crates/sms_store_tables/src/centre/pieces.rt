@@ -20,6 +20,7 @@ use sms_base::{FinalState, MessageId, Originator, Wish};
 use sms_centre_rows::reports::ReportKind;
 use sms_centre_rows::waiting::Progress;
 use sms_concat::ConcatKey;
+use sms_store_sql::fields;
 use sms_store_sql::listing::{
     flag_at, is_null_at, moment_at, number_at, octet_at, octets_at, text_at,
 };
@@ -39,14 +40,7 @@ pub(crate) fn progress_at(row: &Row, at: usize) -> Result<Progress, Error>
     ensures only { (p : ProgressOf) → IsStoredProgress p → HasAt row.now at (flag p.is_done) → HasAt row.now (at + 1) (number p.attempts)
         → HasAt row.now (at + 2) (number p.due) → IfErr result LacksMemory }
 {
-    let is_done = flag_at(row, at)?;
-    let attempts = octet_at(row, at + 1)?;
-    let due = moment_at(row, at + 2)?;
-    Ok(Progress {
-        is_done,
-        attempts,
-        due,
-    })
+    fields!(Progress in row, is_done: flag_at(at), attempts: octet_at(at + 1), due: moment_at(at + 2))
 }
 
 // ---- the place of a part in a long message

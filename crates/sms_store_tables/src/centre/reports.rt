@@ -19,7 +19,7 @@ use sms_store_sql::listing::{
     run_counted,
 };
 use sms_store_sql::schema::StoredTable;
-use sms_store_sql::table;
+use sms_store_sql::{fields, table};
 use sqlite::{Alter, Error, Row, Transaction, params};
 use std::alloc::Global;
 
@@ -57,18 +57,10 @@ impl StoredRow<CentreStore> for ReportRow {
     }
 
     fn read(_alloc: Global, row: &Row) -> Result<ReportRow, Error> {
-        let place = number_at(row, 0)?;
-        let id = id_at(row, 1)?;
-        let kind = report_kind_at(row, 2)?;
-        let made = moment_at(row, 5)?;
-        let progress = progress_at(row, 6)?;
-        Ok(ReportRow {
-            place,
-            id,
-            kind,
-            made,
-            progress,
-        })
+        fields!(ReportRow in row,
+            place: number_at(0), id: id_at(1), kind: report_kind_at(2), made: moment_at(5),
+            progress: progress_at(6),
+        )
     }
 
     ghost one_key = { λ x. refl };
