@@ -1,3 +1,4 @@
+pub mod Apart
 pub mod Changed
 pub mod Characters
 pub mod Columns

@@ -1,5 +1,5 @@
 -- Lists in the stores of any side.
-use Rattle.std.proofs.Common.{◌≡◌, ◌≢◌, List, [], IsTrue, refl, sym, subst, ◌∙◌}
+use Rattle.std.proofs.Common.{◌≡◌, List, [], IsTrue, false, refl, sym, subst, ◌∙◌}
 use Rattle.std.proofs.lemmas.List.Sorted.{IsPermutation-refl}
 use Rattle.sqlite.specs.Effect.{Database}
 use Rattle.sqlite.specs.Order.{Row}
@@ -9,6 +9,7 @@ use Rattle.sqlite_rules.specs.Edit.{IsNoIndex}
 use Rattle.sms_store_sql.specs.listing.Inside.{Alters}
 use Rattle.sms_store_sql.specs.listing.Listing.{ListOf, Represents}
 use Rattle.sms_store_sql.specs.listing.Transaction.{Leads}
+use Rattle.sms_store_sql.proofs.listing.Apart.{is_no_index, is_other, meets}
 use Rattle.sms_store.specs.keeping.Stores.{StoresOf, Turns}
 
 -- a load that finds the list of a tree
@@ -35,10 +36,11 @@ module _ {P R : Type 0} (of : StoresOf P R) where
     changed = λ rows h. q.changed (f rows) (p.changed rows h);
   }
 
-module _ {X : Type 0} (l : ListOf X) (schema : Schema) (here : l.table.schema ≡ schema) (change : List X → List X) (old new : State) (alters : Alters l change old new) where
+module _ {X : Type 0} (l : ListOf X) (schema : Schema) (here : l.table.schema ≡ schema) (change : List X → List X) (old new : State) (alters : Alters l change old new) (has : old.now.schema ≡ schema) where
   -- every other list is as it was
-  pub other_list : {Y : Type 0} (m : ListOf Y) (ys : List Y) → old.now.schema ≡ schema → m.table.tree ≢ l.table.tree → IsNoIndex schema m.table.tree
-      → Represents m (old.now.trees m.table.tree) ys → Represents m (new.now.trees m.table.tree) ys
-  other_list m ys has apart free held =
-      let same = alters.others (has ∙ sym here) m.table.tree apart (subst (λ s. IsNoIndex s m.table.tree) (sym here) free) in
+  pub other_list : {Y : Type 0} (m : ListOf Y) (ys : List Y) → meets schema l.table.tree m.table.tree ≡ false → Represents m (old.now.trees m.table.tree) ys
+      → Represents m (new.now.trees m.table.tree) ys
+  other_list m ys apart held =
+      let free = is_no_index schema l.table.tree m.table.tree apart in
+      let same = alters.others (has ∙ sym here) m.table.tree (is_other schema l.table.tree m.table.tree apart) (subst (λ s. IsNoIndex s m.table.tree) (sym here) free) in
       subst (λ rows. Represents m rows ys) (sym same) held
