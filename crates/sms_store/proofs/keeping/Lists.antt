@@ -1,7 +1,6 @@
 -- Lists in the stores of any side.
 use Rattle.std.proofs.Common.{◌≡◌, List, [], IsTrue, false, refl, sym, subst, ◌∙◌}
 use Rattle.std.proofs.lemmas.List.Sorted.{IsPermutation-refl}
-use Rattle.sqlite.specs.Effect.{Database}
 use Rattle.sqlite.specs.Order.{Row}
 use Rattle.sqlite.specs.Schema.{Schema}
 use Rattle.sqlite.specs.State.{State}
@@ -11,13 +10,6 @@ use Rattle.sms_store_sql.specs.listing.Listing.{ListOf, Represents}
 use Rattle.sms_store_sql.specs.listing.Transaction.{Leads}
 use Rattle.sms_store_sql.proofs.listing.Apart.{is_no_index, is_other, meets}
 use Rattle.sms_store.specs.keeping.Stores.{StoresOf, Turns}
-
--- a load that finds the list of a tree
-abbrev pub FindsIn : {X : Type 0} → ListOf X → Database → List X → Type 0
-FindsIn {X} l db found = (xs : List X) → Represents l (db.trees l.table.tree) xs → found ≡ xs
-
-pub moved : {X : Type 0} (l : ListOf X) (a b : Database) (xs : List X) → b ≡ a → Represents l (a.trees l.table.tree) xs → Represents l (b.trees l.table.tree) xs
-moved l a b xs same held = subst (λ (d : Database). Represents l (d.trees l.table.tree) xs) (sym same) held
 
 pub holds_none : {X : Type 0} (l : ListOf X) (rows : List Row) → rows ≡ [] → Represents l rows []
 holds_none l rows none = record { entries = []; keyed = tt; stored = none; listed = IsPermutation-refl []; rises = tt; fit = tt }
