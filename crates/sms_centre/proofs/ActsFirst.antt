@@ -1,7 +1,7 @@
 -- An event acts, then receipts and offers follow; and what follows rests on what the event left.
 use Rattle.std.proofs.Common.{◌≡◌, ℕ, List, [], Option, refl, sym, ◌∙◌, subst, ap}
 use Rattle.sms_centre_spec.specs.declared.event.CentreEvent.{CentreEvent}
-use Rattle.sms_centre_spec.specs.declared.event.CentreEvent.TheVariants.{Submit, Query, Cancel, Bound, Unbound, DeliverAnswered, Frame, LinkUp, LinkDown, Ordered, Tick}
+use Rattle.sms_centre_spec.specs.declared.event.CentreEvent.TheVariants.{Submit}
 use Rattle.sms_centre_spec.specs.declared.rows.Rows.{Rows}
 use Rattle.sms_centre_spec.specs.declared.setup.Setup.{Setup}
 use Rattle.sms_centre_spec.specs.CentreEvent.{follow, happened}
@@ -13,7 +13,7 @@ use Rattle.sms_centre_spec.proofs.Resting.{base_of, happened_bars, happened_cons
 use Rattle.sms_centre_events.specs.offering.Stored.{CanOffer, Stores}
 use Rattle.sms_centre.specs.state.CentreState.{Represents, CentreStateOf}
 use Rattle.sms_tpdu.specs.AddressGrammar.{relay_address}
-use Rattle.sms_centre.specs.Acting.{acted, congested}
+use Rattle.sms_centre.specs.Acting.{acted}
 use Rattle.sms_centre.specs.Stored.{StoresRows}
 
 pub acts_then_follows : (event : CentreEvent) (c : Core) → happened event c ≡ follow (acted event c)
@@ -41,19 +41,6 @@ sound_as_left event c s e = subst (λ (t : Store). IsSound (rows_of t)) (stores_
 
 pub acted_bars : (event : CentreEvent) (c : Core) → (acted event c).store.bars.news ≡ []
 acted_bars event c = ap (λ (s : Store). s.bars.news) (sym (stores_alike event c)) ∙ happened_bars event c
-
-pub congested_bars : (event : CentreEvent) (reference : ℕ) (c : Core) → (congested event reference c).store.bars.news ≡ []
-congested_bars (Submit account message) reference c = refl
-congested_bars (Query account wanted) reference c = refl
-congested_bars (Cancel account wanted) reference c = refl
-congested_bars (Bound session account receives) reference c = refl
-congested_bars (Unbound session) reference c = refl
-congested_bars (DeliverAnswered session id is_accepted) reference c = refl
-congested_bars (Frame handset octets tag) reference c = refl
-congested_bars (LinkUp handset) reference c = refl
-congested_bars (LinkDown handset) reference c = refl
-congested_bars (Ordered order id) reference c = refl
-congested_bars (Tick now) reference c = refl
 
 -- ---- the setup
 

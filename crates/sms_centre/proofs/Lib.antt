@@ -7,4 +7,3 @@ mod MayGo
 mod Forgotten
 mod Promises
 mod Registered
-mod Stopped

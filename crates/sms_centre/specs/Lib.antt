@@ -4,7 +4,6 @@ pub mod Barring
 pub mod Enrolling
 pub mod Forgetting
 pub mod Planning
-pub mod Stopping
 pub mod Stored
 pub mod plans
 pub mod state

@@ -1,12 +1,11 @@
 //! What an event does by itself, before receipts and offers follow.
-ghost use Rattle.std.specs.Prelude.{◌≡◌, ℕ, IfOk, OnOk};
-ghost use Rattle.smpp_pdu.specs.declared.message.Message.{Message as MessageOf};
+ghost use Rattle.std.specs.Prelude.{◌≡◌};
 ghost use Rattle.sms_centre_spec.specs.CentreEvent.{tag_of as tag_or_none};
 ghost use Rattle.sms_centre_spec.specs.Draft.{Core, draft_of};
 ghost use Rattle.sms_centre_spec.specs.SoundRows.{IsSetup};
 ghost use Rattle.sms_centre_spec.specs.declared.event.CentreEvent.TheVariants.{Submit, Query, Cancel, Bound, Unbound, DeliverAnswered, Frame, LinkUp, LinkDown};
 ghost use Rattle.sms_centre_spec.specs.declared.event.CentreEvent.TheVariants.{Ordered, Tick};
-ghost use Rattle.sms_centre.specs.Acting.{Acts, congested};
+ghost use Rattle.sms_centre.specs.Acting.{Acts};
 ghost use Rattle.sms_centre.specs.state.CentreState.{Represents as StateRepresents};
 ghost use Rattle.sms_centre_draft.specs.CentreDraft.{Represents as DraftRepresents};
 
@@ -14,22 +13,9 @@ use crate::state::CentreState;
 use smpp_pdu::{CancelSm, Message, QuerySm};
 use sms_base::{Holder, MessageId, Moment, Msisdn};
 use sms_centre_draft::CentreDraft;
-use sms_centre_events::{
-    FrameOutcome, SubmitOutcome, bind, cancel, frame_refused, frame_taken, lower, order, query,
-    submit, submit_refused, tick,
-};
+use sms_centre_events::{bind, cancel, frame_taken, lower, order, query, submit, tick};
 use sms_centre_spec::{CentreEvent, Order};
 use std::alloc::AllocError;
-
-/// How an event ended.
-#[derive(Clone, Copy)]
-pub enum EventEnd {
-    /// The event is done, with all that it leads to.
-    Done,
-    /// Numbers or references are free for not all of a submission; a handset's is under that reference. The event is to
-    /// begin anew, and refuses it.
-    Congested(u8),
-}
 
 // ---- what applications ask
 
@@ -38,44 +24,37 @@ fn submitted(
     centre_state: &CentreState,
     account: u8,
     message: &Message<'_>,
-) -> Result<EventEnd, AllocError>
+) -> Result<(), AllocError>
     requires setup { IsSetup draft.old.setup }
     ensures { (c : Core) → DraftRepresents (draft_of c) draft.old → StateRepresents c centre_state.now
-        → IfOk result (Acts (Submit account message.now) c draft.new) }
+        → Acts (Submit account message.now) c draft.new result }
 {
-    let asked = submit(
+    submit(
         draft,
         &centre_state.messages,
         &centre_state.reference_index,
         account,
         message,
     )?;
-    match asked {
-        SubmitOutcome::Answered => Ok(EventEnd::Done),
-        SubmitOutcome::Congested => Ok(EventEnd::Congested(0)),
-    }
+    Ok(())
 }
 
-fn queried(
-    draft: &mut CentreDraft<'_>,
-    account: u8,
-    wanted: &QuerySm<'_>,
-) -> Result<EventEnd, AllocError>
-    ensures { (c : Core) → DraftRepresents (draft_of c) draft.old → IfOk result (Acts (Query account wanted.now) c draft.new) }
+fn queried(draft: &mut CentreDraft<'_>, account: u8, wanted: &QuerySm<'_>) -> Result<(), AllocError>
+    ensures { (c : Core) → DraftRepresents (draft_of c) draft.old → Acts (Query account wanted.now) c draft.new result }
 {
     query(draft, account, wanted)?;
-    Ok(EventEnd::Done)
+    Ok(())
 }
 
 fn cancelled(
     draft: &mut CentreDraft<'_>,
     account: u8,
     wanted: &CancelSm<'_>,
-) -> Result<EventEnd, AllocError>
-    ensures { (c : Core) → DraftRepresents (draft_of c) draft.old → IfOk result (Acts (Cancel account wanted.now) c draft.new) }
+) -> Result<(), AllocError>
+    ensures { (c : Core) → DraftRepresents (draft_of c) draft.old → Acts (Cancel account wanted.now) c draft.new result }
 {
     cancel(draft, account, wanted)?;
-    Ok(EventEnd::Done)
+    Ok(())
 }
 
 // ---- sessions
@@ -86,23 +65,23 @@ fn bound(
     session: u32,
     account: u8,
     receives: bool,
-) -> Result<EventEnd, AllocError>
+) -> Result<(), AllocError>
     ensures { (c : Core) → DraftRepresents (draft_of c) draft.old → StateRepresents c centre_state.now
-        → IfOk result (Acts (Bound session account receives) c draft.new) }
+        → Acts (Bound session account receives) c draft.new result }
 {
     bind(draft, session, account, receives)?;
-    Ok(EventEnd::Done)
+    Ok(())
 }
 
 fn unbound(
     draft: &mut CentreDraft<'_>,
     centre_state: &CentreState,
     session: u32,
-) -> Result<EventEnd, AllocError>
-    ensures { (c : Core) → DraftRepresents (draft_of c) draft.old → StateRepresents c centre_state.now → IfOk result (Acts (Unbound session) c draft.new) }
+) -> Result<(), AllocError>
+    ensures { (c : Core) → DraftRepresents (draft_of c) draft.old → StateRepresents c centre_state.now → Acts (Unbound session) c draft.new result }
 {
     draft.unbind(session)?;
-    Ok(EventEnd::Done)
+    Ok(())
 }
 
 fn answered(
@@ -111,12 +90,12 @@ fn answered(
     session: u32,
     id: MessageId,
     is_accepted: bool,
-) -> Result<EventEnd, AllocError>
+) -> Result<(), AllocError>
     ensures { (c : Core) → DraftRepresents (draft_of c) draft.old → StateRepresents c centre_state.now
-        → IfOk result (Acts (DeliverAnswered session id is_accepted) c draft.new) }
+        → Acts (DeliverAnswered session id is_accepted) c draft.new result }
 {
     draft.deliver_answered(session, id, is_accepted)?;
-    Ok(EventEnd::Done)
+    Ok(())
 }
 
 // ---- handsets
@@ -134,11 +113,11 @@ fn frame_received(
     handset: Msisdn,
     octets: &[u8],
     tag: Option<Holder>,
-) -> Result<EventEnd, AllocError>
+) -> Result<(), AllocError>
     ensures { (c : Core) → DraftRepresents (draft_of c) draft.old → StateRepresents c centre_state.now
-        → IfOk result (Acts (Frame handset octets.now tag) c draft.new) }
+        → Acts (Frame handset octets.now tag) c draft.new result }
 {
-    let came = frame_taken(
+    frame_taken(
         draft,
         &centre_state.messages,
         &centre_state.reference_index,
@@ -146,37 +125,30 @@ fn frame_received(
         octets,
         tag_of(tag),
     )?;
-    match came {
-        FrameOutcome::Done => Ok(EventEnd::Done),
-        FrameOutcome::Congested(reference) => Ok(EventEnd::Congested(reference)),
-    }
+    Ok(())
 }
 
-fn raised(draft: &mut CentreDraft<'_>, handset: Msisdn) -> Result<EventEnd, AllocError>
-    ensures { (c : Core) → DraftRepresents (draft_of c) draft.old → IfOk result (Acts (LinkUp handset) c draft.new) }
+fn raised(draft: &mut CentreDraft<'_>, handset: Msisdn) -> Result<(), AllocError>
+    ensures { (c : Core) → DraftRepresents (draft_of c) draft.old → Acts (LinkUp handset) c draft.new result }
 {
     draft.raise(handset)?;
-    Ok(EventEnd::Done)
+    Ok(())
 }
 
-fn lowered(draft: &mut CentreDraft<'_>, handset: Msisdn) -> Result<EventEnd, AllocError>
-    ensures { (c : Core) → DraftRepresents (draft_of c) draft.old → IfOk result (Acts (LinkDown handset) c draft.new) }
+fn lowered(draft: &mut CentreDraft<'_>, handset: Msisdn) -> Result<(), AllocError>
+    ensures { (c : Core) → DraftRepresents (draft_of c) draft.old → Acts (LinkDown handset) c draft.new result }
 {
     lower(draft, handset)?;
-    Ok(EventEnd::Done)
+    Ok(())
 }
 
 // ---- an operator
 
-fn ordered(
-    draft: &mut CentreDraft<'_>,
-    wanted: Order,
-    id: MessageId,
-) -> Result<EventEnd, AllocError>
-    ensures { (c : Core) → DraftRepresents (draft_of c) draft.old → IfOk result (Acts (Ordered wanted id) c draft.new) }
+fn ordered(draft: &mut CentreDraft<'_>, wanted: Order, id: MessageId) -> Result<(), AllocError>
+    ensures { (c : Core) → DraftRepresents (draft_of c) draft.old → Acts (Ordered wanted id) c draft.new result }
 {
     order(draft, wanted, id)?;
-    Ok(EventEnd::Done)
+    Ok(())
 }
 
 // ---- time
@@ -185,11 +157,11 @@ fn ticked(
     draft: &mut CentreDraft<'_>,
     centre_state: &CentreState,
     now: Moment,
-) -> Result<EventEnd, AllocError>
-    ensures { (c : Core) → DraftRepresents (draft_of c) draft.old → StateRepresents c centre_state.now → IfOk result (Acts (Tick now) c draft.new) }
+) -> Result<(), AllocError>
+    ensures { (c : Core) → DraftRepresents (draft_of c) draft.old → StateRepresents c centre_state.now → Acts (Tick now) c draft.new result }
 {
     tick(draft, &centre_state.messages, now)?;
-    Ok(EventEnd::Done)
+    Ok(())
 }
 
 // ---- all events
@@ -199,9 +171,9 @@ pub(crate) fn act(
     draft: &mut CentreDraft<'_>,
     centre_state: &CentreState,
     event: &CentreEvent<'_>,
-) -> Result<EventEnd, AllocError>
+) -> Result<(), AllocError>
     requires setup { IsSetup draft.old.setup }
-    ensures { (c : Core) → DraftRepresents (draft_of c) draft.old → StateRepresents c centre_state.now → IfOk result (Acts event.now c draft.new) }
+    ensures { (c : Core) → DraftRepresents (draft_of c) draft.old → StateRepresents c centre_state.now → Acts event.now c draft.new result }
 {
     match event {
         CentreEvent::Submit { account, message } => submitted(
@@ -232,47 +204,5 @@ pub(crate) fn act(
         CentreEvent::LinkDown { handset } => lowered(draft, *handset),
         CentreEvent::Ordered { order, id } => ordered(draft, *order, *id),
         CentreEvent::Tick(now) => ticked(draft, centre_state, *now),
-    }
-}
-
-// A submit_sm is refused for want of numbers or references.
-fn refuse_submit(draft: &mut CentreDraft<'_>) -> Result<(), AllocError>
-    ensures { (c : Core) (account : ℕ) (message : MessageOf) (reference : ℕ) → DraftRepresents (draft_of c) draft.old
-        → OnOk result (DraftRepresents (congested (Submit account message) reference c) draft.new) }
-{
-    submit_refused(draft);
-    Ok(())
-}
-
-// So is the SUBMIT of a frame.
-fn refuse_frame(
-    draft: &mut CentreDraft<'_>,
-    handset: Msisdn,
-    octets: &[u8],
-    tag: Option<Holder>,
-    reference: u8,
-) -> Result<(), AllocError>
-    ensures { (c : Core) → DraftRepresents (draft_of c) draft.old
-        → OnOk result (DraftRepresents (congested (Frame handset octets.now tag) reference c) draft.new) }
-{
-    frame_refused(draft, handset, octets, tag_of(tag), reference)
-}
-
-/// The event, which began anew, refuses the submission that it brings.
-pub(crate) fn refuse(
-    draft: &mut CentreDraft<'_>,
-    event: &CentreEvent<'_>,
-    reference: u8,
-) -> Result<(), AllocError>
-    ensures { (c : Core) → DraftRepresents (draft_of c) draft.old → OnOk result (DraftRepresents (congested event.now reference c) draft.new) }
-{
-    match event {
-        CentreEvent::Submit { .. } => refuse_submit(draft),
-        CentreEvent::Frame {
-            handset,
-            octets,
-            tag,
-        } => refuse_frame(draft, *handset, octets.as_slice(), *tag, reference),
-        _ => Ok(()),
     }
 }

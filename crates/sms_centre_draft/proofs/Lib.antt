@@ -4,6 +4,7 @@ pub mod DueNow
 pub mod Entering
 pub mod MessagesGo
 pub mod FoundOpen
+pub mod Judged
 pub mod MovesWaiting
 pub mod OthersWaiting
 pub mod ReceiptsEnded
@@ -12,3 +13,4 @@ pub mod Sending
 pub mod RepresentedMoves
 pub mod SharesHeld
 pub mod Steps
+pub mod Verdicts

@@ -1,12 +1,12 @@
 -- What becomes of what waits for each handset with a move of the rows.
-use Rattle.std.proofs.Common.{◌≡◌, ℕ, ◌<◌, List, [], ◌∷◌, Bool, true, false, Option, Some, None, refl, sym, ◌∙◌, ap, ⊎_elim, bytes_eq}
+use Rattle.std.proofs.Common.{◌≡◌, ℕ, ◌<◌, List, Bool, true, false, Option, Some, None, refl, ◌∙◌, ap, bytes_eq}
 use Rattle.std.specs.Prelude.{◌&&◌, not, if◌then◌else◌}
-use Rattle.std.proofs.lemmas.Bool.{cases_eq, cond-true, cond-false}
+use Rattle.std.proofs.lemmas.Bool.{cond-true, cond-false}
 use Rattle.std.proofs.lemmas.Slice.Eq.{bytes_eq-Decides}
 use Rattle.sms_base.proofs.OctetLaws.{differ}
 use Rattle.sms_rows.specs.table.Keys.{pair_key}
 use Rattle.sms_rows.specs.table.Table.{put, row_at, without}
-use Rattle.sms_rows.proofs.table.Tables.{found_among, row_at_put, row_at_put_other, row_behind, row_here, without_behind}
+use Rattle.sms_rows.proofs.table.Tables.{found_among, row_at_put, row_at_put_other}
 use Rattle.sms_centre_rows.specs.declared.messages.message.MessageRow.{MessageRow}
 use Rattle.sms_centre_rows.specs.declared.messages.part.PartRow.{PartRow}
 use Rattle.sms_centre_rows.specs.declared.messages.priority.PriorityRow.{PriorityRow}
@@ -24,6 +24,7 @@ use Rattle.sms_centre_rows.specs.declared.waiting.queued_part.QueuedPart.{Queued
 use Rattle.sms_centre_rows.specs.declared.waiting.progress.Progress.{Progress}
 use Rattle.sms_centre_rows.specs.waiting.Keys.{queued_key}
 use Rattle.sms_centre_rows.specs.waiting.Revisions.{amended}
+use Rattle.sms_centre_queue.proofs.queue.FreeCounted.{absent_same}
 use Rattle.sms_centre_queue.specs.queues.Representing.{Waits}
 use Rattle.sms_centre_spec.specs.Draft.{Store, messages_in, parts_in, priorities_in, reports_in, with_message, with_part, with_part_at, with_priority, with_report_at, with_reports}
 use Rattle.sms_centre_spec.specs.Held.{SoundHeld}
@@ -31,13 +32,6 @@ use Rattle.sms_centre_draft.specs.CentreDraft.{all_waiting}
 use Rattle.sms_centre_draft.proofs.OthersWaiting.{part_elsewhere}
 
 -- ---- under one key
-
-absent_same : (k : ℕ) (ls : List QueuedPart) → row_at queued_key k ls ≡ None → without queued_key k ls ≡ ls
-absent_same k [] e = refl
-absent_same k (l ∷ ls) e = ⊎_elim
-    (λ (h : queued_key l ≡ k). let bad : Some l ≡ None = sym (row_here queued_key k l ls h) ∙ e in absurd cc)
-    (λ (h : queued_key l ≡ k → ⊥). without_behind queued_key k l ls h ∙ ap (λ (r : List QueuedPart). l ∷ r) (absent_same k ls (sym (row_behind queued_key k l ls h) ∙ e)))
-    (cases_eq (queued_key l) k)
 
 -- nothing waits under the key for other handsets
 abbrev pub NoneElse : ℕ → List ℕ → (List ℕ → Option QueuedPart) → (List ℕ → List QueuedPart) → Type 0

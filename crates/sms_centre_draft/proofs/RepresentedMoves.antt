@@ -1,6 +1,6 @@
 -- What is represented after a move of the rows.
 use Rattle.std.proofs.Common.{◌≡◌, ℕ, ◌≤◌, List, Bool, true, false, Option, Some, refl, sym, ◌∙◌, ap, subst, ⊎_elim}
-use Rattle.std.specs.Prelude.{◌&&◌, max, not}
+use Rattle.std.specs.Prelude.{◌&&◌, max, nat_le, not}
 use Rattle.sms_base.specs.declared.final_state.FinalState.{FinalState}
 use Rattle.sms_base.specs.declared.originator.Originator.{Originator}
 use Rattle.sms_base.specs.declared.originator.Originator.TheVariants.{Application, Handset}
@@ -23,6 +23,7 @@ use Rattle.sms_receipt.specs.StatusReports.{status_octets}
 use Rattle.sms_centre_rows.specs.declared.waiting.queued_part.QueuedPart.{QueuedPart}
 use Rattle.sms_centre_rows.specs.declared.waiting.progress.Progress.{Progress}
 use Rattle.sms_centre_rows.specs.declared.waiting.handset.HandsetRow.{HandsetRow}
+use Rattle.sms_centre_queue.specs.queue.FreeReferences.{free_references}
 use Rattle.sms_centre_rows.specs.waiting.Keys.{queued_key}
 use Rattle.sms_centre_rows.specs.waiting.Links.{Links}
 use Rattle.sms_centre_rows.specs.waiting.References.{Allocations, give, handset_at, handset_of, handsets_of, next_reference, references_of}
@@ -37,6 +38,7 @@ use Rattle.sms_centre_spec.specs.declared.answer.CentreAnswer.{CentreAnswer}
 use Rattle.sms_centre_spec.specs.CentreEvent.{at_moment}
 use Rattle.sms_centre_spec.specs.Ends.{make_report, status_given}
 use Rattle.sms_centre_spec.specs.Finals.{final_of}
+use Rattle.sms_centre_draft.specs.Room.{free_for}
 use Rattle.sms_centre_spec.specs.Submitting.{reference_for}
 use Rattle.sms_centre_spec.proofs.NextNumbers.{among_amended, no_report}
 use Rattle.sms_centre_spec.proofs.SteadyTimes.{report_none}
@@ -125,17 +127,10 @@ quiet_represented d w m f kind closed reports represents can quiet tells =
 pub account_told : (f : FinalState) (m : MessageRow) (account : List ℕ) (s : Store) → IsUnreported f m s → m.originator ≡ Application account → account_in (message_at m.id (messages_in s)) ≡ Some account
 account_told f m account s can is = ap (λ (o : Option MessageRow). account_in o) can.there ∙ ap (λ (o : Originator). account_of o) is
 
--- the handset of a message that ended has a number, and so has the one that submitted it
+-- the handset that submitted a message which ended has a number
 pub told_number : (f : FinalState) (m : MessageRow) (n : ℕ) (d : Draft) (w : CentreDraftOf) → Represents d w → IsUnreported f m d.store → m.originator ≡ Handset n → IsNumber m.source.digits
 told_number f m n d w represents can is =
     subst (λ (o : Originator). HasReportAddress o m.source) is (represents.consistent.report_addresses (ended f d.store.moment m) (found_among message_key m.id (ended f d.store.moment m) (messages_in d.store) can.there))
-
-pub handset_number : (m : MessageRow) (d : Draft) (w : CentreDraftOf) → Represents d w → message_at m.id (messages_in d.store) ≡ Some m → IsNumber m.handset
-handset_number m d w represents there = represents.consistent.held.numbers m (found_among message_key m.id m (messages_in d.store) there)
-
-pub ended_number : (f : FinalState) (m : MessageRow) (d : Draft) (w : CentreDraftOf) → Represents d w → IsUnreported f m d.store → IsNumber m.handset
-ended_number f m d w represents can =
-    represents.consistent.held.numbers (ended f d.store.moment m) (found_among message_key m.id (ended f d.store.moment m) (messages_in d.store) can.there)
 
 -- the next reference of the handset, as the queues tell it
 pub next_told : (number : List ℕ) (o : Option ℕ) (d : Draft) (w : CentreDraftOf) → Represents d w → o ≡ next_reference (handset_of number (handsets_in d.store)) (all_waiting d.store number) (references_in d.store) w.moment
@@ -145,6 +140,12 @@ next_told number o d w represents is =
     let fits = row_fits number (handsets_in d.store) (handset_at number (handsets_in d.store)) represents.consistent.held.allocations.handset_keys represents.consistent.held.allocations.apart refl in
     ap (λ (n : List ℕ). next_reference h (waiting_in n d.store) (references_in d.store) d.store.moment) fits.1
     ∙ ap (λ (n : ℕ). next_reference h (all_waiting d.store number) (references_in d.store) n) (sym represents.moment) ∙ sym is
+
+-- whether so many are free, as the queues tell it
+pub free_told : (number : List ℕ) (parts : ℕ) (b : Bool) (d : Draft) (w : CentreDraftOf) → Represents d w
+    → b ≡ nat_le parts (free_references (handset_of number (handsets_in d.store)) (all_waiting d.store number) (references_in d.store) w.moment) → b ≡ nat_le parts (free_for number d.store)
+free_told number parts b d w represents is =
+    is ∙ ap (λ (n : ℕ). nat_le parts (free_references (handset_of number (handsets_in d.store)) (all_waiting d.store number) (references_in d.store) n)) represents.moment
 
 -- a status report is made, and waits for the handset that submitted the message
 status_row : FinalState → MessageRow → ℕ → Store → ReportRow

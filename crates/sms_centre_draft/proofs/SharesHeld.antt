@@ -6,7 +6,8 @@ use Rattle.sms_centre_messages.specs.references.Counts.{one_if}
 use Rattle.sms_centre_rows.specs.declared.messages.message.MessageRow.{MessageRow}
 use Rattle.sms_centre_rows.specs.messages.Messages.{message_at}
 use Rattle.sms_centre_rows.specs.declared.waiting.queued_part.QueuedPart.{QueuedPart}
-use Rattle.sms_centre_spec.specs.Shares.{held_by, held_by_others, holds_too_much, is_of_account}
+use Rattle.sms_centre_spec.specs.Shares.{held_by, held_by_others, is_of_account}
+use Rattle.sms_centre_draft.specs.Room.{would_hold_too_much}
 
 -- an own one is counted in one of two numbers
 apart : (b : Bool) (own others all : ℕ) → own + others ≡ all → (if b then 1 + own else own) + (if b then others else 1 + others) ≡ 1 + all
@@ -23,21 +24,21 @@ all_held account ms (l ∷ ls) =
 not_less : (a b : ℕ) → b ≤ a → nat_lt a b ≡ false
 not_less a b e = grind (arith, nat_tests)
 
--- half of them or fewer are held
-pub few_held : (account : List ℕ) (ms : List MessageRow) (waiting : List QueuedPart) → length waiting ≤ 128 → false ≡ holds_too_much account ms waiting
-few_held account ms waiting few =
+-- with those that come half of them or fewer are held
+pub few_held : (account : List ℕ) (ms : List MessageRow) (waiting : List QueuedPart) (parts : ℕ) → length waiting + parts ≤ 128 → false ≡ would_hold_too_much account parts ms waiting
+few_held account ms waiting parts few =
     let own : ℕ = held_by account ms waiting in
     let others : ℕ = held_by_others account ms waiting in
     let both = all_held account ms waiting in
-    sym (not_less (256 - others) (2 * own) (omega (arith, few, both)))
+    sym (not_less (256 - others) (2 * (own + parts)) (omega (arith, few, both)))
 
 -- the count of all and of its own tells
-pub many_held : (account : List ℕ) (ms : List MessageRow) (waiting : List QueuedPart) (own all : ℕ) (b : Bool) → own ≡ held_by account ms waiting → all ≡ length waiting
-    → b ≡ nat_lt (256 - (all - own)) (2 * own) → b ≡ holds_too_much account ms waiting
-many_held account ms waiting own all b is counts tells =
+pub many_held : (account : List ℕ) (ms : List MessageRow) (waiting : List QueuedPart) (parts own all : ℕ) (b : Bool) → own ≡ held_by account ms waiting → all ≡ length waiting
+    → b ≡ nat_lt (256 - (all - own)) (2 * (own + parts)) → b ≡ would_hold_too_much account parts ms waiting
+many_held account ms waiting parts own all b is counts tells =
     let both = all_held account ms waiting in
     let others : all - own ≡ held_by_others account ms waiting = omega (arith, both, is, counts) in
-    tells ∙ ap (λ (n : ℕ). nat_lt (256 - n) (2 * own)) others ∙ ap (λ (n : ℕ). nat_lt (256 - held_by_others account ms waiting) (2 * n)) is
+    tells ∙ ap (λ (n : ℕ). nat_lt (256 - n) (2 * (own + parts))) others ∙ ap (λ (n : ℕ). nat_lt (256 - held_by_others account ms waiting) (2 * (n + parts))) is
 
 -- ---- one more is looked at
 

@@ -7,3 +7,5 @@ pub mod Beginning
 pub mod Aging
 pub mod walks
 pub mod Forgetting
+pub mod Room
+pub mod Judging

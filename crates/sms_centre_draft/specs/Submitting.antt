@@ -24,9 +24,9 @@ pub record CanGive (id : ℕ) (u : Submission) (number : ℕ) (s : Store) : Type
   pub first : 0 < number
   pub not_given : (n : ℕ) → number ≤ n → n < 256 → part_at id n (parts_in s) ≡ None
 
--- It was accepted, and the draft with it is represented; or it can't be.
+-- It was accepted, and the draft with it is represented; or it can't be, and nothing has changed.
 abbrev pub Accepts : Option Store → Draft → CentreDraftOf → Bool → Type 0
 Accepts None d w true = ⊥
-Accepts None d w false = Unit {0}
+Accepts None d w false = Represents d w
 Accepts (Some s) d w true = Represents (in_store s d) w
 Accepts (Some s) d w false = ⊥

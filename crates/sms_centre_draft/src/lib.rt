@@ -10,14 +10,15 @@
 //! - `asking`: questions over many handsets or reports, and receipts that are sent
 //! - `ends`: how a message ends, and its report
 //! - `forgetting`: messages that leave the centre
+//! - `laws`: laws: a submission ends as the rows before it judge it
 //! - `links`: links that are lost, and timers that fire
 //! - `moves`: one change of what the centre keeps, each
 //! - `orders`: an operator's retry: all of a message that waits becomes due
 //! - `receiving`: everything that waits for a handset is due now (3GPP TS 24.011 7.3.2)
 //! - `rows`: rows that change
 //! - `sessions`: what sessions do with receipts
-//! - `shares`: how many of a handset's references an account holds
-//! - `queues`: what waits until another moment, and what waits for the source of a message
+//! - `shares`: how many of a handset's references are free, and how many an account holds
+//! - `queues`: moves of the queues by the numbers of handsets
 //! - `submitting`: a submission becomes a message with all its parts, or nothing
 //! - `transfers`: how a transfer to a handset ends (3GPP TS 24.011 8.2.5.4)
 //! - `walks`: laws: walks over everything are walks over what is found
@@ -30,6 +31,7 @@ mod asking;
 mod centre_draft;
 mod ends;
 mod forgetting;
+pub mod laws;
 mod links;
 mod moves;
 mod orders;

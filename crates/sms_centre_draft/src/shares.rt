@@ -1,14 +1,15 @@
-//! How many of a handset's references an account holds.
-ghost use Rattle.std.specs.Prelude.{◌≡◌, ◌-◌, ◌*◌, ◌≤◌, nat_lt, length, IfOk};
+//! Whether a handset has room for a submission: how many of its references are free, and how many of them an account holds.
+ghost use Rattle.std.specs.Prelude.{◌≡◌, ◌+◌, ◌-◌, ◌*◌, ◌≤◌, nat_le, nat_lt, length, IfOk};
 ghost use Rattle.sms_centre_messages.specs.references.Counts.{one_if as one_if_of};
 ghost use Rattle.sms_centre_rows.specs.messages.Messages.{message_at};
 ghost use Rattle.sms_centre_spec.specs.Draft.{Draft, messages_in, waiting_in};
-ghost use Rattle.sms_centre_spec.specs.Shares.{held_by as held_by_of, holds_too_much as holds_too_much_of, is_of_account as is_of_account_of};
-ghost use Rattle.sms_centre_spec.specs.Shares.{takes_too_much as takes_too_much_of};
+ghost use Rattle.sms_centre_draft.specs.Room.{free_for, has_room as has_room_of, would_hold_too_much as would_hold_too_much_of};
+ghost use Rattle.sms_centre_draft.specs.Room.{would_take_too_much as would_take_too_much_of};
+ghost use Rattle.sms_centre_spec.specs.Shares.{held_by as held_by_of, is_of_account as is_of_account_of};
 ghost use Rattle.sms_centre_draft.specs.CentreDraft.{Represents};
 
 use crate::centre_draft::CentreDraft;
-use sms_base::Originator;
+use sms_base::{Msisdn, Originator};
 use sms_centre_rows::messages::MessageRow;
 use sms_centre_rows::waiting::QueuedPart;
 use sms_intake::Submission;
@@ -29,13 +30,15 @@ fn is_of_account(account: &[u8], message: &Option<MessageRow>) -> bool
     }
 }
 
-// Whether so many, of so many in all, are more than half of what is free beside the others.
-fn is_too_much(held: usize, all: usize) -> bool
-    requires { held ≤ all }
-    ensures { result ≡ nat_lt (256 - (all - held)) (2 * held) }
+// Whether so many, of so many in all, and so many more are more than half of what is free beside the others.
+fn is_too_much(held: usize, all: usize, more: usize) -> bool
+    requires held { held ≤ all }
+    requires few { more ≤ 20 }
+    ensures { result ≡ nat_lt (256 - (all - held)) (2 * (held + more)) }
 {
     let free = REFERENCES.saturating_sub(all - held);
-    free.saturating_sub(held) < held
+    let own = held.saturating_add(more);
+    free.saturating_sub(own) < own
 }
 
 fn one_if(is_counted: bool) -> usize
@@ -69,38 +72,72 @@ impl<'a> CentreDraft<'a> {
     }
 
     #[tactic(auto, using(crate::proofs::SharesHeld::many_held))]
-    fn holds_too_many(&self, account: &[u8], waiting: &[QueuedPart]) -> Result<bool, AllocError>
+    fn would_hold_too_many(
+        &self,
+        account: &[u8],
+        waiting: &[QueuedPart],
+        parts: usize,
+    ) -> Result<bool, AllocError>
+        requires few { parts ≤ 20 }
         ensures { (d : Draft) → Represents d self.now
-            → IfOk result (λ is. is ≡ holds_too_much_of account.now (messages_in d.store) waiting.now) }
+            → IfOk result (λ is. is ≡ would_hold_too_much_of account.now parts (messages_in d.store) waiting.now) }
     {
         let held = self.held_by(account, waiting)?;
-        Ok(is_too_much(held, waiting.len()))
+        Ok(is_too_much(held, waiting.len(), parts))
     }
 
     // While half of them or fewer are held, nobody holds too many: messages are not looked up.
     #[tactic(auto, using(crate::proofs::SharesHeld::few_held))]
-    fn holds_too_much(&self, account: &[u8], waiting: &[QueuedPart]) -> Result<bool, AllocError>
+    fn would_hold_too_much(
+        &self,
+        account: &[u8],
+        waiting: &[QueuedPart],
+        parts: usize,
+    ) -> Result<bool, AllocError>
+        requires few { parts ≤ 20 }
         ensures { (d : Draft) → Represents d self.now
-            → IfOk result (λ is. is ≡ holds_too_much_of account.now (messages_in d.store) waiting.now) }
+            → IfOk result (λ is. is ≡ would_hold_too_much_of account.now parts (messages_in d.store) waiting.now) }
     {
-        if waiting.len() <= REFERENCES / 2 {
+        if waiting.len().saturating_add(parts) <= REFERENCES / 2 {
             return Ok(false);
         }
-        self.holds_too_many(account, waiting)
+        self.would_hold_too_many(account, waiting, parts)
     }
 
-    /// Whether the account of the submission holds more than half of the handset's references that are free beside what
-    /// others hold there. A handset's submission has no account.
-    pub fn takes_too_much(&self, submission: &Submission) -> Result<bool, AllocError>
+    // Whether the account of the submission would hold more than half of the handset's references that are free beside what others
+    // hold there. A handset's submission has no account.
+    fn would_take_too_much(&self, submission: &Submission, parts: usize) -> Result<bool, AllocError>
+        requires few { parts ≤ 20 }
         ensures { (d : Draft) → Represents d self.now → IfOk result (λ is. is
-            ≡ takes_too_much_of submission.now.originator (messages_in d.store) (waiting_in submission.now.handset d.store)) }
+            ≡ would_take_too_much_of submission.now.originator parts (messages_in d.store) (waiting_in submission.now.handset d.store)) }
     {
         match &submission.originator {
             Originator::Application { account } => {
                 let waiting = self.waiting(submission.handset)?;
-                self.holds_too_much(account.as_slice(), waiting.as_slice())
+                self.would_hold_too_much(account.as_slice(), waiting.as_slice(), parts)
             }
             Originator::Handset { .. } => Ok(false),
         }
+    }
+
+    // Whether so many of the handset's references are free.
+    fn has_free(&self, number: Msisdn, parts: usize) -> Result<bool, AllocError>
+        ensures { (d : Draft) → Represents d self.now → IfOk result (λ is. is ≡ nat_le parts (free_for number d.store)) }
+    {
+        let is_free = self.queues.has_free(number, self.moment, parts)?;
+        Ok(is_free)
+    }
+
+    /// Whether a reference is free for each of so many parts of the submission, and its account leaves enough of them to others.
+    pub(crate) fn has_room(&self, submission: &Submission, parts: usize) -> Result<bool, AllocError>
+        requires few { parts ≤ 20 }
+        ensures { (d : Draft) → Represents d self.now → IfOk result (λ is. is ≡ has_room_of submission.now parts d.store) }
+    {
+        let has_free = self.has_free(submission.handset, parts)?;
+        if !has_free {
+            return Ok(false);
+        }
+        let takes_too_much = self.would_take_too_much(submission, parts)?;
+        Ok(!takes_too_much)
     }
 }

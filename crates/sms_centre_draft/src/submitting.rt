@@ -1,15 +1,17 @@
-//! A submission that passed all checks becomes a message: a reference for each part, and the parts. All of it or none.
+//! A submission that passed all checks becomes a message: a reference for each part, and the parts. All of it or none: whether it
+//! can is judged before anything changes.
 ghost use Rattle.std.specs.Prelude.{◌≡◌, ◌≤◌, Some, false, IfOk, OnOk, length};
 ghost use Rattle.sms_base.specs.Address.{IsAddress};
 ghost use Rattle.sms_intake.specs.PartBodies.{IsPartData};
 ghost use Rattle.sms_centre_rows.specs.waiting.References.{handset_of};
 ghost use Rattle.sms_centre_rows.specs.waiting.SoundAllocations.{IsNumber};
-ghost use Rattle.sms_centre_spec.specs.Draft.{Draft, handsets_in, in_store, with_given};
+ghost use Rattle.sms_centre_spec.specs.Draft.{Draft, Store, handsets_in, in_store, with_given};
 ghost use Rattle.sms_centre_spec.specs.SoundRows.{HasReportAddress};
 ghost use Rattle.sms_centre_spec.specs.Consistent.{IsSubmission};
 ghost use Rattle.sms_centre_spec.specs.Submitting.{accept_under as accept_under_of, data_coding_of as data_coding_of_text, enter as enter_of};
 ghost use Rattle.sms_centre_spec.specs.Submitting.{give_part as give_part_of, give_parts as give_parts_of, message_of as message_of_submission, put_part_of};
 ghost use Rattle.sms_centre_spec.specs.Submitting.{reference_for};
+ghost use Rattle.sms_centre_spec.specs.Shares.{unless_too_much};
 ghost use Rattle.sms_centre_draft.specs.Submitting.{Accepts, AreBodies, CanGive, IsNewId};
 ghost use Rattle.sms_centre_draft.specs.CentreDraft.{Represents};
 
@@ -110,56 +112,50 @@ impl<'a> CentreDraft<'a> {
         Ok(())
     }
 
-    // The next reference for the part; false where none is free.
+    // The next reference for the part, where one is free.
     fn give_part(
         &mut self,
         id: MessageId,
         submission: &Submission,
         number: u8,
         body: &SinglePart,
-    ) -> Result<bool, AllocError>
+    ) -> Result<(), AllocError>
         requires address { IsAddress submission.now.source }
         requires user_data { IsPartData body.now }
-        ensures { (d : Draft) → Represents d self.old → CanGive id submission.now number d.store → number ≤ 20
-            → IfOk result (Accepts (give_part_of id submission.now number body.now
-            (handset_of submission.now.handset (handsets_in d.store)) d.store) d self.new) }
+        ensures { (d : Draft) (s : Store) → Represents d self.old → CanGive id submission.now number d.store → number ≤ 20
+            → give_part_of id submission.now number body.now (handset_of submission.now.handset (handsets_in d.store)) d.store ≡ Some s
+            → OnOk result (Represents (in_store s d) self.new) }
     {
         let free = self.next_reference(submission.handset)?;
         match free {
-            Some(reference) => {
-                self.put_part(id, submission, number, body, reference)?;
-                Ok(true)
-            }
-            None => Ok(false),
+            Some(reference) => self.put_part(id, submission, number, body, reference),
+            None => Ok(()),
         }
     }
 
-    // The parts, from number 1 on, all or none.
+    // The parts, from number 1 on, where a reference is free for each.
     fn give_parts(
         &mut self,
         id: MessageId,
         submission: &Submission,
         bodies: &[SinglePart],
-    ) -> Result<bool, AllocError>
+    ) -> Result<(), AllocError>
         requires address { IsAddress submission.now.source }
         requires bodies { AreBodies submission.now bodies.now }
         requires few { length bodies.now ≤ 20 }
-        ensures { (d : Draft) → Represents d self.old → CanGive id submission.now 1 d.store
-            → IfOk result (Accepts (give_parts_of id submission.now 1 bodies.now d.store) d self.new) }
+        ensures { (d : Draft) (s : Store) → Represents d self.old → CanGive id submission.now 1 d.store
+            → give_parts_of id submission.now 1 bodies.now d.store ≡ Some s → OnOk result (Represents (in_store s d) self.new) }
     {
         let mut number: u8 = 0;
         for body in bodies {
             number += 1;
-            let is_given = self.give_part(id, submission, number, body)?;
-            if !is_given {
-                return Ok(false);
-            }
+            self.give_part(id, submission, number, body)?;
         }
-        Ok(true)
+        Ok(())
     }
 
-    /// The message of the submission under that number, with these parts. False where references are free for not all
-    /// of them; then the event is to begin anew.
+    /// The message of the submission under that number, with these parts. False where references are free for not all of them, or where
+    /// its account would hold too many: then nothing changes.
     pub fn accept_under(
         &mut self,
         id: MessageId,
@@ -170,11 +166,16 @@ impl<'a> CentreDraft<'a> {
         requires submission { IsSubmission submission.now }
         requires bodies { AreBodies submission.now bodies.now }
         requires few { length bodies.now ≤ 20 }
-        ensures { (d : Draft) → Represents d self.old → IsNewId id d.store
-            → IfOk result (Accepts (accept_under_of id split bodies.now submission.now d.store) d self.new) }
+        ensures { (d : Draft) → Represents d self.old → IsNewId id d.store → IfOk result
+            (Accepts (unless_too_much submission.now (accept_under_of id split bodies.now submission.now d.store)) d self.new) }
     {
+        let has_room = self.has_room(submission, bodies.len())?;
+        if !has_room {
+            return Ok(false);
+        }
         self.enter(id, split, submission)?;
-        self.give_parts(id, submission, bodies)
+        self.give_parts(id, submission, bodies)?;
+        Ok(true)
     }
 }
 

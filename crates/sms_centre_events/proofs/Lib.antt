@@ -8,7 +8,7 @@ pub mod Quiet
 pub mod FoundMessages
 pub mod TextUnits
 pub mod Doubles
-pub mod SingleTexts
+pub mod SubmitTexts
 pub mod Submits
 pub mod Dropped
 pub mod Numbered

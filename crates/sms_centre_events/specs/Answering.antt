@@ -1,22 +1,18 @@
--- What a unit that a handset sends up leads to.
-use Rattle.std.specs.Prelude.{◌≡◌, ℕ, List}
-use Rattle.sms_base.specs.declared.holder.Holder.{Holder}
-use Rattle.sms_intake.specs.declared.submission.Text.{Text}
-use Rattle.sms_intake.specs.declared.submission.Text.TheVariants.{Whole, Single}
-use Rattle.sms_intake.specs.declared.refusal.SubmitRefusal.TheVariants.{Congested as NoneFree}
-use Rattle.sms_centre_spec.specs.Draft.{Draft}
-use Rattle.sms_centre_spec.specs.Receiving.{refuse}
-use Rattle.sms_centre_events.specs.declared.units.FrameOutcome.{FrameOutcome}
-use Rattle.sms_centre_events.specs.declared.units.FrameOutcome.TheVariants.{Done, Congested}
+-- What becomes of a submission that passed the checks of its own octets.
+use Rattle.std.specs.Prelude.{◌≡◌, ℕ, Option, Some, None}
+use Rattle.sms_base.specs.declared.originator.Originator.{Originator}
+use Rattle.sms_base.specs.declared.originator.Originator.TheVariants.{Application, Handset}
+use Rattle.sms_centre_spec.specs.Draft.{Draft, Store, in_store}
 use Rattle.sms_centre_draft.specs.CentreDraft.{Represents, CentreDraftOf}
 
--- The centre represents the draft that it leads to. Or that draft is the one in which the SUBMIT under that reference is refused for want
--- of references.
-abbrev pub LeadsTo : Draft → List ℕ → Holder → Draft → CentreDraftOf → FrameOutcome → Type 0
-LeadsTo after handset tag d w Done = Represents after w
-LeadsTo after handset tag d w (Congested reference) = after ≡ refuse handset reference tag NoneFree d
+-- It is the message of that number now, and the draft with it is represented. Or it can't be accepted, and nothing has changed.
+abbrev pub AcceptsAs : ℕ → Option Store → Draft → CentreDraftOf → Option ℕ → Type 0
+AcceptsAs number None d w None = Represents d w
+AcceptsAs number None d w (Some id) = ⊥
+AcceptsAs number (Some s) d w None = ⊥
+AcceptsAs number (Some s) d w (Some id) = (id ≡ number) × Represents (in_store s d) w
 
--- one part, whose text has a header of its own or none
-abbrev pub IsSingle : Text → Type 0
-IsSingle (Whole content) = ⊥
-IsSingle (Single part) = Unit {0}
+-- a handset submitted it
+abbrev pub IsOfHandset : Originator → Type 0
+IsOfHandset (Application account) = ⊥
+IsOfHandset (Handset reference) = Unit {0}

@@ -4,10 +4,10 @@
 //! Receipts and offers follow every event, and are in `offering`. The definition walks over all messages,
 //! reports and handsets at a tick; the code walks over those that are found.
 //!
-//! Where numbers or references aren't free for all parts of a submission, the centre is left half changed. The event then
-//! begins anew and refuses the submission (`FrameOutcome::Congested`, `SubmitOutcome::Congested`). What is known as the
-//! event begins answers three questions (`specs/Knowing.antt`). They are whether a SUBMIT is a duplicate, whether a
-//! reference is taken, and which number is next. Nothing earlier in the event changes a message or a part.
+//! A submission is judged before anything changes: whether a number and references are free for all of its parts, too. So no stage
+//! takes back what it did. What is known as the event begins answers three questions (`specs/Knowing.antt`). They are whether a
+//! SUBMIT is a duplicate, whether a reference is taken, and which number is next. Nothing earlier in the event changes a message or a
+//! part.
 //!
 //! - `accepting`: a submission becomes a message
 //! - `accounts`: the accounts of applications
@@ -20,7 +20,6 @@
 //! - `offering`: what is offered to handsets and applications after an event
 //! - `orders`: what an operator orders of a message
 //! - `questions`: query_sm and cancel_sm (SMPP v3.4 4.8, 4.9)
-//! - `single`: a SUBMIT becomes a message of one part
 //! - `sources`: the source and the destination that an application names
 //! - `submitting`: submit_sm (SMPP v3.4 4.4)
 //! - `ticks`: a tick
@@ -40,7 +39,6 @@ mod lines;
 pub mod offering;
 mod orders;
 mod questions;
-mod single;
 mod sources;
 mod submitting;
 mod ticks;
@@ -50,11 +48,10 @@ mod walks;
 
 pub use accounts::account_at;
 pub use binding::bind;
-pub use frames::{frame_refused, frame_taken};
+pub use frames::frame_taken;
 pub use lines::lower;
 pub use orders::order;
 pub use questions::{cancel, query};
-pub use submitting::{SubmitOutcome, submit, submit_refused};
+pub use submitting::submit;
 pub use ticks::tick;
 pub use unfit::{refusal_of_cancel, refusal_of_query};
-pub use units::FrameOutcome;

@@ -1,7 +1,8 @@
 -- Whether a message was reported, by what memory has: the open reports, and the last one of the log.
 use Rattle.std.proofs.Common.{◌≡◌, ℕ, ◌+◌, ◌<◌, List, [], ◌∷◌, map, Bool, true, false, Option, Some, None, refl, sym, ◌∙◌, ap, subst, inl, inr, ⊎_elim, eq-eqb, arith}
-use Rattle.std.specs.Prelude.{◌⊎◌, ◌&&◌, ◌||◌, not, is_some, nat_lt, if◌then◌else◌}
+use Rattle.std.specs.Prelude.{◌⊎◌, ◌&&◌, not, is_some, nat_lt, if◌then◌else◌}
 use Rattle.std.proofs.lemmas.Bool.{cases_eq, le-ltb, lt-ltb, ne_eqb}
+use Rattle.sms_base.proofs.Bools.{or_false}
 use Rattle.sms_base.specs.Among.{Among}
 use Rattle.sms_base.specs.declared.originator.Originator.{Originator}
 use Rattle.sms_base.specs.declared.originator.Originator.TheVariants.{Application, Handset}
@@ -22,10 +23,6 @@ use Rattle.sms_centre_spec.specs.forgetting.Forgetting.{is_reported}
 -- of a sound report
 open_undone : (k : ReportKind) (o : Originator) (m : MessageRow) (r : ReportRow) → r.kind ≡ k → FitsOriginator k o m r → is_open r ≡ not r.progress.is_done
 open_undone Receipt o m r e fits = ap (λ (k : ReportKind). is_open (record r { kind = k })) e ∙ or_false (not r.progress.is_done)
-  where
-    or_false : (b : Bool) → (b || false) ≡ b
-    or_false true = refl
-    or_false false = refl
 open_undone (Status reference tpdu) o m r e fits = ap (λ (k : ReportKind). is_open (record r { kind = k })) e
 open_undone Unsent (Application account) m r e fits = absurd fits
 open_undone Unsent (Handset n) m r e fits = ap (λ (k : ReportKind). is_open (record r { kind = k })) e ∙ sym (ap not fits)

@@ -7,10 +7,12 @@ use Rattle.sms_centre_rows.specs.declared.waiting.handset_link.HandsetLink.{Hand
 use Rattle.sms_centre_rows.specs.declared.waiting.queued_part.QueuedPart.{QueuedPart}
 use Rattle.sms_centre_rows.specs.waiting.Links.{Links, line_of}
 use Rattle.sms_centre_rows.specs.waiting.References.{Allocations, handset_at, handset_of, handsets_of, next_reference, or_new_handset, place_after, references_of}
+use Rattle.sms_centre_queue.specs.queue.FreeReferences.{free_references}
 use Rattle.sms_centre_rows.proofs.waiting.ReferencesRepresented.{next_represented}
 use Rattle.sms_centre_rows.proofs.waiting.LinksRepresented.{line_of_handset}
+use Rattle.sms_centre_queue.proofs.queue.FreeCounted.{free_represented}
 use Rattle.sms_centre_queue.specs.declared.queues.placed_queue.PlacedQueue.{PlacedQueue}
-use Rattle.sms_centre_queue.specs.queues.Queues.{DeliveryQueuesDraftOf, HasNoPlace, at, or_new, placed_of}
+use Rattle.sms_centre_queue.specs.queues.Queues.{DeliveryQueuesDraftOf, HasNoPlace, at, free_at, or_new, placed_of}
 use Rattle.sms_centre_queue.specs.queues.Representing.{DraftRepresents, RepresentsPlaced}
 
 pub asked : (number : List ℕ) (o : Option PlacedQueue) (p : DeliveryQueuesDraftOf) → IsMsisdn number → o ≡ at (digits_key number) p
@@ -41,6 +43,21 @@ asked_reference number o p now digits is g links w represents =
     ∙ sym (next_represented number hs (references_of g) q.queue.given q.queue.waiting q.queue.row now represents.sound (sym one.queue.row) one.queue.given)
     ∙ ap (λ (ls : List QueuedPart). next_reference (or_new_handset number (place_after 1 hs) q.queue.row) ls (references_of g) now) one.queue.all_queued
     ∙ ap (λ (r : Option HandsetRow). next_reference (or_new_handset number (place_after 1 hs) r) (w number) (references_of g) now) one.queue.row
+
+-- as many are free at a queue as of its handset
+pub asked_free : (number : List ℕ) (o : Option PlacedQueue) (p : DeliveryQueuesDraftOf) (now : ℕ) → IsMsisdn number → o ≡ at (digits_key number) p
+    → (g : Allocations) (links : Links) (w : List ℕ → List QueuedPart) → DraftRepresents g links w p
+    → free_at (or_new number o) p.next_place now ≡ free_references (handset_of number (handsets_of g)) (w number) (references_of g) now
+asked_free number o p now digits is g links w represents =
+    let q : PlacedQueue = or_new number o in
+    let hs : List HandsetRow = handsets_of g in
+    let one = asked number o p digits is g links w represents in
+    let handset : q.queue.line.handset ≡ number = ap (λ (l : HandsetLink). l.handset) one.queue.line ∙ line_of_handset number links.lines in
+    ap (λ (n : List ℕ). free_references (or_new_handset n p.next_place q.queue.row) q.queue.waiting q.queue.given now) handset
+    ∙ ap (λ (n : ℕ). free_references (or_new_handset number n q.queue.row) q.queue.waiting q.queue.given now) represents.next_place
+    ∙ sym (free_represented number hs (references_of g) q.queue.given q.queue.waiting q.queue.row now represents.sound (sym one.queue.row) one.queue.given)
+    ∙ ap (λ (ls : List QueuedPart). free_references (or_new_handset number (place_after 1 hs) q.queue.row) ls (references_of g) now) one.queue.all_queued
+    ∙ ap (λ (r : Option HandsetRow). free_references (or_new_handset number (place_after 1 hs) r) (w number) (references_of g) now) one.queue.row
 
 -- no place is left for its handset
 pub asked_place : (number : List ℕ) (p : DeliveryQueuesDraftOf) → IsMsisdn number → HasNoPlace p.next_place (placed_of number p).queue.row

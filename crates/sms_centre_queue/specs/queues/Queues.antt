@@ -11,6 +11,7 @@ use Rattle.sms_centre_rows.specs.declared.waiting.handset_link.HandsetLink.{Hand
 use Rattle.sms_centre_rows.specs.declared.waiting.handset_link.Sent.{Sent}
 use Rattle.sms_centre_rows.specs.declared.waiting.reference.ReferenceRow.{ReferenceRow}
 use Rattle.sms_centre_rows.specs.waiting.Links.{new_line}
+use Rattle.sms_centre_queue.specs.queue.FreeReferences.{free_references}
 use Rattle.sms_centre_rows.specs.waiting.References.{given_row, mentioned, next_reference, or_new_handset}
 use Rattle.sms_centre_rows.specs.waiting.DeliveryQueues.{DeliveryQueueOf}
 use Rattle.sms_centre_queue.specs.declared.queues.placed_queue.PlacedQueue.{PlacedQueue}
@@ -140,3 +141,8 @@ given_to row was reference moment p = record p {
 abbrev pub reference_of : PlacedQueue → ℕ → ℕ → Option ℕ
 reference_of placed next_place now =
     next_reference (or_new_handset placed.queue.line.handset next_place placed.queue.row) placed.queue.waiting placed.queue.given now
+
+-- how many references are free there
+abbrev pub free_at : PlacedQueue → ℕ → ℕ → ℕ
+free_at placed next_place now =
+    free_references (or_new_handset placed.queue.line.handset next_place placed.queue.row) placed.queue.waiting placed.queue.given now

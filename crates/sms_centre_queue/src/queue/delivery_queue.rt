@@ -1,5 +1,5 @@
 //! All that concerns one handset.
-ghost use Rattle.std.specs.Prelude.{◌≡◌, ◌<◌, ◌≤◌, [], length, true, Some, None, IfOk, OnOk};
+ghost use Rattle.std.specs.Prelude.{◌≡◌, ◌<◌, ◌≤◌, nat_le, [], length, true, Some, None, IfOk, OnOk};
 ghost use Rattle.sms_link.specs.LinkTurn.{begun, fired, replied, taken};
 ghost use Rattle.sms_rows.specs.table.Keys.{pair_key};
 ghost use Rattle.sms_rows.specs.table.Table.{row_at};
@@ -7,6 +7,7 @@ ghost use Rattle.sms_centre_rows.specs.waiting.Keys.{queued_key};
 ghost use Rattle.sms_centre_rows.specs.waiting.Links.{emptied, filled, lowered, new_line, raised};
 ghost use Rattle.sms_centre_rows.specs.waiting.References.{AreHeld, following as following_of, is_free as is_free_of, next_reference as next_reference_of};
 ghost use Rattle.sms_centre_rows.specs.waiting.References.{or_new_handset};
+ghost use Rattle.sms_centre_queue.specs.queue.FreeReferences.{free_references as free_references_of};
 ghost use Rattle.sms_centre_rows.specs.waiting.DeliveryQueues.{queue_at_once, queue_given, queue_on, queue_turned, queue_with, queue_withdrawn, queue_without};
 ghost use Rattle.sms_centre_rows.specs.waiting.Waiting.{next as next_of, waits_beside as waits_beside_of};
 ghost use Rattle.sms_centre_queue.specs.queue.Watching.{figures_of};
@@ -208,6 +209,23 @@ impl DeliveryQueue {
             reference = following(reference);
         }
         None
+    }
+
+    /// Whether so many references may be given to the handset of that row, which is this queue's or its first one.
+    #[tactic(auto, using(crate::proofs::queue::FreeCounted::below_none, crate::proofs::queue::FreeCounted::below_grows))]
+    pub fn has_free(&self, row: &HandsetRow, now: Moment, wanted: usize) -> bool
+        ensures { result ≡ nat_le wanted (free_references_of row.now self.now.waiting self.now.given now) }
+    {
+        let held = self.waiting.held_references();
+        let mut free: usize = 0;
+        for reference in 0u16..256 {
+            if wanted <= free {
+                return true;
+            }
+            let is_free = self.is_free(row, now, &held, reference as u8);
+            free += usize::from(is_free);
+        }
+        wanted <= free
     }
 
     // Whether nothing that waits holds it, and it was not given last in this second.

@@ -1,5 +1,5 @@
 //! What an event asks of queues.
-ghost use Rattle.std.specs.Prelude.{◌≡◌, ◌+◌, ℕ, List, [], IfErr, IfOk};
+ghost use Rattle.std.specs.Prelude.{◌≡◌, ◌+◌, ℕ, nat_le, List, [], IfErr, IfOk};
 ghost use Rattle.sms_base.specs.Msisdn.{IsMsisdn};
 ghost use Rattle.sms_rows.specs.table.Keys.{pair_key};
 ghost use Rattle.sms_rows.specs.table.Table.{row_at};
@@ -7,9 +7,10 @@ ghost use Rattle.sms_centre_rows.specs.waiting.Keys.{queued_key};
 ghost use Rattle.sms_centre_rows.specs.waiting.Links.{Links, is_ready as is_ready_of, line_of};
 ghost use Rattle.sms_centre_rows.specs.waiting.References.{Allocations, handset_at, handset_of, handsets_of, next_reference as next_reference_of, place_after};
 ghost use Rattle.sms_centre_rows.specs.waiting.References.{references_of};
+ghost use Rattle.sms_centre_queue.specs.queue.FreeReferences.{free_references};
 ghost use Rattle.sms_centre_rows.specs.waiting.Waiting.{next as next_of, waits_beside as waits_beside_of};
 ghost use Rattle.sms_centre_rows.specs.declared.waiting.queued_part.QueuedPart.{QueuedPart as QueuedOf};
-ghost use Rattle.sms_centre_queue.specs.queues.Queues.{HasNoPlace, placed_of, reference_of};
+ghost use Rattle.sms_centre_queue.specs.queues.Queues.{HasNoPlace, free_at, placed_of, reference_of};
 ghost use Rattle.sms_centre_queue.specs.queues.Representing.{DraftRepresents};
 ghost use Rattle.sms_centre_queue.specs.queues.Stops.{found};
 
@@ -124,6 +125,49 @@ impl DeliveryQueuesDraft {
     {
         match self.row_for(placed) {
             Some(row) => Ok(placed.queue.next_reference(&row, now)),
+            None => Err(AllocError),
+        }
+    }
+
+    /// Whether so many references may be given to the handset. The last place of a handset is 4,294,967,295: a later handset gets none.
+    pub fn has_free(&self, number: Msisdn, now: Moment, wanted: usize) -> Result<bool, AllocError>
+        ensures is { IfOk result (λ is. (g : Allocations) (links : Links) (waiting : List ℕ → List QueuedOf) → DraftRepresents g links waiting self.now
+            → is ≡ nat_le wanted (free_references (handset_of number (handsets_of g)) (waiting number) (references_of g) now)) }
+        // It takes no memory: an error says that the handset is new, and that all places are used up.
+        ensures err { IfErr result (λ error. (g : Allocations) (links : Links) (waiting : List ℕ → List QueuedOf) → DraftRepresents g links waiting self.now
+            → HasNoPlace (place_after 1 (handsets_of g)) (handset_at number (handsets_of g))) }
+    {
+        let is_free = self.queue_has_free(number, now, wanted)?;
+        Ok(is_free)
+    }
+
+    fn queue_has_free(&self, number: Msisdn, now: Moment, wanted: usize) -> Result<bool, AllocError>
+        ensures is { IfOk result (λ is. is ≡ nat_le wanted (free_at (placed_of number self.now) self.now.next_place now)) }
+        ensures err { IfErr result (λ error. HasNoPlace self.now.next_place (placed_of number self.now).queue.row) }
+        ensures number { IsMsisdn number }
+    {
+        match self.placed(Key::handset(&number).number()) {
+            Some(placed) => self.has_free_at(placed, now, wanted),
+            None => {
+                let placed = PlacedQueue::new(self.alloc, number);
+                let is_free = self.has_free_at(&placed, now, wanted);
+                drop(placed);
+                is_free
+            }
+        }
+    }
+
+    fn has_free_at(
+        &self,
+        placed: &PlacedQueue,
+        now: Moment,
+        wanted: usize,
+    ) -> Result<bool, AllocError>
+        ensures is { IfOk result (λ is. is ≡ nat_le wanted (free_at placed.now self.now.next_place now)) }
+        ensures err { IfErr result (λ error. HasNoPlace self.now.next_place placed.now.queue.row) }
+    {
+        match self.row_for(placed) {
+            Some(row) => Ok(placed.queue.has_free(&row, now, wanted)),
             None => Err(AllocError),
         }
     }

@@ -239,7 +239,7 @@ fn is_asked(job: &Job, asked: &Request) -> bool {
         (Request::Answered(accepted), Job::DeliverAnswered { is_accepted, .. }) => {
             *is_accepted == *accepted
         }
-        (Request::LinkUp, Job::LinkUp { handset }) => handset.len() == 12,
+        (Request::LinkUp, Job::LinkUp { handset }) => handset.digits().len() == 12,
         (Request::LinkDown, Job::LinkDown) => true,
         (Request::Frame(frame), Job::Frame { octets }) => octets.as_slice() == *frame,
         (Request::Mark, Job::Query { pdu, .. }) => pdu.as_slice().is_empty(),

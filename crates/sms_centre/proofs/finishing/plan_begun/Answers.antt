@@ -1,10 +1,10 @@
-use Rattle.std.proofs.Common.{◌≡◌, ℕ, Err}
+-- plan_begun
+use Rattle.std.proofs.Common.{inr, refl}
 use Rattle.sms_centre_spec.specs.CentreEvent.{follow}
 use Rattle.sms_centre.proofs.ActsFirst.{acted_bars}
-use Rattle.sms_centre.specs.Acting.{acted, congested}
+use Rattle.sms_centre.specs.Acting.{acted}
 use Rattle.sms_centre.specs.Planning.{PlanOf}
-use Rattle.sms_centre.proofs.Stopped.{stops_alike}
-use Rattle.sms_centre_events.proofs.offering.OneOffer.{goes_on}
+use Rattle.sms_centre_events.proofs.offering.OneOffer.{goes_off, goes_on}
 use Rattle.sms_centre.specs.plans.EventOutcome.{IsOutcome}
 use Rattle.sms_centre_draft.specs.CentreDraft.{Represents}
 use Rattle.sms_centre.proofs.finishing.plan_begun.Goals as goal
@@ -18,7 +18,5 @@ returns-in-Ok-clause-outcome g c = λ core rows represents centre_state can hone
 pub returns-in-Err-clause-outcome : goal.returns-in-Err-clause-outcome
 returns-in-Err-clause-outcome g c = λ core rows represents centre_state can honest holds.
     let d = acted c.args.event.now core in
-    let back = c.stopped.ensures.before honest in
-    c.stopped.ensures.outcome core rows (g.B.RowStore.state c.args.bodies.now).refusals centre_state can
-    (stops_alike (Represents (follow d) c.run.new.draft) (Unit {0}) (λ (n : ℕ). d ≡ congested c.args.event.now n core) (λ (n : ℕ). d ≡ congested c.args.event.now n core) (follow d).links.read ((g.B.RowStore.state c.run.new.bodies).holds rows) (g.B.RowStore.state c.run.new.bodies).is_closed (g.B.RowStore.state c.args.bodies.now).refusals (g.B.RowStore.state c.run.new.bodies).refusals (Err c.in-Err.stop) (λ x. tt) (λ n x. x)
-    (c.in-Err.ensures.outcome core rows represents centre_state can back holds)) honest
+    goes_off (λ (u : Unit {0}). Represents (follow d) c.run.new.draft) (λ (p : PlanOf). IsOutcome (follow d) p.plan) (follow d).links.read (follow d).links.read ((g.B.RowStore.state c.run.new.bodies).holds rows) (g.B.RowStore.state c.run.new.bodies).is_closed
+    (g.B.RowStore.state c.args.bodies.now).refusals (g.B.RowStore.state c.args.bodies.now).refusals (g.B.RowStore.state c.run.new.bodies).refusals c.in-Err.error (inr refl) (λ k a. a) (c.in-Err.ensures.outcome core rows represents centre_state can honest holds)

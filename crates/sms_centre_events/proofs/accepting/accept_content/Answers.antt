@@ -1,6 +1,7 @@
 use Rattle.std.proofs.Common.{List, subst, sym, ◌∙◌}
 use Rattle.std.specs.Prelude.{IfOk}
 use Rattle.sms_intake.specs.declared.submission.SinglePart.{SinglePart}
+use Rattle.sms_centre_spec.specs.Shares.{unless_too_much}
 use Rattle.sms_centre_spec.specs.Submitting.{accept_under}
 use Rattle.sms_centre_draft.specs.Submitting.{Accepts}
 use Rattle.sms_centre_events.proofs.Accepted.{content_bodies, few_bodies, same_bodies, text_units}
@@ -21,6 +22,6 @@ accept_under-requires-clause-few c =
 
 pub returns : goal.returns
 returns c = λ d represents fresh.
-    subst (λ (bodies : List SinglePart). IfOk c.accept_under.result (Accepts (accept_under c.args.id c.args.split bodies c.args.submission.now d.store) d c.accept_under.new.self))
+    subst (λ (bodies : List SinglePart). IfOk c.accept_under.result (Accepts (unless_too_much c.args.submission.now (accept_under c.args.id c.args.split bodies c.args.submission.now d.store)) d c.accept_under.new.self))
     (sym (same_bodies c.args.submission.now c.args.content.now c.args.reference c.in_ok-text.text c.as_slice.result.now c.requires.whole c.in_ok-text.ensures (c.as_slice.ensures ∙ c.in_ok-bodies.ensures)))
     (c.accept_under.ensures d represents fresh)

@@ -1,7 +1,8 @@
 use Rattle.std.proofs.Common.{Bool, sym, ◌∙◌, ap}
 use Rattle.std.specs.Prelude.{◌&&◌}
 use Rattle.sms_centre_spec.specs.Receiving.{is_pending_double}
-use Rattle.sms_centre_events.proofs.Doubles.{double_pending, no_double}
+use Rattle.sms_centre_draft.proofs.Verdicts.{no_double}
+use Rattle.sms_centre_events.proofs.Doubles.{double_pending}
 use Rattle.sms_centre_events.proofs.asking.is_duplicate.Goals as goal
 
 pub returns-in-Handset : goal.returns-in-Handset

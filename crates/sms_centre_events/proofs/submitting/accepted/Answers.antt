@@ -1,28 +1,27 @@
-use Rattle.std.proofs.Common.{ℕ, nat_le, Option, None, sym, ◌∙◌, ap, subst}
-use Rattle.std.specs.Prelude.{IfOk}
-use Rattle.std.proofs.lemmas.Bool.{cond-false, cond-true}
-use Rattle.sms_centre_spec.specs.Draft.{Draft, Store, rows_of}
+-- accepted
+use Rattle.std.proofs.Common.{ℕ, Option, subst}
+use Rattle.sms_centre_spec.specs.Draft.{in_store, rows_of}
 use Rattle.sms_centre_spec.specs.MessageNumbers.{next_number}
-use Rattle.sms_centre_spec.specs.Requests.{accepted}
 use Rattle.sms_centre_spec.specs.Shares.{unless_too_much}
-use Rattle.sms_centre_spec.specs.Submitting.{accept_as}
-use Rattle.sms_centre_events.proofs.Accepted.{next_new, no_number, numbered}
-use Rattle.sms_centre_events.specs.SubmitOutcomes.{LeadsTo}
+use Rattle.sms_centre_spec.specs.Submitting.{accept}
+use Rattle.sms_centre_events.specs.Answering.{AcceptsAs}
+use Rattle.sms_centre_events.proofs.Entered.{not_submitted, submitted}
 use Rattle.sms_centre_events.proofs.submitting.accepted.Goals as goal
 
 pub returns-in-Some : goal.returns-in-Some
 returns-in-Some c = λ d represents knows.
     let u = c.args.submission.now in
-    let n : ℕ = next_number (rows_of d.store) in
-    let is = numbered n c.in-Some.id (nat_le n 9999999999) (sym c.in-Some.is ∙ c.next_number-next.ensures d represents knows.messages) in
-    subst (λ (x : Draft). IfOk c.accepted_as.result (LeadsTo x d c.accepted_as.new.draft))
-    (ap (λ (k : ℕ). accepted k (unless_too_much u (accept_as k u d.store)) d) is.1
-    ∙ ap (λ (o : Option Store). accepted n (unless_too_much u o) d) (sym (cond-true (nat_le n 9999999999) (accept_as n u d.store) None is.0)))
-    (c.accepted_as.ensures d represents knows.reference_index (next_new d c.args.draft.now c.in-Some.id represents is.1))
+    let n = next_number (rows_of d.store) in
+    let o = unless_too_much u (accept u d.store) in
+    submitted d c.accept.new.draft n c.in-Some.id o c.answer.new.self
+    (subst (λ (x : Option ℕ). AcceptsAs n o d c.accept.new.draft x) c.in-Some.is (c.in_ok-becomes.ensures d represents knows))
+    (λ s k. c.answer.ensures (in_store s d) k)
 
 pub returns-in-None : goal.returns-in-None
 returns-in-None c = λ d represents knows.
     let u = c.args.submission.now in
-    let n : ℕ = next_number (rows_of d.store) in
-    let none = no_number n (nat_le n 9999999999) (sym c.in-None.is ∙ c.next_number-next.ensures d represents knows.messages) in
-    ap (λ (o : Option Store). accepted n (unless_too_much u o) d) (cond-false (nat_le n 9999999999) (accept_as n u d.store) None none)
+    let n = next_number (rows_of d.store) in
+    let o = unless_too_much u (accept u d.store) in
+    not_submitted d c.accept.new.draft n o c.refuse.new.draft
+    (subst (λ (x : Option ℕ). AcceptsAs n o d c.accept.new.draft x) c.in-None.is (c.in_ok-becomes.ensures d represents knows))
+    (λ k. c.refuse.ensures d k)

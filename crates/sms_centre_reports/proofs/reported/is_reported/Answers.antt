@@ -1,6 +1,5 @@
-use Rattle.std.proofs.Common.{◌≡◌, Bool, Option, sym, ◌∙◌, ap}
+use Rattle.std.proofs.Common.{List, map, Bool, Option, sym, ◌∙◌, ap}
 use Rattle.std.specs.Prelude.{◌&&◌, is_some, not}
-use Rattle.std.proofs.Common.{List, map}
 use Rattle.sms_centre_reports.specs.declared.open_reports.entry.ReportEntry.{ReportEntry}
 use Rattle.sms_centre_reports.specs.declared.report_log.log.LoggedReport.{LoggedReport}
 use Rattle.sms_centre_reports.specs.report_log.ReportLog.{is_of_last, made_report}

@@ -27,4 +27,4 @@ returns c = λ d represents can few next.
     (c.in_ok-put.ensures (give h c.args.reference w.moment d.store.allocations) d.links (all_waiting d.store) after
     (c.in_ok-give.ensures d.store.allocations d.links (all_waiting d.store) was.queues)
     (subst (λ (k : ℕ). Waits u.handset (put queued_key (record { id = c.args.id; number = c.args.number; reference = c.args.reference; priority = k; due = u.due })) (all_waiting d.store) after) (sym c.level-priority.ensures.value)
-    (given_waits d w c.args.id u c.args.number b c.args.reference was can few)))
+    (given_waits d.store c.args.id u c.args.number b c.args.reference was.consistent.held can few)))

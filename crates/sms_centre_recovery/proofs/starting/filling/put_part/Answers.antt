@@ -26,8 +26,8 @@ returns c =
     (part_waits ms qs p m ps found open_part rises)))
     c.put.ensures
 
-pub returns-then-is_done : goal.returns-then-is_done
-returns-then-is_done c g links ps rises represents =
+pub returns-then-part : goal.returns-then-part
+returns-then-part c g links ps rises represents =
     let t = c.args.tables.now in
     subst (λ (waiting : List ℕ → List QueuedPart). DraftRepresents g links waiting c.args.queues.now)
-    (λ i h. sym (part_done t.messages.rows t.priorities.rows h c.args.part.now ps c.if-is_done.true) i) represents
+    (λ i h. sym (part_done t.messages.rows t.priorities.rows h c.args.part.now ps c.if-part.true) i) represents

@@ -1,8 +1,0 @@
-use Rattle.std.proofs.Common.{inr, refl}
-use Rattle.sms_centre.proofs.finishing.begin_anew.Goals as goal
-
-pub returns-in-Ok-clause-outcome : goal.returns-in-Ok-clause-outcome
-returns-in-Ok-clause-outcome g c = λ core rows centre_state can honest holds. c.plan_anew.ensures.outcome core rows (c.in-Ok.ensures.represented core centre_state) can honest holds
-
-pub returns-in-Err-clause-outcome : goal.returns-in-Err-clause-outcome
-returns-in-Err-clause-outcome g c = λ core rows centre_state can honest holds. (holds, inr refl)

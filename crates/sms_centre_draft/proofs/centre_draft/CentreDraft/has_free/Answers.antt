@@ -1,0 +1,11 @@
+-- has_free
+use Rattle.std.proofs.Common.{sym, subst}
+use Rattle.sms_centre_draft.specs.CentreDraft.{Represents, CentreDraftOf, all_waiting}
+use Rattle.sms_centre_draft.proofs.RepresentedMoves.{free_told}
+use Rattle.sms_centre_draft.proofs.centre_draft.CentreDraft.has_free.Goals as goal
+
+pub returns : goal.returns
+returns c = λ d represents.
+    let w : CentreDraftOf = record { setup = c.self.inside.setup.now; moment = c.self.inside.moment; messages = c.self.inside.messages; queues = c.self.inside.queues; reports = c.self.inside.reports; bindings = c.self.inside.bindings; answer = c.self.inside.answer } in
+    let was : Represents d w = subst (λ (x : CentreDraftOf). Represents d x) (sym c.self.view_is) represents in
+    free_told c.args.number c.args.parts c.in_ok-is_free.is_free d w was (c.in_ok-is_free.ensures.is d.store.allocations d.links (all_waiting d.store) was.queues)
