@@ -53,7 +53,7 @@ fn refuse_earlier<K: KindOfStore, S: Alter>(
 ) -> Result<(), KeepError>
     ensures mode { conn.old.in_transaction ≡ false → conn.new.in_transaction ≡ false }
     ensures clean { HasCleanDisk (state S.Store conn.new) → HasCleanDisk (state S.Store conn.old) }
-    ensures never { OnOk result ⊥ }
+    ensures ok { OnOk result (IsOpened centre_stores (state S.Store conn.old).now (state S.Store conn.new)) }
     ensures err { HasCleanDisk (state S.Store conn.new) → (state S.Store conn.old).now.schema ≡ K.schema
         → IfErr result (λ error. RefusesEarlier K.schema error (state S.Store conn.old).now × IsAsItWas (state S.Store conn.old) (state S.Store conn.new)) }
     ensures stop { (state S.Store conn.old).now.schema ≡ K.schema → LeavesStore centre_stores (state S.Store conn.old) (state S.Store conn.new) }
