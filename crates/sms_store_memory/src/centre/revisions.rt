@@ -4,12 +4,9 @@ ghost use Rattle.std.specs.Prelude.{◌≡◌, IfOk, OnOk};
 use crate::centre::keep::MemoryKeep;
 use crate::preparing::{CopiedChange, copy_changes};
 use sms_base::Listed;
-use sms_centre_rows::messages::{BarRow, MessageRow, PartRow, PriorityRow};
-use sms_centre_rows::reports::ReportRow;
-use sms_centre_rows::waiting::{HandsetRow, ReferenceRow, Revision};
+use sms_centre_rows::waiting::Revision;
 use sms_centre_spec::Changes;
 use sms_rows::memory::CopiedRow;
-use sms_rows::table::Change;
 use std::alloc::{AllocError, Global};
 
 impl<T: Drop + CopiedRow<MemoryKeep>> CopiedChange<MemoryKeep> for Revision<T> {
@@ -31,41 +28,13 @@ impl<T: Drop + CopiedRow<MemoryKeep>> CopiedChange<MemoryKeep> for Revision<T> {
 fn copy_lists(alloc: Global, changes: &Changes, copies: &mut Changes) -> Result<(), AllocError>
     ensures { OnOk result (copies.new ≡ changes.now) }
 {
-    copy_changes::<MemoryKeep, Change<MessageRow>>(
-        alloc,
-        changes.messages.as_slice(),
-        &mut copies.messages,
-    )?;
-    copy_changes::<MemoryKeep, Revision<PartRow>>(
-        alloc,
-        changes.parts.as_slice(),
-        &mut copies.parts,
-    )?;
-    copy_changes::<MemoryKeep, Change<ReferenceRow>>(
-        alloc,
-        changes.references.as_slice(),
-        &mut copies.references,
-    )?;
-    copy_changes::<MemoryKeep, Change<HandsetRow>>(
-        alloc,
-        changes.handsets.as_slice(),
-        &mut copies.handsets,
-    )?;
-    copy_changes::<MemoryKeep, Revision<ReportRow>>(
-        alloc,
-        changes.reports.as_slice(),
-        &mut copies.reports,
-    )?;
-    copy_changes::<MemoryKeep, Change<PriorityRow>>(
-        alloc,
-        changes.priorities.as_slice(),
-        &mut copies.priorities,
-    )?;
-    copy_changes::<MemoryKeep, Change<BarRow>>(
-        alloc,
-        changes.bars.as_slice(),
-        &mut copies.bars,
-    )
+    copy_changes::<MemoryKeep, _>(alloc, changes.messages.as_slice(), &mut copies.messages)?;
+    copy_changes::<MemoryKeep, _>(alloc, changes.parts.as_slice(), &mut copies.parts)?;
+    copy_changes::<MemoryKeep, _>(alloc, changes.references.as_slice(), &mut copies.references)?;
+    copy_changes::<MemoryKeep, _>(alloc, changes.handsets.as_slice(), &mut copies.handsets)?;
+    copy_changes::<MemoryKeep, _>(alloc, changes.reports.as_slice(), &mut copies.reports)?;
+    copy_changes::<MemoryKeep, _>(alloc, changes.priorities.as_slice(), &mut copies.priorities)?;
+    copy_changes::<MemoryKeep, _>(alloc, changes.bars.as_slice(), &mut copies.bars)
 }
 
 /// The changes, copied.
