@@ -1,5 +1,5 @@
 -- What is found of the lists of a handset's store.
-use Rattle.std.proofs.Common.{◌≡◌, List, [], ◌∷◌, sym, ap, ◌∙◌}
+use Rattle.std.proofs.Common.{◌≡◌, List, [], ◌∷◌, Result, Ok, Err, IfErr, IsOk, true≢false, sym, ap, ◌∙◌}
 use Rattle.sqlite.specs.Effect.{Database}
 use Rattle.sms_store_sql.specs.listing.Lists.{FindsList, HoldsList, KnowsList}
 use Rattle.sms_store.specs.keeping.Stores.{HasRows, IsStoreWith}
@@ -53,3 +53,8 @@ module _ (db : Database) where
       let counters_are : counters ≡ rows.counters = ap (first_of counters) (sym one ∙ found_counters setup rows is counted found.1.1.1.1) in
       let set = sym is.1 in
       λ i. record { entries = entries i; last = last i; outbox = outbox i; marks = marks i; counters = counters_are i; setup = set i }
+
+-- what is answered is not refused
+pub never_refused : {X E : Type 0} (r : Result X E) (P : E → Type 0) → IsOk r → IfErr r P
+never_refused (Ok x) P ok = tt
+never_refused (Err e) P ok = absurd (true≢false (sym ok))

@@ -1,7 +1,7 @@
 //! What a handset keeps.
 ghost use Rattle.std.specs.Prelude.{◌≡◌, [], ◌∷◌, IfOk, IsOk, refl};
 ghost use Rattle.sms_store.specs.declared.handset.counters.CountersRow.{CountersRow as CountersRowOf};
-ghost use Rattle.sms_store.specs.handset.HandsetRows.{handset_stores};
+ghost use Rattle.sms_store.specs.handset.HandsetRows.{counters_row, handset_stores};
 ghost use Rattle.sms_store.specs.handset.Types.{changes_in, rows_after};
 ghost use Rattle.sms_store.specs.handset.Lawful.{handset_lawful};
 
@@ -53,8 +53,7 @@ impl Kept for Setup {
 
     fn read<S: Alter>(&self, alloc: Global, conn: &mut Connection<S>) -> Result<Rows, Error> {
         let lists = <Lists as StoredLists<HandsetStore>>::load_all(alloc, conn)?;
-        let counters = counters_in(&lists.1.1.1.1)?;
-        Ok(rows_of(lists, counters, *self))
+        rows_of(lists, *self)
     }
 
     ghost lawful = { handset_lawful };
@@ -73,18 +72,20 @@ fn counters_in(rows: &[CountersRow]) -> Result<Counters, Error>
     Ok(row.counters)
 }
 
-// The rows of the lists.
-fn rows_of(lists: Found, counters: Counters, setup: Setup) -> Rows
-    ensures { result ≡ record { entries = lists.0.items; last = lists.1.0.items; outbox = lists.1.1.0.items; marks = lists.1.1.1.0.items;
-        counters = counters; setup = setup } }
+// The rows of the lists, the counters those of the one row.
+fn rows_of(lists: Found, setup: Setup) -> Result<Rows, Error>
+    ensures found { IfOk result (λ rows. (lists.1.1.1.1.items ≡ counters_row rows.counters ∷ []) × (rows ≡ record { entries = lists.0.items;
+        last = lists.1.0.items; outbox = lists.1.1.0.items; marks = lists.1.1.1.0.items; counters = rows.counters; setup = setup })) }
+    ensures always { (row : CountersRowOf) → lists.1.1.1.1.items ≡ row ∷ [] → IsOk result }
 {
-    let (entries, (last, (outbox, (marks, _)))) = lists;
-    Rows {
+    let (entries, (last, (outbox, (marks, counted)))) = lists;
+    let counters = counters_in(&counted)?;
+    Ok(Rows {
         entries: Listed::from_vec(entries),
         last: Listed::from_vec(last),
         outbox: Listed::from_vec(outbox),
         marks: Listed::from_vec(marks),
         counters,
         setup,
-    }
+    })
 }
