@@ -13,6 +13,7 @@ pub mod Once
 pub mod OneRow
 pub mod Perms
 pub mod Puts
+pub mod Queries
 pub mod Refused
 pub mod Sought
 pub mod Statements

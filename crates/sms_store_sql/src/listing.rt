@@ -28,7 +28,7 @@ mod transaction;
 pub use cause::{load_cause_of, write_cause_of};
 pub use closing::{Health, look_or_close, transact_or_close};
 pub use finding::{FoundRow, find};
-pub use inside::{add, change, make, put, remove, run, run_counted, write};
+pub use inside::{add, change, make, put, query, remove, run, run_counted, write};
 pub use judging::judge;
 pub use keyed::{integer, integer_of, integers_of};
 pub use list::{Counted, StoredRow};

@@ -14,7 +14,7 @@ use sms_centre_rows::messages::PartRow;
 use sms_centre_rows::waiting::Progress;
 use sms_rows::table::Key;
 use sms_store_sql::listing::{
-    Counted, FoundRow, StoredRow, integers_of, octet_at, octets_at, run, run_counted,
+    Counted, FoundRow, StoredRow, integers_of, octet_at, octets_at, query, run, run_counted,
 };
 use sms_store_sql::schema::StoredTable;
 use sms_store_sql::{fields, table};
@@ -72,7 +72,8 @@ impl FoundRow<CentreStore> for PartRow {
 
     fn query<S: Alter>(tx: &mut Transaction<'_, S>, key: Key) -> Result<Vec<Row>, Error> {
         let pair = integers_of(key)?;
-        tx.query_all(
+        query(
+            tx,
             "SELECT message, number, reference, tpdu, concat_bits, concat_reference, concat_total, concat_number, is_done, attempts, due FROM part WHERE message = ?1 AND number = ?2",
             params![&pair.0, &pair.1],
         )

@@ -15,8 +15,8 @@ use sms_centre_rows::reports::ReportRow;
 use sms_centre_rows::waiting::Progress;
 use sms_rows::table::Key;
 use sms_store_sql::listing::{
-    Counted, FoundRow, SoughtRow, StoredRow, integer, integer_of, moment_at, number_at, run,
-    run_counted,
+    Counted, FoundRow, SoughtRow, StoredRow, integer, integer_of, moment_at, number_at, query,
+    run, run_counted,
 };
 use sms_store_sql::schema::StoredTable;
 use sms_store_sql::{fields, table};
@@ -73,7 +73,8 @@ impl FoundRow<CentreStore> for ReportRow {
 
     fn query<S: Alter>(tx: &mut Transaction<'_, S>, key: Key) -> Result<Vec<Row>, Error> {
         let place = integer_of(key)?;
-        tx.query_all(
+        query(
+            tx,
             "SELECT place, message, kind, reference, tpdu, made, is_done, attempts, due FROM report WHERE place = ?1",
             params![&place],
         )
@@ -91,7 +92,8 @@ impl SoughtRow<CentreStore> for ReportRow {
 
     fn query_mark<S: Alter>(tx: &mut Transaction<'_, S>, number: u128) -> Result<Vec<Row>, Error> {
         let message = integer(number)?;
-        tx.query_all(
+        query(
+            tx,
             "SELECT place, message, kind, reference, tpdu, made, is_done, attempts, due FROM report WHERE message = ?1",
             params![&message],
         )
