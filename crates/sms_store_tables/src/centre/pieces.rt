@@ -20,10 +20,10 @@ use sms_base::{FinalState, MessageId, Originator, Wish};
 use sms_centre_rows::reports::ReportKind;
 use sms_centre_rows::waiting::Progress;
 use sms_concat::ConcatKey;
-use sms_store_sql::{fields, named};
 use sms_store_sql::listing::{
     flag_at, is_null_at, moment_at, number_at, octet_at, octets_at, text_at,
 };
+use sms_store_sql::{fields, named};
 use sqlite::{Error, Row};
 
 pub(crate) fn id_at(row: &Row, at: usize) -> Result<MessageId, Error>

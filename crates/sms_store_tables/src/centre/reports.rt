@@ -15,8 +15,8 @@ use sms_centre_rows::reports::ReportRow;
 use sms_centre_rows::waiting::Progress;
 use sms_rows::table::Key;
 use sms_store_sql::listing::{
-    Counted, FoundRow, SoughtRow, StoredRow, integer, integer_of, moment_at, number_at, query,
-    run, run_counted,
+    Counted, FoundRow, SoughtRow, StoredRow, integer, integer_of, moment_at, number_at, query, run,
+    run_counted,
 };
 use sms_store_sql::schema::StoredTable;
 use sms_store_sql::{fields, table};
