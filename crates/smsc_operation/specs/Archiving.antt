@@ -2,6 +2,8 @@
 use Rattle.std.specs.Prelude.{◌≡◌, ℕ, List, Option, Some, IfSome, IsSomeAnd}
 use Rattle.sms_base.specs.declared.final_state.FinalState.{FinalState}
 use Rattle.sms_centre_rows.specs.declared.messages.message.MessageRow.{MessageRow}
+use Rattle.smsc_operation.specs.declared.archive.RunArchive.{RunArchive}
+use Rattle.smsc_operation.specs.declared.logged_archive.LoggedArchive.{LoggedArchive}
 use Rattle.smsc_status.specs.Archive.{Forgotten, archive_text}
 
 -- what its line says of a message that ended so
@@ -25,6 +27,14 @@ pub record IsSoOfLine (Is : List ℕ → Type 0) (m : MessageRow) (parts : ℕ) 
   pub done : m.done ≡ Some ended
   pub final : m.state ≡ Some state
   pub line : Is (archive_text (said_of m parts ended state))
+
+-- where it writes, if anywhere
+abbrev pub ledger_in : {F : Type 0} → RunArchive F → Option F
+ledger_in archive = archive.ledger
+
+-- the archive of the run, if it could be opened
+abbrev pub archive_in : {A R : Type 0} → LoggedArchive A R → Option A
+archive_in logged = logged.archive
 
 -- the ledger has the line, where there is a ledger: a run without one archives nothing
 abbrev pub HasLine : {F : Type 0} → (F → List ℕ → Type 0) → Option F → List ℕ → Type 0

@@ -1,7 +1,7 @@
 //! The file to which a run writes what it forgets: a line of JSON a message, and never a text.
-ghost use Rattle.std.specs.Prelude.{◌≡◌, ℕ, List, IfOk, OnOk};
+ghost use Rattle.std.specs.Prelude.{◌≡◌, ℕ, List, IfErr, IfOk, OnOk, is_some, true};
 ghost use Rattle.smsc_status.specs.Archive.{archive_text};
-ghost use Rattle.smsc_operation.specs.Archiving.{HasLine, IsSoOfLine, said_of};
+ghost use Rattle.smsc_operation.specs.Archiving.{HasLine, IsSoOfLine, ledger_in, said_of};
 
 use crate::ledger::{Ledger, LineFile};
 use sms_base::{FinalState, Moment, Octets};
@@ -70,7 +70,10 @@ fn sync_in<F: Ledger>(ledger: &mut Option<F>) -> Result<(), NotArchived>
     }
 }
 
-fn opened(rt: &HostRuntime, path: Option<&str>) -> io::Result<Option<LineFile>> {
+fn opened(rt: &HostRuntime, path: Option<&str>) -> io::Result<Option<LineFile>>
+    ensures opened { IfOk result (λ ledger. is_some ledger ≡ is_some path.entry) }
+    ensures refused { IfErr result (λ _. is_some path.entry ≡ true) }
+{
     match path {
         Some(path) => {
             let file = LineFile::open(rt, path)?;
@@ -81,8 +84,14 @@ fn opened(rt: &HostRuntime, path: Option<&str>) -> io::Result<Option<LineFile>> 
 }
 
 impl RunArchive<LineFile> {
-    /// The archive at the path, which is made where it is missing. What is there stays.
-    pub fn open(rt: &HostRuntime, path: Option<&str>) -> io::Result<RunArchive<LineFile>> {
+    /// The archive at the path, which is made where it is missing. What is there stays. Without a path it writes nowhere.
+    ///
+    /// # Errors
+    /// The file at the path could not be opened.
+    pub fn open(rt: &HostRuntime, path: Option<&str>) -> io::Result<RunArchive<LineFile>>
+        ensures ledger { IfOk result (λ archive. is_some (ledger_in archive) ≡ is_some path.entry) }
+        ensures refused { IfErr result (λ _. is_some path.entry ≡ true) }
+    {
         Ok(RunArchive {
             alloc: rt.alloc(),
             ledger: opened(rt, path)?,

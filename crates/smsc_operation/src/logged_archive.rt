@@ -1,7 +1,7 @@
 //! The archive of a run, of which the log says how many messages went.
 ghost use Rattle.std.specs.Prelude.{◌≡◌, OnOk};
 ghost use Rattle.sms_centre.specs.Archiving.{Stays};
-ghost use Rattle.smsc_operation.specs.Archiving.{HasMessage};
+ghost use Rattle.smsc_operation.specs.Archiving.{HasMessage, archive_in};
 
 use crate::gone::Gone;
 use crate::logging::Log;
@@ -76,7 +76,9 @@ impl<A: Archive + Drop, R: Wait + Copy> LoggedArchive<A, R> {
         log: Arc<Log<R>>,
         rt: R,
         gone: Option<Arc<Gone>>,
-    ) -> LoggedArchive<A, R> {
+    ) -> LoggedArchive<A, R>
+        ensures { archive_in result ≡ archive }
+    {
         let is_refused = archive.is_none();
         if is_refused {
             say_refused(&*log);

@@ -1,8 +1,8 @@
 -- The numbers of handsets.
-use Rattle.std.proofs.Common.{◌≡◌, ℕ, zero, suc, ◌<◌, ◌≤◌, arith, List, [], ◌∷◌, length, true, false, refl}
+use Rattle.std.proofs.Common.{◌≡◌, ℕ, zero, suc, ◌<◌, ◌≤◌, arith, List, [], ◌∷◌, length, true, false, refl, ap}
 use Rattle.std.specs.Prelude.{nat_eq, not}
 use Rattle.std.specs.List.{AllByRecursion, list_all}
-use Rattle.std.proofs.lemmas.Bool.{and_from, and_parts}
+use Rattle.std.proofs.lemmas.Bool.{and_from, and_parts, ne_eqb}
 use Rattle.sms_base.specs.Msisdn.{AllDigits, IsMsisdn}
 use Rattle.sms_base.specs.SemiOctet.{is_digit}
 use Rattle.smsc_service.specs.Numbers.{is_number}
@@ -31,8 +31,7 @@ all_pass [] h = refl
 all_pass (c ∷ cs) h = and_from (is_digit c) (list_all is_digit cs) h.0 (all_pass cs h.1)
 
 not_zero : (n : ℕ) → 0 < n → not (nat_eq n 0) ≡ true
-not_zero zero h = absurd (omega (arith, h))
-not_zero (suc n) h = refl
+not_zero n h = ap not (ne_eqb n 0 (λ (z : n ≡ 0). omega (arith, h, z)))
 
 pub number_passes : (digits : List ℕ) → IsMsisdn digits → is_number digits ≡ true
 number_passes digits is = and_from (not (nat_eq (length digits) 0)) (list_all is_digit digits) (not_zero (length digits) is.some) (all_pass digits is.each)

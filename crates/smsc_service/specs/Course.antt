@@ -1,5 +1,5 @@
--- A centre in a run, with what it has forgotten so far.
-use Rattle.std.specs.Prelude.{ℕ, List, [], ◌∷◌, ◌++◌, if◌then◌else◌}
+-- A centre in a run, with what it has forgotten so far, and how long it keeps the rest.
+use Rattle.std.specs.Prelude.{ℕ, List, [], ◌∷◌, ◌++◌, Option, if◌then◌else◌}
 use Rattle.sms_centre.specs.Archiving.{parts_in}
 use Rattle.sms_centre_rows.specs.declared.messages.message.MessageRow.{MessageRow}
 use Rattle.sms_centre_rows.specs.messages.SplitReferences.{is_among}
@@ -26,10 +26,12 @@ pub record Course : Type 0 where
   pub serving : Serving
   -- the messages that it forgot since the run began, each as it was then
   pub gone : List Gone
+  -- for how many seconds it keeps what has ended, if it forgets anything
+  pub kept : Option ℕ
 
 -- a run begins
-abbrev pub begun : Serving → Course
-begun s = record { serving = s; gone = [] }
+abbrev pub begun : Option ℕ → Serving → Course
+begun kept s = record { serving = s; gone = []; kept = kept }
 
 -- how many parts the rows have of the message with this number
 abbrev pub parts_of : ℕ → Rows → ℕ
@@ -53,9 +55,9 @@ went_for (Enrol account) fate s = []
 abbrev pub went : Serving → Stimulus Job → Fate → List Gone
 went s stimulus fate = went_for (asked_by s.seats stimulus) fate s
 
--- it gives what the centre gives
+-- It gives what the centre gives. Nothing changes how long it keeps what has ended.
 abbrev pub gives : Course → Stimulus Job → Fate → List (Out Reply)
 gives c stimulus fate = serving_gives c.serving stimulus fate
 
 abbrev pub after : Course → Stimulus Job → Fate → Course
-after c stimulus fate = record { serving = serving_after c.serving stimulus fate; gone = went c.serving stimulus fate ++ c.gone }
+after c stimulus fate = record { serving = serving_after c.serving stimulus fate; gone = went c.serving stimulus fate ++ c.gone; kept = c.kept }

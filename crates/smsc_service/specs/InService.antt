@@ -14,6 +14,7 @@ use Rattle.smsc_service.specs.Course.{Course, Gone}
 use Rattle.smsc_service.specs.InSeated.{IsMadeBy, accounts_in, held_by}
 use Rattle.smsc_service.specs.Seats.{seats_in}
 use Rattle.smsc_service.specs.Serving.{IsWaiting, Serving, restarted}
+use Rattle.smsc_service.specs.Sparing.{archive_of, errands_of, kept_by}
 
 module _ {K A : Type 0} where
   -- the store of its rows
@@ -22,7 +23,7 @@ module _ {K A : Type 0} where
 
   -- the archive of what it forgets
   abbrev pub archive_in : Service K A → A
-  archive_in service = service.errands.archive
+  archive_in service = archive_of (errands_of service)
 
   -- the calls that were refused
   abbrev pub refusals_of : Service K A → Refusals
@@ -80,6 +81,8 @@ module _ {K A : Type 0} (state : K → KeepState Rows) (keeps : A → MessageRow
     pub archived : HasArchived keeps service s.gone
     -- if the group is refused
     pub left : HasArchived keeps service r.gone
+    -- it keeps what has ended so long, also if the group is refused
+    pub kept : (kept_by service ≡ s.kept) × (kept_by service ≡ r.kept)
 
   abbrev pub IsRunAs : Service K A → Course → Type 0
   IsRunAs service s = IsRunning service s s

@@ -6,6 +6,7 @@ use Rattle.sms_keeper.specs.declared.machine.Errand.{Errand}
 use Rattle.sms_keeper.specs.declared.machine.Errand.TheVariants.{Forget, Retry, Delete, Enrol}
 use Rattle.sms_keeper.specs.declared.machine.Stimulus.{Stimulus}
 use Rattle.sms_keeper.specs.declared.machine.Stimulus.TheVariants.{Job as OfSeat, Tick, Own}
+use Rattle.smsc_service.specs.declared.errands.Errands.{Errands}
 use Rattle.smsc_service.specs.declared.service.Service.{Service}
 
 -- To forget is no order of its owner.
@@ -51,11 +52,30 @@ Behind (Own (Retry id)) Forgot Same = Same
 Behind (Own (Delete id)) Forgot Same = Same
 Behind (Own (Enrol account)) Forgot Same = Same
 
+-- ---- what a service has of this
+
+module _ {A : Type 0} where
+  -- for how many seconds they keep what has ended
+  abbrev pub keep_of : Errands A → Option ℕ
+  keep_of errands = errands.keep
+
+  -- the moment from which on they may forget
+  abbrev pub due_of : Errands A → Option ℕ
+  due_of errands = errands.due
+
+  -- where each message goes before they forget it
+  abbrev pub archive_of : Errands A → A
+  archive_of errands = errands.archive
+
 module _ {K A : Type 0} where
+  -- what it does that no seat asks
+  abbrev pub errands_of : Service K A → Errands A
+  errands_of service = service.errands
+
   -- for how many seconds it keeps what has ended
   abbrev pub kept_by : Service K A → Option ℕ
-  kept_by service = service.errands.keep
+  kept_by service = keep_of (errands_of service)
 
   -- the moment from which on it may forget
   abbrev pub due_in : Service K A → Option ℕ
-  due_in service = service.errands.due
+  due_in service = due_of (errands_of service)

@@ -1,9 +1,9 @@
 //! What a service does that no seat asks.
-ghost use Rattle.std.specs.Prelude.{◌≡◌, IfSome, length};
+ghost use Rattle.std.specs.Prelude.{◌≡◌, IfSome, None, length};
 ghost use Rattle.sms_centre.specs.state.CentreState.{Represents};
 ghost use Rattle.sms_centre_spec.specs.Draft.{Core};
 ghost use Rattle.smsc_service.specs.Outcomes.{told_of_account};
-ghost use Rattle.smsc_service.specs.Sparing.{Behind, Rests, Spares, asked_at, is_due as is_due_of, rest_of};
+ghost use Rattle.smsc_service.specs.Sparing.{Behind, Rests, Spares, archive_of, asked_at, due_of, is_due as is_due_of, keep_of, rest_of};
 
 use crate::order_desk::{OrderDesk, OrderOutcome, outcome_of};
 use sms_base::{MessageId, Moment};
@@ -89,8 +89,12 @@ fn account_outcome(fate: Fate) -> OrderOutcome
 }
 
 impl<A: Archive + Drop> Errands<A> {
-    /// The errands of an owner who orders at that desk.
-    pub fn new(desk: Arc<OrderDesk>, forgetting: Forgetting<A>) -> Errands<A> {
+    /// The errands of an owner who orders at that desk. What is to be forgotten may be at once.
+    pub fn new(desk: Arc<OrderDesk>, forgetting: Forgetting<A>) -> Errands<A>
+        ensures keep { keep_of result ≡ forgetting.keep }
+        ensures archive { archive_of result ≡ forgetting.archive }
+        ensures due { due_of result ≡ None }
+    {
         let Forgetting { keep, archive } = forgetting;
         Errands {
             desk,
@@ -142,6 +146,7 @@ impl<A: Archive + Drop> Errands<A> {
     // The walk goes on from that number after that many seconds. From 0 it begins anew after a longer rest, and so it does where the call
     // was not done.
     fn walk_on(&mut self, before: Moment, next: u64, rest: u64, fate: Fate)
+        ensures keep { self.new.keep ≡ self.old.keep }
         ensures archive { self.new.archive ≡ self.old.archive }
         ensures rests { Rests (asked_at self.old.keep before) rest self.new.due }
     {
@@ -157,6 +162,7 @@ impl<A: Archive + Drop> Errands<A> {
 
     // The order was asked of the centre; so its owner is told, if it is committed.
     fn take_order(&mut self, outcome: OrderOutcome)
+        ensures keep { self.new.keep ≡ self.old.keep }
         ensures archive { self.new.archive ≡ self.old.archive }
         ensures due { self.new.due ≡ self.old.due }
     {
@@ -174,6 +180,7 @@ impl<A: Archive + Drop> Errands<A> {
         next: u64,
         rest: u64,
     )
+        ensures keep { self.new.keep ≡ self.old.keep }
         ensures archive { self.new.archive ≡ self.old.archive }
         ensures pace { Behind stimulus.now (λ before. Rests (asked_at self.old.keep before) rest self.new.due) (self.new.due ≡ self.old.due) }
     {
@@ -189,6 +196,7 @@ impl<A: Archive + Drop> Errands<A> {
 
     /// The group is committed, or refused: whoever ordered something is told what came of it.
     pub(crate) fn tell(&mut self, is_committed: bool)
+        ensures keep { self.new.keep ≡ self.old.keep }
         ensures archive { self.new.archive ≡ self.old.archive }
         ensures due { self.new.due ≡ self.old.due }
     {

@@ -7,6 +7,7 @@ ghost use Rattle.smsc_service.specs.Accounts.{bare};
 ghost use Rattle.smsc_service.specs.Seats.{nobody};
 ghost use Rattle.smsc_service.specs.Serving.{restarted};
 ghost use Rattle.smsc_service.specs.InService.{IsServedBy, archive_in, store_in};
+ghost use Rattle.smsc_service.specs.Sparing.{kept_by};
 
 use crate::cutoff::Cutoff;
 use crate::errands::{Errands, Forgetting};
@@ -68,11 +69,12 @@ pub fn serve_with<K: CentreStore + Drop, A: Archive + Drop, R, W: FnOnce(&mut Se
 ) -> Result<(R, K, A), StartError>
     requires { W.IsAlwaysCallable work }
     // What is given is what the work gives of a service on the rows of the keep, with the accounts, and the keep and the archive as the work left them.
+    // The service keeps what has ended for as many seconds as it is told.
     ensures given { IfOk result (λ given. (lent : _) × (left : _)
         × ((rows : RowsOf) → rows.setup.accounts ≡ accounts.items
         → IfHeld (bare rows) (K.state keep) (K.state (store_in lent)) (IsServedBy K.state lent (restarted rows nobody)))
         × WasHonest (K.state keep) (K.state (store_in lent)) × FnOnceReturnsAtMut W.FnOnce work lent given.0 left × (given.1 ≡ store_in left)
-        × (given.2 ≡ archive_in left)) }
+        × (given.2 ≡ archive_in left) × (kept_by lent ≡ forgetting.keep)) }
 {
     let board = share_of_board(board)?;
     let cutoff = share_of(cutoff)?;

@@ -4,11 +4,12 @@ use crate::seat_map::SeatMap;
 use sms_centre_spec::Rows;
 use std::marker::Model;
 
-/// What a service represents, as contracts see it: a centre between events, which handset and session is at which seat, and
-/// what it forgot since the run began. No value of it is made.
+/// What a service represents, as contracts see it: a centre between events, which handset and session is at which seat,
+/// what it forgot since the run began, and for how many seconds it keeps what has ended. No value of it is made.
 pub struct Served {
     pub rows: Rows,
     pub seat_map: SeatMap,
+    pub keep: Option<u64>,
 }
 
 impl Model for Served {
@@ -18,5 +19,5 @@ impl Model for Served {
 
     ghost Value = { Course };
 
-    ghost view = { λ s. begun (restarted s.rows (seats_in s.seat_map)) };
+    ghost view = { λ s. begun s.keep (restarted s.rows (seats_in s.seat_map)) };
 }

@@ -8,7 +8,7 @@ ghost use Rattle.smsc_service.specs.Seats.{nobody, seats_in};
 ghost use Rattle.smsc_service.specs.Stepping.{OneRefused};
 ghost use Rattle.smsc_service.specs.Serving.{Serving, restarted};
 ghost use Rattle.smsc_service.specs.Course.{after, gives};
-ghost use Rattle.smsc_service.specs.Sparing.{Spares, due_in, kept_by};
+ghost use Rattle.smsc_service.specs.Sparing.{Spares, due_in, errands_of, kept_by};
 ghost use Rattle.smsc_service.specs.InService.{HasArchived, HasHonestStore, IfAwaited, IsAwaitedBy, IsBroken, IsRefusedBy, IsRunning, IsServedBy};
 ghost use Rattle.smsc_service.specs.InService.{archive_in, refusals_of, store_in};
 
@@ -99,6 +99,7 @@ impl<K: CentreStore + Drop, A: Archive + Drop> Service<K, A> {
         ensures seat_map { result.seated.seat_map ≡ seat_map }
         ensures resumed { result.resumed ≡ resumed }
         ensures accounts { result.accounts ≡ accounts }
+        ensures errands { result.errands ≡ errands }
     {
         Service {
             seated: SeatedCentre {
@@ -132,6 +133,7 @@ impl<K: CentreStore + Drop, A: Archive + Drop> Service<K, A> {
         ensures served { IfOk result (λ service. (rows : RowsOf) → rows.setup.accounts ≡ accounts.items
             → IfHeld (bare rows) (K.state keep) (K.state (store_in service)) (IsServedBy K.state service (restarted rows nobody))) }
         ensures before { IfOk result (λ service. WasHonest (K.state keep) (K.state (store_in service))) }
+        ensures errands { IfOk result (λ service. errands_of service ≡ errands) }
     {
         let Ok((seat_map, resumed)) = empty_maps(alloc) else {
             return Err(StartError::NoMemory);
@@ -200,6 +202,7 @@ impl<K: CentreStore + Drop, A: Archive + Drop> Service<K, A> {
         ensures served { (r : Serving) → IfAwaited K.state r self.old self.new (OnOk result (IsServedBy K.state self.new r)) }
         ensures resumed { self.new.resumed ≡ self.old.resumed }
         ensures archive { archive_in self.new ≡ archive_in self.old }
+        ensures keep { kept_by self.new ≡ kept_by self.old }
         ensures before { HasHonestStore K.state self.new → HasHonestStore K.state self.old }
     {
         let seated = &mut self.seated;
@@ -217,9 +220,9 @@ impl<K: CentreStore + Drop, A: Archive + Drop> Machine<Job, Reply> for Service<K
 
     ghost stands = { λ m s r. IsRunning K.state A.keeps m s r };
 
-    ghost resumes = { λ m r. IsAwaitedBy K.state m r.serving × HasArchived A.keeps m r.gone };
+    ghost resumes = { λ m r. IsAwaitedBy K.state m r.serving × HasArchived A.keeps m r.gone × (kept_by m ≡ r.kept) };
 
-    ghost fails_as = { λ m r. IsRefusedBy m r.serving × HasArchived A.keeps m r.gone };
+    ghost fails_as = { λ m r. IsRefusedBy m r.serving × HasArchived A.keeps m r.gone × (kept_by m ≡ r.kept) };
 
     ghost is_honest = { λ m. HasHonestStore K.state m };
 

@@ -1,5 +1,5 @@
 -- What a run of the server ran.
-use Rattle.std.proofs.Common.{◌≡◌, ◌<◌, ◌≤◌, ℕ, List, Option, None, Result, Ok, Err, IfOk, ap, subst, sym, ◌∙◌}
+use Rattle.std.proofs.Common.{◌≡◌, ◌<◌, ◌≤◌, ℕ, List, Option, None, Result, Ok, Err, IfOk, ap, refl, subst, sym, ◌∙◌}
 use Rattle.sms_rows.specs.keep.KeepState.{KeepState}
 use Rattle.sms_rows.specs.keep.StoreOutcome.{IfHeld, WasHonest}
 use Rattle.sms_centre_rows.specs.declared.messages.message.MessageRow.{MessageRow}
@@ -15,6 +15,7 @@ use Rattle.smsc_service.specs.Accounts.{bare}
 use Rattle.smsc_service.specs.InService.{HasHonestStore, IsRunAs, IsServedBy, archive_in, store_in}
 use Rattle.smsc_service.specs.Seats.{nobody}
 use Rattle.smsc_service.specs.Serving.{Serving, after, gives, restarted}
+use Rattle.smsc_service.specs.Sparing.{kept_by}
 use Rattle.std.specs.declared.net.socket_addr.SocketAddr.{SocketAddr}
 use Rattle.smsc_arrivals.specs.Sharing.{of}
 use Rattle.smsc_arrivals.specs.declared.arrival.Arrival.{Arrival}
@@ -57,8 +58,8 @@ module _ {L S : Type 0} (remaining contents : S → Option (List ℕ)) (admitted
     history.2,
     history.3,
     λ rows are is held.
-        let first = begun (restarted rows nobody) in
-        let led = history.4 is first (record { standing = begins rows are (before is) held; archived = λ m none. absurd none; left = λ m none. absurd none }) in
+        let first = begun (kept_by lent) (restarted rows nobody) in
+        let led = history.4 is first (record { standing = begins rows are (before is) held; archived = λ m none. absurd none; left = λ m none. absurd none; kept = (refl, refl) }) in
         let run = is_history history.1 first led.0 led.1.0 in (
           led.0.serving,
           (

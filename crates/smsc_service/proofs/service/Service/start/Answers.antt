@@ -31,3 +31,6 @@ returns-clause-served g c = λ rows is honest holds.
 pub returns-clause-before : goal.returns-clause-before
 returns-clause-before g c = λ honest. subst (λ (k : g.row.K.Denot). (g.K.RowStore.state k).is_honest) c.over-group.ensures.store
     (c.in_ok-centre.ensures.before (subst (λ (k : GroupKeep g.row.K.Denot). (g.K.RowStore.state (store_of k)).is_honest) c.of.ensures.keep honest))
+
+pub returns-clause-errands : goal.returns-clause-errands
+returns-clause-errands g c = c.of.ensures.errands

@@ -8,5 +8,6 @@ returns-clause-gives g c = λ honest r failed. (
   (
     c.refused_with_group.ensures.seats r.serving failed.0,
     archived_still (g.A.Archive.keeps c.args.self.now.errands.archive) (asked_by r.serving.seats c.args.stimulus.now) r.serving r.gone failed.1,
+    failed.2,
   ),
 )

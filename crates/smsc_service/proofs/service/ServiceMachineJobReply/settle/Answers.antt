@@ -33,6 +33,7 @@ returns-in-Ok-clause-settled g c = λ honest s r running.
       };
       archived = archived;
       left = archived;
+      kept = let is = c.tell.ensures.keep ∙ running.kept.0 in (is, is);
     }
 
 pub returns-in-Err-clause-settled : goal.returns-in-Err-clause-settled
@@ -53,6 +54,7 @@ returns-in-Err-clause-settled g c = λ honest s r running.
         };
       },
       running.left,
+      running.kept.1,
     )
 
 pub returns-in-Err-clause-refused : goal.returns-in-Err-clause-refused

@@ -61,6 +61,7 @@ returns-clause-gives g c = λ honest from left running.
             };
             archived = went;
             left = still;
+            kept = (c.note.ensures.keep ∙ running.kept.0, c.note.ensures.keep ∙ running.kept.1);
           })
           (λ refused left_so. (
             record {
@@ -76,6 +77,7 @@ returns-clause-gives g c = λ honest from left running.
               };
             },
             still,
+            c.note.ensures.keep ∙ running.kept.1,
           )),
     )
 
