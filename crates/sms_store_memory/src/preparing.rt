@@ -1,6 +1,6 @@
 //! What a load or a commit needs before it changes anything: copies, put into a list that their owner lends, and room
 //! in a table for the rows that changes bring.
-ghost use Rattle.std.specs.Prelude.{◌≡◌, ◌∷◌, [], ◌++◌, OnOk};
+ghost use Rattle.std.specs.Prelude.{◌≡◌, [], IfOk, OnOk};
 ghost use Rattle.sms_rows.specs.table.Table.{HasRoom};
 
 use sms_base::Listed;
@@ -22,43 +22,49 @@ pub(crate) fn copy_rows<K, T: Drop + CopiedRow<K>>(
     Ok(())
 }
 
-fn add_copy<K, T: Drop + CopiedRow<K>>(
-    alloc: Global,
-    change: &Change<T>,
-    copies: &mut Listed<Change<T>>,
-) -> Result<(), AllocError>
-    ensures { OnOk result (copies.new ≡ copies.old ++ change.now ∷ []) }
-{
-    match change {
-        Change::Put(row) => copies.push(Change::Put(row.copied(alloc)?)),
-        Change::Remove(key) => copies.push(Change::Remove(*key)),
+/// A change of a list that can be copied, in a keep of the kind `K`.
+pub(crate) trait CopiedChange<K> {
+    /// A copy of the change.
+    fn copied(&self, alloc: Global) -> Result<Self, AllocError>
+        ensures { IfOk result (λ copy. copy ≡ self.now) };
+}
+
+impl<K, T: Drop + CopiedRow<K>> CopiedChange<K> for Change<T> {
+    fn copied(&self, alloc: Global) -> Result<Change<T>, AllocError> {
+        match self {
+            Change::Put(row) => {
+                let row = row.copied(alloc)?;
+                Ok(Change::Put(row))
+            }
+            Change::Remove(key) => Ok(Change::Remove(*key)),
+        }
     }
 }
 
-fn add_copies<K, T: Drop + CopiedRow<K>>(
+fn add_copies<K, C: Drop + CopiedChange<K>>(
     alloc: Global,
-    changes: &[Change<T>],
-    copies: &mut Listed<Change<T>>,
+    changes: &[C],
+    copies: &mut Listed<C>,
 ) -> Result<(), AllocError>
     requires { copies.old ≡ [] }
     ensures { OnOk result (copies.new ≡ changes.now) }
 {
     for change in changes {
-        add_copy::<K, T>(alloc, change, copies)?;
+        copies.push(change.copied(alloc)?)?;
     }
     Ok(())
 }
 
 /// Puts copies of the changes in the place of a list.
-pub(crate) fn copy_changes<K, T: Drop + CopiedRow<K>>(
+pub(crate) fn copy_changes<K, C: Drop + CopiedChange<K>>(
     alloc: Global,
-    changes: &[Change<T>],
-    place: &mut Listed<Change<T>>,
+    changes: &[C],
+    place: &mut Listed<C>,
 ) -> Result<(), AllocError>
     ensures { OnOk result (place.new ≡ changes.now) }
 {
     let mut copies = Listed::new(alloc);
-    add_copies::<K, T>(alloc, changes, &mut copies)?;
+    add_copies::<K, C>(alloc, changes, &mut copies)?;
     put(place, copies);
     Ok(())
 }

@@ -1,5 +1,5 @@
 -- What a whole migration makes of a store of an earlier version.
-use Rattle.std.proofs.Common.{◌≡◌, ◌⊎◌, inl, inr, ℕ, IsTrue, List, [], ◌∷◌, refl, sym, ap, subst, ◌∙◌, arith}
+use Rattle.std.proofs.Common.{◌≡◌, ◌⊎◌, inl, inr, ℕ, IsTrue, List, [], ◌∷◌, refl, sym, ap, subst, ◌∙◌}
 use Rattle.std.proofs.lemmas.List.Sorted.{IsPermutation-refl}
 use Rattle.sqlite.specs.Effect.{Database}
 use Rattle.sqlite.specs.Order.{Row}
@@ -25,7 +25,7 @@ use Rattle.sms_store_tables.specs.centre.Completing.{Completes, MakesBars}
 use Rattle.sms_store_migration.specs.Migrating.{Ranks, Renames, Migrates, MigratesSecond}
 use Rattle.sms_store_migration.specs.Versions.{AreStore, IsStore, centre_meta, first_meta, meta_of, second_meta}
 use Rattle.sms_store_migration.specs.Types.{BarRow, Rows, Meta}
-use Rattle.sms_store_migration.proofs.Apart.{free_0, free_2, free_4, free_6, free_8, free_10, free_12, free_15}
+use Rattle.sms_store_migration.proofs.Apart.{stays}
 
 -- what a list holds it holds in the same rows
 moved : {X : Type 0} (l : ListOf X) (rows others : List Row) (xs : List X) → others ≡ rows → Represents l rows xs → Represents l others xs
@@ -56,17 +56,19 @@ pub migrates : (a b c d : Database) → Completes a b → Ranks b c → Renames 
 migrates a b c d p q r rows is =
     let made = p is.schema in
     let ranked = q made.schema made.ranks rows.messages (moved message_list (a.trees 2) (b.trees 2) rows.messages made.others.1.0 is.messages) in
-    let named = r ranked.schema (moved meta_list (a.trees 0) (c.trees 0) (first_meta ∷ []) (ranked.others 0 (λ (e : 0 ≡ 12). omega (arith, e)) free_0 ∙ made.others.0) (said_now first_schema _ _ is.meta)) in
+    let by_rank = stays 12 b c ranked.others in
+    let named = r ranked.schema (moved meta_list (a.trees 0) (c.trees 0) (first_meta ∷ []) (by_rank 0 refl ∙ made.others.0) (said_now first_schema _ _ is.meta)) in
+    let by_name = stays 0 c d named.others in
     record {
       schema = named.schema;
       meta = named.meta;
-      messages = moved message_list (a.trees 2) (d.trees 2) rows.messages (named.others 2 (λ (e : 2 ≡ 0). omega (arith, e)) free_2 ∙ ranked.others 2 (λ (e : 2 ≡ 12). omega (arith, e)) free_2 ∙ made.others.1.0) is.messages;
-      parts = moved part_list (a.trees 4) (d.trees 4) rows.parts (named.others 4 (λ (e : 4 ≡ 0). omega (arith, e)) free_4 ∙ ranked.others 4 (λ (e : 4 ≡ 12). omega (arith, e)) free_4 ∙ made.others.1.1.0) is.parts;
-      references = moved reference_list (a.trees 6) (d.trees 6) rows.references (named.others 6 (λ (e : 6 ≡ 0). omega (arith, e)) free_6 ∙ ranked.others 6 (λ (e : 6 ≡ 12). omega (arith, e)) free_6 ∙ made.others.1.1.1.0) is.references;
-      handsets = moved handset_list (a.trees 8) (d.trees 8) rows.handsets (named.others 8 (λ (e : 8 ≡ 0). omega (arith, e)) free_8 ∙ ranked.others 8 (λ (e : 8 ≡ 12). omega (arith, e)) free_8 ∙ made.others.1.1.1.1.0) is.handsets;
-      reports = moved report_list (a.trees 10) (d.trees 10) rows.reports (named.others 10 (λ (e : 10 ≡ 0). omega (arith, e)) free_10 ∙ ranked.others 10 (λ (e : 10 ≡ 12). omega (arith, e)) free_10 ∙ made.others.1.1.1.1.1.0) is.reports;
-      priorities = moved priority_list (c.trees 12) (d.trees 12) _ (named.others 12 (λ (e : 12 ≡ 0). omega (arith, e)) free_12) ranked.priorities;
-      bars = no_bars rows (d.trees 15) (named.others 15 (λ (e : 15 ≡ 0). omega (arith, e)) free_15 ∙ ranked.others 15 (λ (e : 15 ≡ 12). omega (arith, e)) free_15 ∙ made.bars) is.bars;
+      messages = moved message_list (a.trees 2) (d.trees 2) rows.messages (by_name 2 refl ∙ by_rank 2 refl ∙ made.others.1.0) is.messages;
+      parts = moved part_list (a.trees 4) (d.trees 4) rows.parts (by_name 4 refl ∙ by_rank 4 refl ∙ made.others.1.1.0) is.parts;
+      references = moved reference_list (a.trees 6) (d.trees 6) rows.references (by_name 6 refl ∙ by_rank 6 refl ∙ made.others.1.1.1.0) is.references;
+      handsets = moved handset_list (a.trees 8) (d.trees 8) rows.handsets (by_name 8 refl ∙ by_rank 8 refl ∙ made.others.1.1.1.1.0) is.handsets;
+      reports = moved report_list (a.trees 10) (d.trees 10) rows.reports (by_name 10 refl ∙ by_rank 10 refl ∙ made.others.1.1.1.1.1.0) is.reports;
+      priorities = moved priority_list (c.trees 12) (d.trees 12) _ (by_name 12 refl) ranked.priorities;
+      bars = no_bars rows (d.trees 15) (by_name 15 refl ∙ by_rank 15 refl ∙ made.bars) is.bars;
     }
 
 -- the two steps from version 2
@@ -74,16 +76,17 @@ pub migrates_second : (a b c : Database) → MakesBars a b → Renames 2 b c →
 migrates_second a b c p r rows is =
     let made = p is.schema in
     let named = r made.schema (moved meta_list (a.trees 0) (b.trees 0) (second_meta ∷ []) made.others.0 (said_now second_schema _ _ is.meta)) in
+    let by_name = stays 0 b c named.others in
     record {
       schema = named.schema;
       meta = named.meta;
-      messages = moved message_list (a.trees 2) (c.trees 2) rows.messages (named.others 2 (λ (e : 2 ≡ 0). omega (arith, e)) free_2 ∙ made.others.1.0) is.messages;
-      parts = moved part_list (a.trees 4) (c.trees 4) rows.parts (named.others 4 (λ (e : 4 ≡ 0). omega (arith, e)) free_4 ∙ made.others.1.1.0) is.parts;
-      references = moved reference_list (a.trees 6) (c.trees 6) rows.references (named.others 6 (λ (e : 6 ≡ 0). omega (arith, e)) free_6 ∙ made.others.1.1.1.0) is.references;
-      handsets = moved handset_list (a.trees 8) (c.trees 8) rows.handsets (named.others 8 (λ (e : 8 ≡ 0). omega (arith, e)) free_8 ∙ made.others.1.1.1.1.0) is.handsets;
-      reports = moved report_list (a.trees 10) (c.trees 10) rows.reports (named.others 10 (λ (e : 10 ≡ 0). omega (arith, e)) free_10 ∙ made.others.1.1.1.1.1.0) is.reports;
-      priorities = moved priority_list (a.trees 12) (c.trees 12) rows.priorities (named.others 12 (λ (e : 12 ≡ 0). omega (arith, e)) free_12 ∙ made.others.1.1.1.1.1.1.0) is.priorities;
-      bars = no_bars rows (c.trees 15) (named.others 15 (λ (e : 15 ≡ 0). omega (arith, e)) free_15 ∙ made.empty) is.bars;
+      messages = moved message_list (a.trees 2) (c.trees 2) rows.messages (by_name 2 refl ∙ made.others.1.0) is.messages;
+      parts = moved part_list (a.trees 4) (c.trees 4) rows.parts (by_name 4 refl ∙ made.others.1.1.0) is.parts;
+      references = moved reference_list (a.trees 6) (c.trees 6) rows.references (by_name 6 refl ∙ made.others.1.1.1.0) is.references;
+      handsets = moved handset_list (a.trees 8) (c.trees 8) rows.handsets (by_name 8 refl ∙ made.others.1.1.1.1.0) is.handsets;
+      reports = moved report_list (a.trees 10) (c.trees 10) rows.reports (by_name 10 refl ∙ made.others.1.1.1.1.1.0) is.reports;
+      priorities = moved priority_list (a.trees 12) (c.trees 12) rows.priorities (by_name 12 refl ∙ made.others.1.1.1.1.1.1.0) is.priorities;
+      bars = no_bars rows (c.trees 15) (by_name 15 refl ∙ made.empty) is.bars;
     }
 
 -- a stop inside leaves the trees as they were, or those of the store of version 3

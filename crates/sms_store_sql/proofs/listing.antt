@@ -1,3 +1,4 @@
+pub mod Apart
 pub mod Changed
 pub mod Characters
 pub mod Columns
@@ -12,6 +13,7 @@ pub mod Once
 pub mod OneRow
 pub mod Perms
 pub mod Puts
+pub mod Queries
 pub mod Refused
 pub mod Sought
 pub mod Statements

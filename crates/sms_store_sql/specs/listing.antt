@@ -5,6 +5,7 @@ pub mod Columns
 pub mod Finding
 pub mod Inside
 pub mod Listing
+pub mod Lists
 pub mod Making
 pub mod Meta
 pub mod Reading

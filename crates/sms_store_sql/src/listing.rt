@@ -4,17 +4,20 @@
 //! `write` and `load` store it, and are proved here once for every list. Inside one transaction the table has the list
 //! with its changes. Every other table stays, nothing is committed, and a stop leaves nothing new. `find` gives the row
 //! of one key (`FoundRow`), `seek` those of another number (`SoughtRow`). `load` gives all rows in the order of their
-//! keys. It reads each as it comes, outside a transaction. A whole transaction's changes are a `Work`, what it reads is
-//! a `Lookup`. `transact` and `look` commit all of it or nothing, and a stop inside leaves the database from before or
-//! after. What is read in a transaction or outside one is a `Survey`.
+//! keys. It reads each as it comes, outside a transaction. `load_all` reads some lists one behind another
+//! (`StoredLists`). A whole transaction's changes are a `Work`, what it reads is a `Lookup`. `transact` and `look` commit
+//! all of it or nothing, and a stop inside leaves the database from before or after. What is read in a transaction or
+//! outside one is a `Survey`.
 
 mod cause;
 mod closing;
+mod fields;
 mod finding;
 mod inside;
 mod judging;
 mod keyed;
 mod list;
+mod lists;
 mod loading;
 mod meta;
 mod reading;
@@ -25,10 +28,11 @@ mod transaction;
 pub use cause::{load_cause_of, write_cause_of};
 pub use closing::{Health, look_or_close, transact_or_close};
 pub use finding::{FoundRow, find};
-pub use inside::{add, change, make, put, remove, run, run_counted, write};
+pub use inside::{add, change, make, put, query, remove, run, run_counted, write};
 pub use judging::judge;
 pub use keyed::{integer, integer_of, integers_of};
 pub use list::{Counted, StoredRow};
+pub use lists::{Last, StoredLists, Then};
 pub use loading::{load, load_columns};
 pub use meta::{Meta, StoreKind, kind_at};
 pub use reading::{

@@ -1,15 +1,17 @@
 -- Why a database is refused, step by step.
-use Rattle.std.proofs.Common.{◌≡◌, ◌≢◌, ◌<◌, refl, inl, inr, false, true, Bool, if◌then◌else◌, nat_lt, ℕ, List, [], ◌∷◌, arith, Result, Ok, Err}
+use Rattle.std.proofs.Common.{◌≡◌, ◌≢◌, ◌<◌, refl, inl, inr, false, true, Bool, if◌then◌else◌, nat_lt, ℕ, List, [], ◌∷◌, arith, sym, subst, Result, Ok, Err}
 use Rattle.std.proofs.lemmas.Bool.Decides.{nat_tests}
 use Rattle.sqlite.specs.Effect.{Database}
+use Rattle.sqlite.specs.Schema.{Schema}
 use Rattle.sms_rows.specs.declared.keep.error.KeepError.{KeepError}
 use Rattle.sms_rows.specs.declared.keep.error.KeepError.TheVariants.{OldVersion, NotThisStore}
 use Rattle.sms_store_sql.specs.declared.listing.meta.StoreKind.TheVariants.{Centre}
 use Rattle.sms_store_sql.specs.schema.Judged.{judged, same_kind}
+use Rattle.sms_store_sql.specs.tabled.MetaTable.{meta_list_in}
 use Rattle.sms_store_tables.specs.centre.CentreSchema.{centre_schema, first_schema, second_schema}
 use Rattle.sms_store_tables.specs.centre.MetaList.{first_list, meta_list, second_list}
-use Rattle.sms_store.specs.keeping.Refusing.{RefusesSaid}
-use Rattle.sms_store.specs.centre.Refusing.{SaysNow, SaysFirst, SaysSecond, IsOldNow, IsOtherNow, RefusesNow, IsOld, IsOther, Refuses}
+use Rattle.sms_store.specs.keeping.Refusing.{RefusesSaid, Says}
+use Rattle.sms_store.specs.centre.Refusing.{SaysNow, SaysFirst, SaysSecond, IsOldNow, IsOtherNow, RefusesEarlier, RefusesNow, IsOld, IsOther, Refuses}
 use Rattle.sms_store.specs.centre.Types.{Meta}
 use Rattle.sms_store.proofs.keeping.Openings.{refuses_for}
 
@@ -68,20 +70,20 @@ module _ (wanted least : ℕ) (less : least < wanted) where
   other_judged (m ∷ []) says = other_verdict (same_kind m.kind Centre) (nat_lt wanted m.version) (nat_lt m.version wanted) (nat_lt least m.version) (nat_lt m.version least) (above_over m.version) says
   other_judged (m ∷ other ∷ more) says = refl
 
--- of the tables of version 1
-pub refuses_later_first : (db : Database) → SaysFirst 3 (Ok tt) db → Refuses 3 NotThisStore db
-refuses_later_first db says = inr (inr (inr (record { tables = says.tables; said = λ said held. one_judged 3 1 (omega arith) said (says.said said held) })))
+module _ (tables : Schema) (own : ℕ) (less : own < 3) (db : Database) where
+  abbrev SaysOf : ℕ → Result (Unit {0}) KeepError → Type 0
+  SaysOf version judgement = Says tables (meta_list_in tables) Centre version judgement db
 
-pub refuses_first_now : (db : Database) (error : KeepError) → RefusesSaid first_schema first_list Centre 3 error db → Refuses 3 error db
-refuses_first_now db error h =
-    refuses_for (SaysFirst 3 (Err OldVersion)) (SaysFirst 3 (Err NotThisStore)) (IsOld 3) IsOther db (λ says. inr (inr says))
-    (λ says. inr (inr (inr (record { tables = says.tables; said = λ said held. other_judged 3 1 (omega arith) said (says.said said held) })))) error h
+  refuses_so : (SaysOf 3 (Err OldVersion) → IsOld 3 db) → (SaysOf own (Err NotThisStore) → IsOther db) → (error : KeepError) → RefusesEarlier tables error db → Refuses 3 error db
+  refuses_so old other error (inl h) =
+      refuses_for (λ _. SaysOf 3 (Err OldVersion)) (λ _. SaysOf 3 (Err NotThisStore)) (IsOld 3) IsOther db old
+      (λ says. other (record { tables = says.tables; said = λ said held. other_judged 3 own less said (says.said said held) })) error h
+  refuses_so old other error (inr later) =
+      subst (λ e. Refuses 3 e db) (sym later.0)
+      (other (record { tables = later.1.tables; said = λ said held. one_judged 3 own less said (later.1.said said held) }))
 
--- of those of version 2
-pub refuses_later_second : (db : Database) → SaysSecond 3 (Ok tt) db → Refuses 3 NotThisStore db
-refuses_later_second db says = inr (inr (inl (record { tables = says.tables; said = λ said held. one_judged 3 2 (omega arith) said (says.said said held) })))
+pub refuses_first_now : (db : Database) (error : KeepError) → RefusesEarlier first_schema error db → Refuses 3 error db
+refuses_first_now db = refuses_so first_schema 1 (omega arith) db (λ says. inr (inr says)) (λ says. inr (inr (inr says)))
 
-pub refuses_second_now : (db : Database) (error : KeepError) → RefusesSaid second_schema second_list Centre 3 error db → Refuses 3 error db
-refuses_second_now db error h =
-    refuses_for (SaysSecond 3 (Err OldVersion)) (SaysSecond 3 (Err NotThisStore)) (IsOld 3) IsOther db (λ says. inr (inl says))
-    (λ says. inr (inr (inl (record { tables = says.tables; said = λ said held. other_judged 3 2 (omega arith) said (says.said said held) })))) error h
+pub refuses_second_now : (db : Database) (error : KeepError) → RefusesEarlier second_schema error db → Refuses 3 error db
+refuses_second_now db = refuses_so second_schema 2 (omega arith) db (λ says. inr (inl says)) (λ says. inr (inr (inl says)))

@@ -1,12 +1,12 @@
 -- What the texts that make the tables lead to.
-use Rattle.std.proofs.Common.{◌≡◌, ◌≢◌, [], refl, ◌∙◌, arith}
+use Rattle.std.proofs.Common.{◌≡◌, [], refl, ◌∙◌, false}
 use Rattle.sqlite.specs.Effect.{Database}
 use Rattle.sqlite.specs.State.{State}
-use Rattle.sqlite_rules.specs.Edit.{IsNoIndex}
 use Rattle.sms_rows.specs.table.Table.{put}
 use Rattle.sms_store_sql.specs.schema.Blank.{no_tables}
 use Rattle.sms_store_sql.specs.listing.Inside.{Alters, Ran}
 use Rattle.sms_store_sql.specs.listing.Listing.{ListOf, Represents}
+use Rattle.sms_store_sql.proofs.listing.Apart.{meets}
 use Rattle.sms_store_sql.proofs.listing.Making.{makes}
 use Rattle.sms_store_tables.specs.centre.CentreSchema.{with_meta, with_message, with_part, with_reference, with_handset, first_schema, centre_schema, adds_meta, adds_message, adds_part, adds_reference, adds_handset, adds_report, handset_plan, message_plan, part_plan, reference_plan, report_plan}
 use Rattle.sms_store_tables.specs.centre.MetaList.{meta_list}
@@ -21,7 +21,6 @@ use Rattle.sms_store_migration.specs.Versions.{centre_meta}
 use Rattle.sms_store.specs.keeping.Stores.{Founds}
 use Rattle.sms_store.specs.centre.CentreRows.{centre_stores}
 use Rattle.sms_store_tables.specs.centre.Completing.{Completes}
-use Rattle.sms_store_migration.proofs.Apart.{free_2, free_4, free_6, free_8, free_10, free_12, free_15}
 use Rattle.sms_store.specs.centre.Founding.{HasFirst, HasNext, MakesFirst, MakesNext, Tabulates, Declares}
 use Rattle.sms_store.proofs.keeping.Lists.{holds_none, other_list}
 use Rattle.sms_store_sql.specs.tabled.TablePlan.{made}
@@ -70,20 +69,20 @@ tables_made a b c p q has =
     )
 
 module _ (a b : State) (p : Alters meta_list (put meta_list.key centre_meta) a b) (has : a.now.schema ≡ centre_schema) where
-  blank_still : {X : Type 0} (m : ListOf X) → m.table.tree ≢ 0 → IsNoIndex centre_schema m.table.tree → a.now.trees m.table.tree ≡ [] → Represents m (b.now.trees m.table.tree) []
-  blank_still m apart free none = other_list meta_list centre_schema refl (put meta_list.key centre_meta) a b p m [] has apart free (holds_none m _ none)
+  blank_still : {X : Type 0} (m : ListOf X) → meets centre_schema 0 m.table.tree ≡ false → a.now.trees m.table.tree ≡ [] → Represents m (b.now.trees m.table.tree) []
+  blank_still m apart none = other_list meta_list centre_schema refl (put meta_list.key centre_meta) a b p has m [] apart (holds_none m _ none)
 
 pub declared : (a b : State) → Alters meta_list (put meta_list.key centre_meta) a b → Declares a.now b.now
 declared a b p has first next last setup = record {
   schema = p.schema has;
   meta = p.changed has [] (holds_none meta_list _ first.meta);
-  messages = blank_still a b p has message_list (λ (e : 2 ≡ 0). omega (arith, e)) free_2 first.messages;
-  parts = blank_still a b p has part_list (λ (e : 4 ≡ 0). omega (arith, e)) free_4 first.parts;
-  references = blank_still a b p has reference_list (λ (e : 6 ≡ 0). omega (arith, e)) free_6 next.references;
-  handsets = blank_still a b p has handset_list (λ (e : 8 ≡ 0). omega (arith, e)) free_8 next.handsets;
-  reports = blank_still a b p has report_list (λ (e : 10 ≡ 0). omega (arith, e)) free_10 next.reports;
-  priorities = blank_still a b p has priority_list (λ (e : 12 ≡ 0). omega (arith, e)) free_12 last.priorities;
-  bars = blank_still a b p has bar_list (λ (e : 15 ≡ 0). omega (arith, e)) free_15 last.bars;
+  messages = blank_still a b p has message_list refl first.messages;
+  parts = blank_still a b p has part_list refl first.parts;
+  references = blank_still a b p has reference_list refl next.references;
+  handsets = blank_still a b p has handset_list refl next.handsets;
+  reports = blank_still a b p has report_list refl next.reports;
+  priorities = blank_still a b p has priority_list refl last.priorities;
+  bars = blank_still a b p has bar_list refl last.bars;
 }
 
 pub founded : (a b c : Database) → Tabulates a b → Declares b c → Founds centre_stores a c

@@ -1,9 +1,8 @@
 -- What changes of a list make of the store.
-use Rattle.std.proofs.Common.{◌≡◌, List, [], ◌∷◌, refl, arith}
+use Rattle.std.proofs.Common.{◌≡◌, List, [], ◌∷◌, refl}
 use Rattle.sqlite.specs.State.{State}
 use Rattle.sms_store_sql.specs.listing.Inside.{Alters}
 use Rattle.sms_store_sql.specs.listing.Transaction.{Leads}
-use Rattle.sms_store_migration.proofs.Apart.{free_0, free_2, free_4, free_6, free_8, free_10, free_12, free_15}
 use Rattle.sms_store_tables.specs.centre.CentreSchema.{centre_schema}
 use Rattle.sms_store_tables.specs.centre.BarList.{bar_list}
 use Rattle.sms_store_tables.specs.centre.MetaList.{meta_list}
@@ -24,14 +23,14 @@ messages_turn change old new alters = record {
   inside = alters.inside;
   changed = λ rows h. record {
     schema = alters.schema h.schema;
-    meta = other_list message_list centre_schema refl change old new alters meta_list (centre_meta ∷ []) h.schema (λ (e : 0 ≡ 2). omega (arith, e)) free_0 h.meta;
+    meta = other_list message_list centre_schema refl change old new alters h.schema meta_list (centre_meta ∷ []) refl h.meta;
     messages = alters.changed h.schema rows.messages h.messages;
-    parts = other_list message_list centre_schema refl change old new alters part_list rows.parts h.schema (λ (e : 4 ≡ 2). omega (arith, e)) free_4 h.parts;
-    references = other_list message_list centre_schema refl change old new alters reference_list rows.references h.schema (λ (e : 6 ≡ 2). omega (arith, e)) free_6 h.references;
-    handsets = other_list message_list centre_schema refl change old new alters handset_list rows.handsets h.schema (λ (e : 8 ≡ 2). omega (arith, e)) free_8 h.handsets;
-    reports = other_list message_list centre_schema refl change old new alters report_list rows.reports h.schema (λ (e : 10 ≡ 2). omega (arith, e)) free_10 h.reports;
-    priorities = other_list message_list centre_schema refl change old new alters priority_list rows.priorities h.schema (λ (e : 12 ≡ 2). omega (arith, e)) free_12 h.priorities;
-    bars = other_list message_list centre_schema refl change old new alters bar_list rows.bars h.schema (λ (e : 15 ≡ 2). omega (arith, e)) free_15 h.bars;
+    parts = other_list message_list centre_schema refl change old new alters h.schema part_list rows.parts refl h.parts;
+    references = other_list message_list centre_schema refl change old new alters h.schema reference_list rows.references refl h.references;
+    handsets = other_list message_list centre_schema refl change old new alters h.schema handset_list rows.handsets refl h.handsets;
+    reports = other_list message_list centre_schema refl change old new alters h.schema report_list rows.reports refl h.reports;
+    priorities = other_list message_list centre_schema refl change old new alters h.schema priority_list rows.priorities refl h.priorities;
+    bars = other_list message_list centre_schema refl change old new alters h.schema bar_list rows.bars refl h.bars;
   };
 }
 
@@ -40,14 +39,14 @@ parts_turn change old new alters = record {
   inside = alters.inside;
   changed = λ rows h. record {
     schema = alters.schema h.schema;
-    meta = other_list part_list centre_schema refl change old new alters meta_list (centre_meta ∷ []) h.schema (λ (e : 0 ≡ 4). omega (arith, e)) free_0 h.meta;
-    messages = other_list part_list centre_schema refl change old new alters message_list rows.messages h.schema (λ (e : 2 ≡ 4). omega (arith, e)) free_2 h.messages;
+    meta = other_list part_list centre_schema refl change old new alters h.schema meta_list (centre_meta ∷ []) refl h.meta;
+    messages = other_list part_list centre_schema refl change old new alters h.schema message_list rows.messages refl h.messages;
     parts = alters.changed h.schema rows.parts h.parts;
-    references = other_list part_list centre_schema refl change old new alters reference_list rows.references h.schema (λ (e : 6 ≡ 4). omega (arith, e)) free_6 h.references;
-    handsets = other_list part_list centre_schema refl change old new alters handset_list rows.handsets h.schema (λ (e : 8 ≡ 4). omega (arith, e)) free_8 h.handsets;
-    reports = other_list part_list centre_schema refl change old new alters report_list rows.reports h.schema (λ (e : 10 ≡ 4). omega (arith, e)) free_10 h.reports;
-    priorities = other_list part_list centre_schema refl change old new alters priority_list rows.priorities h.schema (λ (e : 12 ≡ 4). omega (arith, e)) free_12 h.priorities;
-    bars = other_list part_list centre_schema refl change old new alters bar_list rows.bars h.schema (λ (e : 15 ≡ 4). omega (arith, e)) free_15 h.bars;
+    references = other_list part_list centre_schema refl change old new alters h.schema reference_list rows.references refl h.references;
+    handsets = other_list part_list centre_schema refl change old new alters h.schema handset_list rows.handsets refl h.handsets;
+    reports = other_list part_list centre_schema refl change old new alters h.schema report_list rows.reports refl h.reports;
+    priorities = other_list part_list centre_schema refl change old new alters h.schema priority_list rows.priorities refl h.priorities;
+    bars = other_list part_list centre_schema refl change old new alters h.schema bar_list rows.bars refl h.bars;
   };
 }
 
@@ -56,14 +55,14 @@ references_turn change old new alters = record {
   inside = alters.inside;
   changed = λ rows h. record {
     schema = alters.schema h.schema;
-    meta = other_list reference_list centre_schema refl change old new alters meta_list (centre_meta ∷ []) h.schema (λ (e : 0 ≡ 6). omega (arith, e)) free_0 h.meta;
-    messages = other_list reference_list centre_schema refl change old new alters message_list rows.messages h.schema (λ (e : 2 ≡ 6). omega (arith, e)) free_2 h.messages;
-    parts = other_list reference_list centre_schema refl change old new alters part_list rows.parts h.schema (λ (e : 4 ≡ 6). omega (arith, e)) free_4 h.parts;
+    meta = other_list reference_list centre_schema refl change old new alters h.schema meta_list (centre_meta ∷ []) refl h.meta;
+    messages = other_list reference_list centre_schema refl change old new alters h.schema message_list rows.messages refl h.messages;
+    parts = other_list reference_list centre_schema refl change old new alters h.schema part_list rows.parts refl h.parts;
     references = alters.changed h.schema rows.references h.references;
-    handsets = other_list reference_list centre_schema refl change old new alters handset_list rows.handsets h.schema (λ (e : 8 ≡ 6). omega (arith, e)) free_8 h.handsets;
-    reports = other_list reference_list centre_schema refl change old new alters report_list rows.reports h.schema (λ (e : 10 ≡ 6). omega (arith, e)) free_10 h.reports;
-    priorities = other_list reference_list centre_schema refl change old new alters priority_list rows.priorities h.schema (λ (e : 12 ≡ 6). omega (arith, e)) free_12 h.priorities;
-    bars = other_list reference_list centre_schema refl change old new alters bar_list rows.bars h.schema (λ (e : 15 ≡ 6). omega (arith, e)) free_15 h.bars;
+    handsets = other_list reference_list centre_schema refl change old new alters h.schema handset_list rows.handsets refl h.handsets;
+    reports = other_list reference_list centre_schema refl change old new alters h.schema report_list rows.reports refl h.reports;
+    priorities = other_list reference_list centre_schema refl change old new alters h.schema priority_list rows.priorities refl h.priorities;
+    bars = other_list reference_list centre_schema refl change old new alters h.schema bar_list rows.bars refl h.bars;
   };
 }
 
@@ -72,14 +71,14 @@ handsets_turn change old new alters = record {
   inside = alters.inside;
   changed = λ rows h. record {
     schema = alters.schema h.schema;
-    meta = other_list handset_list centre_schema refl change old new alters meta_list (centre_meta ∷ []) h.schema (λ (e : 0 ≡ 8). omega (arith, e)) free_0 h.meta;
-    messages = other_list handset_list centre_schema refl change old new alters message_list rows.messages h.schema (λ (e : 2 ≡ 8). omega (arith, e)) free_2 h.messages;
-    parts = other_list handset_list centre_schema refl change old new alters part_list rows.parts h.schema (λ (e : 4 ≡ 8). omega (arith, e)) free_4 h.parts;
-    references = other_list handset_list centre_schema refl change old new alters reference_list rows.references h.schema (λ (e : 6 ≡ 8). omega (arith, e)) free_6 h.references;
+    meta = other_list handset_list centre_schema refl change old new alters h.schema meta_list (centre_meta ∷ []) refl h.meta;
+    messages = other_list handset_list centre_schema refl change old new alters h.schema message_list rows.messages refl h.messages;
+    parts = other_list handset_list centre_schema refl change old new alters h.schema part_list rows.parts refl h.parts;
+    references = other_list handset_list centre_schema refl change old new alters h.schema reference_list rows.references refl h.references;
     handsets = alters.changed h.schema rows.handsets h.handsets;
-    reports = other_list handset_list centre_schema refl change old new alters report_list rows.reports h.schema (λ (e : 10 ≡ 8). omega (arith, e)) free_10 h.reports;
-    priorities = other_list handset_list centre_schema refl change old new alters priority_list rows.priorities h.schema (λ (e : 12 ≡ 8). omega (arith, e)) free_12 h.priorities;
-    bars = other_list handset_list centre_schema refl change old new alters bar_list rows.bars h.schema (λ (e : 15 ≡ 8). omega (arith, e)) free_15 h.bars;
+    reports = other_list handset_list centre_schema refl change old new alters h.schema report_list rows.reports refl h.reports;
+    priorities = other_list handset_list centre_schema refl change old new alters h.schema priority_list rows.priorities refl h.priorities;
+    bars = other_list handset_list centre_schema refl change old new alters h.schema bar_list rows.bars refl h.bars;
   };
 }
 
@@ -88,14 +87,14 @@ reports_turn change old new alters = record {
   inside = alters.inside;
   changed = λ rows h. record {
     schema = alters.schema h.schema;
-    meta = other_list report_list centre_schema refl change old new alters meta_list (centre_meta ∷ []) h.schema (λ (e : 0 ≡ 10). omega (arith, e)) free_0 h.meta;
-    messages = other_list report_list centre_schema refl change old new alters message_list rows.messages h.schema (λ (e : 2 ≡ 10). omega (arith, e)) free_2 h.messages;
-    parts = other_list report_list centre_schema refl change old new alters part_list rows.parts h.schema (λ (e : 4 ≡ 10). omega (arith, e)) free_4 h.parts;
-    references = other_list report_list centre_schema refl change old new alters reference_list rows.references h.schema (λ (e : 6 ≡ 10). omega (arith, e)) free_6 h.references;
-    handsets = other_list report_list centre_schema refl change old new alters handset_list rows.handsets h.schema (λ (e : 8 ≡ 10). omega (arith, e)) free_8 h.handsets;
+    meta = other_list report_list centre_schema refl change old new alters h.schema meta_list (centre_meta ∷ []) refl h.meta;
+    messages = other_list report_list centre_schema refl change old new alters h.schema message_list rows.messages refl h.messages;
+    parts = other_list report_list centre_schema refl change old new alters h.schema part_list rows.parts refl h.parts;
+    references = other_list report_list centre_schema refl change old new alters h.schema reference_list rows.references refl h.references;
+    handsets = other_list report_list centre_schema refl change old new alters h.schema handset_list rows.handsets refl h.handsets;
     reports = alters.changed h.schema rows.reports h.reports;
-    priorities = other_list report_list centre_schema refl change old new alters priority_list rows.priorities h.schema (λ (e : 12 ≡ 10). omega (arith, e)) free_12 h.priorities;
-    bars = other_list report_list centre_schema refl change old new alters bar_list rows.bars h.schema (λ (e : 15 ≡ 10). omega (arith, e)) free_15 h.bars;
+    priorities = other_list report_list centre_schema refl change old new alters h.schema priority_list rows.priorities refl h.priorities;
+    bars = other_list report_list centre_schema refl change old new alters h.schema bar_list rows.bars refl h.bars;
   };
 }
 
@@ -104,14 +103,14 @@ priorities_turn change old new alters = record {
   inside = alters.inside;
   changed = λ rows h. record {
     schema = alters.schema h.schema;
-    meta = other_list priority_list centre_schema refl change old new alters meta_list (centre_meta ∷ []) h.schema (λ (e : 0 ≡ 12). omega (arith, e)) free_0 h.meta;
-    messages = other_list priority_list centre_schema refl change old new alters message_list rows.messages h.schema (λ (e : 2 ≡ 12). omega (arith, e)) free_2 h.messages;
-    parts = other_list priority_list centre_schema refl change old new alters part_list rows.parts h.schema (λ (e : 4 ≡ 12). omega (arith, e)) free_4 h.parts;
-    references = other_list priority_list centre_schema refl change old new alters reference_list rows.references h.schema (λ (e : 6 ≡ 12). omega (arith, e)) free_6 h.references;
-    handsets = other_list priority_list centre_schema refl change old new alters handset_list rows.handsets h.schema (λ (e : 8 ≡ 12). omega (arith, e)) free_8 h.handsets;
-    reports = other_list priority_list centre_schema refl change old new alters report_list rows.reports h.schema (λ (e : 10 ≡ 12). omega (arith, e)) free_10 h.reports;
+    meta = other_list priority_list centre_schema refl change old new alters h.schema meta_list (centre_meta ∷ []) refl h.meta;
+    messages = other_list priority_list centre_schema refl change old new alters h.schema message_list rows.messages refl h.messages;
+    parts = other_list priority_list centre_schema refl change old new alters h.schema part_list rows.parts refl h.parts;
+    references = other_list priority_list centre_schema refl change old new alters h.schema reference_list rows.references refl h.references;
+    handsets = other_list priority_list centre_schema refl change old new alters h.schema handset_list rows.handsets refl h.handsets;
+    reports = other_list priority_list centre_schema refl change old new alters h.schema report_list rows.reports refl h.reports;
     priorities = alters.changed h.schema rows.priorities h.priorities;
-    bars = other_list priority_list centre_schema refl change old new alters bar_list rows.bars h.schema (λ (e : 15 ≡ 12). omega (arith, e)) free_15 h.bars;
+    bars = other_list priority_list centre_schema refl change old new alters h.schema bar_list rows.bars refl h.bars;
   };
 }
 
@@ -120,13 +119,13 @@ bars_turn change old new alters = record {
   inside = alters.inside;
   changed = λ rows h. record {
     schema = alters.schema h.schema;
-    meta = other_list bar_list centre_schema refl change old new alters meta_list (centre_meta ∷ []) h.schema (λ (e : 0 ≡ 15). omega (arith, e)) free_0 h.meta;
-    messages = other_list bar_list centre_schema refl change old new alters message_list rows.messages h.schema (λ (e : 2 ≡ 15). omega (arith, e)) free_2 h.messages;
-    parts = other_list bar_list centre_schema refl change old new alters part_list rows.parts h.schema (λ (e : 4 ≡ 15). omega (arith, e)) free_4 h.parts;
-    references = other_list bar_list centre_schema refl change old new alters reference_list rows.references h.schema (λ (e : 6 ≡ 15). omega (arith, e)) free_6 h.references;
-    handsets = other_list bar_list centre_schema refl change old new alters handset_list rows.handsets h.schema (λ (e : 8 ≡ 15). omega (arith, e)) free_8 h.handsets;
-    reports = other_list bar_list centre_schema refl change old new alters report_list rows.reports h.schema (λ (e : 10 ≡ 15). omega (arith, e)) free_10 h.reports;
-    priorities = other_list bar_list centre_schema refl change old new alters priority_list rows.priorities h.schema (λ (e : 12 ≡ 15). omega (arith, e)) free_12 h.priorities;
+    meta = other_list bar_list centre_schema refl change old new alters h.schema meta_list (centre_meta ∷ []) refl h.meta;
+    messages = other_list bar_list centre_schema refl change old new alters h.schema message_list rows.messages refl h.messages;
+    parts = other_list bar_list centre_schema refl change old new alters h.schema part_list rows.parts refl h.parts;
+    references = other_list bar_list centre_schema refl change old new alters h.schema reference_list rows.references refl h.references;
+    handsets = other_list bar_list centre_schema refl change old new alters h.schema handset_list rows.handsets refl h.handsets;
+    reports = other_list bar_list centre_schema refl change old new alters h.schema report_list rows.reports refl h.reports;
+    priorities = other_list bar_list centre_schema refl change old new alters h.schema priority_list rows.priorities refl h.priorities;
     bars = alters.changed h.schema rows.bars h.bars;
   };
 }

@@ -1,10 +1,10 @@
--- What a load finds.
-use Rattle.std.proofs.Common.{◌≡◌, List, [], ◌∷◌, sym, ap, subst, ◌∙◌}
+-- What is found of the lists of a handset's store.
+use Rattle.std.proofs.Common.{◌≡◌, List, [], ◌∷◌, Result, Ok, Err, IfErr, IsOk, true≢false, sym, ap, ◌∙◌}
 use Rattle.sqlite.specs.Effect.{Database}
-use Rattle.sms_store_sql.specs.listing.Listing.{ListOf, Represents}
-use Rattle.sms_store.specs.keeping.Stores.{IsStoreWith}
-use Rattle.sms_store.proofs.keeping.Lists.{FindsIn, moved}
+use Rattle.sms_store_sql.specs.listing.Lists.{FindsList, HoldsList, KnowsList}
+use Rattle.sms_store.specs.keeping.Stores.{HasRows, IsStoreWith}
 use Rattle.sms_store.specs.handset.HandsetRows.{handset_stores, counters_row}
+use Rattle.sms_store_tables.specs.handset.HandsetSchema.{handset_schema}
 use Rattle.sms_store_tables.specs.handset.EntryList.{entry_list}
 use Rattle.sms_store_tables.specs.handset.LastAcceptedList.{last_list}
 use Rattle.sms_store_tables.specs.handset.OutEntryList.{out_list}
@@ -16,19 +16,45 @@ abbrev first_of : Counters → List CountersRow → Counters
 first_of other [] = other
 first_of other (c ∷ cs) = c.counters
 
--- the rows that are found are those of the store
-pub found_rows : (setup : Setup) (rows : Rows) (db : Database) → IsStoreWith handset_stores setup db rows → {b c d e : Database} → b ≡ db → c ≡ db → d ≡ db → e ≡ db
-    → {entries : List Entry} {last : List LastAccepted} {outbox : List OutEntry} {marks : List DiscardedGroup} {counted : List CountersRow}
-    → FindsIn entry_list db entries → FindsIn last_list b last → FindsIn out_list c outbox → FindsIn mark_list d marks → FindsIn count_list e counted
-    → {counters : Counters} → counted ≡ counters_row counters ∷ []
-    → {es : List Entry} → es ≡ entries → {ls : List LastAccepted} → ls ≡ last → {os : List OutEntry} → os ≡ outbox → {ms : List DiscardedGroup} → ms ≡ marks
-    → (let made : Rows = record { entries = es; last = ls; outbox = os; marks = ms; counters = counters; setup = setup } in made) ≡ rows
-found_rows setup rows db is {b} {c} {d} {e} b_is c_is d_is e_is f1 f2 f3 f4 f5 {counters} one e1 e2 e3 e4 =
-    let entries = e1 ∙ f1 rows.entries is.0.entries in
-    let last = e2 ∙ f2 rows.last (moved last_list db b rows.last b_is is.0.last) in
-    let outbox = e3 ∙ f3 rows.outbox (moved out_list db c rows.outbox c_is is.0.outbox) in
-    let marks = e4 ∙ f4 rows.marks (moved mark_list db d rows.marks d_is is.0.marks) in
-    let whole : counters_row counters ∷ [] ≡ counters_row rows.counters ∷ [] = sym one ∙ f5 (counters_row rows.counters ∷ []) (moved count_list db e _ e_is is.0.counters) in
-    let counted : counters ≡ rows.counters = ap (first_of counters) whole in
-    let set = sym is.1 in
-    λ i. record { entries = entries i; last = last i; outbox = outbox i; marks = marks i; counters = counted i; setup = set i }
+module _ (db : Database) where
+  abbrev pub KnowsAll : Type 0
+  KnowsAll =
+      KnowsList entry_list db × (KnowsList last_list db × (KnowsList out_list db × (KnowsList mark_list db × KnowsList count_list db)))
+
+  abbrev pub HoldsAll : Type 0
+  HoldsAll =
+      HoldsList entry_list db × (HoldsList last_list db × (HoldsList out_list db × (HoldsList mark_list db × HoldsList count_list db)))
+
+  pub knows_all : db.schema ≡ handset_schema → KnowsAll
+  knows_all ours = (ours, (ours, (ours, (ours, ours))))
+
+  pub holds_all : (setup : Setup) → HasRows handset_stores setup db → HoldsAll
+  holds_all setup has =
+      let is = has.1.0 in
+      let rows = has.0 in
+      ((rows.entries, is.entries), ((rows.last, is.last), ((rows.outbox, is.outbox), ((rows.marks, is.marks), (counters_row rows.counters ∷ [], is.counters)))))
+
+  -- the counters are those of the one row
+  pub found_counters : (setup : Setup) (rows : Rows) → IsStoreWith handset_stores setup db rows → (counted : List CountersRow) → FindsList count_list db counted
+      → counted ≡ counters_row rows.counters ∷ []
+  found_counters setup rows is counted found = found (counters_row rows.counters ∷ []) is.0.counters
+
+  -- the rows that are found are those of the store
+  pub found_rows : (setup : Setup) (rows : Rows) → IsStoreWith handset_stores setup db rows
+      → (es : List Entry) (ls : List LastAccepted) (os : List OutEntry) (ms : List DiscardedGroup) (counted : List CountersRow)
+      → FindsList entry_list db es × (FindsList last_list db ls × (FindsList out_list db os × (FindsList mark_list db ms × FindsList count_list db counted)))
+      → (counters : Counters) → counted ≡ counters_row counters ∷ []
+      → (let made : Rows = record { entries = es; last = ls; outbox = os; marks = ms; counters = counters; setup = setup } in made) ≡ rows
+  found_rows setup rows is es ls os ms counted found counters one =
+      let entries = found.0 rows.entries is.0.entries in
+      let last = found.1.0 rows.last is.0.last in
+      let outbox = found.1.1.0 rows.outbox is.0.outbox in
+      let marks = found.1.1.1.0 rows.marks is.0.marks in
+      let counters_are : counters ≡ rows.counters = ap (first_of counters) (sym one ∙ found_counters setup rows is counted found.1.1.1.1) in
+      let set = sym is.1 in
+      λ i. record { entries = entries i; last = last i; outbox = outbox i; marks = marks i; counters = counters_are i; setup = set i }
+
+-- what is answered is not refused
+pub never_refused : {X E : Type 0} (r : Result X E) (P : E → Type 0) → IsOk r → IfErr r P
+never_refused (Ok x) P ok = tt
+never_refused (Err e) P ok = absurd (true≢false (sym ok))

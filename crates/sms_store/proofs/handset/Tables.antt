@@ -1,12 +1,12 @@
 -- What the texts that make the tables lead to.
-use Rattle.std.proofs.Common.{◌≡◌, ◌≢◌, List, [], ◌∷◌, refl, ◌∙◌, arith}
+use Rattle.std.proofs.Common.{◌≡◌, List, [], ◌∷◌, refl, ◌∙◌, false}
 use Rattle.sqlite.specs.Effect.{Database}
 use Rattle.sqlite.specs.State.{State}
-use Rattle.sqlite_rules.specs.Edit.{IsNoIndex}
 use Rattle.sms_rows.specs.table.Table.{put}
 use Rattle.sms_store_sql.specs.schema.Blank.{no_tables}
 use Rattle.sms_store_sql.specs.listing.Inside.{Alters, Ran}
 use Rattle.sms_store_sql.specs.listing.Listing.{ListOf, Represents}
+use Rattle.sms_store_sql.proofs.listing.Apart.{meets}
 use Rattle.sms_store_sql.proofs.listing.Making.{makes}
 use Rattle.sms_store_tables.specs.handset.HandsetSchema.{with_meta, with_entry, with_last, with_out, with_mark, handset_schema, adds_meta, adds_entry, adds_last, adds_out, adds_mark, adds_count, count_plan, entry_plan, last_plan, mark_plan, out_plan}
 use Rattle.sms_store.specs.keeping.Stores.{Founds}
@@ -19,7 +19,6 @@ use Rattle.sms_store_tables.specs.handset.OutEntryList.{out_list}
 use Rattle.sms_store_tables.specs.handset.DiscardedGroupList.{mark_list}
 use Rattle.sms_store.specs.handset.CountersList.{count_list}
 use Rattle.sms_store.specs.handset.Types.{Counters}
-use Rattle.sms_store.proofs.handset.Turning.{free_0, free_2, free_4, free_6, free_8, free_10}
 use Rattle.sms_store.proofs.keeping.Lists.{holds_none, other_list}
 use Rattle.sms_store_sql.specs.tabled.TablePlan.{made}
 use Rattle.sms_store_sql.specs.tabled.Texts.{create_text}
@@ -57,24 +56,25 @@ pub tables_made : (a b c : Database) → MakesFirst a b → MakesLast b c → Ta
 tables_made a b c p q has = let first = p has in q first.0 first.1
 
 module _ (a b : State) (p : Alters meta_list (put meta_list.key handset_meta) a b) (has : a.now.schema ≡ handset_schema) where
-  blank_still : {X : Type 0} (m : ListOf X) → m.table.tree ≢ 0 → IsNoIndex handset_schema m.table.tree → a.now.trees m.table.tree ≡ [] → Represents m (b.now.trees m.table.tree) []
-  blank_still m apart free none = other_list meta_list handset_schema refl (put meta_list.key handset_meta) a b p m [] has apart free (holds_none m _ none)
+  blank_still : {X : Type 0} (m : ListOf X) → meets handset_schema 0 m.table.tree ≡ false → a.now.trees m.table.tree ≡ [] → Represents m (b.now.trees m.table.tree) []
+  blank_still m apart none = other_list meta_list handset_schema refl (put meta_list.key handset_meta) a b p has m [] apart (holds_none m _ none)
 
 module _ (b c : State) (q : Alters count_list (put count_list.key (counters_row first_counters)) b c) (has : b.now.schema ≡ handset_schema) where
-  held_still : {X : Type 0} (m : ListOf X) (xs : List X) → m.table.tree ≢ 10 → IsNoIndex handset_schema m.table.tree → Represents m (b.now.trees m.table.tree) xs → Represents m (c.now.trees m.table.tree) xs
-  held_still m xs apart free held = other_list count_list handset_schema refl (put count_list.key (counters_row first_counters)) b c q m xs has apart free held
+  held_still : {X : Type 0} (m : ListOf X) (xs : List X) → meets handset_schema 10 m.table.tree ≡ false → Represents m (b.now.trees m.table.tree) xs
+      → Represents m (c.now.trees m.table.tree) xs
+  held_still m xs apart held = other_list count_list handset_schema refl (put count_list.key (counters_row first_counters)) b c q has m xs apart held
 
 pub declared : (a b c : State) → Alters meta_list (put meta_list.key handset_meta) a b → Alters count_list (put count_list.key (counters_row first_counters)) b c → Declares a.now c.now
 declared a b c p q has first last setup =
     let mid = p.schema has in
     record {
       schema = q.schema mid;
-      meta = held_still b c q mid meta_list (handset_meta ∷ []) (λ (e : 0 ≡ 10). omega (arith, e)) free_0 (p.changed has [] (holds_none meta_list _ first.meta));
-      entries = held_still b c q mid entry_list [] (λ (e : 2 ≡ 10). omega (arith, e)) free_2 (blank_still a b p has entry_list (λ (e : 2 ≡ 0). omega (arith, e)) free_2 first.entries);
-      last = held_still b c q mid last_list [] (λ (e : 4 ≡ 10). omega (arith, e)) free_4 (blank_still a b p has last_list (λ (e : 4 ≡ 0). omega (arith, e)) free_4 first.last);
-      outbox = held_still b c q mid out_list [] (λ (e : 6 ≡ 10). omega (arith, e)) free_6 (blank_still a b p has out_list (λ (e : 6 ≡ 0). omega (arith, e)) free_6 last.outbox);
-      marks = held_still b c q mid mark_list [] (λ (e : 8 ≡ 10). omega (arith, e)) free_8 (blank_still a b p has mark_list (λ (e : 8 ≡ 0). omega (arith, e)) free_8 last.marks);
-      counters = q.changed mid [] (blank_still a b p has count_list (λ (e : 10 ≡ 0). omega (arith, e)) free_10 last.counters);
+      meta = held_still b c q mid meta_list (handset_meta ∷ []) refl (p.changed has [] (holds_none meta_list _ first.meta));
+      entries = held_still b c q mid entry_list [] refl (blank_still a b p has entry_list refl first.entries);
+      last = held_still b c q mid last_list [] refl (blank_still a b p has last_list refl first.last);
+      outbox = held_still b c q mid out_list [] refl (blank_still a b p has out_list refl last.outbox);
+      marks = held_still b c q mid mark_list [] refl (blank_still a b p has mark_list refl last.marks);
+      counters = q.changed mid [] (blank_still a b p has count_list refl last.counters);
     }
 
 pub founded : (a b c : Database) → Tabulates a b → Declares b c → Founds handset_stores a c

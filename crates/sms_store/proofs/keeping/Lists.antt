@@ -1,7 +1,6 @@
 -- Lists in the stores of any side.
-use Rattle.std.proofs.Common.{◌≡◌, ◌≢◌, List, [], IsTrue, refl, sym, subst, ◌∙◌}
+use Rattle.std.proofs.Common.{◌≡◌, List, [], IsTrue, false, refl, sym, subst, ◌∙◌}
 use Rattle.std.proofs.lemmas.List.Sorted.{IsPermutation-refl}
-use Rattle.sqlite.specs.Effect.{Database}
 use Rattle.sqlite.specs.Order.{Row}
 use Rattle.sqlite.specs.Schema.{Schema}
 use Rattle.sqlite.specs.State.{State}
@@ -9,14 +8,8 @@ use Rattle.sqlite_rules.specs.Edit.{IsNoIndex}
 use Rattle.sms_store_sql.specs.listing.Inside.{Alters}
 use Rattle.sms_store_sql.specs.listing.Listing.{ListOf, Represents}
 use Rattle.sms_store_sql.specs.listing.Transaction.{Leads}
+use Rattle.sms_store_sql.proofs.listing.Apart.{is_no_index, is_other, meets}
 use Rattle.sms_store.specs.keeping.Stores.{StoresOf, Turns}
-
--- a load that finds the list of a tree
-abbrev pub FindsIn : {X : Type 0} → ListOf X → Database → List X → Type 0
-FindsIn {X} l db found = (xs : List X) → Represents l (db.trees l.table.tree) xs → found ≡ xs
-
-pub moved : {X : Type 0} (l : ListOf X) (a b : Database) (xs : List X) → b ≡ a → Represents l (a.trees l.table.tree) xs → Represents l (b.trees l.table.tree) xs
-moved l a b xs same held = subst (λ (d : Database). Represents l (d.trees l.table.tree) xs) (sym same) held
 
 pub holds_none : {X : Type 0} (l : ListOf X) (rows : List Row) → rows ≡ [] → Represents l rows []
 holds_none l rows none = record { entries = []; keyed = tt; stored = none; listed = IsPermutation-refl []; rises = tt; fit = tt }
@@ -35,10 +28,11 @@ module _ {P R : Type 0} (of : StoresOf P R) where
     changed = λ rows h. q.changed (f rows) (p.changed rows h);
   }
 
-module _ {X : Type 0} (l : ListOf X) (schema : Schema) (here : l.table.schema ≡ schema) (change : List X → List X) (old new : State) (alters : Alters l change old new) where
+module _ {X : Type 0} (l : ListOf X) (schema : Schema) (here : l.table.schema ≡ schema) (change : List X → List X) (old new : State) (alters : Alters l change old new) (has : old.now.schema ≡ schema) where
   -- every other list is as it was
-  pub other_list : {Y : Type 0} (m : ListOf Y) (ys : List Y) → old.now.schema ≡ schema → m.table.tree ≢ l.table.tree → IsNoIndex schema m.table.tree
-      → Represents m (old.now.trees m.table.tree) ys → Represents m (new.now.trees m.table.tree) ys
-  other_list m ys has apart free held =
-      let same = alters.others (has ∙ sym here) m.table.tree apart (subst (λ s. IsNoIndex s m.table.tree) (sym here) free) in
+  pub other_list : {Y : Type 0} (m : ListOf Y) (ys : List Y) → meets schema l.table.tree m.table.tree ≡ false → Represents m (old.now.trees m.table.tree) ys
+      → Represents m (new.now.trees m.table.tree) ys
+  other_list m ys apart held =
+      let free = is_no_index schema l.table.tree m.table.tree apart in
+      let same = alters.others (has ∙ sym here) m.table.tree (is_other schema l.table.tree m.table.tree apart) (subst (λ s. IsNoIndex s m.table.tree) (sym here) free) in
       subst (λ rows. Represents m rows ys) (sym same) held

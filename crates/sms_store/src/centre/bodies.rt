@@ -109,9 +109,7 @@ impl<S: Alter> CentreKeep<S> {
     {
         let lookup = PartAt { key };
         let wanted = InTransaction { lookup: &lookup };
-        let found = look_or_close(self.alloc, &mut self.conn, &mut self.health, &wanted);
-        let InTransaction { lookup: _ } = wanted;
-        match found {
+        match look_or_close(self.alloc, &mut self.conn, &mut self.health, &wanted) {
             Ok(part) => Ok(octets_of_part(part)),
             Err(error) => Err(error),
         }
@@ -130,9 +128,7 @@ impl<S: Alter> CentreKeep<S> {
             id: key.number() / 256,
         };
         let wanted = InTransaction { lookup: &lookup };
-        let found = look_or_close(self.alloc, &mut self.conn, &mut self.health, &wanted);
-        let InTransaction { lookup: _ } = wanted;
-        match found {
+        match look_or_close(self.alloc, &mut self.conn, &mut self.health, &wanted) {
             Ok(reports) => Ok(octets_of_first(reports)),
             Err(error) => Err(error),
         }

@@ -1,7 +1,7 @@
 //! What a handset keeps.
 ghost use Rattle.std.specs.Prelude.{◌≡◌, [], ◌∷◌, IfOk, IsOk, refl};
 ghost use Rattle.sms_store.specs.declared.handset.counters.CountersRow.{CountersRow as CountersRowOf};
-ghost use Rattle.sms_store.specs.handset.HandsetRows.{handset_stores};
+ghost use Rattle.sms_store.specs.handset.HandsetRows.{counters_row, handset_stores};
 ghost use Rattle.sms_store.specs.handset.Types.{changes_in, rows_after};
 ghost use Rattle.sms_store.specs.handset.Lawful.{handset_lawful};
 
@@ -11,10 +11,19 @@ use crate::handset::founding::{declare, make_tables};
 use crate::keeping::Kept;
 use sms_base::Listed;
 use sms_handset::{Changes, Counters, DiscardedGroup, Entry, LastAccepted, OutEntry, Rows, Setup};
-use sms_store_sql::listing::{load, write};
+use sms_store_sql::listing::{Last, StoredLists, Then, write};
 use sms_store_tables::handset::HandsetStore;
 use sqlite::{Alter, Connection, Error, Transaction};
 use std::alloc::Global;
+
+// All lists.
+type Lists =
+    Then<Entry, Then<LastAccepted, Then<OutEntry, Then<DiscardedGroup, Last<CountersRow>>>>>;
+
+type Found = (
+    Vec<Entry>,
+    (Vec<LastAccepted>, (Vec<OutEntry>, (Vec<DiscardedGroup>, Vec<CountersRow>))),
+);
 
 impl Kept for Setup {
     type Rows = Rows;
@@ -43,20 +52,8 @@ impl Kept for Setup {
     }
 
     fn read<S: Alter>(&self, alloc: Global, conn: &mut Connection<S>) -> Result<Rows, Error> {
-        let entries = load::<HandsetStore, Entry, S>(alloc, conn)?;
-        let last = load::<HandsetStore, LastAccepted, S>(alloc, conn)?;
-        let outbox = load::<HandsetStore, OutEntry, S>(alloc, conn)?;
-        let marks = load::<HandsetStore, DiscardedGroup, S>(alloc, conn)?;
-        let counted = load::<HandsetStore, CountersRow, S>(alloc, conn)?;
-        let counters = counters_in(&counted)?;
-        Ok(Rows {
-            entries: Listed::from_vec(entries),
-            last: Listed::from_vec(last),
-            outbox: Listed::from_vec(outbox),
-            marks: Listed::from_vec(marks),
-            counters,
-            setup: *self,
-        })
+        let lists = <Lists as StoredLists<HandsetStore>>::load_all(alloc, conn)?;
+        rows_of(lists, *self)
     }
 
     ghost lawful = { handset_lawful };
@@ -73,4 +70,22 @@ fn counters_in(rows: &[CountersRow]) -> Result<Counters, Error>
         return Err(Error::QueryReturnedNoRows);
     };
     Ok(row.counters)
+}
+
+// The rows of the lists, the counters those of the one row.
+fn rows_of(lists: Found, setup: Setup) -> Result<Rows, Error>
+    ensures found { IfOk result (λ rows. (lists.1.1.1.1.items ≡ counters_row rows.counters ∷ []) × (rows ≡ record { entries = lists.0.items;
+        last = lists.1.0.items; outbox = lists.1.1.0.items; marks = lists.1.1.1.0.items; counters = rows.counters; setup = setup })) }
+    ensures always { (row : CountersRowOf) → lists.1.1.1.1.items ≡ row ∷ [] → IsOk result }
+{
+    let (entries, (last, (outbox, (marks, counted)))) = lists;
+    let counters = counters_in(&counted)?;
+    Ok(Rows {
+        entries: Listed::from_vec(entries),
+        last: Listed::from_vec(last),
+        outbox: Listed::from_vec(outbox),
+        marks: Listed::from_vec(marks),
+        counters,
+        setup,
+    })
 }

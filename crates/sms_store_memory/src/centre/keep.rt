@@ -171,21 +171,13 @@ impl MemoryKeep {
         ensures { OnOk result (rows.new ≡ record (rows_in self.now) { setup = rows.old.setup }) }
     {
         let alloc = self.alloc;
-        copy_rows::<MemoryKeep, MessageRow>(alloc, self.messages.as_slice(), &mut rows.messages)?;
-        copy_rows::<MemoryKeep, PartRow>(alloc, self.parts.as_slice(), &mut rows.parts)?;
-        copy_rows::<MemoryKeep, ReferenceRow>(
-            alloc,
-            self.references.as_slice(),
-            &mut rows.references,
-        )?;
-        copy_rows::<MemoryKeep, HandsetRow>(alloc, self.handsets.as_slice(), &mut rows.handsets)?;
-        copy_rows::<MemoryKeep, ReportRow>(alloc, self.reports.as_slice(), &mut rows.reports)?;
-        copy_rows::<MemoryKeep, PriorityRow>(
-            alloc,
-            self.priorities.as_slice(),
-            &mut rows.priorities,
-        )?;
-        copy_rows::<MemoryKeep, BarRow>(alloc, self.bars.as_slice(), &mut rows.bars)
+        copy_rows::<MemoryKeep, _>(alloc, self.messages.as_slice(), &mut rows.messages)?;
+        copy_rows::<MemoryKeep, _>(alloc, self.parts.as_slice(), &mut rows.parts)?;
+        copy_rows::<MemoryKeep, _>(alloc, self.references.as_slice(), &mut rows.references)?;
+        copy_rows::<MemoryKeep, _>(alloc, self.handsets.as_slice(), &mut rows.handsets)?;
+        copy_rows::<MemoryKeep, _>(alloc, self.reports.as_slice(), &mut rows.reports)?;
+        copy_rows::<MemoryKeep, _>(alloc, self.priorities.as_slice(), &mut rows.priorities)?;
+        copy_rows::<MemoryKeep, _>(alloc, self.bars.as_slice(), &mut rows.bars)
     }
 
     fn copy_of_all(&self) -> Result<Rows, AllocError>

@@ -25,10 +25,10 @@ pub(crate) struct Copies {
 fn copy_lists(alloc: Global, changes: &Changes, copies: &mut Copies) -> Result<(), AllocError>
     ensures { OnOk result (copied copies.new ≡ record (changes_in changes.now) { counters = copies.old.counters }) }
 {
-    copy_changes::<MemoryKeep, Entry>(alloc, changes.entries.changes(), &mut copies.entries)?;
-    copy_changes::<MemoryKeep, LastAccepted>(alloc, changes.last.changes(), &mut copies.last)?;
-    copy_changes::<MemoryKeep, OutEntry>(alloc, changes.outbox.changes(), &mut copies.outbox)?;
-    copy_changes::<MemoryKeep, DiscardedGroup>(alloc, changes.marks.changes(), &mut copies.marks)
+    copy_changes::<MemoryKeep, _>(alloc, changes.entries.changes(), &mut copies.entries)?;
+    copy_changes::<MemoryKeep, _>(alloc, changes.last.changes(), &mut copies.last)?;
+    copy_changes::<MemoryKeep, _>(alloc, changes.outbox.changes(), &mut copies.outbox)?;
+    copy_changes::<MemoryKeep, _>(alloc, changes.marks.changes(), &mut copies.marks)
 }
 
 /// The changes, copied.

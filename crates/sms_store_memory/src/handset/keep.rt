@@ -117,10 +117,10 @@ impl MemoryKeep {
         ensures { OnOk result (rows.new ≡ record (rows_in self.now) { counters = rows.old.counters; setup = rows.old.setup }) }
     {
         let alloc = self.alloc;
-        copy_rows::<MemoryKeep, Entry>(alloc, self.entries.as_slice(), &mut rows.entries)?;
-        copy_rows::<MemoryKeep, LastAccepted>(alloc, self.last.as_slice(), &mut rows.last)?;
-        copy_rows::<MemoryKeep, OutEntry>(alloc, self.outbox.as_slice(), &mut rows.outbox)?;
-        copy_rows::<MemoryKeep, DiscardedGroup>(alloc, self.marks.as_slice(), &mut rows.marks)
+        copy_rows::<MemoryKeep, _>(alloc, self.entries.as_slice(), &mut rows.entries)?;
+        copy_rows::<MemoryKeep, _>(alloc, self.last.as_slice(), &mut rows.last)?;
+        copy_rows::<MemoryKeep, _>(alloc, self.outbox.as_slice(), &mut rows.outbox)?;
+        copy_rows::<MemoryKeep, _>(alloc, self.marks.as_slice(), &mut rows.marks)
     }
 
     fn copy_of_all(&self) -> Result<Rows, AllocError>

@@ -12,7 +12,6 @@ use Rattle.sqlite.proofs.Callers.{EndsIn, IsPlain, begins_shown, command_of, nev
 use Rattle.sqlite.proofs.StateLemmas.{survives_then, survives_weaker}
 use Rattle.sms_store_sql.specs.listing.Inside.{SparesOwn, StaysOutside}
 use Rattle.sms_store_sql.specs.listing.Listing.{IsList, ListOf, Represents}
-use Rattle.sms_store_sql.proofs.listing.ConnectedCalls.{survives_none}
 use Rattle.sms_store_sql.proofs.listing.Found.{finds}
 
 -- ---- a stop
@@ -29,44 +28,6 @@ pub spares_then : (schema : Schema) (old mid new : State) → (HasCleanDisk mid 
     → SparesOwn schema old new
 spares_then schema old mid new same p q =
     survives_then old mid new _ _ _ (λ _ db none. none) (λ clean db none ours. none (same (omega (arith, clean, q.clean)) ours)) p q
-
--- what is left of a connection after some texts that only read
-abbrev pub Carries : Schema → State → State → Type 0
-Carries schema old now = SparesOwn schema old now
-    × (HasCleanDisk now → old.now.schema ≡ schema → (IsTrue now.is_open → IsTrue old.is_open) × (now.now ≡ old.now) × (now.committed ≡ old.committed))
-
-pub carries_none : (schema : Schema) (s : State) → Carries schema s s
-carries_none schema s = (survives_none s _, λ _ ours. (λ live. live, refl, refl))
-
-schema_then : (schema : Schema) (old now : State) → now.now ≡ old.now → old.now.schema ≡ schema → now.now.schema ≡ schema
-schema_then schema old now same ours = ap (λ (db : Database). db.schema) same ∙ ours
-
-pub carries_on : (schema : Schema) (old mid new : State) → Carries schema old mid → SparesOwn schema mid new → (HasCleanDisk new → mid.now.schema ≡ schema → IsUnchanged mid new) → Carries schema old new
-carries_on schema old mid new h spares same = (
-  spares_then schema old mid new (λ clean ours. schema_then schema old mid (h.1 clean ours).1 ours) h.0 spares,
-  λ clean ours.
-      let here = h.1 (omega (arith, clean, spares.clean)) ours in
-      let it = same clean (schema_then schema old mid here.1 ours) in
-      (λ live. here.0 it.0.was_open, it.0.now_is ∙ here.1, it.0.committed_is ∙ here.2),
-)
-
-module _ (schema : Schema) (old mid new : State) (h : Carries schema old mid) (spares : SparesOwn schema mid new) where
-  pub carries_to : SparesOwn schema old new
-  carries_to = spares_then schema old mid new (λ clean ours. schema_then schema old mid (h.1 clean ours).1 ours) h.0 spares
-
-  pub stays_then : (HasCleanDisk new → mid.now.schema ≡ schema → StaysOutside mid new) → HasCleanDisk new → old.now.schema ≡ schema → StaysOutside old new
-  stays_then stays clean ours =
-      let here = h.1 (omega (arith, clean, spares.clean)) ours in
-      let it = stays clean (schema_then schema old mid here.1 ours) in
-      record {
-        was_open = λ live. here.0 (it.was_open live);
-        same = λ settled live. let s = it.same (here.1 ∙ settled ∙ sym here.2) live in (s.0 ∙ here.1, s.1 ∙ here.2);
-      }
-
-pub stays_carried : (schema : Schema) (old now : State) → Carries schema old now → HasCleanDisk now → old.now.schema ≡ schema → StaysOutside old now
-stays_carried schema old now h clean ours =
-    let here = h.1 clean ours in
-    record { was_open = here.0; same = λ settled live. (here.1, here.2) }
 
 -- ---- a query that fails
 

@@ -6,6 +6,8 @@ use Rattle.sqlite.specs.Order.{Row}
 use Rattle.sqlite.specs.Schema.{Schema}
 use Rattle.sqlite.specs.State.{State, HasCleanDisk, Shows, Shown, IsUnchanged, Executes, KeepsCommit, Survives}
 use Rattle.sqlite.specs.Held.{Held, state}
+use Rattle.sqlite.specs.Listing.{understood}
+use Rattle.sqlite.proofs.Callers.{IsPlain}
 use Rattle.sqlite_rules.specs.Edit.{IsNoIndex}
 use Rattle.sms_store_sql.specs.listing.Listing.{ListOf, Represents}
 
@@ -33,6 +35,10 @@ pub record Gathers {X : Type 0} (l : ListOf X) (old new : State) (found : List X
   pub rows : List Row
   pub shown : Shown l.table.select [] old new rows
   pub read : found ≡ map l.reads rows
+
+-- the text only reads
+abbrev pub OnlyReads : List ℕ → State → Type 0
+OnlyReads sql s = IsPlain (understood s.now.schema sql)
 
 -- outside a transaction the database is as it was, or the connection is closed
 pub record StaysOutside (old new : State) : Type 0 where

@@ -2,10 +2,10 @@
 ghost use Rattle.std.specs.Prelude.{◌≡◌, IfErr, IfOk, List, ℕ, map};
 ghost use Rattle.std.specs.List.{AllByRecursion};
 ghost use Rattle.sqlite.specs.Held.{state};
-ghost use Rattle.sqlite.specs.State.{FailsToQuery, HasCleanDisk, IsTooLate, IsUnchanged, Shown};
+ghost use Rattle.sqlite.specs.State.{HasCleanDisk, IsUnchanged, KeepsCommit, Shown};
 ghost use Rattle.sms_store_sql.specs.listing.Causes.{IsOfNoRow};
 ghost use Rattle.sms_store_sql.specs.listing.Finding.{FindsOne, first_of};
-ghost use Rattle.sms_store_sql.specs.listing.Inside.{Spares, Stays};
+ghost use Rattle.sms_store_sql.specs.listing.Inside.{OnlyReads, Spares, Stays};
 ghost use Rattle.sms_store_sql.specs.listing.Listing.{Represents};
 ghost use Rattle.sms_store_sql.specs.listing.Reading.{LacksMemory};
 ghost use Rattle.sms_rows.specs.table.Table.{row_at};
@@ -25,9 +25,9 @@ pub trait FoundRow<K>: StoredRow<K> {
         ensures same_reference { tx.new.conn.ghost_name ≡ tx.old.conn.ghost_name }
         ensures ok { HasCleanDisk (state S.Store tx.new.conn.now)
             → IfOk result (λ rows. Shown find (Self.list.key_columns key) (state S.Store tx.old.conn.now) (state S.Store tx.new.conn.now) rows.items) }
-        ensures back { HasCleanDisk (state S.Store tx.new.conn.now) → (state S.Store tx.old.conn.now).now.schema ≡ Self.list.table.schema
-            → IfErr result IsOfNoRow }
-        ensures uncommitted { Stays S.Store tx.old.conn.now tx.new.conn.now Self.list }
+        ensures back { HasCleanDisk (state S.Store tx.new.conn.now) → OnlyReads find (state S.Store tx.old.conn.now) → IfErr result IsOfNoRow }
+        ensures uncommitted { HasCleanDisk (state S.Store tx.new.conn.now) → OnlyReads find (state S.Store tx.old.conn.now)
+            → KeepsCommit (state S.Store tx.old.conn.now) (state S.Store tx.new.conn.now) }
         ensures survives { Spares S.Store tx.old.conn.now tx.new.conn.now };
 
     /// The text is that of the list.

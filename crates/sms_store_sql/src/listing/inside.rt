@@ -1,15 +1,17 @@
 //! Statements inside one transaction.
-ghost use Rattle.std.specs.Prelude.{◌≡◌, [], IfOk};
+ghost use Rattle.std.specs.Prelude.{◌≡◌, [], IfErr, IfOk};
 ghost use Rattle.sqlite.specs.Held.{state};
+ghost use Rattle.sqlite.specs.State.{HasCleanDisk, KeepsCommit, Shown};
 ghost use Rattle.sqlite.specs.Values.{bound};
-ghost use Rattle.sms_store_sql.specs.listing.Inside.{Alters, Counts, MakesStep, Keeps, Ran, RanOn, Spares};
+ghost use Rattle.sms_store_sql.specs.listing.Causes.{IsOfNoRow};
+ghost use Rattle.sms_store_sql.specs.listing.Inside.{Alters, Counts, MakesStep, Keeps, OnlyReads, Ran, RanOn, Spares};
 ghost use Rattle.sms_rows.specs.table.Table.{all_applied, applied, put as put_row, without};
 
 use crate::listing::keyed::run_at;
 use crate::listing::list::{Counted, StoredRow};
 use sms_rows::table::{Change, Key};
 use sqlite::types::ValueRef;
-use sqlite::{Alter, Error, Transaction};
+use sqlite::{Alter, Error, Row as Found, Transaction};
 use std::alloc::Global;
 
 /// Runs one statement inside the transaction.
@@ -39,6 +41,23 @@ pub fn run_counted<S: Alter>(
     ensures survives { Spares S.Store tx.old.conn.now tx.new.conn.now }
 {
     tx.execute(sql, params)
+}
+
+/// The rows that one query inside the transaction shows.
+pub fn query<S: Alter>(
+    tx: &mut Transaction<'_, S>,
+    sql: &str,
+    params: &[ValueRef<'_>],
+) -> Result<Vec<Found>, Error>
+    ensures same_reference { tx.new.conn.ghost_name ≡ tx.old.conn.ghost_name }
+    ensures ok { HasCleanDisk (state S.Store tx.new.conn.now)
+        → IfOk result (λ rows. Shown sql.now (bound params.now) (state S.Store tx.old.conn.now) (state S.Store tx.new.conn.now) rows.items) }
+    ensures back { HasCleanDisk (state S.Store tx.new.conn.now) → OnlyReads sql.now (state S.Store tx.old.conn.now) → IfErr result IsOfNoRow }
+    ensures uncommitted { HasCleanDisk (state S.Store tx.new.conn.now) → OnlyReads sql.now (state S.Store tx.old.conn.now)
+        → KeepsCommit (state S.Store tx.old.conn.now) (state S.Store tx.new.conn.now) }
+    ensures survives { Spares S.Store tx.old.conn.now tx.new.conn.now }
+{
+    tx.query_all(sql, params)
 }
 
 /// Makes the table of the list.

@@ -7,6 +7,7 @@ ghost use Rattle.sms_store_sql.specs.listing.Meta.{kind_in, kind_word, meta_key}
 ghost use Rattle.sms_store_sql.specs.listing.Reading.{HasAt, LacksMemory};
 
 use crate::listing::reading::text_at;
+use crate::named;
 use sms_rows::table::{Key, Row};
 use sqlite::{Error, Row as Columns};
 
@@ -49,12 +50,7 @@ pub fn kind_at(row: &Columns, at: usize) -> Result<StoreKind, Error>
     ensures value { IfOk result (λ kind. kind ≡ kind_in (text_in (column row.now at))) }
     ensures only { (kind : StoreKind) → HasAt row.now at (Text (kind_word kind)) → IfErr result LacksMemory }
 {
-    let word = text_at(row, at)?;
-    if word == "handset" {
-        return Ok(StoreKind::Handset);
-    }
-    if word == "centre" {
-        return Ok(StoreKind::Centre);
-    }
-    Err(Error::Utf8Error(at))
+    named!(row, at,
+        "handset" => StoreKind::Handset, "centre" => StoreKind::Centre,
+    )
 }

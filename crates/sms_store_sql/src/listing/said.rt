@@ -9,7 +9,7 @@ use crate::listing::list::{Counted, StoredRow};
 use crate::listing::meta::{Meta, kind_at};
 use crate::listing::reading::word_at;
 use crate::schema::StoredTable;
-use crate::table;
+use crate::{fields, table};
 use sqlite::{Alter, Error, Row, Transaction, params};
 use std::alloc::Global;
 
@@ -34,9 +34,7 @@ impl<K: KindOfStore> StoredRow<K> for Meta {
     }
 
     fn read(_alloc: Global, row: &Row) -> Result<Meta, Error> {
-        let version = word_at(row, 0)?;
-        let kind = kind_at(row, 1)?;
-        Ok(Meta { version, kind })
+        fields!(Meta in row, version: word_at(0), kind: kind_at(1))
     }
 
     ghost one_key = { λ x. refl };

@@ -1,11 +1,11 @@
 //! Finds the rows of a number that is not their key.
 ghost use Rattle.std.specs.Prelude.{◌≡◌, ◌==◌, [], ◌∷◌, IfErr, IfOk, List, ℕ, filter};
 ghost use Rattle.sqlite.specs.Held.{state};
-ghost use Rattle.sqlite.specs.State.{HasCleanDisk, IsUnchanged, Shown};
+ghost use Rattle.sqlite.specs.State.{HasCleanDisk, IsUnchanged, KeepsCommit, Shown};
 ghost use Rattle.sqlite.specs.Term.{Term};
 ghost use Rattle.sms_store_sql.specs.listing.Causes.{IsOfNoRow};
 ghost use Rattle.sms_store_sql.specs.listing.Columns.{number as as_number};
-ghost use Rattle.sms_store_sql.specs.listing.Inside.{Spares, Stays};
+ghost use Rattle.sms_store_sql.specs.listing.Inside.{OnlyReads, Spares, Stays};
 ghost use Rattle.sms_store_sql.specs.listing.Listing.{Represents};
 ghost use Rattle.sms_store_sql.specs.listing.Seeking.{SeeksBy};
 
@@ -30,9 +30,9 @@ pub trait SoughtRow<K>: StoredRow<K> {
         ensures same_reference { tx.new.conn.ghost_name ≡ tx.old.conn.ghost_name }
         ensures ok { HasCleanDisk (state S.Store tx.new.conn.now)
             → IfOk result (λ rows. Shown sought (as_number number ∷ []) (state S.Store tx.old.conn.now) (state S.Store tx.new.conn.now) rows.items) }
-        ensures back { HasCleanDisk (state S.Store tx.new.conn.now) → (state S.Store tx.old.conn.now).now.schema ≡ Self.list.table.schema
-            → IfErr result IsOfNoRow }
-        ensures uncommitted { Stays S.Store tx.old.conn.now tx.new.conn.now Self.list }
+        ensures back { HasCleanDisk (state S.Store tx.new.conn.now) → OnlyReads sought (state S.Store tx.old.conn.now) → IfErr result IsOfNoRow }
+        ensures uncommitted { HasCleanDisk (state S.Store tx.new.conn.now) → OnlyReads sought (state S.Store tx.old.conn.now)
+            → KeepsCommit (state S.Store tx.old.conn.now) (state S.Store tx.new.conn.now) }
         ensures survives { Spares S.Store tx.old.conn.now tx.new.conn.now };
 
     /// The text is that of the list.

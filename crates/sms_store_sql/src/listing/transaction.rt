@@ -137,6 +137,7 @@ pub fn look<L: Lookup, S: Alter>(
 }
 
 /// What one transaction reads.
+#[derive(Drop)]
 pub struct InTransaction<'a, L: Lookup> {
     pub lookup: &'a L,
 }

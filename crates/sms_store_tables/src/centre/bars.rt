@@ -10,7 +10,7 @@ use sms_store_sql::listing::{
     short_at, text_of,
 };
 use sms_store_sql::schema::StoredTable;
-use sms_store_sql::table;
+use sms_store_sql::{fields, table};
 use sqlite::{Alter, Error, Row, Transaction, params};
 use std::alloc::Global;
 
@@ -50,18 +50,10 @@ impl StoredRow<CentreStore> for BarRow {
     }
 
     fn read(_alloc: Global, row: &Row) -> Result<BarRow, Error> {
-        let place = number_at(row, 0)?;
-        let source = address_at(row, 1)?;
-        let handset = handset_at(row, 4)?;
-        let reference = short_at(row, 5)?;
-        let is_own = flag_at(row, 6)?;
-        Ok(BarRow {
-            place,
-            source,
-            handset,
-            reference,
-            is_own,
-        })
+        fields!(BarRow in row,
+            place: number_at(0), source: address_at(1), handset: handset_at(4),
+            reference: short_at(5), is_own: flag_at(6),
+        )
     }
 
     ghost one_key = { λ x. refl };

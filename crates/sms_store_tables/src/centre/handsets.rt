@@ -8,7 +8,7 @@ use sms_store_sql::listing::{
     Counted, StoredRow, handset_at, handset_text, octet_at, run_counted, word_at,
 };
 use sms_store_sql::schema::StoredTable;
-use sms_store_sql::table;
+use sms_store_sql::{fields, table};
 use sqlite::{Alter, Error, Row, Transaction, params};
 use std::alloc::Global;
 
@@ -31,14 +31,9 @@ impl StoredRow<CentreStore> for HandsetRow {
     }
 
     fn read(_alloc: Global, row: &Row) -> Result<HandsetRow, Error> {
-        let place = word_at(row, 0)?;
-        let number = handset_at(row, 1)?;
-        let last_reference = octet_at(row, 2)?;
-        Ok(HandsetRow {
-            place,
-            number,
-            last_reference,
-        })
+        fields!(HandsetRow in row,
+            place: word_at(0), number: handset_at(1), last_reference: octet_at(2),
+        )
     }
 
     ghost one_key = { λ x. refl };

@@ -13,7 +13,7 @@ use sms_store_sql::listing::{
     optional_moment_at, optional_short_at, run_counted, text_of,
 };
 use sms_store_sql::schema::StoredTable;
-use sms_store_sql::table;
+use sms_store_sql::{fields, table};
 use sqlite::{Alter, Error, Row, Transaction, params};
 use std::alloc::Global;
 
@@ -65,32 +65,13 @@ impl StoredRow<CentreStore> for MessageRow {
     }
 
     fn read(_alloc: Global, row: &Row) -> Result<MessageRow, Error> {
-        let id = id_at(row, 0)?;
-        let originator = originator_at(row, 1)?;
-        let source = address_at(row, 3)?;
-        let handset = handset_at(row, 6)?;
-        let data_coding_scheme = octet_at(row, 7)?;
-        let protocol_identifier = octet_at(row, 8)?;
-        let wish = wish_at(row, 9)?;
-        let submitted = moment_at(row, 10)?;
-        let limit = moment_at(row, 11)?;
-        let split_reference = optional_short_at(row, 12)?;
-        let state = state_at(row, 13)?;
-        let done = optional_moment_at(row, 14)?;
-        Ok(MessageRow {
-            id,
-            originator,
-            source,
-            handset,
-            data_coding_scheme,
-            protocol_identifier,
-            wish,
-            submitted,
-            limit,
-            split_reference,
-            state,
-            done,
-        })
+        fields!(MessageRow in row,
+            id: id_at(0), originator: originator_at(1), source: address_at(3),
+            handset: handset_at(6), data_coding_scheme: octet_at(7),
+            protocol_identifier: octet_at(8), wish: wish_at(9), submitted: moment_at(10),
+            limit: moment_at(11), split_reference: optional_short_at(12), state: state_at(13),
+            done: optional_moment_at(14),
+        )
     }
 
     ghost one_key = { λ x. refl };

@@ -14,10 +14,10 @@ use sms_centre_rows::messages::PartRow;
 use sms_centre_rows::waiting::Progress;
 use sms_rows::table::Key;
 use sms_store_sql::listing::{
-    Counted, FoundRow, StoredRow, integers_of, octet_at, octets_at, run, run_counted,
+    Counted, FoundRow, StoredRow, integers_of, octet_at, octets_at, query, run, run_counted,
 };
 use sms_store_sql::schema::StoredTable;
-use sms_store_sql::table;
+use sms_store_sql::{fields, table};
 use sqlite::{Alter, Error, Row, Transaction, params};
 use std::alloc::Global;
 
@@ -56,20 +56,10 @@ impl StoredRow<CentreStore> for PartRow {
     }
 
     fn read(_alloc: Global, row: &Row) -> Result<PartRow, Error> {
-        let id = id_at(row, 0)?;
-        let number = octet_at(row, 1)?;
-        let reference = octet_at(row, 2)?;
-        let tpdu = octets_at(row, 3)?;
-        let key = key_at(row, 4)?;
-        let progress = progress_at(row, 8)?;
-        Ok(PartRow {
-            id,
-            number,
-            reference,
-            tpdu,
-            key,
-            progress,
-        })
+        fields!(PartRow in row,
+            id: id_at(0), number: octet_at(1), reference: octet_at(2), tpdu: octets_at(3),
+            key: key_at(4), progress: progress_at(8),
+        )
     }
 
     ghost one_key = { λ x. refl };
@@ -82,7 +72,8 @@ impl FoundRow<CentreStore> for PartRow {
 
     fn query<S: Alter>(tx: &mut Transaction<'_, S>, key: Key) -> Result<Vec<Row>, Error> {
         let pair = integers_of(key)?;
-        tx.query_all(
+        query(
+            tx,
             "SELECT message, number, reference, tpdu, concat_bits, concat_reference, concat_total, concat_number, is_done, attempts, due FROM part WHERE message = ?1 AND number = ?2",
             params![&pair.0, &pair.1],
         )

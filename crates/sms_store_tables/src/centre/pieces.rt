@@ -23,6 +23,7 @@ use sms_concat::ConcatKey;
 use sms_store_sql::listing::{
     flag_at, is_null_at, moment_at, number_at, octet_at, octets_at, text_at,
 };
+use sms_store_sql::{fields, named};
 use sqlite::{Error, Row};
 
 pub(crate) fn id_at(row: &Row, at: usize) -> Result<MessageId, Error>
@@ -39,14 +40,7 @@ pub(crate) fn progress_at(row: &Row, at: usize) -> Result<Progress, Error>
     ensures only { (p : ProgressOf) → IsStoredProgress p → HasAt row.now at (flag p.is_done) → HasAt row.now (at + 1) (number p.attempts)
         → HasAt row.now (at + 2) (number p.due) → IfErr result LacksMemory }
 {
-    let is_done = flag_at(row, at)?;
-    let attempts = octet_at(row, at + 1)?;
-    let due = moment_at(row, at + 2)?;
-    Ok(Progress {
-        is_done,
-        attempts,
-        due,
-    })
+    fields!(Progress in row, is_done: flag_at(at), attempts: octet_at(at + 1), due: moment_at(at + 2))
 }
 
 // ---- the place of a part in a long message
@@ -156,17 +150,9 @@ pub(crate) fn wish_at(row: &Row, at: usize) -> Result<Wish, Error>
     ensures value { IfOk result (λ wish. wish ≡ wish_in (text_in (column row.now at))) }
     ensures only { (wish : Wish) → HasAt row.now at (Text (wish_word wish)) → IfErr result LacksMemory }
 {
-    let word = text_at(row, at)?;
-    if word == "nothing" {
-        return Ok(Wish::Nothing);
-    }
-    if word == "always" {
-        return Ok(Wish::Always);
-    }
-    if word == "on_failure" {
-        return Ok(Wish::OnFailure);
-    }
-    Err(Error::Utf8Error(at))
+    named!(row, at,
+        "nothing" => Wish::Nothing, "always" => Wish::Always, "on_failure" => Wish::OnFailure,
+    )
 }
 
 pub(crate) fn state_word(state: Option<FinalState>) -> &'static str
@@ -185,23 +171,11 @@ pub(crate) fn state_at(row: &Row, at: usize) -> Result<Option<FinalState>, Error
     ensures value { IfOk result (λ state. state ≡ state_in (text_in (column row.now at))) }
     ensures only { (state : Option FinalState) → HasAt row.now at (Text (state_word state)) → IfErr result LacksMemory }
 {
-    let word = text_at(row, at)?;
-    if word == "pending" {
-        return Ok(None);
-    }
-    if word == "delivered" {
-        return Ok(Some(FinalState::Delivered));
-    }
-    if word == "expired" {
-        return Ok(Some(FinalState::Expired));
-    }
-    if word == "deleted" {
-        return Ok(Some(FinalState::Deleted));
-    }
-    if word == "undeliverable" {
-        return Ok(Some(FinalState::Undeliverable));
-    }
-    Err(Error::Utf8Error(at))
+    named!(row, at,
+        "pending" => None, "delivered" => Some(FinalState::Delivered),
+        "expired" => Some(FinalState::Expired), "deleted" => Some(FinalState::Deleted),
+        "undeliverable" => Some(FinalState::Undeliverable),
+    )
 }
 
 // ---- how an end is reported

@@ -8,7 +8,7 @@ use crate::key::id_value;
 use sms_centre_rows::messages::PriorityRow;
 use sms_store_sql::listing::{Counted, StoredRow, octet_at, run_counted};
 use sms_store_sql::schema::StoredTable;
-use sms_store_sql::table;
+use sms_store_sql::{fields, table};
 use sqlite::{Alter, Error, Row, Transaction, params};
 use std::alloc::Global;
 
@@ -32,9 +32,7 @@ impl StoredRow<CentreStore> for PriorityRow {
     }
 
     fn read(_alloc: Global, row: &Row) -> Result<PriorityRow, Error> {
-        let id = id_at(row, 0)?;
-        let priority = octet_at(row, 1)?;
-        Ok(PriorityRow { id, priority })
+        fields!(PriorityRow in row, id: id_at(0), priority: octet_at(1))
     }
 
     ghost one_key = { λ x. refl };

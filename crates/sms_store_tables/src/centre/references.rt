@@ -7,7 +7,7 @@ use crate::key::moment_value;
 use sms_centre_rows::waiting::ReferenceRow;
 use sms_store_sql::listing::{Counted, StoredRow, moment_at, octet_at, run_counted, word_at};
 use sms_store_sql::schema::StoredTable;
-use sms_store_sql::table;
+use sms_store_sql::{fields, table};
 use sqlite::{Alter, Error, Row, Transaction, params};
 use std::alloc::Global;
 
@@ -30,14 +30,7 @@ impl StoredRow<CentreStore> for ReferenceRow {
     }
 
     fn read(_alloc: Global, row: &Row) -> Result<ReferenceRow, Error> {
-        let place = word_at(row, 0)?;
-        let reference = octet_at(row, 1)?;
-        let last = moment_at(row, 2)?;
-        Ok(ReferenceRow {
-            place,
-            reference,
-            last,
-        })
+        fields!(ReferenceRow in row, place: word_at(0), reference: octet_at(1), last: moment_at(2))
     }
 
     ghost one_key = { λ x. refl };

@@ -15,11 +15,11 @@ use sms_centre_rows::reports::ReportRow;
 use sms_centre_rows::waiting::Progress;
 use sms_rows::table::Key;
 use sms_store_sql::listing::{
-    Counted, FoundRow, SoughtRow, StoredRow, integer, integer_of, moment_at, number_at, run,
+    Counted, FoundRow, SoughtRow, StoredRow, integer, integer_of, moment_at, number_at, query, run,
     run_counted,
 };
 use sms_store_sql::schema::StoredTable;
-use sms_store_sql::table;
+use sms_store_sql::{fields, table};
 use sqlite::{Alter, Error, Row, Transaction, params};
 use std::alloc::Global;
 
@@ -57,18 +57,10 @@ impl StoredRow<CentreStore> for ReportRow {
     }
 
     fn read(_alloc: Global, row: &Row) -> Result<ReportRow, Error> {
-        let place = number_at(row, 0)?;
-        let id = id_at(row, 1)?;
-        let kind = report_kind_at(row, 2)?;
-        let made = moment_at(row, 5)?;
-        let progress = progress_at(row, 6)?;
-        Ok(ReportRow {
-            place,
-            id,
-            kind,
-            made,
-            progress,
-        })
+        fields!(ReportRow in row,
+            place: number_at(0), id: id_at(1), kind: report_kind_at(2), made: moment_at(5),
+            progress: progress_at(6),
+        )
     }
 
     ghost one_key = { λ x. refl };
@@ -81,7 +73,8 @@ impl FoundRow<CentreStore> for ReportRow {
 
     fn query<S: Alter>(tx: &mut Transaction<'_, S>, key: Key) -> Result<Vec<Row>, Error> {
         let place = integer_of(key)?;
-        tx.query_all(
+        query(
+            tx,
             "SELECT place, message, kind, reference, tpdu, made, is_done, attempts, due FROM report WHERE place = ?1",
             params![&place],
         )
@@ -99,7 +92,8 @@ impl SoughtRow<CentreStore> for ReportRow {
 
     fn query_mark<S: Alter>(tx: &mut Transaction<'_, S>, number: u128) -> Result<Vec<Row>, Error> {
         let message = integer(number)?;
-        tx.query_all(
+        query(
+            tx,
             "SELECT place, message, kind, reference, tpdu, made, is_done, attempts, due FROM report WHERE message = ?1",
             params![&message],
         )

@@ -8,7 +8,7 @@ use crate::references::{reference_bits, reference_number};
 use sms_handset_rows::inbox::DiscardedGroup;
 use sms_store_sql::listing::{Counted, StoredRow, octets_at, run_counted, text_of, word_at};
 use sms_store_sql::schema::StoredTable;
-use sms_store_sql::table;
+use sms_store_sql::{fields, table};
 use sqlite::{Alter, Error, Row, Transaction, params};
 use std::alloc::Global;
 
@@ -43,14 +43,7 @@ impl StoredRow<HandsetStore> for DiscardedGroup {
     }
 
     fn read(_alloc: Global, row: &Row) -> Result<DiscardedGroup, Error> {
-        let number = word_at(row, 0)?;
-        let group = group_at(row, 1)?;
-        let seen = octets_at(row, 7)?;
-        Ok(DiscardedGroup {
-            number,
-            group,
-            seen,
-        })
+        fields!(DiscardedGroup in row, number: word_at(0), group: group_at(1), seen: octets_at(7))
     }
 
     ghost one_key = { λ x. refl };

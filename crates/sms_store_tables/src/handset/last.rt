@@ -6,7 +6,7 @@ use crate::handset::kind::HandsetStore;
 use sms_handset_rows::inbox::LastAccepted;
 use sms_store_sql::listing::{Counted, StoredRow, octet_at, octets_at, run_counted};
 use sms_store_sql::schema::StoredTable;
-use sms_store_sql::table;
+use sms_store_sql::{fields, table};
 use sqlite::{Alter, Error, Row, Transaction, params};
 use std::alloc::Global;
 
@@ -28,9 +28,7 @@ impl StoredRow<HandsetStore> for LastAccepted {
     }
 
     fn read(_alloc: Global, row: &Row) -> Result<LastAccepted, Error> {
-        let reference = octet_at(row, 0)?;
-        let tpdu = octets_at(row, 1)?;
-        Ok(LastAccepted { reference, tpdu })
+        fields!(LastAccepted in row, reference: octet_at(0), tpdu: octets_at(1))
     }
 
     ghost one_key = { λ x. refl };

@@ -18,7 +18,7 @@ use sms_store_sql::listing::{
     optional_octet_at, run_counted, text_of, word_at,
 };
 use sms_store_sql::schema::StoredTable;
-use sms_store_sql::table;
+use sms_store_sql::{fields, table};
 use sqlite::{Alter, Error, Row, Transaction, params};
 use std::alloc::Global;
 
@@ -59,30 +59,12 @@ impl StoredRow<HandsetStore> for OutEntry {
     }
 
     fn read(_alloc: Global, row: &Row) -> Result<OutEntry, Error> {
-        let number = word_at(row, 0)?;
-        let message_reference = octet_at(row, 1)?;
-        let reference = octet_at(row, 2)?;
-        let destination = address_at(row, 3)?;
-        let tpdu = submit_at(row, 6)?;
-        let is_long = flag_at(row, 7)?;
-        let state = state_at(row, 8)?;
-        let tries = octet_at(row, 9)?;
-        let rejects_duplicates = flag_at(row, 10)?;
-        let due = optional_moment_at(row, 11)?;
-        let status = optional_octet_at(row, 12)?;
-        Ok(OutEntry {
-            number,
-            message_reference,
-            reference,
-            destination,
-            tpdu,
-            is_long,
-            state,
-            tries,
-            rejects_duplicates,
-            due,
-            status,
-        })
+        fields!(OutEntry in row,
+            number: word_at(0), message_reference: octet_at(1), reference: octet_at(2),
+            destination: address_at(3), tpdu: submit_at(6), is_long: flag_at(7),
+            state: state_at(8), tries: octet_at(9), rejects_duplicates: flag_at(10),
+            due: optional_moment_at(11), status: optional_octet_at(12),
+        )
     }
 
     ghost one_key = { λ x. refl };

@@ -9,6 +9,7 @@ ghost use Rattle.sms_store_tables.specs.handset.Words.{coding_in, coding_word, s
 use sms_alphabet::Coding;
 use sms_handset_rows::outbox::EntryState;
 use sms_store_sql::listing::text_at;
+use sms_store_sql::named;
 use sqlite::{Error, Row};
 
 pub(crate) fn state_word(state: EntryState) -> &'static str
@@ -27,23 +28,11 @@ pub(crate) fn state_at(row: &Row, at: usize) -> Result<EntryState, Error>
     ensures value { IfOk result (λ state. state ≡ state_in (text_in (column row.now at))) }
     ensures only { (state : EntryState) → HasAt row.now at (Text (state_word state)) → IfErr result LacksMemory }
 {
-    let word = text_at(row, at)?;
-    if word == "queued" {
-        return Ok(EntryState::Queued);
-    }
-    if word == "sending" {
-        return Ok(EntryState::Sending);
-    }
-    if word == "sent" {
-        return Ok(EntryState::Sent);
-    }
-    if word == "failed" {
-        return Ok(EntryState::Failed);
-    }
-    if word == "unsure" {
-        return Ok(EntryState::Unsure);
-    }
-    Err(Error::Utf8Error(at))
+    named!(row, at,
+        "queued" => EntryState::Queued, "sending" => EntryState::Sending,
+        "sent" => EntryState::Sent, "failed" => EntryState::Failed,
+        "unsure" => EntryState::Unsure,
+    )
 }
 
 pub(crate) fn coding_word(coding: Coding) -> &'static str
@@ -61,18 +50,8 @@ pub(crate) fn coding_at(row: &Row, at: usize) -> Result<Coding, Error>
     ensures value { IfOk result (λ coding. coding ≡ coding_in (text_in (column row.now at))) }
     ensures only { (coding : Coding) → HasAt row.now at (Text (coding_word coding)) → IfErr result LacksMemory }
 {
-    let word = text_at(row, at)?;
-    if word == "septets" {
-        return Ok(Coding::Septets);
-    }
-    if word == "octets" {
-        return Ok(Coding::Octets);
-    }
-    if word == "ucs2" {
-        return Ok(Coding::Ucs2);
-    }
-    if word == "compressed" {
-        return Ok(Coding::Compressed);
-    }
-    Err(Error::Utf8Error(at))
+    named!(row, at,
+        "septets" => Coding::Septets, "octets" => Coding::Octets, "ucs2" => Coding::Ucs2,
+        "compressed" => Coding::Compressed,
+    )
 }

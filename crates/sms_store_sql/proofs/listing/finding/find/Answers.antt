@@ -1,4 +1,4 @@
-use Rattle.std.proofs.Common.{inl, sym, subst, ◌∙◌}
+use Rattle.std.proofs.Common.{inl, rules, sym, subst, ◌∙◌}
 use Rattle.sqlite.proofs.Callers.{IsPlain}
 use Rattle.sqlite.specs.Listing.{understood}
 use Rattle.sms_store_sql.proofs.listing.Steps.{if_ok}
@@ -35,3 +35,12 @@ returns-clause-back g c clean ours xs held =
     let shown = c.in_ok-rows.ensures.ok clean in
     let found = finds_row list g.met.T.StoredRow.is_list g.T.FoundRow.find g.met.T.FoundRow.is_found c.args.key _ _ _ ours shown xs held in
     of_memory_alone c.first_row.result ((rw c.deref.ensures.value at c.first_row.ensures.back) found.0 found.3 found.1)
+
+pub returns-in_err-rows-clause-uncommitted : goal.returns-in_err-rows-clause-uncommitted
+returns-in_err-rows-clause-uncommitted g c clean ours =
+    c.query.ensures.uncommitted clean (subst (λ s. IsPlain (understood s g.T.FoundRow.find)) (sym ours) g.met.T.FoundRow.is_found.alone)
+
+pub returns-in_err-rows-clause-back : goal.returns-in_err-rows-clause-back
+returns-in_err-rows-clause-back g c clean ours xs held =
+    let none = c.in_err-rows.ensures.back clean (subst (λ s. IsPlain (understood s g.T.FoundRow.find)) (sym ours) g.met.T.FoundRow.is_found.alone) in
+    search (rules, none)

@@ -51,3 +51,12 @@ returns-in_err-rows_of-clause-back g c clean ours xs held =
 
 pub returns-clause-back : goal.returns-clause-back
 returns-clause-back g c clean ours xs held = of_memory_alone c.in_order.result c.in_order.ensures.only
+
+pub returns-in_err-rows-clause-uncommitted : goal.returns-in_err-rows-clause-uncommitted
+returns-in_err-rows-clause-uncommitted g c clean ours =
+    c.query_mark.ensures.uncommitted clean (subst (λ s. IsPlain (understood s g.T.SoughtRow.sought)) (sym ours) g.met.T.SoughtRow.is_sought.alone)
+
+pub returns-in_err-rows-clause-back : goal.returns-in_err-rows-clause-back
+returns-in_err-rows-clause-back g c clean ours xs held =
+    let none = c.in_err-rows.ensures.back clean (subst (λ s. IsPlain (understood s g.T.SoughtRow.sought)) (sym ours) g.met.T.SoughtRow.is_sought.alone) in
+    search (rules, none)

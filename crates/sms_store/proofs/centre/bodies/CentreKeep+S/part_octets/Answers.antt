@@ -19,10 +19,10 @@ returns-in-Ok-clause-outcome g c rows clean kept =
 pub returns-in-Err-clause-outcome : goal.returns-in-Err-clause-outcome
 returns-in-Err-clause-outcome g c rows clean kept =
     let keep = c.args.self.now in
-    refusal_keeps (IsStoreWith centre_stores keep.setup) c.in-Err.error c.look_or_close-found.new.health (state g.S.Store keep.conn) (state g.S.Store c.look_or_close-found.new.conn) rows c.in-Err.ensures.refused kept
-    c.look_or_close-found.ensures.mode (c.in-Err.ensures.err clean kept.store.0.schema)
+    refusal_keeps (IsStoreWith centre_stores keep.setup) c.in-Err.error c.look_or_close.new.health (state g.S.Store keep.conn) (state g.S.Store c.look_or_close.new.conn) rows c.in-Err.ensures.refused kept
+    c.look_or_close.ensures.mode (c.in-Err.ensures.err clean kept.store.0.schema)
 
 pub returns-in-Err-clause-shut : goal.returns-in-Err-clause-shut
 returns-in-Err-clause-shut g c closed =
     let same : c.in-Err.error ≡ Closed = cc in
-    subst (λ (h : Health). IsShut h (state g.S.Store c.look_or_close-found.new.conn)) (sym (c.in-Err.ensures.refused ∙ ap health_after same)) tt
+    subst (λ (h : Health). IsShut h (state g.S.Store c.look_or_close.new.conn)) (sym (c.in-Err.ensures.refused ∙ ap health_after same)) tt

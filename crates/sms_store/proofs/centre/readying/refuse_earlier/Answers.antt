@@ -1,24 +1,24 @@
-use Rattle.std.proofs.Common.{Ok}
+use Rattle.std.proofs.Common.{inl, inr, refl, Ok}
 use Rattle.sms_store_sql.specs.declared.listing.meta.StoreKind.TheVariants.{Centre}
-use Rattle.sms_store_tables.specs.centre.CentreSchema.{second_schema}
-use Rattle.sms_store_tables.specs.centre.MetaList.{second_list}
-use Rattle.sms_store.proofs.centre.Refusals.{refuses_later_second, refuses_second_now}
+use Rattle.sms_store_sql.specs.tabled.MetaTable.{meta_list_in}
 use Rattle.sms_store.proofs.keeping.Leaving.{shown_as_it_was}
 use Rattle.sms_store.proofs.keeping.Openings.{refuses_found, says_judged}
-use Rattle.sms_store.proofs.centre.readying.refuse_second.Goals as goal
+use Rattle.sms_store.proofs.centre.readying.refuse_earlier.Goals as goal
 
 pub returns-in-Ok-clause-err : goal.returns-in-Ok-clause-err
 returns-in-Ok-clause-err g c clean ours =
+    let tables = g.K.KindOfStore.schema in
     let h = c.in-Ok.ensures.ok clean ours in
-    (refuses_later_second _ (says_judged second_schema second_list Centre 3 _ (Ok tt) ours h.1), shown_as_it_was _ _ h.0)
+    (inr (refl, says_judged tables (meta_list_in tables) Centre 3 _ (Ok tt) ours h.1), shown_as_it_was _ _ h.0)
 
 pub returns-in-Ok-clause-stop : goal.returns-in-Ok-clause-stop
 returns-in-Ok-clause-stop g c ours = c.judge_said.ensures.stop ours
 
 pub returns-in-Err-clause-err : goal.returns-in-Err-clause-err
 returns-in-Err-clause-err g c clean ours =
+    let tables = g.K.KindOfStore.schema in
     let h = c.in-Err.ensures.err clean ours in
-    (refuses_second_now _ c.in-Err.error (refuses_found second_schema second_list Centre 3 _ c.in-Err.error ours h.0), h.1)
+    (inl (refuses_found tables (meta_list_in tables) Centre 3 _ c.in-Err.error ours h.0), h.1)
 
 pub returns-in-Err-clause-stop : goal.returns-in-Err-clause-stop
 returns-in-Err-clause-stop g c ours = c.judge_said.ensures.stop ours
