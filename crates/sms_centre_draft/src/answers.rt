@@ -102,13 +102,14 @@ impl<'a> CentreDraft<'a> {
         ensures { (d : Draft) → Represents d self.old
             → OnOk result (Represents (reply_of transfer.now.handset kind transfer.now.reference transfer.now.tag unit.now d) self.new) }
     {
-        let Transfer {
-            handset,
-            reference,
-            tag,
-        } = *transfer;
-        self.queues
-            .reply(handset, self.moment, kind, reference, tag, unit)?;
+        self.queues.reply(
+            transfer.handset,
+            self.moment,
+            kind,
+            transfer.reference,
+            transfer.tag,
+            unit,
+        )?;
         Ok(())
     }
 
@@ -187,7 +188,8 @@ impl<'a> CentreDraft<'a> {
     // RP-SMMA is acknowledged.
     fn acknowledge(&mut self, transfer: &Transfer) -> Result<(), AllocError>
         ensures { (d : Draft) → Represents d self.old
-            → OnOk result (Represents (reply_of transfer.now.handset Ack transfer.now.reference transfer.now.tag (ack_down transfer.now.reference None) d) self.new) }
+            → OnOk result (Represents
+            (reply_of transfer.now.handset Ack transfer.now.reference transfer.now.tag (ack_down transfer.now.reference None) d) self.new) }
     {
         let unit = bare_ack(self.alloc(), transfer.reference)?;
         self.reply(transfer, Kind::Ack, unit.as_slice())
