@@ -25,12 +25,12 @@ not_less : (a b : ℕ) → b ≤ a → nat_lt a b ≡ false
 not_less a b e = grind (arith, nat_tests)
 
 -- with those that come half of them or fewer are held
-pub few_held : (account : List ℕ) (ms : List MessageRow) (waiting : List QueuedPart) (parts : ℕ) → length waiting + parts ≤ 128 → false ≡ would_hold_too_much account parts ms waiting
-few_held account ms waiting parts few =
+pub few_held : (account : List ℕ) (ms : List MessageRow) (waiting : List QueuedPart) (parts all : ℕ) → all ≡ length waiting → all + parts ≤ 128 → false ≡ would_hold_too_much account parts ms waiting
+few_held account ms waiting parts all counts few =
     let own : ℕ = held_by account ms waiting in
     let others : ℕ = held_by_others account ms waiting in
     let both = all_held account ms waiting in
-    sym (not_less (256 - others) (2 * (own + parts)) (omega (arith, few, both)))
+    sym (not_less (256 - others) (2 * (own + parts)) (omega (arith, counts, few, both)))
 
 -- the count of all and of its own tells
 pub many_held : (account : List ℕ) (ms : List MessageRow) (waiting : List QueuedPart) (parts own all : ℕ) (b : Bool) → own ≡ held_by account ms waiting → all ≡ length waiting

@@ -20,6 +20,17 @@ use sms_link::Upward;
 use sms_relay::{Rp, RpCause, write_down};
 use std::alloc::{AllocError, Global};
 
+/// A transfer that a handset began, and that waits for its answer.
+#[derive(Clone, Copy)]
+pub struct Transfer {
+    /// Who began it.
+    pub handset: Msisdn,
+    /// Its RP-Message-Reference.
+    pub reference: u8,
+    /// For whom the handset's frame was made.
+    pub tag: Holder,
+}
+
 // RP-ACK, with a TPDU.
 fn ack_unit(alloc: Global, reference: u8, report: &[u8]) -> Result<Octets, AllocError>
     requires { length report.now < 256 }
@@ -85,20 +96,20 @@ fn bare_error(alloc: Global, reference: u8, cause: RpCause) -> Result<Octets, Al
 
 impl<'a> CentreDraft<'a> {
     /// The answer in the transaction that the handset began, if one waits for it: a unit of 1 to 248 octets.
-    pub fn reply(
-        &mut self,
-        handset: Msisdn,
-        kind: Kind,
-        reference: u8,
-        tag: Holder,
-        unit: &[u8],
-    ) -> Result<(), AllocError>
+    pub fn reply(&mut self, transfer: &Transfer, kind: Kind, unit: &[u8]) -> Result<(), AllocError>
         requires some { 0 < length unit.now }
         requires fits { length unit.now ≤ 248 }
-        ensures { (d : Draft) → Represents d self.old → OnOk result (Represents (reply_of handset kind reference tag unit.now d) self.new) }
+        ensures { (d : Draft) → Represents d self.old
+            → OnOk result (Represents (reply_of transfer.now.handset kind transfer.now.reference transfer.now.tag unit.now d) self.new) }
     {
-        self.queues
-            .reply(handset, self.moment, kind, reference, tag, unit)?;
+        self.queues.reply(
+            transfer.handset,
+            self.moment,
+            kind,
+            transfer.reference,
+            transfer.tag,
+            unit,
+        )?;
         Ok(())
     }
 
@@ -142,40 +153,31 @@ impl<'a> CentreDraft<'a> {
     }
 
     /// A SUBMIT is accepted.
-    pub fn confirm(&mut self, handset: Msisdn, reference: u8, tag: Holder) -> Result<(), AllocError>
-        ensures { (d : Draft) → Represents d self.old → OnOk result (Represents (confirm_of handset reference tag d) self.new) }
+    pub fn confirm(&mut self, transfer: &Transfer) -> Result<(), AllocError>
+        ensures { (d : Draft) → Represents d self.old
+            → OnOk result (Represents (confirm_of transfer.now.handset transfer.now.reference transfer.now.tag d) self.new) }
     {
-        let unit = self.confirming(reference)?;
-        self.reply(handset, Kind::Ack, reference, tag, unit.as_slice())
+        let unit = self.confirming(transfer.reference)?;
+        self.reply(transfer, Kind::Ack, unit.as_slice())
     }
 
     /// A SUBMIT is refused.
-    pub fn refuse(
-        &mut self,
-        handset: Msisdn,
-        reference: u8,
-        tag: Holder,
-        refusal: SubmitRefusal,
-    ) -> Result<(), AllocError>
-        ensures { (d : Draft) → Represents d self.old → OnOk result (Represents (refuse_of handset reference tag refusal d) self.new) }
+    pub fn refuse(&mut self, transfer: &Transfer, refusal: SubmitRefusal) -> Result<(), AllocError>
+        ensures { (d : Draft) → Represents d self.old
+            → OnOk result (Represents (refuse_of transfer.now.handset transfer.now.reference transfer.now.tag refusal d) self.new) }
     {
-        let unit = self.refusing(reference, refusal)?;
-        self.reply(handset, Kind::Error, reference, tag, unit.as_slice())
+        let unit = self.refusing(transfer.reference, refusal)?;
+        self.reply(transfer, Kind::Error, unit.as_slice())
     }
 
     /// A unit that can't be read is rejected.
-    pub fn reject(
-        &mut self,
-        handset: Msisdn,
-        reference: u8,
-        tag: Holder,
-        cause: RpCause,
-    ) -> Result<(), AllocError>
+    pub fn reject(&mut self, transfer: &Transfer, cause: RpCause) -> Result<(), AllocError>
         requires cause { IsRpCause cause }
-        ensures { (d : Draft) → Represents d self.old → OnOk result (Represents (reject_of handset reference tag cause d) self.new) }
+        ensures { (d : Draft) → Represents d self.old
+            → OnOk result (Represents (reject_of transfer.now.handset transfer.now.reference transfer.now.tag cause d) self.new) }
     {
-        let unit = bare_error(self.alloc(), reference, cause)?;
-        self.reply(handset, Kind::Error, reference, tag, unit.as_slice())
+        let unit = bare_error(self.alloc(), transfer.reference, cause)?;
+        self.reply(transfer, Kind::Error, unit.as_slice())
     }
 
     /// The source of its memory.
@@ -184,23 +186,21 @@ impl<'a> CentreDraft<'a> {
     }
 
     // RP-SMMA is acknowledged.
-    fn acknowledge(&mut self, handset: Msisdn, reference: u8, tag: Holder) -> Result<(), AllocError>
-        ensures { (d : Draft) → Represents d self.old → OnOk result (Represents (reply_of handset Ack reference tag (ack_down reference None) d) self.new) }
+    fn acknowledge(&mut self, transfer: &Transfer) -> Result<(), AllocError>
+        ensures { (d : Draft) → Represents d self.old
+            → OnOk result (Represents
+            (reply_of transfer.now.handset Ack transfer.now.reference transfer.now.tag (ack_down transfer.now.reference None) d) self.new) }
     {
-        let unit = bare_ack(self.alloc(), reference)?;
-        self.reply(handset, Kind::Ack, reference, tag, unit.as_slice())
+        let unit = bare_ack(self.alloc(), transfer.reference)?;
+        self.reply(transfer, Kind::Ack, unit.as_slice())
     }
 
     /// Takes RP-SMMA: the handset has memory.
-    pub fn memory_available(
-        &mut self,
-        handset: Msisdn,
-        reference: u8,
-        tag: Holder,
-    ) -> Result<(), AllocError>
-        ensures { (d : Draft) → Represents d self.old → OnOk result (Represents (memory_available_of handset reference tag d) self.new) }
+    pub fn memory_available(&mut self, transfer: &Transfer) -> Result<(), AllocError>
+        ensures { (d : Draft) → Represents d self.old
+            → OnOk result (Represents (memory_available_of transfer.now.handset transfer.now.reference transfer.now.tag d) self.new) }
     {
-        self.acknowledge(handset, reference, tag)?;
-        self.has_memory(handset)
+        self.acknowledge(transfer)?;
+        self.has_memory(transfer.handset)
     }
 }

@@ -81,7 +81,6 @@ impl<'a> CentreDraft<'a> {
         let tpdu = status_octets(self.alloc, state, self.moment, message)?;
         self.reports
             .make_status(message.id, self.moment, reference, tpdu)?;
-        self.queues.give(handset, reference, self.moment)?;
         let queued = QueuedPart {
             id: message.id,
             number: 0,
@@ -89,7 +88,7 @@ impl<'a> CentreDraft<'a> {
             priority: 0,
             due: self.moment,
         };
-        self.queues.put(handset, queued)?;
+        self.queues.give(handset, self.moment, queued)?;
         Ok(())
     }
 

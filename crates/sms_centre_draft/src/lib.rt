@@ -44,5 +44,6 @@ mod submitting;
 mod transfers;
 pub mod walks;
 
+pub use answers::Transfer;
 pub use centre_draft::CentreDraft;
 pub use transfers::{finished, tried};

@@ -71,6 +71,12 @@ impl<'a> CentreDraft<'a> {
         Ok(held)
     }
 
+    fn waiting_count(&self, handset: Msisdn) -> usize
+        ensures { (d : Draft) → Represents d self.now → result ≡ length (waiting_in handset d.store) }
+    {
+        self.queues.waiting_count(&handset)
+    }
+
     #[tactic(auto, using(crate::proofs::SharesHeld::many_held))]
     fn would_hold_too_many(
         &self,
@@ -86,22 +92,23 @@ impl<'a> CentreDraft<'a> {
         Ok(is_too_much(held, waiting.len(), parts))
     }
 
-    // While half of them or fewer are held, nobody holds too many: messages are not looked up.
+    // While half of them or fewer are held, nobody holds too many: what waits is counted, and nothing of it is looked at.
     #[tactic(auto, using(crate::proofs::SharesHeld::few_held))]
     fn would_hold_too_much(
         &self,
         account: &[u8],
-        waiting: &[QueuedPart],
+        handset: Msisdn,
         parts: usize,
     ) -> Result<bool, AllocError>
         requires few { parts ≤ 20 }
         ensures { (d : Draft) → Represents d self.now
-            → IfOk result (λ is. is ≡ would_hold_too_much_of account.now parts (messages_in d.store) waiting.now) }
+            → IfOk result (λ is. is ≡ would_hold_too_much_of account.now parts (messages_in d.store) (waiting_in handset d.store)) }
     {
-        if waiting.len().saturating_add(parts) <= REFERENCES / 2 {
+        if self.waiting_count(handset).saturating_add(parts) <= REFERENCES / 2 {
             return Ok(false);
         }
-        self.would_hold_too_many(account, waiting, parts)
+        let waiting = self.waiting(handset)?;
+        self.would_hold_too_many(account, waiting.as_slice(), parts)
     }
 
     // Whether the account of the submission would hold more than half of the handset's references that are free beside what others
@@ -113,8 +120,7 @@ impl<'a> CentreDraft<'a> {
     {
         match &submission.originator {
             Originator::Application { account } => {
-                let waiting = self.waiting(submission.handset)?;
-                self.would_hold_too_much(account.as_slice(), waiting.as_slice(), parts)
+                self.would_hold_too_much(account.as_slice(), submission.handset, parts)
             }
             Originator::Handset { .. } => Ok(false),
         }

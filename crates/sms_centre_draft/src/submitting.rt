@@ -98,8 +98,6 @@ impl<'a> CentreDraft<'a> {
         let tpdu = deliver_octets(self.alloc, self.moment, submission, body)?;
         let row = part_of(id, number, reference, tpdu, body.key, submission.due);
         self.messages.put_part(row)?;
-        self.queues
-            .give(submission.handset, reference, self.moment)?;
         let priority = submission.priority.level();
         let queued = QueuedPart {
             id,
@@ -108,7 +106,7 @@ impl<'a> CentreDraft<'a> {
             priority,
             due: submission.due,
         };
-        self.queues.put(submission.handset, queued)?;
+        self.queues.give(submission.handset, self.moment, queued)?;
         Ok(())
     }
 

@@ -19,7 +19,7 @@ ghost use Rattle.sms_centre_draft.specs.CentreDraft.{Represents as DraftRepresen
 use crate::accepting::accept;
 use crate::asking::{is_duplicate, is_reference_taken};
 use sms_base::{Holder, Msisdn};
-use sms_centre_draft::CentreDraft;
+use sms_centre_draft::{CentreDraft, Transfer};
 use sms_centre_messages::message_index::MessageIndex;
 use sms_centre_messages::references::ReferenceIndex;
 use sms_intake::{Submission, SubmitError, SubmitRefusal, from_submit};
@@ -31,21 +31,20 @@ fn submit_accepted(
     draft: &mut CentreDraft<'_>,
     message_index: &MessageIndex,
     reference_index: &ReferenceIndex,
-    handset: Msisdn,
-    reference: u8,
-    tag: Holder,
+    transfer: &Transfer,
     submission: &Submission,
 ) -> Result<(), AllocError>
     requires submission { IsSubmission submission.now }
     requires units { HasUnits submission.now.text }
     requires originator { IsOfHandset submission.now.originator }
     ensures { (d : Draft) → DraftRepresents d draft.old → Knows message_index.now reference_index.now d.store
-        → OnOk result (DraftRepresents (submit_accepted_of handset reference tag (accept_of submission.now d.store) d) draft.new) }
+        → OnOk result (DraftRepresents (submit_accepted_of transfer.now.handset transfer.now.reference transfer.now.tag
+        (accept_of submission.now d.store) d) draft.new) }
 {
     let becomes = accept(draft, message_index, reference_index, submission)?;
     match becomes {
-        Some(_) => draft.confirm(handset, reference, tag),
-        None => draft.refuse(handset, reference, tag, SubmitRefusal::Congested),
+        Some(_) => draft.confirm(transfer),
+        None => draft.refuse(transfer, SubmitRefusal::Congested),
     }
 }
 
@@ -54,32 +53,22 @@ fn submit_received(
     draft: &mut CentreDraft<'_>,
     message_index: &MessageIndex,
     reference_index: &ReferenceIndex,
-    handset: Msisdn,
-    reference: u8,
-    tag: Holder,
+    transfer: &Transfer,
     submission: &Submission,
 ) -> Result<(), AllocError>
     requires submission { IsSubmission submission.now }
     requires units { HasUnits submission.now.text }
     requires originator { IsOfHandset submission.now.originator }
     ensures { (d : Draft) → DraftRepresents d draft.old → Knows message_index.now reference_index.now d.store
-        → OnOk result (DraftRepresents (submit_received_of handset reference tag (Ok submission.now) d) draft.new) }
+        → OnOk result (DraftRepresents (submit_received_of transfer.now.handset transfer.now.reference transfer.now.tag (Ok submission.now) d) draft.new) }
 {
     if is_duplicate(reference_index, submission) {
-        return draft.refuse(handset, reference, tag, SubmitRefusal::Duplicate);
+        return draft.refuse(transfer, SubmitRefusal::Duplicate);
     }
     if is_reference_taken(reference_index, submission) {
-        return draft.refuse(handset, reference, tag, SubmitRefusal::ReferenceTaken);
+        return draft.refuse(transfer, SubmitRefusal::ReferenceTaken);
     }
-    submit_accepted(
-        draft,
-        message_index,
-        reference_index,
-        handset,
-        reference,
-        tag,
-        submission,
-    )
+    submit_accepted(draft, message_index, reference_index, transfer, submission)
 }
 
 // RP-DATA.
@@ -87,29 +76,25 @@ fn data_received(
     draft: &mut CentreDraft<'_>,
     message_index: &MessageIndex,
     reference_index: &ReferenceIndex,
-    handset: Msisdn,
-    reference: u8,
-    tag: Holder,
+    transfer: &Transfer,
     tpdu: &[u8],
 ) -> Result<(), AllocError>
     ensures { (d : Draft) → DraftRepresents d draft.old → Knows message_index.now reference_index.now d.store
-        → OnOk result (DraftRepresents (data_received_of handset reference tag tpdu.now d) draft.new) }
+        → OnOk result (DraftRepresents (data_received_of transfer.now.handset transfer.now.reference transfer.now.tag tpdu.now d) draft.new) }
 {
-    handset.spells_a_number();
+    transfer.handset.spells_a_number();
     let now = draft.now();
     let accounts = draft.accounts();
-    let read = from_submit(draft.alloc(), accounts, handset, now, tpdu);
+    let read = from_submit(draft.alloc(), accounts, transfer.handset, now, tpdu);
     match read {
         Ok(submission) => submit_received(
             draft,
             message_index,
             reference_index,
-            handset,
-            reference,
-            tag,
+            transfer,
             &submission,
         ),
-        Err(SubmitError::Refused(refusal)) => draft.refuse(handset, reference, tag, refusal),
+        Err(SubmitError::Refused(refusal)) => draft.refuse(transfer, refusal),
         Err(SubmitError::NoMemory) => Err(AllocError),
     }
 }
@@ -137,13 +122,26 @@ pub(crate) fn unit_received(
             draft,
             message_index,
             reference_index,
+            &Transfer {
+                handset,
+                reference,
+                tag,
+            },
+            tpdu.as_slice(),
+        ),
+        Ok(Rp::Smma { reference }) => draft.memory_available(&Transfer {
             handset,
             reference,
             tag,
-            tpdu.as_slice(),
-        ),
-        Ok(Rp::Smma { reference }) => draft.memory_available(handset, reference, tag),
+        }),
         Ok(Rp::AckUnit { .. } | Rp::ErrorUnit { .. }) => Ok(()),
-        Err(fault) => draft.reject(handset, reference_octet(unit), tag, fault_cause(fault)),
+        Err(fault) => draft.reject(
+            &Transfer {
+                handset,
+                reference: reference_octet(unit),
+                tag,
+            },
+            fault_cause(fault),
+        ),
     }
 }

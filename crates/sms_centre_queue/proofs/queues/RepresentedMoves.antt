@@ -1,21 +1,25 @@
 -- What is represented after a move, as the code says what it did.
-use Rattle.std.proofs.Common.{◌≡◌, ℕ, ◌<◌, ◌++◌, [], append-nil, List, Result, Ok, Err, refl, sym, subst, OnOk}
+use Rattle.std.proofs.Common.{◌≡◌, ℕ, ◌<◌, ◌++◌, [], ◌∷◌, append-nil, List, nat_eq, Option, Some, Result, Ok, Err, refl, sym, ◌∙◌, ap, subst, eq-eqb, OnOk}
+use Rattle.std.specs.Option.{option_or}
+use Rattle.std.proofs.lemmas.Bool.{cond-false, cond-true, ne_eqb}
 use Rattle.sms_base.specs.Msisdn.{IsMsisdn}
 use Rattle.sms_rows.specs.table.Keys.{digits_key}
+use Rattle.sms_rows.specs.table.Table.{put}
 use Rattle.sms_link.specs.declared.outgoing.Outgoing.{Outgoing}
 use Rattle.sms_link.specs.LinkTurn.{Turn}
 use Rattle.sms_centre_rows.specs.declared.waiting.handset.HandsetRow.{HandsetRow}
 use Rattle.sms_centre_rows.specs.declared.waiting.handset_link.HandsetLink.{HandsetLink}
 use Rattle.sms_centre_rows.specs.declared.waiting.handset_link.Sent.{Sent}
 use Rattle.sms_centre_rows.specs.declared.waiting.queued_part.QueuedPart.{QueuedPart}
+use Rattle.sms_centre_rows.specs.waiting.Keys.{queued_key}
 use Rattle.sms_centre_rows.specs.waiting.Links.{Links, line_of, put_line, to_handset, turn_line, turned, with_line}
 use Rattle.sms_centre_rows.specs.waiting.References.{Allocations, give, handset_of, handsets_of, or_new_handset}
-use Rattle.sms_centre_rows.specs.waiting.DeliveryQueues.{DeliveryQueueOf, queue_given, queue_on, queue_turned}
+use Rattle.sms_centre_rows.specs.waiting.DeliveryQueues.{DeliveryQueueOf, queue_given, queue_on, queue_turned, queue_with}
 use Rattle.sms_centre_rows.specs.waiting.SoundAllocations.{IsNumber}
 use Rattle.sms_centre_queue.specs.declared.queues.placed_queue.PlacedQueue.{PlacedQueue}
-use Rattle.sms_centre_queue.specs.queues.Queues.{Becomes, IsTaken, DeliveryQueuesDraftOf, link_place_now, counted, given_to, lines_now, with_queue}
+use Rattle.sms_centre_queue.specs.queues.Queues.{Becomes, IsTaken, DeliveryQueuesDraftOf, link_place_now, counted, given_to, lines_now, or_new, under, with_queue}
 use Rattle.sms_centre_queue.specs.queues.Representing.{DraftRepresents, Waits}
-use Rattle.sms_centre_queue.proofs.queues.Allocation.{given_next}
+use Rattle.sms_centre_queue.proofs.queues.Allocation.{given_next, number_digits}
 use Rattle.sms_centre_queue.proofs.queues.Moving.{line_next, waits_next}
 use Rattle.sms_centre_rows.proofs.waiting.LinksRepresented.{line_of_handset}
 
@@ -73,13 +77,55 @@ turn_ok number turn q s frames p mid new r digits taken is sent becomes = if_ok 
 
 -- ---- a reference
 
-pub given_done : {X E : Type 0} (number : List ℕ) (reference now : ℕ) (q placed : PlacedQueue) (p mid noted new : DeliveryQueuesDraftOf) (r : Result X E) → IsNumber number → reference < 256 → IsTaken number q p mid
-    → OnOk r (noted ≡ given_to (or_new_handset q.queue.line.handset mid.next_place q.queue.row) q.queue.row reference now mid)
-    → OnOk r (placed ≡ with_queue (queue_given (or_new_handset q.queue.line.handset mid.next_place q.queue.row) reference now q.queue) q)
+-- a queue that becomes another one has become this one before that
+before : ℕ → PlacedQueue → DeliveryQueuesDraftOf → DeliveryQueuesDraftOf
+before key q p = record p { touched = (key, q) ∷ p.touched }
+
+under_first : (key : ℕ) (q : PlacedQueue) (es : List (ℕ × PlacedQueue)) → under key ((key, q) ∷ es) ≡ Some q
+under_first key q es = cond-true (nat_eq key key) (Some q) (under key es) (eq-eqb key key refl)
+
+under_rest : (key k : ℕ) (q : PlacedQueue) (es : List (ℕ × PlacedQueue)) → ¬ (k ≡ key) → under k ((key, q) ∷ es) ≡ under k es
+under_rest key k q es other = cond-false (nat_eq k key) (Some q) (under k es) (ne_eqb k key other)
+
+becomes_before : (key : ℕ) (q placed : PlacedQueue) (old new : DeliveryQueuesDraftOf) → Becomes key placed old new → Becomes key q old (before key q new)
+unfolding before
+becomes_before key q placed old new becomes = record {
+  own = under_first key q new.touched;
+  others = λ k other. under_rest key k q new.touched other ∙ becomes.others k other;
+  rest = ap (λ (x : DeliveryQueuesDraftOf). record x { touched = (key, q) ∷ new.touched }) becomes.rest;
+}
+
+becomes_after : (key : ℕ) (q placed : PlacedQueue) (old new : DeliveryQueuesDraftOf) → Becomes key placed old new → Becomes key placed (before key q new) new
+unfolding before
+becomes_after key q placed old new becomes = record {
+  own = becomes.own;
+  others = λ k other. sym (under_rest key k q new.touched other);
+  rest = refl;
+}
+
+taken_before : (number : List ℕ) (q : PlacedQueue) (new : DeliveryQueuesDraftOf) → IsTaken number q (before (digits_key number) q new) (before (digits_key number) q new)
+unfolding before
+taken_before number q new = record {
+  is = sym (ap (λ (o : Option PlacedQueue). or_new number (option_or o (under (digits_key number) new.base.queues))) (under_first (digits_key number) q new.touched));
+  others = λ k other. refl;
+  rest = refl;
+}
+
+pub given_done : {X E : Type 0} (number : List ℕ) (now : ℕ) (l : QueuedPart) (q placed : PlacedQueue) (p mid noted new : DeliveryQueuesDraftOf) (r : Result X E) → IsNumber number → l.reference < 256 → IsTaken number q p mid
+    → OnOk r (noted ≡ given_to (or_new_handset q.queue.line.handset mid.next_place q.queue.row) q.queue.row l.reference now mid)
+    → OnOk r (placed ≡ with_queue (queue_with l (queue_given (or_new_handset q.queue.line.handset mid.next_place q.queue.row) l.reference now q.queue)) q)
     → Becomes (digits_key number) placed noted new
-    → OnOk r ((g : Allocations) (links : Links) (w : List ℕ → List QueuedPart) → DraftRepresents g links w p → DraftRepresents (give (handset_of number (handsets_of g)) reference now g) links w new)
-given_done number reference now q placed p mid noted new r is small taken noted_is placed_is becomes =
+    → OnOk r ((g : Allocations) (links : Links) (w w2 : List ℕ → List QueuedPart) → DraftRepresents g links w p → Waits number (put queued_key l) w w2
+    → DraftRepresents (give (handset_of number (handsets_of g)) l.reference now g) links w2 new)
+given_done number now l q placed p mid noted new r is small taken noted_is placed_is becomes =
+    let key : ℕ = digits_key number in
     let row : HandsetRow = or_new_handset q.queue.line.handset mid.next_place q.queue.row in
-    if_ok r (λ (b : Becomes (digits_key number) (with_queue (queue_given row reference now q.queue) q) (given_to row q.queue.row reference now mid) new).
-    given_next number row reference now q p mid new is small taken refl b)
-    (put_noted (digits_key number) placed (with_queue (queue_given row reference now q.queue) q) noted (given_to row q.queue.row reference now mid) new r placed_is noted_is becomes)
+    let given : PlacedQueue = with_queue (queue_given row l.reference now q.queue) q in
+    let waits : PlacedQueue = with_queue (queue_with l (queue_given row l.reference now q.queue)) q in
+    let to : DeliveryQueuesDraftOf = given_to row q.queue.row l.reference now mid in
+    let between : DeliveryQueuesDraftOf = before key given new in
+    if_ok r (λ (b : Becomes key waits to new) (g : Allocations) (links : Links) (w w2 : List ℕ → List QueuedPart) (represents : DraftRepresents g links w p) (comes : Waits number (put queued_key l) w w2).
+    waits_next number (put queued_key l) given between between new (number_digits number is) (taken_before number given new) (becomes_after key given waits to new b)
+    (give (handset_of number (handsets_of g)) l.reference now g) links w w2
+    (given_next number row l.reference now q p mid between is small taken refl (becomes_before key given waits to new b) g links w represents) comes)
+    (put_noted key placed waits noted to new r placed_is noted_is becomes)

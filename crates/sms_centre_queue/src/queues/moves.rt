@@ -5,7 +5,7 @@ ghost use Rattle.sms_rows.specs.table.Keys.{digits_key, pair_key};
 ghost use Rattle.sms_rows.specs.table.Table.{put, without};
 ghost use Rattle.sms_centre_rows.specs.waiting.Keys.{queued_key};
 ghost use Rattle.sms_centre_rows.specs.waiting.Links.{Links, emptied, filled, line_of, lowered, put_line as put_line_in, raised, to_handset, turn_line};
-ghost use Rattle.sms_centre_rows.specs.waiting.DeliveryQueues.{queue_given};
+ghost use Rattle.sms_centre_rows.specs.waiting.DeliveryQueues.{queue_given, queue_with};
 ghost use Rattle.sms_centre_rows.specs.waiting.References.{Allocations, give as give_in, handset_of, handsets_of, or_new_handset};
 ghost use Rattle.sms_centre_rows.specs.waiting.Waiting.{all_at_once, withdrawn};
 ghost use Rattle.sms_centre_rows.specs.declared.waiting.queued_part.QueuedPart.{QueuedPart as QueuedOf};
@@ -233,15 +233,39 @@ impl DeliveryQueuesDraft {
 }
 
 impl DeliveryQueuesDraft {
-    /// Gives the reference to the handset. The last place of a handset is 4,294,967,295: a later handset gets none.
-    pub fn give(&mut self, number: Msisdn, reference: u8, now: Moment) -> Result<(), AllocError>
-        ensures { OnOk result ((g : Allocations) (links : Links) (waiting : List ℕ → List QueuedOf) → DraftRepresents g links waiting self.old
-            → DraftRepresents (give_in (handset_of number (handsets_of g)) reference now g) links waiting self.new) }
+    /// Gives its reference to the handset, and lets it wait under that. The last place of a handset is 4,294,967,295: a later handset
+    /// gets none.
+    pub fn give(
+        &mut self,
+        number: Msisdn,
+        now: Moment,
+        queued: QueuedPart,
+    ) -> Result<(), AllocError>
+        ensures { OnOk result ((g : Allocations) (links : Links) (waiting after : List ℕ → List QueuedOf) → DraftRepresents g links waiting self.old
+            → Waits number (put queued_key queued) waiting after
+            → DraftRepresents (give_in (handset_of number (handsets_of g)) queued.reference now g) links after self.new) }
     {
         let mut placed = self.take_out(number)?;
-        let done = self.give_there(&mut placed, reference, now);
+        let done = self.give_one(&mut placed, now, queued);
         self.put_back(number, placed)?;
         done
+    }
+
+    // Gives its reference to the handset of that queue, where it waits then.
+    fn give_one(
+        &mut self,
+        placed: &mut PlacedQueue,
+        now: Moment,
+        queued: QueuedPart,
+    ) -> Result<(), AllocError>
+        ensures noted { OnOk result (self.new ≡ given_to (or_new_handset placed.old.queue.line.handset self.old.next_place placed.old.queue.row)
+            placed.old.queue.row queued.reference now self.old) }
+        ensures placed { OnOk result (placed.new ≡ with_queue (queue_with queued
+            (queue_given (or_new_handset placed.old.queue.line.handset self.old.next_place placed.old.queue.row)
+            queued.reference now placed.old.queue)) placed.old) }
+    {
+        self.give_there(placed, queued.reference, now)?;
+        placed.queue.put(queued)
     }
 
     // Gives the reference to the handset of that queue.

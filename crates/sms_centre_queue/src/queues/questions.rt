@@ -1,5 +1,5 @@
 //! What an event asks of queues.
-ghost use Rattle.std.specs.Prelude.{◌≡◌, ◌+◌, ℕ, nat_le, List, [], IfErr, IfOk};
+ghost use Rattle.std.specs.Prelude.{◌≡◌, ◌+◌, ℕ, nat_le, List, [], length, IfErr, IfOk};
 ghost use Rattle.sms_base.specs.Msisdn.{IsMsisdn};
 ghost use Rattle.sms_rows.specs.table.Keys.{pair_key};
 ghost use Rattle.sms_rows.specs.table.Table.{row_at};
@@ -31,6 +31,17 @@ impl DeliveryQueuesDraft {
         match self.placed(Key::handset(number).number()) {
             Some(placed) => placed.queue.waiting(),
             None => Ok(Vec::new(self.alloc)),
+        }
+    }
+
+    /// How many wait for the handset.
+    pub fn waiting_count(&self, number: &Msisdn) -> usize
+        ensures { (g : Allocations) (links : Links) (waiting : List ℕ → List QueuedOf) → DraftRepresents g links waiting self.now
+            → result ≡ length (waiting number.now) }
+    {
+        match self.placed(Key::handset(number).number()) {
+            Some(placed) => placed.queue.figures().waiting,
+            None => 0,
         }
     }
 

@@ -15,7 +15,7 @@ returns-in-Some c = λ d represents knows.
     let n = next_number (rows_of d.store) in
     let o = accept u d.store in
     let w = c.accept.new.draft in
-    confirmed c.args.handset c.args.reference c.args.tag d w n (λ (x : Draft). OnOk c.confirm.result (Represents x c.confirm.new.self)) c.in_ok-becomes.becomes o c.in-Some.is
+    confirmed c.args.transfer.now.handset c.args.transfer.now.reference c.args.transfer.now.tag d w n (λ (x : Draft). OnOk c.confirm.result (Represents x c.confirm.new.self)) c.in_ok-becomes.becomes o c.in-Some.is
     (subst (λ (x : Option Store). AcceptsAs n x d w c.in_ok-becomes.becomes) (of_handset u o c.requires.originator) (c.in_ok-becomes.ensures d represents knows))
     (λ s k. c.confirm.ensures (in_store s d) k)
 
@@ -25,7 +25,7 @@ returns-in-None c = λ d represents knows.
     let n = next_number (rows_of d.store) in
     let o = accept u d.store in
     let w = c.accept.new.draft in
-    none_free c.args.handset c.args.reference c.args.tag d w n (λ (x : Draft). OnOk c.refuse.result (Represents x c.refuse.new.self)) o
+    none_free c.args.transfer.now.handset c.args.transfer.now.reference c.args.transfer.now.tag d w n (λ (x : Draft). OnOk c.refuse.result (Represents x c.refuse.new.self)) o
     (subst (λ (x : Option ℕ). AcceptsAs n o d w x) c.in-None.is
     (subst (λ (x : Option Store). AcceptsAs n x d w c.in_ok-becomes.becomes) (of_handset u o c.requires.originator) (c.in_ok-becomes.ensures d represents knows)))
     (λ k. c.refuse.ensures d k)

@@ -9,35 +9,35 @@ use Rattle.sms_centre_events.proofs.units.submit_received.Goals as goal
 
 pub returns-then-is_duplicate : goal.returns-then-is_duplicate
 returns-then-is_duplicate c = λ d represents knows.
-    let a = c.args in
-    let u = a.submission.now in
+    let t = c.args.transfer.now in
+    let u = c.args.submission.now in
     let double : is_duplicate u d.store ≡ true = sym (c.is_duplicate.ensures (bars_in d.store) (messages_in d.store) (parts_in d.store) knows.reference_index) ∙ c.if-is_duplicate.true in
-    subst (λ (b : Bool). OnOk c.refuse.result (Represents (if b then refuse a.handset a.reference a.tag Duplicate d
-    else (if is_reference_taken u d.store then refuse a.handset a.reference a.tag ReferenceTaken d else submit_accepted a.handset a.reference a.tag (accept u d.store) d)) c.refuse.new.self))
+    subst (λ (b : Bool). OnOk c.refuse.result (Represents (if b then refuse t.handset t.reference t.tag Duplicate d
+    else (if is_reference_taken u d.store then refuse t.handset t.reference t.tag ReferenceTaken d else submit_accepted t.handset t.reference t.tag (accept u d.store) d)) c.refuse.new.self))
     (sym double) (c.refuse.ensures d represents)
 
 pub returns-then-is_reference_taken : goal.returns-then-is_reference_taken
 returns-then-is_reference_taken c = λ d represents knows.
-    let a = c.args in
-    let u = a.submission.now in
+    let t = c.args.transfer.now in
+    let u = c.args.submission.now in
     let new = c.refuse-then-is_reference_taken.new.self in
     let single : is_duplicate u d.store ≡ false = sym (c.is_duplicate.ensures (bars_in d.store) (messages_in d.store) (parts_in d.store) knows.reference_index) ∙ c.if-is_duplicate.false in
     let taken : is_reference_taken u d.store ≡ true = sym (c.is_reference_taken.ensures (bars_in d.store) (messages_in d.store) (parts_in d.store) knows.reference_index) ∙ c.if-is_reference_taken.true in
-    subst (λ (b : Bool). OnOk c.refuse-then-is_reference_taken.result (Represents (if b then refuse a.handset a.reference a.tag Duplicate d
-    else (if is_reference_taken u d.store then refuse a.handset a.reference a.tag ReferenceTaken d else submit_accepted a.handset a.reference a.tag (accept u d.store) d)) new))
+    subst (λ (b : Bool). OnOk c.refuse-then-is_reference_taken.result (Represents (if b then refuse t.handset t.reference t.tag Duplicate d
+    else (if is_reference_taken u d.store then refuse t.handset t.reference t.tag ReferenceTaken d else submit_accepted t.handset t.reference t.tag (accept u d.store) d)) new))
     (sym single)
-    (subst (λ (b : Bool). OnOk c.refuse-then-is_reference_taken.result (Represents (if b then refuse a.handset a.reference a.tag ReferenceTaken d else submit_accepted a.handset a.reference a.tag (accept u d.store) d) new))
+    (subst (λ (b : Bool). OnOk c.refuse-then-is_reference_taken.result (Represents (if b then refuse t.handset t.reference t.tag ReferenceTaken d else submit_accepted t.handset t.reference t.tag (accept u d.store) d) new))
     (sym taken) (c.refuse-then-is_reference_taken.ensures d represents))
 
 pub returns : goal.returns
 returns c = λ d represents knows.
-    let a = c.args in
-    let u = a.submission.now in
+    let t = c.args.transfer.now in
+    let u = c.args.submission.now in
     let new = c.submit_accepted.new.draft in
     let single : is_duplicate u d.store ≡ false = sym (c.is_duplicate.ensures (bars_in d.store) (messages_in d.store) (parts_in d.store) knows.reference_index) ∙ c.if-is_duplicate.false in
     let free : is_reference_taken u d.store ≡ false = sym (c.is_reference_taken.ensures (bars_in d.store) (messages_in d.store) (parts_in d.store) knows.reference_index) ∙ c.if-is_reference_taken.false in
-    subst (λ (b : Bool). OnOk c.submit_accepted.result (Represents (if b then refuse a.handset a.reference a.tag Duplicate d
-    else (if is_reference_taken u d.store then refuse a.handset a.reference a.tag ReferenceTaken d else submit_accepted a.handset a.reference a.tag (accept u d.store) d)) new))
+    subst (λ (b : Bool). OnOk c.submit_accepted.result (Represents (if b then refuse t.handset t.reference t.tag Duplicate d
+    else (if is_reference_taken u d.store then refuse t.handset t.reference t.tag ReferenceTaken d else submit_accepted t.handset t.reference t.tag (accept u d.store) d)) new))
     (sym single)
-    (subst (λ (b : Bool). OnOk c.submit_accepted.result (Represents (if b then refuse a.handset a.reference a.tag ReferenceTaken d else submit_accepted a.handset a.reference a.tag (accept u d.store) d) new))
+    (subst (λ (b : Bool). OnOk c.submit_accepted.result (Represents (if b then refuse t.handset t.reference t.tag ReferenceTaken d else submit_accepted t.handset t.reference t.tag (accept u d.store) d) new))
     (sym free) (c.submit_accepted.ensures d represents knows))

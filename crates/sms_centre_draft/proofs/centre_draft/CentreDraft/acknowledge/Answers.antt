@@ -12,5 +12,5 @@ reply-requires-clause-fits c = let n = ap (λ (o : List ℕ). length o) c.in_ok-
 
 pub returns : goal.returns
 returns c = λ d represents.
-    subst (λ (o : List ℕ). OnOk c.reply.result (Represents (reply c.args.handset Ack c.args.reference c.args.tag o d) c.reply.new.self)) (c.as_slice.ensures ∙ c.in_ok-unit.ensures)
+    subst (λ (o : List ℕ). OnOk c.reply.result (Represents (reply c.args.transfer.now.handset Ack c.args.transfer.now.reference c.args.transfer.now.tag o d) c.reply.new.self)) (c.as_slice.ensures ∙ c.in_ok-unit.ensures)
     (c.reply.ensures d represents)

@@ -18,12 +18,12 @@ returns c = λ d n represents can is next.
     let was : Represents d w = subst (λ (x : CentreDraftOf). Represents d x) (sym c.self.view_is) represents in
     let m = c.args.message.now in
     let h = handset_of m.source.digits (handsets_in d.store) in
-    status_represented d w m c.args.state n c.args.reference c.make_status.new.self c.put.new.self was can is next
+    let after = all_waiting (status_given c.args.state m h (Some c.args.reference) d.store) in
+    status_represented d w m c.args.state n c.args.reference c.make_status.new.self c.give.new.self was can is next
     (subst (λ (o : List ℕ). DraftRepresents (messages_in d.store) c.make_status.new.self (report_made m.id (Status c.args.reference o) false w.moment d.store.reports))
     c.in_ok-tpdu.ensures
     (c.in_ok-make_status.ensures (messages_in d.store) d.store.reports was.reports can.none))
-    (c.in_ok-put.ensures (give h c.args.reference w.moment d.store.allocations) d.links (all_waiting d.store) (all_waiting (status_given c.args.state m h (Some c.args.reference) d.store))
-    (subst (λ (x : List ℕ). QueuesRepresent (give (handset_of x (handsets_in d.store)) c.args.reference w.moment d.store.allocations) d.links (all_waiting d.store) c.give.new.self) c.requires
-    (c.in_ok-give.ensures d.store.allocations d.links (all_waiting d.store) was.queues))
-    (subst (λ (x : List ℕ). Waits x (put queued_key (record { id = m.id; number = 0; reference = c.args.reference; priority = 0; due = w.moment })) (all_waiting d.store) (all_waiting (status_given c.args.state m h (Some c.args.reference) d.store))) (sym c.requires)
-    (status_made_waits c.args.state m c.args.reference d w was can)))
+    (subst (λ (x : List ℕ). QueuesRepresent (give (handset_of x (handsets_in d.store)) c.args.reference w.moment d.store.allocations) d.links after c.give.new.self) c.requires
+    (c.in_ok-give.ensures d.store.allocations d.links (all_waiting d.store) after was.queues
+    (subst (λ (x : List ℕ). Waits x (put queued_key (record { id = m.id; number = 0; reference = c.args.reference; priority = 0; due = w.moment })) (all_waiting d.store) after) (sym c.requires)
+    (status_made_waits c.args.state m c.args.reference d w was can))))

@@ -6,4 +6,4 @@ use Rattle.sms_centre_draft.proofs.centre_draft.CentreDraft.memory_available.Goa
 
 pub returns : goal.returns
 returns c = λ d represents.
-    c.has_memory.ensures (reply c.args.handset Ack c.args.reference c.args.tag (ack_down c.args.reference None) d) (c.in_ok-acknowledge.ensures d represents)
+    c.has_memory.ensures (reply c.args.transfer.now.handset Ack c.args.transfer.now.reference c.args.transfer.now.tag (ack_down c.args.transfer.now.reference None) d) (c.in_ok-acknowledge.ensures d represents)

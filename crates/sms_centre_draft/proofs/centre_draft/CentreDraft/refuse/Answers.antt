@@ -12,5 +12,5 @@ reply-requires-clause-fits c = let n = c.in_ok-unit.ensures.len in let e = ap (�
 
 pub returns : goal.returns
 returns c = λ d represents.
-    subst (λ (o : List ℕ). OnOk c.reply.result (Represents (reply c.args.handset Error c.args.reference c.args.tag o d) c.reply.new.self)) (c.as_slice.ensures ∙ c.in_ok-unit.ensures.is d represents)
+    subst (λ (o : List ℕ). OnOk c.reply.result (Represents (reply c.args.transfer.now.handset Error c.args.transfer.now.reference c.args.transfer.now.tag o d) c.reply.new.self)) (c.as_slice.ensures ∙ c.in_ok-unit.ensures.is d represents)
     (c.reply.ensures d represents)
