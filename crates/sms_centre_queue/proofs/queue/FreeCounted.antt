@@ -1,21 +1,20 @@
 -- A reference that is given is free no more, and all others stay as free as they were.
 use Rattle.std.proofs.Common.{◌≡◌, ◌⊎◌, ℕ, zero, suc, ◌+◌, ◌-◌, ◌<◌, ◌≤◌, List, [], ◌∷◌, Bool, true, false, Option, Some, None, refl, sym, ◌∙◌, ap, ⊎_elim, cond, eq-eqb, arith}
 use Rattle.std.specs.Int.{from_bool}
-use Rattle.std.specs.Prelude.{◌%◌, ◌==◌, ◌&&◌, ◌||◌, not, if◌then◌else◌}
+use Rattle.std.specs.Prelude.{◌%◌, ◌==◌, ◌&&◌, ◌||◌, not}
 use Rattle.std.proofs.lemmas.Bool.{cases_Bool, cases_eq, cases_lt, cases_order, cond-false, cond-true, ne_eqb, or_left}
-use Rattle.sms_base.specs.Among.{Among}
 use Rattle.sms_rows.specs.table.Keys.{pair_key}
 use Rattle.sms_rows.specs.table.Table.{insert, put, row_at, without}
-use Rattle.sms_rows.proofs.table.Tables.{found_among, found_key, insert_behind, insert_here, row_at_put_other, row_behind, row_here, without_behind}
+use Rattle.sms_rows.proofs.table.Tables.{insert_behind, insert_here, row_at_put_other, row_behind, row_here, without_behind}
 use Rattle.sms_centre_rows.specs.declared.waiting.handset.HandsetRow.{HandsetRow}
 use Rattle.sms_centre_rows.specs.declared.waiting.queued_part.QueuedPart.{QueuedPart}
 use Rattle.sms_centre_rows.specs.declared.waiting.reference.ReferenceRow.{ReferenceRow}
 use Rattle.sms_centre_queue.specs.queue.FreeReferences.{free_references, passing_below}
-use Rattle.sms_centre_rows.specs.waiting.Keys.{handset_key, queued_key, reference_key}
+use Rattle.sms_centre_rows.specs.waiting.Keys.{queued_key, reference_key}
 use Rattle.sms_centre_rows.specs.waiting.DeliveryQueueRows.{RepresentsGiven}
 use Rattle.sms_centre_rows.specs.waiting.References.{first_passing, following, given_row, handset_at, is_free, is_held, is_late, mentioned, next_reference, or_new_handset, place_after}
 use Rattle.sms_centre_rows.specs.waiting.SoundAllocations.{SoundAllocations, reference_at}
-use Rattle.sms_centre_rows.proofs.waiting.Mentions.{below_next_place}
+use Rattle.sms_centre_rows.proofs.waiting.ReferencesRepresented.{free_alike, represented_at}
 use Rattle.sms_centre_rows.proofs.waiting.WaitingSound.{next_is_free}
 
 -- ---- counted
@@ -173,28 +172,6 @@ given_fewer h waiting rs now l next none =
     ∙ ap (λ (o : Option ReferenceRow). not (is_held x (put queued_key l waiting)) && not (is_late now o)) (sym late))
 
 -- ---- at a queue that represents a handset
-
-none_there : (hs : List HandsetRow) (rs : List ReferenceRow) (place r : ℕ) → SoundAllocations hs rs → ((g : HandsetRow) → Among g hs → g.place ≡ place → ⊥) → r < 256 → reference_at place r rs ≡ None
-none_there hs rs place r sound none small = by (reference_at place r rs) refl where
-  by : (o : Option ReferenceRow) → reference_at place r rs ≡ o → o ≡ None
-  by None e = refl
-  by (Some x) e =
-      let given = sound.given x (found_among reference_key (pair_key place r) x rs e) in
-      let key : pair_key x.place x.reference ≡ pair_key place r = found_key reference_key (pair_key place r) x rs e in
-      let place_is : x.place ≡ place = omega (arith, key, given.small, small) in
-      let h : HandsetRow = given.handset.0 in
-      let at : h.place ≡ x.place = found_key handset_key x.place h hs given.handset.1 in
-      absurd (none h (found_among handset_key x.place h hs given.handset.1) (at ∙ place_is))
-
-free_alike : (h : HandsetRow) (waiting : List QueuedPart) (rs given : List ReferenceRow) (now r : ℕ) → reference_at h.place r given ≡ reference_at h.place r rs → is_free h waiting rs now r ≡ is_free h waiting given now r
-free_alike h waiting rs given now r e = ap (λ (o : Option ReferenceRow). not (is_held r waiting) && not (is_late now o)) (sym e)
-
-represented_at : (number : List ℕ) (hs : List HandsetRow) (rs given : List ReferenceRow) (o : Option HandsetRow) → SoundAllocations hs rs → handset_at number hs ≡ o → RepresentsGiven o rs given
-    → (r : ℕ) → r < 256 → reference_at (or_new_handset number (place_after 1 hs) o).place r given ≡ reference_at (or_new_handset number (place_after 1 hs) o).place r rs
-represented_at number hs rs given None sound none represents r small =
-    ap (λ (l : List ReferenceRow). reference_at (place_after 1 hs) r l) represents
-    ∙ sym (none_there hs rs (place_after 1 hs) r sound (λ g m e. let l = below_next_place 1 g hs sound.handset_keys m in absurd (omega (arith, l, e))) small)
-represented_at number hs rs given (Some h) sound found represents r small = represents r small
 
 -- as many are free
 pub free_represented : (number : List ℕ) (hs : List HandsetRow) (rs given : List ReferenceRow) (waiting : List QueuedPart) (o : Option HandsetRow) (now : ℕ) → SoundAllocations hs rs → handset_at number hs ≡ o → RepresentsGiven o rs given

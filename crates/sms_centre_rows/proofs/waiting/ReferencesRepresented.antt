@@ -41,10 +41,10 @@ none_there hs rs place r sound none small = by (reference_at place r rs) refl wh
 
 -- ---- the next reference
 
-free_alike : (h : HandsetRow) (waiting : List QueuedPart) (rs given : List ReferenceRow) (now r : ℕ) → reference_at h.place r given ≡ reference_at h.place r rs → is_free h waiting rs now r ≡ is_free h waiting given now r
+pub free_alike : (h : HandsetRow) (waiting : List QueuedPart) (rs given : List ReferenceRow) (now r : ℕ) → reference_at h.place r given ≡ reference_at h.place r rs → is_free h waiting rs now r ≡ is_free h waiting given now r
 free_alike h waiting rs given now r e = ap (λ (o : Option ReferenceRow). not (is_held r waiting) && not (is_late now o)) (sym e)
 
-represented_at : (number : List ℕ) (hs : List HandsetRow) (rs given : List ReferenceRow) (o : Option HandsetRow) → SoundAllocations hs rs → handset_at number hs ≡ o → RepresentsGiven o rs given
+pub represented_at : (number : List ℕ) (hs : List HandsetRow) (rs given : List ReferenceRow) (o : Option HandsetRow) → SoundAllocations hs rs → handset_at number hs ≡ o → RepresentsGiven o rs given
     → (r : ℕ) → r < 256 → reference_at (or_new_handset number (place_after 1 hs) o).place r given ≡ reference_at (or_new_handset number (place_after 1 hs) o).place r rs
 represented_at number hs rs given None sound none represents r small =
     ap (λ (l : List ReferenceRow). reference_at (place_after 1 hs) r l) represents
